@@ -1,0 +1,12 @@
+//! The trees of the task language, and what a batch program means.
+#![tactic(auto)]
+
+mod check_kind;
+mod env;
+mod sync;
+mod tree;
+
+pub use check_kind::CheckKind;
+pub use env::Env;
+pub use sync::{Layout, Next, SyncOp};
+pub use tree::{Atom, Expr, Head, Op, Param, Program, Stmt, TaskText, VarLine, What};
