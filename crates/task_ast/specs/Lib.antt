@@ -1,0 +1,4 @@
+pub mod Names
+pub mod Tree
+pub mod Value
+pub mod View
