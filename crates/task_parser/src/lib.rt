@@ -1,0 +1,8 @@
+//! Reads the text of a batch program to its tree.
+#![tactic(auto)]
+
+mod fault;
+mod token;
+
+pub use fault::{LexFault, ParseFault};
+pub use token::{Kind, Token};
