@@ -1,7 +1,8 @@
 -- The values of expressions, which are 64-bit numbers.
-use Rattle.std.specs.Prelude.{ℕ, ℤ, pos, ◌+◌, ◌*◌, ◌/◌, Bool, cond, not, ◌&&◌, ◌||◌, List, Option, Some, None, nat_lt, length, slice_get, unwrap_or, option_map, option_and_then, ◌+ℤ◌, ◌-ℤ◌, ◌*ℤ◌, neg_ℤ, int_lt, int_le, int_div, int_rem}
+use Rattle.std.specs.Prelude.{ℤ, pos, Bool, cond, not, ◌&&◌, ◌||◌, List, Option, Some, None, unwrap_or, option_map, option_and_then, ◌+ℤ◌, ◌-ℤ◌, ◌*ℤ◌, neg_ℤ, int_lt, int_le, int_div, int_rem}
 use Rattle.std.specs.Int.{int_wrap, w64}
 use Rattle.std.specs.Ordering.{int_eq}
+use Rattle.gp_base.specs.Feeds.{rows_in, cell_at}
 use Rattle.gp_base.specs.declared.feed.Feed.{Feed}
 use Rattle.task_ast.specs.declared.env.Env.{Env}
 use Rattle.task_ast.specs.declared.tree.Op.{Op}
@@ -31,13 +32,10 @@ operate Mul a b = int_wrap w64 (a *ℤ b)
 operate Div a b = cond (is_zero b) (pos 0) (int_wrap w64 (int_div a b))
 operate Rem a b = cond (is_zero b) (pos 0) (int_rem a b)
 
-abbrev pub rows_in : Feed → ℕ
-rows_in feed = length feed.cells / feed.fields
-
--- the cell in a row and a field, both counted from 0
-abbrev pub cell_at : Feed → (row field : ℤ) → Option ℤ
-cell_at feed (pos row) (pos field) = cond (nat_lt field feed.fields) (slice_get feed.cells (row * feed.fields + field)) None
-cell_at feed row field = None
+-- an operator on two values that may be none
+abbrev pub operate_on : Op → Option ℤ → Option ℤ → Option ℤ
+operate_on op (Some a) (Some b) = Some (operate op a b)
+operate_on op a b = None
 
 -- the value beside a name, or 0
 abbrev pub value_at : List (Name × ℤ) → Name → ℤ
@@ -58,9 +56,9 @@ abbrev mutual
   value (Cell f row field) env = cell_in (named f env.feeds) (value row env) (value field env)
   value (Neg e) env = option_map (λ v. int_wrap w64 (neg_ℤ v)) (value e env)
   value (Not e) env = option_map (λ v. truth (is_zero v)) (value e env)
-  value (Chain e links) env = option_and_then (value_on links env) (value e env)
+  value (Chain e links) env = value_on links env (value e env)
 
   -- the value of a chain from here on, from the value so far
-  pub value_on : Links → Env → ℤ → Option ℤ
-  value_on NoLinks env v = Some v
-  value_on (Link op e links) env v = option_and_then (λ w. value_on links env (operate op v w)) (value e env)
+  pub value_on : Links → Env → Option ℤ → Option ℤ
+  value_on NoLinks env so_far = so_far
+  value_on (Link op e links) env so_far = value_on links env (operate_on op so_far (value e env))
