@@ -1,4 +1,9 @@
+pub mod Check
+pub mod Declarations
+pub mod Held
 pub mod Names
+pub mod Shaped
 pub mod Tree
 pub mod Value
 pub mod View
+pub mod Visit
