@@ -3,6 +3,7 @@
 
 mod check_kind;
 mod env;
+pub mod laws;
 mod sync;
 mod tree;
 
