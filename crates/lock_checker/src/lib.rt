@@ -1,0 +1,7 @@
+//! Whether a batch program keeps the rules of names, counts and held locks, and the first rule that it breaks.
+#![tactic(auto)]
+
+mod fault;
+mod names;
+
+pub use fault::CheckFault;
