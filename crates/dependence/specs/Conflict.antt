@@ -1,0 +1,46 @@
+-- When two footprints are in conflict (Bernstein's conditions).
+use Rattle.std.specs.Prelude.{◌⊎◌, ℕ, Bool, false, ◌||◌, List, [], Contains, nat_eq}
+use Rattle.std.specs.List.{list_any, slice_index_or}
+use Rattle.gp_base.specs.declared.footprint.Loc.{Loc}
+use Rattle.gp_base.specs.declared.footprint.Loc.TheVariants.{Regs, Lock, Rec}
+use Rattle.gp_base.specs.declared.footprint.Footprint.{Footprint}
+
+-- one location stands in both lists
+abbrev pub Shared : List Loc → List Loc → Type 0
+Shared left right = (loc : Loc) × Contains left loc × Contains right loc
+
+-- one location stands in both footprints, and at least one of the two writes it
+abbrev pub Conflict : Footprint → Footprint → Type 0
+Conflict first second =
+    Shared first.writes second.writes ⊎ Shared first.writes second.reads ⊎ Shared first.reads second.writes
+
+abbrev pub same_location : Loc → Loc → Bool
+same_location (Regs thread) (Regs other) = nat_eq thread other
+same_location (Lock lock) (Lock other) = nat_eq lock other
+same_location (Rec cell) (Rec other) = nat_eq cell other
+same_location _ _ = false
+
+-- whether a location of the one list stands in the other
+abbrev pub shares : List Loc → List Loc → Bool
+shares left right = list_any (λ loc. list_any (same_location loc) right) left
+
+-- `Conflict` as a test
+abbrev pub conflicting : Footprint → Footprint → Bool
+conflicting first second =
+    shares first.writes second.writes || (shares first.writes second.reads || shares first.reads second.writes)
+
+-- the footprint of no location
+abbrev pub nowhere : Footprint
+nowhere = record { reads = []; writes = [] }
+
+-- the footprint at a place of the list; nothing stands past its end
+abbrev pub foot_at : List Footprint → ℕ → Footprint
+foot_at feet p = slice_index_or feet p nowhere
+
+-- the footprints at two places of the list are in conflict
+abbrev pub ClashIn : List Footprint → ℕ → ℕ → Type 0
+ClashIn feet p q = Conflict (foot_at feet p) (foot_at feet q)
+
+-- `ClashIn` as a test
+abbrev pub clash_in : List Footprint → ℕ → ℕ → Bool
+clash_in feet p q = conflicting (foot_at feet p) (foot_at feet q)

@@ -1,0 +1,5 @@
+pub mod Conflict
+pub mod Dependents
+pub mod Restarts
+pub mod Journal
+pub mod Laws

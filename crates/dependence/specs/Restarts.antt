@@ -1,0 +1,107 @@
+-- The restarts that a list of faults makes of a run.
+use Rattle.std.specs.Prelude.{◌≡◌, ℕ, zero, suc, ◌+◌, ◌<◌, min, Bool, ◌&&◌, cond, nat_eq, nat_lt, nat_le, ℤ, pos, List, [], ◌∷◌, ◌++◌, length, count_by, Contains, Option, Some, None}
+use Rattle.std.specs.Option.{option_or, option_map_or}
+use Rattle.gp_base.specs.declared.fault.Fault.{Fault}
+use Rattle.gp_base.specs.declared.journal.Restart.{Restart}
+use Rattle.dependence.specs.Dependents.{is_member}
+
+-- what is read of a run: the number of its subthreads, which positions are in conflict, what is redone with a position that is struck (the positions below a front that depend on it), and the thread's subthread before a position
+pub record Order : Type 0 where
+  pub count : ℕ
+  pub clash : (position later : ℕ) → Bool
+  pub redo : (struck front : ℕ) → List ℕ
+  pub before : (position : ℕ) → Option ℕ
+
+-- a position that is struck is redone itself
+abbrev pub RedoesStruck : Order → Type 0
+RedoesStruck order = (struck front : ℕ) → struck < front → Contains (order.redo struck front) struck
+
+-- whether a fault is seen at this front whatever its delay
+abbrev pub drains : Order → ℕ → Bool
+drains order front = nat_eq front order.count
+
+-- whether a restart redoes the position
+abbrev pub redoes : ℕ → Restart → Bool
+redoes p restart = is_member p restart.redo
+
+-- the attempt of p after these restarts: how many of them redo it
+abbrev pub attempt_of : List Restart → ℕ → ℕ
+attempt_of made p = count_by (redoes p) made
+
+-- the front of the last of these restarts that redoes p, or else the number given
+abbrev pub last_front : ℕ → ℕ → List Restart → ℕ
+last_front p begun [] = begun
+last_front p begun (restart ∷ later) = last_front p (cond (redoes p restart) restart.front begun) later
+
+-- where p's attempt began: p + 1, or the front of the last restart that redoes p
+abbrev pub begun_of : List Restart → ℕ → ℕ
+begun_of made p = last_front p (p + 1) made
+
+-- the mask of the fault that names the position and the attempt, or 0
+abbrev pub mask_of : List Fault → (position attempt : ℕ) → ℤ
+mask_of [] position attempt = pos 0
+mask_of (fault ∷ rest) position attempt =
+    cond (nat_eq fault.pos position && nat_eq fault.attempt attempt) fault.mask (mask_of rest position attempt)
+
+-- the mask of p's attempt after these restarts
+abbrev pub mask_now : List Fault → List Restart → ℕ → ℤ
+mask_now faults made p = mask_of faults p (attempt_of made p)
+
+-- how far the definition has come: the front, and the restarts made so far
+pub record Progress : Type 0 where
+  pub front : ℕ
+  pub made : List Restart
+
+-- whether the fault names the present attempt of its position, which is below the front
+abbrev pub is_live : Progress → Fault → Bool
+is_live at fault = nat_lt fault.pos at.front && nat_eq fault.attempt (attempt_of at.made fault.pos)
+
+-- whether the fault is due by delay
+abbrev pub is_due : Progress → Fault → Bool
+is_due at fault = is_live at fault && nat_le (begun_of at.made fault.pos + fault.delay) at.front
+
+-- the least position that a passing fault strikes
+abbrev pub least_struck : (Fault → Bool) → List Fault → Option ℕ
+least_struck test [] = None
+least_struck test (fault ∷ rest) =
+    cond (test fault) (Some (option_map_or (min fault.pos) (least_struck test rest) fault.pos)) (least_struck test rest)
+
+-- no fault is due by delay
+abbrev pub NoneDue : List Fault → Progress → Type 0
+NoneDue faults at = least_struck (is_due at) faults ≡ None
+
+-- no fault names a present attempt
+abbrev pub NoneLive : List Fault → Progress → Type 0
+NoneLive faults at = least_struck (is_live at) faults ≡ None
+
+-- the position whose fault is taken next: the least one that is due by delay, or else, where the front drains, the least one that is live
+abbrev pub struck_next : Order → List Fault → Progress → Option ℕ
+struck_next order faults at =
+    option_or (least_struck (is_due at) faults) (cond (drains order at.front) (least_struck (is_live at) faults) None)
+
+-- the restart that taking a fault on p makes
+abbrev pub restart_of : Order → Progress → ℕ → Restart
+restart_of order at p = record { front = at.front; struck = p; attempt = attempt_of at.made p; redo = order.redo p at.front }
+
+-- the progress after a restart of the position, where there is one, and else at the next front
+abbrev pub step_by : Order → Progress → Option ℕ → Progress
+step_by order at (Some p) = record { front = at.front; made = at.made ++ restart_of order at p ∷ [] }
+step_by order at None = record { front = min (at.front + 1) order.count; made = at.made }
+
+-- the next restart at this front, or else the next front, up to the end of the run
+abbrev pub step : Order → List Fault → Progress → Progress
+step order faults at = step_by order at (struck_next order faults at)
+
+-- the progress after this number of steps
+abbrev pub progress : Order → List Fault → ℕ → Progress
+progress order faults zero = record { front = 0; made = [] }
+progress order faults (suc steps) = step order faults (progress order faults steps)
+
+-- all fronts are passed and no fault is left to take
+pub record IsFinal (order : Order) (faults : List Fault) (at : Progress) : Type 0 where
+  pub passed : at.front ≡ order.count
+  pub none_left : struck_next order faults at ≡ None
+
+-- all restarts of a run: each fault is taken at most once, so this many steps are enough
+abbrev pub restarts : Order → List Fault → List Restart
+restarts order faults = (progress order faults (order.count + length faults)).made
