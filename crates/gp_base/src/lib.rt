@@ -2,20 +2,31 @@
 //! outside (shelves of files, sinks of bytes, gates) with plain objects in memory.
 #![tactic(auto)]
 
+mod calls;
 mod ending;
 mod fault;
 mod feed;
 mod footprint;
+mod gate;
 mod journal;
 mod limits;
+mod memory_shelf;
+mod memory_sink;
 mod numbers;
 mod seq;
+mod shelf;
+mod sink;
 
 pub use ending::{End, Why};
 pub use fault::Fault;
 pub use feed::{Feed, Inputs};
 pub use footprint::{Footprint, Loc};
+pub use gate::{FreeGate, Gate};
 pub use journal::{Event, Journal, Restart};
 pub use limits::Limits;
+pub use memory_shelf::{MemShelf, NeverShelf};
+pub use memory_sink::{MemSink, NeverSink};
 pub use numbers::{At, LockNo, Pos, RecNo, ThreadNo};
 pub use seq::{Lines, Name, Nums, Seq, Text};
+pub use shelf::{Shelf, ShelfFault};
+pub use sink::{Sink, SinkFault, put_all};
