@@ -2,6 +2,7 @@
 #![tactic(auto)]
 
 mod fault;
+mod lexer;
 mod token;
 
 pub use fault::{LexFault, ParseFault};

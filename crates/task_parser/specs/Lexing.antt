@@ -1,0 +1,61 @@
+-- The tokens of a text, with their places and lines, or the first fault of lexing.
+use Rattle.std.specs.Prelude.{ℕ, zero, suc, ◌+◌, ◌-◌, ◌≤◌, ◌==◌, nat_lt, if◌then◌else◌, List, [], ◌∷◌, ◌++◌, length, count_by, Result, Ok, Err, All}
+use Rattle.task_parser.specs.declared.token.Token.{Token}
+use Rattle.task_parser.specs.declared.token.Kind.{Kind}
+use Rattle.task_parser.specs.declared.token.Kind.TheVariants.{Num, Name, Reg, Quoted, Word, Mark}
+use Rattle.task_parser.specs.declared.fault.LexFault.{LexFault}
+use Rattle.task_parser.specs.declared.fault.LexFault.TheVariants.{BadByte, NumberTooBig, TooLong}
+use Rattle.task_parser.specs.declared.lexer.Piece.TheVariants.{Skip, Take, TooBig, Bad}
+use Rattle.task_parser.specs.Pieces.{piece_of}
+
+-- the line of what stands behind these bytes: one more than the number of LF among them
+abbrev pub line_behind : List ℕ → ℕ
+line_behind before = 1 + count_by (λ b. b == 10) before
+
+-- a token of so many bytes behind these
+abbrev pub token_behind : List ℕ → Kind → ℕ → Token
+token_behind before kind bytes = record { kind = kind; from = length before; to = length before + bytes; line = line_behind before }
+
+-- a token before others
+abbrev pub followed_by : Token → Result (List Token) LexFault → Result (List Token) LexFault
+followed_by token (Ok tokens) = Ok (token ∷ tokens)
+followed_by token (Err fault) = Err fault
+
+-- The lexing of the rest of a text, piece by piece, behind the bytes before it. The first `inside` bytes of the rest
+-- belong to the piece that began last.
+abbrev pub lexed_behind : List ℕ → ℕ → List ℕ → Result (List Token) LexFault
+lexed_behind before inside [] = Ok []
+lexed_behind before (suc inside) (b ∷ bs) = lexed_behind (before ++ b ∷ []) inside bs
+lexed_behind before zero (b ∷ bs) =
+    elim (piece_of (b ∷ bs)) [
+      | Skip bytes ↦ lexed_behind (before ++ b ∷ []) (bytes - 1) bs
+      | Take kind bytes ↦ followed_by (token_behind before kind bytes) (lexed_behind (before ++ b ∷ []) (bytes - 1) bs)
+      | TooBig ↦ Err (NumberTooBig (length before))
+      | Bad bytes ↦ Err (BadByte (length before + bytes))
+    ]
+
+-- the most bytes that a text may have
+abbrev pub length_limit : ℕ
+length_limit = 1048576
+
+-- the lexing of a text: its tokens, or its first fault
+abbrev pub lexed : List ℕ → Result (List Token) LexFault
+lexed text = if nat_lt length_limit (length text) then Err TooLong else lexed_behind [] 0 text
+
+-- a `$` or two quotes stand in the text of a token of this kind
+abbrev pub least_length : Kind → ℕ
+least_length (Num n) = 1
+least_length Name = 1
+least_length Reg = 2
+least_length Quoted = 2
+least_length (Word number) = 1
+least_length (Mark number) = 1
+
+-- a token lies within a text, and is no shorter than its kind
+pub record IsTokenOf (text : List ℕ) (token : Token) : Type 0 where
+  pub whole : token.from + least_length token.kind ≤ token.to
+  pub within : token.to ≤ length text
+
+-- all tokens lie within the text
+abbrev pub AreTokensOf : List ℕ → List Token → Type 0
+AreTokensOf text tokens = All (λ token. IsTokenOf text token) tokens
