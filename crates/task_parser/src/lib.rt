@@ -1,6 +1,7 @@
 //! Reads the text of a batch program to its tree.
 #![tactic(auto)]
 
+mod classes;
 mod fault;
 mod lexer;
 mod token;
