@@ -13,6 +13,7 @@ pub mod Held
 pub mod Keeps
 pub mod Laws
 pub mod Members
+pub mod Data
 pub mod Names
 pub mod Plain
 pub mod Reached

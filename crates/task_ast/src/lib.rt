@@ -4,10 +4,14 @@
 mod check_kind;
 mod env;
 pub mod laws;
+mod eval;
+mod operate;
 mod sync;
 mod tree;
 
 pub use check_kind::CheckKind;
 pub use env::Env;
+pub use eval::{eval_c, eval_d};
+pub use operate::{apply, negate};
 pub use sync::{Layout, Next, SyncOp};
 pub use tree::{Atom, Expr, Head, Op, Param, Program, Stmt, TaskText, VarLine, What};

@@ -1,5 +1,5 @@
 -- `Seq` as a type through which another may hold itself: where it keeps its elements, and that it owns and lends them as its `Vec` does.
-use mathlib.Core.Path.{◌≡◌, refl, sym}
+use mathlib.Core.Path.{refl, sym}
 use mathlib.Core.Former.{Former, this, list, via}
 use base.Stored.{code_map}
 use denote.RattleType.{RattleType}

@@ -1,0 +1,6 @@
+use Rattle.std.proofs.Common.{◌≡◌, drop}
+use Rattle.task_ast.specs.Names.{named}
+use Rattle.task_ast.proofs.env.find_named.Given as goal
+
+abbrev pub invariant-loop-pair : goal.invariant-loop-pair
+invariant-loop-pair g l = named l.name l.pairs ≡ named l.name (drop l.pair-index l.pairs)
