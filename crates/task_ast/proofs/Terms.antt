@@ -13,7 +13,7 @@ use Rattle.task_ast.specs.Declarations.{has_data, have_data, has_data_index, hav
 use Rattle.task_ast.specs.State.{number_at}
 use Rattle.task_ast.specs.Effect.{term_value, terms_value}
 
-or_false : (a b : Bool) → (a || b) ≡ false → (a ≡ false) × (b ≡ false)
+pub or_false : (a b : Bool) → (a || b) ≡ false → (a ≡ false) × (b ≡ false)
 or_false true b e = absurd (false≢true (sym e))
 or_false false b e = (refl, e)
 
@@ -25,7 +25,7 @@ shifted k n =
     ]
 
 -- the first place at which a test passes, at a list with one more member before it
-position-cons : {X : Type 0} (p : X → Bool) (x : X) (xs : List X) → position p (x ∷ xs) ≡ cond (p x) (Some 0) (option_map suc (position p xs))
+pub position-cons : {X : Type 0} (p : X → Bool) (x : X) (xs : List X) → position p (x ∷ xs) ≡ cond (p x) (Some 0) (option_map suc (position p xs))
 position-cons p x xs = go (p x) refl
   where
     go : (b : Bool) → p x ≡ b → position p (x ∷ xs) ≡ cond b (Some 0) (option_map suc (position p xs))
@@ -36,7 +36,7 @@ nothing_at : (k : ℕ) → number_at [] k ≡ pos 0
 nothing_at k = refl
 
 -- a register by its name has the value of its number
-register_value : (names : List Name) (values : List ℤ) (x : Name) → value_at (zip names values) x ≡ term_value (register (position (is_name x) names)) values
+pub register_value : (names : List Name) (values : List ℤ) (x : Name) → value_at (zip names values) x ≡ term_value (register (position (is_name x) names)) values
 register_value [] values x = refl
 register_value (n ∷ names) [] x = sym (ap (λ o. term_value (register o) []) refl ∙ none (position (is_name x) (n ∷ names)))
   where

@@ -1,6 +1,7 @@
 // Laws of the definitions, each the contract of a function with an empty body.
 
 ghost use Rattle.task_ast.specs.Laws.{ValueLaw, BodyLaw, TurnLaw};
+ghost use Rattle.task_ast.specs.Small.{SmallRunLaw};
 
 /// An expression without data in an index has the value of its term.
 pub fn value_law()
@@ -15,4 +16,9 @@ pub fn body_law()
 /// The next issue is one turn, and then the same again where the turn passes.
 pub fn turn_law()
     ensures { TurnLaw }
+{}
+
+/// A small program runs as one subthread, which prints the lines of its statements in order, and its run is finished.
+pub fn small_run_law()
+    ensures { SmallRunLaw }
 {}
