@@ -3,8 +3,8 @@
 
 mod check_kind;
 mod env;
-pub mod laws;
 mod eval;
+pub mod laws;
 mod operate;
 mod sync;
 mod tree;
