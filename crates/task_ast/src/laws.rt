@@ -1,6 +1,10 @@
 // Laws of the definitions, each the contract of a function with an empty body.
 
-ghost use Rattle.task_ast.specs.Laws.{ValueLaw, BodyLaw, TurnLaw};
+ghost use Rattle.task_ast.specs.Laws.{ValueLaw, BodyLaw, TurnLaw, PrefixLaw, PositionLaw};
+ghost use Rattle.task_ast.specs.Reached.{DeadlockLaw};
+ghost use Rattle.task_ast.specs.Ends.{EndLaw, CountLaw, TablesLaw};
+ghost use Rattle.task_ast.specs.Folds.{WritesLaw, NoDamageLaw, FoldLaw};
+ghost use Rattle.task_ast.specs.Keeps.{ReadsLaw, WithinLaw};
 ghost use Rattle.task_ast.specs.Small.{SmallRunLaw};
 
 /// An expression without data in an index has the value of its term.
@@ -21,4 +25,38 @@ pub fn turn_law()
 /// A small program runs as one subthread, which prints the lines of its statements in order, and its run is finished.
 pub fn small_run_law()
     ensures { SmallRunLaw }
+{}
+
+/// The token comes back to a thread that has passed exactly where every thread that has not ended has passed.
+pub fn deadlock_law()
+    ensures { DeadlockLaw }
+{}
+
+/// The first steps of an order are those of a shorter run, and the step at a position is the one that the state before
+/// it makes.
+pub fn order_laws()
+    ensures prefix { PrefixLaw }
+    ensures position { PositionLaw }
+{}
+
+/// The plain run ends by its rules, within its limit, and its tables are those that turns lead to.
+pub fn plain_laws()
+    ensures end { EndLaw }
+    ensures count { CountLaw }
+    ensures tables { TablesLaw }
+{}
+
+/// An effect writes each cell once, and they rise; mask 0 damages nothing; the fold of all positions of a run, none of
+/// them damaged, is the state of the plain run.
+pub fn fold_laws()
+    ensures writes { WritesLaw }
+    ensures damage { NoDamageLaw }
+    ensures whole { FoldLaw }
+{}
+
+/// An effect reads and writes only the cells that its actions name, and the registers of its thread, its child and the
+/// thread that it joins.
+pub fn keeping_laws()
+    ensures reads { ReadsLaw }
+    ensures within { WithinLaw }
 {}
