@@ -11,6 +11,7 @@ pub mod Folds
 pub mod Footprint
 pub mod Held
 pub mod Keeps
+pub mod Layout
 pub mod Laws
 pub mod Members
 pub mod Data

@@ -5,6 +5,7 @@ ghost use Rattle.task_ast.specs.Reached.{DeadlockLaw};
 ghost use Rattle.task_ast.specs.Ends.{EndLaw, CountLaw, TablesLaw};
 ghost use Rattle.task_ast.specs.Folds.{WritesLaw, NoDamageLaw, FoldLaw};
 ghost use Rattle.task_ast.specs.Keeps.{ReadsLaw, WithinLaw};
+ghost use Rattle.task_ast.specs.Layout.{LayoutLaw, SizesLaw, OverLaw};
 ghost use Rattle.task_ast.specs.Small.{SmallRunLaw};
 
 /// An expression without data in an index has the value of its term.
@@ -59,4 +60,12 @@ pub fn fold_laws()
 pub fn keeping_laws()
     ensures reads { ReadsLaw }
     ensures within { WithinLaw }
+{}
+
+/// Each record cell of an accepted program stands under exactly one lock cell, which is that of the same index in its
+/// record's lock array; the cells under one lock cell rise.
+pub fn layout_laws()
+    ensures layout { LayoutLaw }
+    ensures sizes { SizesLaw }
+    ensures over { OverLaw }
 {}
