@@ -17,23 +17,19 @@ use Rattle.task_ast.specs.Declarations.{lacks_array, sizes_differ, is_other_size
 use Rattle.task_ast.specs.Check.{bodies_visits}
 use Rattle.task_ast.specs.Shaped.{IsAccepted}
 use Rattle.task_ast.specs.Table.{numbers}
-use Rattle.task_ast.specs.Layout.{lock_over, is_lock_cell, cells_under, fits_array, IsLaidOut}
+use Rattle.task_ast.specs.Layout.{base_of, lock_over, is_lock_cell, cells_under, fits_array, IsLaidOut}
 
 -- an index below an array's size is that of a cell
 cell_there : (arrays : List (Name × ℕ)) (name : Name) (size k : ℕ) → named name arrays ≡ Some size → k < size
     → (l : ℕ) × (l < cells_in arrays) × (cell_number arrays name (pos k) ≡ Some l)
 cell_there [] name size k e less = absurd (cc e)
-cell_there (array ∷ arrays) name size k e less = go (is_name name array.0) refl (λ found. cell_there arrays name size k found less)
+cell_there (array ∷ arrays) name size k e less = go (is_name name array.0) e (λ found. cell_there arrays name size k found less)
   where
-    go : (b : Bool) → is_name name array.0 ≡ b → (named name arrays ≡ Some size → (l : ℕ) × (l < cells_in arrays) × (cell_number arrays name (pos k) ≡ Some l))
-        → (l : ℕ) × (l < array.1 + cells_in arrays) × (cond (is_name name array.0) (place array.1 (pos k)) (option_map (λ n. array.1 + n) (cell_number arrays name (pos k))) ≡ Some l)
-    go true is later =
-        let found : Some array.1 ≡ Some size = ap (λ b. cond b (Some array.1) (named name arrays)) (sym is) ∙ e in
-        let same : array.1 ≡ size = cc found in
-        (k, omega arith, rw (is, lt-ltb k array.1 (omega arith)) refl)
-    go false is later =
-        let there = later (ap (λ b. cond b (Some array.1) (named name arrays)) (sym is) ∙ e) in
-        (array.1 + there.0, omega arith, ap (λ b. cond b (place array.1 (pos k)) (option_map (λ n. array.1 + n) (cell_number arrays name (pos k)))) is ∙ ap (option_map (λ n. array.1 + n)) there.2)
+    go : (b : Bool) → cond b (Some array.1) (named name arrays) ≡ Some size
+        → (named name arrays ≡ Some size → (l : ℕ) × (l < cells_in arrays) × (cell_number arrays name (pos k) ≡ Some l))
+        → (l : ℕ) × (l < array.1 + cells_in arrays) × (cond b (place array.1 (pos k)) (option_map (λ n. array.1 + n) (cell_number arrays name (pos k))) ≡ Some l)
+    go true found later = let same : array.1 ≡ size = cc found in (k, omega arith, rw (lt-ltb k array.1 (omega arith)) refl)
+    go false found later = let there = later found in (array.1 + there.0, omega arith, ap (option_map (λ n. array.1 + n)) there.2)
 
 -- the array of a record that fits it has the record's size
 array_found : (size : ℕ) (o : Option ℕ) → not (is_none o) ≡ true → not (is_other_size size o) ≡ true → o ≡ Some size
@@ -151,18 +147,37 @@ over_is arrays (LockHead name size line ∷ heads) r a index c number array = ov
 over_is arrays (BarrierHead name size line ∷ heads) r a index c number array = over_is arrays heads r a index c number array
 over_is arrays (FeedHead name fields from line ∷ heads) r a index c number array = over_is arrays heads r a index c number array
 over_is arrays (RecHead name size by from line ∷ heads) r a index c number array =
-    go (is_name r name) refl (λ d found. over_is arrays heads r a index d found)
+    go (is_name r name) number array (over_is arrays heads r a index)
   where
-    go : (b : Bool) → is_name r name ≡ b
+    go : (b : Bool) → cond b (place (natural size) index) (option_map (λ n. natural size + n) (cell_number (records_of heads) r index)) ≡ Some c
+        → cond b (Some by) (named r (arrays_over heads)) ≡ Some a
         → ((d : ℕ) → cell_number (records_of heads) r index ≡ Some d → named r (arrays_over heads) ≡ Some a → lock_over arrays heads d ≡ cell_number arrays a index)
         → cond (nat_lt c (natural size)) (cell_number arrays by (pos c)) (lock_over arrays heads (c - natural size)) ≡ cell_number arrays a index
-    go true is rest =
-        at_place arrays (natural size) by a index c (lock_over arrays heads (c - natural size)) (ap (λ b. cond b (place (natural size) index) (option_map (λ n. natural size + n) (cell_number (records_of heads) r index))) (sym is) ∙ number)
-        (let found : Some by ≡ Some a = ap (λ b. cond b (Some by) (named r (arrays_over heads))) (sym is) ∙ array in cc found)
-    go false is rest =
-        past_it arrays heads (natural size) by a index c (cell_number (records_of heads) r index)
-        (ap (λ b. cond b (place (natural size) index) (option_map (λ n. natural size + n) (cell_number (records_of heads) r index))) (sym is) ∙ number)
-        (λ d found. rest d found (ap (λ b. cond b (Some by) (named r (arrays_over heads))) (sym is) ∙ array))
+    go true number array rest = at_place arrays (natural size) by a index c (lock_over arrays heads (c - natural size)) number (cc array)
+    go false number array rest = past_it arrays heads (natural size) by a index c (cell_number (records_of heads) r index) number (λ d found. rest d found array)
+
+-- an array whose first cell may be there, and one of its cells
+abbrev Based : Option ℕ → ℤ → ℕ → Type 0
+Based o index c = (base k : ℕ) × (o ≡ Some base) × (index ≡ pos k) × (c ≡ base + k)
+
+based_later : (size : ℕ) (o base : Option ℕ) (index : ℤ) (c : ℕ) → option_map (λ n. size + n) o ≡ Some c → ((d : ℕ) → o ≡ Some d → Based base index d)
+    → Based (option_map (λ n. size + n) base) index c
+based_later size None base index c e rest = absurd (cc e)
+based_later size (Some d) base index c e rest =
+    let there = rest d refl in
+    let sum : size + d ≡ c = cc e in
+    let far = there.4 in
+    (size + there.0, there.1, ap (option_map (λ n. size + n)) there.2, there.3, omega arith)
+
+-- an array's cell is as far from its first cell as its index says
+pub based : (arrays : List (Name × ℕ)) (x : Name) (index : ℤ) (c : ℕ) → cell_number arrays x index ≡ Some c → Based (base_of arrays x) index c
+based [] x index c e = absurd (cc e)
+based (array ∷ arrays) x index c e = go (is_name x array.0) e (λ d found. based arrays x index d found)
+  where
+    go : (b : Bool) → cond b (place array.1 index) (option_map (λ n. array.1 + n) (cell_number arrays x index)) ≡ Some c
+        → ((d : ℕ) → cell_number arrays x index ≡ Some d → Based (base_of arrays x) index d) → Based (cond b (Some 0) (option_map (λ n. array.1 + n) (base_of arrays x))) index c
+    go true e rest = let there = placed array.1 index c e in (0, c, refl, there.0, omega arith)
+    go false e rest = based_later array.1 (cell_number arrays x index) (base_of arrays x) index c e rest
 
 -- a list of visits without a fault begins with visits without one
 faultless_first : (xs ys : List Visit) → first_fault (xs ++ ys) ≡ None → first_fault xs ≡ None

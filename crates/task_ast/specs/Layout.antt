@@ -1,12 +1,12 @@
 -- Which record cells stand under which lock cell.
-use Rattle.std.specs.Prelude.{◌≡◌, ◌↔◌, ℕ, ◌<◌, ◌-◌, ◌==◌, ℤ, pos, Bool, true, false, not, ◌&&◌, cond, List, [], ◌∷◌, map, take, drop, Option, Some, None, nat_lt}
+use Rattle.std.specs.Prelude.{◌≡◌, ◌↔◌, ℕ, ◌+◌, ◌<◌, ◌-◌, ◌==◌, ℤ, pos, Bool, true, false, not, ◌&&◌, cond, List, [], ◌∷◌, map, take, drop, Option, Some, None, nat_lt, option_map}
 use Rattle.std.specs.List.{list_all, filter, Contains}
 use Rattle.std.specs.List.Sorted.{IsStrictlyIncreasing}
 use Rattle.task_ast.specs.declared.sync.Layout.{Layout}
 use Rattle.task_ast.specs.declared.tree.Head.{Head}
 use Rattle.task_ast.specs.declared.tree.Head.TheVariants.{RecHead}
 use Rattle.task_ast.specs.Tree.{Name, Program}
-use Rattle.task_ast.specs.Names.{natural, named, locks_of, records_of, arrays_over, cell_number, cells_in}
+use Rattle.task_ast.specs.Names.{is_name, natural, named, locks_of, records_of, arrays_over, cell_number, cells_in}
 use Rattle.task_ast.specs.Declarations.{lacks_array, sizes_differ}
 use Rattle.task_ast.specs.Shaped.{IsAccepted}
 use Rattle.task_ast.specs.Table.{numbers}
@@ -30,6 +30,11 @@ cells_under heads lock = filter (λ c. is_lock_cell lock (lock_over (locks_of he
 -- for each lock cell the record cells under it
 abbrev pub layout : List Head → Layout
 layout heads = record { under = map (cells_under heads) (numbers 0 (cells_in (locks_of heads))) }
+
+-- the number of an array's first cell, or none where there is no array of this name
+abbrev pub base_of : List (Name × ℕ) → Name → Option ℕ
+base_of [] x = None
+base_of (array ∷ arrays) x = cond (is_name x array.0) (Some 0) (option_map (λ n. array.1 + n) (base_of arrays x))
 
 -- each of these arrays with its own cells, cut from the list of all cells
 abbrev pub cut : {A : Type 0} → List (Name × ℕ) → List A → List (Name × List A)
@@ -59,3 +64,9 @@ abbrev pub OverLaw : Type 0
 OverLaw =
     (heads : List Head) (r a : Name) (index : ℤ) (c : ℕ) → cell_number (records_of heads) r index ≡ Some c → named r (arrays_over heads) ≡ Some a
     → lock_over (locks_of heads) heads c ≡ cell_number (locks_of heads) a index
+
+-- an array's cell is as far from its first cell as its index says
+abbrev pub BaseLaw : Type 0
+BaseLaw =
+    (arrays : List (Name × ℕ)) (x : Name) (index : ℤ) (c : ℕ) → cell_number arrays x index ≡ Some c
+    → (base k : ℕ) × (base_of arrays x ≡ Some base) × (index ≡ pos k) × (c ≡ base + k)

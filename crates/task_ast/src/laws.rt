@@ -5,7 +5,7 @@ ghost use Rattle.task_ast.specs.Reached.{DeadlockLaw};
 ghost use Rattle.task_ast.specs.Ends.{EndLaw, CountLaw, TablesLaw};
 ghost use Rattle.task_ast.specs.Folds.{WritesLaw, NoDamageLaw, FoldLaw};
 ghost use Rattle.task_ast.specs.Keeps.{ReadsLaw, WithinLaw};
-ghost use Rattle.task_ast.specs.Layout.{LayoutLaw, SizesLaw, OverLaw};
+ghost use Rattle.task_ast.specs.Layout.{LayoutLaw, SizesLaw, OverLaw, BaseLaw};
 ghost use Rattle.task_ast.specs.Small.{SmallRunLaw};
 
 /// An expression without data in an index has the value of its term.
@@ -63,9 +63,10 @@ pub fn keeping_laws()
 {}
 
 /// Each record cell of an accepted program stands under exactly one lock cell, which is that of the same index in its
-/// record's lock array; the cells under one lock cell rise.
+/// record's lock array; the cells under one lock cell rise. An array's cells follow one another by their indices.
 pub fn layout_laws()
     ensures layout { LayoutLaw }
     ensures sizes { SizesLaw }
     ensures over { OverLaw }
+    ensures base { BaseLaw }
 {}
