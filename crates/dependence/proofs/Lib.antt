@@ -1,2 +1,3 @@
 pub mod Conflicting
 pub mod DependentSets
+pub mod Marking

@@ -25,3 +25,7 @@ dependents clash first (suc q) =
 abbrev pub MarksDependents : List Footprint → ℕ → List Bool → Type 0
 MarksDependents feet first marks =
     EachIndex marks (λ q. (slice_index_or marks q false ≡ true) ↔ IsDependent (ClashIn feet) first (length feet) q)
+
+-- an earlier position that is marked is in conflict with this one
+abbrev pub IsReached : List Footprint → List Bool → ℕ → Type 0
+IsReached feet marks q = (p : ℕ) × (p < q) × (slice_index_or marks p false ≡ true) × ClashIn feet p q

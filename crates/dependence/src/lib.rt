@@ -10,4 +10,4 @@
 pub mod laws;
 mod marks;
 
-pub use marks::conflict;
+pub use marks::{conflict, mark};
