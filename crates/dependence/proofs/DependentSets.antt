@@ -1,8 +1,8 @@
 -- The list of dependents holds the least set, in rising order.
 use Rattle.std.proofs.Common.{◌≡◌, ◌⊎◌, ◌↔◌, inl, inr, ℕ, zero, suc, ◌+◌, ◌<◌, ◌≤◌, Bool, true, false, cond, List, [], ◌∷◌, ◌++◌, length, get_or, length-append, Contains, refl, sym, ap, ◌∙◌, arith, nat_eq, ◌||◌, ◌&&◌}
-use Rattle.std.proofs.Math.Bool.{or-false}
+use Rattle.std.proofs.Math.Bool.{or-false, and-true}
 use Rattle.std.proofs.Math.Seq.{get_or-append_seam}
-use Rattle.std.proofs.lemmas.Bool.{false≢true, eqb-true, eq-eqb, or_cases, or_left, or_right, and_parts, and_from, cases_lt}
+use Rattle.std.proofs.lemmas.Bool.{false≢true, false_from_ne_true, eqb-true, eq-eqb, or_cases, or_left, or_right, and_parts, and_from, cases_lt}
 use Rattle.std.proofs.lemmas.List.{get_or_append_left, get_or_default}
 use Rattle.std.proofs.lemmas.List.Folds.{Any-from_list_any, list_any-from_Any, list_any-append}
 use Rattle.std.proofs.lemmas.Map.Views.{Contains-from_any, list_any-from_Contains}
@@ -46,7 +46,7 @@ module _ (clash : ℕ → ℕ → Bool) (first : ℕ) where
   Clash p q = clash p q ≡ true
 
   -- whether n is the first, or in conflict with a dependent before it
-  abbrev joins : ℕ → Bool
+  abbrev pub joins : ℕ → Bool
   joins n = nat_eq n first || list_any (λ p. clash p n) (dependents clash first n)
 
   -- below the next front stand the dependents below this one, and the front itself where it joins them
@@ -57,7 +57,7 @@ module _ (clash : ℕ → ℕ → Bool) (first : ℕ) where
       go true = list_any-append (nat_eq q) (dependents clash first n) (n ∷ []) ∙ ap (λ b. is_member q (dependents clash first n) || b) (or-false (nat_eq q n))
       go false = sym (or-false (is_member q (dependents clash first n)))
 
-  sound : (front q : ℕ) → is_member q (dependents clash first front) ≡ true → IsDependent Clash first front q
+  pub sound : (front q : ℕ) → is_member q (dependents clash first front) ≡ true → IsDependent Clash first front q
   sound zero q e = absurd (false≢true e)
   sound (suc n) q e =
       elim (or_cases (is_member q (dependents clash first n)) (joins n && nat_eq q n) (sym (member-next n q) ∙ e)) [
@@ -79,7 +79,7 @@ module _ (clash : ℕ → ℕ → Bool) (first : ℕ) where
                 later (wider below s.1 m) l (omega arith) s.4)
           ])
 
-  complete : (front q : ℕ) → IsDependent Clash first front q → is_member q (dependents clash first front) ≡ true
+  pub complete : (front q : ℕ) → IsDependent Clash first front q → is_member q (dependents clash first front) ≡ true
   complete zero q d = absurd (let l : q < 0 = IsDependent-front Clash first 0 d in omega arith)
   complete (suc n) q d =
       member-next n q ∙ elim (cases_lt q n) [
@@ -98,6 +98,13 @@ module _ (clash : ℕ → ℕ → Bool) (first : ℕ) where
                 (let c = (is_member-is e.0 (dependents clash first n)).0 (below e.0 (IsDependent-below Clash first (suc n) n e.2 (omega arith))) in
                 list_any-from_Any (λ p. clash p n) (dependents clash first n) (c.0, e.0, c.1, c.2, ap (clash e.0) (sym same) ∙ e.3))
           ]
+
+  -- the front joins exactly where it is a dependent below the next front
+  pub joins-is : (n : ℕ) → is_member n (dependents clash first (suc n)) ≡ joins n
+  joins-is n =
+      let absent : is_member n (dependents clash first n) ≡ false =
+      false_from_ne_true _ (λ e. let l : n < n = IsDependent-front Clash first n (sound n n e) in omega arith) in
+      member-next n n ∙ (ap (λ b. b || (joins n && nat_eq n n)) absent ∙ (ap (λ b. joins n && b) (eq-eqb n n refl) ∙ and-true (joins n)))
 
   pub dependents-are : (front q : ℕ) → Contains (dependents clash first front) q ↔ IsDependent Clash first front q
   dependents-are front q = (

@@ -1,13 +1,14 @@
 -- The laws of lawful journals.
-use Rattle.std.proofs.Common.{◌≡◌, ℕ, suc, ◌+◌, ◌<◌, min, List, [], ◌∷◌, ◌++◌, Option, Some, None, refl, sym, ap, subst, ◌∙◌, arith}
+use Rattle.std.proofs.Common.{◌≡◌, ◌≢◌, ◌↔◌, length, slice_get, ℕ, suc, ◌+◌, ◌<◌, min, List, [], ◌∷◌, ◌++◌, Option, Some, None, refl, sym, ap, subst, ◌∙◌, arith}
 use Rattle.std.proofs.lemmas.Bool.{ne_eqb}
+use Rattle.std.specs.Option.{IsSomeAnd}
 use Rattle.gp_base.specs.declared.fault.Fault.{Fault}
 use Rattle.gp_base.specs.declared.journal.Restart.{Restart}
 use Rattle.gp_base.specs.declared.journal.Event.{Event}
 use Rattle.gp_base.specs.declared.journal.Event.TheVariants as event
 use Rattle.dependence.specs.Restarts.{Order, RedoesStruck, IsFinal, Progress, struck_next, step, step_by, progress, restarts}
 use Rattle.dependence.specs.Journal.{Stage, opening, Allowed, happens, restarted, LawfulFrom, Lawful, stage_from, stage, Complete}
-use Rattle.dependence.proofs.RestartEnds.{made-first, made-all}
+use Rattle.dependence.proofs.RestartEnds.{made-first, made-all, struck-is}
 
 module _ (order : Order) (faults : List Fault) where
   -- a beginning of a lawful list is lawful
@@ -64,6 +65,16 @@ module _ (order : Order) (faults : List Fault) where
         let r = Reached-stage opening events lawful (0, refl) in
         let h = made-first order held faults r.0 in
         (h.0, h.1 ∙ ap (λ at. at.made ++ h.0) (sym r.1))
+
+    -- a restart may come next exactly where the next of all restarts has the present front
+    pub restarts-next : (events : List Event) → Lawful order faults events
+        → (struck_next order faults (stage order faults events).progress ≢ None)
+        ↔ IsSomeAnd (slice_get (restarts order faults) (length (stage order faults events).progress.made)) (λ restart. restart.front ≡ (stage order faults events).progress.front)
+    restarts-next events lawful =
+        let r = Reached-stage opening events lawful (0, refl) in
+        subst
+        (λ at. (struck_next order faults at ≢ None) ↔ IsSomeAnd (slice_get (restarts order faults) (length at.made)) (λ restart. restart.front ≡ at.front))
+        (sym r.1) (struck-is order held faults r.0)
 
     -- a complete list has all restarts
     pub restarts-all : (events : List Event) → Complete order faults events → (stage order faults events).progress.made ≡ restarts order faults

@@ -1,10 +1,11 @@
 -- The steps of the restarts end, and each progress is a beginning of the whole.
-use Rattle.std.proofs.Common.{◌≡◌, ◌⊎◌, inl, inr, ℕ, zero, suc, ◌+◌, ◌-◌, ◌<◌, ◌≤◌, min, Bool, true, false, cond, List, [], ◌∷◌, ◌++◌, length, Option, Some, None, refl, sym, ap, ◌∙◌, arith, nat_eq, nat_lt, nat_le, count_by, append_assoc}
+use Rattle.std.proofs.Common.{◌≡◌, ◌⊎◌, inl, inr, ℕ, zero, suc, ◌+◌, ◌-◌, ◌<◌, ◌≤◌, min, Bool, true, false, cond, List, [], ◌∷◌, ◌++◌, length, Option, Some, None, refl, sym, ap, subst, ◌∙◌, ◌≢◌, ◌↔◌, arith, All, slice_get, nat_eq, nat_lt, nat_le, count_by, append_assoc}
 use Rattle.std.proofs.lemmas.List.{append-nil}
+use Rattle.std.proofs.lemmas.List.Elements.{All-cons, All-append}
 use Rattle.std.proofs.Math.Nat.{add-zero, add-suc}
 use Rattle.std.proofs.lemmas.Bool.{and_parts, eqb-true, ltb-true, leb-true, le-leb, lt-leb, cases_lt, cases_eq, false≢true}
 use Rattle.std.proofs.lemmas.List.Sums.{sum_by-append, count_by-le-length}
-use Rattle.std.specs.Option.{option_or, option_map_or}
+use Rattle.std.specs.Option.{option_or, option_map_or, IsSomeAnd}
 use Rattle.gp_base.specs.declared.fault.Fault.{Fault}
 use Rattle.gp_base.specs.declared.journal.Restart.{Restart}
 use Rattle.dependence.specs.Restarts.{Order, RedoesStruck, drains, IsFinal, Progress, redoes, attempt_of, begun_of, last_front, is_live, is_due, least_struck, struck_next, restart_of, step_by, step, progress, restarts}
@@ -102,6 +103,19 @@ restart-uses order held faults at test live p e =
         let pushed = attempt-push at.made (restart_of order at p) fault.pos in
         le-leb _ _ (omega arith)
 
+-- the member after these
+next_seen : (made : List Restart) (restart : Restart) (rest : List Restart)
+    → IsSomeAnd (slice_get (made ++ restart ∷ rest) (length made)) (λ next. next.front ≡ restart.front)
+next_seen [] restart rest = refl
+next_seen (first ∷ made) restart rest = next_seen made restart rest
+
+-- where all members after these have later fronts, the next one hasn't this front
+next_later : (made rest : List Restart) (front : ℕ) → All (λ restart. front < restart.front) rest
+    → IsSomeAnd (slice_get (made ++ rest) (length made)) (λ next. next.front ≡ front) → ⊥
+next_later [] [] front later next = next
+next_later [] (restart ∷ rest) front later next = let l = later 0 restart (omega arith) in omega arith
+next_later (first ∷ made) rest front later next = next_later made rest front later next
+
 module _ (order : Order) (held : RedoesStruck order) (faults : List Fault) where
   -- the faults that can still be taken, and the fronts that are left
   abbrev left_to_do : Progress → ℕ
@@ -179,33 +193,49 @@ module _ (order : Order) (held : RedoesStruck order) (faults : List Fault) where
   stays k zero final = rw add-zero refl
   stays k (suc j) final = rw add-suc (rw (stays k j final) (step-final (progress order faults k) final))
 
-  step-begins : (at : Progress) → (rest : List Restart) × ((step order faults at).made ≡ at.made ++ rest)
-  step-begins at = go (struck_next order faults at)
-    where
-      go : (o : Option ℕ) → (rest : List Restart) × ((step_by order at o).made ≡ at.made ++ rest)
-      go (Some p) = (restart_of order at p ∷ [], refl)
-      go None = ([], sym (append-nil at.made))
+  -- restarts that are made at this front or later
+  abbrev AllFrom : Progress → List Restart → Type 0
+  AllFrom at rest = All (λ restart. at.front ≤ restart.front) rest
 
-  -- each progress made a beginning of what later ones make
-  pub made-begins : (k j : ℕ) → (rest : List Restart) × ((progress order faults (k + j)).made ≡ (progress order faults k).made ++ rest)
-  made-begins k zero = rw add-zero ([], sym (append-nil (progress order faults k).made))
+  none_from : (at : Progress) → AllFrom at []
+  none_from at k d l = absurd (omega arith)
+
+  step-begins : (at : Progress) → at.front ≤ order.count
+      → (rest : List Restart) × ((step order faults at).made ≡ at.made ++ rest) × AllFrom at rest × (at.front ≤ (step order faults at).front)
+  step-begins at low = go (struck_next order faults at)
+    where
+      go : (o : Option ℕ) → (rest : List Restart) × ((step_by order at o).made ≡ at.made ++ rest) × AllFrom at rest × (at.front ≤ (step_by order at o).front)
+      go (Some p) = (restart_of order at p ∷ [], refl, All-cons (λ restart. at.front ≤ restart.front) (restart_of order at p) [] (omega arith) (none_from at), omega arith)
+      go None = ([], sym (append-nil at.made), none_from at, omega arith)
+
+  -- each progress made a beginning of what later ones make, and what they add has its front or a later one
+  pub made-begins : (k j : ℕ) → (rest : List Restart)
+      × ((progress order faults (k + j)).made ≡ (progress order faults k).made ++ rest)
+      × AllFrom (progress order faults k) rest × ((progress order faults k).front ≤ (progress order faults (k + j)).front)
+  made-begins k zero = rw add-zero ([], sym (append-nil (progress order faults k).made), none_from (progress order faults k), omega arith)
   made-begins k (suc j) =
       let h = made-begins k j in
-      let g = step-begins (progress order faults (k + j)) in
-      rw add-suc (h.0 ++ g.0, g.1 ∙ (ap (λ m. m ++ g.0) h.1 ∙ append_assoc (progress order faults k).made h.0 g.0))
+      let g = step-begins (progress order faults (k + j)) (progress-low (k + j)) in
+      let rises : (progress order faults k).front ≤ (step order faults (progress order faults (k + j))).front = omega (arith, h.3, g.3) in
+      rw add-suc (
+        h.0 ++ g.0,
+        g.1 ∙ (ap (λ m. m ++ g.0) h.1 ∙ append_assoc (progress order faults k).made h.0 g.0),
+        All-append (λ restart. (progress order faults k).front ≤ restart.front) h.0 g.0 h.2 (λ i d l. let f = g.2 i d l in omega (arith, h.3)),
+        rises,
+      )
 
-  -- what was made after k steps is a beginning of all restarts
-  pub made-first : (k : ℕ) → (rest : List Restart) × (restarts order faults ≡ (progress order faults k).made ++ rest)
+  -- what was made after k steps is a beginning of all restarts, and the others have its front or a later one
+  pub made-first : (k : ℕ) → (rest : List Restart) × (restarts order faults ≡ (progress order faults k).made ++ rest) × AllFrom (progress order faults k) rest
   made-first k =
       elim (cases_lt k (order.count + length faults)) [
         | inl l ↦
             (let h = made-begins k ((order.count + length faults) - k) in
             let e : k + ((order.count + length faults) - k) ≡ order.count + length faults = omega arith in
-            (h.0, ap (λ n. (progress order faults n).made) (sym e) ∙ h.1))
+            (h.0, ap (λ n. (progress order faults n).made) (sym e) ∙ h.1, h.2))
         | inr l ↦
             (let h = stays (order.count + length faults) (k - (order.count + length faults)) final-reached in
             let e : (order.count + length faults) + (k - (order.count + length faults)) ≡ k = omega arith in
-            ([], ap (λ at. at.made) (sym h) ∙ (ap (λ n. (progress order faults n).made) e ∙ sym (append-nil (progress order faults k).made))))
+            ([], ap (λ at. at.made) (sym h) ∙ (ap (λ n. (progress order faults n).made) e ∙ sym (append-nil (progress order faults k).made)), none_from (progress order faults k)))
       ]
 
   -- at an end all restarts are made
@@ -229,3 +259,34 @@ module _ (order : Order) (held : RedoesStruck order) (faults : List Fault) where
         h.1 ∙ (ap (λ o. (step_by order (progress order faults k) o).made ++ h.0) e
             ∙ append_assoc (progress order faults k).made (restart_of order (progress order faults k) p ∷ []) h.0),
       )
+
+  -- a fault is taken next exactly where the next of all restarts has the present front
+  pub struck-is : (k : ℕ) → (struck_next order faults (progress order faults k) ≢ None)
+      ↔ IsSomeAnd (slice_get (restarts order faults) (length (progress order faults k).made)) (λ restart. restart.front ≡ (progress order faults k).front)
+  struck-is k = (λ some. forward (struck_next order faults at) refl some, backward)
+    where
+      at : Progress
+      at = progress order faults k
+
+      forward : (o : Option ℕ) → struck_next order faults at ≡ o → o ≢ None → IsSomeAnd (slice_get (restarts order faults) (length at.made)) (λ restart. restart.front ≡ at.front)
+      forward None e some = absurd (some refl)
+      forward (Some p) e some = let h = made-next k p e in rw h.1 (next_seen at.made (restart_of order at p) h.0)
+
+      NextAmong : List Restart → Type 0
+      NextAmong all = IsSomeAnd (slice_get all (length at.made)) (λ restart. restart.front ≡ at.front)
+
+      backward : NextAmong (restarts order faults) → struck_next order faults at ≢ None
+      backward next none =
+          elim (cases_eq at.front order.count) [
+            | inl passed ↦
+                (let e = made-all k (record { passed = passed; none_left = none }) in
+                next_later at.made [] at.front (λ i d l. absurd (omega arith)) (subst NextAmong (sym e ∙ sym (append-nil at.made)) next))
+            | inr left ↦
+                (let low = progress-low k in
+                let h = made-first (suc k) in
+                let stepped : step order faults at ≡ record { front = min (at.front + 1) order.count; made = at.made } = ap (step_by order at) none in
+                let front = ap (λ after. after.front) stepped in
+                next_later at.made h.0 at.front
+                (λ i d l. let f = h.2 i d l in omega (arith, front, left))
+                (subst NextAmong (h.1 ∙ ap (λ after. after.made ++ h.0) stepped) next))
+          ]

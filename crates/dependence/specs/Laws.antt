@@ -1,14 +1,18 @@
 -- Laws of the definitions.
-use Rattle.std.specs.Prelude.{◌≡◌, ◌↔◌, ℕ, ◌+◌, ◌<◌, Bool, true, List, ◌++◌, length, Contains}
+use Rattle.std.specs.Prelude.{◌≡◌, ◌≢◌, ◌↔◌, ℕ, ◌+◌, ◌<◌, Bool, true, false, cond, List, [], ◌∷◌, ◌++◌, length, map, slice_get, Contains, EachIndex, None}
+use Rattle.std.specs.Option.{IsSomeAnd}
+use Rattle.std.specs.List.{slice_index_or}
 use Rattle.std.specs.List.Sorted.{IsStrictlyIncreasing}
 use Rattle.gp_base.specs.declared.footprint.Footprint.{Footprint}
 use Rattle.gp_base.specs.declared.fault.Fault.{Fault}
 use Rattle.gp_base.specs.declared.journal.Event.{Event}
 use Rattle.gp_base.specs.declared.journal.Restart.{Restart}
-use Rattle.dependence.specs.Conflict.{Conflict, conflicting}
-use Rattle.dependence.specs.Dependents.{IsDependent, dependents}
-use Rattle.dependence.specs.Restarts.{Order, RedoesStruck, progress, IsFinal, restarts}
-use Rattle.dependence.specs.Journal.{Lawful, Complete, stage}
+use Rattle.task_ast.specs.Plain.{Subthread}
+use Rattle.dependence.specs.Conflict.{Conflict, conflicting, clash_in}
+use Rattle.dependence.specs.Dependents.{IsDependent, is_member, dependents, MarksDependents}
+use Rattle.dependence.specs.Restarts.{Order, RedoesStruck, redoes, attempt_of, begun_of, struck_next, progress, IsFinal, restarts}
+use Rattle.dependence.specs.Journal.{Allowed, happens, Lawful, Complete, stage}
+use Rattle.dependence.specs.Runs.{order_of}
 
 -- the test says when two footprints are in conflict
 abbrev pub ConflictLaw : Type 0
@@ -31,6 +35,29 @@ LeastLaw =
 abbrev pub RisingLaw : Type 0
 RisingLaw = (clash : ℕ → ℕ → Bool) (first front : ℕ) → IsStrictlyIncreasing (dependents clash first front)
 
+-- below one more front the list has that front too, exactly where it is a dependent below a front past it
+abbrev pub NextLaw : Type 0
+NextLaw =
+    (clash : ℕ → ℕ → Bool) (first front q : ℕ) → q < front
+    → dependents clash first (q + 1)
+    ≡ cond (is_member q (dependents clash first front)) (dependents clash first q ++ q ∷ []) (dependents clash first q)
+
+-- the dependents among the positions from `base` on, counted from there, are those of the whole
+abbrev pub ShiftLaw : Type 0
+ShiftLaw =
+    (clash : ℕ → ℕ → Bool) (base first front : ℕ)
+    → dependents clash (base + first) (base + front) ≡ map (λ p. base + p) (dependents (λ p q. clash (base + p) (base + q)) first front)
+
+-- exactly the members of the list are marked where exactly the dependents are
+abbrev pub MarksLaw : Type 0
+MarksLaw =
+    (feet : List Footprint) (first : ℕ) (marks : List Bool) → MarksDependents feet first marks
+    → EachIndex marks (λ q. slice_index_or marks q false ≡ is_member q (dependents (clash_in feet) first (length feet)))
+
+-- what a run redoes with a position that is struck holds that position
+abbrev pub RunLaw : Type 0
+RunLaw = (run : List Subthread) → RedoesStruck (order_of run)
+
 -- a beginning of a lawful list is lawful
 abbrev pub FrontLaw : Type 0
 FrontLaw = (order : Order) (faults : List Fault) (events rest : List Event) → Lawful order faults (events ++ rest) → Lawful order faults events
@@ -52,3 +79,29 @@ abbrev pub RestartsAllLaw : Type 0
 RestartsAllLaw =
     (order : Order) (faults : List Fault) (events : List Event) → RedoesStruck order → Complete order faults events
     → (stage order faults events).progress.made ≡ restarts order faults
+
+-- one more restart raises the attempts of those that it redoes, and they begin at its front
+abbrev pub RaiseLaw : Type 0
+RaiseLaw =
+    (made : List Restart) (restart : Restart) (p : ℕ)
+    → (attempt_of (made ++ restart ∷ []) p ≡ attempt_of made p + cond (redoes p restart) 1 0)
+    × (begun_of (made ++ restart ∷ []) p ≡ cond (redoes p restart) restart.front (begun_of made p))
+
+-- a restart may come next in a lawful list exactly where the next of all restarts has the present front
+abbrev pub RestartsNextLaw : Type 0
+RestartsNextLaw =
+    (order : Order) (faults : List Fault) (events : List Event) → RedoesStruck order → Lawful order faults events
+    → let at = (stage order faults events).progress in
+    (struck_next order faults at ≢ None) ↔ IsSomeAnd (slice_get (restarts order faults) (length at.made)) (λ restart. restart.front ≡ at.front)
+
+-- an event that is allowed goes on a lawful list
+abbrev pub GrowLaw : Type 0
+GrowLaw =
+    (order : Order) (faults : List Fault) (events : List Event) (event : Event) → Lawful order faults events
+    → Allowed order faults (stage order faults events) event → Lawful order faults (events ++ event ∷ [])
+
+-- the stage after one more event
+abbrev pub StageLaw : Type 0
+StageLaw =
+    (order : Order) (faults : List Fault) (events : List Event) (event : Event)
+    → stage order faults (events ++ event ∷ []) ≡ happens order faults (stage order faults events) event

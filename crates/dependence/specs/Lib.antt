@@ -3,3 +3,4 @@ pub mod Dependents
 pub mod Restarts
 pub mod Journal
 pub mod Laws
+pub mod Runs

@@ -1,23 +1,38 @@
 // The laws of the definitions, each on a function with an empty body.
 
-ghost use Rattle.dependence.specs.Laws.{ConflictLaw, DependentsLaw, LeastLaw, RisingLaw, FrontLaw, RestartsEndLaw, RestartsFirstLaw, RestartsAllLaw};
+ghost use Rattle.dependence.specs.Laws.{ConflictLaw, DependentsLaw, LeastLaw, RisingLaw, NextLaw, ShiftLaw, MarksLaw, RunLaw, RaiseLaw, RestartsEndLaw, FrontLaw, GrowLaw, StageLaw, RestartsFirstLaw, RestartsNextLaw, RestartsAllLaw};
 
-/// The test of conflict, and the dependents: their list is the least set, in rising order.
+/// The test of conflict, and the dependents: their list is the least set, in rising order; how it grows with the
+/// front, how it is read from a window of the run, and how from marks.
 pub fn dependents_laws()
     ensures conflict { ConflictLaw }
     ensures members { DependentsLaw }
     ensures least { LeastLaw }
     ensures rising { RisingLaw }
+    ensures next { NextLaw }
+    ensures window { ShiftLaw }
+    ensures marks { MarksLaw }
 {}
 
-/// A beginning of a lawful journal is lawful.
-pub fn journal_law()
-    ensures { FrontLaw }
-{}
-
-/// The restarts end; those of a lawful journal are the first of them, and a complete one has them all.
+/// What one more restart changes; and the restarts end.
 pub fn restarts_laws()
+    ensures raise { RaiseLaw }
     ensures ends { RestartsEndLaw }
+{}
+
+/// A beginning of a lawful journal is lawful, and one more event that is allowed keeps it so. Its restarts are the
+/// first of all restarts, one may come next exactly where the next of all has the present front, and a complete
+/// journal has them all.
+pub fn journal_laws()
+    ensures front { FrontLaw }
+    ensures grow { GrowLaw }
+    ensures stage { StageLaw }
     ensures first { RestartsFirstLaw }
+    ensures next { RestartsNextLaw }
     ensures all { RestartsAllLaw }
+{}
+
+/// A plain run's order meets what the laws of restarts and journals ask of one.
+pub fn run_law()
+    ensures { RunLaw }
 {}
