@@ -1,5 +1,5 @@
 -- What a shelf of files holds and what a read of it answers.
-use Rattle.std.specs.Prelude.{◌&&◌, not, Bool, true, false, IsTrue, is_some, [], ◌∷◌, ◌≡◌, ◌⊎◌, ℕ, ◌<◌, ◌≤◌, List, ◌++◌, length, map, replicate, Option, None, Some, Result, Err, IfOk, IfSome, IsSomeAnd, OnOk, IsErrOf}
+use Rattle.std.specs.Prelude.{◌&&◌, not, Bool, true, IsTrue, is_some, [], ◌∷◌, ◌≡◌, ◌⊎◌, ℕ, ◌<◌, ◌≤◌, List, ◌++◌, length, replicate, Option, None, Some, Result, Err, IfOk, IfSome, IsSomeAnd, OnOk, IsErrOf}
 use Rattle.std.specs.Map.{lookup}
 use Rattle.std.specs.Str.{bytes_eq}
 use Rattle.gp_base.specs.declared.shelf.ShelfFault.{ShelfFault}

@@ -17,7 +17,8 @@ use Rattle.task_ast.specs.Effect.{term_value, terms_value}
 use Rattle.task_ast.specs.Control.{with_value, all_of}
 use Rattle.task_ast.specs.Plain.{given}
 use Rattle.task_ast.specs.Small.{is_arithmetic, is_small_expr, are_small_links, is_data, small_env, small_value}
-use Rattle.task_ast.proofs.Terms.{or_false, position-cons, register_value}
+use Rattle.task_ast.proofs.Registers.{or_false}
+use Rattle.task_ast.proofs.Terms.{position-cons, register_value}
 
 pub not_false : {A : Type 0} → false ≡ true → A
 not_false h = absurd (false≢true h)

@@ -1,21 +1,18 @@
 -- An expression's term has its value.
-use Rattle.std.proofs.Common.{◌≡◌, inl, inr, ℕ, suc, ◌+◌, Bool, true, false, not, ◌||◌, cond, List, [], ◌∷◌, length, Option, Some, None, refl, sym, ap, ◌∙◌, arith, option_map, option_and_then, unwrap_or, nat_lt, position, zip}
+use Rattle.std.proofs.Common.{◌≡◌, inl, inr, ℕ, suc, ◌+◌, Bool, true, false, not, cond, List, [], ◌∷◌, length, Option, Some, None, refl, sym, ap, ◌∙◌, arith, option_map, option_and_then, unwrap_or, nat_lt, position, zip}
 use Rattle.std.specs.Prelude.{ℤ, pos}
 use Rattle.std.specs.List.{prefix_len}
-use Rattle.std.proofs.lemmas.Bool.{lt-ltb, le-ltb, cases_lt, false≢true}
+use Rattle.std.proofs.lemmas.Bool.{lt-ltb, le-ltb, cases_lt}
 use Rattle.task_ast.specs.declared.env.Env.{Env}
 use Rattle.task_ast.specs.declared.tree.Op.{Op}
 use Rattle.task_ast.specs.Tree.{Name, Expr, Num, Ctl, Reg, Me, Rows, Cell, Neg, Not, Chain, Links, NoLinks, Link}
 use Rattle.task_ast.specs.Names.{is_name, named}
-use Rattle.task_ast.specs.Value.{operate_on, value, value_on, value_at, cell_in}
+use Rattle.task_ast.specs.Value.{operate_on, value, value_on, value_at}
 use Rattle.task_ast.specs.Action.{Term, Constant, Negated, Inverted, Joined, MoreTerms, NoTerms, OneTerm, register, term, terms}
-use Rattle.task_ast.specs.Declarations.{has_data, have_data, has_data_index, have_data_index}
+use Rattle.task_ast.specs.Declarations.{has_data_index, have_data_index}
 use Rattle.task_ast.specs.State.{number_at}
 use Rattle.task_ast.specs.Effect.{term_value, terms_value}
-
-pub or_false : (a b : Bool) → (a || b) ≡ false → (a ≡ false) × (b ≡ false)
-or_false true b e = absurd (false≢true (sym e))
-or_false false b e = (refl, e)
+use Rattle.task_ast.proofs.Registers.{or_false, value-registers}
 
 shifted : (k n : ℕ) → cond (nat_lt (1 + k) (suc n)) (Some (1 + k)) None ≡ option_map suc (cond (nat_lt k n) (Some k) None)
 shifted k n =
@@ -89,36 +86,13 @@ module _ (names : List Name) (values : List ℤ) where
   chained-term (Some t) (Some m) = refl
 
   mutual
-    -- an expression without data has one value with and without registers
-    free : (e : Expr) (env : Env) → has_data e ≡ false → value e (with_data env) ≡ value e env
-    free (Num v) env h = refl
-    free (Ctl x) env h = refl
-    free (Reg x) env h = absurd (false≢true (sym h))
-    free Me env h = refl
-    free (Rows f) env h = refl
-    free (Cell f row field) env h =
-        let parts = or_false (has_data row) (has_data field) h in
-        ap (λ r. cell_in (named f env.feeds) r (value field (with_data env))) (free row env parts.0) ∙ ap (cell_in (named f env.feeds) (value row env)) (free field env parts.1)
-    free (Neg e) env h = ap (option_map _) (free e env h)
-    free (Not e) env h = ap (option_map _) (free e env h)
-    free (Chain e links) env h =
-        let parts = or_false (has_data e) (have_data links) h in
-        free_on links env (value e (with_data env)) parts.1 ∙ ap (value_on links env) (free e env parts.0)
-
-    free_on : (links : Links) (env : Env) (so_far : Option ℤ) → have_data links ≡ false → value_on links (with_data env) so_far ≡ value_on links env so_far
-    free_on NoLinks env so_far h = refl
-    free_on (Link op e links) env so_far h =
-        let parts = or_false (has_data e) (have_data links) h in
-        free_on links env (operate_on op so_far (value e (with_data env))) parts.1 ∙ ap (λ w. value_on links env (operate_on op so_far w)) (free e env parts.0)
-
-  mutual
     pub value_is : (e : Expr) (env : Env) → has_data_index e ≡ false → value e (with_data env) ≡ option_map (λ t. term_value t values) (term names e env)
     value_is (Num v) env h = refl
     value_is (Ctl x) env h = refl
     value_is (Reg x) env h = ap Some (register_value names values x)
     value_is Me env h = refl
     value_is (Rows f) env h = refl
-    value_is (Cell f row field) env h = free (Cell f row field) env h ∙ constant values (value (Cell f row field) env)
+    value_is (Cell f row field) env h = value-registers (Cell f row field) env (zip names values) h ∙ constant values (value (Cell f row field) env)
     value_is (Neg e) env h = ap (option_map _) (value_is e env h) ∙ after_map (λ t. term_value t values) _ Negated (λ t. term_value t values) (λ t. refl) (term names e env)
     value_is (Not e) env h = ap (option_map _) (value_is e env h) ∙ after_map (λ t. term_value t values) _ Inverted (λ t. term_value t values) (λ t. refl) (term names e env)
     value_is (Chain e links) env h =

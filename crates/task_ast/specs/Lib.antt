@@ -14,10 +14,10 @@ pub mod Keeps
 pub mod Layout
 pub mod Laws
 pub mod Members
-pub mod Data
 pub mod Names
 pub mod Plain
 pub mod Reached
+pub mod Registers
 pub mod Repeat
 pub mod Shaped
 pub mod Small

@@ -4,6 +4,7 @@
 mod check_kind;
 mod env;
 mod eval;
+pub mod eval_laws;
 pub mod laws;
 mod operate;
 mod sync;

@@ -1,0 +1,42 @@
+-- Expressions without data variables.
+use Rattle.std.proofs.Common.{◌≡◌, Bool, true, false, ◌||◌, List, Option, refl, sym, ap, ◌∙◌, option_map}
+use Rattle.std.specs.Prelude.{ℤ}
+use Rattle.std.proofs.lemmas.Bool.{false≢true}
+use Rattle.task_ast.specs.declared.env.Env.{Env}
+use Rattle.task_ast.specs.Tree.{Name, Expr, Num, Ctl, Reg, Me, Rows, Cell, Neg, Not, Chain, Links, NoLinks, Link}
+use Rattle.task_ast.specs.Names.{named}
+use Rattle.task_ast.specs.Value.{operate_on, value, value_on, cell_in}
+use Rattle.task_ast.specs.Declarations.{has_data, have_data}
+
+pub or_false : (a b : Bool) → (a || b) ≡ false → (a ≡ false) × (b ≡ false)
+or_false true b e = absurd (false≢true (sym e))
+or_false false b e = (refl, e)
+
+abbrev with_registers : Env → List (Name × ℤ) → Env
+with_registers env registers = record env { regs = registers }
+
+mutual
+  -- an expression without data has one value whatever the registers hold
+  pub value-registers : (e : Expr) (env : Env) (registers : List (Name × ℤ)) → has_data e ≡ false → value e (record env { regs = registers }) ≡ value e env
+  value-registers (Num v) env registers h = refl
+  value-registers (Ctl x) env registers h = refl
+  value-registers (Reg x) env registers h = absurd (false≢true (sym h))
+  value-registers Me env registers h = refl
+  value-registers (Rows f) env registers h = refl
+  value-registers (Cell f row field) env registers h =
+      let parts = or_false (has_data row) (has_data field) h in
+      ap (λ r. cell_in (named f env.feeds) r (value field (with_registers env registers))) (value-registers row env registers parts.0)
+      ∙ ap (cell_in (named f env.feeds) (value row env)) (value-registers field env registers parts.1)
+  value-registers (Neg e) env registers h = ap (option_map _) (value-registers e env registers h)
+  value-registers (Not e) env registers h = ap (option_map _) (value-registers e env registers h)
+  value-registers (Chain e links) env registers h =
+      let parts = or_false (has_data e) (have_data links) h in
+      value_on-registers links env registers (value e (with_registers env registers)) parts.1 ∙ ap (value_on links env) (value-registers e env registers parts.0)
+
+  value_on-registers : (links : Links) (env : Env) (registers : List (Name × ℤ)) (so_far : Option ℤ) → have_data links ≡ false
+      → value_on links (with_registers env registers) so_far ≡ value_on links env so_far
+  value_on-registers NoLinks env registers so_far h = refl
+  value_on-registers (Link op e links) env registers so_far h =
+      let parts = or_false (has_data e) (have_data links) h in
+      value_on-registers links env registers (operate_on op so_far (value e (with_registers env registers))) parts.1
+      ∙ ap (λ w. value_on links env (operate_on op so_far w)) (value-registers e env registers parts.0)
