@@ -5,3 +5,6 @@ pub mod Perhaps
 pub mod ClassLists
 pub mod Forms
 pub mod ReadExpressions
+pub mod LexPieces
+pub mod LexProgress
+pub mod LexSteps

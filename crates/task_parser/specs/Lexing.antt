@@ -1,12 +1,11 @@
 -- The tokens of a text, with their places and lines, or the first fault of lexing.
-use Rattle.std.specs.Prelude.{ℕ, zero, suc, ◌+◌, ◌-◌, ◌≤◌, ◌==◌, nat_lt, if◌then◌else◌, List, [], ◌∷◌, ◌++◌, length, count_by, Result, Ok, Err, All}
+use Rattle.std.specs.Prelude.{◌≡◌, ℕ, zero, suc, ◌+◌, ◌-◌, ◌≤◌, ◌==◌, nat_lt, if◌then◌else◌, List, [], ◌∷◌, ◌++◌, length, count_by, Result, Ok, Err, All}
 use Rattle.task_parser.specs.declared.token.Token.{Token}
 use Rattle.task_parser.specs.declared.token.Kind.{Kind}
-use Rattle.task_parser.specs.declared.token.Kind.TheVariants.{Num, Name, Reg, Quoted, Word, Mark}
 use Rattle.task_parser.specs.declared.fault.LexFault.{LexFault}
-use Rattle.task_parser.specs.declared.fault.LexFault.TheVariants.{BadByte, NumberTooBig, TooLong}
+use Rattle.task_parser.specs.declared.fault.LexFault.TheVariants.{BadByte, NumberTooBig, TooLong, OutOfMemory}
 use Rattle.task_parser.specs.declared.lexer.Piece.TheVariants.{Skip, Take, TooBig, Bad}
-use Rattle.task_parser.specs.Pieces.{piece_of}
+use Rattle.task_parser.specs.Pieces.{piece_of, least_length}
 
 -- the line of what stands behind these bytes: one more than the number of LF among them
 abbrev pub line_behind : List ℕ → ℕ
@@ -42,14 +41,10 @@ length_limit = 1048576
 abbrev pub lexed : List ℕ → Result (List Token) LexFault
 lexed text = if nat_lt length_limit (length text) then Err TooLong else lexed_behind [] 0 text
 
--- a `$` or two quotes stand in the text of a token of this kind
-abbrev pub least_length : Kind → ℕ
-least_length (Num n) = 1
-least_length Name = 1
-least_length Reg = 2
-least_length Quoted = 2
-least_length (Word number) = 1
-least_length (Mark number) = 1
+-- the text has this fault; want of memory says nothing of the text
+abbrev pub IsFaultOf : List ℕ → LexFault → Type 0
+IsFaultOf text OutOfMemory = Unit {0}
+IsFaultOf text fault = lexed text ≡ Err fault
 
 -- a token lies within a text, and is no shorter than its kind
 pub record IsTokenOf (text : List ℕ) (token : Token) : Type 0 where

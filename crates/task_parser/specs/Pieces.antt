@@ -1,5 +1,5 @@
 -- What stands at the front of a text: a space, a comment, a token, or what can't stand there.
-use Rattle.std.specs.Prelude.{ℕ, pos, ◌+◌, ◌*◌, ◌-◌, Bool, false, not, ◌||◌, ◌&&◌, ◌==◌, nat_le, if◌then◌else◌, List, [], ◌∷◌, length, drop, take, Option, Some, None, fold, position, take_while, slice_index, bytes_eq, codes}
+use Rattle.std.specs.Prelude.{ℕ, pos, ◌+◌, ◌≤◌, ◌*◌, ◌-◌, Bool, false, not, ◌||◌, ◌&&◌, ◌==◌, nat_le, if◌then◌else◌, List, [], ◌∷◌, length, drop, take, Option, Some, None, fold, position, take_while, slice_index, bytes_eq, codes}
 use Rattle.std.specs.List.{prefix_len}
 use Rattle.std.specs.Char.{is_ascii_digit, is_ascii_alphabetic}
 use Rattle.task_parser.specs.declared.token.Kind.{Kind}
@@ -97,3 +97,19 @@ piece_at b text =
 -- what stands at the front of a text that isn't empty
 abbrev pub piece_of : List ℕ → Piece
 piece_of text = piece_at (slice_index text 0) text
+
+-- the least number of bytes of a token of this kind
+abbrev pub least_length : Kind → ℕ
+least_length (Num n) = 1
+least_length Name = 1
+least_length Reg = 2
+least_length Quoted = 2
+least_length (Word number) = 1
+least_length (Mark number) = 1
+
+-- a piece has at least the bytes of its kind, and lies within so many
+abbrev pub FitsIn : ℕ → Piece → Type 0
+FitsIn most (Skip bytes) = (1 ≤ bytes) × (bytes ≤ most)
+FitsIn most (Take kind bytes) = (least_length kind ≤ bytes) × (bytes ≤ most)
+FitsIn most TooBig = Unit {0}
+FitsIn most (Bad bytes) = bytes ≤ most

@@ -7,4 +7,5 @@ mod lexer;
 mod token;
 
 pub use fault::{LexFault, ParseFault};
+pub use lexer::lex;
 pub use token::{Kind, Token};
