@@ -1,0 +1,43 @@
+// The lines on the error stream.
+ghost use Rattle.std.specs.Prelude.{◌≡◌, IfOk};
+ghost use Rattle.gprs.specs.Case.{read_fault_line};
+ghost use Rattle.gprs.specs.Answers.{LineEnds, change_of};
+
+use gp_base::{Name, Sink, SinkFault, put_all};
+use std::alloc::{AllocError, Global};
+
+/// Words that are those of no command.
+pub const USAGE: &[u8] = b"gprs: usage: run | one | check | soak\n";
+
+/// A program's text that is too long.
+pub const TOO_LONG: &[u8] = b"gprs: lex 3\n";
+
+/// A program that can't be run yet.
+pub const NOT_BUILT: &[u8] = b"gprs: not built yet\n";
+
+/// Want of memory.
+pub const OUT_OF_MEMORY: &[u8] = b"gprs: out of memory\n";
+
+/// A write that failed.
+pub const WRITE_FAULT: &[u8] = b"gprs: write fault\n";
+
+/// The line for a file that could not be read.
+pub fn read_fault_line(alloc: Global, name: &Name) -> Result<Vec<u8>, AllocError>
+    ensures { IfOk result (λ line. line.items ≡ read_fault_line name.now) }
+{
+    let mut line = Vec::from_slice(alloc, b"gprs: read fault ")?;
+    line.extend_from_slice(name.as_slice())?;
+    line.extend_from_slice(b"\n")?;
+    Ok(line)
+}
+
+/// Writes a line, and answers the status that is due. It is 8 where the write fails, and 1 where it finds no memory.
+pub fn end_with<E: Sink>(err: &mut E, line: &[u8], due: u8) -> u8
+    ensures { LineEnds due line.now (change_of E.written E.faults err.old err.new) result }
+{
+    match put_all(err, line) {
+        Ok(()) => due,
+        Err(SinkFault::Failed) => 8,
+        Err(SinkFault::OutOfMemory) => 1,
+    }
+}
