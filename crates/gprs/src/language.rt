@@ -98,14 +98,20 @@ fn digits_in(text: &[u8]) -> Option<Number>
     let mut value = 0u64;
     for (at, byte) in text.iter().enumerate() {
         if !byte.is_ascii_digit() {
-            return Some(Number { value, rest: &text[at..] });
+            return Some(Number {
+                value,
+                rest: &text[at..],
+            });
         }
         match with_digit(value, *byte - b'0') {
             Some(number) => value = number,
             None => return None,
         }
     }
-    Some(Number { value, rest: &text[text.len()..] })
+    Some(Number {
+        value,
+        rest: &text[text.len()..],
+    })
 }
 
 fn behind_number(text: &[u8]) -> Option<Number>
@@ -119,7 +125,11 @@ fn behind_number(text: &[u8]) -> Option<Number>
         return None;
     }
     let number = digits_in(text)?;
-    if number.value > i64::MAX as u64 { None } else { Some(number) }
+    if number.value > i64::MAX as u64 {
+        None
+    } else {
+        Some(number)
+    }
 }
 
 fn behind_print(text: &[u8]) -> Option<Number>

@@ -25,12 +25,7 @@ fn put_text<O: Sink>(alloc: Global, lines: &Lines, out: &mut O) -> Result<(), Si
 
 /// Writes the text of a run that prints these lines, and answers the status. Where the output fails, the line of that
 /// is written to `err`.
-pub fn write_run<O: Sink, E: Sink>(
-    alloc: Global,
-    lines: &Lines,
-    out: &mut O,
-    err: &mut E,
-) -> u8
+pub fn write_run<O: Sink, E: Sink>(alloc: Global, lines: &Lines, out: &mut O, err: &mut E) -> u8
     ensures { RunEnds (run_text (one_subthread lines.now)) (change_of O.written O.faults out.old out.new) (change_of E.written E.faults err.old err.new) result }
 {
     match put_text(alloc, lines, out) {

@@ -1,6 +1,6 @@
 // The top call: all that the program does.
 ghost use Rattle.std.specs.Prelude.{◌≡◌, ◌⊎◌, None, IfSome};
-ghost use Rattle.gprs.specs.Case.{Case, IsCase, ForCase, program_of, texts, names_read, status_of, text_of, line_of};
+ghost use Rattle.gprs.specs.Case.{Case, IsCase, ForCase, OneCase, program_of, texts, names_read, status_of, text_of, line_of};
 ghost use Rattle.gprs.specs.Answers.{change_of, TakesAll, TakesPart, TakesNothing, Fails, Grew, Yields};
 ghost use Rattle.gprs.specs.Headline.{IsWhole, TellsCase, IsRefusal, HasCaseLine, TellsReadFault, TellsWriteFault, IsEmpty, RefusalEnds};
 
@@ -32,6 +32,11 @@ fn refuse<E: Sink>(alloc: Global, refusal: Refusal, err: &mut E) -> u8
         Refusal::OutOfMemory => end_with(err, OUT_OF_MEMORY, 1),
     }
 }
+
+/// A law: a call has one case at most.
+pub fn one_case()
+    ensures { OneCase }
+{}
 
 // A journal of no event.
 fn empty_journal(alloc: Global) -> Journal

@@ -10,7 +10,7 @@ loop-number-preserved c =
     let inv = c.loop-number.invariant in
     let value = to_z_pos w64 c.in-Some.number.value c.in-Some.ensures.small in
     let is : c.push.new.self ≡ c.loop-number.lines ++ (pos c.in-Some.number.value ∷ []) ∷ [] =
-        c.in_ok-push.ensures.ok ∙ ap (λ line. c.loop-number.lines ++ line ∷ []) (c.in_ok-from_slice.ensures ∙ ap (λ v. v ∷ []) value) in
+    c.in_ok-push.ensures.ok ∙ ap (λ line. c.loop-number.lines ++ line ∷ []) (c.in_ok-from_slice.ensures ∙ ap (λ v. v ∷ []) value) in
     record {
       sound = sound_more _ _ _ c.in-Some.number.value c.loop-number.lines _ c.in-Some.ensures.print is inv.sound;
       complete = complete_more _ _ _ c.in-Some.number.value c.loop-number.lines _ c.in-Some.ensures.print is inv.complete;

@@ -29,7 +29,7 @@ returns-in_err-put_all-2-clause-prefix g c =
     let second = written c.put_all-2.new.to in
     let part = subst (AppendsPrefix first second) (c.deref.ensures.value ∙ c.in_ok-text.ensures) c.in_err-put_all-2.ensures.prefix in
     let prefix = prefix_second before first second (codes "output\n") (printed lines ++ tail_text (one_subthread lines)) c.in_ok-put_all.ensures.all
-        (prefix_first first second (printed lines) (tail_text (one_subthread lines)) part) in
+    (prefix_first first second (printed lines) (tail_text (one_subthread lines)) part) in
     search (rules, prefix)
 
 pub returns-in_err-put_all-3-clause-prefix : goal.returns-in_err-put_all-3-clause-prefix
@@ -42,7 +42,7 @@ returns-in_err-put_all-3-clause-prefix g c =
     let third = written c.put_all-3.new.to in
     let middle = subst (Appends first second) (c.deref.ensures.value ∙ c.in_ok-text.ensures) c.in_ok-put_all-2.ensures.all in
     let prefix = prefix_second before first third (codes "output\n") (printed lines ++ tail_text (one_subthread lines)) c.in_ok-put_all.ensures.all
-        (prefix_second first second third (printed lines) (tail_text (one_subthread lines)) middle (subst (AppendsPrefix second third) (tail_bytes lines) c.in_err-put_all-3.ensures.prefix)) in
+    (prefix_second first second third (printed lines) (tail_text (one_subthread lines)) middle (subst (AppendsPrefix second third) (tail_bytes lines) c.in_err-put_all-3.ensures.prefix)) in
     search (rules, prefix)
 
 pub returns-clause-all : goal.returns-clause-all
