@@ -1,7 +1,9 @@
 //! Whether a batch program keeps the rules of names, counts and held locks, and the first rule that it breaks.
 #![tactic(auto)]
 
+mod expressions;
 mod fault;
+mod held;
 mod names;
 
 pub use fault::CheckFault;

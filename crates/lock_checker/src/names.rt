@@ -161,7 +161,9 @@ pub fn is_control(scope: &Scope, x: &Name) -> bool
 pub fn is_register(scope: &Scope, x: &Name) -> bool
     ensures { result ≡ is_register (scope_of scope.now) x.now }
 {
-    x.as_slice() == b"ret".as_slice() || has_register(scope.task.params.as_slice(), x) || declares_register(scope.task.vars.as_slice(), x)
+    x.as_slice() == b"ret".as_slice()
+        || has_register(scope.task.params.as_slice(), x)
+        || declares_register(scope.task.vars.as_slice(), x)
 }
 
 /// Whether an atom is a number or a control variable of the task.

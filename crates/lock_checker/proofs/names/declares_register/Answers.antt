@@ -1,5 +1,4 @@
-use Rattle.std.proofs.Common.{sym, ◌∙◌, ◌≡◌, true, false}
-use Rattle.task_ast.specs.Names.{is_among, controls, datas}
+use Rattle.std.proofs.Common.{sym, ◌∙◌, true, false}
 use Rattle.lock_checker.proofs.NameLemmas.{data_left}
 use Rattle.lock_checker.proofs.names.declares_register.Goals as goal
 
