@@ -93,3 +93,11 @@ pub fn without<'a>(alloc: Global, held: &[Pair<'a>], p: &Pair) -> Result<Vec<Pai
     }
     Ok(kept)
 }
+
+/// The pairs with one more.
+pub fn with<'a>(mut held: Vec<Pair<'a>>, p: Pair<'a>) -> Result<Vec<Pair<'a>>, AllocError>
+    ensures { IfOk result (λ more. pairs_of more.items ≡ pairs_of held.entry.items ++ pair_of p.entry ∷ []) }
+{
+    held.push(p)?;
+    Ok(held)
+}

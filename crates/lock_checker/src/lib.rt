@@ -5,5 +5,7 @@ mod expressions;
 mod fault;
 mod held;
 mod names;
+mod rules;
+mod walk;
 
 pub use fault::CheckFault;

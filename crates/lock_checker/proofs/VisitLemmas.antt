@@ -1,0 +1,71 @@
+-- The first fault of visits that follow one another.
+use Rattle.std.proofs.Common.{◌≡◌, ℕ, ◌+◌, ◌<◌, List, [], ◌∷◌, ◌++◌, Option, Some, None, refl, ap, ◌∙◌, sym, subst, length, get_or, drop}
+use Rattle.std.proofs.lemmas.List.{at_drop_more}
+use Rattle.task_ast.specs.declared.check_kind.CheckKind.{CheckKind}
+use Rattle.task_ast.specs.Visit.{Visit, fault_at, first_fault}
+use Rattle.task_ast.specs.declared.tree.Stmt.{Stmt}
+use Rattle.task_ast.specs.Tree as plain
+use Rattle.task_ast.specs.Declarations.{Scope}
+use Rattle.task_ast.specs.Held.{Pair, held_after, held_at_end}
+use Rattle.task_ast.specs.Check.{visits_of, visits_in}
+use Rattle.task_ast.specs.View.{plain_stmt, plain_block}
+use Rattle.lock_checker.specs.declared.fault.CheckFault.{CheckFault}
+use Rattle.lock_checker.specs.declared.fault.CheckFault.TheVariants.{Bad, OutOfMemory}
+use Rattle.lock_checker.specs.Faults.{lowest, Told}
+
+-- the first of two, where there is one
+abbrev pub or_later : Option (CheckKind × ℕ) → Option (CheckKind × ℕ) → Option (CheckKind × ℕ)
+or_later None later = later
+or_later (Some f) later = Some f
+
+-- a rule that fails at a line
+abbrev pub on_line : ℕ → Option CheckKind → Option (CheckKind × ℕ)
+on_line line None = None
+on_line line (Some kind) = Some (kind, line)
+
+pub fault_at-lowest : (line : ℕ) (kinds : List CheckKind) (later : Option (CheckKind × ℕ)) → fault_at line kinds later ≡ or_later (on_line line (lowest kinds)) later
+fault_at-lowest line [] later = refl
+fault_at-lowest line (k ∷ kinds) later = refl
+
+or_later-assoc : (a b c : Option (CheckKind × ℕ)) → or_later a (or_later b c) ≡ or_later (or_later a b) c
+or_later-assoc None b c = refl
+or_later-assoc (Some f) b c = refl
+
+pub first_fault-append : (a b : List Visit) → first_fault (a ++ b) ≡ or_later (first_fault a) (first_fault b)
+first_fault-append [] b = refl
+first_fault-append (v ∷ a) b =
+    ap (fault_at v.line v.fails) (first_fault-append a b)
+    ∙ fault_at-lowest v.line v.fails (or_later (first_fault a) (first_fault b))
+    ∙ or_later-assoc (on_line v.line (lowest v.fails)) (first_fault a) (first_fault b)
+    ∙ ap (λ o. or_later o (first_fault b)) (sym (fault_at-lowest v.line v.fails (first_fault a)))
+
+-- a fault that is found is found before all that comes later
+pub told_first : (fault : CheckFault) (found later : Option (CheckKind × ℕ)) → Told fault found → Told fault (or_later found later)
+told_first (Bad kind line) found later told = ap (λ o. or_later o later) told
+told_first OutOfMemory found later told = tt
+
+pub ruleset first_told = fault_at-lowest
+
+pub ruleset inside_told = (first_fault-append, told_first)
+
+module _ (xs : List Stmt) (i : ℕ) (x : Stmt) (within : i < length xs) (is : x ≡ get_or xs i x) where
+  -- what is left of a block begins with the statement at the index
+  pub block_from : plain_block (drop i xs) ≡ plain.Then (plain_stmt x) (plain_block (drop (i + 1) xs))
+  block_from = at_drop_more plain_block xs i x within ∙ ap (λ (y : Stmt). plain.Then (plain_stmt y) (plain_block (drop (i + 1) xs))) (sym is)
+
+  pub held_from : (held next : List Pair) → next ≡ held_after (plain_stmt x) held → held_at_end (plain_block (drop (i + 1) xs)) next ≡ held_at_end (plain_block (drop i xs)) held
+  held_from held next goes = ap (held_at_end (plain_block (drop (i + 1) xs))) goes ∙ sym (ap (λ b. held_at_end b held) block_from)
+
+  module _ (s : Scope) (held : List Pair) where
+    found_from : first_fault (visits_in s (plain_block (drop i xs)) held) ≡ or_later (first_fault (visits_of s (plain_stmt x) held)) (first_fault (visits_in s (plain_block (drop (i + 1) xs)) (held_after (plain_stmt x) held)))
+    found_from = ap (λ b. first_fault (visits_in s b held)) block_from ∙ first_fault-append (visits_of s (plain_stmt x) held) (visits_in s (plain_block (drop (i + 1) xs)) (held_after (plain_stmt x) held))
+
+    -- where the statement has no fault
+    pub found_later : (next : List Pair) → first_fault (visits_of s (plain_stmt x) held) ≡ None → next ≡ held_after (plain_stmt x) held → first_fault (visits_in s (plain_block (drop (i + 1) xs)) next) ≡ first_fault (visits_in s (plain_block (drop i xs)) held)
+    found_later next none goes =
+        ap (λ h. first_fault (visits_in s (plain_block (drop (i + 1) xs)) h)) goes
+        ∙ sym (found_from ∙ ap (λ o. or_later o (first_fault (visits_in s (plain_block (drop (i + 1) xs)) (held_after (plain_stmt x) held)))) none)
+
+    -- where it has one
+    pub told_here : (fault : CheckFault) (all : Option (CheckKind × ℕ)) → first_fault (visits_in s (plain_block (drop i xs)) held) ≡ all → Told fault (first_fault (visits_of s (plain_stmt x) held)) → Told fault all
+    told_here fault all is_all told = subst (Told fault) (sym found_from ∙ is_all) (told_first fault (first_fault (visits_of s (plain_stmt x) held)) _ told)
