@@ -1,6 +1,6 @@
 pub mod Conflicting
-pub mod DependentSets
 pub mod DependentLists
+pub mod DependentSets
+pub mod Journals
 pub mod Marking
 pub mod RestartEnds
-pub mod Journals

@@ -1,6 +1,6 @@
 pub mod Conflict
 pub mod Dependents
-pub mod Restarts
 pub mod Journal
 pub mod Laws
+pub mod Restarts
 pub mod Runs

@@ -1,5 +1,5 @@
-pub mod Prints
-pub mod Tail
-pub mod Refused
 pub mod OneCase
+pub mod Prints
+pub mod Refused
+pub mod Tail
 pub mod TopCall

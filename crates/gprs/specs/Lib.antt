@@ -1,6 +1,6 @@
-pub mod Texts
-pub mod Language
-pub mod Case
 pub mod Answers
+pub mod Case
 pub mod Decided
 pub mod Headline
+pub mod Language
+pub mod Texts

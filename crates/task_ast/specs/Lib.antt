@@ -11,8 +11,8 @@ pub mod Folds
 pub mod Footprint
 pub mod Held
 pub mod Keeps
-pub mod Layout
 pub mod Laws
+pub mod Layout
 pub mod Members
 pub mod Names
 pub mod Plain

@@ -1,10 +1,10 @@
 pub mod Basics
-pub mod Exact
-pub mod Many
-pub mod Perhaps
 pub mod ClassLists
+pub mod Exact
 pub mod Forms
-pub mod ReadExpressions
 pub mod LexPieces
 pub mod LexProgress
 pub mod LexSteps
+pub mod Many
+pub mod Perhaps
+pub mod ReadExpressions
