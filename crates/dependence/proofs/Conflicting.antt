@@ -67,3 +67,12 @@ conflicting-is first second = (forward, backward)
     backward (inl h) = or_left both_write (first_writes || second_writes) ((shares-is first.writes second.writes).1 h)
     backward (inr (inl h)) = or_right both_write (first_writes || second_writes) (or_left first_writes second_writes ((shares-is first.writes second.reads).1 h))
     backward (inr (inr h)) = or_right both_write (first_writes || second_writes) (or_right first_writes second_writes ((shares-is first.reads second.writes).1 h))
+
+Shared-swap : (left right : List Loc) → Shared left right → Shared right left
+Shared-swap left right h = (h.0, h.2, h.1)
+
+-- conflict has no direction
+pub Conflict-swap : (first second : Footprint) → Conflict first second → Conflict second first
+Conflict-swap first second (inl h) = inl (Shared-swap first.writes second.writes h)
+Conflict-swap first second (inr (inl h)) = inr (inr (Shared-swap first.writes second.reads h))
+Conflict-swap first second (inr (inr h)) = inr (inl (Shared-swap first.reads second.writes h))

@@ -1,6 +1,9 @@
+pub mod Auditing
 pub mod Conflicting
 pub mod DependentLists
 pub mod DependentSets
+pub mod JournalRows
 pub mod Journals
 pub mod Marking
 pub mod RestartEnds
+pub mod RestartRows

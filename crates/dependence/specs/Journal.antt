@@ -18,7 +18,7 @@ pub record Stage : Type 0 where
 abbrev pub opening : Stage
 opening = record { progress = record { front = 0; made = [] }; posted = []; taken = []; applied = λ p. false; retired = 0 }
 
--- an attempt that began so long before the front is struck by no fault: the longest delay
+-- the longest delay of a fault: once an attempt began so many fronts ago, no fault on it is still to come
 abbrev pub longest_delay : ℕ
 longest_delay = 64
 

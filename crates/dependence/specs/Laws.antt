@@ -12,11 +12,16 @@ use Rattle.dependence.specs.Conflict.{Conflict, conflicting, clash_in}
 use Rattle.dependence.specs.Dependents.{IsDependent, is_member, dependents, MarksDependents}
 use Rattle.dependence.specs.Restarts.{Order, RedoesStruck, redoes, attempt_of, begun_of, struck_next, progress, IsFinal, restarts}
 use Rattle.dependence.specs.Journal.{Allowed, happens, Lawful, Complete, stage}
+use Rattle.dependence.specs.JournalTests.{is_lawful, is_complete}
 use Rattle.dependence.specs.Runs.{order_of}
 
 -- the test says when two footprints are in conflict
 abbrev pub ConflictLaw : Type 0
 ConflictLaw = (first second : Footprint) → (conflicting first second ≡ true) ↔ Conflict first second
+
+-- conflict has no direction
+abbrev pub SwapLaw : Type 0
+SwapLaw = (first second : Footprint) → Conflict first second → Conflict second first
 
 -- the list of dependents holds exactly the dependents
 abbrev pub DependentsLaw : Type 0
@@ -105,3 +110,10 @@ abbrev pub StageLaw : Type 0
 StageLaw =
     (order : Order) (faults : List Fault) (events : List Event) (event : Event)
     → stage order faults (events ++ event ∷ []) ≡ happens order faults (stage order faults events) event
+
+-- the tests say which lists are lawful and complete
+abbrev pub LawfulTestLaw : Type 0
+LawfulTestLaw = (order : Order) (faults : List Fault) (events : List Event) → (is_lawful order faults events ≡ true) ↔ Lawful order faults events
+
+abbrev pub CompleteTestLaw : Type 0
+CompleteTestLaw = (order : Order) (faults : List Fault) (events : List Event) → (is_complete order faults events ≡ true) ↔ Complete order faults events

@@ -16,7 +16,7 @@ pub record Order : Type 0 where
 abbrev pub RedoesStruck : Order → Type 0
 RedoesStruck order = (struck front : ℕ) → struck < front → Contains (order.redo struck front) struck
 
--- whether a fault is seen at this front whatever its delay
+-- whether the front drains: the run is at its end, so that a fault is taken whatever its delay
 abbrev pub drains : Order → ℕ → Bool
 drains order front = nat_eq front order.count
 

@@ -1,11 +1,16 @@
 // The laws of the definitions, each on a function with an empty body.
 
-ghost use Rattle.dependence.specs.Laws.{ConflictLaw, DependentsLaw, LeastLaw, RisingLaw, NextLaw, ShiftLaw, MarksLaw, RunLaw, RaiseLaw, RestartsEndLaw, FrontLaw, GrowLaw, StageLaw, RestartsFirstLaw, RestartsNextLaw, RestartsAllLaw};
+ghost use Rattle.dependence.specs.Laws.{ConflictLaw, SwapLaw, DependentsLaw, LeastLaw, RisingLaw, NextLaw, ShiftLaw, MarksLaw, RunLaw, RaiseLaw, RestartsEndLaw, FrontLaw, GrowLaw, StageLaw, RestartsFirstLaw, RestartsNextLaw, RestartsAllLaw, LawfulTestLaw, CompleteTestLaw};
 
-/// The test of conflict, and the dependents: their list is the least set, in rising order; how it grows with the
-/// front, how it is read from a window of the run, and how from marks.
+/// The test says when two footprints are in conflict, and conflict has no direction.
+pub fn conflict_laws()
+    ensures test { ConflictLaw }
+    ensures swap { SwapLaw }
+{}
+
+/// The list of dependents is the least set, in rising order; how it grows with the front, how it is read from a window
+/// of the run, and how from marks.
 pub fn dependents_laws()
-    ensures conflict { ConflictLaw }
     ensures members { DependentsLaw }
     ensures least { LeastLaw }
     ensures rising { RisingLaw }
@@ -30,6 +35,12 @@ pub fn journal_laws()
     ensures first { RestartsFirstLaw }
     ensures next { RestartsNextLaw }
     ensures all { RestartsAllLaw }
+{}
+
+/// The tests of journals say which are lawful, and which are complete.
+pub fn journal_tests_laws()
+    ensures lawful { LawfulTestLaw }
+    ensures complete { CompleteTestLaw }
 {}
 
 /// A plain run's order meets what the laws of restarts and journals ask of one.
