@@ -1,2 +1,4 @@
 pub mod NameLemmas
+pub mod TableLemmas
+pub mod VariableLemmas
 pub mod VisitLemmas

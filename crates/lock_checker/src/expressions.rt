@@ -3,15 +3,16 @@ ghost use Rattle.std.specs.Prelude.{◌≡◌};
 ghost use Rattle.std.specs.List.{list_any};
 ghost use Rattle.task_ast.specs.Declarations.{has_unknown, have_unknown, has_data, have_data, has_data_index, have_data_index};
 ghost use Rattle.task_ast.specs.View.{plain_expr, plain_exprs, plain_links};
-ghost use Rattle.lock_checker.specs.Scopes.{scope_of};
+ghost use Rattle.lock_checker.specs.Scopes.{scope_of, IsScope};
 
-use crate::names::{Scope, is_control, is_feed, is_register};
+use crate::scope::{Scope, is_control, is_feed, is_register};
 use task_ast::{Expr, Op};
 
 /// Whether a name of the expression isn't declared as what its place needs.
 #[cycle(unknown)]
 #[tactic(auto, using(task_ast::proofs::Views::view))]
 pub fn has_unknown(scope: &Scope, e: &Expr) -> bool
+    requires { IsScope scope.now }
     ensures { result ≡ has_unknown (scope_of scope.now) (plain_expr e.now) }
 {
     match e {
@@ -19,10 +20,9 @@ pub fn has_unknown(scope: &Scope, e: &Expr) -> bool
         Expr::Ctl(x) => !is_control(scope, x),
         Expr::Reg(x) => !is_register(scope, x),
         Expr::Me => false,
-        Expr::Rows(f) => !is_feed(scope.program.heads.as_slice(), f),
+        Expr::Rows(f) => !is_feed(scope, f),
         Expr::Cell(f, row, field) => {
-            !is_feed(scope.program.heads.as_slice(), f)
-                || (has_unknown(scope, row) || has_unknown(scope, field))
+            !is_feed(scope, f) || (has_unknown(scope, row) || has_unknown(scope, field))
         }
         Expr::Neg(a) => has_unknown(scope, a),
         Expr::Not(a) => has_unknown(scope, a),
@@ -34,6 +34,7 @@ pub fn has_unknown(scope: &Scope, e: &Expr) -> bool
 #[cycle(unknown)]
 #[tactic(auto, using(task_ast::proofs::Views::view))]
 fn have_unknown(scope: &Scope, links: &[(Op, Expr)]) -> bool
+    requires { IsScope scope.now }
     ensures { result ≡ have_unknown (scope_of scope.now) (plain_links links.now) }
 {
     for link in links {
@@ -46,6 +47,7 @@ fn have_unknown(scope: &Scope, links: &[(Op, Expr)]) -> bool
 
 /// Whether one of the expressions has such a name.
 pub fn any_unknown(scope: &Scope, es: &[Expr]) -> bool
+    requires { IsScope scope.now }
     ensures { result ≡ list_any (has_unknown (scope_of scope.now)) (plain_exprs es.now) }
 {
     for e in es {

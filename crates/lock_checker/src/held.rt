@@ -4,7 +4,7 @@ ghost use Rattle.std.specs.List.{list_any, list_all};
 ghost use Rattle.task_ast.specs.Held.{same_atom, same_pair, has, without, same_pairs, is_index};
 ghost use Rattle.lock_checker.specs.Pairs.{pair_of, pairs_of};
 
-use crate::names::same_name;
+use crate::scope::same_name;
 use gp_base::Name;
 use std::alloc::{AllocError, Global};
 use task_ast::Atom;

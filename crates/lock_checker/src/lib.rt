@@ -4,8 +4,11 @@
 mod expressions;
 mod fault;
 mod held;
-mod names;
+mod index;
 mod rules;
+mod scope;
+mod table;
+mod variables;
 mod walk;
 
 pub use fault::CheckFault;

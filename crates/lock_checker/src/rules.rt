@@ -5,19 +5,20 @@ ghost use Rattle.task_ast.specs.Tree as plain;
 ghost use Rattle.task_ast.specs.Check.{fails_at, into_unknown, into_index};
 ghost use Rattle.task_ast.specs.Declarations.{is_control, is_register, is_misplaced};
 ghost use Rattle.task_ast.specs.View.{plain_expr, plain_exprs, plain_what};
-ghost use Rattle.lock_checker.specs.Scopes.{scope_of};
+ghost use Rattle.lock_checker.specs.Scopes.{scope_of, IsScope};
 ghost use Rattle.lock_checker.specs.Pairs.{pairs_of};
 ghost use Rattle.lock_checker.specs.Faults.{lowest};
 
 use crate::expressions::{any_data_index, any_unknown, has_data, has_data_index, has_unknown};
 use crate::held::{Pair, has, is_held_index};
-use crate::names::{
-    Scope, array_over, is_atom, is_barrier, is_control, is_register, lock_size, task_named,
+use crate::scope::{
+    Scope, array_over, is_atom, is_barrier, is_control, is_lock, is_register, task_named,
 };
 use gp_base::Name;
 use task_ast::{Atom, CheckKind, Expr, Param, What};
 
 fn set_control_rule(scope: &Scope, x: &Name, e: &Expr, held: &[Pair]) -> Option<CheckKind>
+    requires { IsScope scope.now }
     ensures { result ≡ lowest (fails_at (scope_of scope.now) (plain.SetCtl x.now (plain_expr e.now)) (pairs_of held.now)) }
 {
     if !is_control(scope, x) || has_unknown(scope, e) {
@@ -33,6 +34,7 @@ fn set_control_rule(scope: &Scope, x: &Name, e: &Expr, held: &[Pair]) -> Option<
 
 /// A condition of `while` or `if`.
 fn condition_rule(scope: &Scope, e: &Expr) -> Option<CheckKind>
+    requires { IsScope scope.now }
     ensures { result ≡ lowest (fails_at (scope_of scope.now) (plain.While (plain_expr e.now) plain.Nothing) []) }
 {
     if has_unknown(scope, e) {
@@ -45,9 +47,10 @@ fn condition_rule(scope: &Scope, e: &Expr) -> Option<CheckKind>
 }
 
 fn lock_rule(scope: &Scope, array: &Name, index: &Atom, held: &[Pair]) -> Option<CheckKind>
+    requires { IsScope scope.now }
     ensures { result ≡ lowest (fails_at (scope_of scope.now) (plain.Lock array.now index.now) (pairs_of held.now)) }
 {
-    if lock_size(scope.program.heads.as_slice(), array).is_none() || !is_atom(scope, index) {
+    if !is_lock(scope, array) || !is_atom(scope, index) {
         Some(CheckKind::UnknownName)
     } else if has(held, &Pair { array, index }) {
         Some(CheckKind::HeldTwice)
@@ -57,9 +60,10 @@ fn lock_rule(scope: &Scope, array: &Name, index: &Atom, held: &[Pair]) -> Option
 }
 
 fn unlock_rule(scope: &Scope, array: &Name, index: &Atom, held: &[Pair]) -> Option<CheckKind>
+    requires { IsScope scope.now }
     ensures { result ≡ lowest (fails_at (scope_of scope.now) (plain.Unlock array.now index.now) (pairs_of held.now)) }
 {
-    if lock_size(scope.program.heads.as_slice(), array).is_none() || !is_atom(scope, index) {
+    if !is_lock(scope, array) || !is_atom(scope, index) {
         Some(CheckKind::UnknownName)
     } else if !has(held, &Pair { array, index }) {
         Some(CheckKind::NotHeld)
@@ -90,6 +94,7 @@ fn any_misplaced(params: &[Param], arguments: &[Expr]) -> bool
 }
 
 fn into_control_unknown(scope: &Scope, into: &Option<Name>) -> bool
+    requires { IsScope scope.now }
     ensures { result ≡ into_unknown (is_control (scope_of scope.now)) into.now }
 {
     match into {
@@ -99,6 +104,7 @@ fn into_control_unknown(scope: &Scope, into: &Option<Name>) -> bool
 }
 
 fn into_register_unknown(scope: &Scope, into: &Option<Name>) -> bool
+    requires { IsScope scope.now }
     ensures { result ≡ into_unknown (is_register (scope_of scope.now)) into.now }
 {
     match into {
@@ -123,10 +129,11 @@ fn fork_rule(
     into: &Option<Name>,
     held: &[Pair],
 ) -> Option<CheckKind>
+    requires { IsScope scope.now }
     ensures { result ≡ lowest (fails_at (scope_of scope.now) (plain.Fork t.now (plain_exprs arguments.now) into.now) (pairs_of held.now)) }
 {
     let unknown = any_unknown(scope, arguments) || into_control_unknown(scope, into);
-    match task_named(scope.program, t) {
+    match task_named(scope, t) {
         None => Some(CheckKind::UnknownName),
         Some(task) => {
             if unknown {
@@ -145,6 +152,7 @@ fn fork_rule(
 }
 
 fn join_rule(scope: &Scope, e: &Expr, into: &Option<Name>) -> Option<CheckKind>
+    requires { IsScope scope.now }
     ensures { result ≡ lowest (fails_at (scope_of scope.now) (plain.Join (plain_expr e.now) into.now) []) }
 {
     if has_unknown(scope, e) || into_register_unknown(scope, into) {
@@ -157,9 +165,10 @@ fn join_rule(scope: &Scope, e: &Expr, into: &Option<Name>) -> Option<CheckKind>
 }
 
 fn barrier_rule(scope: &Scope, b: &Name) -> Option<CheckKind>
+    requires { IsScope scope.now }
     ensures { result ≡ lowest (fails_at (scope_of scope.now) (plain.Barrier b.now) []) }
 {
-    if is_barrier(scope.program.heads.as_slice(), b) {
+    if is_barrier(scope, b) {
         None
     } else {
         Some(CheckKind::UnknownName)
@@ -167,6 +176,7 @@ fn barrier_rule(scope: &Scope, b: &Name) -> Option<CheckKind>
 }
 
 fn set_register_rule(scope: &Scope, x: &Name, e: &Expr) -> Option<CheckKind>
+    requires { IsScope scope.now }
     ensures { result ≡ lowest (fails_at (scope_of scope.now) (plain.SetReg x.now (plain_expr e.now)) []) }
 {
     if !is_register(scope, x) || has_unknown(scope, e) {
@@ -179,10 +189,11 @@ fn set_register_rule(scope: &Scope, x: &Name, e: &Expr) -> Option<CheckKind>
 }
 
 fn read_rule(scope: &Scope, r: &Name, index: &Atom, into: &Name, held: &[Pair]) -> Option<CheckKind>
+    requires { IsScope scope.now }
     ensures { result ≡ lowest (fails_at (scope_of scope.now) (plain.Read r.now index.now into.now) (pairs_of held.now)) }
 {
     let unknown = !is_atom(scope, index) || !is_register(scope, into);
-    match array_over(scope.program.heads.as_slice(), r) {
+    match array_over(scope, r) {
         None => Some(CheckKind::UnknownName),
         Some(array) => {
             if unknown {
@@ -197,10 +208,11 @@ fn read_rule(scope: &Scope, r: &Name, index: &Atom, into: &Name, held: &[Pair]) 
 }
 
 fn write_rule(scope: &Scope, r: &Name, index: &Atom, e: &Expr, held: &[Pair]) -> Option<CheckKind>
+    requires { IsScope scope.now }
     ensures { result ≡ lowest (fails_at (scope_of scope.now) (plain.Write r.now index.now (plain_expr e.now)) (pairs_of held.now)) }
 {
     let unknown = !is_atom(scope, index) || has_unknown(scope, e);
-    match array_over(scope.program.heads.as_slice(), r) {
+    match array_over(scope, r) {
         None => Some(CheckKind::UnknownName),
         Some(array) => {
             if unknown {
@@ -217,6 +229,7 @@ fn write_rule(scope: &Scope, r: &Name, index: &Atom, e: &Expr, held: &[Pair]) ->
 }
 
 fn print_rule(scope: &Scope, es: &[Expr]) -> Option<CheckKind>
+    requires { IsScope scope.now }
     ensures { result ≡ lowest (fails_at (scope_of scope.now) (plain.Print (plain_exprs es.now)) []) }
 {
     if any_unknown(scope, es) {
@@ -230,6 +243,7 @@ fn print_rule(scope: &Scope, es: &[Expr]) -> Option<CheckKind>
 
 /// The condition of a `when`.
 fn choice_rule(scope: &Scope, e: &Expr) -> Option<CheckKind>
+    requires { IsScope scope.now }
     ensures { result ≡ lowest (fails_at (scope_of scope.now) (plain.When (plain_expr e.now) plain.Nothing plain.Nothing) []) }
 {
     if has_unknown(scope, e) {
@@ -244,6 +258,7 @@ fn choice_rule(scope: &Scope, e: &Expr) -> Option<CheckKind>
 /// The lowest rule that fails at the beginning of a statement.
 #[tactic(auto, using(task_ast::proofs::Views::view))]
 pub fn rule_at(scope: &Scope, what: &What, held: &[Pair]) -> Option<CheckKind>
+    requires { IsScope scope.now }
     ensures { result ≡ lowest (fails_at (scope_of scope.now) (plain_what what.now) (pairs_of held.now)) }
 {
     match what {

@@ -5,14 +5,14 @@ ghost use Rattle.task_ast.specs.Held.{held_after, held_at_end, same_pairs};
 ghost use Rattle.task_ast.specs.Visit.{visit, fails_if};
 ghost use Rattle.task_ast.specs.declared.check_kind.CheckKind.TheVariants.{BranchesDiffer};
 ghost use Rattle.task_ast.specs.View.{plain_stmt, plain_block};
-ghost use Rattle.lock_checker.specs.Scopes.{scope_of};
+ghost use Rattle.lock_checker.specs.Scopes.{scope_of, IsScope};
 ghost use Rattle.lock_checker.specs.Pairs.{pairs_of};
 ghost use Rattle.lock_checker.specs.Faults.{Checks, later_visits};
 
 use crate::fault::CheckFault;
 use crate::held::{Pair, same_pairs, with, without};
-use crate::names::Scope;
 use crate::rules::rule_at;
+use crate::scope::Scope;
 use std::alloc::Global;
 use task_ast::{CheckKind, Stmt, What};
 
@@ -24,6 +24,7 @@ pub fn check_block<'a>(
     block: &'a [Stmt],
     before: &[Pair<'a>],
 ) -> Result<Vec<Pair<'a>>, CheckFault>
+    requires { IsScope scope.now }
     ensures { Checks result (visits_in (scope_of scope.now) (plain_block block.now) (pairs_of before.now)) (held_at_end (plain_block block.now) (pairs_of before.now)) }
 {
     let mut held = before.to_vec(alloc)?;
@@ -45,6 +46,7 @@ fn check_statement<'a>(
     s: &'a Stmt,
     held: Vec<Pair<'a>>,
 ) -> Result<Vec<Pair<'a>>, CheckFault>
+    requires { IsScope scope.now }
     ensures { Checks result (visits_of (scope_of scope.now) (plain_stmt s.now) (pairs_of held.entry.items)) (held_after (plain_stmt s.now) (pairs_of held.entry.items)) }
 {
     match rule_at(scope, &s.what, &held) {
@@ -62,6 +64,7 @@ fn check_inside<'a>(
     s: &'a Stmt,
     held: Vec<Pair<'a>>,
 ) -> Result<Vec<Pair<'a>>, CheckFault>
+    requires { IsScope scope.now }
     ensures { Checks result (later_visits (scope_of scope.now) (plain_stmt s.now) (pairs_of held.entry.items)) (held_after (plain_stmt s.now) (pairs_of held.entry.items)) }
 {
     match &s.what {

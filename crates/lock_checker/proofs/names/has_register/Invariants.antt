@@ -1,6 +1,0 @@
-use Rattle.std.proofs.Common.{◌≡◌, drop}
-use Rattle.task_ast.specs.Names.{is_among, datas}
-use Rattle.lock_checker.proofs.names.has_register.Given as goal
-
-abbrev pub invariant-loop-param : goal.invariant-loop-param
-invariant-loop-param l = is_among l.x (datas (drop l.param-index l.params)) ≡ is_among l.x (datas l.params)

@@ -1,0 +1,115 @@
+// What a program declares, by name.
+ghost use Rattle.std.specs.Prelude.{◌≡◌, IfOk, is_some, option_map, ◌||◌};
+ghost use Rattle.task_ast.specs.Tree as plain;
+ghost use Rattle.task_ast.specs.Names.{is_among, natural, named, locks_of, arrays_over, barriers_of, feeds_of, task_named};
+ghost use Rattle.task_ast.specs.View.{plain_task, plain_program};
+ghost use Rattle.lock_checker.specs.Tables.{found};
+ghost use Rattle.lock_checker.specs.Indexes.{target, IsIndexOf};
+
+use crate::table::Table;
+use gp_base::Name;
+use std::alloc::{AllocError, Global};
+use task_ast::{Head, Program, TaskText};
+
+/// The sizes of the lock arrays, the lock array of each record, the barriers, the feeds and the tasks; of a name that
+/// is declared twice the first counts.
+#[derive(Drop)]
+pub struct Index<'a> {
+    pub locks: Table<'a, u64>,
+    pub arrays: Table<'a, &'a Name>,
+    pub barriers: Table<'a, ()>,
+    pub feeds: Table<'a, ()>,
+    pub tasks: Table<'a, &'a TaskText>,
+}
+
+/// A size as a number; a negative one counts as 0.
+pub fn natural(size: i64) -> u64
+    ensures { result ≡ natural size }
+{
+    if size < 0 { 0 } else { size as u64 }
+}
+
+#[tactic(auto, using(crate::proofs::TableLemmas::put_steps))]
+fn lock_table<'a>(alloc: Global, heads: &'a [Head]) -> Result<Table<'a, u64>, AllocError>
+    ensures { IfOk result (λ t. (x : plain.Name) → found t x ≡ named x (locks_of heads.now)) }
+{
+    let mut table = Table::new(alloc);
+    for head in heads {
+        if let Head::LockHead { name, size, .. } = head {
+            table.put(name, natural(*size))?;
+        }
+    }
+    Ok(table)
+}
+
+#[tactic(auto, using(crate::proofs::TableLemmas::put_steps))]
+fn array_table<'a>(alloc: Global, heads: &'a [Head]) -> Result<Table<'a, &'a Name>, AllocError>
+    ensures { IfOk result (λ t. (x : plain.Name) → option_map target (found t x) ≡ named x (arrays_over heads.now)) }
+{
+    let mut table = Table::new(alloc);
+    for head in heads {
+        if let Head::RecHead { name, by, .. } = head {
+            table.put(name, by)?;
+        }
+    }
+    Ok(table)
+}
+
+#[tactic(auto, using(crate::proofs::TableLemmas::put_steps))]
+fn barrier_table<'a>(alloc: Global, heads: &'a [Head]) -> Result<Table<'a, ()>, AllocError>
+    ensures { IfOk result (λ t. (x : plain.Name) → is_some (found t x) ≡ is_some (named x (barriers_of heads.now))) }
+{
+    let mut table = Table::new(alloc);
+    for head in heads {
+        if let Head::BarrierHead { name, .. } = head {
+            table.put(name, ())?;
+        }
+    }
+    Ok(table)
+}
+
+#[tactic(auto, using(crate::proofs::TableLemmas::put_steps))]
+fn feed_table<'a>(alloc: Global, heads: &'a [Head]) -> Result<Table<'a, ()>, AllocError>
+    ensures { IfOk result (λ t. (x : plain.Name) → is_some (found t x) ≡ is_among x (feeds_of heads.now)) }
+{
+    let mut table = Table::new(alloc);
+    for head in heads {
+        if let Head::FeedHead { name, .. } = head {
+            table.put(name, ())?;
+        }
+    }
+    Ok(table)
+}
+
+#[tactic(auto, using(crate::proofs::TableLemmas::put_steps))]
+fn task_table<'a>(
+    alloc: Global,
+    program: &'a Program,
+) -> Result<Table<'a, &'a TaskText>, AllocError>
+    ensures { IfOk result (λ t. (x : plain.Name) → option_map (λ task. plain_task task.now) (found t x) ≡ task_named (plain_program program.now) x) }
+{
+    let mut table = Table::new(alloc);
+    for task in program.tasks.as_slice() {
+        table.put(&task.name, task)?;
+    }
+    Ok(table)
+}
+
+/// The index of a program.
+pub fn index_of<'a>(alloc: Global, program: &'a Program) -> Result<Index<'a>, AllocError>
+    ensures { IfOk result (λ index. IsIndexOf index program.now) }
+{
+    let heads = program.heads.as_slice();
+    let locks = lock_table(alloc, heads)?;
+    let arrays = array_table(alloc, heads)?;
+    let barriers = barrier_table(alloc, heads)?;
+    let feeds = feed_table(alloc, heads)?;
+    let tasks = task_table(alloc, program)?;
+    Ok(Index {
+        locks,
+        arrays,
+        barriers,
+        feeds,
+        tasks,
+    })
+}
