@@ -94,7 +94,7 @@ word_fits : (row : Option ℕ) (bytes most : ℕ) → (1 ≤ bytes) × (bytes �
 word_fits None bytes most fits = fits
 word_fits (Some row) bytes most fits = fits
 
-stands_fits : (b : ℕ) (bs : List ℕ) (piece : Piece) → Stands b bs piece → FitsIn (length (b ∷ bs)) piece
+pub stands_fits : (b : ℕ) (bs : List ℕ) (piece : Piece) → Stands b bs piece → FitsIn (length (b ∷ bs)) piece
 stands_fits b bs _ (space is) = (omega arith, omega arith)
 stands_fits b bs _ (comment hash) = (front_some is_comment_byte (b ∷ bs) (hash_is_comment_byte b hash), prefix_len-le-length is_comment_byte (b ∷ bs))
 stands_fits b bs _ (number digit small) = front_fits is_ascii_digit (b ∷ bs) (front_some is_ascii_digit (b ∷ bs) digit)

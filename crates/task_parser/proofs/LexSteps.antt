@@ -35,7 +35,7 @@ passed_over before b bs (suc more) some within =
     let e : suc more - 1 ≡ more = omega arith in
     rw e (lexed_behind_piece (before ++ b ∷ []) more bs (omega arith) ∙ rw append_assoc refl)
 
-least_some : (kind : Kind) (bytes : ℕ) → least_length kind ≤ bytes → 1 ≤ bytes
+pub least_some : (kind : Kind) (bytes : ℕ) → least_length kind ≤ bytes → 1 ≤ bytes
 least_some (Num n) bytes le = le
 least_some Name bytes le = le
 least_some Reg bytes le = omega arith
@@ -56,7 +56,7 @@ by_front before b bs (Take kind bytes) fits =
 by_front before b bs TooBig fits = refl
 by_front before b bs (Bad bytes) fits = refl
 
-lexed_front : (before rest : List ℕ) → 0 < length rest → lexed_behind before 0 rest ≡ lexed_by before rest (piece_of rest)
+pub lexed_front : (before rest : List ℕ) → 0 < length rest → lexed_behind before 0 rest ≡ lexed_by before rest (piece_of rest)
 lexed_front before [] some = absurd (omega arith)
 lexed_front before (b ∷ bs) some = by_front before b bs (piece_of (b ∷ bs)) (piece_fits (b ∷ bs) some)
 

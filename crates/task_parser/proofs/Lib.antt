@@ -8,3 +8,7 @@ pub mod LexSteps
 pub mod Many
 pub mod Perhaps
 pub mod ReadExpressions
+pub mod LexTokens
+pub mod LexFaults
+pub mod LexLongest
+pub mod LexSplits

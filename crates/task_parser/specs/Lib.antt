@@ -4,5 +4,9 @@ pub mod Expressions
 pub mod Laws
 pub mod Lexing
 pub mod Pieces
+pub mod Splitting
+pub mod TokenTable
+pub mod Classes
+pub mod Words
 pub mod Reading
 pub mod Words

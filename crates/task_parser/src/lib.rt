@@ -3,9 +3,11 @@
 
 mod classes;
 mod fault;
+mod lex_laws;
 mod lexer;
 mod token;
 
 pub use fault::{LexFault, ParseFault};
+pub use lex_laws::{faults_stop, lexings_split};
 pub use lexer::lex;
 pub use token::{Kind, Token};
