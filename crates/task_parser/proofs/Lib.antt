@@ -12,3 +12,9 @@ pub mod LexTokens
 pub mod LexFaults
 pub mod LexLongest
 pub mod LexSplits
+pub mod Exact
+pub mod Many
+pub mod Perhaps
+pub mod ClassLists
+pub mod Forms
+pub mod ReadExpressions

@@ -10,3 +10,8 @@ pub mod Classes
 pub mod Words
 pub mod Reading
 pub mod Words
+pub mod Words
+pub mod Reading
+pub mod Laws
+pub mod Expressions
+pub mod ExpressionReaders
