@@ -212,13 +212,17 @@ opened_deep {A = A} depth test P t ts passes full = let c = full (suc depth) in 
     again [] same = absurd same
     again (y ∷ ys) same = rw (← same, passes) refl
 
+-- reading behind a token that is the opener or not
+abbrev opening : {A : Type 0} → Option (Reader A) → Token → List Token → Bool → Result (A × List Token) Stop
+opening inner t ts b = let opened : Result (Token × List Token) Stop = cond b (Ok (t, ts)) (unexpected (t ∷ ts)) in opened >>= λ x. enter inner (t ∷ ts) x.1
+
 pub sound_opened : {A : Type 0} (room : ℕ) (test : Token → Bool) (P : Form A) (p : Reader A) (x : Token) → test x ≡ true → Inhabited P → Sound room P p → Sound (suc room) (Opened test P) (read_opened test (Some p))
 sound_opened room test P p x fits full sp depth [] = opened_not (depth + suc room) depth test P (Some p) x fits full [] refl
 sound_opened {A = A} room test P p x fits full sp depth (t ∷ ts) = go (test t) refl
   where
     inside : Outcome (depth + suc room) (suc depth) P p ts (p ts)
     inside = subst (λ (limit : ℕ). Outcome limit (suc depth) P p ts (p ts)) (omega arith) (sp (suc depth) ts)
-    go : (b : Bool) → test t ≡ b → Outcome (depth + suc room) depth (Opened test P) (read_opened test (Some p)) (t ∷ ts) (cond b (p ts) (unexpected (t ∷ ts)))
+    go : (b : Bool) → test t ≡ b → Outcome (depth + suc room) depth (Opened test P) (read_opened test (Some p)) (t ∷ ts) (opening (Some p) t ts b)
     go true e = opened_in (depth + suc room) depth test P p t ts (omega arith) e (p ts) inside
     go false e = opened_not (depth + suc room) depth test P (Some p) x fits full (t ∷ ts) e
 
@@ -226,7 +230,7 @@ sound_opened {A = A} room test P p x fits full sp depth (t ∷ ts) = go (test t)
 pub sound_opened_none : {A : Type 0} (test : Token → Bool) (P : Form A) (x : Token) → test x ≡ true → Inhabited P → Sound 0 (Opened test P) (read_opened test None)
 sound_opened_none {A = A} test P x fits full depth ts = subst (λ (limit : ℕ). Outcome limit depth (Opened test P) (read_opened test None) ts (read_opened test None ts)) (omega arith) (at ts)
   where
-    here : (t : Token) (ts : List Token) (b : Bool) → test t ≡ b → Outcome depth depth (Opened test P) (read_opened test None) (t ∷ ts) (cond b (Err (record { deep = true; rest = t ∷ ts })) (unexpected (t ∷ ts)))
+    here : (t : Token) (ts : List Token) (b : Bool) → test t ≡ b → Outcome depth depth (Opened test P) (read_opened test None) (t ∷ ts) (opening None t ts b)
     here t ts true e = opened_deep depth test P t ts e full
     here t ts false e = opened_not depth depth test P None x fits full (t ∷ ts) e
     at : (ts : List Token) → Outcome depth depth (Opened test P) (read_opened test None) ts (read_opened test None ts)

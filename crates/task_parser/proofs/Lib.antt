@@ -18,3 +18,5 @@ pub mod Perhaps
 pub mod ClassLists
 pub mod Forms
 pub mod ReadExpressions
+pub mod Loop
+pub mod Levels

@@ -139,7 +139,7 @@ reads_operand room T P text inner h =
 inhabited_operand : (T : Form Expr) (text : Text) → Inhabited (operand text T)
 inhabited_operand T text = λ depth. let n = inhabited_one (among (NUM ∷ [])) (token_of NUM) (token_among NUM []) depth in (n.0, num_of n.1, inr (inr (inl (record { from = n.1; is = refl; stands = n.2 }))))
 
-reads_unary : (text : Text) (room height : ℕ) → Operands room (unary text (suc (suc room))) (unary text height) (read_unary text room)
+pub reads_unary : (text : Text) (room height : ℕ) → Operands room (unary text (suc (suc room))) (unary text height) (read_unary text room)
 unfolding read_unary
 reads_unary text zero zero = reads_shut (reads_operand zero (unary text 1) (unary text 0) text None (inhabited_operand (unary text 0) text))
 reads_unary text zero (suc height) = reads_operand zero (unary text 1) (unary text height) text None (inhabited_operand (unary text 0) text)

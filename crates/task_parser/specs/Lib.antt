@@ -15,3 +15,6 @@ pub mod Reading
 pub mod Laws
 pub mod Expressions
 pub mod ExpressionReaders
+pub mod Gives
+pub mod Statements
+pub mod StatementReaders

@@ -78,5 +78,4 @@ enter None whole ts = Err (record { deep = true; rest = whole })
 enter (Some p) whole ts = p ts
 
 abbrev pub read_opened : {A : Type 0} → (Token → Bool) → Option (Reader A) → Reader A
-read_opened test inner [] = unexpected []
-read_opened test inner (t ∷ ts) = cond (test t) (enter inner (t ∷ ts) ts) (unexpected (t ∷ ts))
+read_opened test inner ts = read_one test ts >>= λ x. enter inner ts x.1

@@ -2,9 +2,12 @@
 #![tactic(auto)]
 
 mod classes;
+mod cursor;
+mod expressions;
 mod fault;
 mod lex_laws;
 mod lexer;
+mod halt;
 mod token;
 
 pub use fault::{LexFault, ParseFault};

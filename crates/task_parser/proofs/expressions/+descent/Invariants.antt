@@ -1,0 +1,47 @@
+use Rattle.std.proofs.Common.{◌≡◌, ℕ, ◌+◌, ◌*◌, length}
+use Rattle.task_ast.specs.View.{plain_members}
+use Rattle.task_parser.specs.Classes.{among}
+use Rattle.task_parser.specs.Reading.{repeat}
+use Rattle.task_parser.specs.ExpressionReaders.{read_member}
+use Rattle.task_parser.specs.Gives.{operators, read_part}
+use Rattle.task_parser.proofs.Levels.{tighter}
+use Rattle.task_parser.proofs.Loop.{also}
+use Rattle.task_parser.proofs.expressions.+descent.Given as goal
+
+abbrev pub decreases-named : goal.decreases-named
+decreases-named l = l.room * 64 + 1
+
+abbrev pub decreases-inner : goal.decreases-inner
+decreases-inner l = l.room * 64
+
+abbrev pub decreases-group : goal.decreases-group
+decreases-group l = l.room * 64
+
+abbrev pub decreases-place : goal.decreases-place
+decreases-place l = l.room * 64
+
+abbrev pub decreases-operand : goal.decreases-operand
+decreases-operand l = l.room * 64 + 2
+
+abbrev pub decreases-part : goal.decreases-part
+decreases-part l = l.room * 64 + (3 + 6 * tighter l.level)
+
+abbrev pub decreases-member : goal.decreases-member
+decreases-member l = l.room * 64 + (4 + 6 * tighter l.level)
+
+abbrev pub decreases-members : goal.decreases-members
+decreases-members l = l.room * 64 + (5 + 6 * tighter l.level)
+
+abbrev pub decreases-chain : goal.decreases-chain
+decreases-chain l = l.room * 64 + (6 + 6 * tighter l.level)
+
+abbrev pub decreases-comparison : goal.decreases-comparison
+decreases-comparison l = l.room * 64 + 18
+
+abbrev pub invariant-members-loop-alloc : goal.invariant-members-loop-alloc
+invariant-members-loop-alloc l =
+    let read = repeat (among (operators l.level)) (read_member (operators l.level) (read_part l.level l.text l.room)) in
+    also (plain_members l.members) (read l.rest) ≡ read l.tokens
+
+abbrev pub decreases-members-loop-alloc : goal.decreases-members-loop-alloc
+decreases-members-loop-alloc l = length l.rest

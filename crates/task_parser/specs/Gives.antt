@@ -1,0 +1,38 @@
+-- What the code reads, against reading on lists.
+use Rattle.std.specs.Prelude.{◌≡◌, ℕ, true, false, List, [], ◌∷◌, ◌++◌, Result, Ok, Err}
+use Rattle.task_ast.specs.Tree.{Expr}
+use Rattle.task_parser.specs.declared.token.Token.{Token}
+use Rattle.task_parser.specs.declared.halt.Halt.{Halt}
+use Rattle.task_parser.specs.declared.halt.Halt.TheVariants.{Memory, Unexpected, TooDeep}
+use Rattle.task_parser.specs.declared.classes.TheConstants.{AND, OR, ADD, SUB, MUL, DIV, REM}
+use Rattle.task_parser.specs.declared.expressions.Level.{Level}
+use Rattle.task_parser.specs.declared.expressions.Level.TheVariants as levels
+use Rattle.task_parser.specs.Reading.{Stop, Reader}
+use Rattle.task_parser.specs.Expressions.{Text, comparisons}
+use Rattle.task_parser.specs.ExpressionReaders.{read_product, read_sum, read_compared, read_conjunction, read_unary}
+
+-- Want of memory says nothing of the tokens.
+abbrev pub Fails : {Y : Type 0} → Halt → Result Y Stop → Type 0
+Fails Memory read = Unit {0}
+Fails (Unexpected rest) read = read ≡ Err (record { deep = false; rest = rest.now })
+Fails (TooDeep rest) read = read ≡ Err (record { deep = true; rest = rest.now })
+
+abbrev pub Gives : {X Y : Type 0} → (X → Y) → Result X Halt → Result Y Stop → Type 0
+Gives view (Ok x) read = read ≡ Ok (view x)
+Gives view (Err e) read = Fails e read
+
+-- the operators of a level
+abbrev pub operators : Level → List ℕ
+operators levels.Or = OR ∷ []
+operators levels.And = AND ∷ []
+operators levels.Comparison = comparisons
+operators levels.Sum = ADD ∷ SUB ∷ []
+operators levels.Product = MUL ∷ DIV ∷ REM ∷ []
+
+-- what stands between them
+abbrev pub read_part : Level → Text → ℕ → Reader Expr
+read_part levels.Or text room = read_conjunction (read_unary text room)
+read_part levels.And text room = read_compared (read_sum (read_unary text room))
+read_part levels.Comparison text room = read_sum (read_unary text room)
+read_part levels.Sum text room = read_product (read_unary text room)
+read_part levels.Product text room = read_unary text room

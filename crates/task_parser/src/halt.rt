@@ -1,0 +1,30 @@
+// Why a part could not be read.
+ghost use Rattle.std.specs.Prelude.{◌≡◌};
+ghost use Rattle.task_parser.specs.declared.halt.Halt.TheVariants.{Memory};
+
+use crate::token::Token;
+use std::alloc::{AllocError, AllocFailed};
+
+/// Why a part could not be read, with the tokens that are left there.
+#[derive(Drop)]
+pub enum Halt<'a> {
+    Memory,
+    Unexpected(&'a [Token]),
+    TooDeep(&'a [Token]),
+}
+
+impl<'a> From<AllocError> for Halt<'a> {
+    ghost from_gives = { λ _ e. e ≡ Memory };
+
+    fn from(_e: AllocError) -> Halt<'a> {
+        Halt::Memory
+    }
+}
+
+impl<'a, T: Drop> From<AllocFailed<T>> for Halt<'a> {
+    ghost from_gives = { λ _ e. e ≡ Memory };
+
+    fn from(_e: AllocFailed<T>) -> Halt<'a> {
+        Halt::Memory
+    }
+}
