@@ -1,5 +1,5 @@
 -- One fact for each form: how it is read. Each word of the grammar has one lemma.
-use Rattle.std.proofs.Common.{◌≡◌, ℕ, zero, suc, ◌+◌, Bool, true, false, List, [], ◌∷◌, ◌++◌, Option, Some, None, refl}
+use Rattle.std.proofs.Common.{◌≡◌, ℕ, zero, suc, ◌+◌, Bool, true, false, List, [], ◌∷◌, ◌++◌, Option, Some, None, option_map, refl}
 use Rattle.task_parser.specs.declared.token.Token.{Token}
 use Rattle.task_parser.specs.Words.{Placed, Form, One, Both, ◌▸◌, Made, ◌∣◌, many, perhaps, Opened, nothing, first_of, second_of, put_first, the, ◌◂◌, after, some, separated}
 use Rattle.task_parser.specs.Reading.{Reader, read_one, read_both, ◌▹◌, read_made, read_either, repeat, read_perhaps, read_opened, read_the, ◌◃◌, read_after, read_some, read_separated}
@@ -139,6 +139,19 @@ reads_opened {T = T} {P = P} {goes = goes} (suc room) n (Some p) h = record {
   sound = sound_opened room (among (n ∷ [])) T p (token_of n) (token_among n []) h.0 h.1;
   complete = complete_opened room (among (n ∷ [])) P (among goes) p h.2;
 }
+
+-- A form that nests less deep is read with the room that is left, unless there is none.
+abbrev pub Deeper : {A : Type 0} → ℕ → Form A → Form A → Option (Reader A) → List ℕ → List ℕ → Type 0
+Deeper zero T P None first goes = Inhabited T
+Deeper zero T P (Some p) first goes = ⊥
+Deeper (suc room) T P None first goes = ⊥
+Deeper (suc room) T P (Some p) first goes = Reads room T P p first goes
+
+pub inside_with : {A B : Type 0} {first before : List ℕ} (room : ℕ) (T P : Form A) (U Q : Form B) (make : Reader A → Reader B) (inner : Option (Reader A)) (goes : List ℕ) → (Inhabited T → Inhabited U) → ((r : ℕ) (p : Reader A) → Reads r T P p first before → Sound r U (make p) × Complete r Q (among goes) (make p)) → Deeper room T P inner first before → Inside room U Q (option_map make inner) goes
+inside_with zero T P U Q make None goes full reads h = full h
+inside_with zero T P U Q make (Some p) goes full reads h = absurd h
+inside_with (suc room) T P U Q make None goes full reads h = absurd h
+inside_with (suc room) T P U Q make (Some p) goes full reads h = let k = reads room p h in (full h.inhabited, k.0, k.1)
 
 -- more tokens may be taken for going on
 pub reads_wider : {A : Type 0} {room : ℕ} {T P : Form A} {p : Reader A} {first goes : List ℕ} (after : List ℕ) → subset goes after ≡ true → Reads room T P p first goes → Reads room T P p first after

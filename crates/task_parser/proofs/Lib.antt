@@ -20,3 +20,4 @@ pub mod Forms
 pub mod ReadExpressions
 pub mod Loop
 pub mod Levels
+pub mod ReadStatements

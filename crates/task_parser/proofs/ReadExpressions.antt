@@ -9,17 +9,14 @@ use Rattle.task_parser.specs.Words.{Form, ◌▸◌, Made, many, perhaps, Opened
 use Rattle.task_parser.specs.Reading.{Reader, read_opened}
 use Rattle.task_parser.specs.Laws.{Sound, Complete, Inhabited}
 use Rattle.task_parser.specs.Expressions.{Text, comparisons, member_of, chain_of, compared_of, num_of, reg_of, me_of, rows_of, named_of, member, level, sum, compared, disjunction, place_in, operand, unary, expression}
-use Rattle.task_parser.specs.ExpressionReaders.{read_member, read_level, read_product, read_sum, read_compared, read_conjunction, read_disjunction, read_pair, read_place, read_named, read_rows, read_group, read_operand, read_unary, read_expression}
+use Rattle.task_parser.specs.ExpressionReaders.{starting, read_member, read_level, read_product, read_sum, read_compared, read_conjunction, read_disjunction, read_pair, read_place, read_named, read_rows, read_group, read_operand, read_unary, read_expression}
 use Rattle.task_parser.proofs.Exact.{inhabited_made, inhabited_one, inhabited_both}
 use Rattle.task_parser.proofs.Many.{inhabited_many}
 use Rattle.task_parser.proofs.Perhaps.{inhabited_perhaps}
 use Rattle.task_parser.proofs.ClassLists.{disjoint, subset, token_of, token_among}
-use Rattle.task_parser.proofs.Forms.{Reads, MayRead, Inside, reads_one, reads_the, reads_made, reads_both, reads_more, reads_many, reads_perhaps, reads_mark, reads_either, reads_opened, reads_wider, reads_shut}
+use Rattle.task_parser.proofs.Forms.{Reads, MayRead, Inside, Deeper, inside_with, reads_one, reads_the, reads_made, reads_both, reads_more, reads_many, reads_perhaps, reads_mark, reads_either, reads_opened, reads_wider, reads_shut}
 
--- what an operand begins with, and what an expression goes on with
-abbrev pub starting : List ℕ
-starting = SUB ∷ NOT ∷ NUM ∷ NAME ∷ REG ∷ SELF ∷ ROWS ∷ OPEN_PAREN ∷ []
-
+-- what an operand goes on with, and an expression
 abbrev going : List ℕ
 going = OPEN_BRACKET ∷ []
 
@@ -59,18 +56,8 @@ reads_disjunction h = reads_level OR [] going_on refl refl refl refl (reads_conj
 
 -- ---- operands
 
--- operands that nest less deep are read with the room that is left, unless there is none
 abbrev Lower : ℕ → Form Expr → Form Expr → Option (Reader Expr) → Type 0
-Lower zero T P None = Inhabited T
-Lower zero T P (Some p) = ⊥
-Lower (suc room) T P None = ⊥
-Lower (suc room) T P (Some p) = Operands room T P p
-
-inside_with : {A : Type 0} (room : ℕ) (T P : Form Expr) (U Q : Form A) (make : Reader Expr → Reader A) (inner : Option (Reader Expr)) (goes : List ℕ) → (Inhabited T → Inhabited U) → ((r : ℕ) (p : Reader Expr) → Operands r T P p → Sound r U (make p) × Complete r Q (among goes) (make p)) → Lower room T P inner → Inside room U Q (option_map make inner) goes
-inside_with zero T P U Q make None goes full reads h = full h
-inside_with zero T P U Q make (Some p) goes full reads h = absurd h
-inside_with (suc room) T P U Q make None goes full reads h = absurd h
-inside_with (suc room) T P U Q make (Some p) goes full reads h = let k = reads room p h in (full h.inhabited, k.0, k.1)
+Lower room T P inner = Deeper room T P inner starting going
 
 inhabited_level : (n : ℕ) (ns : List ℕ) (T : Form Expr) → Inhabited T → Inhabited (level (n ∷ ns) T)
 inhabited_level n ns T full = inhabited_made chain_of (T ▸ many (member (n ∷ ns) T)) (inhabited_both T (many (member (n ∷ ns) T)) full (inhabited_many (member (n ∷ ns) T)))

@@ -7,6 +7,10 @@ use Rattle.task_parser.specs.Classes.{among}
 use Rattle.task_parser.specs.Reading.{Reader, read_one, ◌▹◌, read_made, read_either, repeat, read_perhaps, read_opened, read_the, ◌◃◌}
 use Rattle.task_parser.specs.Expressions.{Text, is, comparisons, member_of, chain_of, compared_of, num_of, reg_of, me_of, rows_of, named_of}
 
+-- what an operand begins with
+abbrev pub starting : List ℕ
+starting = SUB ∷ NOT ∷ NUM ∷ NAME ∷ REG ∷ SELF ∷ ROWS ∷ OPEN_PAREN ∷ []
+
 abbrev pub read_member : List ℕ → Reader Expr → Reader (Op × Expr)
 read_member operators p = read_made member_of (read_one (among operators) ▹ p)
 

@@ -7,12 +7,8 @@ use Rattle.task_parser.specs.declared.token.Token.{Token}
 use Rattle.task_parser.specs.Classes.{among}
 use Rattle.task_parser.specs.Reading.{Reader, ◌▹◌, read_made, read_either, repeat, read_perhaps, read_opened, read_the, ◌◃◌, read_after, read_separated}
 use Rattle.task_parser.specs.Expressions.{Text, is}
-use Rattle.task_parser.specs.ExpressionReaders.{read_expression}
+use Rattle.task_parser.specs.ExpressionReaders.{starting, read_expression}
 use Rattle.task_parser.specs.Statements.{number_atom, name_atom, set_ctl_of, while_of, if_of, lock_of, unlock_of, fork_of, join_of, barrier_of, set_reg_of, read_of, write_of, print_of, when_of}
-
--- what an operand begins with
-abbrev pub starting : List ℕ
-starting = SUB ∷ NOT ∷ NUM ∷ NAME ∷ REG ∷ SELF ∷ ROWS ∷ OPEN_PAREN ∷ []
 
 -- what a data statement begins with
 abbrev pub data_starts : List ℕ
