@@ -21,3 +21,4 @@ pub mod ReadExpressions
 pub mod Loop
 pub mod Levels
 pub mod ReadStatements
+pub mod ReadPrograms

@@ -10,8 +10,8 @@ use Rattle.task_parser.specs.Reading.{Reader, read_either, read_separated}
 use Rattle.task_parser.specs.Laws.{Inhabited}
 use Rattle.task_parser.specs.Expressions.{Text, expression}
 use Rattle.task_parser.specs.ExpressionReaders.{starting, read_expression}
-use Rattle.task_parser.specs.Statements.{number_atom, name_atom, set_ctl_of, while_of, if_of, lock_of, unlock_of, fork_of, join_of, barrier_of, set_reg_of, read_of, write_of, print_of, when_of, atom, block_of, else_block, set_ctl, looping, branching, locking, unlocking, forking, joining, waiting, set_reg, reading, writing, printing, choosing, data_form, control_form, data_statement, statement}
-use Rattle.task_parser.specs.StatementReaders.{data_starts, control_starts, statement_starts, read_atom, read_indexed, read_inner_block, read_block, read_else, read_set_ctl, read_looping, read_branching, read_locking, read_unlocking, read_list, read_forking, read_joining, read_waiting, read_set_reg, read_reading, read_writing, read_printing, read_choosing, read_data_form, read_control_form, read_data_statement, read_statement}
+use Rattle.task_parser.specs.Statements.{number_atom, name_atom, set_ctl_of, while_of, if_of, lock_of, unlock_of, fork_of, join_of, barrier_of, set_reg_of, read_of, write_of, print_of, when_of, or_nothing, or_empty, named_in, reg_in, listed_in, into_name, into_reg, atom, block_of, else_block, set_ctl, looping, branching, locking, unlocking, forking, joining, waiting, set_reg, reading, writing, printing, choosing, data_form, control_form, data_statement, statement}
+use Rattle.task_parser.specs.StatementReaders.{data_starts, control_starts, statement_starts, read_atom, read_indexed, read_inner_block, read_block, read_else, read_set_ctl, read_looping, read_branching, read_locking, read_unlocking, read_list, read_into_name, read_into_reg, read_forking, read_joining, read_waiting, read_set_reg, read_reading, read_writing, read_printing, read_choosing, read_data_form, read_control_form, read_data_statement, read_statement}
 use Rattle.task_parser.proofs.Exact.{inhabited_made}
 use Rattle.task_parser.proofs.Many.{inhabited_many}
 use Rattle.task_parser.proofs.ClassLists.{disjoint, subset}
@@ -22,7 +22,7 @@ abbrev Expressions : ℕ → Form Expr → Form Expr → Reader Expr → Type 0
 Expressions room T P p = Reads room T P p starting going_on
 
 -- a form of no recursion
-abbrev Plain : {A : Type 0} → ℕ → Form A → Reader A → List ℕ → Type 0
+abbrev pub Plain : {A : Type 0} → ℕ → Form A → Reader A → List ℕ → Type 0
 Plain room P p first = Reads room P P p first []
 
 pub reads_atom : {room : ℕ} (text : Text) → Plain room (atom text) (read_atom text) (NUM ∷ NAME ∷ [])
@@ -54,7 +54,7 @@ reads_block room T P inner starts k h =
 
 reads_else : (room : ℕ) (T P : Form Stmt) (inner : Option (Reader Stmt)) (starts : List ℕ) → Closes starts → Nested room T P inner starts → MayRead room (else_block T) (else_block P) (read_else starts inner) (ELSE ∷ []) []
 unfolding read_else
-reads_else room T P inner starts k h = reads_perhaps (reads_after ELSE refl (reads_block room T P inner starts k h))
+reads_else room T P inner starts k h = may_read_made or_nothing (reads_perhaps (reads_after ELSE refl (reads_block room T P inner starts k h)))
 
 data_closes : Closes data_starts
 data_closes = record { apart = refl; covered = refl; closed = refl }
@@ -130,20 +130,28 @@ reads_unlocking : {room : ℕ} (text : Text) → Plain room (unlocking text) (re
 unfolding read_unlocking
 reads_unlocking text = reads_made (unlock_of text) (reads_mark SEMICOLON refl (reads_indexed text UNLOCK))
 
-reads_list : {room : ℕ} {T P : Form Expr} {p : Reader Expr} → Expressions room T P p → MayRead room (perhaps (separated COMMA T)) (perhaps (separated COMMA P)) (read_list p) starting (COMMA ∷ going_on)
+reads_list : {room : ℕ} {T P : Form Expr} {p : Reader Expr} → Expressions room T P p → MayRead room (listed_in T) (listed_in P) (read_list starting p) starting (COMMA ∷ going_on)
 unfolding read_list
-reads_list e = reads_perhaps (reads_exprs e)
+reads_list e = may_read_made or_empty (reads_perhaps (reads_exprs e))
+
+reads_into_name : {room : ℕ} (text : Text) → MayRead room (into_name text) (into_name text) (read_into_name text) (INTO ∷ []) []
+unfolding read_into_name
+reads_into_name text = may_read_made (named_in text) (reads_perhaps (reads_after INTO refl (reads_the NAME)))
+
+reads_into_reg : {room : ℕ} (text : Text) → MayRead room (into_reg text) (into_reg text) (read_into_reg text) (INTO ∷ []) []
+unfolding read_into_reg
+reads_into_reg text = may_read_made (reg_in text) (reads_perhaps (reads_after INTO refl (reads_the REG)))
 
 reads_forking : {room : ℕ} {T P : Form Expr} {p : Reader Expr} (text : Text) → Expressions room T P p → Reads room (forking text T) (forking text P) (read_forking text p) (FORK ∷ []) []
 unfolding read_forking
 reads_forking text e =
     let opened = reads_mark OPEN_PAREN refl (reads_both (reads_the FORK) (reads_the NAME) refl) in
     let listed = reads_more (NOT ∷ NUM ∷ NAME ∷ REG ∷ SELF ∷ ROWS ∷ OPEN_PAREN ∷ COMMA ∷ going_on) opened (reads_list e) refl refl refl refl in
-    reads_made (fork_of text) (reads_mark SEMICOLON refl (reads_more (INTO ∷ []) (reads_mark CLOSE_PAREN refl listed) (reads_perhaps (reads_after INTO refl (reads_the NAME))) refl refl refl refl))
+    reads_made (fork_of text) (reads_mark SEMICOLON refl (reads_more (INTO ∷ []) (reads_mark CLOSE_PAREN refl listed) (reads_into_name text) refl refl refl refl))
 
 reads_joining : {room : ℕ} {T P : Form Expr} {p : Reader Expr} (text : Text) → Expressions room T P p → Reads room (joining text T) (joining text P) (read_joining text p) (JOIN ∷ []) []
 unfolding read_joining
-reads_joining text e = reads_made (join_of text) (reads_mark SEMICOLON refl (reads_more (INTO ∷ going_on) (reads_both (reads_the JOIN) e refl) (reads_perhaps (reads_after INTO refl (reads_the REG))) refl refl refl refl))
+reads_joining text e = reads_made join_of (reads_mark SEMICOLON refl (reads_more (INTO ∷ going_on) (reads_both (reads_the JOIN) e refl) (reads_into_reg text) refl refl refl refl))
 
 reads_waiting : {room : ℕ} (text : Text) → Plain room (waiting text) (read_waiting text) (BARRIER ∷ [])
 unfolding read_waiting

@@ -17,6 +17,7 @@ Fails Memory read = Unit {0}
 Fails (Unexpected rest) read = read ≡ Err (record { deep = false; rest = rest.now })
 Fails (TooDeep rest) read = read ≡ Err (record { deep = true; rest = rest.now })
 
+-- What is read by the one is what is read by the other.
 abbrev pub Gives : {X Y : Type 0} → (X → Y) → Result X Halt → Result Y Stop → Type 0
 Gives view (Ok x) read = read ≡ Ok (view x)
 Gives view (Err e) read = Fails e read

@@ -18,3 +18,5 @@ pub mod ExpressionReaders
 pub mod Gives
 pub mod Statements
 pub mod StatementReaders
+pub mod Programs
+pub mod ProgramReaders

@@ -8,7 +8,7 @@ use Rattle.task_parser.specs.Classes.{among}
 use Rattle.task_parser.specs.Reading.{Reader, ◌▹◌, read_made, read_either, repeat, read_perhaps, read_opened, read_the, ◌◃◌, read_after, read_separated}
 use Rattle.task_parser.specs.Expressions.{Text, is}
 use Rattle.task_parser.specs.ExpressionReaders.{starting, read_expression}
-use Rattle.task_parser.specs.Statements.{number_atom, name_atom, set_ctl_of, while_of, if_of, lock_of, unlock_of, fork_of, join_of, barrier_of, set_reg_of, read_of, write_of, print_of, when_of}
+use Rattle.task_parser.specs.Statements.{number_atom, name_atom, set_ctl_of, while_of, if_of, lock_of, unlock_of, fork_of, join_of, barrier_of, set_reg_of, read_of, write_of, print_of, when_of, or_empty, or_nothing, named_in, reg_in}
 
 -- what a data statement begins with
 abbrev pub data_starts : List ℕ
@@ -29,8 +29,8 @@ read_inner_block starts s = read_made block (repeat (among starts) s)
 unfoldable pub read_block : List ℕ → Option (Reader Stmt) → Reader Block
 read_block starts inner = read_opened (is OPEN_BRACE) (option_map (read_inner_block starts) inner) ◃ CLOSE_BRACE
 
-unfoldable pub read_else : List ℕ → Option (Reader Stmt) → Reader (Option Block)
-read_else starts inner = read_perhaps (is ELSE) (read_after ELSE (read_block starts inner))
+unfoldable pub read_else : List ℕ → Option (Reader Stmt) → Reader Block
+read_else starts inner = read_made or_nothing (read_perhaps (is ELSE) (read_after ELSE (read_block starts inner)))
 
 unfoldable pub read_set_ctl : Text → Reader Expr → Reader Stmt
 read_set_ctl text e = read_made (set_ctl_of text) (read_the NAME ◃ ASSIGN ▹ e ◃ SEMICOLON)
@@ -47,14 +47,20 @@ read_locking text = read_made (lock_of text) (read_indexed text LOCK ◃ SEMICOL
 unfoldable pub read_unlocking : Text → Reader Stmt
 read_unlocking text = read_made (unlock_of text) (read_indexed text UNLOCK ◃ SEMICOLON)
 
-unfoldable pub read_list : Reader Expr → Reader (Option (List Expr))
-read_list e = read_perhaps (among starting) (read_separated COMMA e)
+unfoldable pub read_list : {A : Type 0} → List ℕ → Reader A → Reader (List A)
+read_list starts p = read_made or_empty (read_perhaps (among starts) (read_separated COMMA p))
+
+unfoldable pub read_into_name : Text → Reader (Option Text)
+read_into_name text = read_made (named_in text) (read_perhaps (is INTO) (read_after INTO (read_the NAME)))
+
+unfoldable pub read_into_reg : Text → Reader (Option Text)
+read_into_reg text = read_made (reg_in text) (read_perhaps (is INTO) (read_after INTO (read_the REG)))
 
 unfoldable pub read_forking : Text → Reader Expr → Reader Stmt
-read_forking text e = read_made (fork_of text) (read_the FORK ▹ read_the NAME ◃ OPEN_PAREN ▹ read_list e ◃ CLOSE_PAREN ▹ read_perhaps (is INTO) (read_after INTO (read_the NAME)) ◃ SEMICOLON)
+read_forking text e = read_made (fork_of text) (read_the FORK ▹ read_the NAME ◃ OPEN_PAREN ▹ read_list starting e ◃ CLOSE_PAREN ▹ read_into_name text ◃ SEMICOLON)
 
 unfoldable pub read_joining : Text → Reader Expr → Reader Stmt
-read_joining text e = read_made (join_of text) (read_the JOIN ▹ e ▹ read_perhaps (is INTO) (read_after INTO (read_the REG)) ◃ SEMICOLON)
+read_joining text e = read_made join_of (read_the JOIN ▹ e ▹ read_into_reg text ◃ SEMICOLON)
 
 unfoldable pub read_waiting : Text → Reader Stmt
 read_waiting text = read_made (barrier_of text) (read_the BARRIER ▹ read_the NAME ◃ SEMICOLON)
@@ -105,3 +111,12 @@ read_data_statement text (suc room) = read_data_form text (read_expression text 
 unfoldable pub read_statement : Text → ℕ → Reader Stmt
 read_statement text zero = read_either (among control_starts) (read_control_form text (read_expression text zero) None) (read_data_statement text zero)
 read_statement text (suc room) = read_either (among control_starts) (read_control_form text (read_expression text (suc room)) (Some (read_statement text room))) (read_data_statement text (suc room))
+
+-- what a block's statements nest in, with this room before its brace
+abbrev pub data_below : Text → ℕ → Option (Reader Stmt)
+data_below text zero = None
+data_below text (suc room) = Some (read_data_statement text room)
+
+abbrev pub statement_below : Text → ℕ → Option (Reader Stmt)
+statement_below text zero = None
+statement_below text (suc room) = Some (read_statement text room)

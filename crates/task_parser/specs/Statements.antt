@@ -16,7 +16,7 @@ number_atom t = atoms.Num (number_in t.kind)
 abbrev pub name_atom : Text → Token → Atom
 name_atom text t = atoms.Var (name_of text t)
 
--- what may be left out of a list is no member
+-- what is left out is the empty list
 abbrev pub or_empty : {A : Type 0} → Option (List A) → List A
 or_empty None = []
 or_empty (Some xs) = xs
@@ -40,8 +40,8 @@ set_ctl_of text x = At x.0.line (SetCtl (name_of text x.0) x.1)
 abbrev pub while_of : (Token × Expr) × Block → Stmt
 while_of x = At x.0.0.line (While x.0.1 x.1)
 
-abbrev pub if_of : ((Token × Expr) × Block) × Option Block → Stmt
-if_of x = At x.0.0.0.line (If x.0.0.1 x.0.1 (or_nothing x.1))
+abbrev pub if_of : ((Token × Expr) × Block) × Block → Stmt
+if_of x = At x.0.0.0.line (If x.0.0.1 x.0.1 x.1)
 
 abbrev pub lock_of : Text → (Token × Token) × Atom → Stmt
 lock_of text x = At x.0.0.line (Lock (name_of text x.0.1) x.1)
@@ -49,11 +49,11 @@ lock_of text x = At x.0.0.line (Lock (name_of text x.0.1) x.1)
 abbrev pub unlock_of : Text → (Token × Token) × Atom → Stmt
 unlock_of text x = At x.0.0.line (Unlock (name_of text x.0.1) x.1)
 
-abbrev pub fork_of : Text → ((Token × Token) × Option (List Expr)) × Option Token → Stmt
-fork_of text x = At x.0.0.0.line (Fork (name_of text x.0.0.1) (or_empty x.0.1) (named_in text x.1))
+abbrev pub fork_of : Text → ((Token × Token) × List Expr) × Option Text → Stmt
+fork_of text x = At x.0.0.0.line (Fork (name_of text x.0.0.1) x.0.1 x.1)
 
-abbrev pub join_of : Text → (Token × Expr) × Option Token → Stmt
-join_of text x = At x.0.0.line (Join x.0.1 (reg_in text x.1))
+abbrev pub join_of : (Token × Expr) × Option Text → Stmt
+join_of x = At x.0.0.line (Join x.0.1 x.1)
 
 abbrev pub barrier_of : Text → Token × Token → Stmt
 barrier_of text x = At x.0.line (Barrier (name_of text x.1))
@@ -70,8 +70,8 @@ write_of text x = At x.0.0.0.line (Write (name_of text x.0.0.1) x.0.1 x.1)
 abbrev pub print_of : Token × List Expr → Stmt
 print_of x = At x.0.line (Print x.1)
 
-abbrev pub when_of : ((Token × Expr) × Block) × Option Block → Stmt
-when_of x = At x.0.0.0.line (When x.0.0.1 x.0.1 (or_nothing x.1))
+abbrev pub when_of : ((Token × Expr) × Block) × Block → Stmt
+when_of x = At x.0.0.0.line (When x.0.0.1 x.0.1 x.1)
 
 -- ---- the forms
 
@@ -82,8 +82,18 @@ atom text = Made number_atom (the NUM) ∣ Made (name_atom text) (the NAME)
 abbrev pub block_of : Form Stmt → Form Block
 block_of s = Opened (is OPEN_BRACE) (Made block (many s)) ◂ CLOSE_BRACE
 
-abbrev pub else_block : Form Stmt → Form (Option Block)
-else_block s = perhaps (after ELSE (block_of s))
+abbrev pub else_block : Form Stmt → Form Block
+else_block s = Made or_nothing (perhaps (after ELSE (block_of s)))
+
+-- members with commas between them, or none
+abbrev pub listed_in : {A : Type 0} → Form A → Form (List A)
+listed_in P = Made or_empty (perhaps (separated COMMA P))
+
+abbrev pub into_name : Text → Form (Option Text)
+into_name text = Made (named_in text) (perhaps (after INTO (the NAME)))
+
+abbrev pub into_reg : Text → Form (Option Text)
+into_reg text = Made (reg_in text) (perhaps (after INTO (the REG)))
 
 abbrev pub set_ctl : Text → Form Expr → Form Stmt
 set_ctl text e = Made (set_ctl_of text) (the NAME ◂ ASSIGN ▸ e ◂ SEMICOLON)
@@ -101,10 +111,10 @@ abbrev pub unlocking : Text → Form Stmt
 unlocking text = Made (unlock_of text) (the UNLOCK ▸ the NAME ◂ OPEN_BRACKET ▸ atom text ◂ CLOSE_BRACKET ◂ SEMICOLON)
 
 abbrev pub forking : Text → Form Expr → Form Stmt
-forking text e = Made (fork_of text) (the FORK ▸ the NAME ◂ OPEN_PAREN ▸ perhaps (separated COMMA e) ◂ CLOSE_PAREN ▸ perhaps (after INTO (the NAME)) ◂ SEMICOLON)
+forking text e = Made (fork_of text) (the FORK ▸ the NAME ◂ OPEN_PAREN ▸ listed_in e ◂ CLOSE_PAREN ▸ into_name text ◂ SEMICOLON)
 
 abbrev pub joining : Text → Form Expr → Form Stmt
-joining text e = Made (join_of text) (the JOIN ▸ e ▸ perhaps (after INTO (the REG)) ◂ SEMICOLON)
+joining text e = Made join_of (the JOIN ▸ e ▸ into_reg text ◂ SEMICOLON)
 
 abbrev pub waiting : Text → Form Stmt
 waiting text = Made (barrier_of text) (the BARRIER ▸ the NAME ◂ SEMICOLON)

@@ -1,0 +1,96 @@
+-- Heads, tasks and programs are read exactly.
+use Rattle.std.proofs.Common.{◌≡◌, ℕ, suc, Bool, true, false, List, [], ◌∷◌, ◌++◌, Option, refl}
+use Rattle.task_ast.specs.declared.tree.Head.{Head}
+use Rattle.task_ast.specs.declared.tree.Param.{Param}
+use Rattle.task_ast.specs.declared.tree.VarLine.{VarLine}
+use Rattle.task_ast.specs.Tree.{block, TaskText, Program}
+use Rattle.task_parser.specs.declared.token.Token.{Token}
+use Rattle.task_parser.specs.declared.classes.TheConstants.{NUM, NAME, REG, QUOTED, LOCK, BARRIER, RECORD, BY, FROM, FEED, TASK, VAR, ELSE, OPEN_BRACKET, CLOSE_BRACKET, OPEN_PAREN, CLOSE_PAREN, OPEN_BRACE, CLOSE_BRACE, COMMA, SEMICOLON, UNLOCK, WHILE, IF, FORK, JOIN, READ, WRITE, PRINT, WHEN}
+use Rattle.task_parser.specs.Classes.{among}
+use Rattle.task_parser.specs.Words.{Form, Both, Made, many, some, separated}
+use Rattle.task_parser.specs.Reading.{Reader, read_both, repeat, read_some, read_separated}
+use Rattle.task_parser.specs.Laws.{Sound, Complete}
+use Rattle.task_parser.specs.Expressions.{Text}
+use Rattle.task_parser.specs.Statements.{or_empty, listed_in, statement}
+use Rattle.task_parser.specs.StatementReaders.{statement_starts, read_list, read_statement}
+use Rattle.task_parser.specs.Programs.{lock_head_of, barrier_head_of, record_head_of, feed_head_of, file_in, ctl_param, reg_param, var_line_of, task_of, program_of, lock_head, barrier_head, from_file, record_head, feed_head, head, param, var_line, task, program}
+use Rattle.task_parser.specs.ProgramReaders.{read_lock_head, read_barrier_head, read_from_file, read_record_head, read_feed_head, head_starts, param_starts, read_head, read_param, read_var_line, read_task, read_program}
+use Rattle.task_parser.proofs.Exact.{sound_both, complete_both, sound_made, complete_made, parted_starts}
+use Rattle.task_parser.proofs.ClassLists.{disjoint, subset, apart}
+use Rattle.task_parser.proofs.Forms.{Reads, MayRead, reads_the, reads_made, may_read_made, reads_both, reads_more, reads_many, reads_perhaps, reads_mark, reads_after, reads_some, reads_separated, reads_either, reads_wider}
+use Rattle.task_parser.proofs.ReadStatements.{Plain, reads_statement}
+
+reads_lock_head : {room : ℕ} (text : Text) → Plain room (lock_head text) (read_lock_head text) (LOCK ∷ [])
+unfolding read_lock_head
+reads_lock_head text = reads_made (lock_head_of text) (reads_mark SEMICOLON refl (reads_mark CLOSE_BRACKET refl (reads_both (reads_mark OPEN_BRACKET refl (reads_both (reads_the LOCK) (reads_the NAME) refl)) (reads_the NUM) refl)))
+
+reads_barrier_head : {room : ℕ} (text : Text) → Plain room (barrier_head text) (read_barrier_head text) (BARRIER ∷ [])
+unfolding read_barrier_head
+reads_barrier_head text = reads_made (barrier_head_of text) (reads_mark SEMICOLON refl (reads_mark CLOSE_PAREN refl (reads_both (reads_mark OPEN_PAREN refl (reads_both (reads_the BARRIER) (reads_the NAME) refl)) (reads_the NUM) refl)))
+
+reads_from_file : {room : ℕ} (text : Text) → MayRead room (from_file text) (from_file text) (read_from_file text) (FROM ∷ []) []
+unfolding read_from_file
+reads_from_file text = may_read_made (file_in text) (reads_perhaps (reads_after FROM refl (reads_the QUOTED)))
+
+reads_record_head : {room : ℕ} (text : Text) → Plain room (record_head text) (read_record_head text) (RECORD ∷ [])
+unfolding read_record_head
+reads_record_head text =
+    let sized = reads_mark CLOSE_BRACKET refl (reads_both (reads_mark OPEN_BRACKET refl (reads_both (reads_the RECORD) (reads_the NAME) refl)) (reads_the NUM) refl) in
+    reads_made (record_head_of text) (reads_mark SEMICOLON refl (reads_more (FROM ∷ []) (reads_both (reads_mark BY refl sized) (reads_the NAME) refl) (reads_from_file text) refl refl refl refl))
+
+reads_feed_head : {room : ℕ} (text : Text) → Plain room (feed_head text) (read_feed_head text) (FEED ∷ [])
+unfolding read_feed_head
+reads_feed_head text =
+    let sized = reads_mark CLOSE_BRACKET refl (reads_both (reads_mark OPEN_BRACKET refl (reads_both (reads_the FEED) (reads_the NAME) refl)) (reads_the NUM) refl) in
+    reads_made (feed_head_of text) (reads_mark SEMICOLON refl (reads_both (reads_mark FROM refl sized) (reads_the QUOTED) refl))
+
+pub reads_head : {room : ℕ} (text : Text) → Plain room (head text) (read_head text) head_starts
+unfolding read_head
+reads_head text = reads_either head_starts (reads_lock_head text) (reads_either (BARRIER ∷ RECORD ∷ FEED ∷ []) (reads_barrier_head text) (reads_either (RECORD ∷ FEED ∷ []) (reads_record_head text) (reads_feed_head text) refl refl refl) refl refl refl) refl refl refl
+
+pub reads_param : {room : ℕ} (text : Text) → Plain room (param text) (read_param text) param_starts
+unfolding read_param
+reads_param text = reads_either param_starts (reads_made (ctl_param text) (reads_the NAME)) (reads_made (reg_param text) (reads_the REG)) refl refl refl
+
+reads_params : {room : ℕ} (text : Text) → Reads room (separated COMMA (param text)) (separated COMMA (param text)) (read_separated COMMA (read_param text)) param_starts (COMMA ∷ [])
+reads_params text = reads_separated COMMA (COMMA ∷ []) refl refl refl refl (reads_param text)
+
+reads_list : {room : ℕ} (text : Text) → MayRead room (listed_in (param text)) (listed_in (param text)) (read_list param_starts (read_param text)) param_starts (COMMA ∷ [])
+unfolding read_list
+reads_list text = may_read_made or_empty (reads_perhaps (reads_params text))
+
+pub reads_var_line : {room : ℕ} (text : Text) → Plain room (var_line text) (read_var_line text) (VAR ∷ [])
+unfolding read_var_line
+reads_var_line text = reads_made var_line_of (reads_mark SEMICOLON refl (reads_both (reads_the VAR) (reads_params text) refl))
+
+pub reads_task : (text : Text) (room height : ℕ) → Reads room (task text (suc (suc room))) (task text height) (read_task text room) (TASK ∷ []) []
+unfolding read_task
+reads_task text room height =
+    let named = reads_mark OPEN_PAREN refl (reads_both (reads_the TASK) (reads_the NAME) refl) in
+    let headed = reads_mark OPEN_BRACE refl (reads_mark CLOSE_PAREN refl (reads_more (NAME ∷ REG ∷ COMMA ∷ []) named (reads_list text) refl refl refl refl)) in
+    let declared = reads_more (VAR ∷ []) headed (reads_many (reads_var_line text) refl) refl refl refl refl in
+    reads_made (task_of text) (reads_mark CLOSE_BRACE refl (reads_more (VAR ∷ ELSE ∷ statement_starts) declared (may_read_made block (reads_many (reads_statement text room height) refl)) refl refl refl refl))
+
+-- ---- programs
+
+reads_tasks : (text : Text) (room height : ℕ) → Reads room (some (task text (suc (suc room)))) (some (task text height)) (read_some (among (TASK ∷ [])) (read_task text room)) (TASK ∷ []) (TASK ∷ [])
+reads_tasks text room height = reads_some (TASK ∷ []) refl refl refl (reads_task text room height)
+
+pub sound_program : (text : Text) (room : ℕ) → Sound room (program text (suc (suc room))) (read_program text room)
+unfolding read_program
+sound_program text room =
+    let h : MayRead room (many (head text)) (many (head text)) (repeat (among head_starts) (read_head text)) head_starts [] = reads_many (reads_head text) refl in
+    let t = reads_tasks text room 0 in
+    let T : Form (List TaskText) = some (task text (suc (suc room))) in
+    sound_made room program_of (Both (many (head text)) T) (read_both (repeat (among head_starts) (read_head text)) (read_some (among (TASK ∷ [])) (read_task text room)))
+      (sound_both room (many (head text)) T (repeat (among head_starts) (read_head text)) (read_some (among (TASK ∷ [])) (read_task text room)) h.sound t.sound t.inhabited)
+
+pub complete_program : (text : Text) (room height : ℕ) → Complete room (program text height) (among (TASK ∷ [])) (read_program text room)
+unfolding read_program
+complete_program text room height =
+    let h : MayRead room (many (head text)) (many (head text)) (repeat (among head_starts) (read_head text)) head_starts [] = reads_many (reads_head text) refl in
+    let t = reads_tasks text room height in
+    let T : Form (List TaskText) = some (task text height) in
+    complete_made room program_of (Both (many (head text)) T) (among (TASK ∷ [])) (read_both (repeat (among head_starts) (read_head text)) (read_some (among (TASK ∷ [])) (read_task text room)))
+      (complete_both room (many (head text)) T (among head_starts) (among (TASK ∷ [])) (repeat (among head_starts) (read_head text)) (read_some (among (TASK ∷ [])) (read_task text room)) (h.complete head_starts refl refl) t.complete
+        (parted_starts (among (TASK ∷ [])) (among head_starts) (among (TASK ∷ [])) T t.starts (apart (TASK ∷ []) head_starts refl)))

@@ -1,0 +1,85 @@
+-- The grammar of heads, tasks and programs.
+use Rattle.std.specs.Prelude.{◌≡◌, ℕ, ◌-◌, ◌+◌, List, [], ◌∷◌, Option, Some, None}
+use Rattle.task_ast.specs.declared.tree.Head.{Head}
+use Rattle.task_ast.specs.declared.tree.Head.TheVariants.{LockHead, BarrierHead, RecHead, FeedHead}
+use Rattle.task_ast.specs.declared.tree.Param.{Param}
+use Rattle.task_ast.specs.declared.tree.Param.TheVariants.{Ctl, Reg}
+use Rattle.task_ast.specs.declared.tree.VarLine.{VarLine}
+use Rattle.task_ast.specs.Tree.{Block, block, TaskText, Program}
+use Rattle.task_parser.specs.declared.token.Token.{Token}
+use Rattle.task_parser.specs.declared.classes.TheConstants.{NUM, NAME, REG, QUOTED, LOCK, BARRIER, RECORD, BY, FROM, FEED, TASK, VAR, OPEN_BRACKET, CLOSE_BRACKET, OPEN_PAREN, CLOSE_PAREN, OPEN_BRACE, CLOSE_BRACE, COMMA, SEMICOLON}
+use Rattle.task_parser.specs.Words.{Form, ◌▸◌, Made, ◌∣◌, many, perhaps, the, ◌◂◌, after, some, separated}
+use Rattle.task_parser.specs.Expressions.{Text, between, name_of, reg_name, number_in}
+use Rattle.task_parser.specs.Statements.{listed_in, statement}
+
+-- ---- what the parts stand for
+
+-- the name of a file, without its quotes
+abbrev pub file_of : Text → Token → Text
+file_of text t = between text (t.from + 1) (t.to - 1)
+
+abbrev pub file_in : Text → Option Token → Option Text
+file_in text None = None
+file_in text (Some t) = Some (file_of text t)
+
+abbrev pub lock_head_of : Text → (Token × Token) × Token → Head
+lock_head_of text x = LockHead (name_of text x.0.1) (number_in x.1.kind) x.0.0.line
+
+abbrev pub barrier_head_of : Text → (Token × Token) × Token → Head
+barrier_head_of text x = BarrierHead (name_of text x.0.1) (number_in x.1.kind) x.0.0.line
+
+abbrev pub record_head_of : Text → (((Token × Token) × Token) × Token) × Option Text → Head
+record_head_of text x = RecHead (name_of text x.0.0.0.1) (number_in x.0.0.1.kind) (name_of text x.0.1) x.1 x.0.0.0.0.line
+
+abbrev pub feed_head_of : Text → ((Token × Token) × Token) × Token → Head
+feed_head_of text x = FeedHead (name_of text x.0.0.1) (number_in x.0.1.kind) (file_of text x.1) x.0.0.0.line
+
+abbrev pub ctl_param : Text → Token → Param
+ctl_param text t = Ctl (name_of text t)
+
+abbrev pub reg_param : Text → Token → Param
+reg_param text t = Reg (reg_name text t)
+
+abbrev pub var_line_of : Token × List Param → VarLine
+var_line_of x = record { names = x.1; line = x.0.line }
+
+abbrev pub task_of : Text → (((Token × Token) × List Param) × List VarLine) × Block → TaskText
+task_of text x = record { name = name_of text x.0.0.0.1; params = x.0.0.1; vars = x.0.1; body = x.1; line = x.0.0.0.0.line }
+
+abbrev pub program_of : List Head × List TaskText → Program
+program_of x = record { heads = x.0; tasks = x.1 }
+
+-- ---- the forms
+
+abbrev pub lock_head : Text → Form Head
+lock_head text = Made (lock_head_of text) (the LOCK ▸ the NAME ◂ OPEN_BRACKET ▸ the NUM ◂ CLOSE_BRACKET ◂ SEMICOLON)
+
+abbrev pub barrier_head : Text → Form Head
+barrier_head text = Made (barrier_head_of text) (the BARRIER ▸ the NAME ◂ OPEN_PAREN ▸ the NUM ◂ CLOSE_PAREN ◂ SEMICOLON)
+
+abbrev pub from_file : Text → Form (Option Text)
+from_file text = Made (file_in text) (perhaps (after FROM (the QUOTED)))
+
+abbrev pub record_head : Text → Form Head
+record_head text = Made (record_head_of text) (the RECORD ▸ the NAME ◂ OPEN_BRACKET ▸ the NUM ◂ CLOSE_BRACKET ◂ BY ▸ the NAME ▸ from_file text ◂ SEMICOLON)
+
+abbrev pub feed_head : Text → Form Head
+feed_head text = Made (feed_head_of text) (the FEED ▸ the NAME ◂ OPEN_BRACKET ▸ the NUM ◂ CLOSE_BRACKET ◂ FROM ▸ the QUOTED ◂ SEMICOLON)
+
+abbrev pub head : Text → Form Head
+head text = lock_head text ∣ barrier_head text ∣ record_head text ∣ feed_head text
+
+abbrev pub param : Text → Form Param
+param text = Made (ctl_param text) (the NAME) ∣ Made (reg_param text) (the REG)
+
+abbrev pub var_line : Text → Form VarLine
+var_line text = Made var_line_of (the VAR ▸ separated COMMA (param text) ◂ SEMICOLON)
+
+-- its braces and parentheses don't count as nesting
+abbrev pub task : Text → ℕ → Form TaskText
+task text height =
+    Made (task_of text) (the TASK ▸ the NAME ◂ OPEN_PAREN ▸ listed_in (param text) ◂ CLOSE_PAREN ◂ OPEN_BRACE ▸ many (var_line text) ▸ Made block (many (statement text height)) ◂ CLOSE_BRACE)
+
+-- a program in which constructs nest less deep than the height
+abbrev pub program : Text → ℕ → Form Program
+program text height = Made program_of (many (head text) ▸ some (task text height))
