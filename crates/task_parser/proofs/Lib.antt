@@ -22,3 +22,4 @@ pub mod Loop
 pub mod Levels
 pub mod ReadStatements
 pub mod ReadPrograms
+pub mod Whole

@@ -20,3 +20,5 @@ pub mod Statements
 pub mod StatementReaders
 pub mod Programs
 pub mod ProgramReaders
+pub mod Promise
+pub mod Answer

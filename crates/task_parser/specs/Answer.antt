@@ -1,0 +1,49 @@
+-- What parsing answers.
+use Rattle.std.specs.Prelude.{◌≡◌, ℕ, true, false, List, [], ◌∷◌, length, Result, Ok, Err, ◌+◌}
+use Rattle.task_ast.specs.Tree.{Program}
+use Rattle.task_ast.specs.declared.tree.Program.{Program as CodeProgram}
+use Rattle.task_ast.specs.View.{plain_program}
+use Rattle.task_parser.specs.declared.token.Token.{Token}
+use Rattle.task_parser.specs.declared.fault.ParseFault.{ParseFault}
+use Rattle.task_parser.specs.declared.fault.ParseFault.TheVariants.{Unexpected, TooDeep, OutOfMemory}
+use Rattle.task_parser.specs.declared.halt.Halt.{Halt}
+use Rattle.task_parser.specs.declared.halt.Halt.TheVariants as halts
+use Rattle.task_parser.specs.Reading.{Stop, ◌>>=◌, unexpected}
+use Rattle.task_parser.specs.Expressions.{Text}
+use Rattle.task_parser.specs.Promise.{deepest, StandFor, StopFirst}
+use Rattle.task_parser.specs.ProgramReaders.{read_program}
+
+-- where the rest of the tokens begins in the text
+abbrev pub place : Text → List Token → ℕ
+place text [] = length text
+place text (t ∷ ts) = t.from
+
+-- The fault is the first one, and stands at its place.
+abbrev pub IsFirstFault : Text → List Token → ParseFault → Type 0
+IsFirstFault text tokens OutOfMemory = Unit {0}
+IsFirstFault text tokens (Unexpected at) = (rest : List Token) × (at ≡ place text rest) × StopFirst text tokens (record { deep = false; rest = rest })
+IsFirstFault text tokens (TooDeep at) = (rest : List Token) × (at ≡ place text rest) × StopFirst text tokens (record { deep = true; rest = rest })
+
+-- The program is answered, unless memory ran out.
+abbrev pub Answers : Result CodeProgram ParseFault → Program → Type 0
+Answers (Ok p) wanted = plain_program p ≡ wanted
+Answers (Err OutOfMemory) wanted = Unit {0}
+Answers (Err _) wanted = ⊥
+
+-- why reading halted, by its place in the text
+abbrev pub fault_at : Text → Halt → ParseFault
+fault_at text halts.Memory = OutOfMemory
+fault_at text (halts.Unexpected rest) = Unexpected (place text rest.now)
+fault_at text (halts.TooDeep rest) = TooDeep (place text rest.now)
+
+-- reading all of the tokens
+abbrev pub to_end : Program → List Token → Result Program Stop
+to_end p [] = Ok p
+to_end p (t ∷ ts) = unexpected (t ∷ ts)
+
+unfoldable pub read_all : Text → List Token → Result Program Stop
+read_all text tokens = read_program text deepest tokens >>= λ x. to_end x.0 x.1
+
+abbrev pub Exactly : Text → List Token → Result Program Stop → Type 0
+Exactly text tokens (Ok p) = StandFor text tokens p
+Exactly text tokens (Err stop) = StopFirst text tokens stop
