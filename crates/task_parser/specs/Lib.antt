@@ -15,10 +15,10 @@ pub mod Reading
 pub mod Laws
 pub mod Expressions
 pub mod ExpressionReaders
-pub mod Gives
 pub mod Statements
 pub mod StatementReaders
 pub mod Programs
 pub mod ProgramReaders
 pub mod Promise
 pub mod Answer
+pub mod Gives

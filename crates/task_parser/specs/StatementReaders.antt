@@ -111,12 +111,3 @@ read_data_statement text (suc room) = read_data_form text (read_expression text 
 unfoldable pub read_statement : Text → ℕ → Reader Stmt
 read_statement text zero = read_either (among control_starts) (read_control_form text (read_expression text zero) None) (read_data_statement text zero)
 read_statement text (suc room) = read_either (among control_starts) (read_control_form text (read_expression text (suc room)) (Some (read_statement text room))) (read_data_statement text (suc room))
-
--- what a block's statements nest in, with this room before its brace
-abbrev pub data_below : Text → ℕ → Option (Reader Stmt)
-data_below text zero = None
-data_below text (suc room) = Some (read_data_statement text room)
-
-abbrev pub statement_below : Text → ℕ → Option (Reader Stmt)
-statement_below text zero = None
-statement_below text (suc room) = Some (read_statement text room)

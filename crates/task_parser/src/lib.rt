@@ -8,6 +8,7 @@ mod fault;
 mod lex_laws;
 mod lexer;
 mod halt;
+mod statements;
 mod token;
 
 pub use fault::{LexFault, ParseFault};

@@ -1,0 +1,42 @@
+use Rattle.std.proofs.Common.{◌≡◌, ℕ, ◌+◌, ◌*◌, length}
+use Rattle.task_ast.specs.View.{plain_stmts}
+use Rattle.task_parser.specs.Classes.{among}
+use Rattle.task_parser.specs.Reading.{repeat}
+use Rattle.task_parser.specs.Gives.{starts, read_allowed}
+use Rattle.task_parser.proofs.Loop.{also}
+use Rattle.task_parser.proofs.statements.+nesting.Given as goal
+
+abbrev pub decreases-block : goal.decreases-block
+decreases-block l = l.room * 8
+
+abbrev pub decreases-else_block : goal.decreases-else_block
+decreases-else_block l = l.room * 8 + 1
+
+abbrev pub decreases-looping : goal.decreases-looping
+decreases-looping l = l.room * 8 + 2
+
+abbrev pub decreases-branching : goal.decreases-branching
+decreases-branching l = l.room * 8 + 2
+
+abbrev pub decreases-choosing : goal.decreases-choosing
+decreases-choosing l = l.room * 8 + 2
+
+abbrev pub decreases-data_statement : goal.decreases-data_statement
+decreases-data_statement l = l.room * 8 + 3
+
+abbrev pub decreases-control_statement : goal.decreases-control_statement
+decreases-control_statement l = l.room * 8 + 3
+
+abbrev pub decreases-statement : goal.decreases-statement
+decreases-statement l = l.room * 8 + 4
+
+abbrev pub decreases-statements : goal.decreases-statements
+decreases-statements l = l.room * 8 + 5
+
+abbrev pub invariant-statements-loop-alloc : goal.invariant-statements-loop-alloc
+invariant-statements-loop-alloc l =
+    let read = repeat (among (starts l.allowed)) (read_allowed l.allowed l.text l.room) in
+    also (plain_stmts l.statements) (read l.rest) ≡ read l.tokens
+
+abbrev pub decreases-statements-loop-alloc : goal.decreases-statements-loop-alloc
+decreases-statements-loop-alloc l = length l.rest
