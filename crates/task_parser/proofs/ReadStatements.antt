@@ -6,7 +6,7 @@ use Rattle.task_parser.specs.declared.token.Token.{Token}
 use Rattle.task_parser.specs.declared.classes.TheConstants.{NUM, NAME, REG, LOCK, UNLOCK, BARRIER, WHILE, IF, ELSE, FORK, INTO, JOIN, READ, WRITE, PRINT, WHEN, SUB, NOT, SELF, ROWS, OPEN_BRACKET, CLOSE_BRACKET, OPEN_PAREN, CLOSE_PAREN, OPEN_BRACE, CLOSE_BRACE, COMMA, SEMICOLON, ASSIGN, MUL, DIV, REM, ADD, EQ, NE, LT, LE, GT, GE, AND, OR}
 use Rattle.task_parser.specs.Classes.{among}
 use Rattle.task_parser.specs.Words.{Form, ◌▸◌, ◌∣◌, Made, many, perhaps, the, ◌◂◌, separated}
-use Rattle.task_parser.specs.Reading.{Reader, read_either, read_separated}
+use Rattle.task_parser.specs.Reading.{Reader, read_either, read_after, read_separated}
 use Rattle.task_parser.specs.Laws.{Inhabited}
 use Rattle.task_parser.specs.Expressions.{Text, expression}
 use Rattle.task_parser.specs.ExpressionReaders.{starting, read_expression}
@@ -16,6 +16,11 @@ use Rattle.task_parser.proofs.Exact.{inhabited_made}
 use Rattle.task_parser.proofs.Many.{inhabited_many}
 use Rattle.task_parser.proofs.ClassLists.{disjoint, subset}
 use Rattle.task_parser.proofs.Forms.{Reads, MayRead, Deeper, inside_with, reads_the, reads_made, may_read_made, reads_both, reads_more, reads_many, reads_perhaps, reads_mark, reads_after, reads_separated, reads_either, reads_opened, reads_wider, reads_shut}
+use Rattle.task_parser.specs.declared.statements.Allowed.{Allowed}
+use Rattle.task_parser.specs.declared.statements.Allowed.TheVariants.{All, Data}
+use Rattle.task_parser.specs.Gives.{read_allowed}
+use Rattle.task_parser.proofs.Loop.{shortens_reads}
+use Rattle.task_parser.proofs.Many.{Shortens}
 use Rattle.task_parser.proofs.ReadExpressions.{going_on, reads_expression}
 
 abbrev Expressions : ℕ → Form Expr → Form Expr → Reader Expr → Type 0
@@ -180,3 +185,12 @@ reads_statement text zero zero = reads_shut (reads_control_or_data text zero (st
 reads_statement text zero (suc height) = reads_control_or_data text zero (statement text 1) (statement text height) (data_statement text 2) (data_statement text (suc height)) None (read_data_statement text 0) (reads_expression text 0 (suc height)) (inhabited_statement text 0) (reads_data_statement text 0 (suc height))
 reads_statement text (suc room) zero = reads_shut (reads_control_or_data text (suc room) (statement text (suc (suc room))) (statement text 0) (data_statement text (suc (suc (suc room)))) (data_statement text 0) (Some (read_statement text room)) (read_data_statement text (suc room)) (reads_expression text (suc room) 0) (reads_statement text room 0) (reads_data_statement text (suc room) 0))
 reads_statement text (suc room) (suc height) = reads_control_or_data text (suc room) (statement text (suc (suc room))) (statement text height) (data_statement text (suc (suc (suc room)))) (data_statement text (suc height)) (Some (read_statement text room)) (read_data_statement text (suc room)) (reads_expression text (suc room) (suc height)) (reads_statement text room height) (reads_data_statement text (suc room) (suc height))
+
+-- ---- what is read of a list leaves less
+
+pub next_shortens : (text : Text) (room : ℕ) → Shortens (read_after COMMA (read_expression text room))
+next_shortens text room = shortens_reads (reads_after COMMA refl (reads_expression text room 0))
+
+pub statement_shortens : (allowed : Allowed) (text : Text) (room : ℕ) → Shortens (read_allowed allowed text room)
+statement_shortens All text room = shortens_reads (reads_statement text room 0)
+statement_shortens Data text room = shortens_reads (reads_data_statement text room 0)

@@ -4,7 +4,7 @@ ghost use Rattle.task_ast.specs.View.{plain_expr, plain_exprs, plain_stmt, plain
 ghost use Rattle.task_parser.specs.Classes.{among};
 ghost use Rattle.task_parser.specs.Reading.{begins, repeat, read_after, read_separated};
 ghost use Rattle.task_parser.specs.ExpressionReaders.{starting, read_expression};
-ghost use Rattle.task_parser.specs.StatementReaders.{control_starts, data_starts, read_atom, read_indexed, read_set_ctl, read_looping, read_branching, read_locking, read_unlocking, read_list, read_into_name, read_into_reg, read_forking, read_joining, read_waiting, read_set_reg, read_reading, read_writing, read_printing, read_choosing, read_data_form, read_control_form, read_data_statement};
+ghost use Rattle.task_parser.specs.StatementReaders.{control_starts, data_starts, read_atom, read_indexed, read_set_ctl, read_looping, read_branching, read_locking, read_unlocking, read_list, read_into_name, read_into_reg, read_forking, read_joining, read_waiting, read_set_reg, read_reading, read_writing, read_printing, read_choosing, read_data_form, read_control_form, read_data_statement, read_statement};
 ghost use Rattle.task_parser.specs.Gives.{Gives, starts, read_allowed, allowed_below, read_block_at, read_else_at};
 
 use crate::classes::*;
@@ -415,15 +415,27 @@ fn begins_control(tokens: &[Token]) -> bool
     }
 }
 
-/// A statement that is allowed.
+/// A statement.
 #[tactic(auto, unfolding(crate::specs::StatementReaders::read_statement))]
+#[cycle(nesting)]
+fn any_statement<'a>(alloc: Global, text: &[u8], room: u32, tokens: &'a [Token]) -> Result<(Stmt, &'a [Token]), Halt<'a>>
+    ensures { Gives (λ x. (plain_stmt x.0, x.1.now)) result (read_statement text.now room tokens.now) }
+{
+    if begins_control(tokens) {
+        control_statement(alloc, text, room, tokens)
+    } else {
+        data_statement(alloc, text, room, tokens)
+    }
+}
+
+/// A statement that is allowed.
 #[cycle(nesting)]
 fn statement<'a>(alloc: Global, text: &[u8], allowed: Allowed, room: u32, tokens: &'a [Token]) -> Result<(Stmt, &'a [Token]), Halt<'a>>
     ensures { Gives (λ x. (plain_stmt x.0, x.1.now)) result (read_allowed allowed text.now room tokens.now) }
 {
     match allowed {
-        Allowed::All if begins_control(tokens) => control_statement(alloc, text, room, tokens),
-        _ => data_statement(alloc, text, room, tokens),
+        Allowed::All => any_statement(alloc, text, room, tokens),
+        Allowed::Data => data_statement(alloc, text, room, tokens),
     }
 }
 

@@ -27,11 +27,14 @@ decreases-data_statement l = l.room * 8 + 3
 abbrev pub decreases-control_statement : goal.decreases-control_statement
 decreases-control_statement l = l.room * 8 + 3
 
+abbrev pub decreases-any_statement : goal.decreases-any_statement
+decreases-any_statement l = l.room * 8 + 4
+
 abbrev pub decreases-statement : goal.decreases-statement
-decreases-statement l = l.room * 8 + 4
+decreases-statement l = l.room * 8 + 5
 
 abbrev pub decreases-statements : goal.decreases-statements
-decreases-statements l = l.room * 8 + 5
+decreases-statements l = l.room * 8 + 6
 
 abbrev pub invariant-statements-loop-alloc : goal.invariant-statements-loop-alloc
 invariant-statements-loop-alloc l =
