@@ -6,12 +6,16 @@ use Rattle.gp_base.specs.declared.journal.Event.TheVariants as event
 use Rattle.dependence.specs.Dependents.{is_member}
 use Rattle.dependence.specs.Restarts.{Order, Progress, drains, attempt_of, begun_of, NoneDue, NoneLive, struck_next, restart_of, IsFinal}
 
--- what the events so far leave: the front with the restarts made, the pairs of position and attempt posted and taken, the positions whose present attempt is applied, and the number retired
+-- what the events so far leave
 pub record Stage : Type 0 where
+  -- the front, and the restarts made
   pub progress : Progress
+  -- the pairs of position and attempt that were posted, and those that were taken
   pub posted : List (ℕ × ℕ)
   pub taken : List (ℕ × ℕ)
+  -- whether a position's present attempt is applied
   pub applied : ℕ → Bool
+  -- how many positions have retired
   pub retired : ℕ
 
 -- no event has happened

@@ -5,11 +5,15 @@ use Rattle.gp_base.specs.declared.fault.Fault.{Fault}
 use Rattle.gp_base.specs.declared.journal.Restart.{Restart}
 use Rattle.dependence.specs.Dependents.{is_member}
 
--- what is read of a run: the number of its subthreads, which positions are in conflict, what is redone with a position that is struck (the positions below a front that depend on it), and the thread's subthread before a position
+-- what is read of a run
 pub record Order : Type 0 where
+  -- how many subthreads it has
   pub count : ℕ
+  -- whether a position is in conflict with a later one
   pub clash : (position later : ℕ) → Bool
+  -- what is redone with a position that is struck: its dependents below the front
   pub redo : (struck front : ℕ) → List ℕ
+  -- the position of the same thread's subthread before
   pub before : (position : ℕ) → Option ℕ
 
 -- a position that is struck is redone itself
