@@ -17,3 +17,6 @@ pub mod ReadExpressions
 pub mod ReadPrograms
 pub mod ReadStatements
 pub mod Whole
+pub mod LexFaults
+pub mod LexLongest
+pub mod LexSplits

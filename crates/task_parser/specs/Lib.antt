@@ -9,6 +9,10 @@ pub mod Pieces
 pub mod ProgramReaders
 pub mod Programs
 pub mod Promise
+pub mod Splitting
+pub mod TokenTable
+pub mod Classes
+pub mod Words
 pub mod Reading
 pub mod Splitting
 pub mod StatementReaders
