@@ -3,7 +3,7 @@ use Rattle.std.proofs.Common.{◌≡◌, inl, inr, leb, ℕ, Bool, true, false, 
 use Rattle.std.specs.Prelude.{take_while, is_some}
 use Rattle.std.specs.List.{prefix_len, list_all}
 use Rattle.std.specs.Char.{is_ascii_digit}
-use Rattle.std.proofs.lemmas.List.Sums.{AllPass-from_list_all, list_all-from_AllPass}
+use Rattle.std.proofs.lemmas.List.Sums.{prefix_len-le-length, AllPass-from_list_all, list_all-from_AllPass}
 use Rattle.std.proofs.lemmas.Bool.{eqb-true, eq-eqb, false≢true}
 use Rattle.std.proofs.lemmas.Bool.Decides.{nat_tests}
 use Rattle.task_parser.specs.declared.token.Kind.{Kind}
@@ -15,11 +15,11 @@ use Rattle.task_parser.proofs.LexPieces.{IsOther}
 use Rattle.task_parser.proofs.LexTokens.{row_passes, prefix_passes, prefix_stops, class_digit, class_dollar, class_quote, class_other, token_begins, first_class}
 use Rattle.task_parser.proofs.LexLongest.{digits_sound, longest_digits, mark_bytes}
 
-both : (x y : Bool) → (x && y) ≡ true → (x ≡ true) × (y ≡ true)
+pub both : (x y : Bool) → (x && y) ≡ true → (x ≡ true) × (y ≡ true)
 both true y is = (refl, is)
 both false y is = cc
 
-no_empty_token : (kind : Kind) → IsToken kind [] → ⊥
+pub no_empty_token : (kind : Kind) → IsToken kind [] → ⊥
 no_empty_token kind token = false≢true (token_begins kind [] token)
 
 module _ (b : ℕ) (dollar : eqb b 36 ≡ true) where
@@ -127,6 +127,7 @@ pub digits_too_big : (b : ℕ) (bs : List ℕ) → is_ascii_digit b ≡ true →
 digits_too_big b bs digit big = record {
   value = decimal (take_while is_ascii_digit (b ∷ bs));
   bytes = prefix_len is_ascii_digit (b ∷ bs);
+  within = prefix_len-le-length is_ascii_digit (b ∷ bs);
   is_token = (digits_sound (b ∷ bs) digit, refl);
   longest = longest_digits b bs (class_digit b digit);
   big = grind (arith, nat_tests);

@@ -76,6 +76,21 @@ class_of Quoted = 5
 class_of (Word number) = 3
 class_of (Mark number) = 6
 
+-- no token is of the class of spaces or of comments
+pub class_some : (kind : Kind) → 2 ≤ class_of kind
+class_some (Num value) = omega arith
+class_some Name = omega arith
+class_some Reg = omega arith
+class_some Quoted = omega arith
+class_some (Word row) = omega arith
+class_some (Mark row) = omega arith
+
+pub class_space : (b : ℕ) → is_space b ≡ true → class b ≡ 0
+class_space b is = rw is refl
+
+pub class_hash : (b : ℕ) → eqb b 35 ≡ true → class b ≡ 1
+class_hash b is = rw (eqb-true b 35 is) refl
+
 digit_no_space : (b : ℕ) → is_ascii_digit b ≡ true → is_space b ≡ false
 digit_no_space b is = grind (arith, nat_tests)
 

@@ -20,3 +20,5 @@ pub mod Whole
 pub mod LexFaults
 pub mod LexLongest
 pub mod LexSplits
+pub mod LexUnique
+pub mod LexPlaces

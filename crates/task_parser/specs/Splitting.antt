@@ -1,5 +1,5 @@
 -- How a text splits into spaces, comments and tokens, and where it can't.
-use Rattle.std.specs.Prelude.{◌≡◌, ◌≢◌, ℕ, ◌+◌, ◌≤◌, ◌<◌, ◌⊎◌, false, List, [], ◌∷◌, ◌++◌, length, drop, take, Ok, Err, pos}
+use Rattle.std.specs.Prelude.{◌≡◌, ◌≢◌, ℕ, ◌+◌, ◌-◌, ◌≤◌, ◌<◌, ◌⊎◌, false, List, [], ◌∷◌, ◌++◌, length, drop, take, Ok, Err, pos, All, slice_range}
 use Rattle.task_parser.specs.declared.token.Token.{Token}
 use Rattle.task_parser.specs.declared.token.Kind.{Kind}
 use Rattle.task_parser.specs.declared.token.Kind.TheVariants.{Num}
@@ -7,7 +7,7 @@ use Rattle.task_parser.specs.declared.fault.LexFault.{LexFault}
 use Rattle.task_parser.specs.declared.fault.LexFault.TheVariants.{BadByte, NumberTooBig, TooLong, OutOfMemory}
 use Rattle.task_parser.specs.Pieces.{is_space, number_limit}
 use Rattle.task_parser.specs.TokenTable.{IsToken, IsInRange, IsLongest, IsGap}
-use Rattle.task_parser.specs.Lexing.{lexed, length_limit, token_behind}
+use Rattle.task_parser.specs.Lexing.{lexed, length_limit, token_behind, line_behind}
 
 -- Behind the bytes before it, a text splits into spaces, comments and tokens, the longest token at each place. They give
 -- the tokens, and something may be left.
@@ -39,6 +39,7 @@ pub record StopsShort (begun rest : List ℕ) : Type 0 where
 pub record BeginsTooBig (text : List ℕ) : Type 0 where
   pub value : ℕ
   pub bytes : ℕ
+  pub within : bytes ≤ length text
   pub is_token : IsToken (Num (pos value)) (take bytes text)
   pub longest : IsLongest bytes text
   pub big : number_limit < value
@@ -62,6 +63,25 @@ pub record StopsAt (before text : List ℕ) (fault : LexFault) : Type 0 where
 -- the tokens of a lexing are those into which the text splits
 abbrev pub LexingsSplit : Type 0
 LexingsSplit = (text : List ℕ) (tokens : List Token) → lexed text ≡ Ok tokens → Splits [] text tokens []
+
+-- a token's bytes are a token of the table, the longest at its place, and its line is one more than the LF bytes before it
+pub record IsPlaced (text : List ℕ) (token : Token) : Type 0 where
+  pub is_token : IsToken token.kind (slice_range text token.from token.to)
+  pub longest : IsLongest (token.to - token.from) (drop token.from text)
+  pub line_is : token.line ≡ line_behind (take token.from text)
+
+-- the tokens stand from a place on, one behind the other
+abbrev pub AreInOrder : ℕ → List Token → Type 0
+AreInOrder place [] = Unit {0}
+AreInOrder place (first ∷ others) = (place ≤ first.from) × AreInOrder first.to others
+
+-- the tokens of a lexing stand in order, each in its place
+abbrev pub TokensArePlaced : Type 0
+TokensArePlaced = (text : List ℕ) (tokens : List Token) → lexed text ≡ Ok tokens → All (λ token. IsPlaced text token) tokens × AreInOrder 0 tokens
+
+-- and a text that isn't too long and splits to its end is lexed so
+abbrev pub SplittingsAreLexed : Type 0
+SplittingsAreLexed = (text : List ℕ) (tokens : List Token) → length text ≤ length_limit → Splits [] text tokens [] → lexed text ≡ Ok tokens
 
 -- a text whose lexing is a fault, and that isn't too long, splits up to that fault
 abbrev pub FaultsStop : Type 0

@@ -1,5 +1,5 @@
 // Splits a text into spaces, comments and tokens, the longest token at each place.
-ghost use Rattle.std.specs.Prelude.{◌≡◌, ◌≤◌, ◌<◌, ◌+◌, ◌^◌, position, bytes_eq, min, take, [], ◌∷◌, length, drop, count_by, slice_index, All, IfOk, IfErr, ◌↔◌, ◌==◌, ◌≢◌};
+ghost use Rattle.std.specs.Prelude.{◌≡◌, ◌≤◌, ◌<◌, ◌^◌, ◌↔◌, ◌==◌, [], ◌∷◌, length, take, min, position, count_by, slice_index, bytes_eq, IfOk, IfErr};
 ghost use Rattle.std.specs.List.{prefix_len};
 ghost use Rattle.std.specs.Char.{is_ascii_digit};
 ghost use Rattle.task_parser.specs.Pieces.{

@@ -12,6 +12,6 @@ mod statements;
 mod token;
 
 pub use fault::{LexFault, ParseFault};
-pub use lex_laws::{faults_stop, lexings_split};
+pub use lex_laws::{faults_stop, lexings_split, splittings_are_lexed, tokens_are_placed};
 pub use lexer::lex;
 pub use token::{Kind, Token};
