@@ -7,22 +7,28 @@ use Rattle.task_ast.specs.Tree.{block, TaskText, Program}
 use Rattle.task_parser.specs.declared.token.Token.{Token}
 use Rattle.task_parser.specs.declared.classes.TheConstants.{NUM, NAME, REG, QUOTED, LOCK, BARRIER, RECORD, BY, FROM, FEED, TASK, VAR, ELSE, OPEN_BRACKET, CLOSE_BRACKET, OPEN_PAREN, CLOSE_PAREN, OPEN_BRACE, CLOSE_BRACE, COMMA, SEMICOLON, UNLOCK, WHILE, IF, FORK, JOIN, READ, WRITE, PRINT, WHEN}
 use Rattle.task_parser.specs.Classes.{among}
-use Rattle.task_parser.specs.Words.{Form, Both, Made, many, some, separated}
-use Rattle.task_parser.specs.Reading.{Reader, read_both, repeat, read_some, read_separated}
+use Rattle.task_parser.specs.Words.{Form, Both, ◌▸◌, Made, many, some, the, ◌◂◌, separated}
+use Rattle.task_parser.specs.Reading.{Reader, read_both, repeat, read_after, read_some, read_separated}
 use Rattle.task_parser.specs.Laws.{Sound, Complete}
 use Rattle.task_parser.specs.Expressions.{Text}
 use Rattle.task_parser.specs.Statements.{or_empty, listed_in, statement}
 use Rattle.task_parser.specs.StatementReaders.{statement_starts, read_list, read_statement}
 use Rattle.task_parser.specs.Programs.{lock_head_of, barrier_head_of, record_head_of, feed_head_of, file_in, ctl_param, reg_param, var_line_of, task_of, program_of, lock_head, barrier_head, from_file, record_head, feed_head, head, param, var_line, task, program}
-use Rattle.task_parser.specs.ProgramReaders.{read_lock_head, read_barrier_head, read_from_file, read_record_head, read_feed_head, head_starts, param_starts, read_head, read_param, read_var_line, read_task, read_program}
+use Rattle.task_parser.specs.ProgramReaders.{read_sized, read_lock_head, read_barrier_head, read_from_file, read_record_head, read_feed_head, head_starts, param_starts, read_head, read_param, read_var_line, read_task, read_program}
 use Rattle.task_parser.proofs.Exact.{sound_both, complete_both, sound_made, complete_made, parted_starts}
 use Rattle.task_parser.proofs.ClassLists.{disjoint, subset, apart}
 use Rattle.task_parser.proofs.Forms.{Reads, MayRead, reads_the, reads_made, may_read_made, reads_both, reads_more, reads_many, reads_perhaps, reads_mark, reads_after, reads_some, reads_separated, reads_either, reads_wider}
+use Rattle.task_parser.proofs.Loop.{shortens_reads}
+use Rattle.task_parser.proofs.Many.{Shortens}
 use Rattle.task_parser.proofs.ReadStatements.{Plain, reads_statement}
+
+reads_sized : {room : ℕ} (word : ℕ) → Plain room (the word ▸ the NAME ◂ OPEN_BRACKET ▸ the NUM ◂ CLOSE_BRACKET) (read_sized word) (word ∷ [])
+unfolding read_sized
+reads_sized word = reads_mark CLOSE_BRACKET refl (reads_both (reads_mark OPEN_BRACKET refl (reads_both (reads_the word) (reads_the NAME) refl)) (reads_the NUM) refl)
 
 reads_lock_head : {room : ℕ} (text : Text) → Plain room (lock_head text) (read_lock_head text) (LOCK ∷ [])
 unfolding read_lock_head
-reads_lock_head text = reads_made (lock_head_of text) (reads_mark SEMICOLON refl (reads_mark CLOSE_BRACKET refl (reads_both (reads_mark OPEN_BRACKET refl (reads_both (reads_the LOCK) (reads_the NAME) refl)) (reads_the NUM) refl)))
+reads_lock_head text = reads_made (lock_head_of text) (reads_mark SEMICOLON refl (reads_sized LOCK))
 
 reads_barrier_head : {room : ℕ} (text : Text) → Plain room (barrier_head text) (read_barrier_head text) (BARRIER ∷ [])
 unfolding read_barrier_head
@@ -35,14 +41,12 @@ reads_from_file text = may_read_made (file_in text) (reads_perhaps (reads_after 
 reads_record_head : {room : ℕ} (text : Text) → Plain room (record_head text) (read_record_head text) (RECORD ∷ [])
 unfolding read_record_head
 reads_record_head text =
-    let sized = reads_mark CLOSE_BRACKET refl (reads_both (reads_mark OPEN_BRACKET refl (reads_both (reads_the RECORD) (reads_the NAME) refl)) (reads_the NUM) refl) in
-    reads_made (record_head_of text) (reads_mark SEMICOLON refl (reads_more (FROM ∷ []) (reads_both (reads_mark BY refl sized) (reads_the NAME) refl) (reads_from_file text) refl refl refl refl))
+    reads_made (record_head_of text) (reads_mark SEMICOLON refl (reads_more (FROM ∷ []) (reads_both (reads_mark BY refl (reads_sized RECORD)) (reads_the NAME) refl) (reads_from_file text) refl refl refl refl))
 
 reads_feed_head : {room : ℕ} (text : Text) → Plain room (feed_head text) (read_feed_head text) (FEED ∷ [])
 unfolding read_feed_head
 reads_feed_head text =
-    let sized = reads_mark CLOSE_BRACKET refl (reads_both (reads_mark OPEN_BRACKET refl (reads_both (reads_the FEED) (reads_the NAME) refl)) (reads_the NUM) refl) in
-    reads_made (feed_head_of text) (reads_mark SEMICOLON refl (reads_both (reads_mark FROM refl sized) (reads_the QUOTED) refl))
+    reads_made (feed_head_of text) (reads_mark SEMICOLON refl (reads_both (reads_mark FROM refl (reads_sized FEED)) (reads_the QUOTED) refl))
 
 pub reads_head : {room : ℕ} (text : Text) → Plain room (head text) (read_head text) head_starts
 unfolding read_head
@@ -94,3 +98,17 @@ complete_program text room height =
     complete_made room program_of (Both (many (head text)) T) (among (TASK ∷ [])) (read_both (repeat (among head_starts) (read_head text)) (read_some (among (TASK ∷ [])) (read_task text room)))
       (complete_both room (many (head text)) T (among head_starts) (among (TASK ∷ [])) (repeat (among head_starts) (read_head text)) (read_some (among (TASK ∷ [])) (read_task text room)) (h.complete head_starts refl refl) t.complete
         (parted_starts (among (TASK ∷ [])) (among head_starts) (among (TASK ∷ [])) T t.starts (apart (TASK ∷ []) head_starts refl)))
+
+-- ---- what is read of a list leaves less
+
+pub head_shortens : (text : Text) → Shortens (read_head text)
+head_shortens text = shortens_reads (reads_head {room = 0} text)
+
+pub next_param_shortens : (text : Text) → Shortens (read_after COMMA (read_param text))
+next_param_shortens text = shortens_reads (reads_after {room = 0} COMMA refl (reads_param text))
+
+pub var_line_shortens : (text : Text) → Shortens (read_var_line text)
+var_line_shortens text = shortens_reads (reads_var_line {room = 0} text)
+
+pub task_shortens : (text : Text) (room : ℕ) → Shortens (read_task text room)
+task_shortens text room = shortens_reads (reads_task text room 0)

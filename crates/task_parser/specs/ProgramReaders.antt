@@ -12,8 +12,11 @@ use Rattle.task_parser.specs.Expressions.{Text, is}
 use Rattle.task_parser.specs.StatementReaders.{statement_starts, read_inner_block, read_list, read_statement}
 use Rattle.task_parser.specs.Programs.{lock_head_of, barrier_head_of, record_head_of, feed_head_of, file_in, ctl_param, reg_param, var_line_of, task_of, program_of}
 
+unfoldable pub read_sized : ℕ → Reader ((Token × Token) × Token)
+read_sized word = read_the word ▹ read_the NAME ◃ OPEN_BRACKET ▹ read_the NUM ◃ CLOSE_BRACKET
+
 unfoldable pub read_lock_head : Text → Reader Head
-read_lock_head text = read_made (lock_head_of text) (read_the LOCK ▹ read_the NAME ◃ OPEN_BRACKET ▹ read_the NUM ◃ CLOSE_BRACKET ◃ SEMICOLON)
+read_lock_head text = read_made (lock_head_of text) (read_sized LOCK ◃ SEMICOLON)
 
 unfoldable pub read_barrier_head : Text → Reader Head
 read_barrier_head text = read_made (barrier_head_of text) (read_the BARRIER ▹ read_the NAME ◃ OPEN_PAREN ▹ read_the NUM ◃ CLOSE_PAREN ◃ SEMICOLON)
@@ -22,10 +25,10 @@ unfoldable pub read_from_file : Text → Reader (Option Text)
 read_from_file text = read_made (file_in text) (read_perhaps (is FROM) (read_after FROM (read_the QUOTED)))
 
 unfoldable pub read_record_head : Text → Reader Head
-read_record_head text = read_made (record_head_of text) (read_the RECORD ▹ read_the NAME ◃ OPEN_BRACKET ▹ read_the NUM ◃ CLOSE_BRACKET ◃ BY ▹ read_the NAME ▹ read_from_file text ◃ SEMICOLON)
+read_record_head text = read_made (record_head_of text) (read_sized RECORD ◃ BY ▹ read_the NAME ▹ read_from_file text ◃ SEMICOLON)
 
 unfoldable pub read_feed_head : Text → Reader Head
-read_feed_head text = read_made (feed_head_of text) (read_the FEED ▹ read_the NAME ◃ OPEN_BRACKET ▹ read_the NUM ◃ CLOSE_BRACKET ◃ FROM ▹ read_the QUOTED ◃ SEMICOLON)
+read_feed_head text = read_made (feed_head_of text) (read_sized FEED ◃ FROM ▹ read_the QUOTED ◃ SEMICOLON)
 
 -- what a head begins with, and a parameter
 abbrev pub head_starts : List ℕ

@@ -3,6 +3,7 @@ ghost use Rattle.std.specs.Prelude.{◌≡◌, [], ◌∷◌, IfOk};
 ghost use Rattle.task_parser.specs.Classes.{class, among};
 ghost use Rattle.task_parser.specs.Expressions.{between, name_of, reg_name, number_in};
 ghost use Rattle.task_parser.specs.Gives.{Gives};
+ghost use Rattle.task_parser.specs.Programs.{file_of};
 ghost use Rattle.task_parser.specs.Reading.{begins, read_one};
 
 use crate::halt::Halt;
@@ -77,6 +78,13 @@ pub fn register(alloc: Global, text: &[u8], token: Token) -> Result<Name, AllocE
     ensures { IfOk result (λ n. n ≡ reg_name text.now token) }
 {
     Name::from_slice(alloc, bytes_between(text, token.from as usize + 1, token.to as usize))
+}
+
+/// The name of a file, without its quotes.
+pub fn file(alloc: Global, text: &[u8], token: Token) -> Result<Name, AllocError>
+    ensures { IfOk result (λ n. n ≡ file_of text.now token) }
+{
+    Name::from_slice(alloc, bytes_between(text, token.from as usize + 1, (token.to as usize).saturating_sub(1)))
 }
 
 /// The value of a number.

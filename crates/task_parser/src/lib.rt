@@ -5,13 +5,15 @@ mod classes;
 mod cursor;
 mod expressions;
 mod fault;
+mod halt;
 mod lex_laws;
 mod lexer;
-mod halt;
+mod programs;
 mod statements;
 mod token;
 
 pub use fault::{LexFault, ParseFault};
 pub use lex_laws::{faults_stop, lexings_split, splittings_are_lexed, tokens_are_placed};
 pub use lexer::lex;
+pub use programs::parse;
 pub use token::{Kind, Token};

@@ -1,0 +1,14 @@
+use Rattle.std.proofs.Common.{◌≡◌, ℕ, [], ◌∷◌, length, map}
+use Rattle.task_ast.specs.View.{plain_task}
+use Rattle.task_parser.specs.declared.classes.TheConstants.{COMMA, VAR, TASK}
+use Rattle.task_parser.specs.Classes.{among}
+use Rattle.task_parser.specs.Reading.{repeat, read_after, read_some, read_separated}
+use Rattle.task_parser.specs.ProgramReaders.{head_starts, read_head, read_param, read_var_line, read_task}
+use Rattle.task_parser.proofs.Loop.{also}
+use Rattle.task_parser.proofs.programs.var_lines.Given as goal
+
+abbrev pub invariant-loop-alloc : goal.invariant-loop-alloc
+invariant-loop-alloc l = also l.lines (repeat (among (VAR ∷ [])) (read_var_line l.text) l.rest) ≡ repeat (among (VAR ∷ [])) (read_var_line l.text) l.tokens
+
+abbrev pub decreases-loop-alloc : goal.decreases-loop-alloc
+decreases-loop-alloc l = length l.rest
