@@ -1,4 +1,6 @@
+pub mod HeadLemmas
 pub mod NameLemmas
 pub mod TableLemmas
+pub mod TaskLemmas
 pub mod VariableLemmas
 pub mod VisitLemmas

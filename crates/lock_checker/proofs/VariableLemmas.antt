@@ -18,7 +18,7 @@ use Rattle.lock_checker.proofs.TableLemmas.{is_some-put, or-false}
 abbrev pub HasAlso : Table (Unit {0}) → Table (Unit {0}) → Name → Type 0
 HasAlso old new name = (y : Name) → found new y ≡ or_else (found old y) (if is_name y name then Some tt else None)
 
-stands_also : (old new : Table (Unit {0})) (name y : Name) (among : Bool) → HasAlso old new name → is_some (found old y) ≡ among → is_some (found new y) ≡ (among || (is_name y name || false))
+pub stands_also : (old new : Table (Unit {0})) (name y : Name) (among : Bool) → HasAlso old new name → is_some (found old y) ≡ among → is_some (found new y) ≡ (among || (is_name y name || false))
 stands_also old new name y among put is =
     ap is_some (put y) ∙ is_some-put (found old y) (is_name y name) tt ∙ ap (λ b. b || is_name y name) is ∙ ap (λ b. among || b) (sym (or-false (is_name y name)))
 

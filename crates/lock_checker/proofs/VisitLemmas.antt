@@ -44,6 +44,15 @@ pub told_first : (fault : CheckFault) (found later : Option (CheckKind × ℕ)) 
 told_first (Bad kind line) found later told = ap (λ o. or_later o later) told
 told_first OutOfMemory found later told = tt
 
+-- where nothing fails at first, what comes later tells all
+pub found_after : (all first later : List Visit) → all ≡ first ++ later → first_fault first ≡ None → first_fault later ≡ first_fault all
+found_after all first later splits none = sym (ap first_fault splits ∙ first_fault-append first later ∙ ap (λ o. or_later o (first_fault later)) none)
+
+-- where something does, it tells all
+pub told_before : (fault : CheckFault) (all first later : List Visit) (found : Option (CheckKind × ℕ)) → all ≡ first ++ later → first_fault all ≡ found → Told fault (first_fault first) → Told fault found
+told_before fault all first later found splits is told =
+    subst (Told fault) (sym (ap first_fault splits ∙ first_fault-append first later) ∙ is) (told_first fault (first_fault first) (first_fault later) told)
+
 pub ruleset first_told = fault_at-lowest
 
 pub ruleset inside_told = (first_fault-append, told_first)
@@ -57,15 +66,19 @@ module _ (xs : List Stmt) (i : ℕ) (x : Stmt) (within : i < length xs) (is : x 
   held_from held next goes = ap (held_at_end (plain_block (drop (i + 1) xs))) goes ∙ sym (ap (λ b. held_at_end b held) block_from)
 
   module _ (s : Scope) (held : List Pair) where
-    found_from : first_fault (visits_in s (plain_block (drop i xs)) held) ≡ or_later (first_fault (visits_of s (plain_stmt x) held)) (first_fault (visits_in s (plain_block (drop (i + 1) xs)) (held_after (plain_stmt x) held)))
-    found_from = ap (λ b. first_fault (visits_in s b held)) block_from ∙ first_fault-append (visits_of s (plain_stmt x) held) (visits_in s (plain_block (drop (i + 1) xs)) (held_after (plain_stmt x) held))
+    abbrev here : List Visit
+    here = visits_of s (plain_stmt x) held
+
+    abbrev after : List Visit
+    after = visits_in s (plain_block (drop (i + 1) xs)) (held_after (plain_stmt x) held)
+
+    splits : visits_in s (plain_block (drop i xs)) held ≡ here ++ after
+    splits = ap (λ b. visits_in s b held) block_from
 
     -- where the statement has no fault
     pub found_later : (next : List Pair) → first_fault (visits_of s (plain_stmt x) held) ≡ None → next ≡ held_after (plain_stmt x) held → first_fault (visits_in s (plain_block (drop (i + 1) xs)) next) ≡ first_fault (visits_in s (plain_block (drop i xs)) held)
-    found_later next none goes =
-        ap (λ h. first_fault (visits_in s (plain_block (drop (i + 1) xs)) h)) goes
-        ∙ sym (found_from ∙ ap (λ o. or_later o (first_fault (visits_in s (plain_block (drop (i + 1) xs)) (held_after (plain_stmt x) held)))) none)
+    found_later next none goes = ap (λ h. first_fault (visits_in s (plain_block (drop (i + 1) xs)) h)) goes ∙ found_after (visits_in s (plain_block (drop i xs)) held) here after splits none
 
     -- where it has one
     pub told_here : (fault : CheckFault) (all : Option (CheckKind × ℕ)) → first_fault (visits_in s (plain_block (drop i xs)) held) ≡ all → Told fault (first_fault (visits_of s (plain_stmt x) held)) → Told fault all
-    told_here fault all is_all told = subst (Told fault) (sym found_from ∙ is_all) (told_first fault (first_fault (visits_of s (plain_stmt x) held)) _ told)
+    told_here fault all is_all told = told_before fault (visits_in s (plain_block (drop i xs)) held) here after all splits is_all told

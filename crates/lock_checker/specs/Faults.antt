@@ -30,3 +30,8 @@ Checks (Err fault) visits after = Told fault (first_fault visits)
 -- the visits of a statement after its first
 abbrev pub later_visits : Scope → Stmt → List plain.Pair → List Visit
 later_visits s (At line w) held = visits_inside s w held ++ visit line (fails_after s w held) ∷ []
+
+-- an answer to these visits without pairs
+abbrev pub Passes : {T : Type 0} → Result T CheckFault → List Visit → Type 0
+Passes (Ok value) visits = first_fault visits ≡ None
+Passes (Err fault) visits = Told fault (first_fault visits)

@@ -1,5 +1,5 @@
 // What a program declares, by name.
-ghost use Rattle.std.specs.Prelude.{◌≡◌, IfOk, is_some, option_map, ◌||◌};
+ghost use Rattle.std.specs.Prelude.{◌≡◌, ◌<◌, ◌^◌, IfOk, is_some, option_map, ◌||◌};
 ghost use Rattle.task_ast.specs.Tree as plain;
 ghost use Rattle.task_ast.specs.Names.{is_among, natural, named, locks_of, arrays_over, barriers_of, feeds_of, task_named};
 ghost use Rattle.task_ast.specs.View.{plain_task, plain_program};
@@ -24,7 +24,8 @@ pub struct Index<'a> {
 
 /// A size as a number; a negative one counts as 0.
 pub fn natural(size: i64) -> u64
-    ensures { result ≡ natural size }
+    ensures value { result ≡ natural size }
+    ensures small { result < 2 ^ 63 }
 {
     if size < 0 { 0 } else { size as u64 }
 }

@@ -3,11 +3,13 @@
 
 mod expressions;
 mod fault;
+mod heads;
 mod held;
 mod index;
 mod rules;
 mod scope;
 mod table;
+mod tasks;
 mod variables;
 mod walk;
 
