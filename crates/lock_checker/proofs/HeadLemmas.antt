@@ -1,10 +1,17 @@
 -- Heads one after the other.
-use Rattle.std.proofs.Common.{◌≡◌, ℕ, ◌+◌, List, [], ◌∷◌, ◌++◌, ap, ◌∙◌, sym, map, add_assoc, zero-add}
-use Rattle.std.proofs.lemmas.List.{map-append}
+use Rattle.std.proofs.Common.{◌≡◌, ℕ, ◌+◌, ◌<◌, ◌≤◌, List, [], ◌∷◌, ◌++◌, Bool, true, false, Some, None, refl, ap, ◌∙◌, sym, subst, map, length, get_or, take, drop, add_assoc, zero-add, arith}
+use Rattle.std.proofs.lemmas.Bool.{ltb-false}
+use Rattle.std.proofs.lemmas.List.{map-append, at_drop_more, take_more}
+use Rattle.task_ast.specs.declared.check_kind.CheckKind.{CheckKind}
+use Rattle.task_ast.specs.declared.check_kind.CheckKind.TheVariants.{TooMany}
+use Rattle.task_ast.specs.Declarations.{line_of, passes_limit, head_visit, head_visits}
+use Rattle.task_ast.specs.Visit.{fails_if, first_fault}
+use Rattle.lock_checker.specs.Faults.{lowest}
+use Rattle.lock_checker.proofs.VisitLemmas.{or_later, on_line, fault_at-lowest}
 use Rattle.std.proofs.lemmas.List.Folds.{list_any-append}
 use Rattle.task_ast.specs.declared.tree.Head.{Head}
 use Rattle.task_ast.specs.declared.tree.Head.TheVariants.{LockHead, BarrierHead, RecHead, FeedHead}
-use Rattle.task_ast.specs.Tree.{Name}
+use Rattle.task_ast.specs.Tree.{Name, Program}
 use Rattle.task_ast.specs.Names.{is_name, is_among, natural, head_name, locks_of, records_of, cells_in}
 use Rattle.lock_checker.specs.declared.heads.Heads.{Heads}
 use Rattle.lock_checker.specs.declared.table.Table.{Table}
@@ -36,3 +43,49 @@ heads_with old names before head name locks records were put is_name is_locks is
   lock_cells = ap (λ n. n + locks) were.lock_cells ∙ ap (λ n. cells_in (locks_of before) + n) is_locks ∙ sym (lock_cells-append before (head ∷ []));
   record_cells = ap (λ n. n + records) were.record_cells ∙ ap (λ n. cells_in (records_of before) + n) is_records ∙ sym (record_cells-append before (head ∷ []));
 }
+
+-- where no rule fails the last test is false
+none_last : (kinds : List CheckKind) (b : Bool) (kind : CheckKind) → lowest (kinds ++ fails_if b kind) ≡ None → b ≡ false
+none_last [] true kind none = cc
+none_last [] false kind none = refl
+none_last (k ∷ kinds) b kind none = cc
+
+locks_small : (before : List Head) (h : Head) → cells_in (locks_of before) ≤ 65536 → passes_limit before h ≡ false → cells_in (locks_of before) + cells_in (locks_of (h ∷ [])) ≤ 65536
+locks_small before (LockHead name size line) small fits = let most : cells_in (locks_of before) + natural size ≤ 65536 = ltb-false 65536 (cells_in (locks_of before) + natural size) fits in omega arith
+locks_small before (BarrierHead name number line) small fits = omega arith
+locks_small before (RecHead name size by from line) small fits = omega arith
+locks_small before (FeedHead name fields from line) small fits = omega arith
+
+records_small : (before : List Head) (h : Head) → cells_in (records_of before) ≤ 65536 → passes_limit before h ≡ false → cells_in (records_of before) + cells_in (records_of (h ∷ [])) ≤ 65536
+records_small before (LockHead name size line) small fits = omega arith
+records_small before (BarrierHead name number line) small fits = omega arith
+records_small before (RecHead name size by from line) small fits = let most : cells_in (records_of before) + natural size ≤ 65536 = ltb-false 65536 (cells_in (records_of before) + natural size) fits in omega arith
+records_small before (FeedHead name fields from line) small fits = omega arith
+
+module _ (program : Program) (before : List Head) (h : Head) (none : lowest (head_visit program before h).fails ≡ None) where
+  fits : passes_limit before h ≡ false
+  fits = none_last _ (passes_limit before h) TooMany none
+
+  -- a head at which no rule fails keeps the limits
+  pub locks_kept : (heads : Heads) → AreHeads heads (before ++ h ∷ []) → cells_in (locks_of before) ≤ 65536 → heads.lock_cells ≤ 65536
+  locks_kept heads are small = subst (λ n. n ≤ 65536) (sym (are.lock_cells ∙ lock_cells-append before (h ∷ []))) (locks_small before h small fits)
+
+  pub records_kept : (heads : Heads) → AreHeads heads (before ++ h ∷ []) → cells_in (records_of before) ≤ 65536 → heads.record_cells ≤ 65536
+  records_kept heads are small = subst (λ n. n ≤ 65536) (sym (are.record_cells ∙ record_cells-append before (h ∷ []))) (records_small before h small fits)
+
+module _ (program : Program) (heads : List Head) (i : ℕ) (h : Head) (within : i < length heads) (is : h ≡ get_or heads i h) where
+  pub heads_more : take (i + 1) heads ≡ take i heads ++ h ∷ []
+  heads_more = take_more heads i h within ∙ ap (λ (y : Head). take i heads ++ y ∷ []) (sym is)
+
+  found_from : (before : List Head) → first_fault (head_visits program before (drop i heads)) ≡ or_later (on_line (line_of h) (lowest (head_visit program before h).fails)) (first_fault (head_visits program (before ++ h ∷ []) (drop (i + 1) heads)))
+  found_from before =
+      at_drop_more (λ l. first_fault (head_visits program before l)) heads i h within
+      ∙ ap (λ (y : Head). first_fault (head_visit program before y ∷ head_visits program (before ++ y ∷ []) (drop (i + 1) heads))) (sym is)
+      ∙ fault_at-lowest (line_of h) (head_visit program before h).fails (first_fault (head_visits program (before ++ h ∷ []) (drop (i + 1) heads)))
+
+  -- where no rule fails at the head, the later ones tell the rest
+  pub heads_later : (before : List Head) → lowest (head_visit program before h).fails ≡ None → first_fault (head_visits program (before ++ h ∷ []) (drop (i + 1) heads)) ≡ first_fault (head_visits program before (drop i heads))
+  heads_later before none = sym (found_from before ∙ ap (λ o. or_later (on_line (line_of h) o) (first_fault (head_visits program (before ++ h ∷ []) (drop (i + 1) heads)))) none)
+
+  pub head_told : (before : List Head) (kind : CheckKind) → lowest (head_visit program before h).fails ≡ Some kind → first_fault (head_visits program before (drop i heads)) ≡ Some (kind, line_of h)
+  head_told before kind some = found_from before ∙ ap (λ o. or_later (on_line (line_of h) o) (first_fault (head_visits program (before ++ h ∷ []) (drop (i + 1) heads)))) some

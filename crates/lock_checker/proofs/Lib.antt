@@ -1,3 +1,4 @@
+pub mod BodyLemmas
 pub mod HeadLemmas
 pub mod NameLemmas
 pub mod TableLemmas

@@ -29,7 +29,7 @@ fn head_name(head: &Head) -> &Name
     }
 }
 
-fn line_of(head: &Head) -> u32
+pub fn line_of(head: &Head) -> u32
     ensures { result ≡ line_of head.now }
 {
     match head {

@@ -6,6 +6,7 @@ mod fault;
 mod heads;
 mod held;
 mod index;
+mod program;
 mod rules;
 mod scope;
 mod table;

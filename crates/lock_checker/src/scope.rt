@@ -14,11 +14,11 @@ use task_ast::{Atom, Program, TaskText};
 
 /// A program with its index, and the task whose statements are visited with its variables.
 #[derive(Clone, Copy)]
-pub struct Scope<'a> {
+pub struct Scope<'s, 'a> {
     pub program: &'a Program,
     pub task: &'a TaskText,
-    pub index: &'a Index<'a>,
-    pub variables: &'a Variables<'a>,
+    pub index: &'s Index<'a>,
+    pub variables: &'s Variables<'a>,
 }
 
 pub fn same_name(x: &Name, y: &Name) -> bool
@@ -36,7 +36,7 @@ pub fn is_lock(scope: &Scope, x: &Name) -> bool
 }
 
 /// The lock array that the record of this name stands under.
-pub fn array_over<'a>(scope: &Scope<'a>, r: &Name) -> Option<&'a Name>
+pub fn array_over<'a>(scope: &Scope<'_, 'a>, r: &Name) -> Option<&'a Name>
     requires { IsScope scope.now }
     ensures { option_copied result ≡ array_over (scope_of scope.now) r.now }
 {
@@ -60,7 +60,7 @@ pub fn is_feed(scope: &Scope, x: &Name) -> bool
 }
 
 /// The task of this name.
-pub fn task_named<'a>(scope: &Scope<'a>, x: &Name) -> Option<&'a TaskText>
+pub fn task_named<'a>(scope: &Scope<'_, 'a>, x: &Name) -> Option<&'a TaskText>
     requires { IsScope scope.now }
     ensures { option_map plain_task (option_copied result) ≡ task_named (plain_program scope.now.program.now) x.now }
 {

@@ -20,7 +20,7 @@ use task_ast::{CheckKind, Stmt, What};
 #[cycle(walk)]
 pub fn check_block<'a>(
     alloc: Global,
-    scope: &Scope<'a>,
+    scope: &Scope<'_, 'a>,
     block: &'a [Stmt],
     before: &[Pair<'a>],
 ) -> Result<Vec<Pair<'a>>, CheckFault>
@@ -42,7 +42,7 @@ pub fn check_block<'a>(
 #[tactic(auto, using(task_ast::proofs::Views::view, crate::proofs::VisitLemmas::first_told))]
 fn check_statement<'a>(
     alloc: Global,
-    scope: &Scope<'a>,
+    scope: &Scope<'_, 'a>,
     s: &'a Stmt,
     held: Vec<Pair<'a>>,
 ) -> Result<Vec<Pair<'a>>, CheckFault>
@@ -60,7 +60,7 @@ fn check_statement<'a>(
 #[tactic(auto, using(task_ast::proofs::Views::view, crate::proofs::VisitLemmas::inside_told))]
 fn check_inside<'a>(
     alloc: Global,
-    scope: &Scope<'a>,
+    scope: &Scope<'_, 'a>,
     s: &'a Stmt,
     held: Vec<Pair<'a>>,
 ) -> Result<Vec<Pair<'a>>, CheckFault>

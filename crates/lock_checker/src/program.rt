@@ -1,0 +1,134 @@
+// The walk over a whole program.
+ghost use Rattle.std.specs.Prelude.{◌≡◌, [], ◌∷◌, map, IfOk};
+ghost use Rattle.task_ast.specs.Names.{head_name};
+ghost use Rattle.task_ast.specs.Declarations.{head_visits};
+ghost use Rattle.task_ast.specs.Check.{held_fails, body_visits, bodies_visits, program_visits};
+ghost use Rattle.task_ast.specs.View.{plain_task, plain_program};
+ghost use Rattle.lock_checker.specs.Heads.{HasNames};
+ghost use Rattle.lock_checker.specs.Indexes.{IsIndexOf};
+ghost use Rattle.task_ast.specs.Visit.{visit};
+ghost use Rattle.lock_checker.specs.Pairs.{pairs_of};
+ghost use Rattle.lock_checker.specs.Faults.{Passes};
+
+use crate::fault::CheckFault;
+use crate::heads::{Heads, line_of};
+use crate::held::Pair;
+use crate::index::{Index, index_of};
+use crate::scope::Scope;
+use crate::table::Table;
+use crate::tasks::{check_main, check_tasks};
+use crate::variables::variables_of;
+use crate::walk::check_block;
+use std::alloc::Global;
+use task_ast::{CheckKind, Program, TaskText};
+
+/// Checks the heads, and gives their names.
+fn check_heads<'a>(
+    alloc: Global,
+    index: &Index<'a>,
+    program: &'a Program,
+) -> Result<Table<'a, ()>, CheckFault>
+    requires { IsIndexOf index.now program.now }
+    ensures visits { Passes result (head_visits (plain_program program.now) [] program.now.heads) }
+    ensures names { IfOk result (λ names. HasNames names (map head_name program.now.heads)) }
+{
+    let mut heads = Heads::new(alloc);
+    for head in program.heads.as_slice() {
+        if let Some(kind) = heads.rule_at(index, head) {
+            return Err(CheckFault::Bad {
+                kind,
+                line: line_of(head),
+            });
+        }
+        heads.add(head)?;
+    }
+    Ok(heads.names)
+}
+
+/// Checks that nothing is held at the end of the task of this line.
+fn check_end(line: u32, held: &[Pair]) -> Result<(), CheckFault>
+    ensures { Passes result (visit line (held_fails (pairs_of held.now)) ∷ []) }
+{
+    match held {
+        [] => Ok(()),
+        [_, ..] => Err(CheckFault::Bad {
+            kind: CheckKind::HeldAtEnd,
+            line,
+        }),
+    }
+}
+
+/// Checks the body of a task.
+#[tactic(auto, using(crate::proofs::VisitLemmas::inside_told))]
+fn check_body<'a>(
+    alloc: Global,
+    index: &Index<'a>,
+    program: &'a Program,
+    task: &'a TaskText,
+) -> Result<(), CheckFault>
+    requires { IsIndexOf index.now program.now }
+    ensures { Passes result (body_visits (plain_program program.now) (plain_task task.now)) }
+{
+    let variables = variables_of(alloc, task)?;
+    let scope = Scope {
+        program,
+        task,
+        index,
+        variables: &variables,
+    };
+    match check_block(alloc, &scope, task.body.as_slice(), &[]) {
+        Ok(held) => check_end(task.line, &held),
+        Err(fault) => Err(fault),
+    }
+}
+
+/// Checks the bodies of the tasks.
+fn check_bodies<'a>(
+    alloc: Global,
+    index: &Index<'a>,
+    program: &'a Program,
+) -> Result<(), CheckFault>
+    requires { IsIndexOf index.now program.now }
+    ensures { Passes result (bodies_visits (plain_program program.now) (map plain_task program.now.tasks)) }
+{
+    for task in program.tasks.as_slice() {
+        match check_body(alloc, index, program, task) {
+            Ok(()) => {}
+            Err(fault) => return Err(fault),
+        }
+    }
+    Ok(())
+}
+
+/// Checks a program under its index: its heads, the heads of its tasks, that there is a task `main`, and the bodies.
+#[tactic(auto, using(crate::proofs::VisitLemmas::inside_told))]
+fn check_indexed<'a>(
+    alloc: Global,
+    index: &Index<'a>,
+    program: &'a Program,
+) -> Result<(), CheckFault>
+    requires { IsIndexOf index.now program.now }
+    ensures { Passes result (program_visits (plain_program program.now)) }
+{
+    let names = match check_heads(alloc, index, program) {
+        Ok(names) => names,
+        Err(fault) => return Err(fault),
+    };
+    match check_tasks(alloc, names, program.tasks.as_slice()) {
+        Ok(()) => {}
+        Err(fault) => return Err(fault),
+    }
+    match check_main(program) {
+        Ok(()) => {}
+        Err(fault) => return Err(fault),
+    }
+    check_bodies(alloc, index, program)
+}
+
+/// Checks a program.
+pub fn check_program(alloc: Global, program: &Program) -> Result<(), CheckFault>
+    ensures { Passes result (program_visits (plain_program program.now)) }
+{
+    let index = index_of(alloc, program)?;
+    check_indexed(alloc, &index, program)
+}
