@@ -22,3 +22,4 @@ pub mod LexLongest
 pub mod LexSplits
 pub mod LexUnique
 pub mod LexPlaces
+pub mod OneReading

@@ -19,3 +19,4 @@ pub mod StatementReaders
 pub mod Statements
 pub mod TokenTable
 pub mod Words
+pub mod OneReading

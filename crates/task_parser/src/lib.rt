@@ -9,6 +9,8 @@ mod halt;
 mod lex_laws;
 mod lexer;
 mod programs;
+mod halt;
+mod parse_laws;
 mod statements;
 mod token;
 
@@ -16,4 +18,5 @@ pub use fault::{LexFault, ParseFault};
 pub use lex_laws::{faults_stop, lexings_split, splittings_are_lexed, tokens_are_placed};
 pub use lexer::lex;
 pub use programs::parse;
+pub use parse_laws::one_reading;
 pub use token::{Kind, Token};

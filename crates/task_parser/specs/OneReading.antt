@@ -1,0 +1,23 @@
+-- The laws of what tokens stand for: one program, or else one first fault.
+use Rattle.std.specs.Prelude.{◌≡◌, ◌⊎◌, List}
+use Rattle.task_ast.specs.Tree.{Program}
+use Rattle.task_parser.specs.declared.token.Token.{Token}
+use Rattle.task_parser.specs.Expressions.{Text}
+use Rattle.task_parser.specs.Reading.{Stop}
+use Rattle.task_parser.specs.Promise.{StandFor, StopFirst}
+
+-- tokens stand for a program, or have a first fault
+abbrev pub ProgramOrFault : Type 0
+ProgramOrFault = (text : Text) (tokens : List Token) → ((p : Program) × StandFor text tokens p) ⊎ ((stop : Stop) × StopFirst text tokens stop)
+
+-- they stand for at most one program
+abbrev pub OneProgram : Type 0
+OneProgram = (text : Text) (tokens : List Token) (a b : Program) → StandFor text tokens a → StandFor text tokens b → a ≡ b
+
+-- what stands for a program has no fault
+abbrev pub NoFault : Type 0
+NoFault = (text : Text) (tokens : List Token) (p : Program) (stop : Stop) → StandFor text tokens p → StopFirst text tokens stop → ⊥
+
+-- there is at most one first fault
+abbrev pub OneFault : Type 0
+OneFault = (text : Text) (tokens : List Token) (a b : Stop) → StopFirst text tokens a → StopFirst text tokens b → a ≡ b
