@@ -23,3 +23,4 @@ pub mod LexSplits
 pub mod LexUnique
 pub mod LexPlaces
 pub mod OneReading
+pub mod OneSpelling

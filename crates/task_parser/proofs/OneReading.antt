@@ -41,7 +41,7 @@ front_answer text p front more within h =
     ∙ verdict-append deepest front more [] (Ok p)
     ∙ verdict_within deepest front (tokens_of more ++ []) (verdict deepest more [] (Ok p)) within
 
-program_answer : (text : Text) (tokens : List Token) (p : Program) → StandFor text tokens p → read_all text tokens ≡ Ok p
+pub program_answer : (text : Text) (tokens : List Token) (p : Program) → StandFor text tokens p → read_all text tokens ≡ Ok p
 program_answer text tokens p h = ap (read_all text) (h.same ∙ sym (append-nil (tokens_of h.placed))) ∙ spelled_answer text p h.placed h.spelled ∙ verdict_within deepest h.placed [] (Ok p) h.within
 
 tokens_length : (placed : List Placed) → length (tokens_of placed) ≡ length placed
@@ -187,7 +187,7 @@ module _ (text : Text) (tokens rest : List Token) (h : StopFirst text tokens (re
       go (Ok p) e = absurd (no_program_there p (exactly_at text tokens (Ok p) e))
       go (Err s) e = ap Err (same_stop s.deep s.rest e (exactly_at text tokens (Err s) e))
 
-first_fault_answer : (text : Text) (tokens : List Token) (stop : Stop) → StopFirst text tokens stop → read_all text tokens ≡ Err stop
+pub first_fault_answer : (text : Text) (tokens : List Token) (stop : Stop) → StopFirst text tokens stop → read_all text tokens ≡ Err stop
 first_fault_answer text tokens stop h = go stop.deep stop.rest h
   where
     go : (deep : Bool) (rest : List Token) → StopFirst text tokens (record { deep = deep; rest = rest }) → read_all text tokens ≡ Err (record { deep = deep; rest = rest })

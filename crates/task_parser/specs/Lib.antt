@@ -20,3 +20,4 @@ pub mod Statements
 pub mod TokenTable
 pub mod Words
 pub mod OneReading
+pub mod Spelling

@@ -19,4 +19,5 @@ pub use lex_laws::{faults_stop, lexings_split, splittings_are_lexed, tokens_are_
 pub use lexer::lex;
 pub use programs::parse;
 pub use parse_laws::one_reading;
+pub use parse_laws::{one_meaning, one_reading};
 pub use token::{Kind, Token};

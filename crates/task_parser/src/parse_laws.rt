@@ -1,10 +1,19 @@
-// The laws of what tokens stand for, each a clause of a function that does nothing.
-ghost use Rattle.task_parser.specs.OneReading.{ProgramOrFault, OneProgram, NoFault, OneFault};
+// The laws of what tokens and texts stand for, each a clause of a function that does nothing.
+ghost use Rattle.task_parser.specs.OneReading.{ProgramOrFault, OneProgram, NoFault, OneFault, OnePlace, SomeMeaning, OneMeaning, OneSpelling};
 
-/// Tokens stand for one program, or have one first fault, and never both.
+/// Tokens stand for one program, or have one first fault at one place, and never both.
 pub fn one_reading()
     ensures either { ProgramOrFault }
-    ensures one_program { OneProgram }
+    ensures program { OneProgram }
     ensures no_fault { NoFault }
-    ensures one_fault { OneFault }
+    ensures fault { OneFault }
+    ensures place { OnePlace }
+{}
+
+/// A text stands for one program, or has one first fault of lexing, or is tokens that have one first fault, and never
+/// two of these.
+pub fn one_meaning()
+    ensures some { SomeMeaning }
+    ensures one { OneMeaning }
+    ensures program { OneSpelling }
 {}
