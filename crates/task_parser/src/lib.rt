@@ -8,16 +8,14 @@ mod fault;
 mod halt;
 mod lex_laws;
 mod lexer;
-mod programs;
-mod halt;
 mod parse_laws;
+mod programs;
 mod statements;
 mod token;
 
 pub use fault::{LexFault, ParseFault};
 pub use lex_laws::{faults_stop, lexings_split, splittings_are_lexed, tokens_are_placed};
 pub use lexer::lex;
-pub use programs::parse;
-pub use parse_laws::one_reading;
 pub use parse_laws::{one_meaning, one_reading};
+pub use programs::parse;
 pub use token::{Kind, Token};
