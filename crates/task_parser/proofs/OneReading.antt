@@ -1,5 +1,5 @@
 -- Tokens stand for one program, or have one first fault: each is what reading answers.
-use Rattle.std.proofs.Common.{◌≡◌, ℕ, suc, ◌+◌, ◌≤◌, ◌<◌, ◌⊎◌, inl, inr, Bool, true, false, cond, leb, List, [], ◌∷◌, ◌++◌, length, Result, Ok, Err, refl, sym, ap, subst, ◌∙◌, append_assoc, length-append, zero-add, arith}
+use Rattle.std.proofs.Common.{◌≡◌, ℕ, suc, ◌+◌, ◌≤◌, ◌⊎◌, inl, inr, Bool, true, false, cond, leb, List, [], ◌∷◌, ◌++◌, length, Result, Ok, Err, refl, sym, ap, subst, ◌∙◌, append_assoc, length-append, zero-add, arith}
 use Rattle.std.proofs.lemmas.List.{append-nil, append_cancel_right}
 use Rattle.std.proofs.lemmas.Bool.{le-leb}
 use Rattle.task_ast.specs.Tree.{Program}
@@ -11,11 +11,11 @@ use Rattle.task_parser.specs.Expressions.{Text}
 use Rattle.task_parser.specs.Programs.{program}
 use Rattle.task_parser.specs.ProgramReaders.{read_program}
 use Rattle.task_parser.specs.Promise.{deepest, Spelled, StandFor, Begins, CannotGoOn, NestsBeyond, FaultThere, StopFirst}
-use Rattle.task_parser.specs.Answer.{to_end, read_all, Exactly}
-use Rattle.task_parser.specs.OneReading.{ProgramOrFault, OneProgram, NoFault, OneFault}
+use Rattle.task_parser.specs.Answer.{to_end, read_all}
+use Rattle.task_parser.specs.OneReading.{ProgramOrFault, NoFault, OneFault}
 use Rattle.task_parser.proofs.Basics.{tokens-append, tokens_parts, verdict-bind, verdict-append}
 use Rattle.task_parser.proofs.ReadPrograms.{sound_program, complete_program}
-use Rattle.task_parser.proofs.Whole.{one_program, same_program, exactly_at}
+use Rattle.task_parser.proofs.Whole.{exactly_at}
 
 -- ---- what reading answers on tokens of the grammar
 

@@ -10,7 +10,7 @@ use Rattle.task_parser.specs.Reading.{Stop}
 use Rattle.task_parser.specs.Expressions.{Text}
 use Rattle.task_parser.specs.Promise.{StandFor, StopFirst}
 use Rattle.task_parser.specs.Answer.{place, IsFirstFault, read_all}
-use Rattle.task_parser.specs.Spelling.{Spells, HasFault, Misspells, Meaning, Stands, LexFails, ParseFails, Means}
+use Rattle.task_parser.specs.Spelling.{HasFault, Meaning, Stands, LexFails, ParseFails, Means}
 use Rattle.task_parser.specs.OneReading.{OnePlace, SomeMeaning, OneMeaning, OneSpelling}
 use Rattle.task_parser.proofs.OneReading.{program_answer, first_fault_answer, program_or_fault, one_fault}
 
@@ -76,6 +76,7 @@ some_meaning text = go (lexed text) refl
     parsed : (tokens : List Token) → lexed text ≡ Ok tokens → ((p : Program) × StandFor text tokens p) ⊎ ((stop : Stop) × StopFirst text tokens stop) → (m : Meaning) × Means text m
     parsed tokens e (inl (p, h)) = (Stands p, record { tokens = tokens; lexes = e; stands = h })
     parsed tokens e (inr (stop, h)) = (ParseFails (fault_of text stop.deep stop.rest), record { tokens = tokens; lexes = e; fails = has_fault text tokens stop.deep stop.rest h })
+
     go : (r : Result (List Token) LexFault) → lexed text ≡ r → (m : Meaning) × Means text m
     go (Ok tokens) e = parsed tokens e (program_or_fault text tokens)
     go (Err fault) e = (LexFails fault, e)
