@@ -1,5 +1,5 @@
 -- Tokens stand for one program, or have one first fault: each is what reading answers.
-use Rattle.std.proofs.Common.{◌≡◌, ℕ, suc, ◌+◌, ◌≤◌, ◌⊎◌, inl, inr, Bool, true, false, cond, leb, List, [], ◌∷◌, ◌++◌, length, Result, Ok, Err, refl, sym, ap, subst, ◌∙◌, append_assoc, length-append, zero-add, arith}
+use Rattle.std.proofs.Common.{◌≡◌, ℕ, suc, ◌+◌, ◌≤◌, ◌⊎◌, inl, inr, Bool, true, false, cond, leb, List, [], ◌∷◌, ◌++◌, length, Result, Ok, Err, refl, sym, ap, subst, ◌∙◌, append_assoc, length-append, arith}
 use Rattle.std.proofs.lemmas.List.{append-nil, append_cancel_right}
 use Rattle.std.proofs.lemmas.Bool.{le-leb}
 use Rattle.task_ast.specs.Tree.{Program}
@@ -13,21 +13,11 @@ use Rattle.task_parser.specs.ProgramReaders.{read_program}
 use Rattle.task_parser.specs.Promise.{deepest, Spelled, StandFor, Begins, CannotGoOn, NestsBeyond, FaultThere, StopFirst}
 use Rattle.task_parser.specs.Answer.{to_end, read_all}
 use Rattle.task_parser.specs.OneReading.{ProgramOrFault, NoFault, OneFault}
-use Rattle.task_parser.proofs.Basics.{tokens-append, tokens_parts, verdict-bind, verdict-append}
-use Rattle.task_parser.proofs.ReadPrograms.{sound_program, complete_program}
-use Rattle.task_parser.proofs.Whole.{exactly_at}
+use Rattle.task_parser.proofs.Basics.{tokens-append, tokens_parts, verdict-append}
+use Rattle.task_parser.proofs.ReadPrograms.{sound_program}
+use Rattle.task_parser.proofs.Whole.{read_spelled, spelled_read, exactly_at}
 
 -- ---- what reading answers on tokens of the grammar
-
-abbrev at_end : Program × List Token → Result Program Stop
-at_end x = to_end x.0 x.1
-
-spelled_answer : (text : Text) (p : Program) (placed : List Placed) → Spelled text p placed → read_all text (tokens_of placed ++ []) ≡ verdict deepest placed [] (Ok p)
-unfolding read_all
-spelled_answer text p placed h =
-    ap (λ (r : Result (Program × List Token) Stop). r >>= at_end) (complete_program text deepest h.height 0 placed p [] h.stands refl)
-    ∙ verdict-bind {A = Program × List Token} {B = Program} (0 + deepest) placed [] (Ok (p, [])) at_end
-    ∙ ap (λ (limit : ℕ). verdict limit placed [] (Ok p)) (zero-add deepest)
 
 -- tokens within the limit are read, and the answer is that of the tokens behind them
 verdict_within : {A : Type 0} (limit : ℕ) (placed : List Placed) (rest : List Token) (answer : Result A Stop) → Within limit placed → verdict limit placed rest answer ≡ answer
@@ -36,13 +26,10 @@ verdict_within limit (p ∷ placed) rest answer h = rw (le-leb p.nesting limit h
 
 front_answer : (text : Text) (p : Program) (front more : List Placed) → Within deepest front → Spelled text p (front ++ more) → read_all text (tokens_of front ++ (tokens_of more ++ [])) ≡ verdict deepest more [] (Ok p)
 front_answer text p front more within h =
-    ap (read_all text) (sym (tokens_parts front more []))
-    ∙ spelled_answer text p (front ++ more) h
+    ap (read_all text) (sym (tokens_parts front more []) ∙ append-nil (tokens_of (front ++ more)))
+    ∙ read_spelled text p (front ++ more) h
     ∙ verdict-append deepest front more [] (Ok p)
     ∙ verdict_within deepest front (tokens_of more ++ []) (verdict deepest more [] (Ok p)) within
-
-pub program_answer : (text : Text) (tokens : List Token) (p : Program) → StandFor text tokens p → read_all text tokens ≡ Ok p
-program_answer text tokens p h = ap (read_all text) (h.same ∙ sym (append-nil (tokens_of h.placed))) ∙ spelled_answer text p h.placed h.spelled ∙ verdict_within deepest h.placed [] (Ok p) h.within
 
 tokens_length : (placed : List Placed) → length (tokens_of placed) ≡ length placed
 tokens_length [] = refl
@@ -67,6 +54,9 @@ Again text tokens stop = (front : List Token) × (tokens ≡ front ++ stop.rest)
 unexpected_next : (p : Program) (next : Token) (rest other : List Token) → Same (next ∷ rest) other → to_end p other ≡ unexpected other
 unexpected_next p next rest [] same = absurd same
 unexpected_next p next rest (y ∷ ys) same = refl
+
+abbrev at_end : Program × List Token → Result Program Stop
+at_end x = to_end x.0 x.1
 
 again : (text : Text) (tokens : List Token) (stop : Stop) (r : Result (Program × List Token) Stop) → Outcome (0 + deepest) 0 (program text (suc (suc deepest))) (read_program text deepest) tokens r → (r >>= at_end) ≡ Err stop → Again text tokens stop
 unfolding Again read_all
@@ -204,7 +194,7 @@ program_or_fault text tokens = go (read_all text tokens) refl
     go (Err stop) e = inr (stop, exactly_at text tokens (Err stop) e)
 
 pub no_fault : NoFault
-no_fault text tokens p stop h k = cc (program_answer text tokens p h, first_fault_answer text tokens stop k)
+no_fault text tokens p stop h k = cc (spelled_read text tokens p h, first_fault_answer text tokens stop k)
 
 pub one_fault : OneFault
 one_fault text tokens a b h k = cc (first_fault_answer text tokens a h, first_fault_answer text tokens b k)

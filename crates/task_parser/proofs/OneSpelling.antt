@@ -12,7 +12,8 @@ use Rattle.task_parser.specs.Promise.{StandFor, StopFirst}
 use Rattle.task_parser.specs.Answer.{place, IsFirstFault, read_all}
 use Rattle.task_parser.specs.Spelling.{HasFault, Meaning, Stands, LexFails, ParseFails, Means}
 use Rattle.task_parser.specs.OneReading.{OnePlace, SomeMeaning, OneMeaning, OneSpelling}
-use Rattle.task_parser.proofs.OneReading.{program_answer, first_fault_answer, program_or_fault, one_fault}
+use Rattle.task_parser.proofs.Whole.{spelled_read}
+use Rattle.task_parser.proofs.OneReading.{first_fault_answer, program_or_fault, one_fault}
 
 -- ---- a first fault by its place
 
@@ -58,7 +59,7 @@ meaning text (Err fault) = LexFails fault
 
 is_meaning : (text : Text) (m : Meaning) → Means text m → m ≡ meaning text (lexed text)
 unfolding meaning read_meaning
-is_meaning text (Stands p) h = sym (ap (meaning text) h.lexes ∙ ap (read_meaning text) (program_answer text h.tokens p h.stands))
+is_meaning text (Stands p) h = sym (ap (meaning text) h.lexes ∙ ap (read_meaning text) (spelled_read text h.tokens p h.stands))
 is_meaning text (LexFails fault) h = sym (ap (meaning text) h)
 is_meaning text (ParseFails fault) h =
     let x = stops text h.tokens fault h.fails in

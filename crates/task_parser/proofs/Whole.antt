@@ -23,7 +23,7 @@ finish : Program × List Token → Result Program Stop
 finish x = to_end x.0 x.1
 
 -- what reading gives on tokens of the grammar
-read_spelled : (text : Text) (p : Program) (placed : List Placed) → Spelled text p placed → read_all text (tokens_of placed) ≡ verdict deepest placed [] (Ok p)
+pub read_spelled : (text : Text) (p : Program) (placed : List Placed) → Spelled text p placed → read_all text (tokens_of placed) ≡ verdict deepest placed [] (Ok p)
 unfolding read_all finish
 read_spelled text p placed h =
     ap (λ (l : List Token). read_program text deepest l >>= finish) (sym (append-nil (tokens_of placed)))
@@ -127,7 +127,7 @@ read_exactly text tokens = go (read_program text deepest tokens) (sound_program 
     go (Err stop) h = halted text (suc (suc deepest)) tokens stop.deep stop.rest h
 
 -- What stands for a program is read.
-spelled_read : (text : Text) (tokens : List Token) (p : Program) → StandFor text tokens p → read_all text tokens ≡ Ok p
+pub spelled_read : (text : Text) (tokens : List Token) (p : Program) → StandFor text tokens p → read_all text tokens ≡ Ok p
 spelled_read text tokens p h = ap (read_all text) h.same ∙ read_spelled text p h.placed h.spelled ∙ fits h.placed h.within
   where
     ok : Result Program Stop
