@@ -42,7 +42,7 @@ verdict-bind limit [] rest r f = refl
 verdict-bind {A = A} {B = B} limit (p ∷ ps) rest r f = elim (leb p.nesting limit) as (λ b. (cond b (verdict limit ps rest r) (Err (record { deep = true; rest = p.token ∷ (tokens_of ps ++ rest) })) >>= f) ≡ cond b (verdict limit ps rest (r >>= f)) (Err (record { deep = true; rest = p.token ∷ (tokens_of ps ++ rest) }))) [
   | true ↦ verdict-bind limit ps rest r f
   | false ↦ refl
-  ]
+]
 
 pub verdict-append : {A : Type 0} (limit : ℕ) (a b : List Placed) (rest : List Token) (r : Result A Stop) → verdict limit (a ++ b) rest r ≡ verdict limit a (tokens_of b ++ rest) (verdict limit b rest r)
 verdict-append limit [] b rest r = refl

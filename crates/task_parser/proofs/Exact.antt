@@ -16,7 +16,7 @@ both_second limit depth P Q p q ts x rest h (Ok (y, end)) k = record {
   within = Within-append limit h.used k.used h.within k.within;
   stands = record { front = h.used; back = k.used; parts = refl; first = h.stands; second = k.stands };
   again = λ other same.
-    rw (tokens_parts h.used k.used other, h.again (tokens_of k.used ++ other) (subst (λ (t : List Token). Same t (tokens_of k.used ++ other)) (sym k.parts) (same_behind (tokens_of k.used) end other same)), k.again other same) refl;
+      rw (tokens_parts h.used k.used other, h.again (tokens_of k.used ++ other) (subst (λ (t : List Token). Same t (tokens_of k.used ++ other)) (sym k.parts) (same_behind (tokens_of k.used) end other same)), k.again other same) refl;
 }
 both_second limit depth P Q p q ts x rest h (Err stop) k = record {
   used = h.used ++ k.used;
@@ -27,7 +27,7 @@ both_second limit depth P Q p q ts x rest h (Err stop) k = record {
   stands = record { front = h.used; back = k.used ++ k.more; parts = append_assoc h.used k.used k.more; first = h.stands; second = k.stands };
   beyond = k.beyond;
   again = λ other same.
-    rw (tokens_parts h.used k.used other, h.again (tokens_of k.used ++ other) (subst (λ (t : List Token). Same t (tokens_of k.used ++ other)) (sym k.parts) (same_behind (tokens_of k.used) stop.rest other same)), k.again other same) refl;
+      rw (tokens_parts h.used k.used other, h.again (tokens_of k.used ++ other) (subst (λ (t : List Token). Same t (tokens_of k.used ++ other)) (sym k.parts) (same_behind (tokens_of k.used) stop.rest other same)), k.again other same) refl;
 }
 
 pub both_first : {A B : Type 0} (limit depth : ℕ) (P : Form A) (Q : Form B) (p : Reader A) (q : Reader B) (ts : List Token) → ((x : A) (rest : List Token) → Took limit depth P p ts x rest → Outcome limit depth Q q rest (q rest)) → Inhabited Q → (r : Result (A × List Token) Stop) → Outcome limit depth P p ts r → Outcome limit depth (Both P Q) (read_both p q) ts (r >>= λ x. q x.1 >>= λ y. Ok ((x.0, y.0), y.1))
@@ -48,12 +48,15 @@ sound_both room P Q p q sp sq full depth ts = both_first (depth + room) depth P 
 
 pub complete_both : {A B : Type 0} (room : ℕ) (P : Form A) (Q : Form B) (goes after : Token → Bool) (p : Reader A) (q : Reader B) → Complete room P goes p → Complete room Q after q → Parted goes Q after → Complete room (Both P Q) after (read_both p q)
 complete_both {A = A} {B = B} room P Q goes after p q cp cq parted depth used value rest h end =
-    rw (h.parts, tokens_parts h.front h.back rest,
+    rw (
+      h.parts,
+      tokens_parts h.front h.back rest,
       cp depth h.front value.0 (tokens_of h.back ++ rest) h.first (parted depth h.back value.1 rest h.second end),
       verdict-bind {A = A × List Token} {B = (A × B) × List Token} (depth + room) h.front (tokens_of h.back ++ rest) (Ok (value.0, tokens_of h.back ++ rest)) (λ x. q x.1 >>= λ y. Ok ((x.0, y.0), y.1)),
       cq depth h.back value.1 rest h.second end,
-      verdict-bind {A = B × List Token} {B = (A × B) × List Token} (depth + room) h.back rest (Ok (value.1, rest)) (λ y. Ok ((value.0, y.0), y.1)))
-      (sym (verdict-append (depth + room) h.front h.back rest (Ok (value, rest))))
+      verdict-bind {A = B × List Token} {B = (A × B) × List Token} (depth + room) h.back rest (Ok (value.1, rest)) (λ y. Ok ((value.0, y.0), y.1)),
+    )
+    (sym (verdict-append (depth + room) h.front h.back rest (Ok (value, rest))))
 
 pub starts_both : {A B : Type 0} (first : Token → Bool) (P : Form A) (Q : Form B) → Starts first P → Starts first (Both P Q)
 starts_both first P Q sp depth used value h = rw (h.parts, tokens-append h.front h.back) (begins_longer first (tokens_of h.front) (tokens_of h.back) (sp depth h.front value.0 h.first))
@@ -222,6 +225,7 @@ sound_opened {A = A} room test P p x fits full sp depth (t ∷ ts) = go (test t)
   where
     inside : Outcome (depth + suc room) (suc depth) P p ts (p ts)
     inside = subst (λ (limit : ℕ). Outcome limit (suc depth) P p ts (p ts)) (omega arith) (sp (suc depth) ts)
+
     go : (b : Bool) → test t ≡ b → Outcome (depth + suc room) depth (Opened test P) (read_opened test (Some p)) (t ∷ ts) (opening (Some p) t ts b)
     go true e = opened_in (depth + suc room) depth test P p t ts (omega arith) e (p ts) inside
     go false e = opened_not (depth + suc room) depth test P (Some p) x fits full (t ∷ ts) e
@@ -233,6 +237,7 @@ sound_opened_none {A = A} test P x fits full depth ts = subst (λ (limit : ℕ).
     here : (t : Token) (ts : List Token) (b : Bool) → test t ≡ b → Outcome depth depth (Opened test P) (read_opened test None) (t ∷ ts) (opening None t ts b)
     here t ts true e = opened_deep depth test P t ts e full
     here t ts false e = opened_not depth depth test P None x fits full (t ∷ ts) e
+
     at : (ts : List Token) → Outcome depth depth (Opened test P) (read_opened test None) ts (read_opened test None ts)
     at [] = opened_not depth depth test P None x fits full [] refl
     at (t ∷ ts) = here t ts (test t) refl
@@ -243,6 +248,7 @@ complete_opened {A = A} room test P goes p cp depth used value rest h end =
   where
     fits : leb (suc depth) (depth + suc room) ≡ true
     fits = le-leb (suc depth) (depth + suc room) (omega arith)
+
     ok : Result (A × List Token) Stop
     ok = Ok (value, rest)
 

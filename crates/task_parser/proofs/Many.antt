@@ -60,11 +60,13 @@ many_sound {A = A} limit depth first P p starts short sound n ts h = go n ts h (
   where
     none : (ts : List Token) → begins first ts ≡ false → Outcome limit depth (many P) (repeat first p) ts (Ok ([], ts))
     none ts e = record { used = []; parts = refl; within = tt; stands = refl; again = λ other same. repeat_none first p other (begins_same first ts other same ∙ e) }
+
     more : (ts : List Token) → begins first ts ≡ true → ((rest : List Token) → length rest < length ts → Outcome limit depth (many P) (repeat first p) rest (repeat first p rest)) → Outcome limit depth (many P) (repeat first p) ts (one_more first p ts)
     more ts e next =
-      outcome_as limit depth (Made put_first (Both P (many P))) (many P) (one_more first p) (repeat first p) ts (λ placed value h. many_put P depth placed value h) (λ other same. repeat_more first p short other (begins_same first ts other same ∙ e)) (one_more first p ts)
+        outcome_as limit depth (Made put_first (Both P (many P))) (many P) (one_more first p) (repeat first p) ts (λ placed value h. many_put P depth placed value h) (λ other same. repeat_more first p short other (begins_same first ts other same ∙ e)) (one_more first p ts)
         (made_any limit depth put_first (Both P (many P)) (read_both p (repeat first p)) ts (read_both p (repeat first p) ts)
-          (both_first limit depth P (many P) p (repeat first p) ts (λ x rest h. next rest (took_shorter limit depth first P p ts x rest starts h)) (λ d. ([], [], refl)) (p ts) (sound ts)))
+        (both_first limit depth P (many P) p (repeat first p) ts (λ x rest h. next rest (took_shorter limit depth first P p ts x rest starts h)) (λ d. ([], [], refl)) (p ts) (sound ts)))
+
     go : (n : ℕ) (ts : List Token) → length ts ≤ n → (b : Bool) → begins first ts ≡ b → Outcome limit depth (many P) (repeat first p) ts (repeat first p ts)
     go n ts h false e = rw (repeat_none first p ts e) (none ts e)
     go zero [] h true e = absurd cc
@@ -81,14 +83,18 @@ parted_many first goes after P starts apart covers depth used (x ∷ xs) rest h 
 pub complete_many : {A : Type 0} (room : ℕ) (first goes after : Token → Bool) (P : Form A) (p : Reader A) → Starts first P → Shortens p → Complete room P goes p → Apart first goes → Covers goes after → Covers first after → Complete room (many P) after (repeat first p)
 complete_many room first goes after P p starts short cp apart covers stops depth used [] rest h end = rw h (repeat_none first p rest (begins_narrow first after rest stops end))
 complete_many {A = A} room first goes after P p starts short cp apart covers stops depth used (x ∷ xs) rest h end =
-    rw (h.2, tokens_parts h.0 h.1 rest, repeat_more first p short (tokens_of h.0 ++ (tokens_of h.1 ++ rest)) (begins_longer first (tokens_of h.0) (tokens_of h.1 ++ rest) (starts depth h.0 x h.3)),
+    rw (
+      h.2,
+      tokens_parts h.0 h.1 rest,
+      repeat_more first p short (tokens_of h.0 ++ (tokens_of h.1 ++ rest)) (begins_longer first (tokens_of h.0) (tokens_of h.1 ++ rest) (starts depth h.0 x h.3)),
       cp depth h.0 x (tokens_of h.1 ++ rest) h.3 (parted_many first goes after P starts apart covers depth h.1 xs rest h.4 end),
       verdict-bind {A = A × List Token} {B = (A × List A) × List Token} (depth + room) h.0 (tokens_of h.1 ++ rest) (Ok (x, tokens_of h.1 ++ rest)) (λ x. repeat first p x.1 >>= λ y. Ok ((x.0, y.0), y.1)),
       complete_many room first goes after P p starts short cp apart covers stops depth h.1 xs rest h.4 end,
       verdict-bind {A = List A × List Token} {B = (A × List A) × List Token} (depth + room) h.1 rest (Ok (xs, rest)) (λ y. Ok ((x, y.0), y.1)),
       verdict-bind {A = (A × List A) × List Token} {B = List A × List Token} (depth + room) h.0 (tokens_of h.1 ++ rest) (verdict (depth + room) h.1 rest (Ok ((x, xs), rest))) (λ pair. Ok (put_first pair.0, pair.1)),
-      verdict-bind {A = (A × List A) × List Token} {B = List A × List Token} (depth + room) h.1 rest (Ok ((x, xs), rest)) (λ pair. Ok (put_first pair.0, pair.1)))
-      (sym (verdict-append (depth + room) h.0 h.1 rest (Ok (x ∷ xs, rest))))
+      verdict-bind {A = (A × List A) × List Token} {B = List A × List Token} (depth + room) h.1 rest (Ok ((x, xs), rest)) (λ pair. Ok (put_first pair.0, pair.1)),
+    )
+    (sym (verdict-append (depth + room) h.0 h.1 rest (Ok (x ∷ xs, rest))))
 
 pub inhabited_many : {A : Type 0} (P : Form A) → Inhabited (many P)
 inhabited_many P depth = ([], [], refl)

@@ -25,7 +25,7 @@ pub complete_perhaps : {A : Type 0} (room : ℕ) (first goes after : Token → B
 complete_perhaps room first goes after P p starts cp covers stops depth used None rest h end = rw (h, begins_narrow first after rest stops end) refl
 complete_perhaps {A = A} room first goes after P p starts cp covers stops depth used (Some x) rest h end =
     rw (begins_longer first (tokens_of used) rest (starts depth used x h), cp depth used x rest h (begins_narrow goes after rest covers end))
-      (verdict-bind {A = A × List Token} {B = Option A × List Token} (depth + room) used rest (Ok (x, rest)) (λ y. Ok (given y.0, y.1)))
+    (verdict-bind {A = A × List Token} {B = Option A × List Token} (depth + room) used rest (Ok (x, rest)) (λ y. Ok (given y.0, y.1)))
 
 pub inhabited_perhaps : {A : Type 0} (P : Form A) → Inhabited (perhaps P)
 inhabited_perhaps P depth = ([], None, refl)

@@ -67,9 +67,9 @@ inhabited_disjunction T full =
     let S : Form Expr = sum T in
     let C : Form Expr = compared S in
     inhabited_level OR [] (level (AND ∷ []) C) (inhabited_level AND [] C
-      (inhabited_made compared_of (S ▸ perhaps (member comparisons S)) (inhabited_both S (perhaps (member comparisons S))
-        (inhabited_level ADD (SUB ∷ []) (level (MUL ∷ DIV ∷ REM ∷ []) T) (inhabited_level MUL (DIV ∷ REM ∷ []) T full))
-        (inhabited_perhaps (member comparisons S)))))
+    (inhabited_made compared_of (S ▸ perhaps (member comparisons S)) (inhabited_both S (perhaps (member comparisons S))
+    (inhabited_level ADD (SUB ∷ []) (level (MUL ∷ DIV ∷ REM ∷ []) T) (inhabited_level MUL (DIV ∷ REM ∷ []) T full))
+    (inhabited_perhaps (member comparisons S)))))
 
 inhabited_pair : (T : Form Expr) → Inhabited T → Inhabited (T ◂ COMMA ▸ T)
 inhabited_pair T full = inhabited_both (T ◂ COMMA) T (inhabited_made first_of (T ▸ the COMMA) (inhabited_both T (the COMMA) full (inhabited_one (among (COMMA ∷ [])) (token_of COMMA) (token_among COMMA [])))) full
@@ -81,15 +81,15 @@ reads_place : (room : ℕ) (T P : Form Expr) (inner : Option (Reader Expr)) → 
 unfolding read_place
 reads_place room T P inner h =
     reads_mark CLOSE_BRACKET refl (reads_opened room OPEN_BRACKET (option_map (λ p. read_pair (read_disjunction p)) inner)
-      (inside_with room T P (disjunction T ◂ COMMA ▸ disjunction T) (disjunction P ◂ COMMA ▸ disjunction P) (λ p. read_pair (read_disjunction p)) inner going_on
-        (λ full. inhabited_pair (disjunction T) (inhabited_disjunction T full)) (λ r p k. let m = reads_pair (reads_disjunction k) in (m.sound, m.complete)) h))
+    (inside_with room T P (disjunction T ◂ COMMA ▸ disjunction T) (disjunction P ◂ COMMA ▸ disjunction P) (λ p. read_pair (read_disjunction p)) inner going_on
+    (λ full. inhabited_pair (disjunction T) (inhabited_disjunction T full)) (λ r p k. let m = reads_pair (reads_disjunction k) in (m.sound, m.complete)) h))
 
 reads_group : (room : ℕ) (T P : Form Expr) (inner : Option (Reader Expr)) → Lower room T P inner → Reads room (Opened (among (OPEN_PAREN ∷ [])) (disjunction T) ◂ CLOSE_PAREN) (Opened (among (OPEN_PAREN ∷ [])) (disjunction P) ◂ CLOSE_PAREN) (read_group inner) (OPEN_PAREN ∷ []) []
 unfolding read_group
 reads_group room T P inner h =
     reads_mark CLOSE_PAREN refl (reads_opened room OPEN_PAREN (option_map read_disjunction inner)
-      (inside_with room T P (disjunction T) (disjunction P) read_disjunction inner going_on
-        (λ full. inhabited_disjunction T full) (λ r p k. let m = reads_disjunction k in (m.sound, m.complete)) h))
+    (inside_with room T P (disjunction T) (disjunction P) read_disjunction inner going_on
+    (λ full. inhabited_disjunction T full) (λ r p k. let m = reads_disjunction k in (m.sound, m.complete)) h))
 
 -- an operand behind a minus or a `not`
 reads_inner : (n room : ℕ) (T P : Form Expr) (inner : Option (Reader Expr)) → Lower room T P inner → Reads room (Opened (among (n ∷ [])) T) (Opened (among (n ∷ [])) P) (read_opened (among (n ∷ [])) inner) (n ∷ []) going
@@ -113,12 +113,12 @@ reads_operand : (room : ℕ) (T P : Form Expr) (text : Text) (inner : Option (Re
 unfolding read_operand
 reads_operand room T P text inner h =
     reads_either starting (reads_made Neg (reads_inner SUB room T P inner h))
-      (reads_either (NOT ∷ NUM ∷ NAME ∷ REG ∷ SELF ∷ ROWS ∷ OPEN_PAREN ∷ []) (reads_made Not (reads_inner NOT room T P inner h))
-      (reads_either (NUM ∷ NAME ∷ REG ∷ SELF ∷ ROWS ∷ OPEN_PAREN ∷ []) (wide (reads_made num_of (reads_the NUM)))
-      (reads_either (NAME ∷ REG ∷ SELF ∷ ROWS ∷ OPEN_PAREN ∷ []) (reads_named room T P text inner h)
-      (reads_either (REG ∷ SELF ∷ ROWS ∷ OPEN_PAREN ∷ []) (wide (reads_made (reg_of text) (reads_the REG)))
-      (reads_either (SELF ∷ ROWS ∷ OPEN_PAREN ∷ []) (wide (reads_made me_of (reads_the SELF)))
-      (reads_either (ROWS ∷ OPEN_PAREN ∷ []) (wide (reads_rows text)) (wide (reads_group room T P inner h)) refl refl refl) refl refl refl) refl refl refl) refl refl refl) refl refl refl) refl refl refl) refl refl refl
+    (reads_either (NOT ∷ NUM ∷ NAME ∷ REG ∷ SELF ∷ ROWS ∷ OPEN_PAREN ∷ []) (reads_made Not (reads_inner NOT room T P inner h))
+    (reads_either (NUM ∷ NAME ∷ REG ∷ SELF ∷ ROWS ∷ OPEN_PAREN ∷ []) (wide (reads_made num_of (reads_the NUM)))
+    (reads_either (NAME ∷ REG ∷ SELF ∷ ROWS ∷ OPEN_PAREN ∷ []) (reads_named room T P text inner h)
+    (reads_either (REG ∷ SELF ∷ ROWS ∷ OPEN_PAREN ∷ []) (wide (reads_made (reg_of text) (reads_the REG)))
+    (reads_either (SELF ∷ ROWS ∷ OPEN_PAREN ∷ []) (wide (reads_made me_of (reads_the SELF)))
+    (reads_either (ROWS ∷ OPEN_PAREN ∷ []) (wide (reads_rows text)) (wide (reads_group room T P inner h)) refl refl refl) refl refl refl) refl refl refl) refl refl refl) refl refl refl) refl refl refl) refl refl refl
   where
     wide : {room : ℕ} {U Q : Form Expr} {q : Reader Expr} {first : List ℕ} → Reads room U Q q first [] → Reads room U Q q first going
     wide k = reads_wider going refl k

@@ -87,7 +87,7 @@ sound_program text room =
     let t = reads_tasks text room 0 in
     let T : Form (List TaskText) = some (task text (suc (suc room))) in
     sound_made room program_of (Both (many (head text)) T) (read_both (repeat (among head_starts) (read_head text)) (read_some (among (TASK ∷ [])) (read_task text room)))
-      (sound_both room (many (head text)) T (repeat (among head_starts) (read_head text)) (read_some (among (TASK ∷ [])) (read_task text room)) h.sound t.sound t.inhabited)
+    (sound_both room (many (head text)) T (repeat (among head_starts) (read_head text)) (read_some (among (TASK ∷ [])) (read_task text room)) h.sound t.sound t.inhabited)
 
 pub complete_program : (text : Text) (room height : ℕ) → Complete room (program text height) (among (TASK ∷ [])) (read_program text room)
 unfolding read_program
@@ -96,8 +96,8 @@ complete_program text room height =
     let t = reads_tasks text room height in
     let T : Form (List TaskText) = some (task text height) in
     complete_made room program_of (Both (many (head text)) T) (among (TASK ∷ [])) (read_both (repeat (among head_starts) (read_head text)) (read_some (among (TASK ∷ [])) (read_task text room)))
-      (complete_both room (many (head text)) T (among head_starts) (among (TASK ∷ [])) (repeat (among head_starts) (read_head text)) (read_some (among (TASK ∷ [])) (read_task text room)) (h.complete head_starts refl refl) t.complete
-        (parted_starts (among (TASK ∷ [])) (among head_starts) (among (TASK ∷ [])) T t.starts (apart (TASK ∷ []) head_starts refl)))
+    (complete_both room (many (head text)) T (among head_starts) (among (TASK ∷ [])) (repeat (among head_starts) (read_head text)) (read_some (among (TASK ∷ [])) (read_task text room)) (h.complete head_starts refl refl) t.complete
+    (parted_starts (among (TASK ∷ [])) (among head_starts) (among (TASK ∷ [])) T t.starts (apart (TASK ∷ []) head_starts refl)))
 
 -- ---- what is read of a list leaves less
 

@@ -54,8 +54,8 @@ reads_block : (room : ℕ) (T P : Form Stmt) (inner : Option (Reader Stmt)) (sta
 unfolding read_block
 reads_block room T P inner starts k h =
     reads_mark CLOSE_BRACE k.closed (reads_opened room OPEN_BRACE (option_map (read_inner_block starts) inner)
-      (inside_with room T P (Made block (many T)) (Made block (many P)) (read_inner_block starts) inner (ELSE ∷ starts)
-        (λ full. inhabited_made block (many T) (inhabited_many T)) (λ r s reads. let m = may_read_made block (reads_many reads k.apart) in (m.sound, m.complete (ELSE ∷ starts) refl k.covered)) h))
+    (inside_with room T P (Made block (many T)) (Made block (many P)) (read_inner_block starts) inner (ELSE ∷ starts)
+    (λ full. inhabited_made block (many T) (inhabited_many T)) (λ r s reads. let m = may_read_made block (reads_many reads k.apart) in (m.sound, m.complete (ELSE ∷ starts) refl k.covered)) h))
 
 reads_else : (room : ℕ) (T P : Form Stmt) (inner : Option (Reader Stmt)) (starts : List ℕ) → Closes starts → Nested room T P inner starts → MayRead room (else_block T) (else_block P) (read_else starts inner) (ELSE ∷ []) []
 unfolding read_else
@@ -99,9 +99,9 @@ reads_data_form : {T P : Form Expr} {p : Reader Expr} (text : Text) (room : ℕ)
 unfolding read_data_form
 reads_data_form text room U Q inner e h =
     reads_either data_starts (wide (reads_set_reg text e))
-      (reads_either (READ ∷ WRITE ∷ PRINT ∷ WHEN ∷ []) (wide (reads_reading text))
-      (reads_either (WRITE ∷ PRINT ∷ WHEN ∷ []) (wide (reads_writing text e))
-      (reads_either (PRINT ∷ WHEN ∷ []) (wide (reads_printing e)) (reads_choosing room U Q inner e h) refl refl refl) refl refl refl) refl refl refl) refl refl refl
+    (reads_either (READ ∷ WRITE ∷ PRINT ∷ WHEN ∷ []) (wide (reads_reading text))
+    (reads_either (WRITE ∷ PRINT ∷ WHEN ∷ []) (wide (reads_writing text e))
+    (reads_either (PRINT ∷ WHEN ∷ []) (wide (reads_printing e)) (reads_choosing room U Q inner e h) refl refl refl) refl refl refl) refl refl refl) refl refl refl
 
 inhabited_data : (text : Text) (height : ℕ) → Inhabited (data_statement text (suc height))
 inhabited_data text height = λ depth. let r : Plain 0 (reading text) (read_reading text) (READ ∷ []) = reads_reading text in let a = r.inhabited depth in (a.0, a.1, inr (inl a.2))
@@ -166,12 +166,12 @@ reads_control_form : {T P : Form Expr} {p : Reader Expr} (text : Text) (room : �
 unfolding read_control_form
 reads_control_form text room U Q inner e h =
     reads_either control_starts (wide (reads_set_ctl text e))
-      (reads_either (WHILE ∷ IF ∷ LOCK ∷ UNLOCK ∷ FORK ∷ JOIN ∷ BARRIER ∷ []) (wide (reads_looping room U Q inner e h))
-      (reads_either (IF ∷ LOCK ∷ UNLOCK ∷ FORK ∷ JOIN ∷ BARRIER ∷ []) (reads_branching room U Q inner e h)
-      (reads_either (LOCK ∷ UNLOCK ∷ FORK ∷ JOIN ∷ BARRIER ∷ []) (wide (reads_locking text))
-      (reads_either (UNLOCK ∷ FORK ∷ JOIN ∷ BARRIER ∷ []) (wide (reads_unlocking text))
-      (reads_either (FORK ∷ JOIN ∷ BARRIER ∷ []) (wide (reads_forking text e))
-      (reads_either (JOIN ∷ BARRIER ∷ []) (wide (reads_joining text e)) (wide (reads_waiting text)) refl refl refl) refl refl refl) refl refl refl) refl refl refl) refl refl refl) refl refl refl) refl refl refl
+    (reads_either (WHILE ∷ IF ∷ LOCK ∷ UNLOCK ∷ FORK ∷ JOIN ∷ BARRIER ∷ []) (wide (reads_looping room U Q inner e h))
+    (reads_either (IF ∷ LOCK ∷ UNLOCK ∷ FORK ∷ JOIN ∷ BARRIER ∷ []) (reads_branching room U Q inner e h)
+    (reads_either (LOCK ∷ UNLOCK ∷ FORK ∷ JOIN ∷ BARRIER ∷ []) (wide (reads_locking text))
+    (reads_either (UNLOCK ∷ FORK ∷ JOIN ∷ BARRIER ∷ []) (wide (reads_unlocking text))
+    (reads_either (FORK ∷ JOIN ∷ BARRIER ∷ []) (wide (reads_forking text e))
+    (reads_either (JOIN ∷ BARRIER ∷ []) (wide (reads_joining text e)) (wide (reads_waiting text)) refl refl refl) refl refl refl) refl refl refl) refl refl refl) refl refl refl) refl refl refl) refl refl refl
 
 inhabited_statement : (text : Text) (height : ℕ) → Inhabited (statement text (suc height))
 inhabited_statement text height = λ depth. let a = inhabited_data text height depth in (a.0, a.1, inr a.2)

@@ -51,7 +51,7 @@ verdict_expects {A = A} limit (p ∷ placed) rest other v e = go (leb p.nesting 
 halts_there : (text : Text) (front : List Placed) (next : Token) (rest : List Token) → ((other : List Token) → Same (next ∷ rest) other → read_all text (tokens_of front ++ other) ≡ unexpected other) → CannotGoOn text front (next ∷ rest)
 halts_there text front next rest again other same begun =
     verdict_expects deepest (other ++ begun.more) [] (next ∷ tokens_of begun.more) begun.p
-      (sym (read_spelled text begun.p (other ++ begun.more) begun.spelled) ∙ ap (read_all text) line ∙ again (next ∷ tokens_of begun.more) refl)
+    (sym (read_spelled text begun.p (other ++ begun.more) begun.spelled) ∙ ap (read_all text) line ∙ again (next ∷ tokens_of begun.more) refl)
   where
     line : tokens_of (other ++ begun.more) ≡ tokens_of front ++ (next ∷ tokens_of begun.more)
     line = tokens-append other begun.more ∙ ap (λ (l : List Token). l ++ tokens_of begun.more) same ∙ append_assoc (tokens_of front) (next ∷ []) (tokens_of begun.more)
@@ -72,7 +72,7 @@ nests_beyond text height front [] more p h beyond = absurd beyond
 nests_beyond text height front (t ∷ rest) [] p h beyond = absurd beyond
 nests_beyond text height front (t ∷ rest) (next ∷ more) p h beyond =
     subst (λ (q : Placed). Begins text (front ++ q ∷ [])) is
-      (begins_with text height (front ++ next ∷ []) more p (subst (λ (l : List Placed). program text height 0 l p) (sym (append_assoc front (next ∷ []) more)) h))
+    (begins_with text height (front ++ next ∷ []) more p (subst (λ (l : List Placed). program text height 0 l p) (sym (append_assoc front (next ∷ []) more)) h))
   where
     is : next ≡ record { token = t; nesting = suc deepest }
     is = ap (λ (k : Token). record { token = k; nesting = next.nesting }) beyond.0 ∙ ap (λ (n : ℕ). record { token = t; nesting = n }) beyond.1
@@ -132,6 +132,7 @@ spelled_read text tokens p h = ap (read_all text) h.same ∙ read_spelled text p
   where
     ok : Result Program Stop
     ok = Ok p
+
     fits : (placed : List Placed) → Within deepest placed → verdict deepest placed [] ok ≡ ok
     fits [] h = refl
     fits (q ∷ placed) h = rw (le-leb q.nesting deepest h.0) (fits placed h.1)

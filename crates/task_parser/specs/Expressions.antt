@@ -108,13 +108,13 @@ place_in e = Opened (is OPEN_BRACKET) (e ◂ COMMA ▸ e) ◂ CLOSE_BRACKET
 abbrev pub operand : Text → Form Expr → Form Expr
 operand text unary =
     Made Neg (Opened (is SUB) unary)
-  ∣ Made Not (Opened (is NOT) unary)
-  ∣ Made num_of (the NUM)
-  ∣ Made (named_of text) (the NAME ▸ perhaps (place_in (disjunction unary)))
-  ∣ Made (reg_of text) (the REG)
-  ∣ Made me_of (the SELF)
-  ∣ Made (rows_of text) (the ROWS ◂ OPEN_PAREN ▸ the NAME ◂ CLOSE_PAREN)
-  ∣ Opened (is OPEN_PAREN) (disjunction unary) ◂ CLOSE_PAREN
+    ∣ Made Not (Opened (is NOT) unary)
+    ∣ Made num_of (the NUM)
+    ∣ Made (named_of text) (the NAME ▸ perhaps (place_in (disjunction unary)))
+    ∣ Made (reg_of text) (the REG)
+    ∣ Made me_of (the SELF)
+    ∣ Made (rows_of text) (the ROWS ◂ OPEN_PAREN ▸ the NAME ◂ CLOSE_PAREN)
+    ∣ Opened (is OPEN_PAREN) (disjunction unary) ◂ CLOSE_PAREN
 
 -- an operand in which constructs nest less deep than the height
 abbrev pub unary : Text → ℕ → Form Expr

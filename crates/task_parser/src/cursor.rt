@@ -70,21 +70,34 @@ fn bytes_between(text: &[u8], from: usize, to: usize) -> &[u8]
 pub fn name(alloc: Global, text: &[u8], token: Token) -> Result<Name, AllocError>
     ensures { IfOk result (λ n. n ≡ name_of text.now token) }
 {
-    Name::from_slice(alloc, bytes_between(text, token.from as usize, token.to as usize))
+    Name::from_slice(
+        alloc,
+        bytes_between(text, token.from as usize, token.to as usize),
+    )
 }
 
 /// The bytes of a data variable, without its `$`.
 pub fn register(alloc: Global, text: &[u8], token: Token) -> Result<Name, AllocError>
     ensures { IfOk result (λ n. n ≡ reg_name text.now token) }
 {
-    Name::from_slice(alloc, bytes_between(text, token.from as usize + 1, token.to as usize))
+    Name::from_slice(
+        alloc,
+        bytes_between(text, token.from as usize + 1, token.to as usize),
+    )
 }
 
 /// The name of a file, without its quotes.
 pub fn file(alloc: Global, text: &[u8], token: Token) -> Result<Name, AllocError>
     ensures { IfOk result (λ n. n ≡ file_of text.now token) }
 {
-    Name::from_slice(alloc, bytes_between(text, token.from as usize + 1, (token.to as usize).saturating_sub(1)))
+    Name::from_slice(
+        alloc,
+        bytes_between(
+            text,
+            token.from as usize + 1,
+            (token.to as usize).saturating_sub(1),
+        ),
+    )
 }
 
 /// The value of a number.

@@ -103,7 +103,13 @@ fn operator_at(level: Level, tokens: &[Token]) -> Result<(Token, &[Token]), Halt
 
 /// An operand behind an opener of the class.
 #[cycle(descent)]
-fn inner<'a>(alloc: Global, text: &[u8], class: u32, room: u32, tokens: &'a [Token]) -> Result<(Expr, &'a [Token]), Halt<'a>>
+fn inner<'a>(
+    alloc: Global,
+    text: &[u8],
+    class: u32,
+    room: u32,
+    tokens: &'a [Token],
+) -> Result<(Expr, &'a [Token]), Halt<'a>>
     ensures { Gives (λ x. (plain_expr x.0, x.1.now)) result (read_opened (is class) (below text.now room) tokens.now) }
 {
     let (_, rest) = expect(tokens, class)?;
@@ -116,7 +122,12 @@ fn inner<'a>(alloc: Global, text: &[u8], class: u32, room: u32, tokens: &'a [Tok
 /// An expression in parentheses.
 #[tactic(auto, unfolding(crate::specs::ExpressionReaders::read_group))]
 #[cycle(descent)]
-fn group<'a>(alloc: Global, text: &[u8], room: u32, tokens: &'a [Token]) -> Result<(Expr, &'a [Token]), Halt<'a>>
+fn group<'a>(
+    alloc: Global,
+    text: &[u8],
+    room: u32,
+    tokens: &'a [Token],
+) -> Result<(Expr, &'a [Token]), Halt<'a>>
     ensures { Gives (λ x. (plain_expr x.0, x.1.now)) result (read_group (below text.now room) tokens.now) }
 {
     let (_, rest) = expect(tokens, OPEN_PAREN)?;
@@ -131,7 +142,12 @@ fn group<'a>(alloc: Global, text: &[u8], room: u32, tokens: &'a [Token]) -> Resu
 /// A row and a field in brackets.
 #[tactic(auto, unfolding(crate::specs::ExpressionReaders::read_place))]
 #[cycle(descent)]
-fn place<'a>(alloc: Global, text: &[u8], room: u32, tokens: &'a [Token]) -> Result<((Expr, Expr), &'a [Token]), Halt<'a>>
+fn place<'a>(
+    alloc: Global,
+    text: &[u8],
+    room: u32,
+    tokens: &'a [Token],
+) -> Result<((Expr, Expr), &'a [Token]), Halt<'a>>
     ensures { Gives (λ x. ((plain_expr x.0.0, plain_expr x.0.1), x.1.now)) result (read_place (below text.now room) tokens.now) }
 {
     let (_, rest) = expect(tokens, OPEN_BRACKET)?;
@@ -148,7 +164,12 @@ fn place<'a>(alloc: Global, text: &[u8], room: u32, tokens: &'a [Token]) -> Resu
 /// A control variable or a cell of a feed.
 #[tactic(auto, using(task_ast::proofs::Views::view), unfolding(crate::specs::ExpressionReaders::read_named))]
 #[cycle(descent)]
-fn named<'a>(alloc: Global, text: &[u8], room: u32, tokens: &'a [Token]) -> Result<(Expr, &'a [Token]), Halt<'a>>
+fn named<'a>(
+    alloc: Global,
+    text: &[u8],
+    room: u32,
+    tokens: &'a [Token],
+) -> Result<(Expr, &'a [Token]), Halt<'a>>
     ensures { Gives (λ x. (plain_expr x.0, x.1.now)) result (read_named text.now (below text.now room) tokens.now) }
 {
     let (token, rest) = expect(tokens, NAME)?;
@@ -164,7 +185,11 @@ fn named<'a>(alloc: Global, text: &[u8], room: u32, tokens: &'a [Token]) -> Resu
 
 /// The number of rows of a feed.
 #[tactic(auto, using(task_ast::proofs::Views::view), unfolding(crate::specs::ExpressionReaders::read_rows))]
-fn rows<'a>(alloc: Global, text: &[u8], tokens: &'a [Token]) -> Result<(Expr, &'a [Token]), Halt<'a>>
+fn rows<'a>(
+    alloc: Global,
+    text: &[u8],
+    tokens: &'a [Token],
+) -> Result<(Expr, &'a [Token]), Halt<'a>>
     ensures { Gives (λ x. (plain_expr x.0, x.1.now)) result (read_rows text.now tokens.now) }
 {
     let (_, rest) = expect(tokens, ROWS)?;
@@ -177,7 +202,12 @@ fn rows<'a>(alloc: Global, text: &[u8], tokens: &'a [Token]) -> Result<(Expr, &'
 /// An operand.
 #[tactic(auto, using(task_ast::proofs::Views::view), unfolding(crate::specs::ExpressionReaders::read_unary, crate::specs::ExpressionReaders::read_operand))]
 #[cycle(descent)]
-fn operand<'a>(alloc: Global, text: &[u8], room: u32, tokens: &'a [Token]) -> Result<(Expr, &'a [Token]), Halt<'a>>
+fn operand<'a>(
+    alloc: Global,
+    text: &[u8],
+    room: u32,
+    tokens: &'a [Token],
+) -> Result<(Expr, &'a [Token]), Halt<'a>>
     ensures { Gives (λ x. (plain_expr x.0, x.1.now)) result (read_unary text.now room tokens.now) }
 {
     if is_next(tokens, SUB) {
@@ -206,7 +236,13 @@ fn operand<'a>(alloc: Global, text: &[u8], room: u32, tokens: &'a [Token]) -> Re
 
 /// What stands between the operators of a level.
 #[cycle(descent)]
-fn part<'a>(alloc: Global, text: &[u8], level: Level, room: u32, tokens: &'a [Token]) -> Result<(Expr, &'a [Token]), Halt<'a>>
+fn part<'a>(
+    alloc: Global,
+    text: &[u8],
+    level: Level,
+    room: u32,
+    tokens: &'a [Token],
+) -> Result<(Expr, &'a [Token]), Halt<'a>>
     ensures { Gives (λ x. (plain_expr x.0, x.1.now)) result (read_part level text.now room tokens.now) }
 {
     match level {
@@ -220,7 +256,13 @@ fn part<'a>(alloc: Global, text: &[u8], level: Level, room: u32, tokens: &'a [To
 
 /// An operator of the level and what stands right of it.
 #[cycle(descent)]
-fn member<'a>(alloc: Global, text: &[u8], level: Level, room: u32, tokens: &'a [Token]) -> Result<((Op, Expr), &'a [Token]), Halt<'a>>
+fn member<'a>(
+    alloc: Global,
+    text: &[u8],
+    level: Level,
+    room: u32,
+    tokens: &'a [Token],
+) -> Result<((Op, Expr), &'a [Token]), Halt<'a>>
     ensures { Gives (λ x. ((x.0.0, plain_expr x.0.1), x.1.now)) result (read_member (operators level) (read_part level text.now room) tokens.now) }
 {
     let (operator, rest) = operator_at(level, tokens)?;
@@ -230,7 +272,13 @@ fn member<'a>(alloc: Global, text: &[u8], level: Level, room: u32, tokens: &'a [
 
 /// The operators of a level, as many as there are, each with what stands right of it.
 #[cycle(descent)]
-fn members<'a>(alloc: Global, text: &[u8], level: Level, room: u32, tokens: &'a [Token]) -> Result<(Seq<(Op, Expr)>, &'a [Token]), Halt<'a>>
+fn members<'a>(
+    alloc: Global,
+    text: &[u8],
+    level: Level,
+    room: u32,
+    tokens: &'a [Token],
+) -> Result<(Seq<(Op, Expr)>, &'a [Token]), Halt<'a>>
     ensures { Gives (λ x. (plain_members x.0, x.1.now)) result (repeat (among (operators level)) (read_member (operators level) (read_part level text.now room)) tokens.now) }
 {
     let mut members = Seq::new(alloc);
@@ -246,7 +294,13 @@ fn members<'a>(alloc: Global, text: &[u8], level: Level, room: u32, tokens: &'a 
 /// Parts with operators of the level between them; not of comparisons.
 #[tactic(auto, using(task_ast::proofs::Views::view), unfolding(crate::specs::ExpressionReaders::read_level))]
 #[cycle(descent)]
-pub fn chain<'a>(alloc: Global, text: &[u8], level: Level, room: u32, tokens: &'a [Token]) -> Result<(Expr, &'a [Token]), Halt<'a>>
+pub fn chain<'a>(
+    alloc: Global,
+    text: &[u8],
+    level: Level,
+    room: u32,
+    tokens: &'a [Token],
+) -> Result<(Expr, &'a [Token]), Halt<'a>>
     ensures { Gives (λ x. (plain_expr x.0, x.1.now)) result (read_level (operators level) (read_part level text.now room) tokens.now) }
 {
     let (first, rest) = part(alloc, text, level, room, tokens)?;
@@ -260,7 +314,12 @@ pub fn chain<'a>(alloc: Global, text: &[u8], level: Level, room: u32, tokens: &'
 /// Two sums with a comparison between them, or one sum.
 #[tactic(auto, using(task_ast::proofs::Views::view), unfolding(crate::specs::ExpressionReaders::read_compared))]
 #[cycle(descent)]
-fn comparison<'a>(alloc: Global, text: &[u8], room: u32, tokens: &'a [Token]) -> Result<(Expr, &'a [Token]), Halt<'a>>
+fn comparison<'a>(
+    alloc: Global,
+    text: &[u8],
+    room: u32,
+    tokens: &'a [Token],
+) -> Result<(Expr, &'a [Token]), Halt<'a>>
     ensures { Gives (λ x. (plain_expr x.0, x.1.now)) result (read_compared (read_part Level.Comparison text.now room) tokens.now) }
 {
     let (first, rest) = part(alloc, text, Level::Comparison, room, tokens)?;
@@ -274,7 +333,12 @@ fn comparison<'a>(alloc: Global, text: &[u8], room: u32, tokens: &'a [Token]) ->
 }
 
 /// An expression, with room for so many constructs that nest.
-pub fn expression<'a>(alloc: Global, text: &[u8], room: u32, tokens: &'a [Token]) -> Result<(Expr, &'a [Token]), Halt<'a>>
+pub fn expression<'a>(
+    alloc: Global,
+    text: &[u8],
+    room: u32,
+    tokens: &'a [Token],
+) -> Result<(Expr, &'a [Token]), Halt<'a>>
     ensures { Gives (λ x. (plain_expr x.0, x.1.now)) result (read_expression text.now room tokens.now) }
 {
     chain(alloc, text, Level::Or, room, tokens)

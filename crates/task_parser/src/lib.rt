@@ -1,6 +1,7 @@
 //! Reads the text of a batch program to its tree.
 #![tactic(auto)]
 
+mod class_laws;
 mod classes;
 mod cursor;
 mod expressions;
@@ -13,9 +14,13 @@ mod programs;
 mod statements;
 mod token;
 
+pub use class_laws::classes_by_text;
 pub use fault::{LexFault, ParseFault};
 pub use lex_laws::{faults_stop, lexings_split, splittings_are_lexed, tokens_are_placed};
 pub use lexer::lex;
 pub use parse_laws::{one_meaning, one_reading};
 pub use programs::parse;
 pub use token::{Kind, Token};
+
+#[cfg(test)]
+mod tests;

@@ -38,8 +38,13 @@ fn sized(word: u32, tokens: &[Token]) -> Result<(((Token, Token), Token), &[Toke
     Ok((((first, title), size), rest))
 }
 
+/// `lock NAME [ NUM ] ;`
 #[tactic(auto, unfolding(crate::specs::ProgramReaders::read_lock_head))]
-fn lock_head<'a>(alloc: Global, text: &[u8], tokens: &'a [Token]) -> Result<(Head, &'a [Token]), Halt<'a>>
+fn lock_head<'a>(
+    alloc: Global,
+    text: &[u8],
+    tokens: &'a [Token],
+) -> Result<(Head, &'a [Token]), Halt<'a>>
     ensures { Gives (λ x. (x.0, x.1.now)) result (read_lock_head text.now tokens.now) }
 {
     let (((word, title), size), rest) = sized(LOCK, tokens)?;
@@ -50,8 +55,13 @@ fn lock_head<'a>(alloc: Global, text: &[u8], tokens: &'a [Token]) -> Result<(Hea
     Ok((Head::LockHead { name, size, line }, rest))
 }
 
+/// `barrier NAME ( NUM ) ;`
 #[tactic(auto, unfolding(crate::specs::ProgramReaders::read_barrier_head))]
-fn barrier_head<'a>(alloc: Global, text: &[u8], tokens: &'a [Token]) -> Result<(Head, &'a [Token]), Halt<'a>>
+fn barrier_head<'a>(
+    alloc: Global,
+    text: &[u8],
+    tokens: &'a [Token],
+) -> Result<(Head, &'a [Token]), Halt<'a>>
     ensures { Gives (λ x. (x.0, x.1.now)) result (read_barrier_head text.now tokens.now) }
 {
     let (word, rest) = expect(tokens, BARRIER)?;
@@ -68,7 +78,11 @@ fn barrier_head<'a>(alloc: Global, text: &[u8], tokens: &'a [Token]) -> Result<(
 
 /// The name of the file behind a `from`, if there is one.
 #[tactic(auto, unfolding(crate::specs::ProgramReaders::read_from_file))]
-fn from_file<'a>(alloc: Global, text: &[u8], tokens: &'a [Token]) -> Result<(Option<Name>, &'a [Token]), Halt<'a>>
+fn from_file<'a>(
+    alloc: Global,
+    text: &[u8],
+    tokens: &'a [Token],
+) -> Result<(Option<Name>, &'a [Token]), Halt<'a>>
     ensures { Gives (λ x. (x.0, x.1.now)) result (read_from_file text.now tokens.now) }
 {
     if !is_next(tokens, FROM) {
@@ -79,8 +93,13 @@ fn from_file<'a>(alloc: Global, text: &[u8], tokens: &'a [Token]) -> Result<(Opt
     Ok((Some(file(alloc, text, token)?), rest))
 }
 
+/// `record NAME [ NUM ] by NAME from TEXT ;`, where the `from` may be left out
 #[tactic(auto, unfolding(crate::specs::ProgramReaders::read_record_head))]
-fn record_head<'a>(alloc: Global, text: &[u8], tokens: &'a [Token]) -> Result<(Head, &'a [Token]), Halt<'a>>
+fn record_head<'a>(
+    alloc: Global,
+    text: &[u8],
+    tokens: &'a [Token],
+) -> Result<(Head, &'a [Token]), Halt<'a>>
     ensures { Gives (λ x. (x.0, x.1.now)) result (read_record_head text.now tokens.now) }
 {
     let (((word, title), size), rest) = sized(RECORD, tokens)?;
@@ -104,8 +123,13 @@ fn record_head<'a>(alloc: Global, text: &[u8], tokens: &'a [Token]) -> Result<(H
     ))
 }
 
+/// `feed NAME [ NUM ] from TEXT ;`
 #[tactic(auto, unfolding(crate::specs::ProgramReaders::read_feed_head))]
-fn feed_head<'a>(alloc: Global, text: &[u8], tokens: &'a [Token]) -> Result<(Head, &'a [Token]), Halt<'a>>
+fn feed_head<'a>(
+    alloc: Global,
+    text: &[u8],
+    tokens: &'a [Token],
+) -> Result<(Head, &'a [Token]), Halt<'a>>
     ensures { Gives (λ x. (x.0, x.1.now)) result (read_feed_head text.now tokens.now) }
 {
     let (((word, title), count), rest) = sized(FEED, tokens)?;
@@ -129,7 +153,11 @@ fn feed_head<'a>(alloc: Global, text: &[u8], tokens: &'a [Token]) -> Result<(Hea
 
 /// A declaration of a lock array, a barrier, a record or a feed.
 #[tactic(auto, unfolding(crate::specs::ProgramReaders::read_head))]
-fn head<'a>(alloc: Global, text: &[u8], tokens: &'a [Token]) -> Result<(Head, &'a [Token]), Halt<'a>>
+fn head<'a>(
+    alloc: Global,
+    text: &[u8],
+    tokens: &'a [Token],
+) -> Result<(Head, &'a [Token]), Halt<'a>>
     ensures { Gives (λ x. (x.0, x.1.now)) result (read_head text.now tokens.now) }
 {
     if is_next(tokens, LOCK) {
@@ -154,7 +182,11 @@ fn begins_head(tokens: &[Token]) -> bool
 }
 
 /// As many heads as there are.
-fn heads<'a>(alloc: Global, text: &[u8], tokens: &'a [Token]) -> Result<(Seq<Head>, &'a [Token]), Halt<'a>>
+fn heads<'a>(
+    alloc: Global,
+    text: &[u8],
+    tokens: &'a [Token],
+) -> Result<(Seq<Head>, &'a [Token]), Halt<'a>>
     ensures { Gives (λ x. (x.0, x.1.now)) result (repeat (among head_starts) (read_head text.now) tokens.now) }
 {
     let mut heads = Seq::new(alloc);
@@ -171,7 +203,11 @@ fn heads<'a>(alloc: Global, text: &[u8], tokens: &'a [Token]) -> Result<(Seq<Hea
 
 /// A control variable or a data variable.
 #[tactic(auto, unfolding(crate::specs::ProgramReaders::read_param))]
-fn param<'a>(alloc: Global, text: &[u8], tokens: &'a [Token]) -> Result<(Param, &'a [Token]), Halt<'a>>
+fn param<'a>(
+    alloc: Global,
+    text: &[u8],
+    tokens: &'a [Token],
+) -> Result<(Param, &'a [Token]), Halt<'a>>
     ensures { Gives (λ x. (x.0, x.1.now)) result (read_param text.now tokens.now) }
 {
     if is_next(tokens, NAME) {
@@ -183,7 +219,11 @@ fn param<'a>(alloc: Global, text: &[u8], tokens: &'a [Token]) -> Result<(Param, 
 }
 
 /// A comma and a variable.
-fn next_param<'a>(alloc: Global, text: &[u8], tokens: &'a [Token]) -> Result<(Param, &'a [Token]), Halt<'a>>
+fn next_param<'a>(
+    alloc: Global,
+    text: &[u8],
+    tokens: &'a [Token],
+) -> Result<(Param, &'a [Token]), Halt<'a>>
     ensures { Gives (λ x. (x.0, x.1.now)) result (read_after COMMA (read_param text.now) tokens.now) }
 {
     let (_, rest) = expect(tokens, COMMA)?;
@@ -191,7 +231,11 @@ fn next_param<'a>(alloc: Global, text: &[u8], tokens: &'a [Token]) -> Result<(Pa
 }
 
 /// Variables with commas between them.
-fn params<'a>(alloc: Global, text: &[u8], tokens: &'a [Token]) -> Result<(Seq<Param>, &'a [Token]), Halt<'a>>
+fn params<'a>(
+    alloc: Global,
+    text: &[u8],
+    tokens: &'a [Token],
+) -> Result<(Seq<Param>, &'a [Token]), Halt<'a>>
     ensures { Gives (λ x. (x.0, x.1.now)) result (read_separated COMMA (read_param text.now) tokens.now) }
 {
     let (first, behind) = param(alloc, text, tokens)?;
@@ -218,7 +262,11 @@ fn begins_param(tokens: &[Token]) -> bool
 
 /// Variables with commas between them, or none.
 #[tactic(auto, unfolding(crate::specs::StatementReaders::read_list))]
-fn param_list<'a>(alloc: Global, text: &[u8], tokens: &'a [Token]) -> Result<(Seq<Param>, &'a [Token]), Halt<'a>>
+fn param_list<'a>(
+    alloc: Global,
+    text: &[u8],
+    tokens: &'a [Token],
+) -> Result<(Seq<Param>, &'a [Token]), Halt<'a>>
     ensures { Gives (λ x. (x.0, x.1.now)) result (read_list param_starts (read_param text.now) tokens.now) }
 {
     if begins_param(tokens) {
@@ -229,7 +277,11 @@ fn param_list<'a>(alloc: Global, text: &[u8], tokens: &'a [Token]) -> Result<(Se
 
 /// One line of declared variables.
 #[tactic(auto, unfolding(crate::specs::ProgramReaders::read_var_line))]
-fn var_line<'a>(alloc: Global, text: &[u8], tokens: &'a [Token]) -> Result<(VarLine, &'a [Token]), Halt<'a>>
+fn var_line<'a>(
+    alloc: Global,
+    text: &[u8],
+    tokens: &'a [Token],
+) -> Result<(VarLine, &'a [Token]), Halt<'a>>
     ensures { Gives (λ x. (x.0, x.1.now)) result (read_var_line text.now tokens.now) }
 {
     let (word, rest) = expect(tokens, VAR)?;
@@ -240,7 +292,11 @@ fn var_line<'a>(alloc: Global, text: &[u8], tokens: &'a [Token]) -> Result<(VarL
 }
 
 /// As many lines of declared variables as there are.
-fn var_lines<'a>(alloc: Global, text: &[u8], tokens: &'a [Token]) -> Result<(Seq<VarLine>, &'a [Token]), Halt<'a>>
+fn var_lines<'a>(
+    alloc: Global,
+    text: &[u8],
+    tokens: &'a [Token],
+) -> Result<(Seq<VarLine>, &'a [Token]), Halt<'a>>
     ensures { Gives (λ x. (x.0, x.1.now)) result (repeat (among (VAR ∷ [])) (read_var_line text.now) tokens.now) }
 {
     let mut lines = Seq::new(alloc);
@@ -255,7 +311,12 @@ fn var_lines<'a>(alloc: Global, text: &[u8], tokens: &'a [Token]) -> Result<(Seq
 
 /// A task, with room for so many constructs that nest.
 #[tactic(auto, unfolding(crate::specs::ProgramReaders::read_task))]
-fn task<'a>(alloc: Global, text: &[u8], room: u32, tokens: &'a [Token]) -> Result<(TaskText, &'a [Token]), Halt<'a>>
+fn task<'a>(
+    alloc: Global,
+    text: &[u8],
+    room: u32,
+    tokens: &'a [Token],
+) -> Result<(TaskText, &'a [Token]), Halt<'a>>
     ensures { Gives (λ x. (plain_task x.0, x.1.now)) result (read_task text.now room tokens.now) }
 {
     let (word, rest) = expect(tokens, TASK)?;
@@ -282,7 +343,12 @@ fn task<'a>(alloc: Global, text: &[u8], room: u32, tokens: &'a [Token]) -> Resul
 }
 
 /// One task or more.
-fn tasks<'a>(alloc: Global, text: &[u8], room: u32, tokens: &'a [Token]) -> Result<(Seq<TaskText>, &'a [Token]), Halt<'a>>
+fn tasks<'a>(
+    alloc: Global,
+    text: &[u8],
+    room: u32,
+    tokens: &'a [Token],
+) -> Result<(Seq<TaskText>, &'a [Token]), Halt<'a>>
     ensures { Gives (λ x. (map plain_task x.0, x.1.now)) result (read_some (among (TASK ∷ [])) (read_task text.now room) tokens.now) }
 {
     let (first, behind) = task(alloc, text, room, tokens)?;
@@ -301,7 +367,12 @@ fn tasks<'a>(alloc: Global, text: &[u8], room: u32, tokens: &'a [Token]) -> Resu
 
 /// Heads and tasks.
 #[tactic(auto, unfolding(crate::specs::ProgramReaders::read_program))]
-fn program<'a>(alloc: Global, text: &[u8], room: u32, tokens: &'a [Token]) -> Result<(Program, &'a [Token]), Halt<'a>>
+fn program<'a>(
+    alloc: Global,
+    text: &[u8],
+    room: u32,
+    tokens: &'a [Token],
+) -> Result<(Program, &'a [Token]), Halt<'a>>
     ensures { Gives (λ x. (plain_program x.0, x.1.now)) result (read_program text.now room tokens.now) }
 {
     let (heads, rest) = heads(alloc, text, tokens)?;

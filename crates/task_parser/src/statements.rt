@@ -27,7 +27,11 @@ pub enum Allowed {
 
 /// An index: a number or a control variable.
 #[tactic(auto, unfolding(crate::specs::StatementReaders::read_atom))]
-fn atom<'a>(alloc: Global, text: &[u8], tokens: &'a [Token]) -> Result<(Atom, &'a [Token]), Halt<'a>>
+fn atom<'a>(
+    alloc: Global,
+    text: &[u8],
+    tokens: &'a [Token],
+) -> Result<(Atom, &'a [Token]), Halt<'a>>
     ensures { Gives (λ x. (x.0, x.1.now)) result (read_atom text.now tokens.now) }
 {
     if is_next(tokens, NUM) {
@@ -40,7 +44,12 @@ fn atom<'a>(alloc: Global, text: &[u8], tokens: &'a [Token]) -> Result<(Atom, &'
 
 /// The word, a name, and an index in brackets.
 #[tactic(auto, unfolding(crate::specs::StatementReaders::read_indexed))]
-fn indexed<'a>(alloc: Global, text: &[u8], word: u32, tokens: &'a [Token]) -> Result<(((Token, Token), Atom), &'a [Token]), Halt<'a>>
+fn indexed<'a>(
+    alloc: Global,
+    text: &[u8],
+    word: u32,
+    tokens: &'a [Token],
+) -> Result<(((Token, Token), Atom), &'a [Token]), Halt<'a>>
     ensures { Gives (λ x. (x.0, x.1.now)) result (read_indexed text.now word tokens.now) }
 {
     let (first, rest) = expect(tokens, word)?;
@@ -52,7 +61,12 @@ fn indexed<'a>(alloc: Global, text: &[u8], word: u32, tokens: &'a [Token]) -> Re
 }
 
 /// A comma and an expression.
-fn next_expr<'a>(alloc: Global, text: &[u8], room: u32, tokens: &'a [Token]) -> Result<(Expr, &'a [Token]), Halt<'a>>
+fn next_expr<'a>(
+    alloc: Global,
+    text: &[u8],
+    room: u32,
+    tokens: &'a [Token],
+) -> Result<(Expr, &'a [Token]), Halt<'a>>
     ensures { Gives (λ x. (plain_expr x.0, x.1.now)) result (read_after COMMA (read_expression text.now room) tokens.now) }
 {
     let (_, rest) = expect(tokens, COMMA)?;
@@ -60,7 +74,12 @@ fn next_expr<'a>(alloc: Global, text: &[u8], room: u32, tokens: &'a [Token]) -> 
 }
 
 /// Expressions with commas between them.
-fn exprs<'a>(alloc: Global, text: &[u8], room: u32, tokens: &'a [Token]) -> Result<(Seq<Expr>, &'a [Token]), Halt<'a>>
+fn exprs<'a>(
+    alloc: Global,
+    text: &[u8],
+    room: u32,
+    tokens: &'a [Token],
+) -> Result<(Seq<Expr>, &'a [Token]), Halt<'a>>
     ensures { Gives (λ x. (plain_exprs x.0, x.1.now)) result (read_separated COMMA (read_expression text.now room) tokens.now) }
 {
     let (first, behind) = expression(alloc, text, room, tokens)?;
@@ -94,7 +113,12 @@ fn begins_expr(tokens: &[Token]) -> bool
 
 /// Expressions with commas between them, or none.
 #[tactic(auto, unfolding(crate::specs::StatementReaders::read_list))]
-fn arguments<'a>(alloc: Global, text: &[u8], room: u32, tokens: &'a [Token]) -> Result<(Seq<Expr>, &'a [Token]), Halt<'a>>
+fn arguments<'a>(
+    alloc: Global,
+    text: &[u8],
+    room: u32,
+    tokens: &'a [Token],
+) -> Result<(Seq<Expr>, &'a [Token]), Halt<'a>>
     ensures { Gives (λ x. (plain_exprs x.0, x.1.now)) result (read_list starting (read_expression text.now room) tokens.now) }
 {
     if begins_expr(tokens) {
@@ -105,7 +129,11 @@ fn arguments<'a>(alloc: Global, text: &[u8], room: u32, tokens: &'a [Token]) -> 
 
 /// The control variable behind an `into`, if there is one.
 #[tactic(auto, unfolding(crate::specs::StatementReaders::read_into_name))]
-fn into_name<'a>(alloc: Global, text: &[u8], tokens: &'a [Token]) -> Result<(Option<Name>, &'a [Token]), Halt<'a>>
+fn into_name<'a>(
+    alloc: Global,
+    text: &[u8],
+    tokens: &'a [Token],
+) -> Result<(Option<Name>, &'a [Token]), Halt<'a>>
     ensures { Gives (λ x. (x.0, x.1.now)) result (read_into_name text.now tokens.now) }
 {
     if !is_next(tokens, INTO) {
@@ -118,7 +146,11 @@ fn into_name<'a>(alloc: Global, text: &[u8], tokens: &'a [Token]) -> Result<(Opt
 
 /// The data variable behind an `into`, if there is one.
 #[tactic(auto, unfolding(crate::specs::StatementReaders::read_into_reg))]
-fn into_register<'a>(alloc: Global, text: &[u8], tokens: &'a [Token]) -> Result<(Option<Name>, &'a [Token]), Halt<'a>>
+fn into_register<'a>(
+    alloc: Global,
+    text: &[u8],
+    tokens: &'a [Token],
+) -> Result<(Option<Name>, &'a [Token]), Halt<'a>>
     ensures { Gives (λ x. (x.0, x.1.now)) result (read_into_reg text.now tokens.now) }
 {
     if !is_next(tokens, INTO) {
@@ -131,8 +163,14 @@ fn into_register<'a>(alloc: Global, text: &[u8], tokens: &'a [Token]) -> Result<
 
 // ---- statements without blocks
 
+/// `NAME = expr ;`
 #[tactic(auto, using(task_ast::proofs::Views::view), unfolding(crate::specs::StatementReaders::read_set_ctl))]
-fn set_ctl<'a>(alloc: Global, text: &[u8], room: u32, tokens: &'a [Token]) -> Result<(Stmt, &'a [Token]), Halt<'a>>
+fn set_ctl<'a>(
+    alloc: Global,
+    text: &[u8],
+    room: u32,
+    tokens: &'a [Token],
+) -> Result<(Stmt, &'a [Token]), Halt<'a>>
     ensures { Gives (λ x. (plain_stmt x.0, x.1.now)) result (read_set_ctl text.now (read_expression text.now room) tokens.now) }
 {
     let (variable, rest) = expect(tokens, NAME)?;
@@ -140,11 +178,23 @@ fn set_ctl<'a>(alloc: Global, text: &[u8], room: u32, tokens: &'a [Token]) -> Re
     let (value, rest) = expression(alloc, text, room, rest)?;
     let (_, rest) = expect(rest, SEMICOLON)?;
     let what = What::SetCtl(name(alloc, text, variable)?, value);
-    Ok((Stmt { what, line: variable.line }, rest))
+    Ok((
+        Stmt {
+            what,
+            line: variable.line,
+        },
+        rest,
+    ))
 }
 
+/// `DNAME = expr ;`
 #[tactic(auto, using(task_ast::proofs::Views::view), unfolding(crate::specs::StatementReaders::read_set_reg))]
-fn set_register<'a>(alloc: Global, text: &[u8], room: u32, tokens: &'a [Token]) -> Result<(Stmt, &'a [Token]), Halt<'a>>
+fn set_register<'a>(
+    alloc: Global,
+    text: &[u8],
+    room: u32,
+    tokens: &'a [Token],
+) -> Result<(Stmt, &'a [Token]), Halt<'a>>
     ensures { Gives (λ x. (plain_stmt x.0, x.1.now)) result (read_set_reg text.now (read_expression text.now room) tokens.now) }
 {
     let (variable, rest) = expect(tokens, REG)?;
@@ -152,31 +202,65 @@ fn set_register<'a>(alloc: Global, text: &[u8], room: u32, tokens: &'a [Token]) 
     let (value, rest) = expression(alloc, text, room, rest)?;
     let (_, rest) = expect(rest, SEMICOLON)?;
     let what = What::SetReg(register(alloc, text, variable)?, value);
-    Ok((Stmt { what, line: variable.line }, rest))
+    Ok((
+        Stmt {
+            what,
+            line: variable.line,
+        },
+        rest,
+    ))
 }
 
+/// `lock NAME [ atom ] ;`
 #[tactic(auto, using(task_ast::proofs::Views::view), unfolding(crate::specs::StatementReaders::read_locking))]
-fn locking<'a>(alloc: Global, text: &[u8], tokens: &'a [Token]) -> Result<(Stmt, &'a [Token]), Halt<'a>>
+fn locking<'a>(
+    alloc: Global,
+    text: &[u8],
+    tokens: &'a [Token],
+) -> Result<(Stmt, &'a [Token]), Halt<'a>>
     ensures { Gives (λ x. (plain_stmt x.0, x.1.now)) result (read_locking text.now tokens.now) }
 {
     let (((word, array), index), rest) = indexed(alloc, text, LOCK, tokens)?;
     let (_, rest) = expect(rest, SEMICOLON)?;
     let what = What::Lock(name(alloc, text, array)?, index);
-    Ok((Stmt { what, line: word.line }, rest))
+    Ok((
+        Stmt {
+            what,
+            line: word.line,
+        },
+        rest,
+    ))
 }
 
+/// `unlock NAME [ atom ] ;`
 #[tactic(auto, using(task_ast::proofs::Views::view), unfolding(crate::specs::StatementReaders::read_unlocking))]
-fn unlocking<'a>(alloc: Global, text: &[u8], tokens: &'a [Token]) -> Result<(Stmt, &'a [Token]), Halt<'a>>
+fn unlocking<'a>(
+    alloc: Global,
+    text: &[u8],
+    tokens: &'a [Token],
+) -> Result<(Stmt, &'a [Token]), Halt<'a>>
     ensures { Gives (λ x. (plain_stmt x.0, x.1.now)) result (read_unlocking text.now tokens.now) }
 {
     let (((word, array), index), rest) = indexed(alloc, text, UNLOCK, tokens)?;
     let (_, rest) = expect(rest, SEMICOLON)?;
     let what = What::Unlock(name(alloc, text, array)?, index);
-    Ok((Stmt { what, line: word.line }, rest))
+    Ok((
+        Stmt {
+            what,
+            line: word.line,
+        },
+        rest,
+    ))
 }
 
+/// `fork NAME ( exprs ) into NAME ;`, where the expressions and the `into` may be left out
 #[tactic(auto, using(task_ast::proofs::Views::view), unfolding(crate::specs::StatementReaders::read_forking))]
-fn forking<'a>(alloc: Global, text: &[u8], room: u32, tokens: &'a [Token]) -> Result<(Stmt, &'a [Token]), Halt<'a>>
+fn forking<'a>(
+    alloc: Global,
+    text: &[u8],
+    room: u32,
+    tokens: &'a [Token],
+) -> Result<(Stmt, &'a [Token]), Halt<'a>>
     ensures { Gives (λ x. (plain_stmt x.0, x.1.now)) result (read_forking text.now (read_expression text.now room) tokens.now) }
 {
     let (word, rest) = expect(tokens, FORK)?;
@@ -187,11 +271,23 @@ fn forking<'a>(alloc: Global, text: &[u8], room: u32, tokens: &'a [Token]) -> Re
     let (into, rest) = into_name(alloc, text, rest)?;
     let (_, rest) = expect(rest, SEMICOLON)?;
     let what = What::Fork(name(alloc, text, task)?, arguments, into);
-    Ok((Stmt { what, line: word.line }, rest))
+    Ok((
+        Stmt {
+            what,
+            line: word.line,
+        },
+        rest,
+    ))
 }
 
+/// `join expr into DNAME ;`, where the `into` may be left out
 #[tactic(auto, using(task_ast::proofs::Views::view), unfolding(crate::specs::StatementReaders::read_joining))]
-fn joining<'a>(alloc: Global, text: &[u8], room: u32, tokens: &'a [Token]) -> Result<(Stmt, &'a [Token]), Halt<'a>>
+fn joining<'a>(
+    alloc: Global,
+    text: &[u8],
+    room: u32,
+    tokens: &'a [Token],
+) -> Result<(Stmt, &'a [Token]), Halt<'a>>
     ensures { Gives (λ x. (plain_stmt x.0, x.1.now)) result (read_joining text.now (read_expression text.now room) tokens.now) }
 {
     let (word, rest) = expect(tokens, JOIN)?;
@@ -199,34 +295,72 @@ fn joining<'a>(alloc: Global, text: &[u8], room: u32, tokens: &'a [Token]) -> Re
     let (into, rest) = into_register(alloc, text, rest)?;
     let (_, rest) = expect(rest, SEMICOLON)?;
     let what = What::Join(thread, into);
-    Ok((Stmt { what, line: word.line }, rest))
+    Ok((
+        Stmt {
+            what,
+            line: word.line,
+        },
+        rest,
+    ))
 }
 
+/// `barrier NAME ;`
 #[tactic(auto, using(task_ast::proofs::Views::view), unfolding(crate::specs::StatementReaders::read_waiting))]
-fn waiting<'a>(alloc: Global, text: &[u8], tokens: &'a [Token]) -> Result<(Stmt, &'a [Token]), Halt<'a>>
+fn waiting<'a>(
+    alloc: Global,
+    text: &[u8],
+    tokens: &'a [Token],
+) -> Result<(Stmt, &'a [Token]), Halt<'a>>
     ensures { Gives (λ x. (plain_stmt x.0, x.1.now)) result (read_waiting text.now tokens.now) }
 {
     let (word, rest) = expect(tokens, BARRIER)?;
     let (barrier, rest) = expect(rest, NAME)?;
     let (_, rest) = expect(rest, SEMICOLON)?;
     let what = What::Barrier(name(alloc, text, barrier)?);
-    Ok((Stmt { what, line: word.line }, rest))
+    Ok((
+        Stmt {
+            what,
+            line: word.line,
+        },
+        rest,
+    ))
 }
 
+/// `read NAME [ atom ] into DNAME ;`
 #[tactic(auto, using(task_ast::proofs::Views::view), unfolding(crate::specs::StatementReaders::read_reading))]
-fn reading<'a>(alloc: Global, text: &[u8], tokens: &'a [Token]) -> Result<(Stmt, &'a [Token]), Halt<'a>>
+fn reading<'a>(
+    alloc: Global,
+    text: &[u8],
+    tokens: &'a [Token],
+) -> Result<(Stmt, &'a [Token]), Halt<'a>>
     ensures { Gives (λ x. (plain_stmt x.0, x.1.now)) result (read_reading text.now tokens.now) }
 {
     let (((word, from), index), rest) = indexed(alloc, text, READ, tokens)?;
     let (_, rest) = expect(rest, INTO)?;
     let (into, rest) = expect(rest, REG)?;
     let (_, rest) = expect(rest, SEMICOLON)?;
-    let what = What::Read(name(alloc, text, from)?, index, register(alloc, text, into)?);
-    Ok((Stmt { what, line: word.line }, rest))
+    let what = What::Read(
+        name(alloc, text, from)?,
+        index,
+        register(alloc, text, into)?,
+    );
+    Ok((
+        Stmt {
+            what,
+            line: word.line,
+        },
+        rest,
+    ))
 }
 
+/// `write NAME [ atom ] = expr ;`
 #[tactic(auto, using(task_ast::proofs::Views::view), unfolding(crate::specs::StatementReaders::read_writing))]
-fn writing<'a>(alloc: Global, text: &[u8], room: u32, tokens: &'a [Token]) -> Result<(Stmt, &'a [Token]), Halt<'a>>
+fn writing<'a>(
+    alloc: Global,
+    text: &[u8],
+    room: u32,
+    tokens: &'a [Token],
+) -> Result<(Stmt, &'a [Token]), Halt<'a>>
     ensures { Gives (λ x. (plain_stmt x.0, x.1.now)) result (read_writing text.now (read_expression text.now room) tokens.now) }
 {
     let (((word, to), index), rest) = indexed(alloc, text, WRITE, tokens)?;
@@ -234,18 +368,36 @@ fn writing<'a>(alloc: Global, text: &[u8], room: u32, tokens: &'a [Token]) -> Re
     let (value, rest) = expression(alloc, text, room, rest)?;
     let (_, rest) = expect(rest, SEMICOLON)?;
     let what = What::Write(name(alloc, text, to)?, index, value);
-    Ok((Stmt { what, line: word.line }, rest))
+    Ok((
+        Stmt {
+            what,
+            line: word.line,
+        },
+        rest,
+    ))
 }
 
+/// `print exprs ;`
 #[tactic(auto, using(task_ast::proofs::Views::view), unfolding(crate::specs::StatementReaders::read_printing))]
-fn printing<'a>(alloc: Global, text: &[u8], room: u32, tokens: &'a [Token]) -> Result<(Stmt, &'a [Token]), Halt<'a>>
+fn printing<'a>(
+    alloc: Global,
+    text: &[u8],
+    room: u32,
+    tokens: &'a [Token],
+) -> Result<(Stmt, &'a [Token]), Halt<'a>>
     ensures { Gives (λ x. (plain_stmt x.0, x.1.now)) result (read_printing (read_expression text.now room) tokens.now) }
 {
     let (word, rest) = expect(tokens, PRINT)?;
     let (values, rest) = exprs(alloc, text, room, rest)?;
     let (_, rest) = expect(rest, SEMICOLON)?;
     let what = What::Print(values);
-    Ok((Stmt { what, line: word.line }, rest))
+    Ok((
+        Stmt {
+            what,
+            line: word.line,
+        },
+        rest,
+    ))
 }
 
 // ---- blocks, and statements with blocks
@@ -253,7 +405,13 @@ fn printing<'a>(alloc: Global, text: &[u8], room: u32, tokens: &'a [Token]) -> R
 /// Statements in braces.
 #[tactic(auto, unfolding(crate::specs::StatementReaders::read_block))]
 #[cycle(nesting)]
-fn block<'a>(alloc: Global, text: &[u8], allowed: Allowed, room: u32, tokens: &'a [Token]) -> Result<(Seq<Stmt>, &'a [Token]), Halt<'a>>
+fn block<'a>(
+    alloc: Global,
+    text: &[u8],
+    allowed: Allowed,
+    room: u32,
+    tokens: &'a [Token],
+) -> Result<(Seq<Stmt>, &'a [Token]), Halt<'a>>
     ensures { Gives (λ x. (plain_block x.0, x.1.now)) result (read_block_at allowed text.now room tokens.now) }
 {
     let (_, rest) = expect(tokens, OPEN_BRACE)?;
@@ -268,7 +426,13 @@ fn block<'a>(alloc: Global, text: &[u8], allowed: Allowed, room: u32, tokens: &'
 /// The block behind an `else`, which is empty where there is none.
 #[tactic(auto, unfolding(crate::specs::StatementReaders::read_else))]
 #[cycle(nesting)]
-fn else_block<'a>(alloc: Global, text: &[u8], allowed: Allowed, room: u32, tokens: &'a [Token]) -> Result<(Seq<Stmt>, &'a [Token]), Halt<'a>>
+fn else_block<'a>(
+    alloc: Global,
+    text: &[u8],
+    allowed: Allowed,
+    room: u32,
+    tokens: &'a [Token],
+) -> Result<(Seq<Stmt>, &'a [Token]), Halt<'a>>
     ensures { Gives (λ x. (plain_block x.0, x.1.now)) result (read_else_at allowed text.now room tokens.now) }
 {
     if !is_next(tokens, ELSE) {
@@ -278,21 +442,39 @@ fn else_block<'a>(alloc: Global, text: &[u8], allowed: Allowed, room: u32, token
     block(alloc, text, allowed, room, rest)
 }
 
+/// `while expr { .. }`
 #[tactic(auto, using(task_ast::proofs::Views::view), unfolding(crate::specs::StatementReaders::read_looping))]
 #[cycle(nesting)]
-fn looping<'a>(alloc: Global, text: &[u8], room: u32, tokens: &'a [Token]) -> Result<(Stmt, &'a [Token]), Halt<'a>>
+fn looping<'a>(
+    alloc: Global,
+    text: &[u8],
+    room: u32,
+    tokens: &'a [Token],
+) -> Result<(Stmt, &'a [Token]), Halt<'a>>
     ensures { Gives (λ x. (plain_stmt x.0, x.1.now)) result (read_looping (read_expression text.now room) (allowed_below Allowed.All text.now room) tokens.now) }
 {
     let (word, rest) = expect(tokens, WHILE)?;
     let (condition, rest) = expression(alloc, text, room, rest)?;
     let (body, rest) = block(alloc, text, Allowed::All, room, rest)?;
     let what = What::While(condition, body);
-    Ok((Stmt { what, line: word.line }, rest))
+    Ok((
+        Stmt {
+            what,
+            line: word.line,
+        },
+        rest,
+    ))
 }
 
+/// `if expr { .. } else { .. }`, where the `else` may be left out
 #[tactic(auto, using(task_ast::proofs::Views::view), unfolding(crate::specs::StatementReaders::read_branching))]
 #[cycle(nesting)]
-fn branching<'a>(alloc: Global, text: &[u8], room: u32, tokens: &'a [Token]) -> Result<(Stmt, &'a [Token]), Halt<'a>>
+fn branching<'a>(
+    alloc: Global,
+    text: &[u8],
+    room: u32,
+    tokens: &'a [Token],
+) -> Result<(Stmt, &'a [Token]), Halt<'a>>
     ensures { Gives (λ x. (plain_stmt x.0, x.1.now)) result (read_branching (read_expression text.now room) (allowed_below Allowed.All text.now room) tokens.now) }
 {
     let (word, rest) = expect(tokens, IF)?;
@@ -300,12 +482,24 @@ fn branching<'a>(alloc: Global, text: &[u8], room: u32, tokens: &'a [Token]) -> 
     let (first, rest) = block(alloc, text, Allowed::All, room, rest)?;
     let (second, rest) = else_block(alloc, text, Allowed::All, room, rest)?;
     let what = What::If(condition, first, second);
-    Ok((Stmt { what, line: word.line }, rest))
+    Ok((
+        Stmt {
+            what,
+            line: word.line,
+        },
+        rest,
+    ))
 }
 
+/// `when expr { .. } else { .. }` on data statements, where the `else` may be left out
 #[tactic(auto, using(task_ast::proofs::Views::view), unfolding(crate::specs::StatementReaders::read_choosing))]
 #[cycle(nesting)]
-fn choosing<'a>(alloc: Global, text: &[u8], room: u32, tokens: &'a [Token]) -> Result<(Stmt, &'a [Token]), Halt<'a>>
+fn choosing<'a>(
+    alloc: Global,
+    text: &[u8],
+    room: u32,
+    tokens: &'a [Token],
+) -> Result<(Stmt, &'a [Token]), Halt<'a>>
     ensures { Gives (λ x. (plain_stmt x.0, x.1.now)) result (read_choosing (read_expression text.now room) (allowed_below Allowed.Data text.now room) tokens.now) }
 {
     let (word, rest) = expect(tokens, WHEN)?;
@@ -313,13 +507,24 @@ fn choosing<'a>(alloc: Global, text: &[u8], room: u32, tokens: &'a [Token]) -> R
     let (first, rest) = block(alloc, text, Allowed::Data, room, rest)?;
     let (second, rest) = else_block(alloc, text, Allowed::Data, room, rest)?;
     let what = What::When(condition, first, second);
-    Ok((Stmt { what, line: word.line }, rest))
+    Ok((
+        Stmt {
+            what,
+            line: word.line,
+        },
+        rest,
+    ))
 }
 
 /// A data statement.
 #[tactic(auto, unfolding(crate::specs::StatementReaders::read_data_form, crate::specs::StatementReaders::read_data_statement))]
 #[cycle(nesting)]
-fn data_statement<'a>(alloc: Global, text: &[u8], room: u32, tokens: &'a [Token]) -> Result<(Stmt, &'a [Token]), Halt<'a>>
+fn data_statement<'a>(
+    alloc: Global,
+    text: &[u8],
+    room: u32,
+    tokens: &'a [Token],
+) -> Result<(Stmt, &'a [Token]), Halt<'a>>
     ensures { Gives (λ x. (plain_stmt x.0, x.1.now)) result (read_data_statement text.now room tokens.now) }
 {
     if is_next(tokens, REG) {
@@ -338,7 +543,12 @@ fn data_statement<'a>(alloc: Global, text: &[u8], room: u32, tokens: &'a [Token]
 /// A statement that is not a data statement.
 #[tactic(auto, unfolding(crate::specs::StatementReaders::read_control_form))]
 #[cycle(nesting)]
-fn control_statement<'a>(alloc: Global, text: &[u8], room: u32, tokens: &'a [Token]) -> Result<(Stmt, &'a [Token]), Halt<'a>>
+fn control_statement<'a>(
+    alloc: Global,
+    text: &[u8],
+    room: u32,
+    tokens: &'a [Token],
+) -> Result<(Stmt, &'a [Token]), Halt<'a>>
     ensures { Gives (λ x. (plain_stmt x.0, x.1.now)) result (read_control_form text.now (read_expression text.now room) (allowed_below Allowed.All text.now room) tokens.now) }
 {
     if is_next(tokens, NAME) {
@@ -418,7 +628,12 @@ fn begins_control(tokens: &[Token]) -> bool
 /// A statement.
 #[tactic(auto, unfolding(crate::specs::StatementReaders::read_statement))]
 #[cycle(nesting)]
-fn any_statement<'a>(alloc: Global, text: &[u8], room: u32, tokens: &'a [Token]) -> Result<(Stmt, &'a [Token]), Halt<'a>>
+fn any_statement<'a>(
+    alloc: Global,
+    text: &[u8],
+    room: u32,
+    tokens: &'a [Token],
+) -> Result<(Stmt, &'a [Token]), Halt<'a>>
     ensures { Gives (λ x. (plain_stmt x.0, x.1.now)) result (read_statement text.now room tokens.now) }
 {
     if begins_control(tokens) {
@@ -430,7 +645,13 @@ fn any_statement<'a>(alloc: Global, text: &[u8], room: u32, tokens: &'a [Token])
 
 /// A statement that is allowed.
 #[cycle(nesting)]
-fn statement<'a>(alloc: Global, text: &[u8], allowed: Allowed, room: u32, tokens: &'a [Token]) -> Result<(Stmt, &'a [Token]), Halt<'a>>
+fn statement<'a>(
+    alloc: Global,
+    text: &[u8],
+    allowed: Allowed,
+    room: u32,
+    tokens: &'a [Token],
+) -> Result<(Stmt, &'a [Token]), Halt<'a>>
     ensures { Gives (λ x. (plain_stmt x.0, x.1.now)) result (read_allowed allowed text.now room tokens.now) }
 {
     match allowed {
@@ -441,7 +662,13 @@ fn statement<'a>(alloc: Global, text: &[u8], allowed: Allowed, room: u32, tokens
 
 /// As many statements as there are, with room for so many constructs that nest.
 #[cycle(nesting)]
-pub fn statements<'a>(alloc: Global, text: &[u8], allowed: Allowed, room: u32, tokens: &'a [Token]) -> Result<(Seq<Stmt>, &'a [Token]), Halt<'a>>
+pub fn statements<'a>(
+    alloc: Global,
+    text: &[u8],
+    allowed: Allowed,
+    room: u32,
+    tokens: &'a [Token],
+) -> Result<(Seq<Stmt>, &'a [Token]), Halt<'a>>
     ensures { Gives (λ x. (plain_stmts x.0, x.1.now)) result (repeat (among (starts allowed)) (read_allowed allowed text.now room) tokens.now) }
 {
     let mut statements = Seq::new(alloc);

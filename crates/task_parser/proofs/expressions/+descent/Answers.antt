@@ -21,4 +21,4 @@ members-loop-alloc-smaller t c = member_shortens c.args.level c.args.text.now c.
 pub members-loop-alloc-preserved : goal.members-loop-alloc-preserved
 members-loop-alloc-preserved t c =
     rw c.in_ok-push.ensures.ok
-      (pushed (among (operators c.args.level)) (read_member (operators c.args.level) (read_part c.args.level c.args.text.now c.args.room)) (λ (m : Op × Expr). (m.0, plain_expr m.1)) c.loop-alloc.members c.in_ok-next.next c.loop-alloc.rest.now c.in_ok-next.behind.now _ (member_shortens c.args.level c.args.text.now c.args.room) (sym c.goes_on.ensures ∙ c.loop-alloc-test.true) c.in_ok-next.ensures c.loop-alloc.invariant)
+    (pushed (among (operators c.args.level)) (read_member (operators c.args.level) (read_part c.args.level c.args.text.now c.args.room)) (λ (m : Op × Expr). (m.0, plain_expr m.1)) c.loop-alloc.members c.in_ok-next.next c.loop-alloc.rest.now c.in_ok-next.behind.now _ (member_shortens c.args.level c.args.text.now c.args.room) (sym c.goes_on.ensures ∙ c.loop-alloc-test.true) c.in_ok-next.ensures c.loop-alloc.invariant)

@@ -14,4 +14,4 @@ loop-alloc-smaller c = head_shortens c.args.text.now c.loop-alloc.rest.now _ c.i
 pub loop-alloc-preserved : goal.loop-alloc-preserved
 loop-alloc-preserved c =
     rw c.in_ok-push.ensures.ok
-      (pushed_item (among head_starts) (read_head c.args.text.now) c.loop-alloc.heads c.in_ok-next.next c.loop-alloc.rest.now c.in_ok-next.behind.now _ (head_shortens c.args.text.now) (sym c.begins_head.ensures ∙ c.loop-alloc-test.true) c.in_ok-next.ensures c.loop-alloc.invariant)
+    (pushed_item (among head_starts) (read_head c.args.text.now) c.loop-alloc.heads c.in_ok-next.next c.loop-alloc.rest.now c.in_ok-next.behind.now _ (head_shortens c.args.text.now) (sym c.begins_head.ensures ∙ c.loop-alloc-test.true) c.in_ok-next.ensures c.loop-alloc.invariant)

@@ -14,4 +14,4 @@ loop-alloc-smaller c = next_param_shortens c.args.text.now c.loop-alloc.rest.now
 pub loop-alloc-preserved : goal.loop-alloc-preserved
 loop-alloc-preserved c =
     rw c.in_ok-push-2.ensures.ok
-      (pushed_item (among (COMMA ∷ [])) (read_after COMMA (read_param c.args.text.now)) c.loop-alloc.params c.in_ok-next.next c.loop-alloc.rest.now c.in_ok-next.behind.now _ (next_param_shortens c.args.text.now) (sym c.is_next.ensures ∙ c.loop-alloc-test.true) c.in_ok-next.ensures c.loop-alloc.invariant)
+    (pushed_item (among (COMMA ∷ [])) (read_after COMMA (read_param c.args.text.now)) c.loop-alloc.params c.in_ok-next.next c.loop-alloc.rest.now c.in_ok-next.behind.now _ (next_param_shortens c.args.text.now) (sym c.is_next.ensures ∙ c.loop-alloc-test.true) c.in_ok-next.ensures c.loop-alloc.invariant)

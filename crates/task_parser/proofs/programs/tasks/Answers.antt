@@ -14,4 +14,4 @@ loop-alloc-smaller c = task_shortens c.args.text.now c.args.room c.loop-alloc.re
 pub loop-alloc-preserved : goal.loop-alloc-preserved
 loop-alloc-preserved c =
     rw c.in_ok-push-2.ensures.ok
-      (pushed (among (TASK ∷ [])) (read_task c.args.text.now c.args.room) plain_task c.loop-alloc.tasks c.in_ok-next.next c.loop-alloc.rest.now c.in_ok-next.behind.now _ (task_shortens c.args.text.now c.args.room) (sym c.is_next.ensures ∙ c.loop-alloc-test.true) c.in_ok-next.ensures c.loop-alloc.invariant)
+    (pushed (among (TASK ∷ [])) (read_task c.args.text.now c.args.room) plain_task c.loop-alloc.tasks c.in_ok-next.next c.loop-alloc.rest.now c.in_ok-next.behind.now _ (task_shortens c.args.text.now c.args.room) (sym c.is_next.ensures ∙ c.loop-alloc-test.true) c.in_ok-next.ensures c.loop-alloc.invariant)

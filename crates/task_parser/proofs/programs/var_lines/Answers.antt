@@ -14,4 +14,4 @@ loop-alloc-smaller c = var_line_shortens c.args.text.now c.loop-alloc.rest.now _
 pub loop-alloc-preserved : goal.loop-alloc-preserved
 loop-alloc-preserved c =
     rw c.in_ok-push.ensures.ok
-      (pushed_item (among (VAR ∷ [])) (read_var_line c.args.text.now) c.loop-alloc.lines c.in_ok-next.next c.loop-alloc.rest.now c.in_ok-next.behind.now _ (var_line_shortens c.args.text.now) (sym c.is_next.ensures ∙ c.loop-alloc-test.true) c.in_ok-next.ensures c.loop-alloc.invariant)
+    (pushed_item (among (VAR ∷ [])) (read_var_line c.args.text.now) c.loop-alloc.lines c.in_ok-next.next c.loop-alloc.rest.now c.in_ok-next.behind.now _ (var_line_shortens c.args.text.now) (sym c.is_next.ensures ∙ c.loop-alloc-test.true) c.in_ok-next.ensures c.loop-alloc.invariant)

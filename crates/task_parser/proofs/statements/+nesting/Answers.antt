@@ -12,4 +12,4 @@ statements-loop-alloc-smaller t c = statement_shortens c.args.allowed c.args.tex
 pub statements-loop-alloc-preserved : goal.statements-loop-alloc-preserved
 statements-loop-alloc-preserved t c =
     rw c.in_ok-push.ensures.ok
-      (pushed (among (starts c.args.allowed)) (read_allowed c.args.allowed c.args.text.now c.args.room) plain_stmt c.loop-alloc.statements c.in_ok-next.next c.loop-alloc.rest.now c.in_ok-next.behind.now _ (statement_shortens c.args.allowed c.args.text.now c.args.room) (sym c.begins_statement.ensures ∙ c.loop-alloc-test.true) c.in_ok-next.ensures c.loop-alloc.invariant)
+    (pushed (among (starts c.args.allowed)) (read_allowed c.args.allowed c.args.text.now c.args.room) plain_stmt c.loop-alloc.statements c.in_ok-next.next c.loop-alloc.rest.now c.in_ok-next.behind.now _ (statement_shortens c.args.allowed c.args.text.now c.args.room) (sym c.begins_statement.ensures ∙ c.loop-alloc-test.true) c.in_ok-next.ensures c.loop-alloc.invariant)

@@ -14,4 +14,4 @@ loop-alloc-smaller c = next_shortens c.args.text.now c.args.room c.loop-alloc.re
 pub loop-alloc-preserved : goal.loop-alloc-preserved
 loop-alloc-preserved c =
     rw c.in_ok-push-2.ensures.ok
-      (pushed (among (COMMA ∷ [])) (read_after COMMA (read_expression c.args.text.now c.args.room)) plain_expr c.loop-alloc.exprs c.in_ok-next.next c.loop-alloc.rest.now c.in_ok-next.behind.now _ (next_shortens c.args.text.now c.args.room) (sym c.is_next.ensures ∙ c.loop-alloc-test.true) c.in_ok-next.ensures c.loop-alloc.invariant)
+    (pushed (among (COMMA ∷ [])) (read_after COMMA (read_expression c.args.text.now c.args.room)) plain_expr c.loop-alloc.exprs c.in_ok-next.next c.loop-alloc.rest.now c.in_ok-next.behind.now _ (next_shortens c.args.text.now c.args.room) (sym c.is_next.ensures ∙ c.loop-alloc-test.true) c.in_ok-next.ensures c.loop-alloc.invariant)
