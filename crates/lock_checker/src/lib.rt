@@ -1,8 +1,8 @@
 //! Whether a batch program keeps the rules of names, counts and held locks, and the first rule that it breaks.
 #![tactic(auto)]
 
-mod checking;
 mod checked;
+mod checking;
 mod expressions;
 mod fault;
 mod heads;
@@ -16,6 +16,6 @@ mod tasks;
 mod variables;
 mod walk;
 
-pub use checking::check;
 pub use checked::Checked;
+pub use checking::check;
 pub use fault::CheckFault;
