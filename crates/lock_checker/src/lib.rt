@@ -3,6 +3,8 @@
 
 mod checked;
 mod checking;
+mod checking;
+mod checked;
 mod expressions;
 mod fault;
 mod heads;
@@ -18,4 +20,6 @@ mod walk;
 
 pub use checked::Checked;
 pub use checking::check;
+pub use checking::check;
+pub use checked::Checked;
 pub use fault::CheckFault;
