@@ -73,6 +73,13 @@ module _ (program : Program) (before : List Head) (h : Head) (none : lowest (hea
   pub records_kept : (heads : Heads) → AreHeads heads (before ++ h ∷ []) → cells_in (records_of before) ≤ 65536 → heads.record_cells ≤ 65536
   records_kept heads are small = subst (λ n. n ≤ 65536) (sym (are.record_cells ∙ record_cells-append before (h ∷ []))) (records_small before h small fits)
 
+  -- so do the cells of the heads with it
+  pub cells_small : cells_in (locks_of before) ≤ 65536 → cells_in (records_of before) ≤ 65536 → (cells_in (locks_of (before ++ h ∷ [])) ≤ 65536) × (cells_in (records_of (before ++ h ∷ [])) ≤ 65536)
+  cells_small locks records = (
+    subst (λ n. n ≤ 65536) (sym (lock_cells-append before (h ∷ []))) (locks_small before h locks fits),
+    subst (λ n. n ≤ 65536) (sym (record_cells-append before (h ∷ []))) (records_small before h records fits),
+  )
+
 module _ (program : Program) (heads : List Head) (i : ℕ) (h : Head) (within : i < length heads) (is : h ≡ get_or heads i h) where
   pub heads_more : take (i + 1) heads ≡ take i heads ++ h ∷ []
   heads_more = take_more heads i h within ∙ ap (λ (y : Head). take i heads ++ y ∷ []) (sym is)

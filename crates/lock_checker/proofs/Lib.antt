@@ -1,7 +1,11 @@
+pub mod BaseLemmas
 pub mod BodyLemmas
 pub mod HeadLemmas
+pub mod HoldingLemmas
 pub mod NameLemmas
+pub mod SamePairs
 pub mod TableLemmas
 pub mod TaskLemmas
 pub mod VariableLemmas
 pub mod VisitLemmas
+pub mod WalkLemmas

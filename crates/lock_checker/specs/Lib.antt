@@ -7,3 +7,4 @@ pub mod Scopes
 pub mod Tables
 pub mod TaskNames
 pub mod TaskVariables
+pub mod WalkLaw

@@ -27,6 +27,42 @@ impl Checked {
         Checked { program }
     }
 
+    /// The number of the first cell of a lock array among the cells of all lock arrays in declared order, or `None`
+    /// where no lock array has this name. Takes no memory.
+    #[tactic(auto, using(crate::proofs::BaseLemmas::base_steps))]
+    pub fn lock_base(&self, array: &Name) -> Option<u32>
+        ensures { result ≡ base_of (locks_of (program_of self.now).heads) array.now }
+    {
+        let mut base: u64 = 0;
+        for head in self.program.heads.as_slice() {
+            if let Head::LockHead { name, size, .. } = head {
+                if same_name(array, name) {
+                    return Some(base as u32);
+                }
+                base += natural(*size);
+            }
+        }
+        None
+    }
+
+    /// The number of the first cell of a record among the cells of all records in declared order, or `None` where no
+    /// record has this name. Takes no memory.
+    #[tactic(auto, using(crate::proofs::BaseLemmas::base_steps))]
+    pub fn rec_base(&self, r: &Name) -> Option<u32>
+        ensures { result ≡ base_of (records_of (program_of self.now).heads) r.now }
+    {
+        let mut base: u64 = 0;
+        for head in self.program.heads.as_slice() {
+            if let Head::RecHead { name, size, .. } = head {
+                if same_name(r, name) {
+                    return Some(base as u32);
+                }
+                base += natural(*size);
+            }
+        }
+        None
+    }
+
     /// The program.
     pub fn program(&self) -> &Program
         ensures { result.now ≡ program_of self.now }

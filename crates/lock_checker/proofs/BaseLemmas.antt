@@ -1,0 +1,51 @@
+-- The first cells of arrays.
+use Rattle.std.proofs.Common.{◌≡◌, ℕ, ◌+◌, ◌≤◌, List, [], ◌∷◌, ◌++◌, Option, Some, None, refl, ap, ◌∙◌, sym, subst, add_assoc, append_assoc, append-nil, zero-add, map, lit≤}
+use Rattle.std.specs.Prelude.{option_map}
+use Rattle.task_ast.specs.declared.check_kind.CheckKind.{CheckKind}
+use Rattle.task_ast.specs.declared.tree.Head.{Head}
+use Rattle.task_ast.specs.Tree.{Program}
+use Rattle.task_ast.specs.Names.{locks_of, records_of, cells_in, head_name}
+use Rattle.task_ast.specs.Declarations.{head_visit, head_visits, task_visits, main_visit, line_of}
+use Rattle.task_ast.specs.Visit.{first_fault}
+use Rattle.task_ast.specs.Check.{bodies_visits, check_fault}
+use Rattle.lock_checker.specs.Faults.{lowest}
+use Rattle.lock_checker.proofs.VisitLemmas.{or_later, on_line, fault_at-lowest, first_fault-append}
+use Rattle.lock_checker.proofs.HeadLemmas.{cells_small}
+
+pub option_map-add : (b s : ℕ) (o : Option ℕ) → option_map (λ n. b + n) (option_map (λ n. s + n) o) ≡ option_map (λ n. (b + s) + n) o
+option_map-add b s None = refl
+option_map-add b s (Some n) = ap Some (sym (add_assoc b s n))
+
+pub option_map-zero : (o : Option ℕ) → option_map (λ n. 0 + n) o ≡ o
+option_map-zero None = refl
+option_map-zero (Some n) = ap Some (zero-add n)
+
+pub ruleset base_steps = (option_map-add, option_map-zero)
+
+-- the first of two faults is none where both are
+none_of : (a b : Option (CheckKind × ℕ)) → or_later a b ≡ None → (a ≡ None) × (b ≡ None)
+none_of None b none = (refl, none)
+none_of (Some f) b none = cc
+
+no_rule : (line : ℕ) (o : Option CheckKind) → on_line line o ≡ None → o ≡ None
+no_rule line None none = refl
+no_rule line (Some k) none = cc
+
+-- heads without a fault keep the limits
+heads_small : (program : Program) (before heads : List Head) → first_fault (head_visits program before heads) ≡ None → cells_in (locks_of before) ≤ 65536 → cells_in (records_of before) ≤ 65536 → (cells_in (locks_of (before ++ heads)) ≤ 65536) × (cells_in (records_of (before ++ heads)) ≤ 65536)
+heads_small program before [] none locks records = (subst (λ l. cells_in (locks_of l) ≤ 65536) (sym (append-nil before)) locks, subst (λ l. cells_in (records_of l) ≤ 65536) (sym (append-nil before)) records)
+heads_small program before (h ∷ heads) none locks records =
+    let parts = none_of (on_line (line_of h) (lowest (head_visit program before h).fails)) (first_fault (head_visits program (before ++ h ∷ []) heads)) (sym (fault_at-lowest (line_of h) (head_visit program before h).fails (first_fault (head_visits program (before ++ h ∷ []) heads))) ∙ none) in
+    let small = cells_small program before h (no_rule (line_of h) (lowest (head_visit program before h).fails) parts.0) locks records in
+    let rest = heads_small program (before ++ h ∷ []) heads parts.1 small.0 small.1 in
+    (subst (λ l. cells_in (locks_of l) ≤ 65536) (append_assoc before (h ∷ []) heads) rest.0, subst (λ l. cells_in (records_of l) ≤ 65536) (append_assoc before (h ∷ []) heads) rest.1)
+
+-- a program without a fault keeps them
+pub accepted_small : (program : Program) → check_fault program ≡ None → (cells_in (locks_of program.heads) ≤ 65536) × (cells_in (records_of program.heads) ≤ 65536)
+accepted_small program none =
+    let heads = head_visits program [] program.heads in
+    let tasks = task_visits (map head_name program.heads) program.tasks in
+    let bodies = main_visit program ∷ bodies_visits program program.tasks in
+    let early = none_of (first_fault (heads ++ tasks)) (first_fault bodies) (sym (first_fault-append (heads ++ tasks) bodies) ∙ none) in
+    let first = none_of (first_fault heads) (first_fault tasks) (sym (first_fault-append heads tasks) ∙ early.0) in
+    heads_small program [] program.heads first.0 (lit≤ tt) (lit≤ tt)
