@@ -3,9 +3,6 @@
 
 mod checked;
 mod checking;
-mod checking;
-mod checked;
-mod checking;
 mod expressions;
 mod fault;
 mod heads;
@@ -17,12 +14,11 @@ mod rules;
 mod scope;
 mod table;
 mod tasks;
+#[cfg(test)]
+mod tests;
 mod variables;
 mod walk;
 
-pub use checked::Checked;
-pub use checking::check;
-pub use checking::check;
 pub use checked::Checked;
 pub use checking::check;
 pub use fault::CheckFault;

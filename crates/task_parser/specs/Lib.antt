@@ -1,6 +1,6 @@
 pub mod Answer
-pub mod Classes
 pub mod ClassTable
+pub mod Classes
 pub mod ExpressionReaders
 pub mod Expressions
 pub mod Gives
