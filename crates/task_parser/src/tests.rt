@@ -224,35 +224,39 @@ fn worked_rows(rt: HostRuntime) {
     stops(&rt, alloc, b"task main() {", ParseFault::Unexpected(13));
 }
 
-/// The front, as many of the part as fit, and the back, in 1,048,576 bytes, with spaces at the end.
-fn filled(alloc: Global, front: &[u8], part: &[u8], back: &[u8]) -> Result<Vec<u8>, AllocError> {
-    let most: usize = 1_048_576;
-    let mut text = Vec::from_slice(alloc, front)?;
-    while text.len() + part.len() + back.len() <= most {
-        text.extend_from_slice(part)?;
+/// The text, with spaces behind it up to 1,048,576 bytes.
+fn padded(text: Vec<u8>) -> Result<Vec<u8>, AllocError> {
+    let mut padded = text;
+    for _ in padded.len()..1_048_576 {
+        padded.push(b' ')?;
     }
-    text.extend_from_slice(back)?;
-    while text.len() < most {
-        text.push(b' ')?;
-    }
-    Ok(text)
+    Ok(padded)
 }
 
 #[test]
 fn longest_chain(rt: HostRuntime) {
-    let text = filled(rt.alloc(), b"task main(){print 1", b"+1", b";}").expect(&rt, "memory");
-    fits(&rt, rt.alloc(), &text);
+    let text = nested(
+        rt.alloc(),
+        524_277,
+        [b"task main(){print 1", b"+1", b"", b"", b";}"],
+    )
+    .expect(&rt, "memory");
+    fits(&rt, rt.alloc(), &padded(text).expect(&rt, "memory"));
 }
 
 #[test]
 fn longest_list_of_nests(rt: HostRuntime) {
     let nest = nested(rt.alloc(), 64, [b"x=", b"(", b"1", b")", b";"]).expect(&rt, "memory");
-    let text = filled(rt.alloc(), b"task main(){", &nest, b"}").expect(&rt, "memory");
-    fits(&rt, rt.alloc(), &text);
+    let text = nested(rt.alloc(), 7_943, [b"task main(){", &nest, b"", b"", b"}"]).expect(
+        &rt, "memory",
+    );
+    fits(&rt, rt.alloc(), &padded(text).expect(&rt, "memory"));
 }
 
 #[test]
 fn longest_list_of_tasks(rt: HostRuntime) {
-    let text = filled(rt.alloc(), b"", b"task t(){}", b"").expect(&rt, "memory");
-    fits(&rt, rt.alloc(), &text);
+    let text = nested(rt.alloc(), 104_857, [b"", b"task t(){}", b"", b"", b""]).expect(
+        &rt, "memory",
+    );
+    fits(&rt, rt.alloc(), &padded(text).expect(&rt, "memory"));
 }
