@@ -1,5 +1,8 @@
-pub mod OneCase
-pub mod Prints
-pub mod Refused
+pub mod Assigned
+pub mod Declared
+pub mod SmallTasks
 pub mod Tail
+pub mod PlainTexts
+pub mod Refused
+pub mod OneCase
 pub mod TopCall

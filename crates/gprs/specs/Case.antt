@@ -1,16 +1,19 @@
 -- What a call asks for, by its words and the files: the case of a call.
-use Rattle.std.specs.Prelude.{◌≡◌, ℕ, ◌≤◌, ◌<◌, ◌==◌, ◌&&◌, not, Bool, false, ℤ, List, [], ◌∷◌, ◌++◌, length, map, codes, ⊤, if◌then◌else◌, String, string_bytes}
+use Rattle.std.specs.Prelude.{◌≡◌, ℕ, ◌==◌, ◌&&◌, not, Bool, true, false, List, [], ◌∷◌, ◌++◌, map, codes, decimal, ⊤, if◌then◌else◌, String, string_bytes}
 use Rattle.std.specs.declared.option.Option.{Option}
 use Rattle.std.specs.declared.option.Option.TheVariants.{None, Some}
 use Rattle.std.specs.Str.{bytes_eq}
 use Rattle.std.specs.declared.alloc.Global.{Global}
 use Rattle.gp_base.specs.Files.{bytes_of}
-use Rattle.gprs.specs.Language.{PrintsLines}
-use Rattle.gprs.specs.Texts.{run_text, one_subthread}
-
--- no more bytes of a program are read
-abbrev pub program_limit : ℕ
-program_limit = 1048576
+use Rattle.task_ast.specs.Tree.{Program}
+use Rattle.task_ast.specs.Small.{is_small}
+use Rattle.task_parser.specs.declared.fault.LexFault.{LexFault}
+use Rattle.task_parser.specs.declared.fault.LexFault.TheVariants as lex
+use Rattle.task_parser.specs.declared.fault.ParseFault.{ParseFault}
+use Rattle.task_parser.specs.declared.fault.ParseFault.TheVariants as parse
+use Rattle.task_parser.specs.Spelling.{Means, Stands, LexFails, ParseFails}
+use Rattle.gprs.specs.Texts.{run_text}
+use Rattle.gprs.specs.PlainText.{plain_ran}
 
 pub data Case : Type 0 where
   -- the words are not those of a command
@@ -19,8 +22,8 @@ pub data Case : Type 0 where
   Missing : List ℕ → Case
   -- the program is refused with this line
   BadProgram : List ℕ → Case
-  -- the program is run, and prints these lines
-  Go : List (List ℤ) → Case
+  -- the program is run
+  Go : Program → Case
 
 -- not empty, and not an option
 abbrev pub is_file_word : List ℕ → Bool
@@ -40,22 +43,40 @@ pub record HasProgram (words : List (List ℕ)) (files : List (List ℕ × List 
   pub named : program_of words ≡ Some name
   pub found : bytes_of files name ≡ Some bytes
 
--- The line of a text that is refused: it is too long, or it stands for no program.
-pub data IsRefused : List ℕ → List ℕ → Type 0 where
-  too_long : {bytes : List ℕ} → program_limit < length bytes → IsRefused bytes (codes "gprs: lex 3\n")
-  no_program : {bytes : List ℕ} → length bytes ≤ program_limit → ((lines : List (List ℤ)) → PrintsLines bytes lines → ⊥) → IsRefused bytes (codes "gprs: not built yet\n")
+-- the line of a fault by its kind, where the stage of reading comes to it
+abbrev pub fault_line : (stage : List ℕ) → (kind at : ℕ) → List ℕ
+fault_line stage kind at = codes "gprs: " ++ stage ++ codes " " ++ decimal kind ++ codes " at byte " ++ decimal at ++ codes "\n"
 
--- a text that is run, with the lines that it prints
-pub record IsRun (bytes : List ℕ) (lines : List (List ℤ)) : Type 0 where
-  pub short : length bytes ≤ program_limit
-  pub prints : PrintsLines bytes lines
+-- the line of a fault of lexing
+abbrev pub lex_line : LexFault → List ℕ
+lex_line (lex.BadByte at) = fault_line (codes "lex") 1 at
+lex_line (lex.NumberTooBig at) = fault_line (codes "lex") 2 at
+lex_line lex.TooLong = codes "gprs: lex 3\n"
+lex_line lex.OutOfMemory = []
+
+-- the line of a fault of parsing
+abbrev pub parse_line : ParseFault → List ℕ
+parse_line (parse.Unexpected at) = fault_line (codes "parse") 1 at
+parse_line (parse.TooDeep at) = fault_line (codes "parse") 2 at
+parse_line parse.OutOfMemory = []
+
+-- The line of a text that is refused: by its first fault, or since its program can't be run yet.
+pub data IsRefused (text : List ℕ) : List ℕ → Type 0 where
+  not_lexed : {fault : LexFault} → Means text (LexFails fault) → IsRefused text (lex_line fault)
+  not_parsed : {fault : ParseFault} → Means text (ParseFails fault) → IsRefused text (parse_line fault)
+  not_small : {program : Program} → Means text (Stands program) → is_small program ≡ false → IsRefused text (codes "gprs: not built yet\n")
+
+-- a text whose program is run
+pub record IsRun (text : List ℕ) (program : Program) : Type 0 where
+  pub stands : Means text (Stands program)
+  pub small : is_small program ≡ true
 
 -- the case of a call with these words over these files
 abbrev pub IsCase : List (List ℕ) → List (List ℕ × List ℕ) → Case → Type 0
 IsCase words files Usage = program_of words ≡ None
 IsCase words files (Missing name) = (program_of words ≡ Some name) × (bytes_of files name ≡ None)
 IsCase words files (BadProgram line) = (bytes : List ℕ) × HasProgram words files bytes × IsRefused bytes line
-IsCase words files (Go lines) = (bytes : List ℕ) × HasProgram words files bytes × IsRun bytes lines
+IsCase words files (Go program) = (bytes : List ℕ) × HasProgram words files bytes × IsRun bytes program
 
 -- a call has one case at most
 abbrev pub OneCase : Type 0
@@ -71,14 +92,14 @@ abbrev pub status_of : Case → ℕ
 status_of Usage = 2
 status_of (Missing name) = 7
 status_of (BadProgram line) = 3
-status_of (Go lines) = 0
+status_of (Go program) = 0
 
 -- the text of the case
 abbrev pub text_of : Case → List ℕ
 text_of Usage = []
 text_of (Missing name) = []
 text_of (BadProgram line) = []
-text_of (Go lines) = run_text (one_subthread lines)
+text_of (Go program) = run_text (plain_ran program)
 
 -- the line on the error stream
 abbrev pub read_fault_line : List ℕ → List ℕ
@@ -88,7 +109,7 @@ abbrev pub line_of : Case → List ℕ
 line_of Usage = codes "gprs: usage: run | one | check | soak\n"
 line_of (Missing name) = read_fault_line name
 line_of (BadProgram line) = line
-line_of (Go lines) = []
+line_of (Go program) = []
 
 -- the names that the order of reading comes to
 abbrev pub names_read : List (List ℕ) → List (List ℕ)

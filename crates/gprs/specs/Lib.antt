@@ -1,6 +1,7 @@
-pub mod Answers
+pub mod Texts
+pub mod PlainText
+pub mod Registers
 pub mod Case
+pub mod Answers
 pub mod Decided
 pub mod Headline
-pub mod Language
-pub mod Texts

@@ -1,13 +1,15 @@
 // What a call is to run, from its words and the shelf.
 ghost use Rattle.std.specs.Prelude.{◌≡◌, ◌≤◌, ◌↔◌, Err, None, IfSome, length};
-ghost use Rattle.gprs.specs.Case.{program_of, texts, program_limit, IsCase};
-ghost use Rattle.gprs.specs.Decided.{case_of, IsDecidedOn, IsRefusedWith, TouchesShelf};
+ghost use Rattle.task_parser.specs.Lexing.{length_limit};
+ghost use Rattle.gprs.specs.Case.{program_of, texts, fault_line, IsCase};
+ghost use Rattle.gprs.specs.Decided.{case_of, IsDecidedOn, IsRefusedWith, RefusesLexing, RefusesParsing, TouchesShelf};
 
-use crate::language::read_program;
-use crate::lines::{NOT_BUILT, TOO_LONG};
+use crate::lines::{NOT_BUILT, TOO_LONG, fault_line};
+use crate::small::{SmallProgram, small_registers};
 use crate::words::program_of;
-use gp_base::{Lines, Name, Shelf, ShelfFault, Text};
+use gp_base::{Name, Shelf, ShelfFault, Text};
 use std::alloc::Global;
+use task_parser::{LexFault, ParseFault, lex, parse};
 
 /// No more bytes of a program are read.
 pub const PROGRAM_LIMIT: usize = 1048576;
@@ -32,24 +34,63 @@ fn refused(alloc: Global, line: &[u8]) -> Refusal
     }
 }
 
-// The lines that the program prints for which these bytes stand.
-fn program_in(alloc: Global, bytes: &[u8]) -> Result<Lines, Refusal>
-    requires { length bytes.now ≤ program_limit }
+// A refusal of the program by a fault at a place.
+fn refused_at(alloc: Global, stage: &str, kind: u8, at: u32) -> Refusal
+    ensures { IsRefusedWith (fault_line stage.now kind at) result }
+{
+    match fault_line(alloc, stage, kind, at) {
+        Ok(line) => Refusal::BadProgram(Text::from_vec(line)),
+        Err(_) => Refusal::OutOfMemory,
+    }
+}
+
+fn refused_lexing(alloc: Global, fault: LexFault) -> Refusal
+    ensures { RefusesLexing fault result }
+{
+    match fault {
+        LexFault::BadByte(at) => refused_at(alloc, "lex", 1, at),
+        LexFault::NumberTooBig(at) => refused_at(alloc, "lex", 2, at),
+        LexFault::TooLong => refused(alloc, TOO_LONG),
+        LexFault::OutOfMemory => Refusal::OutOfMemory,
+    }
+}
+
+fn refused_parsing(alloc: Global, fault: ParseFault) -> Refusal
+    ensures { RefusesParsing fault result }
+{
+    match fault {
+        ParseFault::Unexpected(at) => refused_at(alloc, "parse", 1, at),
+        ParseFault::TooDeep(at) => refused_at(alloc, "parse", 2, at),
+        ParseFault::OutOfMemory => Refusal::OutOfMemory,
+    }
+}
+
+// The program for which these bytes stand.
+fn batch_in(alloc: Global, bytes: &[u8]) -> Result<SmallProgram, Refusal>
+    requires { length bytes.now ≤ length_limit }
     ensures { IsDecidedOn bytes.now result }
 {
-    match read_program(alloc, bytes) {
-        Ok(Some(lines)) => Ok(lines),
+    let tokens = match lex(alloc, bytes) {
+        Ok(tokens) => tokens,
+        Err(fault) => return Err(refused_lexing(alloc, fault)),
+    };
+    let program = match parse(alloc, bytes, &tokens) {
+        Ok(program) => program,
+        Err(fault) => return Err(refused_parsing(alloc, fault)),
+    };
+    match small_registers(alloc, &program) {
+        Ok(Some(registers)) => Ok(SmallProgram { program, registers }),
         Ok(None) => Err(refused(alloc, NOT_BUILT)),
         Err(_) => Err(Refusal::OutOfMemory),
     }
 }
 
-/// The lines of the program that the words name. The first refusal met is the answer.
+/// The program that the words name. The first refusal met is the answer.
 pub fn read_batch<H: Shelf>(
     alloc: Global,
     words: &[String],
     shelf: &mut H,
-) -> Result<Lines, Refusal>
+) -> Result<SmallProgram, Refusal>
     ensures usage { (result ≡ Err Refusal.Usage) ↔ (program_of (texts words.now) ≡ None) }
     ensures shelf { TouchesShelf (texts words.now) (H.failed shelf.old) (H.failed shelf.new) result }
     ensures case { IfSome (H.files shelf.old) (λ files. IfSome (case_of result) (IsCase (texts words.now) files)) }
@@ -61,7 +102,7 @@ pub fn read_batch<H: Shelf>(
         return Err(Refusal::OutOfMemory);
     };
     match shelf.read(&name, PROGRAM_LIMIT) {
-        Ok(text) => program_in(alloc, text.as_slice()),
+        Ok(text) => batch_in(alloc, text.as_slice()),
         Err(ShelfFault::TooLong) => Err(refused(alloc, TOO_LONG)),
         Err(ShelfFault::Failed) => Err(Refusal::ReadFault(name)),
         Err(ShelfFault::OutOfMemory) => Err(Refusal::OutOfMemory),

@@ -1,9 +1,10 @@
 // The lines on the error stream.
 ghost use Rattle.std.specs.Prelude.{◌≡◌, IfOk};
-ghost use Rattle.gprs.specs.Case.{read_fault_line};
+ghost use Rattle.gprs.specs.Case.{fault_line, read_fault_line};
 ghost use Rattle.gprs.specs.Answers.{LineEnds, change_of};
 
 use gp_base::{Name, Sink, SinkFault, put_all};
+use itoa::Buffer;
 use std::alloc::{AllocError, Global};
 
 /// Words that are those of no command.
@@ -27,6 +28,20 @@ pub fn read_fault_line(alloc: Global, name: &Name) -> Result<Vec<u8>, AllocError
 {
     let mut line = Vec::from_slice(alloc, b"gprs: read fault ")?;
     line.extend_from_slice(name.as_slice())?;
+    line.extend_from_slice(b"\n")?;
+    Ok(line)
+}
+
+/// The line of a fault by its kind, at a place of the text that a stage of reading comes to.
+pub fn fault_line(alloc: Global, stage: &str, kind: u8, at: u32) -> Result<Vec<u8>, AllocError>
+    ensures { IfOk result (λ line. line.items ≡ fault_line stage.now kind at) }
+{
+    let mut line = Vec::from_slice(alloc, b"gprs: ")?;
+    line.extend_from_slice(stage.as_bytes())?;
+    line.extend_from_slice(b" ")?;
+    line.extend_from_slice(Buffer::new().format(kind).as_bytes())?;
+    line.extend_from_slice(b" at byte ")?;
+    line.extend_from_slice(Buffer::new().format(at).as_bytes())?;
     line.extend_from_slice(b"\n")?;
     Ok(line)
 }

@@ -3,9 +3,9 @@
 
 mod batch;
 mod file_shelf;
-mod language;
 mod lines;
 mod run;
+mod small;
 mod std_sink;
 #[cfg(test)]
 mod tests;

@@ -1,254 +1,376 @@
 // What no clause says: calls that succeed, and devices that fail at each of their calls.
+
 use crate::file_shelf::FileShelf;
 use crate::std_sink::StdSink;
 use crate::top::gprs_run;
 use gp_base::{FreeGate, MemShelf, MemSink, Name, Seq, Shelf, ShelfFault, Text, put_all};
 use std::alloc::{AllocError, Global};
 use std::fs;
+use std::process::Abort;
 use std::test::Fail;
+use std::thread::Threads;
 
 const USAGE: &str = "gprs: usage: run | one | check | soak\n";
 
 const TAIL: &str = "records\nrestarts\ncounts\nsubthreads 1\nrestarts 0\nredone 0\nunused 0\n";
 
-fn words_of(alloc: Global, words: &[&str]) -> Result<Vec<String>, AllocError> {
-    let mut all = Vec::new(alloc);
-    for word in words {
-        all.push(String::from_str(alloc, word)?)?;
+const EMPTY: &str = "task main() { }";
+
+const PRINTS: &str = "task main() { print 7; print 0042; }";
+
+// Sums, quotients and remainders at the ends of the numbers.
+const EDGES: &str = "task main() {
+  var $a;
+  $a = 9223372036854775807;
+  print $a + 1;
+  print (0 - $a - 1) / -1;
+  print 7 / 0, 7 % 0, -7 / 2, -7 % 2;
+}
+";
+
+const ADD: &str = "lock tally[1];
+record total[1] by tally;
+task add(n) {
+  var $t;
+  lock tally[0];
+  read total[0] into $t;
+  write total[0] = $t + n;
+  unlock tally[0];
+}
+task main() {
+  fork add(3);
+  fork add(4);
+  join 1;
+  join 2;
+}
+";
+
+// How many bytes the sinks take at once, and the calls that fail; at 0 none does.
+#[derive(Clone, Copy)]
+struct Devices {
+    most: usize,
+    read: u64,
+    output: u64,
+    error: u64,
+}
+
+const SOUND: Devices = Devices {
+    most: 1000,
+    read: 0,
+    output: 0,
+    error: 0,
+};
+
+// What a call answered, and what its sinks took.
+#[derive(Drop)]
+struct Answer {
+    status: u8,
+    output: MemSink,
+    error: MemSink,
+}
+
+// The words between spaces.
+fn words_of(alloc: Global, text: &str) -> Result<Vec<String>, AllocError> {
+    let mut words = Vec::new(alloc);
+    if text.is_empty() {
+        return Ok(words);
     }
-    Ok(all)
+    for word in text.split(' ') {
+        words.push(String::from_str(alloc, word)?)?;
+    }
+    Ok(words)
 }
 
-// A shelf of the program and of another file.
-fn shelf_of(alloc: Global, program: &str, failing: &[u64]) -> Result<MemShelf, AllocError> {
-    let program = (
+// A shelf of the program, whose read of this number fails.
+fn shelf_of(alloc: Global, program: &[u8], fails: u64) -> Result<MemShelf, AllocError> {
+    let file = (
         Name::from_slice(alloc, b"p.gp")?,
-        Text::from_slice(alloc, program.as_bytes())?,
+        Text::from_slice(alloc, program)?,
     );
-    let other = (Name::from_slice(alloc, b"other.csv")?, Text::new(alloc));
-    let files = Seq::from_vec(vec![in alloc; program, other]?);
-    Ok(MemShelf::new(alloc, files, Seq::from_slice(alloc, failing)?))
+    let files = Seq::from_vec(vec![in alloc; file]?);
+    Ok(MemShelf::new(alloc, files, Seq::from_slice(alloc, &[fails])?))
 }
 
-// A sink in memory that fails at one call, or at none where that is 0.
-fn sink_of(alloc: Global, most: usize, fails_at: u64) -> Result<MemSink, AllocError> {
-    Ok(MemSink::new(alloc, most.max(1), Seq::from_slice(alloc, &[fails_at])?))
+fn sink_of(alloc: Global, most: usize, fails: u64) -> Result<MemSink, AllocError> {
+    Ok(MemSink::new(alloc, most.max(1), Seq::from_slice(alloc, &[fails])?))
 }
 
-// The whole text of a run that prints these lines.
-fn text_of(alloc: Global, lines: &str) -> Result<String, AllocError> {
-    format!(in alloc; "output\n{lines}{TAIL}")
-}
-
-// The words, the program and the reads that fail; the status and the line on the error stream.
-#[test]
-fn refusals_have_their_lines(rt: HostRuntime) -> Result<(), Fail> {
+fn answer_of<R: Threads + Sync + AllocGlobal>(
+    rt: &R,
+    words: &str,
+    program: &[u8],
+    devices: Devices,
+) -> Result<Answer, AllocError> {
     let alloc = rt.alloc();
-    let empty = "task main() { }";
-    let rows: [(&[&str], &str, &[u64], u8, &str); 18] = [
-        (&[], empty, &[], 2, USAGE),
-        (&["run"], empty, &[], 2, USAGE),
-        (&["fly", "p.gp"], empty, &[], 2, USAGE),
-        (&["run", "p.gp", "q.gp"], empty, &[], 2, USAGE),
-        (&["run", ""], empty, &[], 2, USAGE),
-        (&["run", "-p.gp"], empty, &[], 2, USAGE),
-        (&["run", "--trace", "p.gp"], empty, &[], 2, USAGE),
-        (&["run", "p.gp", "--workers", "65"], empty, &[1], 2, USAGE),
-        (&["run", "p.gp", "--turns", "0"], empty, &[1], 2, USAGE),
-        (&["run", "p.gp", "--crew", "fast"], empty, &[1], 2, USAGE),
-        (&["one", "p.gp"], empty, &[], 2, USAGE),
-        (&["run", "q.gp"], empty, &[], 7, "gprs: read fault q.gp\n"),
-        (&["run", "p.gp"], empty, &[1], 7, "gprs: read fault p.gp\n"),
-        (&["run", "p.gp"], "", &[], 3, "gprs: not built yet\n"),
-        (
-            &["run", "p.gp"],
-            "task main() {",
-            &[],
-            3,
-            "gprs: not built yet\n",
-        ),
-        (
-            &["run", "p.gp"],
-            "taskmain() { }",
-            &[],
-            3,
-            "gprs: not built yet\n",
-        ),
-        (
-            &["run", "p.gp"],
-            "task main() { print 9223372036854775808; }",
-            &[],
-            3,
-            "gprs: not built yet\n",
-        ),
-        (&["run", "p.gp"], empty, &[2], 0, ""),
+    let words = words_of(alloc, words)?;
+    let mut shelf = shelf_of(alloc, program, devices.read)?;
+    let mut output = sink_of(alloc, devices.most, devices.output)?;
+    let mut error = sink_of(alloc, devices.most, devices.error)?;
+    let outcome = gprs_run(rt, &words, &mut shelf, &mut output, &mut error, &FreeGate);
+    Ok(Answer {
+        status: outcome.status,
+        output,
+        error,
+    })
+}
+
+// The words with the program are refused with this status and line.
+fn refuses<R: Threads + Sync + AllocGlobal + Abort>(
+    rt: &R,
+    words: &str,
+    program: &[u8],
+    status: u8,
+    line: &str,
+) -> Result<(), AllocError> {
+    let answer = answer_of(rt, words, program, SOUND)?;
+    assert_eq!(rt; answer.status, status);
+    assert_eq!(rt; answer.output.written(), b"".as_slice());
+    assert_eq!(rt; answer.error.written(), line.as_bytes());
+    Ok(())
+}
+
+// The program prints these lines.
+fn prints<R: Threads + Sync + AllocGlobal + Abort>(
+    rt: &R,
+    program: &str,
+    lines: &str,
+) -> Result<(), AllocError> {
+    let answer = answer_of(rt, "run p.gp", program.as_bytes(), SOUND)?;
+    let text = format!(in rt.alloc(); "output\n{lines}{TAIL}")?;
+    assert_eq!(rt; answer.status, 0);
+    assert_eq!(rt; answer.output.written(), text.as_bytes());
+    assert_eq!(rt; answer.error.written(), b"".as_slice());
+    Ok(())
+}
+
+// A program that prints 1 behind so many of these marks.
+fn marked(alloc: Global, open: &str, close: &str, count: usize) -> Result<String, AllocError> {
+    let mut text = String::from_str(alloc, "task main() { print ")?;
+    for _ in 0..count {
+        text.push_str(open)?;
+    }
+    text.push_str("1")?;
+    for _ in 0..count {
+        text.push_str(close)?;
+    }
+    text.push_str("; }")?;
+    Ok(text)
+}
+
+#[test]
+fn words_of_no_command(rt: HostRuntime) -> Result<(), Fail> {
+    let rows = [
+        "",
+        "run",
+        "fly p.gp",
+        "run p.gp q.gp",
+        "run ",
+        "run -p.gp",
+        "one p.gp",
+        "run p.gp --workers 65",
+        "run p.gp --turns 0",
+        "run p.gp --crew fast",
     ];
-    for (words, program, failing, status, line) in rows {
-        let words = words_of(alloc, words)?;
-        let mut shelf = shelf_of(alloc, program, failing)?;
-        let mut out = sink_of(alloc, 1000, 0)?;
-        let mut err = sink_of(alloc, 1000, 0)?;
-        let outcome = gprs_run(&rt, &words, &mut shelf, &mut out, &mut err, &FreeGate);
-        assert_eq!(rt; outcome.status, status);
-        assert_eq!(rt; err.written(), line.as_bytes());
-        assert_eq!(rt; out.written().is_empty(), status != 0);
-        assert_eq!(rt; shelf.failed().is_empty(), status != 7);
+    for words in rows {
+        refuses(&rt, words, EMPTY.as_bytes(), 2, USAGE)?;
     }
     Ok(())
 }
 
-// A program and what it prints.
+#[test]
+fn programs_that_are_refused(rt: HostRuntime) -> Result<(), Fail> {
+    let rows = [
+        ("", "gprs: parse 1 at byte 0\n"),
+        ("task main() {", "gprs: parse 1 at byte 13\n"),
+        (
+            "task main() { print 9223372036854775808; }",
+            "gprs: lex 2 at byte 20\n",
+        ),
+        ("task main() { print 1 ! 2; }", "gprs: lex 1 at byte 23\n"),
+        (
+            "task main() { print 1 < 2 < 3; }",
+            "gprs: parse 1 at byte 26\n",
+        ),
+        ("task main() { print self; }", "gprs: not built yet\n"),
+    ];
+    for (program, line) in rows {
+        refuses(&rt, "run p.gp", program.as_bytes(), 3, line)?;
+    }
+    refuses(
+        &rt,
+        "run q.gp",
+        EMPTY.as_bytes(),
+        7,
+        "gprs: read fault q.gp\n",
+    )?;
+    Ok(())
+}
+
+#[test]
+fn nesting_has_a_limit(rt: HostRuntime) -> Result<(), Fail> {
+    let alloc = rt.alloc();
+    let deep = "gprs: parse 2 at byte 84\n";
+    prints(&rt, marked(alloc, "(", ")", 64)?.as_str(), "1\n")?;
+    refuses(
+        &rt,
+        "run p.gp",
+        marked(alloc, "(", ")", 65)?.as_bytes(),
+        3,
+        deep,
+    )?;
+    refuses(
+        &rt,
+        "run p.gp",
+        marked(alloc, "-", "", 65)?.as_bytes(),
+        3,
+        deep,
+    )?;
+    Ok(())
+}
+
 #[test]
 fn programs_have_their_texts(rt: HostRuntime) -> Result<(), Fail> {
-    let alloc = rt.alloc();
-    let rows = [
-        ("task main() { }", ""),
-        ("task main() { print 7; print 0042; }", "7\n42\n"),
-        (
-            "#c\n\ttask\r\nmain(){print 9223372036854775807;print\n0;}# print 1;",
-            "9223372036854775807\n0\n",
-        ),
-    ];
-    for (program, lines) in rows {
-        let words = words_of(alloc, &["run", "p.gp"])?;
-        let mut shelf = shelf_of(alloc, program, &[])?;
-        let mut out = sink_of(alloc, 1000, 0)?;
-        let mut err = sink_of(alloc, 1000, 0)?;
-        let outcome = gprs_run(&rt, &words, &mut shelf, &mut out, &mut err, &FreeGate);
-        assert_eq!(rt; outcome.status, 0);
-        assert_eq!(rt; out.written(), text_of(alloc, lines)?.as_bytes());
-        assert_eq!(rt; err.written(), b"".as_slice());
-        assert!(rt; outcome.journal.events.is_empty() && outcome.journal.restarts.is_empty());
+    prints(&rt, EMPTY, "")?;
+    prints(&rt, PRINTS, "7\n42\n")?;
+    prints(
+        &rt,
+        EDGES,
+        "-9223372036854775808\n-9223372036854775808\n0 0 -3 -1\n",
+    )?;
+    prints(
+        &rt,
+        marked(rt.alloc(), "", " + 1", 100000)?.as_str(),
+        "100001\n",
+    )?;
+    Ok(())
+}
+
+// A text that is cut off is refused, or stands for a program that can't be run yet.
+#[test]
+fn beginnings_are_refused(rt: HostRuntime) -> Result<(), Fail> {
+    for end in 0..ADD.len() {
+        let (front, _) = ADD.as_bytes().split_at(end);
+        let answer = answer_of(&rt, "run p.gp", front, SOUND)?;
+        assert_eq!(rt; (answer.status, answer.output.written().len()), (3, 0));
     }
     Ok(())
 }
 
 // How many bytes a sink takes before a call that fails, where it is offered these pieces, each by itself. `None` where
 // it fails at no call of them.
-fn taken_before(pieces: &[usize], most: usize, fails_at: usize) -> Option<usize> {
-    let mut calls = 0usize;
+fn taken_before(pieces: &[usize], most: usize, fails: u64) -> Option<usize> {
+    let mut calls = 0u64;
     let mut taken = 0usize;
     for piece in pieces {
-        let more = piece.div_ceil(most.max(1));
-        if fails_at <= calls.saturating_add(more) {
-            return Some(taken.saturating_add(
-                fails_at
-                    .saturating_sub(calls.saturating_add(1))
-                    .saturating_mul(most),
-            ));
+        let more = calls.saturating_add(piece.div_ceil(most.max(1)) as u64);
+        if fails <= more {
+            let whole = fails.saturating_sub(calls.saturating_add(1)) as usize;
+            return Some(taken.saturating_add(whole.saturating_mul(most)));
         }
-        calls = calls.saturating_add(more);
+        calls = more;
         taken = taken.saturating_add(*piece);
     }
     None
 }
 
-// Each call of an output that fails in turn. The sink would take the next call.
+// The sink took so many of the first bytes of the text, or all of them.
+fn took(rt: &impl Abort, sink: &MemSink, text: &str, taken: Option<usize>) {
+    assert!(rt; text.as_bytes().starts_with(sink.written()));
+    assert_eq!(rt; sink.written().len(), taken.unwrap_or(text.len()));
+}
+
+// Each call of the output fails in turn. The sink would take the next call.
 #[test]
 fn an_output_that_fails_has_a_prefix(rt: HostRuntime) -> Result<(), Fail> {
-    let alloc = rt.alloc();
-    let rows = [
-        ("task main() { }", ""),
-        ("task main() { print 7; print 0042; }", "7\n42\n"),
-        ("task main(){print 9;}", "9\n"),
-    ];
-    for (program, lines) in rows {
-        let text = text_of(alloc, lines)?;
-        let words = words_of(alloc, &["run", "p.gp"])?;
+    for (program, lines) in [(EMPTY, ""), (PRINTS, "7\n42\n")] {
+        let text = format!(in rt.alloc(); "output\n{lines}{TAIL}")?;
         for most in [1, 4, 1000] {
-            for fails_at in 1..120usize {
-                let mut shelf = shelf_of(alloc, program, &[])?;
-                let mut out = sink_of(alloc, most, fails_at as u64)?;
-                let mut err = sink_of(alloc, most, 0)?;
-                let outcome = gprs_run(&rt, &words, &mut shelf, &mut out, &mut err, &FreeGate);
-                assert!(rt; text.as_bytes().starts_with(out.written()));
-                match taken_before(&[7, lines.len(), TAIL.len()], most, fails_at) {
-                    Some(taken) => {
-                        assert_eq!(rt; outcome.status, 8);
-                        assert_eq!(rt; out.written().len(), taken, "at {fails_at} of {most}");
-                        assert_eq!(rt; err.written(), b"gprs: write fault\n".as_slice());
-                    }
-                    None => {
-                        assert_eq!(rt; outcome.status, 0);
-                        assert_eq!(rt; out.written(), text.as_bytes());
-                        assert_eq!(rt; err.written(), b"".as_slice());
-                    }
-                }
+            for output in 1..100 {
+                let answer = answer_of(
+                    &rt,
+                    "run p.gp",
+                    program.as_bytes(),
+                    Devices {
+                        most,
+                        output,
+                        ..SOUND
+                    },
+                )?;
+                let taken = taken_before(&[7, lines.len(), TAIL.len()], most, output);
+                assert_eq!(rt; answer.status, if taken.is_some() { 8 } else { 0 });
+                took(&rt, &answer.output, text.as_str(), taken);
+                let line = if taken.is_some() {
+                    "gprs: write fault\n"
+                } else {
+                    ""
+                };
+                took(&rt, &answer.error, line, None);
             }
         }
     }
     Ok(())
 }
 
-// Each call of an error stream that fails in turn, at each line that is written to it.
+// The first reads and writes that fail, the status and the line; then each call of the error stream fails in turn.
 #[test]
 fn an_error_stream_that_fails_has_a_prefix(rt: HostRuntime) -> Result<(), Fail> {
-    let alloc = rt.alloc();
-    let rows: [(&[&str], &str, u64, u64, u8, &str); 4] = [
-        (&["run"], "", 0, 0, 2, USAGE),
-        (&["run", "p.gp"], "", 0, 0, 3, "gprs: not built yet\n"),
-        (
-            &["run", "p.gp"],
-            "task main() { }",
-            1,
-            0,
-            7,
-            "gprs: read fault p.gp\n",
-        ),
-        (
-            &["run", "p.gp"],
-            "task main() { }",
-            0,
-            1,
-            8,
-            "gprs: write fault\n",
-        ),
+    let rows = [
+        ("run", 0, 0, 2, USAGE),
+        ("run q.gp", 0, 0, 7, "gprs: read fault q.gp\n"),
+        ("run p.gp", 1, 0, 7, "gprs: read fault p.gp\n"),
+        ("run p.gp", 0, 1, 8, "gprs: write fault\n"),
     ];
-    for (words, program, read_fails, write_fails, status, line) in rows {
-        let words = words_of(alloc, words)?;
+    for (words, read, output, status, line) in rows {
         for most in [1, 4, 1000] {
-            for fails_at in 1..60usize {
-                let mut shelf = shelf_of(alloc, program, &[read_fails])?;
-                let mut out = sink_of(alloc, 1000, write_fails)?;
-                let mut err = sink_of(alloc, most, fails_at as u64)?;
-                let outcome = gprs_run(&rt, &words, &mut shelf, &mut out, &mut err, &FreeGate);
-                assert_eq!(rt; out.written(), b"".as_slice());
-                let taken = taken_before(&[line.len()], most, fails_at);
-                assert_eq!(rt; outcome.status, if taken.is_some() { 8 } else { status });
-                assert!(rt; line.as_bytes().starts_with(err.written()));
-                assert_eq!(rt; err.written().len(), taken.unwrap_or(line.len()));
+            for error in 1..50 {
+                let answer = answer_of(
+                    &rt,
+                    words,
+                    EMPTY.as_bytes(),
+                    Devices {
+                        most,
+                        read,
+                        output,
+                        error,
+                    },
+                )?;
+                let taken = taken_before(&[line.len()], most, error);
+                assert_eq!(rt; answer.status, if taken.is_some() { 8 } else { status });
+                took(&rt, &answer.output, "", None);
+                took(&rt, &answer.error, line, taken);
             }
         }
     }
     Ok(())
 }
 
-// The first calls of `output`, four bytes at a time, of which the second fails.
+// The output takes four bytes at a time, and its second call fails.
 #[test]
 fn four_bytes_at_a_time(rt: HostRuntime) -> Result<(), Fail> {
-    let alloc = rt.alloc();
-    let words = words_of(alloc, &["run", "p.gp"])?;
-    let mut shelf = shelf_of(alloc, "task main() { }", &[])?;
-    let mut out = sink_of(alloc, 4, 2)?;
-    let mut err = sink_of(alloc, 1000, 0)?;
-    let outcome = gprs_run(&rt, &words, &mut shelf, &mut out, &mut err, &FreeGate);
-    assert_eq!(rt; outcome.status, 8);
-    assert_eq!(rt; out.written(), b"outp".as_slice());
-    assert_eq!(rt; err.written(), b"gprs: write fault\n".as_slice());
+    let answer = answer_of(
+        &rt,
+        "run p.gp",
+        EMPTY.as_bytes(),
+        Devices {
+            most: 4,
+            output: 2,
+            ..SOUND
+        },
+    )?;
+    assert_eq!(rt; answer.status, 8);
+    assert_eq!(rt; answer.output.written(), b"outp".as_slice());
+    assert_eq!(rt; answer.error.written(), b"gprs: write fault\n".as_slice());
     Ok(())
 }
 
 #[test]
 fn files_are_read_up_to_a_length(rt: HostRuntime) -> Result<(), Fail> {
     let alloc = rt.alloc();
-    fs::write(&rt, "read.gp", "task main() { }")?;
+    fs::write(&rt, "read.gp", EMPTY)?;
     let mut shelf = FileShelf::new(&rt);
     let here = Name::from_slice(alloc, b"read.gp")?;
     let absent = Name::from_slice(alloc, b"absent.gp")?;
-    assert_eq!(rt;
-        shelf.read(&here, 15)?.as_slice(),
-        b"task main() { }".as_slice()
-    );
+    assert_eq!(rt; shelf.read(&here, 15)?.as_slice(), EMPTY.as_bytes());
     assert!(rt; matches!(shelf.read(&here, 14), Err(ShelfFault::TooLong)));
     assert!(rt; matches!(shelf.read(&absent, 15), Err(ShelfFault::Failed)));
     Ok(())

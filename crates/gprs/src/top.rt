@@ -95,8 +95,8 @@ pub fn gprs_run<R: Threads + Sync + AllocGlobal, H: Shelf, O: Sink, E: Sink, G: 
 {
     let alloc = rt.alloc();
     match read_batch(alloc, words, shelf) {
-        Ok(lines) => {
-            let status = write_run(alloc, &lines, out, err);
+        Ok(small) => {
+            let status = write_run(alloc, small, out, err);
             Outcome {
                 status,
                 journal: empty_journal(alloc),

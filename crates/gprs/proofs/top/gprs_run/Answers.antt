@@ -1,10 +1,12 @@
 use Rattle.std.proofs.Common.{◌⊎◌}
 use Rattle.gprs.specs.Case.{Go, texts, text_of, status_of, line_of}
-use Rattle.gprs.specs.Texts.{run_text, one_subthread}
+use Rattle.task_ast.specs.View.{plain_program}
+use Rattle.gprs.specs.Texts.{run_text}
+use Rattle.gprs.specs.PlainText.{plain_ran}
 use Rattle.gprs.specs.Answers.{change_of, TakesAll, TakesPart, Fails, Grew, Yields}
 use Rattle.gprs.specs.Headline.{IsWhole, HasCaseLine}
 use Rattle.gprs.proofs.OneCase.{for_known, for_each}
-use Rattle.gprs.proofs.TopCall.{run_status, run_whole, run_not_refused, run_part, run_no_line, run_no_read, refused_status, refused_not_whole, refused_line, refused_read, run_case, refused_case, refused_words}
+use Rattle.gprs.proofs.TopCall.{run_status, run_whole, run_not_refused, run_quiet, run_fault, run_part, run_no_line, run_no_read, refused_status, refused_not_whole, refused_line, refused_read, run_case, refused_case, refused_words}
 use Rattle.gp_base.proofs.Written.{prefix_none}
 use Rattle.gprs.proofs.top.gprs_run.Goals as goal
 
@@ -13,25 +15,25 @@ returns-in-Ok-clause-status g c =
     let out = change_of g.O.Sink.written g.O.Sink.faults c.args.out.now c.write_run-status.new.out in
     let err = change_of g.E.Sink.written g.E.Sink.faults c.args.err.now c.write_run-status.new.err in
     let grew = Grew (g.H.Shelf.failed c.args.shelf.now) (g.H.Shelf.failed c.read_batch.new.shelf) in
-    for_known (texts c.args.words.now) (g.H.Shelf.files c.args.shelf.now) (Go c.in-Ok.lines)
+    for_known (texts c.args.words.now) (g.H.Shelf.files c.args.shelf.now) (Go (plain_program c.in-Ok.small.program))
     (λ case. Yields (status_of case) grew (Fails out ⊎ Fails err) c.write_run-status.result)
-    c.in-Ok.ensures.case (run_status c.in-Ok.lines out err grew c.write_run-status.result c.write_run-status.ensures)
+    c.in-Ok.ensures.case (run_status (plain_program c.in-Ok.small.program) out err grew c.write_run-status.result c.write_run-status.ensures)
 
 pub returns-in-Ok-clause-text : goal.returns-in-Ok-clause-text
 returns-in-Ok-clause-text g c =
     let out = change_of g.O.Sink.written g.O.Sink.faults c.args.out.now c.write_run-status.new.out in
     let err = change_of g.E.Sink.written g.E.Sink.faults c.args.err.now c.write_run-status.new.err in
-    for_known (texts c.args.words.now) (g.H.Shelf.files c.args.shelf.now) (Go c.in-Ok.lines)
+    for_known (texts c.args.words.now) (g.H.Shelf.files c.args.shelf.now) (Go (plain_program c.in-Ok.small.program))
     (λ case. IsWhole c.write_run-status.result → TakesAll out (text_of case))
-    c.in-Ok.ensures.case (run_whole (run_text (one_subthread c.in-Ok.lines)) out err c.write_run-status.result c.write_run-status.ensures)
+    c.in-Ok.ensures.case (run_whole (run_text (plain_ran (plain_program c.in-Ok.small.program))) out err c.write_run-status.result c.write_run-status.ensures)
 
 pub returns-in-Ok-clause-prefix : goal.returns-in-Ok-clause-prefix
 returns-in-Ok-clause-prefix g c =
     let out = change_of g.O.Sink.written g.O.Sink.faults c.args.out.now c.write_run-status.new.out in
     let err = change_of g.E.Sink.written g.E.Sink.faults c.args.err.now c.write_run-status.new.err in
-    for_known (texts c.args.words.now) (g.H.Shelf.files c.args.shelf.now) (Go c.in-Ok.lines)
+    for_known (texts c.args.words.now) (g.H.Shelf.files c.args.shelf.now) (Go (plain_program c.in-Ok.small.program))
     (λ case. TakesPart out (text_of case))
-    c.in-Ok.ensures.case (run_part (run_text (one_subthread c.in-Ok.lines)) out err c.write_run-status.result c.write_run-status.ensures)
+    c.in-Ok.ensures.case (run_part (run_text (plain_ran (plain_program c.in-Ok.small.program))) out err c.write_run-status.result c.write_run-status.ensures)
 
 pub returns-in-Ok-clause-refused : goal.returns-in-Ok-clause-refused
 returns-in-Ok-clause-refused g c = run_not_refused _ _ _ _ c.write_run-status.ensures
@@ -66,7 +68,7 @@ returns-in-Err-clause-read_fault g c =
 
 pub returns-in-Ok-clause-case : goal.returns-in-Ok-clause-case
 returns-in-Ok-clause-case g c =
-    run_case (texts c.args.words.now) (g.H.Shelf.files c.args.shelf.now) c.in-Ok.lines
+    run_case (texts c.args.words.now) (g.H.Shelf.files c.args.shelf.now) (plain_program c.in-Ok.small.program)
     (change_of g.O.Sink.written g.O.Sink.faults c.args.out.now c.write_run-status.new.out) (change_of g.E.Sink.written g.E.Sink.faults c.args.err.now c.write_run-status.new.err)
     c.write_run-status.result c.in-Ok.ensures.case c.write_run-status.ensures
 
@@ -90,3 +92,15 @@ returns-in-Ok-clause-read_fault g c = λ is. absurd (run_no_read _ _ _ _ c.write
 
 pub returns-in-Err-clause-quiet : goal.returns-in-Err-clause-quiet
 returns-in-Err-clause-quiet g c = λ is. absurd (refused_not_whole _ _ _ c.refuse-status.ensures is)
+
+pub returns-in-Ok-clause-quiet : goal.returns-in-Ok-clause-quiet
+returns-in-Ok-clause-quiet g c =
+    let out = change_of g.O.Sink.written g.O.Sink.faults c.args.out.now c.write_run-status.new.out in
+    let err = change_of g.E.Sink.written g.E.Sink.faults c.args.err.now c.write_run-status.new.err in
+    run_quiet (run_text (plain_ran (plain_program c.in-Ok.small.program))) out err c.write_run-status.result c.write_run-status.ensures
+
+pub returns-in-Ok-clause-write_fault : goal.returns-in-Ok-clause-write_fault
+returns-in-Ok-clause-write_fault g c =
+    let out = change_of g.O.Sink.written g.O.Sink.faults c.args.out.now c.write_run-status.new.out in
+    let err = change_of g.E.Sink.written g.E.Sink.faults c.args.err.now c.write_run-status.new.err in
+    run_fault (run_text (plain_ran (plain_program c.in-Ok.small.program))) out err c.write_run-status.result c.write_run-status.ensures
