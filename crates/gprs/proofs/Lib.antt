@@ -1,8 +1,8 @@
 pub mod Assigned
 pub mod Declared
-pub mod SmallTasks
-pub mod Tail
+pub mod OneCase
 pub mod PlainTexts
 pub mod Refused
-pub mod OneCase
+pub mod SmallTasks
+pub mod Tail
 pub mod TopCall
