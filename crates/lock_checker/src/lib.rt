@@ -9,7 +9,6 @@ mod heads;
 mod held;
 mod index;
 mod laws;
-mod layout;
 mod program;
 mod rules;
 mod scope;
