@@ -1,8 +1,8 @@
 -- Facts about placed tokens, verdicts and lists that go on alike.
-use Rattle.std.proofs.Common.{◌≡◌, ℕ, zero, suc, ◌+◌, ◌≤◌, Bool, true, false, cond, leb, List, [], ◌∷◌, ◌++◌, length, Result, Ok, Err, refl, sym, ap, subst, ◌∙◌, append_assoc, arith}
+use Rattle.std.proofs.Common.{◌≡◌, ℕ, Bool, true, false, cond, leb, List, [], ◌∷◌, ◌++◌, Result, Err, refl, sym, ap, append_assoc}
 use Rattle.task_parser.specs.declared.token.Token.{Token}
-use Rattle.task_parser.specs.Words.{Placed, Form, tokens_of}
-use Rattle.task_parser.specs.Reading.{Stop, Reader, begins, ◌>>=◌}
+use Rattle.task_parser.specs.Words.{Placed, tokens_of}
+use Rattle.task_parser.specs.Reading.{Stop, begins, ◌>>=◌}
 use Rattle.task_parser.specs.Laws.{Same, Within, GoesBeyond, verdict}
 
 pub tokens-append : (a b : List Placed) → tokens_of (a ++ b) ≡ tokens_of a ++ tokens_of b

@@ -1,5 +1,5 @@
 -- Tests by lists of classes: what excludes or covers what is computed.
-use Rattle.std.proofs.Common.{◌≡◌, ℕ, Bool, true, false, cond, List, [], ◌∷◌, nat_eq, ◌||◌, ◌+◌, ◌-◌, ◌≤◌, ℤ, pos, suc, zero, leb, refl, sym, ap, subst, ◌∙◌, ◌⊎◌, inl, inr, arith}
+use Rattle.std.proofs.Common.{◌≡◌, ℕ, Bool, true, false, cond, List, [], ◌∷◌, nat_eq, ◌||◌, ◌+◌, ◌-◌, ◌≤◌, pos, suc, zero, leb, refl, ◌∙◌, ◌⊎◌, inl, inr, arith}
 use Rattle.std.proofs.lemmas.Bool.{eqb-true, eq-eqb, leb-true}
 use Rattle.task_parser.specs.declared.token.Token.{Token}
 use Rattle.task_parser.specs.Classes.{class, holds, among}

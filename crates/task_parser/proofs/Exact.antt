@@ -1,11 +1,11 @@
 -- Each word of the grammar is read exactly where its parts are.
-use Rattle.std.proofs.Common.{◌≡◌, ℕ, zero, suc, ◌+◌, ◌≤◌, Bool, true, false, cond, leb, List, [], ◌∷◌, ◌++◌, length, Option, Some, None, Result, Ok, Err, refl, sym, ap, subst, ◌∙◌, ◌⊎◌, inl, inr, append_assoc, arith}
+use Rattle.std.proofs.Common.{◌≡◌, ℕ, suc, ◌+◌, ◌≤◌, Bool, true, false, cond, leb, List, [], ◌∷◌, ◌++◌, Option, Some, None, Result, Ok, Err, refl, sym, ap, subst, ◌∙◌, inl, inr, append_assoc, arith}
 use Rattle.std.proofs.lemmas.Bool.{le-leb, lt-leb}
 use Rattle.task_parser.specs.declared.token.Token.{Token}
-use Rattle.task_parser.specs.Words.{Placed, Form, One, Both, Made, ◌∣◌, many, Opened, tokens_of}
-use Rattle.task_parser.specs.Reading.{Stop, Reader, begins, unexpected, ◌>>=◌, read_one, read_both, read_made, read_either, read_many, repeat, enter, read_opened}
-use Rattle.task_parser.specs.Laws.{Same, Within, GoesBeyond, Took, Halted, Outcome, Sound, verdict, Complete, Starts, Inhabited, Parted}
-use Rattle.task_parser.proofs.Basics.{tokens-append, tokens_parts, Within-append, same_refl, same_behind, same_sym, begins_same, verdict-bind, verdict-append, GoesBeyond-append}
+use Rattle.task_parser.specs.Words.{Placed, Form, One, Both, Made, ◌∣◌, Opened, tokens_of}
+use Rattle.task_parser.specs.Reading.{Stop, Reader, begins, unexpected, ◌>>=◌, read_one, read_both, read_made, read_either, enter, read_opened}
+use Rattle.task_parser.specs.Laws.{Same, Took, Outcome, Sound, verdict, Complete, Starts, Inhabited, Parted}
+use Rattle.task_parser.proofs.Basics.{tokens-append, tokens_parts, Within-append, same_behind, begins_same, verdict-bind, verdict-append, GoesBeyond-append}
 
 -- ---- two in a row
 

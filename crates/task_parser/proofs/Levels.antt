@@ -1,5 +1,5 @@
 -- The levels of operators.
-use Rattle.std.proofs.Common.{◌≡◌, ◌↔◌, ℕ, Bool, true, false, IsTrue, List, [], ◌∷◌, refl}
+use Rattle.std.proofs.Common.{◌≡◌, ◌↔◌, ℕ, Bool, false, IsTrue, List, [], ◌∷◌, refl}
 use Rattle.task_ast.specs.Tree as plain
 use Rattle.task_ast.specs.View.{plain_members, plain_links}
 use Rattle.task_ast.specs.declared.tree.Op.{Op}

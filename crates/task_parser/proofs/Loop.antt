@@ -1,11 +1,9 @@
 -- Reading items one after the other, as a loop does.
-use Rattle.std.proofs.Common.{◌≡◌, ℕ, suc, ◌<◌, Bool, true, false, List, [], ◌∷◌, ◌++◌, length, Result, Ok, Err, refl, sym, ap, ◌∙◌, append_assoc, append-nil, map}
+use Rattle.std.proofs.Common.{◌≡◌, ℕ, Bool, true, false, List, [], ◌∷◌, ◌++◌, Result, Ok, Err, refl, sym, ap, ◌∙◌, append_assoc, append-nil, map}
 use Rattle.std.proofs.lemmas.List.{map-append}
 use Rattle.task_parser.specs.declared.token.Token.{Token}
-use Rattle.task_parser.specs.declared.halt.Halt.{Halt}
 use Rattle.task_parser.specs.Words.{Form}
-use Rattle.task_parser.specs.Reading.{Stop, Reader, begins, ◌>>=◌, read_both, read_made, repeat}
-use Rattle.task_parser.specs.Gives.{Fails}
+use Rattle.task_parser.specs.Reading.{Stop, Reader, begins, ◌>>=◌, read_made, repeat}
 use Rattle.task_parser.specs.Classes.{among}
 use Rattle.task_parser.proofs.Many.{Shortens, shortens_sound, repeat_more, repeat_none}
 use Rattle.task_parser.proofs.Forms.{Reads}

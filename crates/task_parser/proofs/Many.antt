@@ -1,12 +1,12 @@
 -- Any number of a form is read exactly where the form is.
-use Rattle.std.proofs.Common.{◌≡◌, ℕ, zero, suc, ◌+◌, ◌≤◌, ◌<◌, Bool, true, false, cond, List, [], ◌∷◌, ◌++◌, length, Result, Ok, Err, refl, sym, ap, subst, ◌∙◌, append_assoc, arith}
+use Rattle.std.proofs.Common.{◌≡◌, ℕ, zero, suc, ◌+◌, ◌≤◌, ◌<◌, Bool, true, false, cond, List, [], ◌∷◌, ◌++◌, length, Result, Ok, Err, refl, sym, ap, subst, ◌∙◌, arith}
 use Rattle.std.proofs.lemmas.List.{length-append}
 use Rattle.task_parser.specs.declared.token.Token.{Token}
 use Rattle.task_parser.specs.Words.{Placed, Form, Both, Made, many, put_first, tokens_of}
 use Rattle.task_parser.specs.Reading.{Stop, Reader, begins, ◌>>=◌, read_both, read_made, read_many, repeat}
-use Rattle.task_parser.specs.Laws.{Same, Took, Halted, Outcome, Sound, verdict, Complete, Starts, Inhabited, Parted}
-use Rattle.task_parser.proofs.Basics.{tokens-append, tokens_parts, same_refl, begins_same, verdict-bind, verdict-append}
-use Rattle.task_parser.proofs.Exact.{both_first, made_any, outcome_as, complete_both, complete_made, Covers, Apart, begins_narrow, begins_apart, begins_longer}
+use Rattle.task_parser.specs.Laws.{Took, Outcome, Sound, verdict, Complete, Starts, Inhabited, Parted}
+use Rattle.task_parser.proofs.Basics.{tokens_parts, begins_same, verdict-bind, verdict-append}
+use Rattle.task_parser.proofs.Exact.{both_first, made_any, outcome_as, Covers, Apart, begins_narrow, begins_apart, begins_longer}
 
 took_shorter : {A : Type 0} (limit depth : ℕ) (first : Token → Bool) (P : Form A) (p : Reader A) (ts : List Token) (x : A) (rest : List Token) → Starts first P → Took limit depth P p ts x rest → length rest < length ts
 took_shorter limit depth first P p ts x rest starts h = rw h.parts (longer (tokens_of h.used) (starts depth h.used x h.stands))

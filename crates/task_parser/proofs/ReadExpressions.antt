@@ -1,20 +1,18 @@
 -- Expressions are read exactly.
-use Rattle.std.proofs.Common.{◌≡◌, ℕ, zero, suc, Bool, true, false, List, [], ◌∷◌, Option, Some, None, option_map, refl, inl, inr}
-use Rattle.task_ast.specs.declared.tree.Op.{Op}
+use Rattle.std.proofs.Common.{◌≡◌, ℕ, zero, suc, true, List, [], ◌∷◌, Option, Some, None, option_map, refl, inl, inr}
 use Rattle.task_ast.specs.Tree.{Expr, Neg, Not}
-use Rattle.task_parser.specs.declared.token.Token.{Token}
 use Rattle.task_parser.specs.declared.classes.TheConstants.{NUM, NAME, REG, AND, OR, NOT, SELF, ROWS, OPEN_BRACKET, CLOSE_BRACKET, OPEN_PAREN, CLOSE_PAREN, COMMA, EQ, NE, LT, LE, GT, GE, ADD, SUB, MUL, DIV, REM}
 use Rattle.task_parser.specs.Classes.{among}
 use Rattle.task_parser.specs.Words.{Form, ◌▸◌, Made, many, perhaps, Opened, the, ◌◂◌, first_of}
 use Rattle.task_parser.specs.Reading.{Reader, read_opened}
-use Rattle.task_parser.specs.Laws.{Sound, Complete, Inhabited}
+use Rattle.task_parser.specs.Laws.{Inhabited}
 use Rattle.task_parser.specs.Expressions.{Text, comparisons, member_of, chain_of, compared_of, num_of, reg_of, me_of, rows_of, named_of, member, level, sum, compared, disjunction, place_in, operand, unary, expression}
 use Rattle.task_parser.specs.ExpressionReaders.{starting, read_member, read_level, read_product, read_sum, read_compared, read_conjunction, read_disjunction, read_pair, read_place, read_named, read_rows, read_group, read_operand, read_unary, read_expression}
 use Rattle.task_parser.proofs.Exact.{inhabited_made, inhabited_one, inhabited_both}
 use Rattle.task_parser.proofs.Many.{inhabited_many}
 use Rattle.task_parser.proofs.Perhaps.{inhabited_perhaps}
 use Rattle.task_parser.proofs.ClassLists.{disjoint, subset, token_of, token_among}
-use Rattle.task_parser.proofs.Forms.{Reads, MayRead, Inside, Deeper, inside_with, reads_one, reads_the, reads_made, reads_both, reads_more, reads_many, reads_perhaps, reads_mark, reads_either, reads_opened, reads_wider, reads_shut}
+use Rattle.task_parser.proofs.Forms.{Reads, Inside, Deeper, inside_with, reads_one, reads_the, reads_made, reads_both, reads_more, reads_many, reads_perhaps, reads_mark, reads_either, reads_opened, reads_wider, reads_shut}
 
 -- what an operand goes on with, and an expression
 abbrev going : List ℕ

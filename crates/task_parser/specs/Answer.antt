@@ -1,5 +1,5 @@
 -- What parsing answers.
-use Rattle.std.specs.Prelude.{◌≡◌, ℕ, true, false, List, [], ◌∷◌, length, Result, Ok, Err, ◌+◌}
+use Rattle.std.specs.Prelude.{◌≡◌, ℕ, true, false, List, [], ◌∷◌, length, Result, Ok, Err}
 use Rattle.task_ast.specs.Tree.{Program}
 use Rattle.task_ast.specs.declared.tree.Program.{Program as CodeProgram}
 use Rattle.task_ast.specs.View.{plain_program}

@@ -1,15 +1,14 @@
 -- The grammar of expressions.
-use Rattle.std.specs.Prelude.{◌≡◌, ℕ, zero, suc, ℤ, pos, ◌+◌, ◌-◌, Bool, cond, List, [], ◌∷◌, Option, Some, None, take, drop, option_map}
+use Rattle.std.specs.Prelude.{ℕ, zero, suc, ℤ, pos, ◌+◌, ◌-◌, Bool, cond, List, [], ◌∷◌, Option, Some, None, take, drop}
 use Rattle.task_ast.specs.declared.tree.Op.{Op}
 use Rattle.task_ast.specs.declared.tree.Op.TheVariants.{Or, And, Eq, Ne, Lt, Le, Gt, Ge, Add, Sub, Mul, Div, Rem}
-use Rattle.task_ast.specs.Tree.{Expr, Num, Ctl, Reg, Me, Rows, Cell, Neg, Not, Chain, Links, links}
+use Rattle.task_ast.specs.Tree.{Expr, Num, Ctl, Reg, Me, Rows, Cell, Neg, Not, Chain, links}
 use Rattle.task_parser.specs.declared.token.Kind.{Kind}
 use Rattle.task_parser.specs.declared.token.Kind.TheVariants as kinds
 use Rattle.task_parser.specs.declared.token.Token.{Token}
 use Rattle.task_parser.specs.declared.classes.TheConstants.{NUM, NAME, REG, AND, OR, NOT, SELF, ROWS, OPEN_BRACKET, CLOSE_BRACKET, OPEN_PAREN, CLOSE_PAREN, COMMA, EQ, NE, LT, LE, GT, GE, ADD, SUB, MUL, DIV, REM}
 use Rattle.task_parser.specs.Classes.{among}
 use Rattle.task_parser.specs.Words.{Form, One, ◌▸◌, Made, ◌∣◌, many, perhaps, Opened, the, ◌◂◌, nothing}
-use Rattle.task_parser.specs.Reading.{Reader, read_one, ◌▹◌, read_made, read_either, repeat, read_perhaps, read_opened, read_the, ◌◃◌}
 
 -- the bytes of a program's text, or of a part of it
 abbrev pub Text : Type 0

@@ -1,7 +1,6 @@
 -- What the code reads, against reading on lists.
-use Rattle.std.specs.Prelude.{◌≡◌, ℕ, zero, suc, Option, Some, None, true, false, List, [], ◌∷◌, ◌++◌, Result, Ok, Err}
+use Rattle.std.specs.Prelude.{◌≡◌, ℕ, zero, suc, Option, Some, None, true, false, List, [], ◌∷◌, Result, Ok, Err}
 use Rattle.task_ast.specs.Tree.{Expr, Stmt, Block}
-use Rattle.task_parser.specs.declared.token.Token.{Token}
 use Rattle.task_parser.specs.declared.halt.Halt.{Halt}
 use Rattle.task_parser.specs.declared.halt.Halt.TheVariants.{Memory, Unexpected, TooDeep}
 use Rattle.task_parser.specs.declared.classes.TheConstants.{AND, OR, ADD, SUB, MUL, DIV, REM}

@@ -1,8 +1,8 @@
 -- The grammar of statements.
-use Rattle.std.specs.Prelude.{◌≡◌, ℕ, zero, suc, ◌-◌, ◌+◌, List, [], ◌∷◌, Option, Some, None}
+use Rattle.std.specs.Prelude.{ℕ, zero, suc, List, [], Option, Some, None}
 use Rattle.task_ast.specs.declared.tree.Atom.{Atom}
 use Rattle.task_ast.specs.declared.tree.Atom.TheVariants as atoms
-use Rattle.task_ast.specs.Tree.{Expr, Stmt, At, What, SetCtl, While, If, Lock, Unlock, Fork, Join, Barrier, SetReg, Read, Write, Print, When, Block, Nothing, block}
+use Rattle.task_ast.specs.Tree.{Expr, Stmt, At, SetCtl, While, If, Lock, Unlock, Fork, Join, Barrier, SetReg, Read, Write, Print, When, Block, Nothing, block}
 use Rattle.task_parser.specs.declared.token.Token.{Token}
 use Rattle.task_parser.specs.declared.classes.TheConstants.{NUM, NAME, REG, LOCK, UNLOCK, BARRIER, WHILE, IF, ELSE, FORK, INTO, JOIN, READ, WRITE, PRINT, WHEN, OPEN_BRACKET, CLOSE_BRACKET, OPEN_PAREN, CLOSE_PAREN, OPEN_BRACE, CLOSE_BRACE, COMMA, SEMICOLON, ASSIGN}
 use Rattle.task_parser.specs.Words.{Form, ◌▸◌, Made, ◌∣◌, many, perhaps, Opened, the, ◌◂◌, after, separated, nothing}

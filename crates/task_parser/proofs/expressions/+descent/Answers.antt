@@ -1,10 +1,9 @@
-use Rattle.std.proofs.Common.{◌≡◌, ap, sym, ◌∙◌, Ok, refl}
+use Rattle.std.proofs.Common.{sym, ◌∙◌, refl}
 use Rattle.task_ast.specs.declared.tree.Op.{Op}
 use Rattle.task_ast.specs.declared.tree.Expr.{Expr}
-use Rattle.task_ast.specs.View.{plain_expr, plain_members, plain_links}
+use Rattle.task_ast.specs.View.{plain_expr}
 use Rattle.task_ast.proofs.Views.{expr_Chain}
 use Rattle.task_parser.specs.Classes.{among}
-use Rattle.task_parser.specs.Expressions.{chain_or}
 use Rattle.task_parser.specs.ExpressionReaders.{read_member, read_level}
 use Rattle.task_parser.specs.Gives.{operators, read_part}
 use Rattle.task_parser.proofs.Levels.{member_shortens, chain_more}

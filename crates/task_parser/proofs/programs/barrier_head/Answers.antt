@@ -1,4 +1,4 @@
-use Rattle.std.proofs.Common.{◌≡◌, rules}
+use Rattle.std.proofs.Common.{rules}
 use Rattle.task_parser.specs.ProgramReaders.{read_barrier_head}
 use Rattle.task_parser.proofs.programs.barrier_head.Goals as goal
 

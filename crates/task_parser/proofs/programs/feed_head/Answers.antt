@@ -1,4 +1,4 @@
-use Rattle.std.proofs.Common.{◌≡◌, rules}
+use Rattle.std.proofs.Common.{rules}
 use Rattle.task_parser.specs.ProgramReaders.{read_feed_head}
 use Rattle.task_parser.proofs.programs.feed_head.Goals as goal
 

@@ -1,4 +1,4 @@
-use Rattle.std.proofs.Common.{◌≡◌, rules}
+use Rattle.std.proofs.Common.{rules}
 use Rattle.task_parser.specs.ProgramReaders.{read_lock_head}
 use Rattle.task_parser.proofs.programs.lock_head.Goals as goal
 

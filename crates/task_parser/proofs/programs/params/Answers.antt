@@ -1,9 +1,8 @@
-use Rattle.std.proofs.Common.{◌≡◌, [], ◌∷◌, sym, ◌∙◌}
-use Rattle.task_ast.specs.View.{plain_task}
-use Rattle.task_parser.specs.declared.classes.TheConstants.{COMMA, VAR, TASK}
+use Rattle.std.proofs.Common.{[], ◌∷◌, sym, ◌∙◌}
+use Rattle.task_parser.specs.declared.classes.TheConstants.{COMMA}
 use Rattle.task_parser.specs.Classes.{among}
 use Rattle.task_parser.specs.Reading.{read_after}
-use Rattle.task_parser.specs.ProgramReaders.{head_starts, read_head, read_param, read_var_line, read_task}
+use Rattle.task_parser.specs.ProgramReaders.{read_param}
 use Rattle.task_parser.proofs.ReadPrograms.{next_param_shortens}
 use Rattle.task_parser.proofs.Loop.{pushed_item}
 use Rattle.task_parser.proofs.programs.params.Goals as goal

@@ -1,4 +1,4 @@
-use Rattle.std.proofs.Common.{◌≡◌, Ok}
+use Rattle.std.proofs.Common.{Ok}
 use Rattle.task_ast.specs.View.{plain_program}
 use Rattle.task_parser.proofs.Whole.{exactly_at, same_program, first_fault, no_answer}
 use Rattle.task_parser.proofs.programs.parse.Goals as goal

@@ -1,4 +1,4 @@
-use Rattle.std.proofs.Common.{◌≡◌, refl}
+use Rattle.std.proofs.Common.{refl}
 use Rattle.task_parser.specs.ProgramReaders.{read_task}
 use Rattle.task_parser.proofs.programs.task.Goals as goal
 

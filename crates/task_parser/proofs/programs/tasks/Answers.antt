@@ -1,9 +1,8 @@
-use Rattle.std.proofs.Common.{◌≡◌, [], ◌∷◌, sym, ◌∙◌}
+use Rattle.std.proofs.Common.{[], ◌∷◌, sym, ◌∙◌}
 use Rattle.task_ast.specs.View.{plain_task}
-use Rattle.task_parser.specs.declared.classes.TheConstants.{COMMA, VAR, TASK}
+use Rattle.task_parser.specs.declared.classes.TheConstants.{TASK}
 use Rattle.task_parser.specs.Classes.{among}
-use Rattle.task_parser.specs.Reading.{read_after}
-use Rattle.task_parser.specs.ProgramReaders.{head_starts, read_head, read_param, read_var_line, read_task}
+use Rattle.task_parser.specs.ProgramReaders.{read_task}
 use Rattle.task_parser.proofs.ReadPrograms.{task_shortens}
 use Rattle.task_parser.proofs.Loop.{pushed}
 use Rattle.task_parser.proofs.programs.tasks.Goals as goal

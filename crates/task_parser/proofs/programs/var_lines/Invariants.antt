@@ -1,9 +1,8 @@
-use Rattle.std.proofs.Common.{◌≡◌, ℕ, [], ◌∷◌, length, map}
-use Rattle.task_ast.specs.View.{plain_task}
-use Rattle.task_parser.specs.declared.classes.TheConstants.{COMMA, VAR, TASK}
+use Rattle.std.proofs.Common.{◌≡◌, [], ◌∷◌, length}
+use Rattle.task_parser.specs.declared.classes.TheConstants.{VAR}
 use Rattle.task_parser.specs.Classes.{among}
-use Rattle.task_parser.specs.Reading.{repeat, read_after, read_some, read_separated}
-use Rattle.task_parser.specs.ProgramReaders.{head_starts, read_head, read_param, read_var_line, read_task}
+use Rattle.task_parser.specs.Reading.{repeat}
+use Rattle.task_parser.specs.ProgramReaders.{read_var_line}
 use Rattle.task_parser.proofs.Loop.{also}
 use Rattle.task_parser.proofs.programs.var_lines.Given as goal
 

@@ -1,4 +1,4 @@
-use Rattle.std.proofs.Common.{◌≡◌, sym, ◌∙◌}
+use Rattle.std.proofs.Common.{sym, ◌∙◌}
 use Rattle.task_ast.specs.View.{plain_stmt}
 use Rattle.task_parser.specs.Classes.{among}
 use Rattle.task_parser.specs.Gives.{starts, read_allowed}

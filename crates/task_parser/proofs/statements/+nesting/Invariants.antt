@@ -1,4 +1,4 @@
-use Rattle.std.proofs.Common.{◌≡◌, ℕ, ◌+◌, ◌*◌, length}
+use Rattle.std.proofs.Common.{◌≡◌, ◌+◌, ◌*◌, length}
 use Rattle.task_ast.specs.View.{plain_stmts}
 use Rattle.task_parser.specs.Classes.{among}
 use Rattle.task_parser.specs.Reading.{repeat}

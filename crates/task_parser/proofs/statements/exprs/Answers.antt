@@ -1,4 +1,4 @@
-use Rattle.std.proofs.Common.{◌≡◌, [], ◌∷◌, sym, ◌∙◌}
+use Rattle.std.proofs.Common.{[], ◌∷◌, sym, ◌∙◌}
 use Rattle.task_ast.specs.View.{plain_expr}
 use Rattle.task_parser.specs.declared.classes.TheConstants.{COMMA}
 use Rattle.task_parser.specs.Classes.{among}

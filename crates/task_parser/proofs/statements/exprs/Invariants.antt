@@ -1,4 +1,4 @@
-use Rattle.std.proofs.Common.{◌≡◌, ℕ, [], ◌∷◌, length}
+use Rattle.std.proofs.Common.{◌≡◌, [], ◌∷◌, length}
 use Rattle.task_ast.specs.View.{plain_exprs}
 use Rattle.task_parser.specs.declared.classes.TheConstants.{COMMA}
 use Rattle.task_parser.specs.Classes.{among}

@@ -1,4 +1,4 @@
-use Rattle.std.proofs.Common.{◌≡◌, refl}
+use Rattle.std.proofs.Common.{refl}
 use Rattle.task_ast.proofs.Views.{stmt_At, what_Read}
 use Rattle.task_parser.specs.StatementReaders.{read_reading}
 use Rattle.task_parser.proofs.statements.reading.Goals as goal

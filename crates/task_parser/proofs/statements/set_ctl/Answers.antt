@@ -1,4 +1,4 @@
-use Rattle.std.proofs.Common.{◌≡◌, refl}
+use Rattle.std.proofs.Common.{refl}
 use Rattle.task_ast.proofs.Views.{stmt_At, what_SetCtl}
 use Rattle.task_parser.specs.StatementReaders.{read_set_ctl}
 use Rattle.task_parser.proofs.statements.set_ctl.Goals as goal

@@ -1,4 +1,4 @@
-use Rattle.std.proofs.Common.{◌≡◌, refl}
+use Rattle.std.proofs.Common.{refl}
 use Rattle.task_ast.proofs.Views.{stmt_At, what_SetReg}
 use Rattle.task_parser.specs.StatementReaders.{read_set_reg}
 use Rattle.task_parser.proofs.statements.set_register.Goals as goal

@@ -1,4 +1,4 @@
-use Rattle.std.proofs.Common.{◌≡◌, refl}
+use Rattle.std.proofs.Common.{refl}
 use Rattle.task_ast.proofs.Views.{stmt_At, what_Write}
 use Rattle.task_parser.specs.StatementReaders.{read_writing}
 use Rattle.task_parser.proofs.statements.writing.Goals as goal
