@@ -20,4 +20,5 @@ pub mod Perhaps
 pub mod ReadExpressions
 pub mod ReadPrograms
 pub mod ReadStatements
+pub mod ShapedSpelling
 pub mod Whole

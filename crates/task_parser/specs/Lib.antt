@@ -12,6 +12,7 @@ pub mod ProgramReaders
 pub mod Programs
 pub mod Promise
 pub mod Reading
+pub mod ShapedLaw
 pub mod Spelling
 pub mod Splitting
 pub mod StatementReaders

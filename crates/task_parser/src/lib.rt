@@ -18,7 +18,7 @@ pub use class_laws::classes_by_text;
 pub use fault::{LexFault, ParseFault};
 pub use lex_laws::{faults_stop, lexings_split, splittings_are_lexed, tokens_are_placed};
 pub use lexer::lex;
-pub use parse_laws::{one_meaning, one_reading};
+pub use parse_laws::{one_meaning, one_reading, spelled_is_shaped};
 pub use programs::parse;
 pub use token::{Kind, Token};
 

@@ -1,5 +1,6 @@
 // The laws of what tokens and texts stand for, each a clause of a function that does nothing.
 ghost use Rattle.task_parser.specs.OneReading.{ProgramOrFault, OneProgram, NoFault, OneFault, OnePlace, SomeMeaning, OneMeaning, OneSpelling};
+ghost use Rattle.task_parser.specs.ShapedLaw.{SpelledIsShaped};
 
 /// Tokens stand for one program, or have one first fault at one place, and never both.
 pub fn one_reading()
@@ -16,4 +17,10 @@ pub fn one_meaning()
     ensures some { SomeMeaning }
     ensures one { OneMeaning }
     ensures program { OneSpelling }
+{}
+
+/// The program that a text stands for has no negative size, number of fields or barrier's number, and the blocks of each
+/// `when` in it hold data statements alone.
+pub fn spelled_is_shaped()
+    ensures { SpelledIsShaped }
 {}
