@@ -1,5 +1,5 @@
 -- A value is put beside a name, pair after pair.
-use Rattle.std.proofs.Common.{◌≡◌, ℕ, zero, suc, ◌<◌, ℤ, Bool, true, false, cond, List, [], ◌∷◌, ◌++◌, length, take, drop, get_or, set, ◌+◌, add-one, refl, ap, sym, ◌∙◌, arith}
+use Rattle.std.proofs.Common.{◌≡◌, ℕ, zero, suc, ◌<◌, ℤ, cond, List, [], ◌∷◌, ◌++◌, length, take, drop, get_or, set, ◌+◌, add-one, ap, sym, ◌∙◌, arith}
 use Rattle.task_ast.specs.Tree.{Name}
 use Rattle.task_ast.specs.Names.{is_name}
 use Rattle.task_ast.specs.Control.{with_value}

@@ -1,14 +1,14 @@
 -- Small programs, from their parts.
-use Rattle.std.proofs.Common.{◌≡◌, ℕ, ℤ, pos, Bool, true, false, not, ◌&&◌, cond, List, [], ◌∷◌, ◌++◌, map, Option, Some, None, unwrap_or, option_map, suc, position, slice_get, length, get_or, arith, refl, ap, sym, ◌∙◌}
+use Rattle.std.proofs.Common.{◌≡◌, ℤ, Bool, true, false, ◌&&◌, cond, List, [], ◌∷◌, map, Some, unwrap_or, option_map, suc, position, slice_get, length, get_or, arith, refl, ap, sym, ◌∙◌}
 use Rattle.std.specs.List.{list_all}
 use Rattle.task_ast.proofs.Terms.{position-cons}
 use Rattle.task_ast.specs.Tree as plain
 use Rattle.task_ast.specs.Tree.{Name, Stmt, statements, block}
 use Rattle.task_ast.specs.Names.{is_name, ret, datas, declared_in, registers_of, is_task}
-use Rattle.task_ast.specs.Declarations.{main, has_params}
+use Rattle.task_ast.specs.Declarations.{main}
 use Rattle.task_ast.specs.Plain.{given, main_task, task_at, no_task}
 use Rattle.task_ast.specs.Small.{are_small_vars, is_small_stmt, is_small_task, is_small_shape, is_small, lines_from, small_lines}
-use Rattle.task_ast.specs.View.{plain_block, plain_stmts, plain_task, plain_program}
+use Rattle.task_ast.specs.View.{plain_stmts, plain_task, plain_program}
 use Rattle.task_ast.specs.declared.tree.Head.{Head}
 use Rattle.task_ast.specs.declared.tree.TaskText.{TaskText}
 use Rattle.task_ast.specs.declared.tree.Program.{Program}

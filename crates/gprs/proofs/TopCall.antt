@@ -1,17 +1,13 @@
 -- From what the parts of the top call ensure to its own clauses.
 use Rattle.gp_base.proofs.Written.{prefix_whole}
-use Rattle.std.proofs.Common.{ℤ, ◌≡◌, ◌⊎◌, ℕ, List, length, IfSome, refl, sym, subst, inl, inr, arith, append-nil}
-use Rattle.std.proofs.Math.Nat.{le_refl}
-use Rattle.std.proofs.lemmas.List.{take_all}
+use Rattle.std.proofs.Common.{◌≡◌, ◌⊎◌, ℕ, List, IfSome, refl, inl, inr, arith}
 use Rattle.std.specs.declared.option.Option.{Option}
 use Rattle.std.specs.declared.option.Option.TheVariants.{None, Some}
 use Rattle.std.specs.declared.result.Result.TheVariants.{Err}
-use Rattle.std.specs.Io.KnownBytes.{Appends, Keeps}
-use Rattle.gp_base.specs.Sinks.{AppendsPrefix}
 use Rattle.gprs.specs.declared.batch.Refusal.{Refusal}
-use Rattle.gprs.specs.declared.batch.Refusal.TheVariants.{Usage as RefusedUsage, BadProgram as RefusedProgram, ReadFault, OutOfMemory}
+use Rattle.gprs.specs.declared.batch.Refusal.TheVariants.{Usage as RefusedUsage}
 use Rattle.std.proofs.Common.{Result}
-use Rattle.gprs.specs.Case.{Case, Usage, Missing, BadProgram, Go, IsCase, ForCase, program_of, names_read, status_of, text_of, line_of}
+use Rattle.gprs.specs.Case.{Case, Usage, BadProgram, Go, IsCase, ForCase, names_read, status_of, line_of}
 use Rattle.task_ast.specs.Tree.{Program}
 use Rattle.gprs.specs.Texts.{run_text}
 use Rattle.gprs.specs.PlainText.{plain_ran}

@@ -1,5 +1,4 @@
-use Rattle.std.proofs.Common.{◌≡◌, false, pos, List, [], ◌∷◌, ◌++◌, sym, ◌∙◌, rules}
-use Rattle.std.proofs.lemmas.Grind.{common_steps}
+use Rattle.std.proofs.Common.{◌≡◌, false, pos, [], ◌∷◌, ◌++◌, ◌∙◌, rules}
 use Rattle.task_ast.specs.Names.{is_among}
 use Rattle.gprs.specs.Registers.{names_of}
 use Rattle.gprs.proofs.Declared.{AreZero-push, names_after-push}

@@ -1,4 +1,4 @@
-use Rattle.std.proofs.Common.{◌≡◌, ◌++◌, [], drop}
+use Rattle.std.proofs.Common.{◌≡◌, ◌++◌, drop}
 use Rattle.task_ast.specs.View.{plain_stmts}
 use Rattle.task_ast.specs.Small.{lines_from, small_env}
 use Rattle.gprs.proofs.small.lines_from.Given as goal

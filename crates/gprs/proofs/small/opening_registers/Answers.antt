@@ -1,10 +1,10 @@
-use Rattle.std.proofs.Common.{◌≡◌, ℕ, ℤ, List, ◌<◌, ◌≤◌, [], ◌∷◌, length, drop, Some, None, sym, ap, ◌∙◌, rules, arith}
+use Rattle.std.proofs.Common.{◌≡◌, ℕ, ℤ, List, ◌≤◌, [], ◌∷◌, length, drop, Some, None, sym, ap, ◌∙◌, rules, arith}
 use Rattle.std.proofs.lemmas.Grind.{common_steps}
 use Rattle.std.proofs.Math.ListN.{drop_of_length-le}
 use Rattle.task_ast.specs.Tree.{Name}
 use Rattle.task_ast.specs.declared.tree.VarLine.{VarLine}
 use Rattle.task_ast.specs.Names.{declared_in, ret}
-use Rattle.gprs.specs.Registers.{names_of, names_after, AreZero, Declares}
+use Rattle.gprs.specs.Registers.{names_of, names_after, AreZero}
 use Rattle.gprs.proofs.Declared.{line_refused, line_added, unsmall, opened}
 use Rattle.gprs.proofs.small.opening_registers.Goals as goal
 

@@ -1,5 +1,4 @@
-use Rattle.std.proofs.Common.{◌≡◌, List, [], ◌∷◌, length, get_or, rules, arith, ap, ◌∙◌}
-use Rattle.std.proofs.lemmas.Grind.{common_steps}
+use Rattle.std.proofs.Common.{◌≡◌, List, length, get_or, rules, arith, ap, ◌∙◌}
 use Rattle.task_ast.specs.declared.tree.TaskText.{TaskText}
 use Rattle.gprs.proofs.SmallTasks.{small_lines-task, only_one}
 use Rattle.gprs.proofs.small.small_lines.Goals as goal

@@ -1,4 +1,4 @@
-use Rattle.std.proofs.Common.{◌≡◌, [], ◌∷◌, true, false, sym, ap, ◌∙◌, rules}
+use Rattle.std.proofs.Common.{◌≡◌, [], ◌∷◌, true, false, ◌∙◌, rules}
 use Rattle.std.specs.List.{list_all}
 use Rattle.task_ast.specs.Declarations.{main}
 use Rattle.task_ast.specs.Names.{is_name, ret, datas, declared_in}
