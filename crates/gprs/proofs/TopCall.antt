@@ -7,11 +7,10 @@ use Rattle.std.specs.declared.result.Result.TheVariants.{Err}
 use Rattle.gprs.specs.declared.batch.Refusal.{Refusal}
 use Rattle.gprs.specs.declared.batch.Refusal.TheVariants.{Usage as RefusedUsage}
 use Rattle.std.proofs.Common.{Result}
-use Rattle.gprs.specs.Case.{Case, Usage, BadProgram, Go, IsCase, ForCase, names_read, status_of, line_of}
+use Rattle.gprs.specs.Case.{Case, Usage, BadProgram, Go, IsCase, ForCase, names_read, status_of, text_of, line_of}
 use Rattle.task_ast.specs.Tree.{Program}
-use Rattle.gprs.specs.Texts.{run_text}
-use Rattle.gprs.specs.PlainText.{plain_ran}
-use Rattle.gprs.specs.declared.small.SmallProgram.{SmallProgram}
+use Rattle.gprs.specs.declared.words.Command.{Command}
+use Rattle.gprs.specs.declared.run.Batch.{Batch}
 use Rattle.gprs.specs.Decided.{case_of, TouchesShelf}
 use Rattle.gprs.specs.Answers.{Change, TakesAll, TakesPart, TakesNothing, Fails, Grew, write_fault_line, Yields, due_status, no_memory, read_fault, write_fault, LineEnds, whole, line_failed, line_no_memory, RunEnds, finished, run_no_memory, output_failed, error_failed}
 use Rattle.gprs.specs.Headline.{IsWhole, TellsCase, IsRefusal, HasCaseLine, TellsReadFault, TellsWriteFault, RefusalEnds, usage_told, program_told, read_told, refusal_no_memory, refusal_failed}
@@ -35,11 +34,11 @@ run_of_memory text line out err status part (line_failed failed) = error_failed 
 run_of_memory text line out err status part line_no_memory = run_no_memory part
 
 -- a run that was begun
-pub run_status : (program : Program) (out err : Change) (grew : Type 0) (status : ℕ) → RunEnds (run_text (plain_ran program)) out err status → Yields (status_of (Go program)) grew (Fails out ⊎ Fails err) status
-run_status program out err grew status (finished all quiet) = due_status
-run_status program out err grew status (run_no_memory part) = no_memory
-run_status program out err grew status (output_failed part fails told) = write_fault (inl fails)
-run_status program out err grew status (error_failed part fails) = write_fault (inr fails)
+pub run_status : (command : Command) (program : Program) (out err : Change) (grew : Type 0) (status : ℕ) → RunEnds (text_of (Go command program)) out err status → Yields (status_of (Go command program)) grew (Fails out ⊎ Fails err) status
+run_status command program out err grew status (finished all quiet) = due_status
+run_status command program out err grew status (run_no_memory part) = no_memory
+run_status command program out err grew status (output_failed part fails told) = write_fault (inl fails)
+run_status command program out err grew status (error_failed part fails) = write_fault (inr fails)
 
 pub run_whole : (text : List ℕ) (out err : Change) (status : ℕ) → RunEnds text out err status → IsWhole status → TakesAll out text
 run_whole text out err status (finished all quiet) is = all
@@ -123,11 +122,11 @@ pub told_case : (words : List (List ℕ)) (files : Option (List (List ℕ × Lis
 told_case words None known is = tt
 told_case words (Some files) known is = (known, is, refl)
 
-pub run_case : (words : List (List ℕ)) (files : Option (List (List ℕ × List ℕ))) (program : Program) (out err : Change) (status : ℕ) → IfSome files (λ told. IsCase words told (Go program)) → RunEnds (run_text (plain_ran program)) out err status → TellsCase status → IfSome files (λ told. (case : Case) × IsCase words told case × (status_of case ≡ status))
-run_case words files program out err status is (finished all quiet) tells = told_case words files (Go program) is
-run_case words files program out err status is (run_no_memory part) tells = absurd (grind (arith, tells))
-run_case words files program out err status is (output_failed part fails told) tells = absurd (grind (arith, tells))
-run_case words files program out err status is (error_failed part fails) tells = absurd (grind (arith, tells))
+pub run_case : (words : List (List ℕ)) (files : Option (List (List ℕ × List ℕ))) (command : Command) (program : Program) (out err : Change) (status : ℕ) → IfSome files (λ told. IsCase words told (Go command program)) → RunEnds (text_of (Go command program)) out err status → TellsCase status → IfSome files (λ told. (case : Case) × IsCase words told case × (status_of case ≡ status))
+run_case words files command program out err status is (finished all quiet) tells = told_case words files (Go command program) is
+run_case words files command program out err status is (run_no_memory part) tells = absurd (grind (arith, tells))
+run_case words files command program out err status is (output_failed part fails told) tells = absurd (grind (arith, tells))
+run_case words files command program out err status is (error_failed part fails) tells = absurd (grind (arith, tells))
 
 pub refused_case : (words : List (List ℕ)) (files : Option (List (List ℕ × List ℕ))) (err : Change) (refusal : Refusal) (status : ℕ) → IfSome files (λ told. IfSome (case_of (Err refusal)) (IsCase words told)) → RefusalEnds err refusal status → TellsCase status → IfSome files (λ told. (case : Case) × IsCase words told case × (status_of case ≡ status))
 refused_case words files err refusal status is (usage_told all) tells = told_case words files Usage is
@@ -137,7 +136,7 @@ refused_case words files err refusal status is refusal_no_memory tells = absurd 
 refused_case words files err refusal status is (refusal_failed fails) tells = absurd (grind (arith, tells))
 
 -- words of no command
-pub refused_words : (err : Change) (refusal : Refusal) (status : ℕ) → ◌≡◌ {A = Result SmallProgram Refusal} (Err refusal) (Err RefusedUsage) → RefusalEnds err refusal status → Yields 2 ⊥ (Fails err) status
+pub refused_words : (err : Change) (refusal : Refusal) (status : ℕ) → ◌≡◌ {A = Result Batch Refusal} (Err refusal) (Err RefusedUsage) → RefusalEnds err refusal status → Yields 2 ⊥ (Fails err) status
 refused_words err refusal status is (usage_told all) = due_status
 refused_words err refusal status is (program_told all) = absurd cc
 refused_words err refusal status is (read_told all) = absurd cc

@@ -32,15 +32,24 @@ pub fn read_fault_line(alloc: Global, name: &Name) -> Result<Vec<u8>, AllocError
     Ok(line)
 }
 
-/// The line of a fault by its kind, at a place of the text that a stage of reading comes to.
-pub fn fault_line(alloc: Global, stage: &str, kind: u8, at: u32) -> Result<Vec<u8>, AllocError>
-    ensures { IfOk result (λ line. line.items ≡ fault_line stage.now kind at) }
+/// The line of a fault by its kind, at a place of the text that a stage of reading comes to: the number of a `byte`
+/// or of a `line`.
+pub fn fault_line(
+    alloc: Global,
+    stage: &str,
+    kind: u8,
+    place: &str,
+    at: u32,
+) -> Result<Vec<u8>, AllocError>
+    ensures { IfOk result (λ line. line.items ≡ fault_line stage.now kind place.now at) }
 {
     let mut line = Vec::from_slice(alloc, b"gprs: ")?;
     line.extend_from_slice(stage.as_bytes())?;
     line.extend_from_slice(b" ")?;
     line.extend_from_slice(Buffer::new().format(kind).as_bytes())?;
-    line.extend_from_slice(b" at byte ")?;
+    line.extend_from_slice(b" at ")?;
+    line.extend_from_slice(place.as_bytes())?;
+    line.extend_from_slice(b" ")?;
     line.extend_from_slice(Buffer::new().format(at).as_bytes())?;
     line.extend_from_slice(b"\n")?;
     Ok(line)

@@ -7,9 +7,11 @@ ghost use Rattle.task_ast.specs.Small.{is_arithmetic, is_small_expr, are_small_l
 ghost use Rattle.task_ast.specs.Control.{with_value};
 ghost use Rattle.task_ast.specs.Plain.{given, main_task};
 ghost use Rattle.task_ast.specs.Value.{value};
+ghost use Rattle.lock_checker.specs.Accepted.{program_of};
 ghost use Rattle.gprs.specs.Registers.{names_of, AreZero, Declares, Runs};
 
 use gp_base::{Lines, Name, Seq, ThreadNo};
+use lock_checker::Checked;
 use std::alloc::{AllocError, Global};
 use std::mem;
 use task_ast::{Env, Expr, Op, Param, Program, Stmt, TaskText, VarLine, What, eval_d};
@@ -17,10 +19,10 @@ use task_ast::{Env, Expr, Op, Param, Program, Stmt, TaskText, VarLine, What, eva
 /// A small program, with its registers, each 0.
 #[derive(Drop)]
 pub struct SmallProgram {
-    pub program: Program,
+    pub checked: Checked,
     pub registers: Seq<(Name, i64)>,
-    ghost small: { is_small (plain_program program) ≡ true },
-    ghost zero: { registers ≡ given (registers_of (main_task (plain_program program))) [] },
+    ghost small: { is_small (plain_program (program_of checked)) ≡ true },
+    ghost zero: { registers ≡ given (registers_of (main_task (plain_program (program_of checked)))) [] },
 }
 
 const MAIN: &[u8] = b"main";

@@ -7,6 +7,9 @@ use gp_base::Lines;
 use itoa::Buffer;
 use std::alloc::{AllocError, Global};
 
+/// What is written for a program that is accepted.
+pub const OK: &[u8] = b"ok\n";
+
 /// The line before the printed lines.
 pub const OUTPUT: &[u8] = b"output\n";
 

@@ -6,7 +6,7 @@ ghost use Rattle.gprs.specs.Headline.{IsWhole, TellsCase, IsRefusal, HasCaseLine
 
 use crate::batch::{Refusal, read_batch};
 use crate::lines::{OUT_OF_MEMORY, USAGE, end_with, read_fault_line};
-use crate::run::write_run;
+use crate::run::carry_out;
 use gp_base::{Gate, Journal, Seq, Shelf, Sink};
 use std::alloc::Global;
 use std::thread::Threads;
@@ -18,7 +18,7 @@ pub struct Outcome {
     pub journal: Journal,
 }
 
-// Tells why there is nothing to run, and answers the status.
+// Tells why there is nothing to do, and answers the status.
 fn refuse<E: Sink>(alloc: Global, refusal: Refusal, err: &mut E) -> u8
     ensures { RefusalEnds (change_of E.written E.faults err.old err.new) refusal result }
 {
@@ -49,9 +49,10 @@ fn empty_journal(alloc: Global) -> Journal
 }
 
 /// Does what the words ask for, over what is handed in. The words are those behind the program's name. The status is
-/// 0 where the program ran, 1 at want of memory, 2 where the words are those of no command, 3 where the program is
-/// refused, 7 where a file could not be read, and 8 where a write failed. At 1, 2, 3 and 7 one line on `err` tells it,
-/// and at 8 where `out` failed. The journal is empty, since no run is journalled yet.
+/// 0 where the program ran, or where it was checked and is accepted, 1 at want of memory, 2 where the words are those
+/// of no command, 3 where the program is refused, 7 where a file could not be read, and 8 where a write failed. At 1,
+/// 2, 3 and 7 one line on `err` tells it, and at 8 where `out` failed. The journal is empty, since no run is
+/// journalled yet.
 pub fn gprs_run<R: Threads + Sync + AllocGlobal, H: Shelf, O: Sink, E: Sink, G: Gate>(
     rt: &R,
     words: &[String],
@@ -95,8 +96,8 @@ pub fn gprs_run<R: Threads + Sync + AllocGlobal, H: Shelf, O: Sink, E: Sink, G: 
 {
     let alloc = rt.alloc();
     match read_batch(alloc, words, shelf) {
-        Ok(small) => {
-            let status = write_run(alloc, small, out, err);
+        Ok(batch) => {
+            let status = carry_out(alloc, batch, out, err);
             Outcome {
                 status,
                 journal: empty_journal(alloc),

@@ -1,11 +1,10 @@
 use Rattle.std.proofs.Common.{ap, Err}
-use Rattle.task_ast.specs.View.{plain_program}
-use Rattle.gprs.specs.Texts.{run_text}
-use Rattle.gprs.specs.PlainText.{plain_ran}
+use Rattle.gprs.specs.Case.{text_of}
+use Rattle.gprs.specs.Decided.{go_of}
 use Rattle.gprs.specs.Answers.{change_of, finished}
 use Rattle.gp_base.proofs.Written.{Keeps-same}
 use Rattle.gprs.proofs.TopCall.{run_of_failed, run_of_memory}
-use Rattle.gprs.proofs.run.write_run.Goals as goal
+use Rattle.gprs.proofs.run.carry_out.Goals as goal
 
 pub returns-in-Ok : goal.returns-in-Ok
 returns-in-Ok g c = finished c.in-Ok.ensures.all (Keeps-same _)
@@ -14,11 +13,11 @@ pub returns-in-Err-Failed : goal.returns-in-Err-Failed
 returns-in-Err-Failed g c =
     let out = change_of g.O.Sink.written g.O.Sink.faults c.args.out.now c.put_text.new.out in
     let err = change_of g.E.Sink.written g.E.Sink.faults c.args.err.now c.end_with.new.err in
-    run_of_failed (run_text (plain_ran (plain_program c.args.small.program))) out err c.end_with.result c.in-Err-Failed.ensures.prefix
+    run_of_failed (text_of (go_of c.args.batch)) out err c.end_with.result c.in-Err-Failed.ensures.prefix
     (c.in-Err-Failed.ensures.cause.failed (ap Err c.in-Err-Failed.field-0-is)) c.end_with.ensures
 
 pub returns-in-Err-OutOfMemory : goal.returns-in-Err-OutOfMemory
 returns-in-Err-OutOfMemory g c =
     let out = change_of g.O.Sink.written g.O.Sink.faults c.args.out.now c.put_text.new.out in
     let err = change_of g.E.Sink.written g.E.Sink.faults c.args.err.now c.end_with-in-Err-OutOfMemory.new.err in
-    run_of_memory (run_text (plain_ran (plain_program c.args.small.program))) _ out err c.end_with-in-Err-OutOfMemory.result c.in-Err-OutOfMemory.ensures.prefix c.end_with-in-Err-OutOfMemory.ensures
+    run_of_memory (text_of (go_of c.args.batch)) _ out err c.end_with-in-Err-OutOfMemory.result c.in-Err-OutOfMemory.ensures.prefix c.end_with-in-Err-OutOfMemory.ensures
