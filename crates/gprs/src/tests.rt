@@ -45,6 +45,71 @@ task main() {
 }
 ";
 
+// Programs that are checked, a line for each: the answer, and the program with a bar for each line end.
+const CHECKS: &str =
+    r#"check 9 at line 6: lock bank[2];|record acct[2] by bank;|task main() {|  var i;|  lock bank[i];|  i = 1;|  write acct[i] = 5;|  unlock bank[i];|}
+check 5 at line 6: lock bank[2];|record acct[2] by bank;|task main() {|  var i;|  lock bank[i];|  write acct[0] = 5;|  unlock bank[i];|}
+check 1 at line 1: task t() { }
+check 2 at line 2: lock a[1];|lock a[1];|task main() { }
+check 3 at line 1: lock a[0];|task main() { }
+check 4 at line 3: task main() {|var x, $y;|x = $y;|}
+check 5 at line 3: lock a[1];|task main() {|unlock a[0];|}
+check 6 at line 4: lock a[1];|task main() {|lock a[0];|lock a[0];|unlock a[0];|}
+check 7 at line 2: lock a[1];|task main() {|lock a[0];|}
+check 8 at line 3: lock a[1];|task main() {|if 1 { lock a[0]; }|unlock a[0];|}
+check 10 at line 2: lock a[2];|record r[3] by a;|task main() { }
+check 11 at line 1: lock a[65537];|task main() { }
+ok: lock a[65536];|task main() { }
+check 1 at line 2: barrier a(1);|record r[1] by a;|task main() { }
+ok: record r[1] by a;|lock a[1];|task main() { }
+check 1 at line 2: task main() {|$x = 1;|}
+ok: task main() {|$ret = 1;|}
+check 1 at line 3: task main() {|var x;|x = $y;|}
+check 1 at line 3: feed f[1] from "f.csv";|task main() {|print f[0, y];|}
+check 1 at line 2: task main() {|print 1 + 2 * y;|}
+check 1 at line 4: task t() { }|task main() {|var x;|fork t() into y;|}
+check 1 at line 3: lock b[1];|task main() {|barrier b;|}
+check 1 at line 4: task main() {|when 1 {|} else {|$x = 1;|}|}
+check 1 at line 1: lock main[1];|task t() { }
+check 2 at line 2: lock a[1];|task a() { }|task main() { }
+check 2 at line 1: task t($ret) { }|task main() { }
+ok: task t(x, $x) { }|task main() { }
+check 2 at line 3: task main() {|var x;|var y, x;|}
+check 3 at line 1: barrier b(0);|task main() { }
+check 3 at line 1: task main(x) { }
+check 3 at line 3: task t(x, $y) { }|task main() {|fork t(1);|}
+ok: task t(x, $y) { }|task main() {|fork t(1, $ret);|}
+check 4 at line 2: task main() {|while $ret { }|}
+check 4 at line 3: task t(x, $y) { }|task main() {|fork t(1 + $ret, 2);|}
+check 4 at line 3: feed f[1] from "f.csv";|task main() {|$ret = f[0, $ret];|}
+ok: task main() {|when $ret { print $ret; } else { $ret = -$ret; }|}
+check 5 at line 6: lock a[1];|lock b[1];|record r[1] by a;|task main() {|lock b[0];|write r[0] = 1;|unlock b[0];|}
+check 5 at line 6: lock a[1];|record r[1] by a;|task main() {|lock a[0];|unlock a[0];|read r[0] into $ret;|}
+check 5 at line 5: lock a[1];|task main() {|lock a[0];|unlock a[0];|unlock a[0];|}
+ok: lock a[2];|record r[2] by a;|task main() {|lock a[0];|when $ret { write r[0] = 1; } else { read r[0] into $ret; }|unlock a[0];|}
+check 6 at line 5: lock a[1];|task main() {|var i;|lock a[i];|lock a[i];|unlock a[i];|}
+check 6 at line 4: lock a[1];|task main() {|lock a[0];|while 1 { lock a[0]; unlock a[0]; }|unlock a[0];|}
+ok: lock a[1];|lock b[1];|task main() {|lock a[0];|lock b[0];|unlock a[0];|unlock b[0];|}
+check 7 at line 3: lock a[2];|task t() { }|task main() {|lock a[0];|lock a[1];|unlock a[0];|}
+check 8 at line 4: lock a[1];|task main() {|lock a[0];|while 1 {|unlock a[0];|}|unlock a[0];|}
+check 8 at line 3: lock a[2];|task main() {|if 1 {|lock a[0];|} else {|lock a[1];|}|unlock a[0];|}
+ok: lock a[2];|task main() {|if 1 { lock a[0]; lock a[1]; } else { lock a[1]; lock a[0]; }|unlock a[0];|unlock a[1];|}
+check 9 at line 6: lock a[1];|task t() { }|task main() {|var i;|lock a[i];|fork t() into i;|unlock a[i];|}
+ok: lock a[1];|task main() {|var i, j;|lock a[i];|j = 1;|unlock a[i];|i = 1;|}
+check 10 at line 3: lock a[2];|lock b[3];|record r[3] by a;|task main() { }
+check 11 at line 2: lock a[65535];|lock b[2];|task main() { }
+check 2 at line 3: record r[2] by a;|lock a[2];|lock a[3];|task main() { }
+check 11 at line 1: barrier b(4097);|task main() { }
+ok: barrier b(4096);|task main() { }
+check 1 at line 3: task main() {|var x;|x = y + $ret;|}
+check 3 at line 2: lock a[1];|record r[0] by a;|task main() { }
+check 10 at line 2: lock a[65535];|record r[65537] by a;|task main() { }
+check 4 at line 6: lock a[1];|task main() {|var i;|lock a[i];||i = $ret;|unlock a[i];|}
+check 7 at line 3: lock a[1];|task main() {|} task t() {|lock a[0];|}
+check 2 at line 5: task main() {|x = 1;|}||task main() { }
+check 8 at line 2: lock a[1];|task main() { while 1 {|lock a[0]; } x = 1; }
+check 1 at line 3: lock a[1];|task main() { if 1 {|x = 1; lock a[0]; } }"#;
+
 // How many bytes the sinks take at once, and the calls that fail; at 0 none does.
 #[derive(Clone, Copy)]
 struct Devices {
@@ -129,6 +194,33 @@ fn refuses<R: Threads + Sync + AllocGlobal + Abort>(
     Ok(())
 }
 
+// The check accepts the program.
+fn accepts<R: Threads + Sync + AllocGlobal + Abort>(
+    rt: &R,
+    program: &[u8],
+) -> Result<(), AllocError> {
+    let answer = answer_of(rt, "check p.gp", program, SOUND)?;
+    assert_eq!(rt; answer.status, 0);
+    assert_eq!(rt; answer.output.written(), b"ok\n".as_slice());
+    assert_eq!(rt; answer.error.written(), b"".as_slice());
+    Ok(())
+}
+
+// The check has this answer to the program, which has a bar for each line end.
+fn checks<R: Threads + Sync + AllocGlobal + Abort>(
+    rt: &R,
+    answer: &str,
+    barred: &str,
+) -> Result<(), AllocError> {
+    let alloc = rt.alloc();
+    let program = barred.replace(alloc, '|', "\n")?;
+    if answer == "ok" {
+        return accepts(rt, program.as_bytes());
+    }
+    let line = format!(in alloc; "gprs: {answer}\n")?;
+    refuses(rt, "check p.gp", program.as_bytes(), 3, line.as_str())
+}
+
 // The program prints these lines.
 fn prints<R: Threads + Sync + AllocGlobal + Abort>(
     rt: &R,
@@ -167,6 +259,9 @@ fn words_of_no_command(rt: HostRuntime) -> Result<(), Fail> {
         "run ",
         "run -p.gp",
         "one p.gp",
+        "check",
+        "check -p.gp",
+        "check p.gp q.gp",
         "run p.gp --workers 65",
         "run p.gp --turns 0",
         "run p.gp --crew fast",
@@ -191,7 +286,9 @@ fn programs_that_are_refused(rt: HostRuntime) -> Result<(), Fail> {
             "task main() { print 1 < 2 < 3; }",
             "gprs: parse 1 at byte 26\n",
         ),
+        ("task t() { }", "gprs: check 1 at line 1\n"),
         ("task main() { print self; }", "gprs: not built yet\n"),
+        (ADD, "gprs: not built yet\n"),
     ];
     for (program, line) in rows {
         refuses(&rt, "run p.gp", program.as_bytes(), 3, line)?;
@@ -203,6 +300,31 @@ fn programs_that_are_refused(rt: HostRuntime) -> Result<(), Fail> {
         7,
         "gprs: read fault q.gp\n",
     )?;
+    Ok(())
+}
+
+#[test]
+fn programs_that_are_checked(rt: HostRuntime) -> Result<(), Fail> {
+    accepts(&rt, ADD.as_bytes())?;
+    for row in CHECKS.lines() {
+        let (answer, barred) = row.split_once(": ").unwrap_or((row, ""));
+        checks(&rt, answer, barred)?;
+    }
+    Ok(())
+}
+
+// The answer of a check is one piece.
+#[test]
+fn a_check_whose_output_fails(rt: HostRuntime) -> Result<(), Fail> {
+    let answer = answer_of(
+        &rt,
+        "check p.gp",
+        ADD.as_bytes(),
+        Devices { output: 1, ..SOUND },
+    )?;
+    assert_eq!(rt; answer.status, 8);
+    assert_eq!(rt; answer.output.written(), b"".as_slice());
+    assert_eq!(rt; answer.error.written(), b"gprs: write fault\n".as_slice());
     Ok(())
 }
 
