@@ -2,6 +2,7 @@ pub mod BaseLemmas
 pub mod BodyLemmas
 pub mod HeadLemmas
 pub mod HoldingLemmas
+pub mod LayoutLemmas
 pub mod NameLemmas
 pub mod SamePairs
 pub mod TableLemmas

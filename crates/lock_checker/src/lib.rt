@@ -9,6 +9,7 @@ mod heads;
 mod held;
 mod index;
 mod laws;
+mod layout;
 mod program;
 mod rules;
 mod scope;

@@ -3,7 +3,7 @@ ghost use Rattle.task_ast.specs.Shaped.{is_shaped};
 ghost use Rattle.task_ast.specs.View.{plain_program};
 
 use crate::check;
-use gp_base::{Name, Seq};
+use gp_base::{Name, RecNo, Seq};
 use std::alloc::{AllocError, Global};
 use std::test::Fail;
 use task_ast::{Head, Program, TaskText};
@@ -56,5 +56,19 @@ fn accepts(rt: HostRuntime) -> Result<(), Fail> {
     assert_eq!(rt; checked.rec_base(&acct), Some(0));
     assert_eq!(rt; checked.lock_base(&acct), None);
     assert_eq!(rt; checked.rec_base(&bank), None);
+    Ok(())
+}
+
+#[test]
+fn lays_out_cells(rt: HostRuntime) -> Result<(), Fail> {
+    let alloc = rt.alloc();
+    let p = small(alloc)?;
+    let checked = check(alloc, p)?;
+    let layout = checked.layout(alloc)?;
+    assert_eq!(rt; layout.under.len(), 5);
+    let expected: [&[RecNo]; 5] = [&[], &[], &[], &[RecNo(0)], &[RecNo(1)]];
+    for (cells, row) in layout.under.as_slice().iter().zip(expected) {
+        assert!(rt; cells.as_slice() == row);
+    }
     Ok(())
 }

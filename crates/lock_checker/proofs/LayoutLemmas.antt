@@ -1,0 +1,129 @@
+-- The lock cells over record cells, and the record cells under each.
+use Rattle.std.proofs.Common.{◌≡◌, ℕ, zero, suc, ◌+◌, ◌-◌, ◌≤◌, ◌<◌, ◌==◌, Bool, true, false, not, cond, List, [], ◌∷◌, ◌++◌, map, length, Option, Some, None, is_none, refl, sym, ap, ◌∙◌, arith, option_map, add-one, zero-add, append_assoc}
+use Rattle.std.specs.Prelude.{pos}
+use Rattle.std.specs.List.{list_all, filter}
+use Rattle.std.proofs.lemmas.Bool.{false≢true, lt-ltb, le-ltb, eqb-true, and_parts, not-true, not-false}
+use Rattle.std.proofs.lemmas.List.{map-append, length-append}
+use Rattle.task_ast.specs.declared.tree.Head.{Head}
+use Rattle.task_ast.specs.declared.tree.Head.TheVariants.{LockHead, BarrierHead, RecHead, FeedHead}
+use Rattle.task_ast.specs.Tree.{Name}
+use Rattle.task_ast.specs.Names.{is_name, natural, named, place, locks_of, records_of, cell_number, cells_in}
+use Rattle.task_ast.specs.Declarations.{is_other_size}
+use Rattle.task_ast.specs.Layout.{base_of, lock_over, is_lock_cell, cells_under, fits_array}
+use Rattle.task_ast.specs.Table.{numbers}
+use Rattle.lock_checker.specs.Positions.{positions, numbers_at, cells_over}
+
+numbers-more : (a n : ℕ) → numbers a (suc n) ≡ numbers a n ++ (a + n) ∷ []
+numbers-more a zero = ap (λ k. k ∷ []) (omega arith)
+numbers-more a (suc n) = ap (λ l. a ∷ l) (numbers-more (suc a) n ∙ ap (λ k. numbers (suc a) n ++ k ∷ []) (omega arith))
+
+-- one number more
+numbers_more : (a n : ℕ) → numbers a (n + 1) ≡ numbers a n ++ (a + n) ∷ []
+numbers_more a n = ap (numbers a) (add-one n) ∙ numbers-more a n
+
+-- numbers at the end of a list, with the next one
+pub numbers-push : (xs ys : List ℕ) (a n : ℕ) → ys ≡ xs ++ numbers a n → ys ++ (a + n) ∷ [] ≡ xs ++ numbers a (n + 1)
+numbers-push xs ys a n is = ap (λ l. l ++ (a + n) ∷ []) is ∙ append_assoc xs (numbers a n) ((a + n) ∷ []) ∙ ap (λ l. xs ++ l) (sym (numbers_more a n))
+
+-- what belongs to the numbers below a count, with that of the next one
+pub map-push : {T : Type 0} (f : ℕ → T) (ys : List T) (n : ℕ) → ys ≡ map f (numbers 0 n) → ys ++ f n ∷ [] ≡ map f (numbers 0 (n + 1))
+map-push f ys n is = ap (λ l. l ++ f n ∷ []) is ∙ ap (λ k. map f (numbers 0 n) ++ f k ∷ []) (sym (zero-add n)) ∙ sym (map-append f (numbers 0 n) ((0 + n) ∷ [])) ∙ ap (map f) (sym (numbers_more 0 n))
+
+numbers-split : (a n m : ℕ) → numbers a (n + m) ≡ numbers a n ++ numbers (a + n) m
+numbers-split a zero m = ap (numbers a) (zero-add m) ∙ ap (λ k. numbers k m) (omega arith)
+numbers-split a (suc n) m =
+    let sum : suc n + m ≡ suc (n + m) = omega arith in
+    ap (numbers a) sum ∙ ap (λ l. a ∷ l) (numbers-split (suc a) n m ∙ ap (λ k. numbers (suc a) n ++ numbers k m) (omega arith))
+
+length-numbers : (a n : ℕ) → length (numbers a n) ≡ n
+length-numbers a zero = refl
+length-numbers a (suc n) = ap suc (length-numbers (suc a) n)
+
+-- what agrees number by number
+map_numbers : {T : Type 0} (f g : ℕ → T) (a b n : ℕ) → ((k : ℕ) → k < n → f (a + k) ≡ g (b + k)) → map f (numbers a n) ≡ map g (numbers b n)
+map_numbers f g a b zero same = refl
+map_numbers f g a b (suc n) same =
+    let first : f a ≡ g b = ap f (omega arith) ∙ same 0 (omega arith) ∙ ap g (omega arith) in
+    let rest = map_numbers f g (suc a) (suc b) n (λ k less. ap f (omega arith) ∙ same (suc k) (omega arith) ∙ ap g (omega arith)) in
+    ap (λ x. x ∷ map f (numbers (suc a) n)) first ∙ ap (λ l. g b ∷ l) rest
+
+-- an array's cells follow one another from its first
+abbrev HasBase : List (Name × ℕ) → Name → ℕ → Type 0
+HasBase arrays x size = (base : ℕ) × (base_of arrays x ≡ Some base) × ((k : ℕ) → k < size → cell_number arrays x (pos k) ≡ Some (base + k))
+
+has_base : (arrays : List (Name × ℕ)) (x : Name) (size : ℕ) → named x arrays ≡ Some size → HasBase arrays x size
+has_base [] x size e = absurd (cc e)
+has_base (array ∷ arrays) x size e = go (is_name x array.0) e (has_base arrays x size)
+  where
+    go : (b : Bool) → cond b (Some array.1) (named x arrays) ≡ Some size → (named x arrays ≡ Some size → HasBase arrays x size)
+        → (base : ℕ) × (cond b (Some 0) (option_map (λ n. array.1 + n) (base_of arrays x)) ≡ Some base)
+        × ((k : ℕ) → k < size → cond b (place array.1 (pos k)) (option_map (λ n. array.1 + n) (cell_number arrays x (pos k))) ≡ Some (base + k))
+    go true e later = let same : array.1 ≡ size = cc e in (0, refl, λ k less. rw (lt-ltb k array.1 (omega arith)) (ap Some (omega arith)))
+    go false e later =
+        let there = later e in
+        (array.1 + there.0, ap (option_map (λ n. array.1 + n)) there.1, λ k less. ap (option_map (λ n. array.1 + n)) (there.2 k less) ∙ ap Some (omega arith))
+
+-- the array of a record that fits it has the record's size
+array_found : (size : ℕ) (o : Option ℕ) → not (is_none o) ≡ true → not (is_other_size size o) ≡ true → o ≡ Some size
+array_found size None there same = absurd (false≢true there)
+array_found size (Some other) there same = ap Some (sym (eqb-true size other (not-false (size == other) (not-true (not (size == other)) same))))
+
+-- the cells over the record cells are those that the heads tell
+over_told : (all heads : List Head) → list_all (fits_array all) heads ≡ true
+    → map Some (cells_over (locks_of all) heads) ≡ map (lock_over (locks_of all) heads) (numbers 0 (cells_in (records_of heads)))
+over_told all [] fits = refl
+over_told all (LockHead name size line ∷ heads) fits = over_told all heads fits
+over_told all (BarrierHead name number line ∷ heads) fits = over_told all heads fits
+over_told all (FeedHead name fields from line ∷ heads) fits = over_told all heads fits
+over_told all (RecHead name size by from line ∷ heads) fits =
+    let arrays = locks_of all in
+    let n = natural size in
+    let m = cells_in (records_of heads) in
+    let here = lock_over arrays (RecHead name size by from line ∷ heads) in
+    let parts = and_parts (fits_array all (RecHead name size by from line)) (list_all (fits_array all) heads) fits in
+    let mine = and_parts (not (is_none (named by arrays))) (not (is_other_size n (named by arrays))) parts.0 in
+    let there = has_base arrays by n (array_found n (named by arrays) mine.0 mine.1) in
+    let first : map Some (numbers there.0 n) ≡ map here (numbers 0 n) =
+    map_numbers Some here there.0 0 n (λ k less. sym (there.2 k less) ∙ sym (ap (λ b. cond b (cell_number arrays by (pos k)) (lock_over arrays heads (k - n))) (lt-ltb k n less)) ∙ ap here (omega arith)) in
+    let later : map (lock_over arrays heads) (numbers 0 m) ≡ map here (numbers (0 + n) m) =
+    map_numbers (lock_over arrays heads) here 0 (0 + n) m (λ k less.
+    ap (lock_over arrays heads) (omega arith)
+    ∙ sym (ap (λ b. cond b (cell_number arrays by (pos (0 + n + k))) (lock_over arrays heads (0 + n + k - n))) (le-ltb (0 + n + k) n (omega arith)))) in
+    ap (λ o. map Some (numbers_at o n ++ cells_over arrays heads)) there.1
+    ∙ map-append Some (numbers there.0 n) (cells_over arrays heads)
+    ∙ ap (λ l. l ++ map Some (cells_over arrays heads)) first
+    ∙ ap (λ l. map here (numbers 0 n) ++ l) (over_told all heads parts.1 ∙ later)
+    ∙ sym (map-append here (numbers 0 n) (numbers (0 + n) m))
+    ∙ sym (ap (map here) (numbers-split 0 n m))
+
+-- the places of a lock cell are the numbers that it is over
+places_told : (over : ℕ → Option ℕ) (lock from n : ℕ) (xs : List ℕ) → map Some xs ≡ map over (numbers from n)
+    → positions from xs lock ≡ filter (λ c. is_lock_cell lock (over c)) (numbers from n)
+places_told over lock from zero [] e = refl
+places_told over lock from zero (x ∷ xs) e = absurd (cc e)
+places_told over lock from (suc n) [] e = absurd (cc e)
+places_told over lock from (suc n) (x ∷ xs) e =
+    let first : Some x ≡ over from = cc e in
+    let rest : map Some xs ≡ map over (numbers (suc from) n) = cc e in
+    ap (λ l. cond (lock == x) (from ∷ l) l) (places_told over lock (suc from) n xs rest)
+    ∙ ap (λ o. cond (is_lock_cell lock o) (from ∷ filter (λ c. is_lock_cell lock (over c)) (numbers (suc from) n)) (filter (λ c. is_lock_cell lock (over c)) (numbers (suc from) n))) first
+
+-- the places of a lock cell among the cells over all record cells are the record cells under it
+pub under_told : (heads : List Head) → list_all (fits_array heads) heads ≡ true → (lock : ℕ) → positions 0 (cells_over (locks_of heads) heads) lock ≡ cells_under heads lock
+under_told heads fits lock = places_told (lock_over (locks_of heads) heads) lock 0 (cells_in (records_of heads)) (cells_over (locks_of heads) heads) (over_told heads heads fits)
+
+length-numbers_at : (o : Option ℕ) (n : ℕ) → length (numbers_at o n) ≤ n
+length-numbers_at None n = omega arith
+length-numbers_at (Some from) n = let l = length-numbers from n in omega arith
+
+-- there are no more of them than record cells
+pub length-cells_over : (arrays : List (Name × ℕ)) (heads : List Head) → length (cells_over arrays heads) ≤ cells_in (records_of heads)
+length-cells_over arrays [] = omega arith
+length-cells_over arrays (LockHead name size line ∷ heads) = length-cells_over arrays heads
+length-cells_over arrays (BarrierHead name number line ∷ heads) = length-cells_over arrays heads
+length-cells_over arrays (FeedHead name fields from line ∷ heads) = length-cells_over arrays heads
+length-cells_over arrays (RecHead name size by from line ∷ heads) =
+    let both = length-append (numbers_at (base_of arrays by) (natural size)) (cells_over arrays heads) in
+    let first = length-numbers_at (base_of arrays by) (natural size) in
+    let rest = length-cells_over arrays heads in
+    omega arith
