@@ -5,7 +5,7 @@ ghost use Rattle.gp_base.specs.Calls.{IsNextListed};
 use crate::Seq;
 
 /// How many calls were made, and the numbers of those that fail, counted from 1.
-#[derive(Debug, Drop)]
+#[derive(Drop)]
 pub struct Calls {
     pub failing: Seq<u64>,
     pub made: u64,

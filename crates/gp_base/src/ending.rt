@@ -4,7 +4,7 @@ use crate::{Pos, ThreadNo};
 
 /// Why a run is stuck: no thread can go on; a cell outside a feed or a lock outside its array is named; a thread that
 /// does not exist is joined; too many threads are forked.
-#[derive(Clone, Copy, Debug, PartialEq, Eq)]
+#[derive(Clone, Copy, PartialEq, Eq)]
 pub enum Why {
     Deadlock,
     Index,
@@ -13,7 +13,7 @@ pub enum Why {
 }
 
 /// How a run ends: every thread has ended; a thread is stuck at a line; or a limit is reached at a position.
-#[derive(Clone, Copy, Debug, PartialEq, Eq)]
+#[derive(Clone, Copy, PartialEq, Eq)]
 pub enum End {
     Finished,
     Stuck {

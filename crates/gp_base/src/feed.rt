@@ -1,17 +1,18 @@
 // Values that a run is given and only reads.
 ghost use Rattle.std.specs.Prelude.{◌≡◌, ◌<◌, ◌≤◌, ◌%◌, length};
+ghost use Rattle.gp_base.specs.declared.limits.TheConstants.{MOST_FEED_CELLS};
 
 use crate::{Nums, Seq};
 
-/// The rows of a feed, cell after cell: each row has `fields` cells, at least one, and there are at most 1,000,000
-/// cells.
-#[derive(Debug, Drop)]
+/// The rows of a feed, cell after cell: each row has `fields` cells, at least one, and there are at most
+/// [`MOST_FEED_CELLS`](crate::limits::MOST_FEED_CELLS) cells.
+#[derive(Drop)]
 pub struct Feed {
     pub fields: u32,
     pub cells: Nums,
     pub ghost some_field: { 0 < fields },
     pub ghost whole_rows: { length cells % fields ≡ 0 },
-    pub ghost few_cells: { length cells ≤ 1000000 },
+    pub ghost few_cells: { length cells ≤ MOST_FEED_CELLS },
 }
 
 impl Feed {
@@ -22,7 +23,7 @@ impl Feed {
     pub fn new(fields: u32, cells: Nums) -> Feed
         requires some_field { 0 < fields }
         requires whole_rows { length cells % fields ≡ 0 }
-        requires few_cells { length cells ≤ 1000000 }
+        requires few_cells { length cells ≤ MOST_FEED_CELLS }
         ensures fields { result.fields ≡ fields }
         ensures cells { result.cells ≡ cells }
     {
@@ -61,7 +62,7 @@ impl Feed {
 }
 
 /// What a run reads: the cells of all records, and the feeds, both in declared order.
-#[derive(Debug, Drop)]
+#[derive(Drop)]
 pub struct Inputs {
     pub records: Nums,
     pub feeds: Seq<Feed>,

@@ -9,7 +9,7 @@ pub trait Gate: Sync {
 }
 
 /// A gate that lets every task pass.
-#[derive(Clone, Copy, Debug)]
+#[derive(Clone, Copy)]
 pub struct FreeGate;
 
 impl Gate for FreeGate {

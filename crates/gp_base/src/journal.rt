@@ -3,7 +3,7 @@
 use crate::{Pos, Seq};
 
 /// One restart: at this front a fault struck an attempt of a position, and these positions are redone, in order.
-#[derive(Debug, Drop)]
+#[derive(Drop)]
 pub struct Restart {
     pub front: Pos,
     pub struck: Pos,
@@ -13,7 +13,7 @@ pub struct Restart {
 
 /// One event of a run. `Post` and `Take` name a position and an attempt, `Take` also whether the result was applied,
 /// and `Restart` a member of the journal's restarts, counted from 0.
-#[derive(Clone, Copy, Debug, PartialEq, Eq)]
+#[derive(Clone, Copy, PartialEq, Eq)]
 pub enum Event {
     Issue(Pos),
     Post(Pos, u32),
@@ -23,7 +23,7 @@ pub enum Event {
 }
 
 /// The events of a run in order, and its restarts.
-#[derive(Debug, Drop)]
+#[derive(Drop)]
 pub struct Journal {
     pub events: Seq<Event>,
     pub restarts: Seq<Restart>,

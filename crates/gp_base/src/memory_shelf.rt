@@ -1,5 +1,5 @@
 // Shelves in memory.
-ghost use Rattle.std.specs.Prelude.{◌≡◌, ◌<◌, ◌≤◌, ◌⊎◌, ◌++◌, ◌∷◌, [], None, Some, option_copied, IfOk, OnOk, OnErr, IsErrOf, length};
+ghost use Rattle.std.specs.Prelude.{◌≡◌, ◌<◌, ◌≤◌, ◌⊎◌, ◌++◌, ◌+◌, ◌-◌, ◌^◌, min, ◌∷◌, [], None, Some, option_copied, IfOk, OnOk, OnErr, IsErrOf, length};
 ghost use Rattle.gp_base.specs.Calls.{IsNextListed};
 ghost use Rattle.gp_base.specs.Files.{bytes_of, HasDistinctNames, GrowsByOnly, HasFileCause, IsWithin, AnswersRead, IsFailure};
 
@@ -42,7 +42,7 @@ fn fail(alloc: Global, failed: &mut Vec<Name>, name: &Name) -> Result<(), AllocE
 }
 
 /// Files in memory. The calls whose numbers are listed fail.
-#[derive(Debug, Drop)]
+#[derive(Drop)]
 pub struct MemShelf {
     alloc: Global,
     files: Seq<(Name, Text)>,
@@ -57,6 +57,8 @@ impl MemShelf {
         requires { HasDistinctNames files }
         ensures files { ⟦<MemShelf as Shelf>⟧.files result ≡ Some files }
         ensures failed { ⟦<MemShelf as Shelf>⟧.failed result ≡ [] }
+        ensures listed { result.calls.failing ≡ failing }
+        ensures made { result.calls.made ≡ 0 }
     {
         MemShelf {
             alloc,
@@ -90,6 +92,8 @@ impl Shelf for MemShelf {
         ensures listed { IsNextListed self.old.calls.failing self.old.calls.made → IsFailure result }
         ensures unlisted { IsErrOf result ShelfFault.Failed →
             IsNextListed self.old.calls.failing self.old.calls.made ⊎ (bytes_of self.old.files name.now ≡ None) }
+        ensures counted { self.new.calls.made ≡ min (self.old.calls.made + 1) (2 ^ 64 - 1) }
+        ensures same { self.new.calls.failing ≡ self.old.calls.failing }
     {
         let fails = self.calls.fails_next();
         match find(self.files.as_slice(), name) {
@@ -103,7 +107,7 @@ impl Shelf for MemShelf {
 }
 
 /// Files in memory. No call fails but those that name none of them.
-#[derive(Debug, Drop)]
+#[derive(Drop)]
 pub struct NeverShelf {
     alloc: Global,
     files: Seq<(Name, Text)>,
@@ -147,67 +151,5 @@ impl Shelf for NeverShelf {
                 Err(ShelfFault::Failed)
             }
         }
-    }
-}
-
-#[cfg(test)]
-mod tests {
-    use super::*;
-    use std::alloc::Global;
-    use std::test::Fail;
-
-    fn files_of(alloc: Global) -> Result<Seq<(Name, Text)>, ShelfFault>
-        ensures { IfOk result HasDistinctNames }
-    {
-        let first = (
-            Name::from_slice(alloc, b"p.gp")?,
-            Text::from_slice(alloc, b"task")?,
-        );
-        let second = (Name::from_slice(alloc, b"f.csv")?, Text::new(alloc));
-        Ok(Seq::from_vec(vec![in alloc; first, second]?))
-    }
-
-    // What is read, with how many bytes at most, and the answer.
-    #[test]
-    fn reads_answer_by_name_and_length(rt: HostRuntime) -> Result<(), Fail> {
-        let alloc = rt.alloc();
-        let rows: [(&[u8], usize, Result<&[u8], ShelfFault>); 4] = [
-            (b"p.gp", 4, Ok(b"task")),
-            (b"p.gp", 3, Err(ShelfFault::TooLong)),
-            (b"f.csv", 0, Ok(b"")),
-            (b"q.gp", 4, Err(ShelfFault::Failed)),
-        ];
-        for (name, at_most, answer) in rows {
-            let name = Name::from_slice(alloc, name)?;
-            let mut shelf = MemShelf::new(alloc, files_of(alloc)?, Seq::new(alloc));
-            let read = shelf.read(&name, at_most);
-            assert_eq!(rt;
-                read.as_ref()
-                    .map(|text| text.as_slice())
-                    .map_err(|fault| *fault),
-                answer
-            );
-            let mut never = NeverShelf::new(alloc, files_of(alloc)?);
-            let read = never.read(&name, at_most);
-            assert_eq!(rt;
-                read.as_ref()
-                    .map(|text| text.as_slice())
-                    .map_err(|fault| *fault),
-                answer
-            );
-        }
-        Ok(())
-    }
-
-    #[test]
-    fn the_listed_call_fails(rt: HostRuntime) -> Result<(), Fail> {
-        let alloc = rt.alloc();
-        let name = Name::from_slice(alloc, b"p.gp")?;
-        let mut shelf = MemShelf::new(alloc, files_of(alloc)?, Seq::from_slice(alloc, &[2])?);
-        assert!(rt; shelf.read(&name, 9).is_ok());
-        assert!(rt; shelf.read(&name, 9).is_err());
-        assert!(rt; shelf.read(&name, 9).is_ok());
-        assert_eq!(rt; shelf.failed().len(), 1);
-        Ok(())
     }
 }

@@ -1,5 +1,5 @@
 // Sinks in memory.
-ghost use Rattle.std.specs.Prelude.{◌≡◌, ◌<◌, ◌≤◌, ◌↔◌, [], Some, None, Err, length, IfOk};
+ghost use Rattle.std.specs.Prelude.{◌≡◌, ◌<◌, ◌≤◌, ◌↔◌, ◌+◌, ◌-◌, ◌^◌, min, [], Some, None, Ok, Err, length, IfOk};
 ghost use Rattle.std.specs.Io.KnownBytes.{WriteAppends};
 ghost use Rattle.gp_base.specs.Calls.{IsNextListed};
 ghost use Rattle.gp_base.specs.Sinks.{HasCause};
@@ -9,7 +9,7 @@ use crate::{Seq, Sink, SinkFault};
 use std::alloc::Global;
 
 /// Bytes in memory. It takes at most so many a call, and the calls whose numbers are listed fail.
-#[derive(Debug, Drop)]
+#[derive(Drop)]
 pub struct MemSink {
     written: Vec<u8>,
     most: usize,
@@ -25,6 +25,9 @@ impl MemSink {
         requires { 1 ≤ most }
         ensures written { ⟦<MemSink as Sink>⟧.written result ≡ Some [] }
         ensures faults { ⟦<MemSink as Sink>⟧.faults result ≡ 0 }
+        ensures listed { result.calls.failing ≡ failing }
+        ensures made { result.calls.made ≡ 0 }
+        ensures most { result.most ≡ most }
     {
         MemSink {
             written: Vec::new(alloc),
@@ -62,6 +65,10 @@ impl Sink for MemSink {
 
         // The calls that are listed fail, and no others.
         ensures listed { (result ≡ Err SinkFault.Failed) ↔ IsNextListed self.old.calls.failing self.old.calls.made }
+        ensures counted { self.new.calls.made ≡ min (self.old.calls.made + 1) (2 ^ 64 - 1) }
+        ensures same { self.new.calls.failing ≡ self.old.calls.failing }
+        ensures most { self.new.most ≡ self.old.most }
+        ensures at_most { IfOk result (λ count. count ≤ self.old.most) }
     {
         if self.calls.fails_next() {
             self.faults = self.faults.saturating_add(1);
@@ -74,7 +81,7 @@ impl Sink for MemSink {
 }
 
 /// Takes every byte and keeps none. It never fails, and does not tell what it took.
-#[derive(Clone, Copy, Debug)]
+#[derive(Clone, Copy)]
 pub struct NeverSink;
 
 impl NeverSink {
@@ -89,38 +96,15 @@ impl Sink for NeverSink {
 
     ghost faults = { λ _. 0 };
 
-    fn write(&mut self, bytes: &[u8]) -> Result<usize, SinkFault> {
+    fn write(&mut self, bytes: &[u8]) -> Result<usize, SinkFault>
+        requires { 0 < length bytes.now }
+        ensures count { IfOk result (λ count. (1 ≤ count) × (count ≤ length bytes.now)) }
+        ensures bytes { WriteAppends None None result bytes.now }
+        ensures cause { HasCause 0 0 result }
+
+        // It takes every byte.
+        ensures all { result ≡ Ok (length bytes.now) }
+    {
         Ok(bytes.len())
-    }
-}
-
-#[cfg(test)]
-mod tests {
-    use super::*;
-    use crate::put_all;
-    use std::test::Fail;
-
-    // The calls that fail, the answer, what was taken of `output`, and the count of faults.
-    #[test]
-    fn a_fault_leaves_a_prefix(rt: HostRuntime) -> Result<(), Fail> {
-        let alloc = rt.alloc();
-        let rows: [(&[u64], Result<(), SinkFault>, &str, u64); 4] = [
-            (&[], Ok(()), "output", 0),
-            (&[1], Err(SinkFault::Failed), "", 1),
-            (&[2], Err(SinkFault::Failed), "out", 1),
-            (&[3, 18446744073709551615], Ok(()), "output", 0),
-        ];
-        for (failing, answer, taken, faults) in rows {
-            let mut sink = MemSink::new(alloc, 3, Seq::from_slice(alloc, failing)?);
-            assert_eq!(rt; put_all(&mut sink, b"output"), answer);
-            assert_eq!(rt; sink.written(), taken.as_bytes());
-            assert_eq!(rt; sink.faults(), faults);
-        }
-        Ok(())
-    }
-
-    #[test]
-    fn a_sink_that_keeps_nothing_takes_all(rt: HostRuntime) {
-        assert_eq!(rt; put_all(&mut NeverSink::new(), b"output"), Ok(()));
     }
 }

@@ -3,7 +3,7 @@
 use std::marker::Model;
 
 /// The number of a thread, from 0 in the order in which threads are forked.
-#[derive(Clone, Copy, Debug, PartialEq, Eq)]
+#[derive(Clone, Copy, PartialEq, Eq)]
 pub struct ThreadNo(pub u32);
 
 impl Model for ThreadNo {
@@ -17,7 +17,7 @@ impl Model for ThreadNo {
 }
 
 /// The number of a lock cell among the cells of all lock arrays, from 0 in declared order.
-#[derive(Clone, Copy, Debug, PartialEq, Eq)]
+#[derive(Clone, Copy, PartialEq, Eq)]
 pub struct LockNo(pub u32);
 
 impl Model for LockNo {
@@ -31,7 +31,7 @@ impl Model for LockNo {
 }
 
 /// The number of a record cell among the cells of all records, from 0 in declared order.
-#[derive(Clone, Copy, Debug, PartialEq, Eq)]
+#[derive(Clone, Copy, PartialEq, Eq)]
 pub struct RecNo(pub u32);
 
 impl Model for RecNo {
@@ -45,7 +45,7 @@ impl Model for RecNo {
 }
 
 /// The position of a subthread in the total order, from 0.
-#[derive(Clone, Copy, Debug, PartialEq, Eq)]
+#[derive(Clone, Copy, PartialEq, Eq)]
 pub struct Pos(pub u32);
 
 impl Model for Pos {
@@ -59,7 +59,7 @@ impl Model for Pos {
 }
 
 /// A place of lowered code: a task, from 0 in text order, and an instruction of it, from 0.
-#[derive(Clone, Copy, Debug, PartialEq, Eq)]
+#[derive(Clone, Copy, PartialEq, Eq)]
 pub struct At {
     pub task: u32,
     pub pc: u32,

@@ -7,7 +7,7 @@ use std::marker::Model;
 
 /// A list with room for further elements, whose memory is taken first. Contracts see its elements and how many more
 /// the room holds.
-#[derive(Debug, Drop)]
+#[derive(Drop)]
 pub struct Room<T> {
     items: Vec<T>,
 }
@@ -77,22 +77,5 @@ impl<T: Drop> Room<T> {
             Ok(()) => {}
             Err(_) => unreachable!(),
         }
-    }
-}
-
-#[cfg(test)]
-mod tests {
-    use super::*;
-    use std::test::Fail;
-
-    #[test]
-    fn elements_go_into_the_room(rt: HostRuntime) -> Result<(), Fail> {
-        let mut room = Room::new(rt.alloc());
-        room.reserve(2)?;
-        room.push(5);
-        room.push(7);
-        assert_eq!(rt; room.len(), 2);
-        assert_eq!(rt; room.into_seq().as_slice(), [5, 7].as_slice());
-        Ok(())
     }
 }

@@ -6,7 +6,7 @@ use std::alloc::{AllocError, Global};
 use std::marker::Model;
 
 /// A `Vec` that contracts see as the list of its elements. A type may hold itself through it.
-#[derive(Debug, Drop)]
+#[derive(Drop)]
 pub struct Seq<T> {
     items: Vec<T>,
 }
