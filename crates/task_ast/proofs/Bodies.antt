@@ -1,15 +1,15 @@
 -- How a body goes, step by step.
 use Rattle.std.proofs.Common.{◌≡◌, ℕ, zero, suc, ◌<◌, Option, Some, None, refl, ap, arith}
 use Rattle.task_ast.specs.Action.{Action}
-use Rattle.task_ast.specs.Body.{Step, Silent, Turn, Act, Stop, Body, with_action, follow, IsSized, stretch, body, after_turn}
+use Rattle.task_ast.specs.Body.{Step, Silent, Iteration, Act, Stop, Body, with_action, follow, IsSized, stretch, body, after_turn}
 
 module _ {P : Type 0} (step : P → Step P) (size : P → ℕ) (sized : IsSized step size) where
   -- more steps than the size change nothing
   follow_same : (turned : Option (P → Body P)) (p : P) (s : Step P) (f g : P → Body P) → ((q : P) → s ≡ Silent q → f q ≡ g q) → ((q : P) (a : Action) → s ≡ Act a q → f q ≡ g q) → follow p s f turned ≡ follow p s g turned
   follow_same turned p (Silent q) f g same_silent same_act = same_silent q refl
   follow_same turned p (Act a q) f g same_silent same_act = ap (with_action a) (same_act q a refl)
-  follow_same None p (Turn q) f g same_silent same_act = refl
-  follow_same (Some turned) p (Turn q) f g same_silent same_act = refl
+  follow_same None p (Iteration q) f g same_silent same_act = refl
+  follow_same (Some turned) p (Iteration q) f g same_silent same_act = refl
   follow_same turned p (Stop next) f g same_silent same_act = refl
 
   pub enough : (turned : Option (P → Body P)) (m n : ℕ) (p : P) → size p < m → size p < n → stretch step size turned m p ≡ stretch step size turned n p

@@ -9,7 +9,7 @@ use Rattle.task_ast.specs.declared.sync.SyncOp.TheVariants as sync
 use Rattle.task_ast.specs.declared.sync.Next.{Next}
 use Rattle.task_ast.specs.Repeat.{Again, More, Done}
 use Rattle.task_ast.specs.Table.{Stand, Away, Waits, Released, Seat, Table, numbers, ring, next_of, is_end, unpassed, with_nth, new_seat, waits_at}
-use Rattle.task_ast.specs.Turn.{Turn, Issue, Ended, Look, To, Unknown, NoThread, look_at, look, passing, issuing, seats_after, stand_of, released_at, arrived, met, come_to, at_barrier, owner_of, joining, tried, has_passed, at_look, turn, most_threads}
+use Rattle.task_ast.specs.Turn.{Turn, Issue, Ended, Look, To, Unknown, NoThread, look_at, look, passing, issuing, seats_after, stand_of, released_at, arrived, met, come_to, at_barrier, owner_of, joining, tried, has_passed, at_look, deadlocked, all_threads, turn, most_threads}
 use Rattle.task_ast.specs.Reached.{Reached}
 use Rattle.task_ast.proofs.Counting.{length-with_nth, get-with_nth}
 use Rattle.task_ast.proofs.Rounds.{rounds_kept, keeps_nth, keeps_map, other_nth, there_nth, arrive, length_arrive, pass, wait}
@@ -221,9 +221,14 @@ met_ring table (Some last) known inside =
     met_numbers table known (suc last) (length table.seats - suc last) (numbers 0 (suc last)) (omega arith)
     (subst (λ ts. Met table (look table ts)) (append-nil (numbers 0 (suc last))) (met_numbers table known 0 (suc last) [] (omega arith) met_none))
 
+stuck_goes : {limit issued : ℕ} {table : Table} (l : Look) → Met table l → Goes limit issued (deadlocked l)
+stuck_goes (To t next) met = done ends
+stuck_goes (Unknown t) met = elim met [ ]
+stuck_goes NoThread met = done ends
+
 look_goes : (limit issued : ℕ) (table : Table) (l : Look) → Whole limit issued table → Met table l → Goes limit issued (at_look l table)
 look_goes limit issued table (To t next) whole (met_thread t_in) =
-    cond_goes limit issued (has_passed table t) _ _ (λ e. done ends) (λ e. tried_goes limit issued next.sync table t next whole t_in)
+    cond_goes limit issued (has_passed table t) _ _ (λ e. stuck_goes (look table (all_threads table)) (subst (λ ts. Met table (look table ts)) (append-nil _) (met_numbers table whole.known 0 (length table.seats) [] (omega arith) met_none))) (λ e. tried_goes limit issued next.sync table t next whole t_in)
 look_goes limit issued table (Unknown t) whole met = elim met [ ]
 look_goes limit issued table NoThread whole met = done ends
 

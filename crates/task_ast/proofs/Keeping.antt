@@ -7,10 +7,11 @@ use Rattle.std.specs.FinMap.Entries.{find-put}
 use Rattle.std.proofs.lemmas.Cmp.{nat_cmp_total}
 use Rattle.std.proofs.lemmas.Bool.{false≢true}
 use Rattle.task_ast.specs.declared.sync.SyncOp.{SyncOp}
+use Rattle.task_ast.specs.declared.effect.Effect.{Effect}
 use Rattle.task_ast.specs.Action.{Action, Set, Load, Store, Say, Choose, Child, Give, Bring, Arm, NoAction, OneAction}
 use Rattle.task_ast.specs.State.{State, RegistersOf, cell_value, number_at}
-use Rattle.task_ast.specs.Effect.{Doing, picked, done, arm_done, all_done, term_value, joined_ret, Effect, effect}
-use Rattle.task_ast.specs.Keeps.{Names, ArmNames, AllName, AgreeAt}
+use Rattle.task_ast.specs.Effect.{Doing, picked, done, arm_done, all_done, term_value, joined_ret, effect}
+use Rattle.task_ast.specs.laws.Keeps.{NamesOnly, ArmNamesOnly, AllName, AgreeAt}
 
 picked_same : (v : ℤ) {a b c d : Doing} → a ≡ c → b ≡ d → picked v a b ≡ picked v c d
 picked_same (pos zero) e f = f
@@ -19,7 +20,7 @@ picked_same (negsuc n) e f = e
 
 module _ (test : ℕ → Bool) (left right : ℕ → ℤ) (joined : ℤ) (agree : (c : ℕ) → test c ≡ true → left c ≡ right c) where
   mutual
-    done_same : (a : Action) (d : Doing) → Names test a → done left joined a d ≡ done right joined a d
+    done_same : (a : Action) (d : Doing) → NamesOnly test a → done left joined a d ≡ done right joined a d
     done_same (Set k t) d names = refl
     done_same (Load c k) d names = ap (λ v. done (λ x. v) joined (Load c k) d) (agree c names)
     done_same (Store c t) d names = refl
@@ -29,7 +30,7 @@ module _ (test : ℕ → Bool) (left right : ℕ → ℤ) (joined : ℤ) (agree 
     done_same (Give k t) d names = refl
     done_same (Bring k) d names = refl
 
-    arm_same : (arm : Arm) (d : Doing) → ArmNames test arm → arm_done left joined arm d ≡ arm_done right joined arm d
+    arm_same : (arm : Arm) (d : Doing) → ArmNamesOnly test arm → arm_done left joined arm d ≡ arm_done right joined arm d
     arm_same NoAction d names = refl
     arm_same (OneAction a arm) d names = ap (arm_done left joined arm) (done_same a d names.0) ∙ arm_same arm (done right joined a d) names.1
 
@@ -47,7 +48,7 @@ reads_same test t begins child actions left right names agree =
     ∙ ap (λ xs. all_done (cell_value right) (joined_ret begins right) actions (record { registers = xs; child = []; written = []; lines = [] })) agree.registers)
   where
     result : Doing → Effect
-    result d = record { thread = t; registers = d.registers; child = option_map (λ c. (c, d.child)) child; writes = d.written; lines = d.lines }
+    result d = record { thread = t; writes = d.written; regs = d.registers; child = option_map (λ c. (c, d.child)) child; prints = d.lines }
 
 -- each cell that was written passes the test
 abbrev Within : (ℕ → Bool) → Doing → Type 0
@@ -72,7 +73,7 @@ stored_within test c v d passes within q some = go (eq_by_cmp nat_cmp q c) refl 
 
 module _ (test : ℕ → Bool) (cells : ℕ → ℤ) (joined : ℤ) where
   mutual
-    done_within : (a : Action) (d : Doing) → Names test a → Within test d → Within test (done cells joined a d)
+    done_within : (a : Action) (d : Doing) → NamesOnly test a → Within test d → Within test (done cells joined a d)
     done_within (Set k t) d names within = within
     done_within (Load c k) d names within = within
     done_within (Store c t) d names within = stored_within test c (term_value t d.registers) d names within
@@ -83,7 +84,7 @@ module _ (test : ℕ → Bool) (cells : ℕ → ℤ) (joined : ℤ) where
     done_within (Give k t) d names within = within
     done_within (Bring k) d names within = within
 
-    arm_within : (arm : Arm) (d : Doing) → ArmNames test arm → Within test d → Within test (arm_done cells joined arm d)
+    arm_within : (arm : Arm) (d : Doing) → ArmNamesOnly test arm → Within test d → Within test (arm_done cells joined arm d)
     arm_within NoAction d names within = within
     arm_within (OneAction a arm) d names within = arm_within arm (done cells joined a d) names.1 (done_within a d names.0 within)
 

@@ -52,11 +52,11 @@ over_lock all (RecHead name size by from line ∷ heads) fits c less =
       | inr l ↦ (let there = over_lock all heads parts.1 (c - natural size) (omega arith) in (there.0, there.1, rw (le-ltb c (natural size) l) there.2))
     ]
 
-length-numbers : (a n : ℕ) → length (numbers a n) ≡ n
+pub length-numbers : (a n : ℕ) → length (numbers a n) ≡ n
 length-numbers a zero = refl
 length-numbers a (suc n) = ap suc (length-numbers (suc a) n)
 
-get-numbers : (a n k d : ℕ) → k < n → get_or (numbers a n) k d ≡ a + k
+pub get-numbers : (a n k d : ℕ) → k < n → get_or (numbers a n) k d ≡ a + k
 get-numbers a zero k d less = absurd (omega arith)
 get-numbers a (suc n) zero d less = omega arith
 get-numbers a (suc n) (suc k) d less = get-numbers (suc a) n k d (omega arith) ∙ omega arith

@@ -13,7 +13,8 @@ use Rattle.task_ast.specs.Repeat.{Again, More, Done, go_on, repeated, until_done
 use Rattle.task_ast.specs.Table.{with_nth, Seat, Table, learning, new_seat}
 use Rattle.task_ast.specs.Turn.{Turn, Issue, Needs, Ended, turn, turns_left, next_issue}
 use Rattle.task_ast.specs.Reached.{Reached, at_start, by_pass, by_issue, by_learning}
-use Rattle.task_ast.specs.Plain.{Plain, on_turn, move, opening, order, last_state}
+use Rattle.task_ast.specs.laws.Ends.{IsWhole}
+use Rattle.task_ast.specs.Plain.{PlainOf, Machine, on_turn_by, move_by, opening_by, order_by, last_by}
 use Rattle.task_ast.proofs.Counting.{length-with_nth, get-with_nth}
 use Rattle.task_ast.proofs.Rounds.{other_nth, there_nth}
 use Rattle.task_ast.proofs.Endings.{Whole, Begun, issues, ends, Goes, more, done, turn_goes}
@@ -63,70 +64,91 @@ learnt limit issued t table next begun =
     learn : Seat → Seat
     learn s = record s { next = Some next }
 
-module _ (program : Program) (inputs : Inputs) (limits : Limits) where
-  -- the run's table is reached and whole
-  record Runs (issued : ℕ) (p : Plain) : Type 0 where
-    reached : Reached p.table
-    whole : Whole limits.subthreads issued p.table
+-- all is known of a table exactly where it is so at its own limit
+whole_in : {table : Table} → IsWhole table → Whole table.limit table.issued table
+whole_in whole = record { limit_is = refl; issued_is = refl; within = whole.within; known = whole.known }
 
-  begins : Runs 0 (opening program inputs limits)
-  begins = record {
-    reached = at_start;
-    whole = record { limit_is = refl; issued_is = refl; within = omega arith; known = known };
-  }
+is_whole : {limit issued : ℕ} {table : Table} → Whole limit issued table → IsWhole table
+is_whole whole = record { within = let l = whole.limit_is in let i = whole.issued_is in let w = whole.within in omega arith; known = whole.known }
+
+module _ {P : Type 0} (machine : Machine P) (limit : ℕ) where
+  -- the run's table is reached and whole
+  record Runs (issued : ℕ) (x : PlainOf P) : Type 0 where
+    reached : Reached x.table
+    whole : Whole limit issued x.table
+
+  ends_in : (n issued : ℕ) (x : PlainOf P) → Runs issued x → limit < n + issued
+      → (ending : End) × (next_issue (state_after (move_by machine) n x).table ≡ Ended ending)
+  unfolding state_after
+  ends_in zero issued x runs enough = absurd (let w = runs.whole.within in omega arith)
+  ends_in (suc n) issued x runs enough =
+      go (next_issue x.table) refl (led limit issued x.table runs.reached runs.whole) (λ y r. ends_in n (suc issued) y r (omega arith))
+    where
+      go : (what : Turn) → next_issue x.table ≡ what → Led limit issued what
+          → ((y : PlainOf P) → Runs (suc issued) y → (ending : End) × (next_issue (state_after (move_by machine) n y).table ≡ Ended ending))
+          → (ending : End) × (next_issue (state_from (move_by machine) x (on_turn_by machine x what) (state_after (move_by machine) n)).table ≡ Ended ending)
+      go (Issue t next child after) e (to_issue b reached) again =
+          again _ (record { reached = by_learning t _ reached b.unknown; whole = learnt limit (suc issued) t after _ b })
+      go (Ended ending) e to_end again = (ending, e)
+      go (Needs t) e l again = elim l [ ]
+
+  counted : (n issued : ℕ) (x : PlainOf P) → Runs issued x → length (steps (move_by machine) n x) + issued ≤ limit
+  unfolding steps
+  counted zero issued x runs = let w = runs.whole.within in omega arith
+  counted (suc n) issued x runs =
+      go (next_issue x.table) (led limit issued x.table runs.reached runs.whole) (λ y r. let h = counted n (suc issued) y r in omega arith)
+    where
+      go : (what : Turn) → Led limit issued what
+          → ((y : PlainOf P) → Runs (suc issued) y → suc (length (steps (move_by machine) n y)) + issued ≤ limit)
+          → length (steps_from (move_by machine) (on_turn_by machine x what) (steps (move_by machine) n)) + issued ≤ limit
+      go (Issue t next child after) (to_issue b reached) again =
+          again _ (record { reached = by_learning t _ reached b.unknown; whole = learnt limit (suc issued) t after _ b })
+      go (Ended ending) to_end again = let w = runs.whole.within in omega arith
+      go (Needs t) l again = elim l [ ]
+
+  stays : (n issued : ℕ) (x : PlainOf P) → Runs issued x → Reached (state_after (move_by machine) n x).table × IsWhole (state_after (move_by machine) n x).table
+  unfolding state_after
+  stays zero issued x runs = (runs.reached, is_whole runs.whole)
+  stays (suc n) issued x runs =
+      go (next_issue x.table) (led limit issued x.table runs.reached runs.whole) (λ y r. stays n (suc issued) y r)
+    where
+      go : (what : Turn) → Led limit issued what
+          → ((y : PlainOf P) → Runs (suc issued) y → Reached (state_after (move_by machine) n y).table × IsWhole (state_after (move_by machine) n y).table)
+          → Reached (state_from (move_by machine) x (on_turn_by machine x what) (state_after (move_by machine) n)).table
+          × IsWhole (state_from (move_by machine) x (on_turn_by machine x what) (state_after (move_by machine) n)).table
+      go (Issue t next child after) (to_issue b reached) again =
+          again _ (record { reached = by_learning t _ reached b.unknown; whole = learnt limit (suc issued) t after _ b })
+      go (Ended ending) to_end again = (runs.reached, is_whole runs.whole)
+      go (Needs t) l again = elim l [ ]
+
+-- from any start
+module _ {P : Type 0} (machine : Machine P) (n : ℕ) (start : PlainOf P) (reached : Reached start.table) (whole : IsWhole start.table) where
+  abbrev runs_from : Runs machine start.table.limit start.table.issued start
+  runs_from = record { reached = reached; whole = whole_in whole }
+
+  pub end_from : start.table.limit < n + start.table.issued → (ending : End) × (next_issue (state_after (move_by machine) n start).table ≡ Ended ending)
+  end_from enough = ends_in machine start.table.limit n start.table.issued start runs_from enough
+
+  pub count_from : length (steps (move_by machine) n start) + start.table.issued ≤ start.table.limit
+  count_from = counted machine start.table.limit n start.table.issued start runs_from
+
+  pub tables_from : Reached (state_after (move_by machine) n start).table × IsWhole (state_after (move_by machine) n start).table
+  tables_from = stays machine start.table.limit n start.table.issued start runs_from
+
+-- from the opening
+module _ {P : Type 0} (machine : Machine P) (program : Program) (inputs : Inputs) (limits : Limits) where
+  begins : IsWhole (opening_by machine program inputs limits).table
+  begins = record { within = omega arith; known = known }
     where
       known : (u : ℕ) → u < 1 → (next : Next) × (option_and_then (λ s. s.next) (slice_get (new_seat ∷ []) u) ≡ Some next)
       known zero l = (record { sync = sync.Start; line = 0 }, refl)
       known (suc u) l = absurd (omega arith)
 
-  ends_in : (n issued : ℕ) (p : Plain) → Runs issued p → limits.subthreads < n + issued
-      → (ending : End) × (next_issue (state_after (move program inputs limits) n p).table ≡ Ended ending)
-  unfolding state_after
-  ends_in zero issued p runs enough = absurd (let w = runs.whole.within in omega arith)
-  ends_in (suc n) issued p runs enough =
-      go (next_issue p.table) refl (led limits.subthreads issued p.table runs.reached runs.whole) (λ q r. ends_in n (suc issued) q r (omega arith))
-    where
-      go : (r : Turn) → next_issue p.table ≡ r → Led limits.subthreads issued r
-          → ((q : Plain) → Runs (suc issued) q → (ending : End) × (next_issue (state_after (move program inputs limits) n q).table ≡ Ended ending))
-          → (ending : End) × (next_issue (state_from (move program inputs limits) p (on_turn program inputs limits p r) (state_after (move program inputs limits) n)).table ≡ Ended ending)
-      go (Issue t next child after) e (to_issue b reached) again =
-          again _ (record { reached = by_learning t _ reached b.unknown; whole = learnt limits.subthreads (suc issued) t after _ b })
-      go (Ended ending) e to_end again = (ending, e)
-      go (Needs t) e l again = elim l [ ]
+  pub end_law : (ending : End) × (next_issue (last_by machine program inputs limits).table ≡ Ended ending)
+  end_law = end_from machine (suc limits.subthreads) (opening_by machine program inputs limits) at_start begins (omega arith)
 
-  counted : (n issued : ℕ) (p : Plain) → Runs issued p → length (steps (move program inputs limits) n p) + issued ≤ limits.subthreads
-  unfolding steps
-  counted zero issued p runs = let w = runs.whole.within in omega arith
-  counted (suc n) issued p runs =
-      go (next_issue p.table) (led limits.subthreads issued p.table runs.reached runs.whole) (λ q r. let h = counted n (suc issued) q r in omega arith)
-    where
-      go : (r : Turn) → Led limits.subthreads issued r
-          → ((q : Plain) → Runs (suc issued) q → suc (length (steps (move program inputs limits) n q)) + issued ≤ limits.subthreads)
-          → length (steps_from (move program inputs limits) (on_turn program inputs limits p r) (steps (move program inputs limits) n)) + issued ≤ limits.subthreads
-      go (Issue t next child after) (to_issue b reached) again =
-          again _ (record { reached = by_learning t _ reached b.unknown; whole = learnt limits.subthreads (suc issued) t after _ b })
-      go (Ended ending) to_end again = let w = runs.whole.within in omega arith
-      go (Needs t) l again = elim l [ ]
+  pub count_law : length (order_by machine program inputs limits) ≤ limits.subthreads
+  count_law = let h = count_from machine (suc limits.subthreads) (opening_by machine program inputs limits) at_start begins in omega arith
 
-  stays_reached : (n issued : ℕ) (p : Plain) → Runs issued p → Reached (state_after (move program inputs limits) n p).table
-  unfolding state_after
-  stays_reached zero issued p runs = runs.reached
-  stays_reached (suc n) issued p runs =
-      go (next_issue p.table) (led limits.subthreads issued p.table runs.reached runs.whole) (λ q r. stays_reached n (suc issued) q r)
-    where
-      go : (r : Turn) → Led limits.subthreads issued r
-          → ((q : Plain) → Runs (suc issued) q → Reached (state_after (move program inputs limits) n q).table)
-          → Reached (state_from (move program inputs limits) p (on_turn program inputs limits p r) (state_after (move program inputs limits) n)).table
-      go (Issue t next child after) (to_issue b reached) again =
-          again _ (record { reached = by_learning t _ reached b.unknown; whole = learnt limits.subthreads (suc issued) t after _ b })
-      go (Ended ending) to_end again = runs.reached
-      go (Needs t) l again = elim l [ ]
-
-  pub end_law : (ending : End) × (next_issue (last_state program inputs limits).table ≡ Ended ending)
-  end_law = ends_in (suc limits.subthreads) 0 (opening program inputs limits) begins (omega arith)
-
-  pub count_law : length (order program inputs limits) ≤ limits.subthreads
-  count_law = let h = counted (suc limits.subthreads) 0 (opening program inputs limits) begins in omega arith
-
-  pub tables_law : (n : ℕ) → Reached (state_after (move program inputs limits) n (opening program inputs limits)).table
-  tables_law n = stays_reached n 0 (opening program inputs limits) begins
+  pub tables_law : (n : ℕ) → Reached (state_after (move_by machine) n (opening_by machine program inputs limits)).table × IsWhole (state_after (move_by machine) n (opening_by machine program inputs limits)).table
+  tables_law n = tables_from machine n (opening_by machine program inputs limits) at_start begins

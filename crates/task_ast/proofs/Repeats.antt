@@ -1,5 +1,5 @@
 -- Laws of what goes on step by step.
-use Rattle.std.proofs.Common.{◌≡◌, ℕ, zero, suc, ◌<◌, ◌≤◌, List, [], ◌∷◌, take, refl, sym, ap, ◌∙◌, arith}
+use Rattle.std.proofs.Common.{◌≡◌, ℕ, zero, suc, ◌+◌, ◌<◌, ◌≤◌, List, [], ◌∷◌, take, Some, None, refl, sym, ap, ◌∙◌, subst, arith}
 use Rattle.std.specs.Prelude.{slice_get}
 use Rattle.task_ast.specs.Repeat.{Again, More, Done, IsFalling, go_on, repeated, until_done, Move, Goes, Ends, steps_from, steps, state_from, state_after, step_of}
 
@@ -48,6 +48,65 @@ module _ {A S E : Type 0} (move : A → Move A S E) where
   step_at p zero a less = absurd (omega arith)
   step_at zero (suc n) a less = first_by (move a) (steps move n)
   step_at (suc p) (suc n) a less = later_by p a (move a) (steps move n) (state_after move p) refl (λ b. step_at p n b (omega arith))
+
+  -- one more step is made at the end
+  pub state_after_next : (n : ℕ) (a : A) → state_after move (suc n) a ≡ state_from move (state_after move n a) (move (state_after move n a)) (λ b. b)
+  unfolding state_after
+  state_after_next zero a = refl
+  state_after_next (suc n) a = go (move a) refl (λ b. state_after_next n b)
+    where
+      go : (m : Move A S E) → move a ≡ m
+          → ((b : A) → state_after move (suc n) b ≡ state_from move (state_after move n b) (move (state_after move n b)) (λ c. c))
+          → state_from move a m (state_after move (suc n))
+          ≡ state_from move (state_from move a m (state_after move n)) (move (state_from move a m (state_after move n))) (λ b. b)
+      go (Goes s b) e again = again b
+      go (Ends end) e again = sym (ap (λ m. state_from move a m (λ b. b)) e)
+
+  pub state_after_none : (a : A) → a ≡ state_after move 0 a
+  unfolding state_after
+  state_after_none a = refl
+
+  -- past an end nothing changes
+  pub stays_after : (n k : ℕ) (a : A) (end : E) → move (state_after move n a) ≡ Ends end → state_after move (k + n) a ≡ state_after move n a
+  stays_after n zero a end e = ap (λ m. state_after move m a) (omega arith)
+  stays_after n (suc k) a end e =
+      let same = stays_after n k a end e in
+      ap (λ m. state_after move m a) (omega arith)
+      ∙ (state_after_next (k + n) a
+      ∙ (ap (λ b. state_from move b (move b) (λ c. c)) same ∙ ap (λ m. state_from move (state_after move n a) m (λ c. c)) e))
+
+  -- the move at a position of the steps
+  pub record StepThere (a : A) (s : S) : Type 0 where
+    pub next : A
+    pub moves : move a ≡ Goes s next
+
+  no_step : {s : S} → None ≡ Some s → ⊥
+  no_step e = cc e
+
+  there_by : (a : A) (m : Move A S E) (s : S) → move a ≡ m → step_of move m ≡ Some s → StepThere a s
+  there_by a (Goes other b) s is e = subst (StepThere a) (cc e) (record { next = b; moves = is })
+  there_by a (Ends end) s is e = absurd (cc e)
+
+  first_there : (a : A) (m : Move A S E) (f : A → List S) (s : S) → slice_get (steps_from move m f) 0 ≡ Some s → step_of move m ≡ Some s
+  first_there a (Goes other b) f s e = e
+  first_there a (Ends end) f s e = e
+
+  pub step_there : (n p : ℕ) (a : A) (s : S) → slice_get (steps move n a) p ≡ Some s → StepThere (state_after move p a) s
+  unfolding steps state_after
+  step_there zero p a s e = absurd (no_step e)
+  step_there (suc n) zero a s e = there_by a (move a) s refl (first_there a (move a) (steps move n) s e)
+  step_there (suc n) (suc p) a s e = go (move a) e (λ b. step_there n p b s)
+    where
+      go : (m : Move A S E) → slice_get (steps_from move m (steps move n)) (suc p) ≡ Some s
+          → ((b : A) → slice_get (steps move n b) p ≡ Some s → StepThere (state_after move p b) s) → StepThere (state_from move a m (state_after move p)) s
+      go (Goes other b) e again = again b e
+      go (Ends end) e again = absurd (no_step e)
+
+  -- where it leads
+  pub step_reached : (n p : ℕ) (a : A) (s : S) (e : slice_get (steps move n a) p ≡ Some s) → state_after move (suc p) a ≡ (step_there n p a s e).next
+  step_reached n p a s e =
+      let step = step_there n p a s e in
+      state_after_next p a ∙ ap (λ m. state_from move (state_after move p a) m (λ b. b)) step.moves
 
   -- where the first step leads to an end, it is the only one
   pub only_step : (n : ℕ) (a b : A) (s : S) (e : E) → move a ≡ Goes s b → move b ≡ Ends e

@@ -10,7 +10,7 @@ use Rattle.task_ast.specs.declared.sync.SyncOp.TheVariants as sync
 use Rattle.task_ast.specs.declared.sync.Next.{Next}
 use Rattle.task_ast.specs.Repeat.{Again, More, Done}
 use Rattle.task_ast.specs.Table.{Stand, Away, Waits, Released, Seat, Table, numbers, ring, next_of, is_end, is_known_end, has_ended, unpassed, with_nth, new_seat, learning, waits_at, all_passed}
-use Rattle.task_ast.specs.Turn.{Turn, Issue, Needs, Ended, Look, To, Unknown, NoThread, look_at, look, passing, issuing, seats_after, stand_of, released_at, arrived, met, come_to, at_barrier, owner_of, joining, tried, has_passed, at_look, turn, most_threads}
+use Rattle.task_ast.specs.Turn.{Turn, Issue, Needs, Ended, Look, To, Unknown, NoThread, look_at, look, passing, issuing, seats_after, stand_of, released_at, arrived, met, come_to, at_barrier, owner_of, joining, tried, has_passed, at_look, deadlocked, all_threads, turn, most_threads}
 use Rattle.task_ast.specs.Reached.{Reached, at_start, by_pass, by_issue, by_learning, start_table}
 use Rattle.task_ast.proofs.Counting.{length-with_nth, get-with_nth}
 use Rattle.task_ast.proofs.Turns.{Known, known_to, look_known}
@@ -385,19 +385,24 @@ tried_keeps sync.End table t next rounds nearest = issuing_keeps table t next ne
 tried_keeps sync.BadIndex table t next rounds nearest = ends
 tried_keeps sync.Spent table t next rounds nearest = ends
 
+stuck_keeps : (l : Look) → Keeps (deadlocked l)
+stuck_keeps (To t next) = ends
+stuck_keeps (Unknown t) = needs
+stuck_keeps NoThread = ends
+
 look_keeps : (table : Table) (l : Look) → Rounds table → look table (ring table.token (length table.seats)) ≡ l → Keeps (at_look l table)
 look_keeps table (To t next) rounds e =
-    cond_keeps (has_passed table t) _ _ ends (tried_keeps next.sync table t next rounds (nearest table t next rounds e))
+    cond_keeps (has_passed table t) _ _ (stuck_keeps (look table (all_threads table))) (tried_keeps next.sync table t next rounds (nearest table t next rounds e))
 look_keeps table (Unknown t) rounds e = needs
 look_keeps table NoThread rounds e = ends
 
 turn_keeps : (table : Table) → Rounds table → Keeps (turn table)
 turn_keeps table rounds = look_keeps table (look table (ring table.token (length table.seats))) rounds refl
 
-rounds_at_start : (limit : ℕ) (barriers : List ℕ) (owners : List (Option ℕ)) → Rounds (start_table limit barriers owners)
-rounds_at_start limit barriers owners = record { inside = omega arith; staged = staged_none _ _ _ _ none }
+rounds_at_start : (limit : ℕ) (barriers : List ℕ) (owners : List (Option ℕ)) (main : Next) → Rounds (start_table limit barriers owners main)
+rounds_at_start limit barriers owners main = record { inside = omega arith; staged = staged_none _ _ _ _ none }
   where
-    none : (u : ℕ) → has_passed (start_table limit barriers owners) u ≡ false
+    none : (u : ℕ) → has_passed (start_table limit barriers owners main) u ≡ false
     none zero = refl
     none (suc u) = refl
 
@@ -420,14 +425,14 @@ learning_keeps table t next unknown rounds =
         ]
 
 pub rounds_kept : {table : Table} → Reached table → Rounds table
-rounds_kept (at_start {limit = limit} {barriers = barriers} {owners = owners}) = rounds_at_start limit barriers owners
+rounds_kept (at_start {limit = limit} {barriers = barriers} {owners = owners} {main = main}) = rounds_at_start limit barriers owners main
 rounds_kept (by_pass {table = table} reached e) = keeps-more (subst Keeps e (turn_keeps table (rounds_kept reached)))
 rounds_kept (by_issue {table = table} reached e) = keeps-issue (subst Keeps e (turn_keeps table (rounds_kept reached)))
 rounds_kept (by_learning {table = table} t next reached e) = learning_keeps table t next e (rounds_kept reached)
 
 -- ---- the deadlock
 
-all_from : {X : Type 0} (test : X → Bool) (xs : List X) → ((m : ℕ) (x : X) → slice_get xs m ≡ Some x → test x ≡ true) → list_all test xs ≡ true
+pub all_from : {X : Type 0} (test : X → Bool) (xs : List X) → ((m : ℕ) (x : X) → slice_get xs m ≡ Some x → test x ≡ true) → list_all test xs ≡ true
 all_from test [] each = refl
 all_from test (x ∷ xs) each = rw (each 0 x refl) (all_from test xs (λ m. each (suc m)))
 
@@ -436,7 +441,7 @@ each_of test [] m x all e = absurd (cc e)
 each_of test (y ∷ ys) zero x all e = ap test (sym (cc e)) ∙ (and_parts (test y) (list_all test ys) all).0
 each_of test (y ∷ ys) (suc m) x all e = each_of test ys m x (and_parts (test y) (list_all test ys) all).1 e
 
-some_below : {X : Type 0} (xs : List X) (m : ℕ) (x : X) → slice_get xs m ≡ Some x → m < length xs
+pub some_below : {X : Type 0} (xs : List X) (m : ℕ) (x : X) → slice_get xs m ≡ Some x → m < length xs
 some_below [] m x e = absurd (cc e)
 some_below (y ∷ ys) zero x e = omega arith
 some_below (y ∷ ys) (suc m) x e = let h = some_below ys m x e in omega arith

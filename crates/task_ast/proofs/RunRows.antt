@@ -13,7 +13,7 @@ use Rattle.task_ast.specs.declared.sync.SyncOp.{SyncOp}
 use Rattle.task_ast.specs.declared.sync.SyncOp.TheVariants as sync
 use Rattle.task_ast.specs.Body.{body, stretch}
 use Rattle.task_ast.specs.Repeat.{steps, state_after, repeated, until_done}
-use Rattle.task_ast.specs.Plain.{Subthread, order, end, final_records}
+use Rattle.task_ast.specs.Plain.{Subthread, foot_of, order, end, final_records}
 use Rattle.task_ast.specs.Tree.{Program}
 use Rattle.task_ast.proofs.RowPrograms.{empty_batch, arithmetic, two_adders, reader_and_adder, crossed_locks, account, endless_loop, ten_turns, meeting, doubling, joining}
 
@@ -54,10 +54,10 @@ unfolding steps body stretch until_done repeated
 adders_order = refl
 
 -- what it reads, and what it writes
-abbrev foot_of : Subthread → List Loc × List Loc
-foot_of s = (s.foot.reads, s.foot.writes)
+abbrev touched : Subthread → List Loc × List Loc
+touched s = ((foot_of s).reads, (foot_of s).writes)
 
-adders_feet : map foot_of (order two_adders (zeros 1) (limits 1000 20)) ≡
+adders_feet : map touched (order two_adders (zeros 1) (limits 1000 20)) ≡
     ([], loc.Regs 0 ∷ []) ∷ ([], loc.Regs 0 ∷ loc.Regs 1 ∷ []) ∷ ([], loc.Regs 1 ∷ []) ∷ ([], loc.Regs 0 ∷ loc.Regs 2 ∷ [])
     ∷ ([], loc.Regs 1 ∷ loc.Lock 0 ∷ []) ∷ ([], loc.Regs 2 ∷ []) ∷ ([], loc.Regs 1 ∷ []) ∷ ([], loc.Regs 2 ∷ loc.Lock 0 ∷ [])
     ∷ (loc.Regs 1 ∷ [], loc.Regs 0 ∷ []) ∷ ([], loc.Regs 2 ∷ []) ∷ (loc.Regs 2 ∷ [], loc.Regs 0 ∷ []) ∷ []

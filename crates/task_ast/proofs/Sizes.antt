@@ -5,7 +5,7 @@ use Rattle.task_ast.specs.declared.sync.Next.{Next}
 use Rattle.task_ast.specs.Tree.{Stmt, At, What, SetCtl, While, If, Lock, Unlock, Fork, Join, Barrier, SetReg, Read, Write, Print, When, Block, Nothing, Then, statements}
 use Rattle.task_ast.specs.Action.{Action}
 use Rattle.task_ast.specs.Names.{registers_of}
-use Rattle.task_ast.specs.Body.{Step, Silent, Turn, Act, Stop, IsSized}
+use Rattle.task_ast.specs.Body.{Step, Silent, Iteration, Act, Stop, IsSized}
 use Rattle.task_ast.specs.Control.{Setting, Point, step, step_at, step_from, known, branch, going, env_at, action, inner, weight_of, weights, size}
 
 weights-statements : (b : Block) (rest : List Stmt) → weights (statements b ++ rest) ≡ weight_of b + weights rest
@@ -15,7 +15,7 @@ weights-statements (Then s b) rest = let before = weights-statements b rest in o
 -- the point that a step without a loop turn leaves is smaller than n
 data Falls : ℕ → Step Point → Type 0 where
   silently : {n : ℕ} {q : Point} → size q < n → Falls n (Silent q)
-  by_turn : {n : ℕ} {q : Point} → Falls n (Turn q)
+  by_turn : {n : ℕ} {q : Point} → Falls n (Iteration q)
   acting : {n : ℕ} {a : Action} {q : Point} → size q < n → Falls n (Act a q)
   stopping : {n : ℕ} {next : Next} → Falls n (Stop next)
 

@@ -1,18 +1,17 @@
 -- The plain run of a small program.
-use Rattle.std.proofs.Common.{◌≡◌, ℕ, suc, ◌<◌, true, false, not, cond, List, [], ◌∷◌, ◌++◌, map, length, Some, None, refl, sym, ap, ◌∙◌, subst, option_map, unwrap_or, position, zip, append_assoc, append-nil}
+use Rattle.std.proofs.Common.{◌≡◌, ℕ, suc, ◌<◌, true, false, not, cond, List, [], ◌∷◌, ◌++◌, map, length, Some, None, refl, sym, ap, ◌∙◌, option_map, unwrap_or, position, zip, append_assoc, append-nil}
 use Rattle.std.specs.Prelude.{ℤ, pos, slice_set}
 use Rattle.std.specs.List.{list_all}
-use Rattle.std.proofs.lemmas.Bool.{lt-ltb, and_parts, not-true}
+use Rattle.std.proofs.lemmas.Bool.{lt-ltb, and_parts}
 use Rattle.gp_base.specs.declared.limits.Limits.{Limits}
 use Rattle.gp_base.specs.declared.feed.Inputs.{Inputs}
 use Rattle.gp_base.specs.declared.ending.End.TheVariants.{Finished}
 use Rattle.task_ast.specs.declared.sync.SyncOp.TheVariants as sync
 use Rattle.task_ast.specs.declared.sync.Next.{Next}
 use Rattle.task_ast.specs.declared.tree.Head.{Head}
-use Rattle.task_ast.specs.declared.tree.Param.{Param}
 use Rattle.task_ast.specs.Tree.{Name, Stmt, At, What, SetReg, Print, SetCtl, While, If, Lock, Unlock, Fork, Join, Barrier, Read, Write, When, Expr, statements, TaskText, Program}
-use Rattle.task_ast.specs.Names.{is_among, records_of, cells_in, ret, datas, registers_of, declared_in, is_task}
-use Rattle.task_ast.specs.Declarations.{main, has_params, has_double}
+use Rattle.task_ast.specs.Names.{is_among, records_of, cells_in, registers_of, declared_in, is_task}
+use Rattle.task_ast.specs.Declarations.{main, has_params}
 use Rattle.task_ast.specs.Action.{Action, Set, Say}
 use Rattle.task_ast.specs.Body.{Act, follow, after_turn, with_action}
 use Rattle.task_ast.specs.Control.{with_value, Setting, Point, going, known, env_at, register_number, step, size, tree_body}
@@ -22,13 +21,13 @@ use Rattle.task_ast.specs.Repeat.{Goes, Done, steps, state_after, go_on}
 use Rattle.task_ast.specs.Table.{Away, Table, learning, numbers}
 use Rattle.task_ast.specs.Turn.{Issue, Ended, turn, turns_left, next_issue}
 use Rattle.task_ast.specs.Plain.{Plain, Subthread, start_point, setting_of, task_at, main_task, move, opening, ending_of, on_turn, last_state}
-use Rattle.task_ast.specs.Small.{is_small_expr, is_small_what, is_small_stmt, is_data, are_small_vars, is_small_task, is_small_shape, is_small, small_value, lines_from, lines_of_task, IsSmallRun}
+use Rattle.task_ast.specs.Small.{is_small_expr, is_small_what, is_small_stmt, are_small_vars, is_small_task, is_small_shape, is_small, small_value, lines_from, lines_of_task, IsSmallRun}
 use Rattle.task_ast.proofs.Bodies.{body_step}
 use Rattle.task_ast.proofs.Sizes.{tree_sized}
 use Rattle.task_ast.proofs.Repeats.{only_step}
 use Rattle.task_ast.proofs.Turns.{next_issue_step}
 use Rattle.task_ast.proofs.Terms.{position-cons}
-use Rattle.task_ast.proofs.SmallTerms.{not_false, small_term, small_all, Apart, apart_registers, set_named, given_none}
+use Rattle.task_ast.proofs.SmallTerms.{not_false, small_term, small_all, set_named, given_none}
 
 -- a body that begins with an action
 one_more : (s : Setting) (turns : ℕ) (p : Point) (line : ℕ) (w : What) (rest : List Stmt) (a : Action)
@@ -44,7 +43,7 @@ at_end = record { sync = sync.End; line = 0 }
 record SmallBody (s : Setting) (turns : ℕ) (p : Point) (stmts : List Stmt) : Type 0 where
   actions : List Action
   body_is : tree_body s turns (going p stmts) ≡ record { actions = actions; next = at_end; at = going p [] }
-  prints : (cells : ℕ → ℤ) (joined : ℤ) (d : Doing) → Apart (registers_of p.task)
+  prints : (cells : ℕ → ℤ) (joined : ℤ) (d : Doing)
       → (all_done cells joined actions d).lines ≡ d.lines ++ lines_from stmts (zip (registers_of p.task) d.registers)
 
 module _ (s : Setting) (turns : ℕ) (p : Point) (line : ℕ) (rest : List Stmt) (later : SmallBody s turns p rest) where
@@ -58,12 +57,12 @@ module _ (s : Setting) (turns : ℕ) (p : Point) (line : ℕ) (rest : List Stmt)
         body_is =
             one_more s turns p line (SetReg x e) rest (Set k t.0) (ap (λ o. known line (option_map (Set k) o) (λ a. Act a (going p rest))) t.1) ∙ ap (with_action (Set k t.0)) later.body_is;
         prints =
-            λ cells joined d apart.
+            λ cells joined d.
             let v = term_value t.0 d.registers in
             let regs = zip (registers_of p.task) d.registers in
             let same : zip (registers_of p.task) (slice_set d.registers k v) ≡ with_value regs x (small_value regs e) =
-            sym (set_named (registers_of p.task) apart d.registers x v parts.0) ∙ ap (λ o. with_value regs x (unwrap_or o (pos 0))) (sym (t.2 d.registers)) in
-            later.prints cells joined (record d { registers = slice_set d.registers k v }) apart ∙ ap (λ registers. d.lines ++ lines_from rest registers) same;
+            sym (set_named (registers_of p.task) d.registers x v) ∙ ap (λ o. with_value regs x (unwrap_or o (pos 0))) (sym (t.2 d.registers)) in
+            later.prints cells joined (record d { registers = slice_set d.registers k v }) ∙ ap (λ registers. d.lines ++ lines_from rest registers) same;
       }
 
   print_more : (es : List Expr) → is_small_what (registers_of p.task) (Print es) ≡ true → SmallBody s turns p (At line (Print es) ∷ rest)
@@ -73,9 +72,9 @@ module _ (s : Setting) (turns : ℕ) (p : Point) (line : ℕ) (rest : List Stmt)
         actions = Say ts.0 ∷ later.actions;
         body_is = one_more s turns p line (Print es) rest (Say ts.0) (ap (λ o. known line (option_map Say o) (λ a. Act a (going p rest))) ts.1) ∙ ap (with_action (Say ts.0)) later.body_is;
         prints =
-            λ cells joined d apart.
+            λ cells joined d.
             let said = map (λ t. term_value t d.registers) ts.0 in
-            later.prints cells joined (record d { lines = d.lines ++ said ∷ [] }) apart
+            later.prints cells joined (record d { lines = d.lines ++ said ∷ [] })
             ∙ append_assoc d.lines (said ∷ []) (lines_from rest (zip (registers_of p.task) d.registers))
             ∙ ap (λ first. d.lines ++ first ∷ lines_from rest (zip (registers_of p.task) d.registers)) (ts.2 d.registers);
       }
@@ -99,7 +98,7 @@ small_body : (s : Setting) (turns : ℕ) (p : Point) (stmts : List Stmt) → lis
 small_body s turns p [] h = record {
   actions = [];
   body_is = body_step (step s) size (tree_sized s) turns (going p []);
-  prints = λ cells joined d apart. sym (append-nil d.lines);
+  prints = λ cells joined d. sym (append-nil d.lines);
 }
 small_body s turns p (At line w ∷ rest) h =
     let parts = and_parts (is_small_what (registers_of p.task) w) (list_all (is_small_stmt (registers_of p.task)) rest) h in
@@ -107,7 +106,6 @@ small_body s turns p (At line w ∷ rest) h =
 
 -- what makes a task small
 record IsSmall (task : TaskText) : Type 0 where
-  apart : Apart (registers_of task)
   stmts : list_all (is_small_stmt (registers_of task)) (statements task.body) ≡ true
 
 module _ (program : Program) (inputs : Inputs) (limits : Limits) (task : TaskText) where
@@ -147,10 +145,10 @@ module _ (program : Program) (inputs : Inputs) (limits : Limits) (task : TaskTex
   finished small = ap (λ b. next_issue (learning begun 0 b.next)) (first_body small).body_is ∙ next_issue_step (learning begun 0 at_end)
 
   prints_all : (small : IsSmall task)
-      → (effect 0 sync.Start None (tree_body (setting_of program inputs) limits.turns (start_point task 0 [])).actions start.state).lines ≡ lines_of_task task
+      → (effect 0 sync.Start None (tree_body (setting_of program inputs) limits.turns (start_point task 0 [])).actions start.state).prints ≡ lines_of_task task
   prints_all small =
-      ap (λ b. (effect 0 sync.Start None b.actions start.state).lines) (first_body small).body_is
-      ∙ (first_body small).prints (cell_value start.state) (pos 0) (record { registers = start.state (RegistersOf 0); child = []; written = []; lines = [] }) small.apart
+      ap (λ b. (effect 0 sync.Start None b.actions start.state).prints) (first_body small).body_is
+      ∙ (first_body small).prints (cell_value start.state) (pos 0) (record { registers = start.state (RegistersOf 0); child = []; written = []; lines = [] })
       ∙ ap (lines_from (statements task.body)) (sym (given_none (registers_of task)))
 
   run_is : (s : Subthread) (after : Plain) → IsSmall task → main_task program ≡ task → records_of program.heads ≡ [] → s.lines ≡ lines_of_task task
@@ -169,24 +167,12 @@ module _ (program : Program) (inputs : Inputs) (limits : Limits) (task : TaskTex
   small_run small less main_is none =
       run_is _ _ small main_is none (prints_all small) (ap (on_turn program inputs limits start) (first_issue less)) (finished small)
 
-no_params : (params : List Param) → has_params params ≡ false → params ≡ []
-no_params [] h = refl
-no_params (x ∷ params) h = not_false (sym h)
-
 small_is : (task : TaskText) → is_small_task task ≡ true → (is_task main task ≡ true) × IsSmall task
 small_is task h =
     let named = and_parts (is_task main task) _ h in
     let params = and_parts (not (has_params task.params)) _ named.1 in
     let vars = and_parts (are_small_vars (declared_in task.vars)) _ params.1 in
-    let all = and_parts (list_all is_data (declared_in task.vars)) _ vars.0 in
-    let once = and_parts (not (has_double [] (declared_in task.vars))) _ all.1 in
-    let apart = apart_registers (declared_in task.vars) all.0 (not-true _ once.0) in (
-      named.0,
-      record {
-        apart = subst (λ params. Apart (ret ∷ datas (params ++ declared_in task.vars))) (sym (no_params task.params (not-true _ params.0))) apart;
-        stmts = vars.1;
-      },
-    )
+    (named.0, record { stmts = vars.1 })
 
 -- a small program has one subthread, which prints its lines
 pub small_run_law : (program : Program) (inputs : Inputs) (limits : Limits) → is_small program ≡ true → 0 < limits.subthreads → IsSmallRun program inputs limits

@@ -9,7 +9,7 @@ use Rattle.task_ast.specs.declared.sync.SyncOp.TheVariants as sync
 use Rattle.task_ast.specs.declared.sync.Next.{Next}
 use Rattle.task_ast.specs.Repeat.{Again, More, Done, IsFalling, go_on}
 use Rattle.task_ast.specs.Table.{Stand, Away, Waits, Released, Seat, Table, ring, next_of, is_end, unpassed, with_nth, waits_at, meets, is_waiting}
-use Rattle.task_ast.specs.Turn.{Turn, Ended, Look, To, Unknown, NoThread, look_at, look, passing, issuing, stand_of, released_at, arrived, met, come_to, at_barrier, owner_of, joining, tried, has_passed, at_look, turn, is_away, turns_left, next_issue, most_threads, deadlock, all_threads}
+use Rattle.task_ast.specs.Turn.{Turn, Ended, Look, To, Unknown, NoThread, look_at, look, passing, issuing, stand_of, released_at, arrived, met, come_to, at_barrier, owner_of, joining, tried, has_passed, at_look, turn, is_away, turns_left, next_issue, most_threads, deadlocked, all_threads}
 use Rattle.task_ast.proofs.Counting.{one, count-with_nth, count-with_nth-same, length-with_nth, count-map, get-map, less_second, less_first}
 use Rattle.task_ast.proofs.Repeats.{until_done_step}
 
@@ -164,14 +164,19 @@ seat_of table t next e = go (slice_get table.seats t) refl e
     go None is e = absurd (cc e)
     go (Some seat) is e = (seat, is)
 
+stuck_falls : {n : ℕ} (l : Look) → Falls n (deadlocked l)
+stuck_falls (To t next) = ends
+stuck_falls (Unknown t) = ends
+stuck_falls NoThread = ends
+
 look_falls : (table : Table) (l : Look) → Known table l → Falls (turns_left table) (at_look l table)
 look_falls table (To t next) (known_to e live) = go (has_passed table t) refl
   where
     there : (seat : Seat) × (slice_get table.seats t ≡ Some seat)
     there = seat_of table t next e
 
-    go : (b : Bool) → has_passed table t ≡ b → Falls (turns_left table) (cond b (Done (Ended (deadlock (look table (all_threads table))))) (tried next.sync table t next))
-    go true is = ends
+    go : (b : Bool) → has_passed table t ≡ b → Falls (turns_left table) (cond b (deadlocked (look table (all_threads table))) (tried next.sync table t next))
+    go true is = stuck_falls (look table (all_threads table))
     go false is = tried_falls next.sync table t next there.0 there.1 (sym (ap (λ o. unwrap_or (option_map (λ s. s.passed) o) false) there.1) ∙ is)
 look_falls table (Unknown t) known = ends
 look_falls table NoThread known = ends

@@ -7,7 +7,8 @@ use Rattle.gp_base.specs.declared.ending.End.{End}
 use Rattle.task_ast.specs.Tree.{Program}
 use Rattle.task_ast.specs.Repeat.{Move, Goes, Ends, steps, steps_from, state_after, state_from}
 use Rattle.task_ast.specs.State.{State}
-use Rattle.task_ast.specs.Effect.{Effect, effect, after}
+use Rattle.task_ast.specs.declared.effect.Effect.{Effect}
+use Rattle.task_ast.specs.Effect.{effect, after}
 use Rattle.task_ast.specs.Damage.{masked, all_masked, damaged}
 use Rattle.task_ast.specs.Turn.{Turn, Issue, Needs, Ended, next_issue}
 use Rattle.task_ast.specs.Plain.{Plain, Subthread, on_turn, move}
@@ -27,11 +28,11 @@ undamaged_child (Some c) = ap (λ values. Some (c.0, values)) (unmasked c.1)
 
 pub undamaged : (e : Effect) → damaged (pos 0) e ≡ e
 undamaged e =
-    let registers = unmasked e.registers in
+    let regs = unmasked e.regs in
     let child = undamaged_child e.child in
     let writes : map (λ w. (w.0, masked (pos 0) w.1)) e.writes ≡ e.writes = map_same (λ w. (w.0, masked (pos 0) w.1)) (λ w. refl) e.writes in
-    let lines = map_same (all_masked (pos 0)) unmasked e.lines in
-    λ i. record { thread = e.thread; registers = registers i; child = child i; writes = writes i; lines = lines i }
+    let prints = map_same (all_masked (pos 0)) unmasked e.prints in
+    λ i. record { thread = e.thread; writes = writes i; regs = regs i; child = child i; prints = prints i }
 
 -- the first member first
 fold_first : (members : ℕ → Member) (state : State) (n : ℕ)

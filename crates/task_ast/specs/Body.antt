@@ -7,7 +7,7 @@ use Rattle.task_ast.specs.Action.{Action}
 -- one control step, from a point
 pub data Step (P : Type 0) : Type 0 where
   Silent : P → Step P
-  Turn : P → Step P
+  Iteration : P → Step P
   Act : Action → P → Step P
   Stop : Next → Step P
 
@@ -33,8 +33,8 @@ spent = record { sync = sync.Spent; line = 0 }
 abbrev pub follow : {P : Type 0} → P → Step P → (go : P → Body P) → (turned : Option (P → Body P)) → Body P
 follow p (Silent q) go turned = go q
 follow p (Act a q) go turned = with_action a (go q)
-follow p (Turn q) go None = stopped spent p
-follow p (Turn q) go (Some turned) = turned q
+follow p (Iteration q) go None = stopped spent p
+follow p (Iteration q) go (Some turned) = turned q
 follow p (Stop next) go turned = stopped next p
 
 -- a size falls at each step but a loop turn, so a stretch without a turn is at most that long

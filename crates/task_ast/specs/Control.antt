@@ -9,10 +9,10 @@ use Rattle.task_ast.specs.declared.tree.Atom.TheVariants as atom
 use Rattle.task_ast.specs.declared.tree.Param.{Param}
 use Rattle.task_ast.specs.declared.tree.Param.TheVariants as param
 use Rattle.task_ast.specs.Tree.{Name, Expr, Stmt, At, What, SetCtl, While, If, Lock, Unlock, Fork, Join, Barrier, SetReg, Read, Write, Print, When, Block, Nothing, Then, statements, TaskText, Program}
-use Rattle.task_ast.specs.Names.{is_name, locks_of, records_of, barriers_of, cell_number, registers_of, task_named, task_number}
+use Rattle.task_ast.specs.Names.{is_name, slot, locks_of, records_of, barriers_of, cell_number, registers_of, task_named, task_number}
 use Rattle.task_ast.specs.Value.{value_at, value}
 use Rattle.task_ast.specs.Action.{term, Action, Set, Load, Store, Say, Choose, Child, Give, Bring, Arm, NoAction, OneAction}
-use Rattle.task_ast.specs.Body.{Step, Silent, Turn, Act, Stop, Body, body}
+use Rattle.task_ast.specs.Body.{Step, Silent, Iteration, Act, Stop, Body, body}
 
 -- what no thread changes
 pub record Setting : Type 0 where
@@ -26,10 +26,10 @@ pub record Point : Type 0 where
   pub names : List (Name × ℤ)
   pub me : ℕ
 
--- the same names in the same order, and x with this value
+-- the same names in the same order, and the first x with this value
 abbrev pub with_value : List (Name × ℤ) → Name → ℤ → List (Name × ℤ)
 with_value [] x v = []
-with_value (n ∷ names) x v = cond (is_name x n.0) (n.0, v) n ∷ with_value names x v
+with_value (n ∷ names) x v = cond (is_name x n.0) ((n.0, v) ∷ names) (n ∷ with_value names x v)
 
 -- the number that an atom stands for
 abbrev pub index_of : Atom → Env → ℤ
@@ -81,9 +81,9 @@ module _ (s : Setting) where
   abbrev pub record_number : Name → Atom → Env → Option ℕ
   record_number r i env = cell_number (records_of s.program.heads) r (index_of i env)
 
-  -- the register of a data variable, which is 0 where there is none of this name
+  -- the register of a data variable; where there is none of this name, one past the last, so that a write to it changes nothing
   abbrev pub register_number : List Name → Name → ℕ
-  register_number registers x = unwrap_or (position (is_name x) registers) 0
+  register_number registers x = slot registers x
 
   abbrev mutual
     -- a data statement's action, where the registers of its task have these names
@@ -126,7 +126,7 @@ module _ (s : Setting) where
   abbrev pub step_at : (line : ℕ) → What → List Stmt → Point → Step Point
   step_at line (SetCtl x e) rest p = known line (value e (env_at p)) (λ v. Silent (record p { left = rest; names = with_value p.names x v }))
   step_at line (While e b) rest p =
-      known line (value e (env_at p)) (λ v. branch v (Turn (going p (statements b ++ (At line (While e b) ∷ rest)))) (Silent (going p rest)))
+      known line (value e (env_at p)) (λ v. branch v (Iteration (going p (statements b ++ (At line (While e b) ∷ rest)))) (Silent (going p rest)))
   step_at line (If e a b) rest p =
       known line (value e (env_at p)) (λ v. branch v (Silent (going p (statements a ++ rest))) (Silent (going p (statements b ++ rest))))
   step_at line (Lock a i) rest p = known line (lock_number a i (env_at p)) (λ l. stop (sync.Lock l) line)

@@ -2,7 +2,7 @@
 use Rattle.std.specs.Prelude.{ℤ, List, map, option_map, cond}
 use Rattle.std.specs.Int.{int_bit_xor, w64}
 use Rattle.task_ast.specs.Value.{is_zero}
-use Rattle.task_ast.specs.Effect.{Effect}
+use Rattle.task_ast.specs.declared.effect.Effect.{Effect}
 
 -- the bits of the mask turned round; the test for mask 0 says that it changes nothing, whatever the value
 abbrev pub masked : ℤ → ℤ → ℤ
@@ -17,8 +17,8 @@ abbrev pub damaged : ℤ → Effect → Effect
 damaged mask e =
     record {
       thread = e.thread;
-      registers = all_masked mask e.registers;
-      child = option_map (λ c. (c.0, all_masked mask c.1)) e.child;
       writes = map (λ w. (w.0, masked mask w.1)) e.writes;
-      lines = map (all_masked mask) e.lines;
+      regs = all_masked mask e.regs;
+      child = option_map (λ c. (c.0, all_masked mask c.1)) e.child;
+      prints = map (all_masked mask) e.prints;
     }

@@ -1,6 +1,7 @@
 -- The check rules on names, counts and sizes.
 use Rattle.std.specs.Prelude.{ℕ, ◌+◌, ◌==◌, Bool, true, false, not, ◌&&◌, ◌||◌, List, [], ◌∷◌, ◌++◌, map, length, Option, Some, None, is_none, is_some, nat_lt, codes, zip}
 use Rattle.std.specs.List.{list_any}
+use Rattle.gp_base.specs.declared.limits.TheConstants.{MOST_CELLS, MOST_THREADS, MOST_FIELDS, MOST_VARIABLES}
 use Rattle.task_ast.specs.declared.check_kind.CheckKind.TheVariants.{UnknownName, DoubleName, WrongCount, SizesDiffer, TooMany}
 use Rattle.task_ast.specs.declared.tree.Atom.{Atom}
 use Rattle.task_ast.specs.declared.tree.Atom.TheVariants as atom
@@ -128,10 +129,10 @@ sizes_differ heads head = false
 
 -- a limit is passed at this head, after those before it
 abbrev pub passes_limit : List Head → Head → Bool
-passes_limit before (LockHead name size line) = nat_lt 65536 (cells_in (locks_of before) + natural size)
-passes_limit before (BarrierHead name number line) = nat_lt 4096 (natural number)
-passes_limit before (RecHead name size by from line) = nat_lt 65536 (cells_in (records_of before) + natural size)
-passes_limit before (FeedHead name fields from line) = nat_lt 64 (natural fields)
+passes_limit before (LockHead name size line) = nat_lt MOST_CELLS (cells_in (locks_of before) + natural size)
+passes_limit before (BarrierHead name number line) = nat_lt MOST_THREADS (natural number)
+passes_limit before (RecHead name size by from line) = nat_lt MOST_CELLS (cells_in (records_of before) + natural size)
+passes_limit before (FeedHead name fields from line) = nat_lt MOST_FIELDS (natural fields)
 
 -- the visit of a head that has these before it
 abbrev pub head_visit : Program → List Head → Head → Visit
@@ -157,9 +158,9 @@ abbrev pub has_double : List Param → List Param → Bool
 has_double before [] = false
 has_double before (x ∷ names) = is_declared before x || has_double (before ++ x ∷ []) names
 
--- with `$ret` there are more than 256 variables
+-- with `$ret` there are more variables than a task may have
 abbrev pub are_many : List Param → Bool
-are_many names = nat_lt 256 (length names + 1)
+are_many names = nat_lt MOST_VARIABLES (length names + 1)
 
 -- the visits of a task's var lines, after these names
 abbrev pub vars_visits : List Param → List VarLine → List Visit

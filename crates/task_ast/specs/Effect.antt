@@ -4,6 +4,7 @@ use Rattle.std.specs.Int.{int_wrap, w64}
 use Rattle.std.specs.Prelude.{neg_ℤ}
 use Rattle.std.specs.Ordering.{nat_cmp}
 use Rattle.std.specs.FinMap.{put, find}
+use Rattle.task_ast.specs.declared.effect.Effect.{Effect}
 use Rattle.task_ast.specs.declared.sync.SyncOp.{SyncOp}
 use Rattle.task_ast.specs.declared.sync.SyncOp.TheVariants as sync
 use Rattle.task_ast.specs.Value.{operate, truth, is_zero}
@@ -65,25 +66,30 @@ module _ (cells : ℕ → ℤ) (joined : ℤ) where
   all_done [] d = d
   all_done (a ∷ actions) d = all_done actions (done a d)
 
--- the registers left to the thread and to its child, the cells written, each once and in rising order, and the printed lines
-pub record Effect : Type 0 where
-  pub thread : ℕ
-  pub registers : List ℤ
-  pub child : Option (ℕ × List ℤ)
-  pub writes : List (ℕ × ℤ)
-  pub lines : List (List ℤ)
-
 -- `$ret` of the thread that is joined
 abbrev pub joined_ret : SyncOp → State → ℤ
 joined_ret (sync.Join (pos h)) state = number_at (state (RegistersOf h)) 0
 joined_ret _ state = pos 0
 
+-- what a subthread finds: its thread's registers, `$ret` of the thread that it joins, the cells
+pub record Found : Type 0 where
+  pub registers : List ℤ
+  pub joined : ℤ
+  pub cells : ℕ → ℤ
+
+-- what a subthread of this thread, which begins so, finds in a state
+abbrev pub found_in : (thread : ℕ) → (begins : SyncOp) → State → Found
+found_in t begins state = record { registers = state (RegistersOf t); joined = joined_ret begins state; cells = cell_value state }
+
+-- the effect of a subthread's actions on what it found
+abbrev pub effect_on : (thread : ℕ) → (child : Option ℕ) → List Action → Found → Effect
+effect_on t child actions found =
+    let d = all_done found.cells found.joined actions (record { registers = found.registers; child = []; written = []; lines = [] }) in
+    record { thread = t; writes = d.written; regs = d.registers; child = option_map (λ c. (c, d.child)) child; prints = d.lines }
+
 -- the effect of a subthread of this thread, which begins so, on a state
 abbrev pub effect : (thread : ℕ) → (begins : SyncOp) → (child : Option ℕ) → List Action → State → Effect
-effect t begins child actions state =
-    let d = all_done (cell_value state) (joined_ret begins state) actions
-    (record { registers = state (RegistersOf t); child = []; written = []; lines = [] }) in
-    record { thread = t; registers = d.registers; child = option_map (λ c. (c, d.child)) child; writes = d.written; lines = d.lines }
+effect t begins child actions state = effect_on t child actions (found_in t begins state)
 
 -- what a thread's registers become, where it is the child
 abbrev pub left_to : Option (ℕ × List ℤ) → ℕ → List ℤ → List ℤ
@@ -96,5 +102,5 @@ one_number v = v ∷ []
 
 -- the state after an effect
 abbrev pub after : Effect → State → State
-after e before (RegistersOf t) = cond (nat_eq t e.thread) e.registers (left_to e.child t (before (RegistersOf t)))
+after e before (RegistersOf t) = cond (nat_eq t e.thread) e.regs (left_to e.child t (before (RegistersOf t)))
 after e before (CellOf c) = unwrap_or (option_map one_number (find nat_cmp c e.writes)) (before (CellOf c))

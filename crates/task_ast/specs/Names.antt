@@ -1,5 +1,5 @@
 -- What the heads and the tasks of a program declare, by name.
-use Rattle.std.specs.Prelude.{ℕ, ℤ, pos, negsuc, ◌+◌, Bool, cond, List, [], ◌∷◌, ◌++◌, Option, Some, None, nat_lt, bytes_eq, codes, option_map, position, find}
+use Rattle.std.specs.Prelude.{ℕ, ℤ, pos, negsuc, ◌+◌, Bool, cond, List, [], ◌∷◌, ◌++◌, Option, Some, None, nat_lt, bytes_eq, codes, option_map, position, find, unwrap_or, length}
 use Rattle.std.specs.List.{list_any}
 use Rattle.std.specs.Map.{lookup}
 use Rattle.task_ast.specs.declared.tree.Head.{Head}
@@ -59,6 +59,19 @@ head_name (FeedHead name fields from line) = name
 -- what stands beside a name
 abbrev pub named : {T : Type 0} → Name → List (Name × T) → Option T
 named x pairs = lookup (is_name x) pairs
+
+-- the place of a name among these, or their number where it isn't there
+abbrev pub slot : List Name → Name → ℕ
+slot names x = unwrap_or (position (is_name x) names) (length names)
+
+-- the names of pairs, and what stands beside them
+abbrev pub firsts : {T : Type 0} → List (Name × T) → List Name
+firsts [] = []
+firsts (pair ∷ pairs) = pair.0 ∷ firsts pairs
+
+abbrev pub seconds : {T : Type 0} → List (Name × T) → List T
+seconds [] = []
+seconds (pair ∷ pairs) = pair.1 ∷ seconds pairs
 
 -- the place of an index, where it is below the size
 abbrev pub place : ℕ → ℤ → Option ℕ

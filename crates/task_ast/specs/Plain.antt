@@ -12,6 +12,7 @@ use Rattle.gp_base.specs.declared.ending.End.TheVariants.{Finished}
 use Rattle.task_ast.specs.declared.sync.SyncOp.{SyncOp}
 use Rattle.task_ast.specs.declared.sync.SyncOp.TheVariants as sync
 use Rattle.task_ast.specs.declared.sync.Next.{Next}
+use Rattle.task_ast.specs.Body.{Body}
 use Rattle.task_ast.specs.Control.{Setting, Point, beginning, first_actions, tree_body}
 use Rattle.task_ast.specs.State.{State, opened, with_registers, cell_value}
 use Rattle.task_ast.specs.Effect.{effect, after}
@@ -25,15 +26,26 @@ pub record Subthread : Type 0 where
   pub thread : ℕ
   pub begins : Next
   pub child : Option ℕ
-  pub foot : Footprint
+  pub held : List ℕ
   pub actions : List Action
   pub lines : List (List ℤ)
 
--- a thread table with the threads' points, and the data
-pub record Plain : Type 0 where
+-- what it reads and what it writes
+abbrev pub foot_of : Subthread → Footprint
+foot_of s = footprint s.thread s.begins.sync s.child s.held
+
+-- a thread table with the threads' points, of any kind, and the data
+pub record PlainOf (P : Type 0) : Type 0 where
   pub table : Table
-  pub points : List Point
+  pub points : List P
   pub state : State
+
+-- what the plain run asks of a kind of points: bodies, where a subthread begins and with which actions, where a task starts
+pub record Machine (P : Type 0) : Type 0 where
+  pub bodies : P → Body P
+  pub begins : SyncOp → Option ℕ → P → P
+  pub first : SyncOp → P → List Action
+  pub starts : (task thread : ℕ) → List ℤ → P
 
 -- a task with nothing in it
 abbrev pub no_task : TaskText
@@ -58,52 +70,58 @@ start_point task me arguments =
 abbrev pub setting_of : Program → Inputs → Setting
 setting_of program inputs = record { program = program; feeds = zip (feeds_of program.heads) inputs.feeds }
 
--- a forked thread begins at the start of its task
-abbrev pub points_with : Program → SyncOp → ℕ → List Point → List Point
-points_with program (sync.Fork task arguments) c points = points ++ start_point (task_at program task) c arguments ∷ []
-points_with program _ c points = points
+-- the number of the task of thread 0
+abbrev pub main_number : Program → ℕ
+main_number program = unwrap_or (task_number program main) 0
 
 -- the task of thread 0
 abbrev pub main_task : Program → TaskText
-main_task program = task_at program (unwrap_or (task_number program main) 0)
+main_task program = task_at program (main_number program)
 
 -- the end that a move finds
-abbrev pub ending_of : Move Plain Subthread End → End
+abbrev pub ending_of : {A : Type 0} → Move A Subthread End → End
 ending_of (Goes s p) = Finished
 ending_of (Ends e) = e
 
-module _ (program : Program) (inputs : Inputs) (limits : Limits) where
-  -- what no thread of the run changes
-  abbrev pub setting : Setting
-  setting = setting_of program inputs
+module _ {P : Type 0} (machine : Machine P) where
+  -- a forked thread begins at the start of its task
+  abbrev pub points_with : SyncOp → ℕ → List P → List P
+  points_with (sync.Fork task arguments) c points = points ++ machine.starts task c arguments ∷ []
+  points_with _ c points = points
+
+  -- where a thread stands
+  abbrev pub point_by : PlainOf P → (thread : ℕ) → P
+  point_by before t = unwrap_or (slice_get before.points t) (machine.starts 0 t [])
 
   -- the subthread of thread t, which begins so, in a table that doesn't know what comes after it
-  abbrev pub performed : ℕ → Next → Option ℕ → Table → Plain → Move Plain Subthread End
-  performed t begins child table before =
-      let p = unwrap_or (slice_get before.points t) (start_point no_task t []) in
-      let b = tree_body setting limits.turns (beginning begins.sync child p) in
-      let actions = first_actions setting begins.sync p ++ b.actions in
+  abbrev pub performed_by : ℕ → Next → Option ℕ → Table → PlainOf P → Move (PlainOf P) Subthread End
+  performed_by t begins child table before =
+      let p = point_by before t in
+      let b = machine.bodies (machine.begins begins.sync child p) in
+      let actions = machine.first begins.sync p ++ b.actions in
       let e = effect t begins.sync child actions before.state in
-      Goes (record { thread = t; begins = begins; child = child; foot = footprint t begins.sync child (owned table t); actions = actions; lines = e.lines })
+      Goes (record { thread = t; begins = begins; child = child; held = owned table t; actions = actions; lines = e.prints })
       (record {
         table = learning table t b.next;
-        points = slice_set (points_with program begins.sync (length before.points) before.points) t b.at;
+        points = slice_set (points_with begins.sync (length before.points) before.points) t b.at;
         state = after e before.state;
       })
 
   -- what follows a turn of the thread table
-  abbrev pub on_turn : Plain → Turn → Move Plain Subthread End
-  on_turn before (Issue t begins child table) = performed t begins child table before
-  on_turn before (Needs t) = Ends Finished
-  on_turn before (Ended ending) = Ends ending
+  abbrev pub on_turn_by : PlainOf P → Turn → Move (PlainOf P) Subthread End
+  on_turn_by before (Issue t begins child table) = performed_by t begins child table before
+  on_turn_by before (Needs t) = Ends Finished
+  on_turn_by before (Ended ending) = Ends ending
 
   -- the next subthread, or the end
-  abbrev pub move : Plain → Move Plain Subthread End
-  move before = on_turn before (next_issue before.table)
+  abbrev pub move_by : PlainOf P → Move (PlainOf P) Subthread End
+  move_by before = on_turn_by before (next_issue before.table)
 
+-- the run of a program over such points
+module _ {P : Type 0} (machine : Machine P) (program : Program) (inputs : Inputs) (limits : Limits) where
   -- thread 0 at the start of `main`
-  abbrev pub opening : Plain
-  opening =
+  abbrev pub opening_by : PlainOf P
+  opening_by =
       record {
         table = record {
           limit = limits.subthreads;
@@ -113,21 +131,68 @@ module _ (program : Program) (inputs : Inputs) (limits : Limits) where
           token = None;
           issued = 0;
         };
-        points = start_point (main_task program) 0 [] ∷ [];
+        points = machine.starts (main_number program) 0 [] ∷ [];
         state = with_registers 0 (length (registers_of (main_task program))) (opened inputs.records);
       }
 
   -- each subthread in order; one step more than the limit finds the end
+  abbrev pub order_by : List Subthread
+  order_by = steps (move_by machine) (suc limits.subthreads) opening_by
+
+  -- the state before the subthread at a position, or at the end where that comes before
+  abbrev pub before_by : (position : ℕ) → PlainOf P
+  before_by p = state_after (move_by machine) p opening_by
+
+  -- the state when the run has ended
+  abbrev pub last_by : PlainOf P
+  last_by = before_by (suc limits.subthreads)
+
+  -- how the run ends
+  abbrev pub end_by : End
+  end_by = ending_of (move_by machine last_by)
+
+-- a run on the tree
+abbrev pub Plain : Type 0
+Plain = PlainOf Point
+
+-- the points of the tree
+abbrev pub tree_machine : Program → Inputs → Limits → Machine Point
+tree_machine program inputs limits =
+    record {
+      bodies = tree_body (setting_of program inputs) limits.turns;
+      begins = beginning;
+      first = first_actions (setting_of program inputs);
+      starts = λ task thread arguments. start_point (task_at program task) thread arguments;
+    }
+
+module _ (program : Program) (inputs : Inputs) (limits : Limits) where
+  -- what no thread of the run changes
+  abbrev pub setting : Setting
+  setting = setting_of program inputs
+
+  -- what follows a turn of the thread table
+  abbrev pub on_turn : Plain → Turn → Move Plain Subthread End
+  on_turn before turn = on_turn_by (tree_machine program inputs limits) before turn
+
+  -- the next subthread, or the end
+  abbrev pub move : Plain → Move Plain Subthread End
+  move before = on_turn before (next_issue before.table)
+
+  -- thread 0 at the start of `main`
+  abbrev pub opening : Plain
+  opening = opening_by (tree_machine program inputs limits) program inputs limits
+
+  -- each subthread in order
   abbrev pub order : List Subthread
-  order = steps move (suc limits.subthreads) opening
+  order = order_by (tree_machine program inputs limits) program inputs limits
 
   -- the state when the run has ended
   abbrev pub last_state : Plain
-  last_state = state_after move (suc limits.subthreads) opening
+  last_state = last_by (tree_machine program inputs limits) program inputs limits
 
   -- how the run ends
   abbrev pub end : End
-  end = ending_of (move last_state)
+  end = end_by (tree_machine program inputs limits) program inputs limits
 
   -- the cells of all records at the end
   abbrev pub final_records : List ℤ

@@ -51,13 +51,13 @@ abbrev pub is_small_stmt : List Name → Stmt → Bool
 is_small_stmt registers (At line w) = is_small_what registers w
 
 -- a data variable
-abbrev pub is_data : Param → Bool
-is_data (param.Ctl x) = false
-is_data (param.Reg x) = true
+abbrev pub is_data_variable : Param → Bool
+is_data_variable (param.Ctl x) = false
+is_data_variable (param.Reg x) = true
 
 -- data variables alone, each once, none of them `$ret`, and at most 255
 abbrev pub are_small_vars : List Param → Bool
-are_small_vars vars = list_all is_data vars && (not (has_double [] vars) && not (are_many vars))
+are_small_vars vars = list_all is_data_variable vars && (not (has_double [] vars) && not (are_many vars))
 
 -- a task `main` without parameters, of such variables and statements
 abbrev pub is_small_task : TaskText → Bool

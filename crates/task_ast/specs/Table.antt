@@ -43,6 +43,10 @@ ring (Some t) n = numbers (suc t) (n - suc t) ++ numbers 0 (suc t)
 abbrev pub next_of : Table → ℕ → Option Next
 next_of table t = option_and_then (λ s. s.next) (slice_get table.seats t)
 
+-- the position of a thread's last subthread, where it has one
+abbrev pub last_in : Table → ℕ → Option ℕ
+last_in table t = option_and_then (λ s. s.last) (slice_get table.seats t)
+
 -- whether this is the end of a thread
 abbrev pub is_end : SyncOp → Bool
 is_end sync.End = true

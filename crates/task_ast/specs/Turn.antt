@@ -2,6 +2,7 @@
 -- precise-restartable execution of parallel programs, PLDI 2014).
 use Rattle.std.specs.Prelude.{ℕ, suc, pos, negsuc, ◌+◌, ◌*◌, Bool, true, false, not, cond, List, [], ◌∷◌, ◌++◌, length, map, count_by, Option, Some, None, is_none, nat_lt, nat_le, slice_get, slice_set, unwrap_or}
 use Rattle.std.specs.Option.{option_and_then, option_map}
+use Rattle.gp_base.specs.declared.limits.TheConstants.{MOST_THREADS}
 use Rattle.gp_base.specs.declared.ending.Why.{Why}
 use Rattle.gp_base.specs.declared.ending.Why.TheVariants as why
 use Rattle.gp_base.specs.declared.ending.End.{End}
@@ -10,7 +11,7 @@ use Rattle.task_ast.specs.declared.sync.SyncOp.{SyncOp}
 use Rattle.task_ast.specs.declared.sync.SyncOp.TheVariants as sync
 use Rattle.task_ast.specs.declared.sync.Next.{Next}
 use Rattle.task_ast.specs.Repeat.{Again, More, Done, until_done}
-use Rattle.task_ast.specs.Table.{Stand, Away, Waits, Released, Seat, Table, numbers, ring, next_of, is_end, unpassed, with_seat, new_seat, waits_at}
+use Rattle.task_ast.specs.Table.{Stand, Away, Waits, Released, Seat, Table, numbers, ring, next_of, last_in, is_end, unpassed, with_seat, new_seat, waits_at}
 
 -- what a turn does besides passing; it needs a thread's next synchronisation where the rules look at it and it is unknown
 pub data Turn : Type 0 where
@@ -98,17 +99,20 @@ at_barrier Released table t next = issuing table t next
 at_barrier _ table t next = passing table t
 
 -- who owns a lock cell
+abbrev pub owner_in : List (Option ℕ) → ℕ → Option ℕ
+owner_in owners l = option_and_then (λ o. o) (slice_get owners l)
+
 abbrev pub owner_of : Table → ℕ → Option ℕ
-owner_of table l = option_and_then (λ o. o) (slice_get table.owners l)
+owner_of table l = owner_in table.owners l
 
 -- a join of a thread whose next synchronisation is this
 abbrev pub joining : ℕ → Option Next → Table → ℕ → Next → Again Table Turn
 joining h None table t next = Done (Needs h)
 joining h (Some other) table t next = cond (is_end other.sync) (issuing table t next) (passing table t)
 
--- the position of the thread's last subthread
+-- the position of the thread's last subthread; 0 where it has none
 abbrev pub last_of : Table → ℕ → ℕ
-last_of table t = unwrap_or (option_and_then (λ s. s.last) (slice_get table.seats t)) 0
+last_of table t = unwrap_or (last_in table t) 0
 
 -- the run ends at this thread's next synchronisation
 abbrev pub stuck : Why → ℕ → Next → Again Table Turn
@@ -116,7 +120,7 @@ stuck cause t next = Done (Ended (Stuck cause t next.line))
 
 -- at most so many threads exist in a run
 abbrev pub most_threads : ℕ
-most_threads = 4096
+most_threads = MOST_THREADS
 
 -- the rules at the turn of a thread whose next synchronisation is this
 abbrev pub tried : SyncOp → Table → ℕ → Next → Again Table Turn
@@ -133,10 +137,11 @@ tried _ table t next = issuing table t next
 abbrev pub has_passed : Table → ℕ → Bool
 has_passed table t = unwrap_or (option_map (λ s. s.passed) (slice_get table.seats t)) false
 
--- the deadlock of the least-numbered thread that has not ended
-abbrev pub deadlock : Look → End
-deadlock (To t next) = Stuck why.Deadlock t next.line
-deadlock _ = Finished
+-- nobody can go on: the least-numbered thread that has not ended is told
+abbrev pub deadlocked : Look → Again Table Turn
+deadlocked (To t next) = stuck why.Deadlock t next
+deadlocked (Unknown t) = Done (Needs t)
+deadlocked NoThread = Done (Ended Finished)
 
 -- the numbers of all threads
 abbrev pub all_threads : Table → List ℕ
@@ -147,7 +152,7 @@ abbrev pub at_look : Look → Table → Again Table Turn
 at_look NoThread table = Done (Ended Finished)
 at_look (Unknown t) table = Done (Needs t)
 at_look (To t next) table =
-    cond (has_passed table t) (Done (Ended (deadlock (look table (all_threads table))))) (tried next.sync table t next)
+    cond (has_passed table t) (deadlocked (look table (all_threads table))) (tried next.sync table t next)
 
 -- one turn: a pass, or what is done
 abbrev pub turn : Table → Again Table Turn

@@ -62,6 +62,3 @@ fn rows_of(feed: Option<&Feed>) -> i64
 {
     feed.map_or(0, Feed::rows)
 }
-
-#[cfg(test)]
-mod tests;

@@ -1,10 +1,10 @@
 // Laws of the definitions, each the contract of a function with an empty body.
 
-ghost use Rattle.task_ast.specs.Laws.{ValueLaw, BodyLaw, TurnLaw, PrefixLaw, PositionLaw};
+ghost use Rattle.task_ast.specs.laws.Bodies.{ValueLaw, BodyLaw, TurnLaw, PrefixLaw, PositionLaw};
 ghost use Rattle.task_ast.specs.Reached.{DeadlockLaw};
-ghost use Rattle.task_ast.specs.Ends.{EndLaw, CountLaw, TablesLaw};
-ghost use Rattle.task_ast.specs.Folds.{WritesLaw, NoDamageLaw, FoldLaw};
-ghost use Rattle.task_ast.specs.Keeps.{ReadsLaw, WithinLaw};
+ghost use Rattle.task_ast.specs.laws.Ends.{EndLaw, CountLaw, TablesLaw, WholeLaw};
+ghost use Rattle.task_ast.specs.laws.Folds.{WritesLaw, NoDamageLaw, FoldLaw};
+ghost use Rattle.task_ast.specs.laws.Keeps.{ReadsLaw, WithinLaw};
 ghost use Rattle.task_ast.specs.Layout.{LayoutLaw, SizesLaw, OverLaw, BaseLaw};
 ghost use Rattle.task_ast.specs.Small.{SmallRunLaw};
 
@@ -40,11 +40,12 @@ pub fn order_laws()
     ensures position { PositionLaw }
 {}
 
-/// The plain run ends by its rules, within its limit, and its tables are those that turns lead to.
+/// The plain run ends by its rules, within its limit, and its tables are those that turns lead to, with all known.
 pub fn plain_laws()
     ensures end { EndLaw }
     ensures count { CountLaw }
     ensures tables { TablesLaw }
+    ensures whole { WholeLaw }
 {}
 
 /// An effect writes each cell once, and they rise; mask 0 damages nothing; the fold of all positions of a run, none of

@@ -2,15 +2,19 @@
 #![tactic(auto)]
 
 mod check_kind;
+mod effect;
 mod env;
 mod eval;
 pub mod eval_laws;
 pub mod laws;
 mod operate;
+pub mod position_laws;
 mod sync;
+pub mod table_laws;
 mod tree;
 
 pub use check_kind::CheckKind;
+pub use effect::Effect;
 pub use env::Env;
 pub use eval::{eval_c, eval_d};
 pub use operate::{apply, negate};

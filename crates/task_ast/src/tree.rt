@@ -3,14 +3,14 @@
 use gp_base::{Name, Seq};
 
 /// A batch program: what it declares, then its tasks, both in text order.
-#[derive(Debug, Drop)]
+#[derive(Drop)]
 pub struct Program {
     pub heads: Seq<Head>,
     pub tasks: Seq<TaskText>,
 }
 
 /// A declaration of a lock array, a barrier, a record or a feed. `from` is the name of a file.
-#[derive(Debug, Drop)]
+#[derive(Drop)]
 pub enum Head {
     LockHead {
         name: Name,
@@ -38,7 +38,7 @@ pub enum Head {
 }
 
 /// The text of a task: its parameters, its var lines and its statements.
-#[derive(Debug, Drop)]
+#[derive(Drop)]
 pub struct TaskText {
     pub name: Name,
     pub params: Seq<Param>,
@@ -48,14 +48,14 @@ pub struct TaskText {
 }
 
 /// A control variable, or a data variable by its name without the `$`.
-#[derive(Debug, Drop)]
+#[derive(Drop)]
 pub enum Param {
     Ctl(Name),
     Reg(Name),
 }
 
 /// One line of declared variables.
-#[derive(Debug, Drop)]
+#[derive(Drop)]
 pub struct VarLine {
     pub names: Seq<Param>,
     pub line: u32,
@@ -63,7 +63,7 @@ pub struct VarLine {
 
 /// A statement, with the line of its first token.
 #[cycle(stmt)]
-#[derive(Debug, Drop)]
+#[derive(Drop)]
 pub struct Stmt {
     pub what: What,
     pub line: u32,
@@ -71,7 +71,7 @@ pub struct Stmt {
 
 /// What a statement does. The blocks of `When` hold data statements alone, and a missing `else` is an empty list.
 #[cycle(stmt)]
-#[derive(Debug, Drop)]
+#[derive(Drop)]
 pub enum What {
     SetCtl(Name, Expr),
     While(Expr, Seq<Stmt>),
@@ -89,14 +89,14 @@ pub enum What {
 }
 
 /// The index of a lock or of a record cell: a number or a control variable.
-#[derive(Debug, Drop)]
+#[derive(Drop)]
 pub enum Atom {
     Num(i64),
     Var(Name),
 }
 
 /// An expression. A chain has at least one operator, and is read from left to right.
-#[derive(Debug, Drop)]
+#[derive(Drop)]
 pub enum Expr {
     Num(i64),
     Ctl(Name),

@@ -9,21 +9,21 @@ use Rattle.task_ast.specs.Effect.{effect, joined_ret}
 
 abbrev mutual
   -- each cell that the action names passes the test
-  pub Names : (ℕ → Bool) → Action → Type 0
-  Names test (Load c k) = IsTrue (test c)
-  Names test (Store c t) = IsTrue (test c)
-  Names test (Choose t a b) = ArmNames test a × ArmNames test b
-  Names test _ = ⊤
+  pub NamesOnly : (ℕ → Bool) → Action → Type 0
+  NamesOnly test (Load c k) = IsTrue (test c)
+  NamesOnly test (Store c t) = IsTrue (test c)
+  NamesOnly test (Choose t a b) = ArmNamesOnly test a × ArmNamesOnly test b
+  NamesOnly test _ = ⊤
 
   -- each cell that an arm names passes the test
-  pub ArmNames : (ℕ → Bool) → Arm → Type 0
-  ArmNames test NoAction = ⊤
-  ArmNames test (OneAction a arm) = Names test a × ArmNames test arm
+  pub ArmNamesOnly : (ℕ → Bool) → Arm → Type 0
+  ArmNamesOnly test NoAction = ⊤
+  ArmNamesOnly test (OneAction a arm) = NamesOnly test a × ArmNamesOnly test arm
 
 -- each cell that one of the actions names passes the test
 abbrev pub AllName : (ℕ → Bool) → List Action → Type 0
 AllName test [] = ⊤
-AllName test (a ∷ actions) = Names test a × AllName test actions
+AllName test (a ∷ actions) = NamesOnly test a × AllName test actions
 
 -- two states agree at the thread's registers, at `$ret` of the thread that it joins, and at the cells that pass the test
 pub record AgreeAt (test : ℕ → Bool) (t : ℕ) (begins : SyncOp) (left right : State) : Type 0 where

@@ -9,7 +9,8 @@ use Rattle.task_ast.specs.Action.{Action}
 use Rattle.task_ast.specs.declared.sync.SyncOp.{SyncOp}
 use Rattle.task_ast.specs.State.{State}
 use Rattle.task_ast.specs.Repeat.{steps, state_after}
-use Rattle.task_ast.specs.Effect.{Effect, effect}
+use Rattle.task_ast.specs.declared.effect.Effect.{Effect}
+use Rattle.task_ast.specs.Effect.{effect}
 use Rattle.task_ast.specs.Damage.{damaged}
 use Rattle.task_ast.specs.Plain.{Plain, move}
 use Rattle.task_ast.specs.Fold.{fold}

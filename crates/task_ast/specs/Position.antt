@@ -1,0 +1,92 @@
+-- The plain run, position by position.
+use Rattle.std.specs.Prelude.{◌≡◌, ℕ, zero, suc, ◌<◌, ℤ, pos, Bool, false, cond, nat_eq, List, [], ◌++◌, map, Option, Some, None, length, slice_get}
+use Rattle.gp_base.specs.declared.limits.Limits.{Limits}
+use Rattle.gp_base.specs.declared.feed.Inputs.{Inputs}
+use Rattle.task_ast.specs.declared.sync.SyncOp.TheVariants as sync
+use Rattle.task_ast.specs.declared.sync.Next.{Next}
+use Rattle.task_ast.specs.Tree.{Program}
+use Rattle.task_ast.specs.Body.{Body}
+use Rattle.task_ast.specs.Control.{Point}
+use Rattle.task_ast.specs.Effect.{effect, after}
+use Rattle.task_ast.specs.Table.{next_of, owned}
+use Rattle.task_ast.specs.Turn.{owners_after, child_of}
+use Rattle.task_ast.specs.laws.Threads.{MayBegin, with_child}
+use Rattle.task_ast.specs.Plain.{Subthread, PlainOf, Machine, point_by, before_by, order_by, Plain, tree_machine, order, end}
+
+-- whether the thread has the position
+abbrev pub is_of : ℕ → Option Subthread → Bool
+is_of t None = false
+is_of t (Some s) = nat_eq s.thread t
+
+-- the last position below this one of the same thread
+abbrev pub last_below : List Subthread → (thread position : ℕ) → Option ℕ
+last_below run t zero = None
+last_below run t (suc p) = cond (is_of t (slice_get run p)) (Some p) (last_below run t p)
+
+-- the body with which a subthread goes on, where its thread stands so
+abbrev pub body_by : {P : Type 0} → Machine P → PlainOf P → Subthread → Body P
+body_by machine before s = machine.bodies (machine.begins s.begins.sync s.child (point_by machine before s.thread))
+
+-- in a run over any kind of points: the thread's last subthread is that of position q, and the body of that subthread leads to the
+-- thread's next synchronisation and to its point
+pub record LeftBy {P : Type 0} (machine : Machine P) (program : Program) (inputs : Inputs) (limits : Limits) (x : PlainOf P) (t q : ℕ) : Type 0 where
+  pub subthread : Subthread
+  pub position : slice_get (order_by machine program inputs limits) q ≡ Some subthread
+  pub thread : subthread.thread ≡ t
+  pub next : next_of x.table t ≡ Some (body_by machine (before_by machine program inputs limits q) subthread).next
+  pub point : point_by machine x t ≡ (body_by machine (before_by machine program inputs limits q) subthread).at
+  pub earlier : q < x.table.issued
+
+-- a run over any kind of points goes from x to y by this subthread
+pub record IsStep {P : Type 0} (machine : Machine P) (x : PlainOf P) (s : Subthread) (y : PlainOf P) : Type 0 where
+  pub begins : next_of x.table s.thread ≡ Some s.begins
+  pub may : MayBegin x.table s.begins.sync
+  pub child : s.child ≡ child_of s.begins.sync (length x.table.seats)
+  pub actions : s.actions ≡ machine.first s.begins.sync (point_by machine x s.thread) ++ (body_by machine x s).actions
+  pub lines : s.lines ≡ (effect s.thread s.begins.sync s.child s.actions x.state).prints
+  pub state : y.state ≡ after (effect s.thread s.begins.sync s.child s.actions x.state) x.state
+  pub owners : y.table.owners ≡ owners_after s.begins.sync s.thread x.table.owners
+  pub held : s.held ≡ owned y.table s.thread
+  pub threads : length y.table.seats ≡ with_child s.child (length x.table.seats)
+  pub next : next_of y.table s.thread ≡ Some (body_by machine x s).next
+  pub point : point_by machine y s.thread ≡ (body_by machine x s).at
+  pub others : (t : ℕ) → (t ≡ s.thread → ⊥) → t < length x.table.seats → (next_of y.table t ≡ next_of x.table t) × (point_by machine y t ≡ point_by machine x t)
+  pub forked : (task : ℕ) (arguments : List ℤ) → s.begins.sync ≡ sync.Fork task arguments
+      → (next_of y.table (length x.table.seats) ≡ Some (record { sync = sync.Start; line = 0 }))
+      × (point_by machine y (length x.table.seats) ≡ machine.starts task (length x.table.seats) arguments)
+
+-- the subthread's thread and the thread that it joins are among so many threads, and its child is the next one
+pub record IsForked (threads : ℕ) (s : Subthread) : Type 0 where
+  pub thread : s.thread < threads
+  pub joined : (h : ℤ) → s.begins.sync ≡ sync.Join h → (k : ℕ) × (h ≡ pos k) × (k < threads)
+  pub child : (c : ℕ) → s.child ≡ Some c → c ≡ threads
+
+module _ (program : Program) (inputs : Inputs) (limits : Limits) where
+  -- the plain run before the subthread at a position, or at its end where that comes before
+  abbrev pub before : (position : ℕ) → Plain
+  before p = before_by (tree_machine program inputs limits) program inputs limits p
+
+  -- how many threads there are before a position
+  abbrev pub threads_before : (position : ℕ) → ℕ
+  threads_before p = length (before p).table.seats
+
+  -- where a thread stands
+  abbrev pub point_in : Plain → (thread : ℕ) → Point
+  point_in x t = point_by (tree_machine program inputs limits) x t
+
+  -- the body of the subthread at a position
+  abbrev pub body_at : (position : ℕ) → Subthread → Body Point
+  body_at p s = body_by (tree_machine program inputs limits) (before p) s
+
+-- a subthread but for its lines
+abbrev pub plan_of : Subthread → Subthread
+plan_of s = record s { lines = [] }
+
+-- two runs of a program differ in the data alone: the same subthreads but for their lines, the same end, and before each position
+-- the same table and the same points
+pub record IsSameControl (program : Program) (inputs other : Inputs) (limits : Limits) : Type 0 where
+  pub order : map plan_of (order program inputs limits) ≡ map plan_of (order program other limits)
+  pub end : end program inputs limits ≡ end program other limits
+  pub tables : (p : ℕ) → (before program inputs limits p).table ≡ (before program other limits p).table
+  pub points : (p t : ℕ) (next : Next) → next_of (before program inputs limits p).table t ≡ Some next
+      → point_in program inputs limits (before program inputs limits p) t ≡ point_in program other limits (before program other limits p) t

@@ -1,0 +1,10 @@
+pub mod Bodies
+pub mod Ends
+pub mod Folds
+pub mod Following
+pub mod Keeps
+pub mod Less
+pub mod Positions
+pub mod Registers
+pub mod Standing
+pub mod Threads

@@ -1,0 +1,24 @@
+-- Control variables and registers: what reads them, and what sets them by name.
+use Rattle.std.specs.Prelude.{◌≡◌, ◌≤◌, ℤ, false, List, length, slice_set, IsFalse}
+use Rattle.task_ast.specs.declared.env.Env.{Env}
+use Rattle.task_ast.specs.Tree.{Name, Expr}
+use Rattle.task_ast.specs.Names.{is_among, slot, firsts, seconds}
+use Rattle.task_ast.specs.Declarations.{has_data}
+use Rattle.task_ast.specs.Value.{value}
+use Rattle.task_ast.specs.Control.{with_value}
+
+-- an expression without data variables has one value whatever the registers hold
+abbrev pub ControlValueLaw : Type 0
+ControlValueLaw = (e : Expr) (env : Env) (registers : List (Name × ℤ)) → IsFalse (has_data e) → value e (record env { regs = registers }) ≡ value e env
+
+-- setting a name sets the first entry of that name alone, if there is one, and leaves the names
+abbrev pub FirstEntryLaw : Type 0
+FirstEntryLaw =
+    (names : List (Name × ℤ)) (x : Name) (v : ℤ)
+    → (firsts (with_value names x v) ≡ firsts names) × (seconds (with_value names x v) ≡ slice_set (seconds names) (slot (firsts names) x) v)
+
+-- a write to a register that isn't declared changes nothing
+abbrev pub UndeclaredLaw : Type 0
+UndeclaredLaw =
+    (registers : List Name) (values : List ℤ) (x : Name) (v : ℤ) → is_among x registers ≡ false → length values ≤ length registers
+    → slice_set values (slot registers x) v ≡ values
