@@ -2,8 +2,10 @@
 use Rattle.std.proofs.Common.{◌≡◌, ℕ, Bool, true, false, cond, leb, List, [], ◌∷◌, ◌++◌, Result, Err, refl, sym, ap, append_assoc}
 use Rattle.task_parser.specs.declared.token.Token.{Token}
 use Rattle.task_parser.specs.Words.{Placed, tokens_of}
-use Rattle.task_parser.specs.Reading.{Stop, begins, ◌>>=◌}
-use Rattle.task_parser.specs.Laws.{Same, Within, GoesBeyond, verdict}
+use Rattle.task_parser.specs.inner.Reading.{begins, ◌>>=◌}
+use Rattle.task_parser.specs.Promise.{Stop}
+use Rattle.task_parser.specs.inner.Laws.{Same, GoesBeyond, verdict}
+use Rattle.task_parser.specs.Promise.{Within}
 
 pub tokens-append : (a b : List Placed) → tokens_of (a ++ b) ≡ tokens_of a ++ tokens_of b
 tokens-append [] b = refl

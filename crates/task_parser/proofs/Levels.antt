@@ -8,8 +8,8 @@ use Rattle.task_parser.specs.declared.classes.TheConstants.{AND, OR, EQ, NE, LT,
 use Rattle.task_parser.specs.declared.expressions.Level.{Level}
 use Rattle.task_parser.specs.declared.expressions.Level.TheVariants.{Or, And, Comparison, Sum, Product}
 use Rattle.task_parser.specs.Expressions.{Text, chain_or}
-use Rattle.task_parser.specs.ExpressionReaders.{read_member}
-use Rattle.task_parser.specs.Gives.{operators, read_part}
+use Rattle.task_parser.specs.inner.ExpressionReaders.{read_member}
+use Rattle.task_parser.specs.inner.Gives.{operators, read_part}
 use Rattle.task_parser.proofs.Many.{Shortens}
 use Rattle.task_parser.proofs.ReadExpressions.{reads_member, reads_product, reads_sum, reads_compared, reads_conjunction, reads_unary}
 use Rattle.task_parser.proofs.Loop.{shortens_reads}

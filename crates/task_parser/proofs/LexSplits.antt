@@ -6,6 +6,7 @@ use Rattle.std.proofs.lemmas.List.Sums.{AllPass-from_list_all, prefix_len-le-len
 use Rattle.std.specs.Prelude.{if◌then◌else◌}
 use Rattle.std.proofs.lemmas.Bool.Decides.{nat_tests}
 use Rattle.std.proofs.lemmas.Bool.{leb-true}
+use Rattle.gp_base.specs.declared.limits.TheConstants.{MOST_PROGRAM_BYTES}
 use Rattle.task_parser.specs.declared.token.Token.{Token}
 use Rattle.task_parser.specs.declared.token.Kind.{Kind}
 use Rattle.task_parser.specs.declared.fault.LexFault.{LexFault}
@@ -14,7 +15,7 @@ use Rattle.task_parser.specs.declared.lexer.Piece.{Piece}
 use Rattle.task_parser.specs.declared.lexer.Piece.TheVariants.{Skip, Take, TooBig, Bad}
 use Rattle.task_parser.specs.Pieces.{FitsIn, word_kind, piece_of, is_comment_byte, is_quoted_byte}
 use Rattle.task_parser.specs.TokenTable.{IsToken, IsInRange, IsLongest, IsGap, IsComment}
-use Rattle.task_parser.specs.Lexing.{length_limit, lexed_behind, followed_by, token_behind}
+use Rattle.task_parser.specs.Lexing.{lexed_behind, followed_by, token_behind}
 use Rattle.task_parser.specs.Splitting.{Splits, nothing, gap, token, StopsShort, BeginsTooBig, StopsAt, LexingsSplit, FaultsStop}
 use Rattle.task_parser.proofs.LexPieces.{Stands, space, comment, number, too_big, word, register, no_name, quoted, no_end, pair, single, no_equals, stray, piece_stands, stands_fits, piece_fits, front_some, hash_is_comment_byte}
 use Rattle.task_parser.proofs.LexTokens.{prefix_passes, prefix_stops}
@@ -138,9 +139,9 @@ if_lexed text true lexing is short = cc
 if_lexed text false lexing is short = subst (Outcome [] text) is (outcome (length text) [] text (omega arith))
 
 pub lexings_split : LexingsSplit
-lexings_split text tokens is = go (ltb length_limit (length text)) refl is
+lexings_split text tokens is = go (ltb MOST_PROGRAM_BYTES (length text)) refl is
   where
-    go : (long : Bool) → ltb length_limit (length text) ≡ long → (if long then Err TooLong else lexed_behind [] 0 text) ≡ Ok tokens → Splits [] text tokens []
+    go : (long : Bool) → ltb MOST_PROGRAM_BYTES (length text) ≡ long → (if long then Err TooLong else lexed_behind [] 0 text) ≡ Ok tokens → Splits [] text tokens []
     go true long lexing = cc
     go false long lexing = if_lexed text false (Ok tokens) lexing refl
 

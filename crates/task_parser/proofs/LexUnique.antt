@@ -5,6 +5,7 @@ use Rattle.std.proofs.Math.Seq.{take-append_seam, drop-append_seam}
 use Rattle.std.proofs.lemmas.List.Sums.{list_all-from_AllPass}
 use Rattle.std.proofs.lemmas.Bool.{eqb-true, false≢true}
 use Rattle.std.proofs.lemmas.Bool.Decides.{nat_tests}
+use Rattle.gp_base.specs.declared.limits.TheConstants.{MOST_PROGRAM_BYTES}
 use Rattle.task_parser.specs.declared.token.Token.{Token}
 use Rattle.task_parser.specs.declared.token.Kind.{Kind}
 use Rattle.task_parser.specs.declared.token.Kind.TheVariants.{Num, Name, Reg, Quoted, Word, Mark}
@@ -12,7 +13,7 @@ use Rattle.task_parser.specs.declared.lexer.Piece.{Piece}
 use Rattle.task_parser.specs.declared.lexer.Piece.TheVariants.{Skip, Take}
 use Rattle.task_parser.specs.Pieces.{FitsIn, piece_of, is_comment_byte, is_quoted_byte, begins}
 use Rattle.task_parser.specs.TokenTable.{IsToken, IsInRange, IsLongest, IsGap, IsComment}
-use Rattle.task_parser.specs.Lexing.{length_limit, lexed_behind, followed_by, token_behind}
+use Rattle.task_parser.specs.Lexing.{lexed_behind, followed_by, token_behind}
 use Rattle.task_parser.specs.Splitting.{Splits, nothing, gap, token, StopsShort, BeginsTooBig, SplittingsAreLexed}
 use Rattle.task_parser.proofs.LexPieces.{Stands, space, comment, number, too_big, word, register, no_name, quoted, no_end, pair, single, no_equals, stray, piece_stands, stands_fits}
 use Rattle.task_parser.proofs.LexTokens.{class_of, class_some, class_space, class_hash, class_quote, first_class}
@@ -156,5 +157,5 @@ splitting_lexed (token kind bytes is range longest splits) ended =
 
 pub splittings_are_lexed : SplittingsAreLexed
 splittings_are_lexed text tokens le splits =
-    let short : ltb length_limit (length text) ≡ false = grind (arith, nat_tests) in
+    let short : ltb MOST_PROGRAM_BYTES (length text) ≡ false = grind (arith, nat_tests) in
     rw short (splitting_lexed splits refl)

@@ -2,16 +2,19 @@
 use Rattle.std.proofs.Common.{◌≡◌, ℕ, suc, ◌+◌, ◌≤◌, ◌⊎◌, inl, inr, Bool, true, false, cond, leb, List, [], ◌∷◌, ◌++◌, length, Result, Ok, Err, refl, sym, ap, subst, ◌∙◌, append_assoc, length-append, arith}
 use Rattle.std.proofs.lemmas.List.{append-nil, append_cancel_right}
 use Rattle.std.proofs.lemmas.Bool.{le-leb}
+use Rattle.gp_base.specs.declared.limits.TheConstants.{DEEPEST_NESTING}
 use Rattle.task_ast.specs.Tree.{Program}
 use Rattle.task_parser.specs.declared.token.Token.{Token}
 use Rattle.task_parser.specs.Words.{Placed, tokens_of}
-use Rattle.task_parser.specs.Reading.{Stop, ◌>>=◌, unexpected}
-use Rattle.task_parser.specs.Laws.{Same, Within, Outcome, verdict}
+use Rattle.task_parser.specs.inner.Reading.{◌>>=◌, unexpected}
+use Rattle.task_parser.specs.Promise.{Stop}
+use Rattle.task_parser.specs.inner.Laws.{Same, Outcome, verdict}
+use Rattle.task_parser.specs.Promise.{Within}
 use Rattle.task_parser.specs.Expressions.{Text}
 use Rattle.task_parser.specs.Programs.{program}
-use Rattle.task_parser.specs.ProgramReaders.{read_program}
-use Rattle.task_parser.specs.Promise.{deepest, Spelled, StandFor, Begins, CannotGoOn, NestsBeyond, FaultThere, StopFirst}
-use Rattle.task_parser.specs.Answer.{to_end, read_all}
+use Rattle.task_parser.specs.inner.ProgramReaders.{read_program}
+use Rattle.task_parser.specs.Promise.{Spelled, StandFor, Begins, CannotGoOn, NestsBeyond, FaultThere, StopFirst}
+use Rattle.task_parser.specs.inner.WholeText.{to_end, read_all}
 use Rattle.task_parser.specs.OneReading.{ProgramOrFault, NoFault, OneFault}
 use Rattle.task_parser.proofs.Basics.{tokens-append, tokens_parts, verdict-append}
 use Rattle.task_parser.proofs.ReadPrograms.{sound_program}
@@ -24,12 +27,12 @@ verdict_within : {A : Type 0} (limit : ℕ) (placed : List Placed) (rest : List 
 verdict_within limit [] rest answer h = refl
 verdict_within limit (p ∷ placed) rest answer h = rw (le-leb p.nesting limit h.0) (verdict_within limit placed rest answer h.1)
 
-front_answer : (text : Text) (p : Program) (front more : List Placed) → Within deepest front → Spelled text p (front ++ more) → read_all text (tokens_of front ++ (tokens_of more ++ [])) ≡ verdict deepest more [] (Ok p)
+front_answer : (text : Text) (p : Program) (front more : List Placed) → Within DEEPEST_NESTING front → Spelled text p (front ++ more) → read_all text (tokens_of front ++ (tokens_of more ++ [])) ≡ verdict DEEPEST_NESTING more [] (Ok p)
 front_answer text p front more within h =
     ap (read_all text) (sym (tokens_parts front more []) ∙ append-nil (tokens_of (front ++ more)))
     ∙ read_spelled text p (front ++ more) h
-    ∙ verdict-append deepest front more [] (Ok p)
-    ∙ verdict_within deepest front (tokens_of more ++ []) (verdict deepest more [] (Ok p)) within
+    ∙ verdict-append DEEPEST_NESTING front more [] (Ok p)
+    ∙ verdict_within DEEPEST_NESTING front (tokens_of more ++ []) (verdict DEEPEST_NESTING more [] (Ok p)) within
 
 tokens_length : (placed : List Placed) → length (tokens_of placed) ≡ length placed
 tokens_length [] = refl
@@ -58,7 +61,7 @@ unexpected_next p next rest (y ∷ ys) same = refl
 abbrev at_end : Program × List Token → Result Program Stop
 at_end x = to_end x.0 x.1
 
-again : (text : Text) (tokens : List Token) (stop : Stop) (r : Result (Program × List Token) Stop) → Outcome (0 + deepest) 0 (program text (suc (suc deepest))) (read_program text deepest) tokens r → (r >>= at_end) ≡ Err stop → Again text tokens stop
+again : (text : Text) (tokens : List Token) (stop : Stop) (r : Result (Program × List Token) Stop) → Outcome (0 + DEEPEST_NESTING) 0 (program text (suc (suc DEEPEST_NESTING))) (read_program text DEEPEST_NESTING) tokens r → (r >>= at_end) ≡ Err stop → Again text tokens stop
 unfolding Again read_all
 again text tokens stop (Ok (p, [])) h e = absurd cc
 again text tokens stop (Ok (p, t ∷ ts)) h e =
@@ -71,7 +74,7 @@ again text tokens stop (Err s) h e =
 stops_again : (text : Text) (front : List Token) (stop : Stop) → read_all text (front ++ stop.rest) ≡ Err stop → (other : List Token) → Same stop.rest other → read_all text (front ++ other) ≡ Err (record { deep = stop.deep; rest = other })
 unfolding Again read_all
 stops_again text front stop e other same =
-    let h = again text (front ++ stop.rest) stop (read_program text deepest (front ++ stop.rest)) (sound_program text deepest 0 (front ++ stop.rest)) e in
+    let h = again text (front ++ stop.rest) stop (read_program text DEEPEST_NESTING (front ++ stop.rest)) (sound_program text DEEPEST_NESTING 0 (front ++ stop.rest)) e in
     rw (append_cancel_right front h.0 stop.rest h.1) (h.2 other same)
 
 -- ---- two fronts of the same tokens
@@ -117,10 +120,10 @@ not_longer text front rest other left cannot begun l =
     (begins_less text (l.same ++ l.next ∷ []) l.more (subst (Begins text) (l.parts ∙ sym (append_assoc l.same (l.next ∷ []) l.more)) begun))
 
 -- reading stops at no token of a program's beginning that is within the limit
-not_within : (text : Text) (front : List Placed) (rest : List Token) (before : List Placed) (stop : Stop) → Within deepest front → Begins text front → read_all text (tokens_of before ++ stop.rest) ≡ Err stop → Longer front rest before stop.rest → ⊥
+not_within : (text : Text) (front : List Placed) (rest : List Token) (before : List Placed) (stop : Stop) → Within DEEPEST_NESTING front → Begins text front → read_all text (tokens_of before ++ stop.rest) ≡ Err stop → Longer front rest before stop.rest → ⊥
 not_within text front rest before stop within begun e l =
     let n : ℕ = length (tokens_of begun.more ++ []) in
-    let short : length other ≤ length begun.more = stops_among deepest begun.more begun.p (record { deep = stop.deep; rest = other }) (sym (front_answer text begun.p front begun.more within begun.spelled) ∙ ap (read_all text) line ∙ stops_again text (tokens_of before) stop e other same) in
+    let short : length other ≤ length begun.more = stops_among DEEPEST_NESTING begun.more begun.p (record { deep = stop.deep; rest = other }) (sym (front_answer text begun.p front begun.more within begun.spelled) ∙ ap (read_all text) line ∙ stops_again text (tokens_of before) stop e other same) in
     absurd (omega (arith, short, length-append (tokens_of l.more) (tokens_of begun.more ++ []), ap length (append-nil (tokens_of begun.more)), tokens_length begun.more))
   where
     other : List Token
@@ -140,9 +143,9 @@ not_deep text front rest other (next ∷ left) cannot same e beyond =
     stuck (other ++ at ∷ []) (tokens-append other (at ∷ []) ∙ ap (λ (ts : List Token). ts ++ next ∷ []) same) beyond
   where
     at : Placed
-    at = record { token = next; nesting = suc deepest }
+    at = record { token = next; nesting = suc DEEPEST_NESTING }
 
-deep_answer : (text : Text) (front : List Placed) (rest : List Token) → Within deepest front → NestsBeyond text front rest → read_all text (tokens_of front ++ rest) ≡ Err (record { deep = true; rest = rest })
+deep_answer : (text : Text) (front : List Placed) (rest : List Token) → Within DEEPEST_NESTING front → NestsBeyond text front rest → read_all text (tokens_of front ++ rest) ≡ Err (record { deep = true; rest = rest })
 deep_answer text front [] within h = absurd h
 deep_answer text front (next ∷ rest) within h =
     stops_again text (tokens_of front) (record { deep = true; rest = next ∷ (tokens_of h.more ++ []) })
@@ -150,7 +153,7 @@ deep_answer text front (next ∷ rest) within h =
     (next ∷ rest) refl
   where
     at : Placed
-    at = record { token = next; nesting = suc deepest }
+    at = record { token = next; nesting = suc DEEPEST_NESTING }
 
 module _ (text : Text) (tokens rest : List Token) (h : StopFirst text tokens (record { deep = false; rest = rest })) where
   no_program_there : (p : Program) → StandFor text tokens p → ⊥

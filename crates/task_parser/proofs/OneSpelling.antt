@@ -6,10 +6,11 @@ use Rattle.task_parser.specs.declared.fault.LexFault.{LexFault}
 use Rattle.task_parser.specs.declared.fault.ParseFault.{ParseFault}
 use Rattle.task_parser.specs.declared.fault.ParseFault.TheVariants.{Unexpected, TooDeep, OutOfMemory}
 use Rattle.task_parser.specs.Lexing.{lexed}
-use Rattle.task_parser.specs.Reading.{Stop}
+use Rattle.task_parser.specs.Promise.{Stop}
 use Rattle.task_parser.specs.Expressions.{Text}
 use Rattle.task_parser.specs.Promise.{StandFor, StopFirst}
-use Rattle.task_parser.specs.Answer.{place, IsFirstFault, read_all}
+use Rattle.task_parser.specs.Answer.{place, IsFirstFault}
+use Rattle.task_parser.specs.inner.WholeText.{read_all}
 use Rattle.task_parser.specs.Spelling.{HasFault, Meaning, Stands, LexFails, ParseFails, Means}
 use Rattle.task_parser.specs.OneReading.{OnePlace, SomeMeaning, OneMeaning, OneSpelling}
 use Rattle.task_parser.proofs.Whole.{spelled_read}

@@ -2,8 +2,8 @@
 use Rattle.std.proofs.Common.{◌≡◌, ℕ, ◌+◌, Bool, true, false, cond, List, [], Option, Some, None, Ok, refl, sym, subst}
 use Rattle.task_parser.specs.declared.token.Token.{Token}
 use Rattle.task_parser.specs.Words.{Placed, Form, Made, perhaps, tokens_of}
-use Rattle.task_parser.specs.Reading.{Reader, begins, read_made, given, read_perhaps}
-use Rattle.task_parser.specs.Laws.{Outcome, Sound, Complete, Starts, Inhabited, Parted}
+use Rattle.task_parser.specs.inner.Reading.{Reader, begins, read_made, given, read_perhaps}
+use Rattle.task_parser.specs.inner.Laws.{Outcome, Sound, Complete, Starts, Inhabited, Parted}
 use Rattle.task_parser.proofs.Basics.{begins_same, verdict-bind}
 use Rattle.task_parser.proofs.Exact.{made_any, outcome_as, Covers, Apart, begins_narrow, begins_apart, begins_longer}
 

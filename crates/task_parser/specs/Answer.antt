@@ -6,12 +6,8 @@ use Rattle.task_ast.specs.View.{plain_program}
 use Rattle.task_parser.specs.declared.token.Token.{Token}
 use Rattle.task_parser.specs.declared.fault.ParseFault.{ParseFault}
 use Rattle.task_parser.specs.declared.fault.ParseFault.TheVariants.{Unexpected, TooDeep, OutOfMemory}
-use Rattle.task_parser.specs.declared.halt.Halt.{Halt}
-use Rattle.task_parser.specs.declared.halt.Halt.TheVariants as halts
-use Rattle.task_parser.specs.Reading.{Stop, ◌>>=◌, unexpected}
 use Rattle.task_parser.specs.Expressions.{Text}
-use Rattle.task_parser.specs.Promise.{deepest, StandFor, StopFirst}
-use Rattle.task_parser.specs.ProgramReaders.{read_program}
+use Rattle.task_parser.specs.Promise.{StopFirst}
 
 -- where the rest of the tokens begins in the text
 abbrev pub place : Text → List Token → ℕ
@@ -29,21 +25,3 @@ abbrev pub Answers : Result CodeProgram ParseFault → Program → Type 0
 Answers (Ok p) wanted = plain_program p ≡ wanted
 Answers (Err OutOfMemory) wanted = Unit {0}
 Answers (Err _) wanted = ⊥
-
--- why reading halted, by its place in the text
-abbrev pub fault_at : Text → Halt → ParseFault
-fault_at text halts.Memory = OutOfMemory
-fault_at text (halts.Unexpected rest) = Unexpected (place text rest.now)
-fault_at text (halts.TooDeep rest) = TooDeep (place text rest.now)
-
--- reading all of the tokens
-abbrev pub to_end : Program → List Token → Result Program Stop
-to_end p [] = Ok p
-to_end p (t ∷ ts) = unexpected (t ∷ ts)
-
-unfoldable pub read_all : Text → List Token → Result Program Stop
-read_all text tokens = read_program text deepest tokens >>= λ x. to_end x.0 x.1
-
-abbrev pub Exactly : Text → List Token → Result Program Stop → Type 0
-Exactly text tokens (Ok p) = StandFor text tokens p
-Exactly text tokens (Err stop) = StopFirst text tokens stop

@@ -1,5 +1,6 @@
 -- The tokens of a text, with their places and lines, or the first fault of lexing.
 use Rattle.std.specs.Prelude.{◌≡◌, ℕ, zero, suc, ◌+◌, ◌-◌, ◌≤◌, ◌==◌, nat_lt, if◌then◌else◌, List, [], ◌∷◌, ◌++◌, length, count_by, Result, Ok, Err, All}
+use Rattle.gp_base.specs.declared.limits.TheConstants.{MOST_PROGRAM_BYTES}
 use Rattle.task_parser.specs.declared.token.Token.{Token}
 use Rattle.task_parser.specs.declared.token.Kind.{Kind}
 use Rattle.task_parser.specs.declared.fault.LexFault.{LexFault}
@@ -33,13 +34,9 @@ lexed_behind before zero (b ∷ bs) =
       | Bad bytes ↦ Err (BadByte (length before + bytes))
     ]
 
--- the most bytes that a text may have
-abbrev pub length_limit : ℕ
-length_limit = 1048576
-
 -- the lexing of a text: its tokens, or its first fault
 abbrev pub lexed : List ℕ → Result (List Token) LexFault
-lexed text = if nat_lt length_limit (length text) then Err TooLong else lexed_behind [] 0 text
+lexed text = if nat_lt MOST_PROGRAM_BYTES (length text) then Err TooLong else lexed_behind [] 0 text
 
 -- the text has this fault; want of memory says nothing of the text
 abbrev pub IsFaultOf : List ℕ → LexFault → Type 0

@@ -4,7 +4,7 @@ use Rattle.task_ast.specs.Tree.{Program}
 use Rattle.task_parser.specs.declared.token.Token.{Token}
 use Rattle.task_parser.specs.declared.fault.ParseFault.{ParseFault}
 use Rattle.task_parser.specs.Expressions.{Text}
-use Rattle.task_parser.specs.Reading.{Stop}
+use Rattle.task_parser.specs.Promise.{Stop}
 use Rattle.task_parser.specs.Promise.{StandFor, StopFirst}
 use Rattle.task_parser.specs.Spelling.{Spells, HasFault, Meaning, Means}
 

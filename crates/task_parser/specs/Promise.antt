@@ -1,16 +1,21 @@
 -- What tokens stand for, and which fault is the first.
-use Rattle.std.specs.Prelude.{◌≡◌, ℕ, suc, Bool, true, false, List, [], ◌∷◌, ◌++◌}
+use Rattle.std.specs.Prelude.{◌≡◌, ◌≤◌, ℕ, suc, Bool, true, false, List, [], ◌∷◌, ◌++◌}
+use Rattle.gp_base.specs.declared.limits.TheConstants.{DEEPEST_NESTING}
 use Rattle.task_ast.specs.Tree.{Program}
 use Rattle.task_parser.specs.declared.token.Token.{Token}
 use Rattle.task_parser.specs.Words.{Placed, tokens_of}
-use Rattle.task_parser.specs.Laws.{Within}
-use Rattle.task_parser.specs.Reading.{Stop}
 use Rattle.task_parser.specs.Expressions.{Text}
 use Rattle.task_parser.specs.Programs.{program}
 
--- how deep constructs may nest
-abbrev pub deepest : ℕ
-deepest = 64
+-- the tokens nest no deeper than this
+abbrev pub Within : ℕ → List Placed → Type 0
+Within limit [] = Unit {0}
+Within limit (p ∷ ps) = (p.nesting ≤ limit) × Within limit ps
+
+-- where reading stopped: the tokens from there on, and whether the first of them nests too deep
+pub record Stop : Type 0 where
+  pub deep : Bool
+  pub rest : List Token
 
 -- the tokens, all of them, are a program of the grammar, of whatever nesting
 pub record Spelled (text : Text) (p : Program) (placed : List Placed) : Type 0 where
@@ -21,7 +26,7 @@ pub record Spelled (text : Text) (p : Program) (placed : List Placed) : Type 0 w
 pub record StandFor (text : Text) (tokens : List Token) (p : Program) : Type 0 where
   pub placed : List Placed
   pub same : tokens ≡ tokens_of placed
-  pub within : Within deepest placed
+  pub within : Within DEEPEST_NESTING placed
   pub spelled : Spelled text p placed
 
 -- some program of the grammar, of whatever nesting, begins so
@@ -38,7 +43,7 @@ CannotGoOn text front (next ∷ rest) = (other : List Placed) → tokens_of othe
 -- The next token can stand there, one deeper than may be.
 abbrev pub NestsBeyond : Text → List Placed → List Token → Type 0
 NestsBeyond text front [] = ⊥
-NestsBeyond text front (next ∷ rest) = Begins text (front ++ record { token = next; nesting = suc deepest } ∷ [])
+NestsBeyond text front (next ∷ rest) = Begins text (front ++ record { token = next; nesting = suc DEEPEST_NESTING } ∷ [])
 
 abbrev pub FaultThere : Bool → Text → List Placed → List Token → Type 0
 FaultThere false text front rest = CannotGoOn text front rest
@@ -48,6 +53,6 @@ FaultThere true text front rest = NestsBeyond text front rest
 pub record StopFirst (text : Text) (tokens : List Token) (stop : Stop) : Type 0 where
   pub front : List Placed
   pub parts : tokens ≡ tokens_of front ++ stop.rest
-  pub within : Within deepest front
+  pub within : Within DEEPEST_NESTING front
   pub begins : Begins text front
   pub fault : FaultThere stop.deep text front stop.rest

@@ -1,5 +1,6 @@
 -- How a text splits into spaces, comments and tokens, and where it can't.
 use Rattle.std.specs.Prelude.{◌≡◌, ◌≢◌, ℕ, ◌+◌, ◌-◌, ◌≤◌, ◌<◌, ◌⊎◌, false, List, [], ◌∷◌, ◌++◌, length, drop, take, Ok, Err, pos, All, slice_range}
+use Rattle.gp_base.specs.declared.limits.TheConstants.{MOST_PROGRAM_BYTES}
 use Rattle.task_parser.specs.declared.token.Token.{Token}
 use Rattle.task_parser.specs.declared.token.Kind.{Kind}
 use Rattle.task_parser.specs.declared.token.Kind.TheVariants.{Num}
@@ -7,7 +8,7 @@ use Rattle.task_parser.specs.declared.fault.LexFault.{LexFault}
 use Rattle.task_parser.specs.declared.fault.LexFault.TheVariants.{BadByte, NumberTooBig, TooLong, OutOfMemory}
 use Rattle.task_parser.specs.Pieces.{is_space, number_limit}
 use Rattle.task_parser.specs.TokenTable.{IsToken, IsInRange, IsLongest, IsGap}
-use Rattle.task_parser.specs.Lexing.{lexed, length_limit, token_behind, line_behind}
+use Rattle.task_parser.specs.Lexing.{lexed, token_behind, line_behind}
 
 -- Behind the bytes before it, a text splits into spaces, comments and tokens, the longest token at each place. They give
 -- the tokens, and something may be left.
@@ -81,8 +82,8 @@ TokensArePlaced = (text : List ℕ) (tokens : List Token) → lexed text ≡ Ok 
 
 -- and a text that isn't too long and splits to its end is lexed so
 abbrev pub SplittingsAreLexed : Type 0
-SplittingsAreLexed = (text : List ℕ) (tokens : List Token) → length text ≤ length_limit → Splits [] text tokens [] → lexed text ≡ Ok tokens
+SplittingsAreLexed = (text : List ℕ) (tokens : List Token) → length text ≤ MOST_PROGRAM_BYTES → Splits [] text tokens [] → lexed text ≡ Ok tokens
 
 -- a text whose lexing is a fault, and that isn't too long, splits up to that fault
 abbrev pub FaultsStop : Type 0
-FaultsStop = (text : List ℕ) (fault : LexFault) → length text ≤ length_limit → lexed text ≡ Err fault → StopsAt [] text fault
+FaultsStop = (text : List ℕ) (fault : LexFault) → length text ≤ MOST_PROGRAM_BYTES → lexed text ≡ Err fault → StopsAt [] text fault

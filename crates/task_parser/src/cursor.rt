@@ -2,11 +2,11 @@
 ghost use Rattle.std.specs.Prelude.{◌≡◌, [], ◌∷◌, IfOk};
 ghost use Rattle.task_parser.specs.Classes.{class, among};
 ghost use Rattle.task_parser.specs.Expressions.{between, name_of, reg_name, number_in};
-ghost use Rattle.task_parser.specs.Gives.{Gives};
+ghost use Rattle.task_parser.specs.inner.Gives.{Gives};
 ghost use Rattle.task_parser.specs.Programs.{file_of};
-ghost use Rattle.task_parser.specs.Reading.{begins, read_one};
+ghost use Rattle.task_parser.specs.inner.Reading.{begins, read_one};
 
-use crate::halt::Halt;
+use crate::halt::{Halt, Read};
 use crate::token::{Kind, Token};
 use gp_base::Name;
 use std::alloc::{AllocError, Global};
@@ -43,7 +43,7 @@ pub fn is_next(tokens: &[Token], class: u32) -> bool
 }
 
 /// The token of the class that is next, and what is behind it.
-pub fn expect(tokens: &[Token], class: u32) -> Result<(Token, &[Token]), Halt<'_>>
+pub fn expect(tokens: &[Token], class: u32) -> Read<'_, Token>
     ensures { Gives (λ x. (x.0, x.1.now)) result (read_one (among (class ∷ [])) tokens.now) }
 {
     let [token, rest @ ..] = tokens else {
@@ -54,6 +54,9 @@ pub fn expect(tokens: &[Token], class: u32) -> Result<(Token, &[Token]), Halt<'_
     }
     Ok((*token, rest))
 }
+
+/// Lets a value go by a call: an enum that goes by itself at an early exit is taken apart there, variant by variant.
+pub fn discard<T: Drop>(_value: T) {}
 
 /// The bytes of the text between two places, as far as the text goes.
 fn bytes_between(text: &[u8], from: usize, to: usize) -> &[u8]

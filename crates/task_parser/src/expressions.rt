@@ -2,21 +2,21 @@
 ghost use Rattle.std.specs.Prelude.{◌≡◌};
 ghost use Rattle.task_ast.specs.View.{plain_expr, plain_members};
 ghost use Rattle.task_parser.specs.Classes.{among};
-ghost use Rattle.task_parser.specs.Reading.{begins, read_one, repeat, read_opened};
+ghost use Rattle.task_parser.specs.inner.Reading.{begins, read_one, repeat, read_opened};
 ghost use Rattle.task_parser.specs.Expressions.{is, op_of};
-ghost use Rattle.task_parser.specs.ExpressionReaders.{read_member, read_level, read_compared, read_pair, read_place, read_named, read_rows, read_group, read_unary, below, read_expression};
-ghost use Rattle.task_parser.specs.Gives.{Gives, operators, read_part};
+ghost use Rattle.task_parser.specs.inner.ExpressionReaders.{read_member, read_level, read_compared, read_pair, read_place, read_named, read_rows, read_group, read_unary, below, read_expression};
+ghost use Rattle.task_parser.specs.inner.Gives.{Gives, operators, read_part};
 
 use crate::classes::*;
-use crate::cursor::{expect, is_next, is_of, name, number, register};
-use crate::halt::Halt;
+use crate::cursor::{discard, expect, is_next, is_of, name, number, register};
+use crate::halt::{Halt, Read};
 use crate::token::Token;
 use gp_base::Seq;
 use std::alloc::Global;
 use task_ast::{Expr, Op};
 
 /// Operators that bind alike, from the loosest. Comparisons don't chain.
-#[derive(Clone, Copy, Debug, PartialEq, Eq)]
+#[derive(Clone, Copy, PartialEq, Eq)]
 pub enum Level {
     Or,
     And,
@@ -89,7 +89,7 @@ fn goes_on(level: Level, tokens: &[Token]) -> bool
 }
 
 /// The operator of the level that is next, and what is behind it.
-fn operator_at(level: Level, tokens: &[Token]) -> Result<(Token, &[Token]), Halt<'_>>
+fn operator_at(level: Level, tokens: &[Token]) -> Read<'_, Token>
     ensures { Gives (λ x. (x.0, x.1.now)) result (read_one (among (operators level)) tokens.now) }
 {
     let [token, rest @ ..] = tokens else {
@@ -109,7 +109,7 @@ fn inner<'a>(
     class: u32,
     room: u32,
     tokens: &'a [Token],
-) -> Result<(Expr, &'a [Token]), Halt<'a>>
+) -> Read<'a, Expr>
     ensures { Gives (λ x. (plain_expr x.0, x.1.now)) result (read_opened (is class) (below text.now room) tokens.now) }
 {
     let (_, rest) = expect(tokens, class)?;
@@ -120,14 +120,9 @@ fn inner<'a>(
 }
 
 /// An expression in parentheses.
-#[tactic(auto, unfolding(crate::specs::ExpressionReaders::read_group))]
+#[tactic(auto, unfolding(crate::specs::inner::ExpressionReaders::read_group))]
 #[cycle(descent)]
-fn group<'a>(
-    alloc: Global,
-    text: &[u8],
-    room: u32,
-    tokens: &'a [Token],
-) -> Result<(Expr, &'a [Token]), Halt<'a>>
+fn group<'a>(alloc: Global, text: &[u8], room: u32, tokens: &'a [Token]) -> Read<'a, Expr>
     ensures { Gives (λ x. (plain_expr x.0, x.1.now)) result (read_group (below text.now room) tokens.now) }
 {
     let (_, rest) = expect(tokens, OPEN_PAREN)?;
@@ -135,19 +130,20 @@ fn group<'a>(
         return Err(Halt::TooDeep(tokens));
     }
     let (value, rest) = chain(alloc, text, Level::Or, room - 1, rest)?;
-    let (_, rest) = expect(rest, CLOSE_PAREN)?;
+    let (_, rest) = match expect(rest, CLOSE_PAREN) {
+        Ok(next) => next,
+        Err(halt) => {
+            discard(value);
+            return Err(halt);
+        }
+    };
     Ok((value, rest))
 }
 
 /// A row and a field in brackets.
-#[tactic(auto, unfolding(crate::specs::ExpressionReaders::read_place))]
+#[tactic(auto, unfolding(crate::specs::inner::ExpressionReaders::read_place))]
 #[cycle(descent)]
-fn place<'a>(
-    alloc: Global,
-    text: &[u8],
-    room: u32,
-    tokens: &'a [Token],
-) -> Result<((Expr, Expr), &'a [Token]), Halt<'a>>
+fn place<'a>(alloc: Global, text: &[u8], room: u32, tokens: &'a [Token]) -> Read<'a, (Expr, Expr)>
     ensures { Gives (λ x. ((plain_expr x.0.0, plain_expr x.0.1), x.1.now)) result (read_place (below text.now room) tokens.now) }
 {
     let (_, rest) = expect(tokens, OPEN_BRACKET)?;
@@ -155,21 +151,34 @@ fn place<'a>(
         return Err(Halt::TooDeep(tokens));
     }
     let (row, rest) = chain(alloc, text, Level::Or, room - 1, rest)?;
-    let (_, rest) = expect(rest, COMMA)?;
-    let (field, rest) = chain(alloc, text, Level::Or, room - 1, rest)?;
-    let (_, rest) = expect(rest, CLOSE_BRACKET)?;
+    let (_, rest) = match expect(rest, COMMA) {
+        Ok(next) => next,
+        Err(halt) => {
+            discard(row);
+            return Err(halt);
+        }
+    };
+    let (field, rest) = match chain(alloc, text, Level::Or, room - 1, rest) {
+        Ok(next) => next,
+        Err(halt) => {
+            discard(row);
+            return Err(halt);
+        }
+    };
+    let (_, rest) = match expect(rest, CLOSE_BRACKET) {
+        Ok(next) => next,
+        Err(halt) => {
+            discard((row, field));
+            return Err(halt);
+        }
+    };
     Ok(((row, field), rest))
 }
 
 /// A control variable or a cell of a feed.
-#[tactic(auto, using(task_ast::proofs::Views::view), unfolding(crate::specs::ExpressionReaders::read_named))]
+#[tactic(auto, using(task_ast::proofs::Views::view), unfolding(crate::specs::inner::ExpressionReaders::read_named))]
 #[cycle(descent)]
-fn named<'a>(
-    alloc: Global,
-    text: &[u8],
-    room: u32,
-    tokens: &'a [Token],
-) -> Result<(Expr, &'a [Token]), Halt<'a>>
+fn named<'a>(alloc: Global, text: &[u8], room: u32, tokens: &'a [Token]) -> Read<'a, Expr>
     ensures { Gives (λ x. (plain_expr x.0, x.1.now)) result (read_named text.now (below text.now room) tokens.now) }
 {
     let (token, rest) = expect(tokens, NAME)?;
@@ -178,18 +187,20 @@ fn named<'a>(
         return Ok((Expr::Ctl(feed), rest));
     }
     let ((row, field), rest) = place(alloc, text, room, rest)?;
-    let row = Box::new(alloc, row)?;
+    let row = match Box::new(alloc, row) {
+        Ok(row) => row,
+        Err(failed) => {
+            discard(field);
+            return Err(Halt::from(failed));
+        }
+    };
     let field = Box::new(alloc, field)?;
     Ok((Expr::Cell(feed, row, field), rest))
 }
 
 /// The number of rows of a feed.
-#[tactic(auto, using(task_ast::proofs::Views::view), unfolding(crate::specs::ExpressionReaders::read_rows))]
-fn rows<'a>(
-    alloc: Global,
-    text: &[u8],
-    tokens: &'a [Token],
-) -> Result<(Expr, &'a [Token]), Halt<'a>>
+#[tactic(auto, using(task_ast::proofs::Views::view), unfolding(crate::specs::inner::ExpressionReaders::read_rows))]
+fn rows<'a>(alloc: Global, text: &[u8], tokens: &'a [Token]) -> Read<'a, Expr>
     ensures { Gives (λ x. (plain_expr x.0, x.1.now)) result (read_rows text.now tokens.now) }
 {
     let (_, rest) = expect(tokens, ROWS)?;
@@ -200,14 +211,9 @@ fn rows<'a>(
 }
 
 /// An operand.
-#[tactic(auto, using(task_ast::proofs::Views::view), unfolding(crate::specs::ExpressionReaders::read_unary, crate::specs::ExpressionReaders::read_operand))]
+#[tactic(auto, using(task_ast::proofs::Views::view), unfolding(crate::specs::inner::ExpressionReaders::read_unary, crate::specs::inner::ExpressionReaders::read_operand))]
 #[cycle(descent)]
-fn operand<'a>(
-    alloc: Global,
-    text: &[u8],
-    room: u32,
-    tokens: &'a [Token],
-) -> Result<(Expr, &'a [Token]), Halt<'a>>
+fn operand<'a>(alloc: Global, text: &[u8], room: u32, tokens: &'a [Token]) -> Read<'a, Expr>
     ensures { Gives (λ x. (plain_expr x.0, x.1.now)) result (read_unary text.now room tokens.now) }
 {
     if is_next(tokens, SUB) {
@@ -242,7 +248,7 @@ fn part<'a>(
     level: Level,
     room: u32,
     tokens: &'a [Token],
-) -> Result<(Expr, &'a [Token]), Halt<'a>>
+) -> Read<'a, Expr>
     ensures { Gives (λ x. (plain_expr x.0, x.1.now)) result (read_part level text.now room tokens.now) }
 {
     match level {
@@ -262,7 +268,7 @@ fn member<'a>(
     level: Level,
     room: u32,
     tokens: &'a [Token],
-) -> Result<((Op, Expr), &'a [Token]), Halt<'a>>
+) -> Read<'a, (Op, Expr)>
     ensures { Gives (λ x. ((x.0.0, plain_expr x.0.1), x.1.now)) result (read_member (operators level) (read_part level text.now room) tokens.now) }
 {
     let (operator, rest) = operator_at(level, tokens)?;
@@ -278,7 +284,7 @@ fn members<'a>(
     level: Level,
     room: u32,
     tokens: &'a [Token],
-) -> Result<(Seq<(Op, Expr)>, &'a [Token]), Halt<'a>>
+) -> Read<'a, Seq<(Op, Expr)>>
     ensures { Gives (λ x. (plain_members x.0, x.1.now)) result (repeat (among (operators level)) (read_member (operators level) (read_part level text.now room)) tokens.now) }
 {
     let mut members = Seq::new(alloc);
@@ -292,7 +298,7 @@ fn members<'a>(
 }
 
 /// Parts with operators of the level between them; not of comparisons.
-#[tactic(auto, using(task_ast::proofs::Views::view), unfolding(crate::specs::ExpressionReaders::read_level))]
+#[tactic(auto, using(task_ast::proofs::Views::view), unfolding(crate::specs::inner::ExpressionReaders::read_level))]
 #[cycle(descent)]
 pub fn chain<'a>(
     alloc: Global,
@@ -300,7 +306,7 @@ pub fn chain<'a>(
     level: Level,
     room: u32,
     tokens: &'a [Token],
-) -> Result<(Expr, &'a [Token]), Halt<'a>>
+) -> Read<'a, Expr>
     ensures { Gives (λ x. (plain_expr x.0, x.1.now)) result (read_level (operators level) (read_part level text.now room) tokens.now) }
 {
     let (first, rest) = part(alloc, text, level, room, tokens)?;
@@ -312,33 +318,24 @@ pub fn chain<'a>(
 }
 
 /// Two sums with a comparison between them, or one sum.
-#[tactic(auto, using(task_ast::proofs::Views::view), unfolding(crate::specs::ExpressionReaders::read_compared))]
+#[tactic(auto, using(task_ast::proofs::Views::view), unfolding(crate::specs::inner::ExpressionReaders::read_compared))]
 #[cycle(descent)]
-fn comparison<'a>(
-    alloc: Global,
-    text: &[u8],
-    room: u32,
-    tokens: &'a [Token],
-) -> Result<(Expr, &'a [Token]), Halt<'a>>
+fn comparison<'a>(alloc: Global, text: &[u8], room: u32, tokens: &'a [Token]) -> Read<'a, Expr>
     ensures { Gives (λ x. (plain_expr x.0, x.1.now)) result (read_compared (read_part Level.Comparison text.now room) tokens.now) }
 {
     let (first, rest) = part(alloc, text, Level::Comparison, room, tokens)?;
     if !goes_on(Level::Comparison, rest) {
         return Ok((first, rest));
     }
+    let first = Box::new(alloc, first)?;
     let (other, rest) = member(alloc, text, Level::Comparison, room, rest)?;
     let mut others = Seq::new(alloc);
     others.push(other)?;
-    Ok((Expr::Chain(Box::new(alloc, first)?, others), rest))
+    Ok((Expr::Chain(first, others), rest))
 }
 
 /// An expression, with room for so many constructs that nest.
-pub fn expression<'a>(
-    alloc: Global,
-    text: &[u8],
-    room: u32,
-    tokens: &'a [Token],
-) -> Result<(Expr, &'a [Token]), Halt<'a>>
+pub fn expression<'a>(alloc: Global, text: &[u8], room: u32, tokens: &'a [Token]) -> Read<'a, Expr>
     ensures { Gives (λ x. (plain_expr x.0, x.1.now)) result (read_expression text.now room tokens.now) }
 {
     chain(alloc, text, Level::Or, room, tokens)

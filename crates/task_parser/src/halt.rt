@@ -28,3 +28,6 @@ impl<'a, T: Drop> From<AllocFailed<T>> for Halt<'a> {
         Halt::Memory
     }
 }
+
+/// What was read, with the tokens after it, or why it could not be read.
+pub type Read<'a, T> = Result<(T, &'a [Token]), Halt<'a>>;

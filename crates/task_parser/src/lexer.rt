@@ -2,6 +2,7 @@
 ghost use Rattle.std.specs.Prelude.{◌≡◌, ◌≤◌, ◌<◌, ◌^◌, ◌↔◌, ◌==◌, [], ◌∷◌, length, take, min, position, count_by, slice_index, bytes_eq, IfOk, IfErr};
 ghost use Rattle.std.specs.List.{prefix_len};
 ghost use Rattle.std.specs.Char.{is_ascii_digit};
+ghost use Rattle.gp_base.specs.declared.limits.TheConstants.{MOST_PROGRAM_BYTES};
 ghost use Rattle.task_parser.specs.Pieces.{
   is_space,
   is_comment_byte,
@@ -20,11 +21,12 @@ ghost use Rattle.task_parser.specs.Pieces.{
   decimal,
   FitsIn,
 };
-ghost use Rattle.task_parser.specs.Lexing.{lexed, length_limit, IsFaultOf, AreTokensOf};
+ghost use Rattle.task_parser.specs.Lexing.{lexed, IsFaultOf, AreTokensOf};
 
 use crate::fault::LexFault;
 use crate::token::{Kind, Token};
 use gp_base::Seq;
+use gp_base::limits::MOST_PROGRAM_BYTES;
 use std::alloc::{AllocError, Global};
 
 /// The reserved words, in the order in which they are counted.
@@ -43,12 +45,9 @@ const MARKS: [&[u8]; 20] = [
 /// The greatest number that a text may have.
 const NUMBER_LIMIT: u64 = 9223372036854775807;
 
-/// The most bytes that a text may have.
-const LENGTH_LIMIT: usize = 1048576;
-
 /// What stands at the front of a text: a space or a comment of so many bytes; a token of so many bytes; a number that
 /// is too big; so many bytes that can stand there, before one that can't.
-#[derive(Clone, Copy, Debug, PartialEq, Eq)]
+#[derive(Clone, Copy, PartialEq, Eq)]
 pub(crate) enum Piece {
     Skip(usize),
     Take(Kind, usize),
@@ -247,10 +246,10 @@ fn line_ends(bytes: &[u8]) -> usize
 pub fn lex(alloc: Global, bytes: &[u8]) -> Result<Seq<Token>, LexFault>
     ensures tokens { IfOk result (λ tokens. lexed bytes.now ≡ Ok tokens) }
     ensures fault { IfErr result (λ fault. IsFaultOf bytes.now fault) }
-    ensures too_long { (result ≡ Err LexFault.TooLong) ↔ (length_limit < length bytes.now) }
+    ensures too_long { (result ≡ Err LexFault.TooLong) ↔ (MOST_PROGRAM_BYTES < length bytes.now) }
     ensures spans { IfOk result (λ tokens. AreTokensOf bytes.now tokens) }
 {
-    if bytes.len() > LENGTH_LIMIT {
+    if bytes.len() > MOST_PROGRAM_BYTES {
         return Err(LexFault::TooLong);
     }
     let mut tokens = Seq::new(alloc);
@@ -286,6 +285,3 @@ impl From<AllocError> for LexFault {
         LexFault::OutOfMemory
     }
 }
-
-#[cfg(test)]
-mod tests;

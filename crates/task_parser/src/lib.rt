@@ -7,11 +7,15 @@ mod cursor;
 mod expressions;
 mod fault;
 mod halt;
+mod heads;
 mod lex_laws;
 mod lexer;
+mod operands;
 mod parse_laws;
 mod programs;
+mod simple_statements;
 mod statements;
+mod tasks;
 mod token;
 
 pub use class_laws::classes_by_text;
@@ -21,6 +25,3 @@ pub use lexer::lex;
 pub use parse_laws::{one_meaning, one_reading, spelled_is_shaped};
 pub use programs::parse;
 pub use token::{Kind, Token};
-
-#[cfg(test)]
-mod tests;

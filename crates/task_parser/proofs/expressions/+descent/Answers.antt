@@ -4,8 +4,8 @@ use Rattle.task_ast.specs.declared.tree.Expr.{Expr}
 use Rattle.task_ast.specs.View.{plain_expr}
 use Rattle.task_ast.proofs.Views.{expr_Chain}
 use Rattle.task_parser.specs.Classes.{among}
-use Rattle.task_parser.specs.ExpressionReaders.{read_member, read_level}
-use Rattle.task_parser.specs.Gives.{operators, read_part}
+use Rattle.task_parser.specs.inner.ExpressionReaders.{read_member, read_level}
+use Rattle.task_parser.specs.inner.Gives.{operators, read_part}
 use Rattle.task_parser.proofs.Levels.{member_shortens, chain_more}
 use Rattle.task_parser.proofs.Loop.{pushed}
 use Rattle.task_parser.proofs.expressions.+descent.Goals as goal

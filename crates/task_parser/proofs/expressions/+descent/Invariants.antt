@@ -1,9 +1,9 @@
 use Rattle.std.proofs.Common.{◌≡◌, ◌+◌, ◌*◌, length}
 use Rattle.task_ast.specs.View.{plain_members}
 use Rattle.task_parser.specs.Classes.{among}
-use Rattle.task_parser.specs.Reading.{repeat}
-use Rattle.task_parser.specs.ExpressionReaders.{read_member}
-use Rattle.task_parser.specs.Gives.{operators, read_part}
+use Rattle.task_parser.specs.inner.Reading.{repeat}
+use Rattle.task_parser.specs.inner.ExpressionReaders.{read_member}
+use Rattle.task_parser.specs.inner.Gives.{operators, read_part}
 use Rattle.task_parser.proofs.Levels.{tighter}
 use Rattle.task_parser.proofs.Loop.{also}
 use Rattle.task_parser.proofs.expressions.+descent.Given as goal

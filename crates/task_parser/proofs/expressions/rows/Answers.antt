@@ -1,6 +1,6 @@
 use Rattle.std.proofs.Common.{refl}
 use Rattle.task_ast.proofs.Views.{expr_Rows}
-use Rattle.task_parser.specs.ExpressionReaders.{read_rows}
+use Rattle.task_parser.specs.inner.ExpressionReaders.{read_rows}
 use Rattle.task_parser.proofs.expressions.rows.Goals as goal
 
 pub returns : goal.returns

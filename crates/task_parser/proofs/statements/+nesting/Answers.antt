@@ -1,7 +1,7 @@
 use Rattle.std.proofs.Common.{sym, ◌∙◌}
 use Rattle.task_ast.specs.View.{plain_stmt}
 use Rattle.task_parser.specs.Classes.{among}
-use Rattle.task_parser.specs.Gives.{starts, read_allowed}
+use Rattle.task_parser.specs.inner.Gives.{starts, read_allowed}
 use Rattle.task_parser.proofs.ReadStatements.{statement_shortens}
 use Rattle.task_parser.proofs.Loop.{pushed}
 use Rattle.task_parser.proofs.statements.+nesting.Goals as goal

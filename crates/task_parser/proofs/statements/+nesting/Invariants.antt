@@ -1,8 +1,8 @@
 use Rattle.std.proofs.Common.{◌≡◌, ◌+◌, ◌*◌, length}
 use Rattle.task_ast.specs.View.{plain_stmts}
 use Rattle.task_parser.specs.Classes.{among}
-use Rattle.task_parser.specs.Reading.{repeat}
-use Rattle.task_parser.specs.Gives.{starts, read_allowed}
+use Rattle.task_parser.specs.inner.Reading.{repeat}
+use Rattle.task_parser.specs.inner.Gives.{starts, read_allowed}
 use Rattle.task_parser.proofs.Loop.{also}
 use Rattle.task_parser.proofs.statements.+nesting.Given as goal
 

@@ -1,0 +1,7 @@
+use Rattle.std.proofs.Common.{rules}
+use Rattle.task_parser.specs.inner.ProgramReaders.{read_lock_head}
+use Rattle.task_parser.proofs.heads.lock_head.Goals as goal
+
+pub returns : goal.returns
+unfolding read_lock_head
+returns c = rw (c.in_ok-word.ensures, c.in_ok-rest.ensures, c.in_ok-name.ensures) (search (rules, c.number-size.ensures))

@@ -1,7 +1,0 @@
-use Rattle.std.proofs.Common.{rules}
-use Rattle.task_parser.specs.ProgramReaders.{read_barrier_head}
-use Rattle.task_parser.proofs.programs.barrier_head.Goals as goal
-
-pub returns : goal.returns
-unfolding read_barrier_head
-returns c = rw (c.in_ok-word.ensures, c.in_ok-title.ensures, c.in_ok-rest.ensures, c.in_ok-count.ensures, c.in_ok-rest-2.ensures, c.in_ok-rest-3.ensures, c.in_ok-name.ensures) (search (rules, c.number-number.ensures))

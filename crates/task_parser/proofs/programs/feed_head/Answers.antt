@@ -1,7 +1,0 @@
-use Rattle.std.proofs.Common.{rules}
-use Rattle.task_parser.specs.ProgramReaders.{read_feed_head}
-use Rattle.task_parser.proofs.programs.feed_head.Goals as goal
-
-pub returns : goal.returns
-unfolding read_feed_head
-returns c = rw (c.in_ok-word.ensures, c.in_ok-rest.ensures, c.in_ok-source.ensures, c.in_ok-rest-2.ensures, c.in_ok-name.ensures, c.in_ok-from.ensures) (search (rules, c.number-fields.ensures))

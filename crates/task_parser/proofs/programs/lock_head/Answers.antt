@@ -1,7 +1,0 @@
-use Rattle.std.proofs.Common.{rules}
-use Rattle.task_parser.specs.ProgramReaders.{read_lock_head}
-use Rattle.task_parser.proofs.programs.lock_head.Goals as goal
-
-pub returns : goal.returns
-unfolding read_lock_head
-returns c = rw (c.in_ok-word.ensures, c.in_ok-rest.ensures, c.in_ok-name.ensures) (search (rules, c.number-size.ensures))

@@ -1,8 +1,0 @@
-use Rattle.std.proofs.Common.{refl}
-use Rattle.task_ast.proofs.Views.{stmt_At, what_Read}
-use Rattle.task_parser.specs.StatementReaders.{read_reading}
-use Rattle.task_parser.proofs.statements.reading.Goals as goal
-
-pub returns : goal.returns
-unfolding read_reading
-returns c = rw (c.in_ok-word.ensures, c.in_ok-rest.ensures, c.in_ok-into.ensures, c.in_ok-rest-2.ensures, stmt_At, what_Read, c.in_ok-name.ensures, c.in_ok-register.ensures) refl

@@ -1,0 +1,13 @@
+use Rattle.std.proofs.Common.{◌≡◌, [], ◌∷◌, length}
+use Rattle.task_parser.specs.declared.classes.TheConstants.{VAR}
+use Rattle.task_parser.specs.Classes.{among}
+use Rattle.task_parser.specs.inner.Reading.{repeat}
+use Rattle.task_parser.specs.inner.ProgramReaders.{read_var_line}
+use Rattle.task_parser.proofs.Loop.{also}
+use Rattle.task_parser.proofs.tasks.var_lines.Given as goal
+
+abbrev pub invariant-loop-alloc : goal.invariant-loop-alloc
+invariant-loop-alloc l = also l.lines (repeat (among (VAR ∷ [])) (read_var_line l.text) l.rest) ≡ repeat (among (VAR ∷ [])) (read_var_line l.text) l.tokens
+
+abbrev pub decreases-loop-alloc : goal.decreases-loop-alloc
+decreases-loop-alloc l = length l.rest

@@ -1,0 +1,72 @@
+-- Reading expressions, form by form.
+use Rattle.std.specs.Prelude.{ℕ, zero, suc, List, [], ◌∷◌, Option, Some, None, option_map}
+use Rattle.task_ast.specs.declared.tree.Op.{Op}
+use Rattle.task_ast.specs.Tree.{Expr, Neg, Not}
+use Rattle.task_parser.specs.declared.classes.TheConstants.{NUM, NAME, REG, AND, OR, NOT, SELF, ROWS, OPEN_BRACKET, CLOSE_BRACKET, OPEN_PAREN, CLOSE_PAREN, COMMA, ADD, SUB, MUL, DIV, REM}
+use Rattle.task_parser.specs.Classes.{among}
+use Rattle.task_parser.specs.inner.Reading.{Reader, read_one, ◌▹◌, read_made, read_either, repeat, read_perhaps, read_opened, read_the, ◌◃◌}
+use Rattle.task_parser.specs.Expressions.{Text, is, comparisons, member_of, chain_of, compared_of, num_of, reg_of, me_of, rows_of, named_of}
+
+-- what an operand begins with
+abbrev pub starting : List ℕ
+starting = SUB ∷ NOT ∷ NUM ∷ NAME ∷ REG ∷ SELF ∷ ROWS ∷ OPEN_PAREN ∷ []
+
+abbrev pub read_member : List ℕ → Reader Expr → Reader (Op × Expr)
+read_member operators p = read_made member_of (read_one (among operators) ▹ p)
+
+unfoldable pub read_level : List ℕ → Reader Expr → Reader Expr
+read_level operators p = read_made chain_of (p ▹ repeat (among operators) (read_member operators p))
+
+abbrev pub read_product : Reader Expr → Reader Expr
+read_product unary = read_level (MUL ∷ DIV ∷ REM ∷ []) unary
+
+abbrev pub read_sum : Reader Expr → Reader Expr
+read_sum unary = read_level (ADD ∷ SUB ∷ []) (read_product unary)
+
+unfoldable pub read_compared : Reader Expr → Reader Expr
+read_compared p = read_made compared_of (p ▹ read_perhaps (among comparisons) (read_member comparisons p))
+
+abbrev pub read_conjunction : Reader Expr → Reader Expr
+read_conjunction unary = read_level (AND ∷ []) (read_compared (read_sum unary))
+
+abbrev pub read_disjunction : Reader Expr → Reader Expr
+read_disjunction unary = read_level (OR ∷ []) (read_conjunction unary)
+
+abbrev pub read_pair : Reader Expr → Reader (Expr × Expr)
+read_pair e = e ◃ COMMA ▹ e
+
+unfoldable pub read_place : Option (Reader Expr) → Reader (Expr × Expr)
+read_place inner = read_opened (is OPEN_BRACKET) (option_map (λ p. read_pair (read_disjunction p)) inner) ◃ CLOSE_BRACKET
+
+unfoldable pub read_named : Text → Option (Reader Expr) → Reader Expr
+read_named text inner = read_made (named_of text) (read_the NAME ▹ read_perhaps (is OPEN_BRACKET) (read_place inner))
+
+unfoldable pub read_rows : Text → Reader Expr
+read_rows text = read_made (rows_of text) (read_the ROWS ◃ OPEN_PAREN ▹ read_the NAME ◃ CLOSE_PAREN)
+
+unfoldable pub read_group : Option (Reader Expr) → Reader Expr
+read_group inner = read_opened (is OPEN_PAREN) (option_map read_disjunction inner) ◃ CLOSE_PAREN
+
+unfoldable pub read_operand : Text → Option (Reader Expr) → Reader Expr
+read_operand text inner =
+    read_either (is SUB) (read_made Neg (read_opened (is SUB) inner))
+    (read_either (is NOT) (read_made Not (read_opened (is NOT) inner))
+    (read_either (is NUM) (read_made num_of (read_the NUM))
+    (read_either (is NAME) (read_named text inner)
+    (read_either (is REG) (read_made (reg_of text) (read_the REG))
+    (read_either (is SELF) (read_made me_of (read_the SELF))
+    (read_either (is ROWS) (read_rows text)
+    (read_group inner)))))))
+
+-- with room for so many constructs that nest
+unfoldable pub read_unary : Text → ℕ → Reader Expr
+read_unary text zero = read_operand text None
+read_unary text (suc room) = read_operand text (Some (read_unary text room))
+
+-- what an opener at this room opens
+abbrev pub below : Text → ℕ → Option (Reader Expr)
+below text zero = None
+below text (suc room) = Some (read_unary text room)
+
+abbrev pub read_expression : Text → ℕ → Reader Expr
+read_expression text room = read_disjunction (read_unary text room)

@@ -1,0 +1,113 @@
+-- Reading statements, form by form.
+use Rattle.std.specs.Prelude.{ℕ, zero, suc, List, [], ◌∷◌, Option, Some, None, option_map}
+use Rattle.task_ast.specs.declared.tree.Atom.{Atom}
+use Rattle.task_ast.specs.Tree.{Expr, Stmt, Block, block}
+use Rattle.task_parser.specs.declared.classes.TheConstants.{NUM, NAME, REG, LOCK, UNLOCK, BARRIER, WHILE, IF, ELSE, FORK, INTO, JOIN, READ, WRITE, PRINT, WHEN, OPEN_BRACKET, CLOSE_BRACKET, OPEN_PAREN, CLOSE_PAREN, OPEN_BRACE, CLOSE_BRACE, COMMA, SEMICOLON, ASSIGN}
+use Rattle.task_parser.specs.declared.token.Token.{Token}
+use Rattle.task_parser.specs.Classes.{among}
+use Rattle.task_parser.specs.inner.Reading.{Reader, ◌▹◌, read_made, read_either, repeat, read_perhaps, read_opened, read_the, ◌◃◌, read_after, read_separated}
+use Rattle.task_parser.specs.Expressions.{Text, is}
+use Rattle.task_parser.specs.inner.ExpressionReaders.{starting, read_expression}
+use Rattle.task_parser.specs.Statements.{number_atom, name_atom, set_ctl_of, while_of, if_of, lock_of, unlock_of, fork_of, join_of, barrier_of, set_reg_of, read_of, write_of, print_of, when_of, or_empty, or_nothing, named_in, reg_in}
+
+-- what a data statement begins with
+abbrev pub data_starts : List ℕ
+data_starts = REG ∷ READ ∷ WRITE ∷ PRINT ∷ WHEN ∷ []
+
+abbrev pub statement_starts : List ℕ
+statement_starts = NAME ∷ WHILE ∷ IF ∷ LOCK ∷ UNLOCK ∷ FORK ∷ JOIN ∷ BARRIER ∷ REG ∷ READ ∷ WRITE ∷ PRINT ∷ WHEN ∷ []
+
+unfoldable pub read_atom : Text → Reader Atom
+read_atom text = read_either (is NUM) (read_made number_atom (read_the NUM)) (read_made (name_atom text) (read_the NAME))
+
+unfoldable pub read_indexed : Text → ℕ → Reader ((Token × Token) × Atom)
+read_indexed text word = read_the word ▹ read_the NAME ◃ OPEN_BRACKET ▹ read_atom text ◃ CLOSE_BRACKET
+
+abbrev pub read_inner_block : List ℕ → Reader Stmt → Reader Block
+read_inner_block starts s = read_made block (repeat (among starts) s)
+
+unfoldable pub read_block : List ℕ → Option (Reader Stmt) → Reader Block
+read_block starts inner = read_opened (is OPEN_BRACE) (option_map (read_inner_block starts) inner) ◃ CLOSE_BRACE
+
+unfoldable pub read_else : List ℕ → Option (Reader Stmt) → Reader Block
+read_else starts inner = read_made or_nothing (read_perhaps (is ELSE) (read_after ELSE (read_block starts inner)))
+
+unfoldable pub read_set_ctl : Text → Reader Expr → Reader Stmt
+read_set_ctl text e = read_made (set_ctl_of text) (read_the NAME ◃ ASSIGN ▹ e ◃ SEMICOLON)
+
+unfoldable pub read_looping : Reader Expr → Option (Reader Stmt) → Reader Stmt
+read_looping e inner = read_made while_of (read_the WHILE ▹ e ▹ read_block statement_starts inner)
+
+unfoldable pub read_branching : Reader Expr → Option (Reader Stmt) → Reader Stmt
+read_branching e inner = read_made if_of (read_the IF ▹ e ▹ read_block statement_starts inner ▹ read_else statement_starts inner)
+
+unfoldable pub read_locking : Text → Reader Stmt
+read_locking text = read_made (lock_of text) (read_indexed text LOCK ◃ SEMICOLON)
+
+unfoldable pub read_unlocking : Text → Reader Stmt
+read_unlocking text = read_made (unlock_of text) (read_indexed text UNLOCK ◃ SEMICOLON)
+
+unfoldable pub read_list : {A : Type 0} → List ℕ → Reader A → Reader (List A)
+read_list starts p = read_made or_empty (read_perhaps (among starts) (read_separated COMMA p))
+
+unfoldable pub read_into_name : Text → Reader (Option Text)
+read_into_name text = read_made (named_in text) (read_perhaps (is INTO) (read_after INTO (read_the NAME)))
+
+unfoldable pub read_into_reg : Text → Reader (Option Text)
+read_into_reg text = read_made (reg_in text) (read_perhaps (is INTO) (read_after INTO (read_the REG)))
+
+unfoldable pub read_forking : Text → Reader Expr → Reader Stmt
+read_forking text e = read_made (fork_of text) (read_the FORK ▹ read_the NAME ◃ OPEN_PAREN ▹ read_list starting e ◃ CLOSE_PAREN ▹ read_into_name text ◃ SEMICOLON)
+
+unfoldable pub read_joining : Text → Reader Expr → Reader Stmt
+read_joining text e = read_made join_of (read_the JOIN ▹ e ▹ read_into_reg text ◃ SEMICOLON)
+
+unfoldable pub read_waiting : Text → Reader Stmt
+read_waiting text = read_made (barrier_of text) (read_the BARRIER ▹ read_the NAME ◃ SEMICOLON)
+
+unfoldable pub read_set_reg : Text → Reader Expr → Reader Stmt
+read_set_reg text e = read_made (set_reg_of text) (read_the REG ◃ ASSIGN ▹ e ◃ SEMICOLON)
+
+unfoldable pub read_reading : Text → Reader Stmt
+read_reading text = read_made (read_of text) (read_indexed text READ ◃ INTO ▹ read_the REG ◃ SEMICOLON)
+
+unfoldable pub read_writing : Text → Reader Expr → Reader Stmt
+read_writing text e = read_made (write_of text) (read_indexed text WRITE ◃ ASSIGN ▹ e ◃ SEMICOLON)
+
+unfoldable pub read_printing : Reader Expr → Reader Stmt
+read_printing e = read_made print_of (read_the PRINT ▹ read_separated COMMA e ◃ SEMICOLON)
+
+unfoldable pub read_choosing : Reader Expr → Option (Reader Stmt) → Reader Stmt
+read_choosing e inner = read_made when_of (read_the WHEN ▹ e ▹ read_block data_starts inner ▹ read_else data_starts inner)
+
+unfoldable pub read_data_form : Text → Reader Expr → Option (Reader Stmt) → Reader Stmt
+read_data_form text e inner =
+    read_either (is REG) (read_set_reg text e)
+    (read_either (is READ) (read_reading text)
+    (read_either (is WRITE) (read_writing text e)
+    (read_either (is PRINT) (read_printing e)
+    (read_choosing e inner))))
+
+unfoldable pub read_control_form : Text → Reader Expr → Option (Reader Stmt) → Reader Stmt
+read_control_form text e inner =
+    read_either (is NAME) (read_set_ctl text e)
+    (read_either (is WHILE) (read_looping e inner)
+    (read_either (is IF) (read_branching e inner)
+    (read_either (is LOCK) (read_locking text)
+    (read_either (is UNLOCK) (read_unlocking text)
+    (read_either (is FORK) (read_forking text e)
+    (read_either (is JOIN) (read_joining text e)
+    (read_waiting text)))))))
+
+-- what a statement that is not a data statement begins with
+abbrev pub control_starts : List ℕ
+control_starts = NAME ∷ WHILE ∷ IF ∷ LOCK ∷ UNLOCK ∷ FORK ∷ JOIN ∷ BARRIER ∷ []
+
+-- with room for so many constructs that nest
+unfoldable pub read_data_statement : Text → ℕ → Reader Stmt
+read_data_statement text zero = read_data_form text (read_expression text zero) None
+read_data_statement text (suc room) = read_data_form text (read_expression text (suc room)) (Some (read_data_statement text room))
+
+unfoldable pub read_statement : Text → ℕ → Reader Stmt
+read_statement text zero = read_either (among control_starts) (read_control_form text (read_expression text zero) None) (read_data_statement text zero)
+read_statement text (suc room) = read_either (among control_starts) (read_control_form text (read_expression text (suc room)) (Some (read_statement text room))) (read_data_statement text (suc room))

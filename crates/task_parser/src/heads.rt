@@ -1,0 +1,160 @@
+// The declarations at the head of a program.
+ghost use Rattle.std.specs.Prelude.{◌≡◌, ◌<◌};
+ghost use Rattle.task_parser.specs.Classes.{among};
+ghost use Rattle.task_parser.specs.inner.Reading.{begins, repeat};
+ghost use Rattle.task_parser.specs.inner.ProgramReaders.{read_sized, read_lock_head, read_barrier_head, read_from_file, read_record_head, read_feed_head, head_starts, read_head};
+ghost use Rattle.task_parser.specs.inner.Gives.{Gives};
+
+use crate::classes::*;
+use crate::cursor::{expect, file, is_next, is_of, name, number};
+use crate::halt::Read;
+use crate::token::Token;
+use gp_base::{Name, Seq};
+use std::alloc::Global;
+use task_ast::Head;
+
+/// The word, a name, and a number in brackets.
+#[tactic(auto, unfolding(crate::specs::inner::ProgramReaders::read_sized))]
+fn sized(word: u32, tokens: &[Token]) -> Read<'_, ((Token, Token), Token)>
+    ensures { Gives (λ x. (x.0, x.1.now)) result (read_sized word tokens.now) }
+{
+    let (first, rest) = expect(tokens, word)?;
+    let (title, rest) = expect(rest, NAME)?;
+    let (_, rest) = expect(rest, OPEN_BRACKET)?;
+    let (size, rest) = expect(rest, NUM)?;
+    let (_, rest) = expect(rest, CLOSE_BRACKET)?;
+    Ok((((first, title), size), rest))
+}
+
+/// `lock NAME [ NUM ] ;`
+#[tactic(auto, unfolding(crate::specs::inner::ProgramReaders::read_lock_head))]
+fn lock_head<'a>(alloc: Global, text: &[u8], tokens: &'a [Token]) -> Read<'a, Head>
+    ensures { Gives (λ x. (x.0, x.1.now)) result (read_lock_head text.now tokens.now) }
+{
+    let (((word, title), size), rest) = sized(LOCK, tokens)?;
+    let (_, rest) = expect(rest, SEMICOLON)?;
+    let name = name(alloc, text, title)?;
+    let size = number(size);
+    let line = word.line;
+    Ok((Head::LockHead { name, size, line }, rest))
+}
+
+/// `barrier NAME ( NUM ) ;`
+#[tactic(auto, unfolding(crate::specs::inner::ProgramReaders::read_barrier_head))]
+fn barrier_head<'a>(alloc: Global, text: &[u8], tokens: &'a [Token]) -> Read<'a, Head>
+    ensures { Gives (λ x. (x.0, x.1.now)) result (read_barrier_head text.now tokens.now) }
+{
+    let (word, rest) = expect(tokens, BARRIER)?;
+    let (title, rest) = expect(rest, NAME)?;
+    let (_, rest) = expect(rest, OPEN_PAREN)?;
+    let (count, rest) = expect(rest, NUM)?;
+    let (_, rest) = expect(rest, CLOSE_PAREN)?;
+    let (_, rest) = expect(rest, SEMICOLON)?;
+    let name = name(alloc, text, title)?;
+    let number = number(count);
+    let line = word.line;
+    Ok((Head::BarrierHead { name, number, line }, rest))
+}
+
+/// The name of the file behind a `from`, if there is one.
+#[tactic(auto, unfolding(crate::specs::inner::ProgramReaders::read_from_file))]
+fn from_file<'a>(alloc: Global, text: &[u8], tokens: &'a [Token]) -> Read<'a, Option<Name>>
+    ensures { Gives (λ x. (x.0, x.1.now)) result (read_from_file text.now tokens.now) }
+{
+    if !is_next(tokens, FROM) {
+        return Ok((None, tokens));
+    }
+    let (_, rest) = expect(tokens, FROM)?;
+    let (token, rest) = expect(rest, QUOTED)?;
+    Ok((Some(file(alloc, text, token)?), rest))
+}
+
+/// `record NAME [ NUM ] by NAME from TEXT ;`, where the `from` may be left out
+#[tactic(auto, unfolding(crate::specs::inner::ProgramReaders::read_record_head))]
+fn record_head<'a>(alloc: Global, text: &[u8], tokens: &'a [Token]) -> Read<'a, Head>
+    ensures { Gives (λ x. (x.0, x.1.now)) result (read_record_head text.now tokens.now) }
+{
+    let (((word, title), size), rest) = sized(RECORD, tokens)?;
+    let (_, rest) = expect(rest, BY)?;
+    let (array, rest) = expect(rest, NAME)?;
+    let (from, rest) = from_file(alloc, text, rest)?;
+    let (_, rest) = expect(rest, SEMICOLON)?;
+    let by = name(alloc, text, array)?;
+    let name = name(alloc, text, title)?;
+    let size = number(size);
+    let line = word.line;
+    Ok((
+        Head::RecHead {
+            name,
+            size,
+            by,
+            from,
+            line,
+        },
+        rest,
+    ))
+}
+
+/// `feed NAME [ NUM ] from TEXT ;`
+#[tactic(auto, unfolding(crate::specs::inner::ProgramReaders::read_feed_head))]
+fn feed_head<'a>(alloc: Global, text: &[u8], tokens: &'a [Token]) -> Read<'a, Head>
+    ensures { Gives (λ x. (x.0, x.1.now)) result (read_feed_head text.now tokens.now) }
+{
+    let (((word, title), count), rest) = sized(FEED, tokens)?;
+    let (_, rest) = expect(rest, FROM)?;
+    let (source, rest) = expect(rest, QUOTED)?;
+    let (_, rest) = expect(rest, SEMICOLON)?;
+    let name = name(alloc, text, title)?;
+    let fields = number(count);
+    let from = file(alloc, text, source)?;
+    let line = word.line;
+    Ok((
+        Head::FeedHead {
+            name,
+            fields,
+            from,
+            line,
+        },
+        rest,
+    ))
+}
+
+/// A declaration of a lock array, a barrier, a record or a feed.
+#[tactic(auto, unfolding(crate::specs::inner::ProgramReaders::read_head))]
+fn head<'a>(alloc: Global, text: &[u8], tokens: &'a [Token]) -> Read<'a, Head>
+    ensures { Gives (λ x. (x.0, x.1.now)) result (read_head text.now tokens.now) }
+{
+    if is_next(tokens, LOCK) {
+        lock_head(alloc, text, tokens)
+    } else if is_next(tokens, BARRIER) {
+        barrier_head(alloc, text, tokens)
+    } else if is_next(tokens, RECORD) {
+        record_head(alloc, text, tokens)
+    } else {
+        feed_head(alloc, text, tokens)
+    }
+}
+
+/// Whether a head is next.
+fn begins_head(tokens: &[Token]) -> bool
+    ensures { result ≡ begins (among head_starts) tokens.now }
+{
+    let [token, ..] = tokens else {
+        return false;
+    };
+    is_of(*token, LOCK) || is_of(*token, BARRIER) || is_of(*token, RECORD) || is_of(*token, FEED)
+}
+
+/// As many heads as there are.
+pub fn heads<'a>(alloc: Global, text: &[u8], tokens: &'a [Token]) -> Read<'a, Seq<Head>>
+    ensures { Gives (λ x. (x.0, x.1.now)) result (repeat (among head_starts) (read_head text.now) tokens.now) }
+{
+    let mut heads = Seq::new(alloc);
+    let mut rest = tokens;
+    while begins_head(rest) {
+        let (next, behind) = head(alloc, text, rest)?;
+        heads.push(next)?;
+        rest = behind;
+    }
+    Ok((heads, rest))
+}

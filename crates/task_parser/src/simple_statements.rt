@@ -1,0 +1,261 @@
+// Statements without blocks.
+ghost use Rattle.task_ast.specs.View.{plain_stmt};
+ghost use Rattle.task_parser.specs.inner.ExpressionReaders.{read_expression};
+ghost use Rattle.task_parser.specs.inner.StatementReaders.{read_set_ctl, read_locking, read_unlocking, read_forking, read_joining, read_waiting, read_set_reg, read_reading, read_writing, read_printing};
+ghost use Rattle.task_parser.specs.inner.Gives.{Gives};
+
+use crate::classes::*;
+use crate::cursor::{discard, expect, name, register};
+use crate::expressions::expression;
+use crate::halt::{Halt, Read};
+use crate::operands::{arguments, atom, exprs, indexed, into_name, into_register};
+use crate::token::Token;
+use std::alloc::Global;
+use task_ast::{Stmt, What};
+
+/// `NAME = expr ;`
+#[tactic(auto, using(task_ast::proofs::Views::view), unfolding(crate::specs::inner::StatementReaders::read_set_ctl))]
+pub fn set_ctl<'a>(alloc: Global, text: &[u8], room: u32, tokens: &'a [Token]) -> Read<'a, Stmt>
+    ensures { Gives (λ x. (plain_stmt x.0, x.1.now)) result (read_set_ctl text.now (read_expression text.now room) tokens.now) }
+{
+    let (variable, rest) = expect(tokens, NAME)?;
+    let (_, rest) = expect(rest, ASSIGN)?;
+    let name = name(alloc, text, variable)?;
+    let (value, rest) = expression(alloc, text, room, rest)?;
+    let (_, rest) = match expect(rest, SEMICOLON) {
+        Ok(next) => next,
+        Err(halt) => {
+            discard(value);
+            return Err(halt);
+        }
+    };
+    let what = What::SetCtl(name, value);
+    Ok((
+        Stmt {
+            what,
+            line: variable.line,
+        },
+        rest,
+    ))
+}
+
+/// `DNAME = expr ;`
+#[tactic(auto, using(task_ast::proofs::Views::view), unfolding(crate::specs::inner::StatementReaders::read_set_reg))]
+pub fn set_register<'a>(
+    alloc: Global,
+    text: &[u8],
+    room: u32,
+    tokens: &'a [Token],
+) -> Read<'a, Stmt>
+    ensures { Gives (λ x. (plain_stmt x.0, x.1.now)) result (read_set_reg text.now (read_expression text.now room) tokens.now) }
+{
+    let (variable, rest) = expect(tokens, REG)?;
+    let (_, rest) = expect(rest, ASSIGN)?;
+    let register = register(alloc, text, variable)?;
+    let (value, rest) = expression(alloc, text, room, rest)?;
+    let (_, rest) = match expect(rest, SEMICOLON) {
+        Ok(next) => next,
+        Err(halt) => {
+            discard(value);
+            return Err(halt);
+        }
+    };
+    let what = What::SetReg(register, value);
+    Ok((
+        Stmt {
+            what,
+            line: variable.line,
+        },
+        rest,
+    ))
+}
+
+/// `lock NAME [ atom ] ;`
+#[tactic(auto, using(task_ast::proofs::Views::view), unfolding(crate::specs::inner::StatementReaders::read_locking))]
+pub fn locking<'a>(alloc: Global, text: &[u8], tokens: &'a [Token]) -> Read<'a, Stmt>
+    ensures { Gives (λ x. (plain_stmt x.0, x.1.now)) result (read_locking text.now tokens.now) }
+{
+    let (((word, array), index), rest) = indexed(alloc, text, LOCK, tokens)?;
+    let (_, rest) = expect(rest, SEMICOLON)?;
+    let what = What::Lock(name(alloc, text, array)?, index);
+    Ok((
+        Stmt {
+            what,
+            line: word.line,
+        },
+        rest,
+    ))
+}
+
+/// `unlock NAME [ atom ] ;`
+#[tactic(auto, using(task_ast::proofs::Views::view), unfolding(crate::specs::inner::StatementReaders::read_unlocking))]
+pub fn unlocking<'a>(alloc: Global, text: &[u8], tokens: &'a [Token]) -> Read<'a, Stmt>
+    ensures { Gives (λ x. (plain_stmt x.0, x.1.now)) result (read_unlocking text.now tokens.now) }
+{
+    let (((word, array), index), rest) = indexed(alloc, text, UNLOCK, tokens)?;
+    let (_, rest) = expect(rest, SEMICOLON)?;
+    let what = What::Unlock(name(alloc, text, array)?, index);
+    Ok((
+        Stmt {
+            what,
+            line: word.line,
+        },
+        rest,
+    ))
+}
+
+/// `fork NAME ( exprs ) into NAME ;`, where the expressions and the `into` may be left out
+#[tactic(auto, using(task_ast::proofs::Views::view), unfolding(crate::specs::inner::StatementReaders::read_forking))]
+pub fn forking<'a>(alloc: Global, text: &[u8], room: u32, tokens: &'a [Token]) -> Read<'a, Stmt>
+    ensures { Gives (λ x. (plain_stmt x.0, x.1.now)) result (read_forking text.now (read_expression text.now room) tokens.now) }
+{
+    let (word, rest) = expect(tokens, FORK)?;
+    let (task, rest) = expect(rest, NAME)?;
+    let (_, rest) = expect(rest, OPEN_PAREN)?;
+    let (arguments, rest) = arguments(alloc, text, room, rest)?;
+    let (_, rest) = expect(rest, CLOSE_PAREN)?;
+    let (into, rest) = into_name(alloc, text, rest)?;
+    let (_, rest) = expect(rest, SEMICOLON)?;
+    let what = What::Fork(name(alloc, text, task)?, arguments, into);
+    Ok((
+        Stmt {
+            what,
+            line: word.line,
+        },
+        rest,
+    ))
+}
+
+/// `join expr into DNAME ;`, where the `into` may be left out
+#[tactic(auto, using(task_ast::proofs::Views::view), unfolding(crate::specs::inner::StatementReaders::read_joining))]
+pub fn joining<'a>(alloc: Global, text: &[u8], room: u32, tokens: &'a [Token]) -> Read<'a, Stmt>
+    ensures { Gives (λ x. (plain_stmt x.0, x.1.now)) result (read_joining text.now (read_expression text.now room) tokens.now) }
+{
+    let (word, rest) = expect(tokens, JOIN)?;
+    let (thread, rest) = expression(alloc, text, room, rest)?;
+    let (into, rest) = match into_register(alloc, text, rest) {
+        Ok(next) => next,
+        Err(halt) => {
+            discard(thread);
+            return Err(halt);
+        }
+    };
+    let (_, rest) = match expect(rest, SEMICOLON) {
+        Ok(next) => next,
+        Err(halt) => {
+            discard((thread, into));
+            return Err(halt);
+        }
+    };
+    let what = What::Join(thread, into);
+    Ok((
+        Stmt {
+            what,
+            line: word.line,
+        },
+        rest,
+    ))
+}
+
+/// `barrier NAME ;`
+#[tactic(auto, using(task_ast::proofs::Views::view), unfolding(crate::specs::inner::StatementReaders::read_waiting))]
+pub fn waiting<'a>(alloc: Global, text: &[u8], tokens: &'a [Token]) -> Read<'a, Stmt>
+    ensures { Gives (λ x. (plain_stmt x.0, x.1.now)) result (read_waiting text.now tokens.now) }
+{
+    let (word, rest) = expect(tokens, BARRIER)?;
+    let (barrier, rest) = expect(rest, NAME)?;
+    let (_, rest) = expect(rest, SEMICOLON)?;
+    let what = What::Barrier(name(alloc, text, barrier)?);
+    Ok((
+        Stmt {
+            what,
+            line: word.line,
+        },
+        rest,
+    ))
+}
+
+/// `read NAME [ atom ] into DNAME ;`
+#[tactic(auto, using(task_ast::proofs::Views::view), unfolding(crate::specs::inner::StatementReaders::read_reading))]
+pub fn reading<'a>(alloc: Global, text: &[u8], tokens: &'a [Token]) -> Read<'a, Stmt>
+    ensures { Gives (λ x. (plain_stmt x.0, x.1.now)) result (read_reading text.now tokens.now) }
+{
+    let (((word, from), index), rest) = indexed(alloc, text, READ, tokens)?;
+    let (_, rest) = expect(rest, INTO)?;
+    let (into, rest) = expect(rest, REG)?;
+    let (_, rest) = expect(rest, SEMICOLON)?;
+    let what = What::Read(
+        name(alloc, text, from)?,
+        index,
+        register(alloc, text, into)?,
+    );
+    Ok((
+        Stmt {
+            what,
+            line: word.line,
+        },
+        rest,
+    ))
+}
+
+/// `write NAME [ atom ] = expr ;`
+#[tactic(auto, using(task_ast::proofs::Views::view), unfolding(crate::specs::inner::StatementReaders::read_writing))]
+pub fn writing<'a>(alloc: Global, text: &[u8], room: u32, tokens: &'a [Token]) -> Read<'a, Stmt>
+    ensures { Gives (λ x. (plain_stmt x.0, x.1.now)) result (read_writing text.now (read_expression text.now room) tokens.now) }
+{
+    let (((word, to), index), rest) = indexed(alloc, text, WRITE, tokens)?;
+    let (_, rest) = match expect(rest, ASSIGN) {
+        Ok(next) => next,
+        Err(halt) => {
+            discard(index);
+            return Err(halt);
+        }
+    };
+    let (value, rest) = match expression(alloc, text, room, rest) {
+        Ok(next) => next,
+        Err(halt) => {
+            discard(index);
+            return Err(halt);
+        }
+    };
+    let (_, rest) = match expect(rest, SEMICOLON) {
+        Ok(next) => next,
+        Err(halt) => {
+            discard((index, value));
+            return Err(halt);
+        }
+    };
+    let name = match name(alloc, text, to) {
+        Ok(next) => next,
+        Err(halt) => {
+            discard((index, value));
+            return Err(Halt::from(halt));
+        }
+    };
+    let what = What::Write(name, index, value);
+    Ok((
+        Stmt {
+            what,
+            line: word.line,
+        },
+        rest,
+    ))
+}
+
+/// `print exprs ;`
+#[tactic(auto, using(task_ast::proofs::Views::view), unfolding(crate::specs::inner::StatementReaders::read_printing))]
+pub fn printing<'a>(alloc: Global, text: &[u8], room: u32, tokens: &'a [Token]) -> Read<'a, Stmt>
+    ensures { Gives (λ x. (plain_stmt x.0, x.1.now)) result (read_printing (read_expression text.now room) tokens.now) }
+{
+    let (word, rest) = expect(tokens, PRINT)?;
+    let (values, rest) = exprs(alloc, text, room, rest)?;
+    let (_, rest) = expect(rest, SEMICOLON)?;
+    let what = What::Print(values);
+    Ok((
+        Stmt {
+            what,
+            line: word.line,
+        },
+        rest,
+    ))
+}

@@ -1,0 +1,150 @@
+// Tasks: parameters, lines of variables, and statements.
+ghost use Rattle.std.specs.Prelude.{◌≡◌, ◌<◌, [], ◌∷◌, map};
+ghost use Rattle.task_ast.specs.View.{plain_task};
+ghost use Rattle.task_parser.specs.Classes.{among};
+ghost use Rattle.task_parser.specs.inner.Reading.{begins, repeat, read_after, read_some, read_separated};
+ghost use Rattle.task_parser.specs.inner.StatementReaders.{read_list};
+ghost use Rattle.task_parser.specs.inner.ProgramReaders.{param_starts, read_param, read_var_line, read_task};
+ghost use Rattle.task_parser.specs.inner.Gives.{Gives};
+
+use crate::classes::*;
+use crate::cursor::{expect, is_next, is_of, name, register};
+use crate::halt::Read;
+use crate::statements::{Allowed, statements};
+use crate::token::Token;
+use gp_base::Seq;
+use std::alloc::Global;
+use task_ast::{Param, TaskText, VarLine};
+
+/// A control variable or a data variable.
+#[tactic(auto, unfolding(crate::specs::inner::ProgramReaders::read_param))]
+fn param<'a>(alloc: Global, text: &[u8], tokens: &'a [Token]) -> Read<'a, Param>
+    ensures { Gives (λ x. (x.0, x.1.now)) result (read_param text.now tokens.now) }
+{
+    if is_next(tokens, NAME) {
+        let (token, rest) = expect(tokens, NAME)?;
+        return Ok((Param::Ctl(name(alloc, text, token)?), rest));
+    }
+    let (token, rest) = expect(tokens, REG)?;
+    Ok((Param::Reg(register(alloc, text, token)?), rest))
+}
+
+/// A comma and a variable.
+fn next_param<'a>(alloc: Global, text: &[u8], tokens: &'a [Token]) -> Read<'a, Param>
+    ensures { Gives (λ x. (x.0, x.1.now)) result (read_after COMMA (read_param text.now) tokens.now) }
+{
+    let (_, rest) = expect(tokens, COMMA)?;
+    param(alloc, text, rest)
+}
+
+/// Variables with commas between them.
+fn params<'a>(alloc: Global, text: &[u8], tokens: &'a [Token]) -> Read<'a, Seq<Param>>
+    ensures { Gives (λ x. (x.0, x.1.now)) result (read_separated COMMA (read_param text.now) tokens.now) }
+{
+    let (first, behind) = param(alloc, text, tokens)?;
+    let mut params = Seq::new(alloc);
+    params.push(first)?;
+    let mut rest = behind;
+    while is_next(rest, COMMA) {
+        let (next, behind) = next_param(alloc, text, rest)?;
+        params.push(next)?;
+        rest = behind;
+    }
+    Ok((params, rest))
+}
+
+/// Whether a variable is next.
+fn begins_param(tokens: &[Token]) -> bool
+    ensures { result ≡ begins (among param_starts) tokens.now }
+{
+    let [token, ..] = tokens else {
+        return false;
+    };
+    is_of(*token, NAME) || is_of(*token, REG)
+}
+
+/// Variables with commas between them, or none.
+#[tactic(auto, unfolding(crate::specs::inner::StatementReaders::read_list))]
+fn param_list<'a>(alloc: Global, text: &[u8], tokens: &'a [Token]) -> Read<'a, Seq<Param>>
+    ensures { Gives (λ x. (x.0, x.1.now)) result (read_list param_starts (read_param text.now) tokens.now) }
+{
+    if begins_param(tokens) {
+        return params(alloc, text, tokens);
+    }
+    Ok((Seq::new(alloc), tokens))
+}
+
+/// One line of declared variables.
+#[tactic(auto, unfolding(crate::specs::inner::ProgramReaders::read_var_line))]
+fn var_line<'a>(alloc: Global, text: &[u8], tokens: &'a [Token]) -> Read<'a, VarLine>
+    ensures { Gives (λ x. (x.0, x.1.now)) result (read_var_line text.now tokens.now) }
+{
+    let (word, rest) = expect(tokens, VAR)?;
+    let (names, rest) = params(alloc, text, rest)?;
+    let (_, rest) = expect(rest, SEMICOLON)?;
+    let line = word.line;
+    Ok((VarLine { names, line }, rest))
+}
+
+/// As many lines of declared variables as there are.
+fn var_lines<'a>(alloc: Global, text: &[u8], tokens: &'a [Token]) -> Read<'a, Seq<VarLine>>
+    ensures { Gives (λ x. (x.0, x.1.now)) result (repeat (among (VAR ∷ [])) (read_var_line text.now) tokens.now) }
+{
+    let mut lines = Seq::new(alloc);
+    let mut rest = tokens;
+    while is_next(rest, VAR) {
+        let (next, behind) = var_line(alloc, text, rest)?;
+        lines.push(next)?;
+        rest = behind;
+    }
+    Ok((lines, rest))
+}
+
+/// A task, with room for so many constructs that nest.
+#[tactic(auto, unfolding(crate::specs::inner::ProgramReaders::read_task))]
+fn task<'a>(alloc: Global, text: &[u8], room: u32, tokens: &'a [Token]) -> Read<'a, TaskText>
+    ensures { Gives (λ x. (plain_task x.0, x.1.now)) result (read_task text.now room tokens.now) }
+{
+    let (word, rest) = expect(tokens, TASK)?;
+    let (title, rest) = expect(rest, NAME)?;
+    let (_, rest) = expect(rest, OPEN_PAREN)?;
+    let (params, rest) = param_list(alloc, text, rest)?;
+    let (_, rest) = expect(rest, CLOSE_PAREN)?;
+    let (_, rest) = expect(rest, OPEN_BRACE)?;
+    let (vars, rest) = var_lines(alloc, text, rest)?;
+    let (body, rest) = statements(alloc, text, Allowed::All, room, rest)?;
+    let (_, rest) = expect(rest, CLOSE_BRACE)?;
+    let name = name(alloc, text, title)?;
+    let line = word.line;
+    Ok((
+        TaskText {
+            name,
+            params,
+            vars,
+            body,
+            line,
+        },
+        rest,
+    ))
+}
+
+/// One task or more.
+pub fn tasks<'a>(
+    alloc: Global,
+    text: &[u8],
+    room: u32,
+    tokens: &'a [Token],
+) -> Read<'a, Seq<TaskText>>
+    ensures { Gives (λ x. (map plain_task x.0, x.1.now)) result (read_some (among (TASK ∷ [])) (read_task text.now room) tokens.now) }
+{
+    let (first, behind) = task(alloc, text, room, tokens)?;
+    let mut tasks = Seq::new(alloc);
+    tasks.push(first)?;
+    let mut rest = behind;
+    while is_next(rest, TASK) {
+        let (next, behind) = task(alloc, text, room, rest)?;
+        tasks.push(next)?;
+        rest = behind;
+    }
+    Ok((tasks, rest))
+}
