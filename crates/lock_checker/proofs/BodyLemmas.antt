@@ -8,7 +8,7 @@ use Rattle.task_ast.specs.Check.{body_visits, bodies_visits}
 use Rattle.task_ast.specs.View.{plain_task}
 use Rattle.task_ast.specs.Visit.{Visit, first_fault}
 use Rattle.lock_checker.specs.declared.fault.CheckFault.{CheckFault}
-use Rattle.lock_checker.specs.Faults.{Told}
+use Rattle.lock_checker.specs.Accepted.{Told}
 use Rattle.lock_checker.proofs.VisitLemmas.{found_after, told_before}
 
 module _ (program : Program) (tasks : List TaskText) (i : ℕ) (t : TaskText) (within : i < length tasks) (is : t ≡ get_or tasks i t) where

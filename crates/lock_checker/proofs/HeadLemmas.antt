@@ -1,12 +1,13 @@
 -- Heads one after the other.
 use Rattle.std.proofs.Common.{◌≡◌, ℕ, ◌+◌, ◌<◌, ◌≤◌, List, [], ◌∷◌, ◌++◌, Bool, true, false, Some, None, refl, ap, ◌∙◌, sym, subst, map, length, get_or, take, drop, add_assoc, zero-add, arith}
+use Rattle.gp_base.specs.declared.limits.TheConstants.{MOST_CELLS}
 use Rattle.std.proofs.lemmas.Bool.{ltb-false}
 use Rattle.std.proofs.lemmas.List.{map-append, at_drop_more, take_more}
 use Rattle.task_ast.specs.declared.check_kind.CheckKind.{CheckKind}
 use Rattle.task_ast.specs.declared.check_kind.CheckKind.TheVariants.{TooMany}
 use Rattle.task_ast.specs.Declarations.{line_of, passes_limit, head_visit, head_visits}
 use Rattle.task_ast.specs.Visit.{fails_if, first_fault}
-use Rattle.lock_checker.specs.Faults.{lowest}
+use Rattle.lock_checker.specs.inner.Faults.{lowest}
 use Rattle.lock_checker.proofs.VisitLemmas.{or_later, on_line, fault_at-lowest}
 use Rattle.std.proofs.lemmas.List.Folds.{list_any-append}
 use Rattle.task_ast.specs.declared.tree.Head.{Head}
@@ -14,8 +15,8 @@ use Rattle.task_ast.specs.declared.tree.Head.TheVariants.{LockHead, BarrierHead,
 use Rattle.task_ast.specs.Tree.{Name, Program}
 use Rattle.task_ast.specs.Names.{is_name, is_among, natural, head_name, locks_of, records_of, cells_in}
 use Rattle.lock_checker.specs.declared.heads.Heads.{Heads}
-use Rattle.lock_checker.specs.declared.table.Table.{Table}
-use Rattle.lock_checker.specs.Heads.{HasNames, AreHeads}
+use Rattle.lock_checker.specs.declared.symbol_table.SymbolTable.{SymbolTable}
+use Rattle.lock_checker.specs.inner.Heads.{HasNames, AreHeads}
 use Rattle.lock_checker.proofs.VariableLemmas.{HasAlso, stands_also}
 
 pub lock_cells-append : (a b : List Head) → cells_in (locks_of (a ++ b)) ≡ cells_in (locks_of a) + cells_in (locks_of b)
@@ -33,11 +34,11 @@ record_cells-append (RecHead name size by from line ∷ a) b = ap (λ n. natural
 record_cells-append (FeedHead name fields from line ∷ a) b = record_cells-append a b
 
 -- a table with one more name
-pub names_with : (old new : Table (Unit {0})) (names : List Name) (name : Name) → HasNames old names → HasAlso old new name → HasNames new (names ++ name ∷ [])
+pub names_with : (old new : SymbolTable (Unit {0})) (names : List Name) (name : Name) → HasNames old names → HasAlso old new name → HasNames new (names ++ name ∷ [])
 names_with old new names name had put = record { same = λ x. stands_also old new name x (is_among x names) put (had.same x) ∙ sym (list_any-append (is_name x) names (name ∷ [])) }
 
 -- the heads with one more
-pub heads_with : (old : Heads) (names : Table (Unit {0})) (before : List Head) (head : Head) (name : Name) (locks records : ℕ) → AreHeads old before → HasAlso old.names names name → name ≡ head_name head → locks ≡ cells_in (locks_of (head ∷ [])) → records ≡ cells_in (records_of (head ∷ [])) → AreHeads (record { names = names; lock_cells = old.lock_cells + locks; record_cells = old.record_cells + records }) (before ++ head ∷ [])
+pub heads_with : (old : Heads) (names : SymbolTable (Unit {0})) (before : List Head) (head : Head) (name : Name) (locks records : ℕ) → AreHeads old before → HasAlso old.names names name → name ≡ head_name head → locks ≡ cells_in (locks_of (head ∷ [])) → records ≡ cells_in (records_of (head ∷ [])) → AreHeads (record { names = names; lock_cells = old.lock_cells + locks; record_cells = old.record_cells + records }) (before ++ head ∷ [])
 heads_with old names before head name locks records were put is_name is_locks is_records = record {
   names = record { same = λ x. (names_with old.names names (map head_name before) name were.names put).same x ∙ ap (λ (n : Name). is_among x (map head_name before ++ n ∷ [])) is_name ∙ ap (is_among x) (sym (map-append head_name before (head ∷ []))) };
   lock_cells = ap (λ n. n + locks) were.lock_cells ∙ ap (λ n. cells_in (locks_of before) + n) is_locks ∙ sym (lock_cells-append before (head ∷ []));
@@ -50,16 +51,16 @@ none_last [] true kind none = cc
 none_last [] false kind none = refl
 none_last (k ∷ kinds) b kind none = cc
 
-locks_small : (before : List Head) (h : Head) → cells_in (locks_of before) ≤ 65536 → passes_limit before h ≡ false → cells_in (locks_of before) + cells_in (locks_of (h ∷ [])) ≤ 65536
-locks_small before (LockHead name size line) small fits = let most : cells_in (locks_of before) + natural size ≤ 65536 = ltb-false 65536 (cells_in (locks_of before) + natural size) fits in omega arith
+locks_small : (before : List Head) (h : Head) → cells_in (locks_of before) ≤ MOST_CELLS → passes_limit before h ≡ false → cells_in (locks_of before) + cells_in (locks_of (h ∷ [])) ≤ MOST_CELLS
+locks_small before (LockHead name size line) small fits = let most : cells_in (locks_of before) + natural size ≤ MOST_CELLS = ltb-false MOST_CELLS (cells_in (locks_of before) + natural size) fits in omega arith
 locks_small before (BarrierHead name number line) small fits = omega arith
 locks_small before (RecHead name size by from line) small fits = omega arith
 locks_small before (FeedHead name fields from line) small fits = omega arith
 
-records_small : (before : List Head) (h : Head) → cells_in (records_of before) ≤ 65536 → passes_limit before h ≡ false → cells_in (records_of before) + cells_in (records_of (h ∷ [])) ≤ 65536
+records_small : (before : List Head) (h : Head) → cells_in (records_of before) ≤ MOST_CELLS → passes_limit before h ≡ false → cells_in (records_of before) + cells_in (records_of (h ∷ [])) ≤ MOST_CELLS
 records_small before (LockHead name size line) small fits = omega arith
 records_small before (BarrierHead name number line) small fits = omega arith
-records_small before (RecHead name size by from line) small fits = let most : cells_in (records_of before) + natural size ≤ 65536 = ltb-false 65536 (cells_in (records_of before) + natural size) fits in omega arith
+records_small before (RecHead name size by from line) small fits = let most : cells_in (records_of before) + natural size ≤ MOST_CELLS = ltb-false MOST_CELLS (cells_in (records_of before) + natural size) fits in omega arith
 records_small before (FeedHead name fields from line) small fits = omega arith
 
 module _ (program : Program) (before : List Head) (h : Head) (none : lowest (head_visit program before h).fails ≡ None) where
@@ -67,17 +68,17 @@ module _ (program : Program) (before : List Head) (h : Head) (none : lowest (hea
   fits = none_last _ (passes_limit before h) TooMany none
 
   -- a head at which no rule fails keeps the limits
-  pub locks_kept : (heads : Heads) → AreHeads heads (before ++ h ∷ []) → cells_in (locks_of before) ≤ 65536 → heads.lock_cells ≤ 65536
-  locks_kept heads are small = subst (λ n. n ≤ 65536) (sym (are.lock_cells ∙ lock_cells-append before (h ∷ []))) (locks_small before h small fits)
+  pub locks_kept : (heads : Heads) → AreHeads heads (before ++ h ∷ []) → cells_in (locks_of before) ≤ MOST_CELLS → heads.lock_cells ≤ MOST_CELLS
+  locks_kept heads are small = subst (λ n. n ≤ MOST_CELLS) (sym (are.lock_cells ∙ lock_cells-append before (h ∷ []))) (locks_small before h small fits)
 
-  pub records_kept : (heads : Heads) → AreHeads heads (before ++ h ∷ []) → cells_in (records_of before) ≤ 65536 → heads.record_cells ≤ 65536
-  records_kept heads are small = subst (λ n. n ≤ 65536) (sym (are.record_cells ∙ record_cells-append before (h ∷ []))) (records_small before h small fits)
+  pub records_kept : (heads : Heads) → AreHeads heads (before ++ h ∷ []) → cells_in (records_of before) ≤ MOST_CELLS → heads.record_cells ≤ MOST_CELLS
+  records_kept heads are small = subst (λ n. n ≤ MOST_CELLS) (sym (are.record_cells ∙ record_cells-append before (h ∷ []))) (records_small before h small fits)
 
   -- so do the cells of the heads with it
-  pub cells_small : cells_in (locks_of before) ≤ 65536 → cells_in (records_of before) ≤ 65536 → (cells_in (locks_of (before ++ h ∷ [])) ≤ 65536) × (cells_in (records_of (before ++ h ∷ [])) ≤ 65536)
+  pub cells_small : cells_in (locks_of before) ≤ MOST_CELLS → cells_in (records_of before) ≤ MOST_CELLS → (cells_in (locks_of (before ++ h ∷ [])) ≤ MOST_CELLS) × (cells_in (records_of (before ++ h ∷ [])) ≤ MOST_CELLS)
   cells_small locks records = (
-    subst (λ n. n ≤ 65536) (sym (lock_cells-append before (h ∷ []))) (locks_small before h locks fits),
-    subst (λ n. n ≤ 65536) (sym (record_cells-append before (h ∷ []))) (records_small before h records fits),
+    subst (λ n. n ≤ MOST_CELLS) (sym (lock_cells-append before (h ∷ []))) (locks_small before h locks fits),
+    subst (λ n. n ≤ MOST_CELLS) (sym (record_cells-append before (h ∷ []))) (records_small before h records fits),
   )
 
 module _ (program : Program) (heads : List Head) (i : ℕ) (h : Head) (within : i < length heads) (is : h ≡ get_or heads i h) where

@@ -1,5 +1,5 @@
 -- What is held after statements, and their visits, depend on the members of a set of pairs alone.
-use Rattle.std.proofs.Common.{◌≡◌, ℕ, List, [], ◌∷◌, ◌++◌, true, Option, Some, None, refl, sym, ap, ◌∙◌}
+use Rattle.std.proofs.Common.{◌≡◌, ℕ, List, [], ◌∷◌, ◌++◌, true, Option, Some, None, refl, sym, ap, ◌∙◌, subst}
 use Rattle.std.specs.Prelude.{not, ◌||◌, is_none}
 use Rattle.std.specs.List.{list_any}
 use Rattle.task_ast.specs.declared.check_kind.CheckKind.{CheckKind}
@@ -12,7 +12,7 @@ use Rattle.task_ast.specs.Declarations.{Scope, is_control, is_register, is_lock,
 use Rattle.task_ast.specs.Held.{Pair, is_index, held_after, held_by, held_at_end}
 use Rattle.task_ast.specs.Check.{array_over, lacks, into_unknown, into_index, fails_at, fails_after, visits_of, visits_inside, visits_in}
 use Rattle.task_ast.specs.Shaped.{is_shaped_stmt, is_shaped_block}
-use Rattle.lock_checker.proofs.SamePairs.{Same, any_same, same_pairs_same, same-append, same-without, and_parts}
+use Rattle.lock_checker.proofs.SamePairs.{Same, nothing_same, any_same, same_pairs_same, same-append, same-without, and_parts}
 use Rattle.lock_checker.proofs.VisitLemmas.{or_later, first_fault-append}
 
 mutual
@@ -107,13 +107,13 @@ module _ (s : Scope) where
         ap (λ vs. vs ++ visits_in s c (held_after st a)) (visits_same st a b same)
         ∙ ap (λ vs. visits_of s st b ++ vs) (in_same c (held_after st a) (held_after st b) (held_same st same))
 
--- the statements left are checked from these pairs without a fault, and are shaped
+-- the statements left are checked from these pairs without a fault, and are shaped; at the end nothing is held
 pub data Fits (s : Scope) : List Stmt → List Pair → Type 0 where
-  none_left : {held : List Pair} → Fits s [] held
+  none_left : Fits s [] []
   one_more : {st : Stmt} {left : List Stmt} {held : List Pair} → first_fault (visits_of s st held) ≡ None → is_shaped_stmt st ≡ true → Fits s left (held_after st held) → Fits s (st ∷ left) held
 
 pub fits_same : {s : Scope} {left : List Stmt} {a : List Pair} → Fits s left a → (b : List Pair) → Same a b → Fits s left b
-fits_same none_left b same = none_left
+fits_same {s} none_left b same = subst (Fits s []) (sym (nothing_same b same)) none_left
 fits_same {s} (one_more {st} {left} {held} none shaped rest) b same =
     one_more (sym (ap first_fault (visits_same s st held b same)) ∙ none) shaped (fits_same rest (held_after st b) (held_same st same))
 

@@ -1,9 +1,9 @@
 -- The lock cells over record cells, and the record cells under each.
-use Rattle.std.proofs.Common.{◌≡◌, ℕ, zero, suc, ◌+◌, ◌-◌, ◌≤◌, ◌<◌, ◌==◌, Bool, true, false, not, cond, List, [], ◌∷◌, ◌++◌, map, length, Option, Some, None, is_none, refl, sym, ap, ◌∙◌, arith, option_map, add-one, zero-add, append_assoc}
+use Rattle.std.proofs.Common.{◌≡◌, ◌≢◌, ℕ, zero, suc, ◌+◌, ◌-◌, ◌≤◌, ◌<◌, ◌==◌, Bool, true, false, not, cond, List, [], ◌∷◌, ◌++◌, map, length, Option, Some, None, is_none, refl, sym, ap, ◌∙◌, arith, option_map, add-one, zero-add, append_assoc, append-nil, subst, take, set, get_or}
 use Rattle.std.specs.Prelude.{pos}
 use Rattle.std.specs.List.{list_all, filter}
-use Rattle.std.proofs.lemmas.Bool.{false≢true, lt-ltb, le-ltb, eqb-true, and_parts, not-true, not-false}
-use Rattle.std.proofs.lemmas.List.{map-append, length-append}
+use Rattle.std.proofs.lemmas.Bool.{false≢true, ne_eqb, eq-eqb, lt-ltb, le-ltb, eqb-true, and_parts, not-true, not-false}
+use Rattle.std.proofs.lemmas.List.{map-append, length-append, length-map, length-take-le, take_more}
 use Rattle.task_ast.specs.declared.tree.Head.{Head}
 use Rattle.task_ast.specs.declared.tree.Head.TheVariants.{LockHead, BarrierHead, RecHead, FeedHead}
 use Rattle.task_ast.specs.Tree.{Name}
@@ -11,7 +11,7 @@ use Rattle.task_ast.specs.Names.{is_name, natural, named, place, locks_of, recor
 use Rattle.task_ast.specs.Declarations.{is_other_size}
 use Rattle.task_ast.specs.Layout.{base_of, lock_over, is_lock_cell, cells_under, fits_array}
 use Rattle.task_ast.specs.Table.{numbers}
-use Rattle.lock_checker.specs.Positions.{positions, numbers_at, cells_over}
+use Rattle.lock_checker.specs.inner.Positions.{positions, numbers_at, cells_over}
 
 numbers-more : (a n : ℕ) → numbers a (suc n) ≡ numbers a n ++ (a + n) ∷ []
 numbers-more a zero = ap (λ k. k ∷ []) (omega arith)
@@ -29,23 +29,78 @@ numbers-push xs ys a n is = ap (λ l. l ++ (a + n) ∷ []) is ∙ append_assoc x
 pub map-push : {T : Type 0} (f : ℕ → T) (ys : List T) (n : ℕ) → ys ≡ map f (numbers 0 n) → ys ++ f n ∷ [] ≡ map f (numbers 0 (n + 1))
 map-push f ys n is = ap (λ l. l ++ f n ∷ []) is ∙ ap (λ k. map f (numbers 0 n) ++ f k ∷ []) (sym (zero-add n)) ∙ sym (map-append f (numbers 0 n) ((0 + n) ∷ [])) ∙ ap (map f) (sym (numbers_more 0 n))
 
-numbers-split : (a n m : ℕ) → numbers a (n + m) ≡ numbers a n ++ numbers (a + n) m
-numbers-split a zero m = ap (numbers a) (zero-add m) ∙ ap (λ k. numbers k m) (omega arith)
-numbers-split a (suc n) m =
-    let sum : suc n + m ≡ suc (n + m) = omega arith in
-    ap (numbers a) sum ∙ ap (λ l. a ∷ l) (numbers-split (suc a) n m ∙ ap (λ k. numbers (suc a) n ++ numbers k m) (omega arith))
-
 length-numbers : (a n : ℕ) → length (numbers a n) ≡ n
 length-numbers a zero = refl
 length-numbers a (suc n) = ap suc (length-numbers (suc a) n)
 
 -- what agrees number by number
-map_numbers : {T : Type 0} (f g : ℕ → T) (a b n : ℕ) → ((k : ℕ) → k < n → f (a + k) ≡ g (b + k)) → map f (numbers a n) ≡ map g (numbers b n)
+pub map_numbers : {T : Type 0} (f g : ℕ → T) (a b n : ℕ) → ((k : ℕ) → k < n → f (a + k) ≡ g (b + k)) → map f (numbers a n) ≡ map g (numbers b n)
 map_numbers f g a b zero same = refl
 map_numbers f g a b (suc n) same =
     let first : f a ≡ g b = ap f (omega arith) ∙ same 0 (omega arith) ∙ ap g (omega arith) in
     let rest = map_numbers f g (suc a) (suc b) n (λ k less. ap f (omega arith) ∙ same (suc k) (omega arith) ∙ ap g (omega arith)) in
     ap (λ x. x ∷ map f (numbers (suc a) n)) first ∙ ap (λ l. g b ∷ l) rest
+
+-- one of the values that belong to numbers is replaced
+map-set_at : {T : Type 0} (f g : ℕ → T) (a n at : ℕ) (value : T) → value ≡ g (a + at) → ((k : ℕ) → k ≢ a + at → f k ≡ g k) → set (map f (numbers a n)) at value ≡ map g (numbers a n)
+map-set_at f g a zero at value is others = refl
+map-set_at f g a (suc n) zero value is others =
+    ap (λ v. v ∷ map f (numbers (suc a) n)) (is ∙ ap g (omega arith))
+    ∙ ap (λ l. g a ∷ l) (map_numbers f g (suc a) (suc a) n (λ k less. others (suc a + k) (λ e. absurd (omega arith))))
+map-set_at f g a (suc n) (suc at) value is others =
+    ap (λ v. v ∷ set (map f (numbers (suc a) n)) at value) (others a (λ e. absurd (omega arith)))
+    ∙ ap (λ l. g a ∷ l) (map-set_at f g (suc a) n at value (is ∙ ap g (omega arith)) (λ k other. others k (λ e. other (omega arith))))
+
+get_or-numbers : {T : Type 0} (f : ℕ → T) (a n at : ℕ) (d : T) → at < n → get_or (map f (numbers a n)) at d ≡ f (a + at)
+get_or-numbers f a zero at d less = absurd (omega arith)
+get_or-numbers f a (suc n) zero d less = ap f (omega arith)
+get_or-numbers f a (suc n) (suc at) d less = get_or-numbers f (suc a) n at d (omega arith) ∙ ap f (omega arith)
+
+-- the places of a number where one more stands at the end
+positions-push : (from : ℕ) (xs : List ℕ) (x number : ℕ) → positions from (xs ++ x ∷ []) number ≡ positions from xs number ++ cond (number == x) ((from + length xs) ∷ []) []
+positions-push from [] x number = ap (λ k. cond (number == x) (k ∷ []) []) (omega arith)
+positions-push from (y ∷ xs) x number =
+    ap (λ l. cond (number == y) (from ∷ l) l) (positions-push (suc from) xs x number ∙ ap (λ k. positions (suc from) xs number ++ cond (number == x) (k ∷ []) []) (omega arith))
+    ∙ by (number == y)
+  where
+    by : (b : Bool) → cond b (from ∷ positions (suc from) xs number ++ cond (number == x) ((from + suc (length xs)) ∷ []) []) (positions (suc from) xs number ++ cond (number == x) ((from + suc (length xs)) ∷ []) []) ≡ cond b (from ∷ positions (suc from) xs number) (positions (suc from) xs number) ++ cond (number == x) ((from + suc (length xs)) ∷ []) []
+    by true = refl
+    by false = refl
+
+module _ (over : List ℕ) (locks cell : ℕ) (lists : List (List ℕ)) (less : cell < length over) (is : lists ≡ map (positions 0 (take cell over)) (numbers 0 locks)) where
+  abbrev lock : ℕ
+  lock = get_or over cell 0
+
+  abbrev more : ℕ → List ℕ
+  more = positions 0 (take (cell + 1) over)
+
+  more_told : (k : ℕ) → more k ≡ positions 0 (take cell over) k ++ cond (k == lock) (cell ∷ []) []
+  more_told k =
+      ap (λ l. positions 0 l k) (take_more over cell 0 less) ∙ positions-push 0 (take cell over) lock k
+      ∙ ap (λ n. positions 0 (take cell over) k ++ cond (k == lock) (n ∷ []) []) (zero-add _ ∙ length-take-le cell over (omega arith))
+
+  others_stay : (k : ℕ) → k ≢ lock → positions 0 (take cell over) k ≡ more k
+  others_stay k other = sym (more_told k ∙ ap (λ b. positions 0 (take cell over) k ++ cond b (cell ∷ []) []) (ne_eqb k lock other) ∙ append-nil _)
+
+  -- the record cell goes to the list of the lock cell over it
+  pub cell_put : (cells new : List ℕ) → lock < length lists → cells ≡ get_or lists lock [] → new ≡ cells ++ cell ∷ [] → set lists lock new ≡ map more (numbers 0 locks)
+  cell_put cells new within was put =
+      let there : lock < locks = subst (λ n. lock < n) (ap length is ∙ length-map (numbers 0 locks) _ ∙ length-numbers 0 locks) within in
+      let old : cells ≡ positions 0 (take cell over) lock = was ∙ ap (λ l. get_or l lock []) is ∙ get_or-numbers (positions 0 (take cell over)) 0 locks lock [] there ∙ ap (positions 0 (take cell over)) (zero-add lock) in
+      let told : new ≡ more (0 + lock) = put ∙ ap (λ l. l ++ cell ∷ []) old ∙ sym (more_told lock ∙ ap (λ b. positions 0 (take cell over) lock ++ cond b (cell ∷ []) []) (eq-eqb lock lock refl)) ∙ ap more (sym (zero-add lock)) in
+      ap (λ l. set l lock new) is ∙ map-set_at (positions 0 (take cell over)) more 0 locks lock new told (λ k other. others_stay k (λ e. other (e ∙ sym (zero-add lock))))
+
+  -- where there is no such lock cell the lists stay
+  pub cell_passed : length lists ≤ lock → lists ≡ map more (numbers 0 locks)
+  cell_passed past =
+      let there : locks ≤ lock = subst (λ n. n ≤ lock) (ap length is ∙ length-map (numbers 0 locks) _ ∙ length-numbers 0 locks) past in
+      is ∙ map_numbers (positions 0 (take cell over)) more 0 0 locks (λ k low. others_stay (0 + k) (λ e. absurd (omega arith)))
+
+numbers-split : (a n m : ℕ) → numbers a (n + m) ≡ numbers a n ++ numbers (a + n) m
+numbers-split a zero m = ap (numbers a) (zero-add m) ∙ ap (λ k. numbers k m) (omega arith)
+numbers-split a (suc n) m =
+    let sum : suc n + m ≡ suc (n + m) = omega arith in
+    ap (numbers a) sum ∙ ap (λ l. a ∷ l) (numbers-split (suc a) n m ∙ ap (λ k. numbers (suc a) n ++ numbers k m) (omega arith))
 
 -- an array's cells follow one another from its first
 abbrev HasBase : List (Name × ℕ) → Name → ℕ → Type 0

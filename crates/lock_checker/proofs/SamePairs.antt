@@ -18,7 +18,7 @@ same_refl a = record { members = λ p. refl }
 pub same_sym : {a b : List Pair} → Same a b → Same b a
 same_sym h = record { members = λ p. sym (h.members p) }
 
-equal_bools : (a b : Bool) → (a ≡ true → b ≡ true) → (b ≡ true → a ≡ true) → a ≡ b
+pub equal_bools : (a b : Bool) → (a ≡ true → b ≡ true) → (b ≡ true → a ≡ true) → a ≡ b
 equal_bools true b there back = sym (there refl)
 equal_bools false true there back = back refl
 equal_bools false false there back = refl
@@ -27,7 +27,7 @@ pub and_parts : (a b : Bool) → (a && b) ≡ true → (a ≡ true) × (b ≡ tr
 and_parts true b h = (refl, h)
 and_parts false b h = absurd (true≢false (sym h))
 
-same_atom_is : (i j : Atom) → same_atom i j ≡ true → i ≡ j
+pub same_atom_is : (i j : Atom) → same_atom i j ≡ true → i ≡ j
 same_atom_is (atom.Num v) (atom.Num w) h = ap atom.Num ((Decides-int_eq v w).0 h)
 same_atom_is (atom.Var x) (atom.Var y) h = ap atom.Var (is_name-is x y h)
 same_atom_is (atom.Num v) (atom.Var y) h = absurd (true≢false (sym h))
@@ -53,7 +53,7 @@ or_true false = refl
 
 -- one that passes is a member
 module _ (test : Pair → Bool) where
-  abbrev Member : List Pair → Type 0
+  abbrev pub Member : List Pair → Type 0
   Member held = (p : Pair) × (has held p ≡ true) × (test p ≡ true)
 
   later : (x : Pair) (held : List Pair) → Member held → Member (x ∷ held)
@@ -63,7 +63,7 @@ module _ (test : Pair → Bool) where
   here_or_later x held true is h rest = (x, ap (λ c. c || has held x) (same_pair_itself x), is)
   here_or_later x held false is h rest = later x held (rest h)
 
-  member_of : (held : List Pair) → list_any test held ≡ true → Member held
+  pub member_of : (held : List Pair) → list_any test held ≡ true → Member held
   member_of [] h = absurd (true≢false (sym h))
   member_of (x ∷ held) h = here_or_later x held (test x) refl h (member_of held)
 
@@ -71,7 +71,7 @@ module _ (test : Pair → Bool) where
   passes_here x p held true is h passes rest = ap (λ b. b || list_any test held) (subst (λ q. test q ≡ true) (same_pair_is p x is) passes)
   passes_here x p held false is h passes rest = ap (λ b. test x || b) (rest h) ∙ or_true (test x)
 
-  member_passes : (held : List Pair) (p : Pair) → has held p ≡ true → test p ≡ true → list_any test held ≡ true
+  pub member_passes : (held : List Pair) (p : Pair) → has held p ≡ true → test p ≡ true → list_any test held ≡ true
   member_passes [] p h passes = absurd (true≢false (sym h))
   member_passes (x ∷ held) p h passes = passes_here x p held (same_pair p x) refl h passes (λ in_rest. member_passes held p in_rest passes)
 
@@ -120,7 +120,12 @@ same_from_test a b h =
     let parts = and_parts (list_all (has b) a) (list_all (has a) b) h in
     record { members = λ p. equal_bools (has a p) (has b p) (all_at (has b) a p parts.0) (all_at (has a) b p parts.1) }
 
-has-append : (a b : List Pair) (p : Pair) → has (a ++ b) p ≡ (has a p || has b p)
+-- what has no members is nothing
+pub nothing_same : (a : List Pair) → Same [] a → a ≡ []
+nothing_same [] same = refl
+nothing_same (x ∷ a) same = absurd (true≢false (sym (ap (λ b. b || has a x) (same_pair_itself x)) ∙ sym (same.members x)))
+
+pub has-append : (a b : List Pair) (p : Pair) → has (a ++ b) p ≡ (has a p || has b p)
 has-append [] b p = refl
 has-append (x ∷ a) b p = ap (λ r. same_pair p x || r) (has-append a b p) ∙ by (same_pair p x)
   where

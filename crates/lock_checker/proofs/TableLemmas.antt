@@ -1,11 +1,18 @@
 -- Tables by name beside the lists that they stand for.
 use Rattle.std.proofs.Common.{◌≡◌, Bool, true, false, Option, Some, None, refl, ap, ◌∙◌, sym, true≢false}
-use Rattle.std.specs.Prelude.{if◌then◌else◌, is_some, option_map, ◌||◌}
-use Rattle.std.specs.Map.{update}
+use Rattle.std.specs.Prelude.{ℕ, List, Vec, if◌then◌else◌, cond, is_some, option_map, ◌||◌}
+use Rattle.std.specs.declared.alloc.Global.{Global}
+use Rattle.std.specs.BTreeMap.{BTreeMap, UpdatesBy, get_by}
+use Rattle.std.specs.Cmp.Lexicographic.{slice_cmp}
+use Rattle.std.specs.Map.{update, lookup, KeepsOthers, IsKeyTest, AreApart}
+use Rattle.std.specs.Ordering.{is_eq, nat_cmp}
+use Rattle.std.proofs.lemmas.Bool.{false_from_ne_true}
+use Rattle.std.proofs.lemmas.Cmp.{eq_by_cmp_equiv, nat_list_cmp_total}
+use Rattle.std.proofs.lemmas.Map.Text.{is_eq-slice_cmp}
 use Rattle.std.proofs.lemmas.Slice.Eq.{bytes_eq-Decides}
 use Rattle.task_ast.specs.Tree.{Name}
 use Rattle.task_ast.specs.Names.{is_name}
-use Rattle.lock_checker.specs.Tables.{or_else}
+use Rattle.lock_checker.specs.inner.Tables.{or_else}
 
 pub is_name-itself : (x : Name) → is_name x x ≡ true
 is_name-itself x = (bytes_eq-Decides x x).1 refl
@@ -27,6 +34,26 @@ module _ {T : Type 0} (f : Name → Option T) (x y : Name) (v : T) (absent : f x
   -- a value put beside a name that had none
   pub put_found : update is_name f x (Some v) y ≡ or_else (f y) (if is_name y x then Some v else None)
   put_found = by_test (is_name x y) (is_name y x) refl refl
+
+apart : (x y z : Name) → is_name x y ≡ false → is_eq (slice_cmp nat_cmp x z) ≡ true → is_eq (slice_cmp nat_cmp y z) ≡ false
+apart x y z other same =
+    is_eq-slice_cmp y z ∙ false_from_ne_true (is_name y z) (λ e. true≢false (sym (ap (is_name x) (is_name-is y z e) ∙ sym (is_eq-slice_cmp x z) ∙ same) ∙ other))
+
+others : {T : Type 0} (eq : Vec ℕ Global → Vec ℕ Global → Bool) (test : Vec ℕ Global → Bool) (old new : List (Vec ℕ Global × T)) → KeepsOthers eq test old new → (other : Vec ℕ Global → Bool) → IsKeyTest eq other → AreApart test other → lookup other new ≡ lookup other old
+unfolding KeepsOthers
+others eq test old new h = h
+
+module _ {T : Type 0} (x : Name) (m n : BTreeMap (Vec ℕ Global) T) (w : Option T) (h : UpdatesBy (λ k l. slice_cmp nat_cmp k.items l.items) (λ k. slice_cmp nat_cmp x k.items) m n w) where
+  abbrev at : BTreeMap (Vec ℕ Global) T → Name → Option T
+  at map y = get_by (λ k. slice_cmp nat_cmp y k.items) map
+
+  -- what a map finds by bytes after a change at the bytes of one key
+  pub updated : (y : Name) → at n y ≡ update is_name (at m) x w y
+  updated y = by (is_name x y) refl
+    where
+      by : (b : Bool) → is_name x y ≡ b → at n y ≡ cond b w (at m y)
+      by true is = ap (at n) (sym (is_name-is x y is)) ∙ h.1
+      by false is = others _ _ m.entries n.entries h.3 (λ k. is_eq (slice_cmp nat_cmp y k.items)) (λ k l. (eq_by_cmp_equiv nat_list_cmp_total).congr y k.items l.items) (λ k. apart x y k.items is)
 
 -- what is found, or else stands later, after a value is put
 pub or_else-put : {T : Type 0} (o : Option T) (b : Bool) (v : T) (later : Option T) → or_else (or_else o (if b then Some v else None)) later ≡ or_else o (if b then Some v else later)

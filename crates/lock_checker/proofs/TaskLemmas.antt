@@ -1,5 +1,6 @@
 -- Tasks one after the other.
 use Rattle.std.proofs.Common.{◌≡◌, ℕ, ◌+◌, ◌<◌, List, [], ◌∷◌, ◌++◌, Option, None, false, ap, ◌∙◌, sym, length, get_or, take, drop, map, append_assoc, arith}
+use Rattle.gp_base.specs.declared.limits.TheConstants.{MOST_VARIABLES}
 use Rattle.std.specs.Prelude.{nat_lt}
 use Rattle.std.proofs.lemmas.Bool.Decides.{nat_tests}
 use Rattle.std.proofs.lemmas.List.{at_drop_more, take_more, map-append}
@@ -13,8 +14,8 @@ use Rattle.task_ast.specs.Declarations.{task_visit, task_visits, vars_visits, ha
 use Rattle.task_ast.specs.View.{plain_task}
 use Rattle.task_ast.specs.Visit.{Visit, visit, fails_if, fault_at, first_fault}
 use Rattle.lock_checker.specs.declared.fault.CheckFault.{CheckFault}
-use Rattle.lock_checker.specs.Faults.{Told}
-use Rattle.lock_checker.specs.TaskNames.{name_of, names_of}
+use Rattle.lock_checker.specs.Accepted.{Told}
+use Rattle.lock_checker.specs.inner.TaskNames.{name_of, names_of}
 use Rattle.lock_checker.proofs.VisitLemmas.{found_after, told_before}
 
 module _ (tasks : List TaskText) (i : ℕ) (t : TaskText) (within : i < length tasks) (is : t ≡ get_or tasks i t) (before : List Name) where
@@ -48,7 +49,7 @@ module _ (tasks : List TaskText) (i : ℕ) (t : TaskText) (within : i < length t
   pub task_told : (fault : CheckFault) (all : Option (CheckKind × ℕ)) → first_fault (task_visits before (map plain_task (drop i tasks))) ≡ all → Told fault (first_fault (task_visit before (plain_task t) ∷ vars_visits t.params t.vars)) → Told fault all
   task_told fault all is_all told = told_before fault left here after all tasks_from is_all told
 
-few_are_not_many : (n : ℕ) → n < 256 → nat_lt 256 (n + 1) ≡ false
+few_are_not_many : (n : ℕ) → n < MOST_VARIABLES → nat_lt MOST_VARIABLES (n + 1) ≡ false
 few_are_not_many n few = grind (arith, nat_tests)
 
 module _ (lines : List VarLine) (i : ℕ) (v : VarLine) (within : i < length lines) (is : v ≡ get_or lines i v) (before : List Param) where
@@ -58,7 +59,7 @@ module _ (lines : List VarLine) (i : ℕ) (v : VarLine) (within : i < length lin
       ∙ ap (λ (y : VarLine). visit y.line (fails_if (has_double before y.names) DoubleName ++ fails_if (are_many (before ++ y.names)) TooMany) ∷ vars_visits (before ++ y.names) (drop (i + 1) lines)) (sym is)
 
   -- a line without a double that leaves few variables has no fault
-  pub lines_later : has_double before v.names ≡ false → length (before ++ v.names) < 256 → first_fault (vars_visits (before ++ v.names) (drop (i + 1) lines)) ≡ first_fault (vars_visits before (drop i lines))
+  pub lines_later : has_double before v.names ≡ false → length (before ++ v.names) < MOST_VARIABLES → first_fault (vars_visits (before ++ v.names) (drop (i + 1) lines)) ≡ first_fault (vars_visits before (drop i lines))
   lines_later single few =
       sym (ap first_fault vars_from
       ∙ ap (λ b. fault_at v.line (fails_if b DoubleName ++ fails_if (are_many (before ++ v.names)) TooMany) (first_fault (vars_visits (before ++ v.names) (drop (i + 1) lines)))) single

@@ -8,21 +8,21 @@ use Rattle.task_ast.specs.declared.tree.VarLine.{VarLine}
 use Rattle.task_ast.specs.Tree.{Name}
 use Rattle.task_ast.specs.Names.{is_name, is_among, ret, controls, datas, declared_in}
 use Rattle.lock_checker.specs.declared.variables.Variables.{Variables}
-use Rattle.lock_checker.specs.declared.table.Table.{Table}
-use Rattle.lock_checker.specs.Tables.{found, or_else}
-use Rattle.lock_checker.specs.TaskVariables.{AreVariables, Adds}
+use Rattle.lock_checker.specs.declared.symbol_table.SymbolTable.{SymbolTable}
+use Rattle.lock_checker.specs.inner.Tables.{found, or_else}
+use Rattle.lock_checker.specs.inner.TaskVariables.{AreVariables, Adds}
 use Rattle.lock_checker.proofs.NameLemmas.{among-controls, among-datas}
 use Rattle.lock_checker.proofs.TableLemmas.{is_some-put, or-false}
 
 -- a table has what it had before, and this name
-abbrev pub HasAlso : Table (Unit {0}) → Table (Unit {0}) → Name → Type 0
+abbrev pub HasAlso : SymbolTable (Unit {0}) → SymbolTable (Unit {0}) → Name → Type 0
 HasAlso old new name = (y : Name) → found new y ≡ or_else (found old y) (if is_name y name then Some tt else None)
 
-pub stands_also : (old new : Table (Unit {0})) (name y : Name) (among : Bool) → HasAlso old new name → is_some (found old y) ≡ among → is_some (found new y) ≡ (among || (is_name y name || false))
+pub stands_also : (old new : SymbolTable (Unit {0})) (name y : Name) (among : Bool) → HasAlso old new name → is_some (found old y) ≡ among → is_some (found new y) ≡ (among || (is_name y name || false))
 stands_also old new name y among put is =
     ap is_some (put y) ∙ is_some-put (found old y) (is_name y name) tt ∙ ap (λ b. b || is_name y name) is ∙ ap (λ b. among || b) (sym (or-false (is_name y name)))
 
-module _ (old : Variables) (new : Table (Unit {0})) (before : List Param) (name : Name) (double : Bool) (were : AreVariables old before) where
+module _ (old : Variables) (new : SymbolTable (Unit {0})) (before : List Param) (name : Name) (double : Bool) (were : AreVariables old before) where
   pub adds_control : double ≡ is_some (found old.controls name) → HasAlso old.controls new name → Adds (record { controls = new; datas = old.datas }) before (param.Ctl name ∷ []) double
   adds_control is put = record {
     told = is ∙ were.controls name ∙ sym (or-false (is_among name (controls before)));

@@ -1,17 +1,11 @@
 -- The first fault of visits that follow one another.
-use Rattle.std.proofs.Common.{◌≡◌, ℕ, ◌+◌, ◌<◌, List, [], ◌∷◌, ◌++◌, Option, Some, None, refl, ap, ◌∙◌, sym, subst, length, get_or, drop}
-use Rattle.std.proofs.lemmas.List.{at_drop_more}
+use Rattle.std.proofs.Common.{◌≡◌, ℕ, List, [], ◌∷◌, ◌++◌, Option, Some, None, refl, ap, ◌∙◌, sym, subst}
 use Rattle.task_ast.specs.declared.check_kind.CheckKind.{CheckKind}
 use Rattle.task_ast.specs.Visit.{Visit, fault_at, first_fault}
-use Rattle.task_ast.specs.declared.tree.Stmt.{Stmt}
-use Rattle.task_ast.specs.Tree as plain
-use Rattle.task_ast.specs.Declarations.{Scope}
-use Rattle.task_ast.specs.Held.{Pair, held_after, held_at_end}
-use Rattle.task_ast.specs.Check.{visits_of, visits_in}
-use Rattle.task_ast.specs.View.{plain_stmt, plain_block}
 use Rattle.lock_checker.specs.declared.fault.CheckFault.{CheckFault}
 use Rattle.lock_checker.specs.declared.fault.CheckFault.TheVariants.{Bad, OutOfMemory}
-use Rattle.lock_checker.specs.Faults.{lowest, Told}
+use Rattle.lock_checker.specs.Accepted.{Told}
+use Rattle.lock_checker.specs.inner.Faults.{lowest}
 
 -- the first of two, where there is one
 abbrev pub or_later : Option (CheckKind × ℕ) → Option (CheckKind × ℕ) → Option (CheckKind × ℕ)
@@ -56,29 +50,3 @@ told_before fault all first later found splits is told =
 pub ruleset first_told = fault_at-lowest
 
 pub ruleset inside_told = (first_fault-append, told_first)
-
-module _ (xs : List Stmt) (i : ℕ) (x : Stmt) (within : i < length xs) (is : x ≡ get_or xs i x) where
-  -- what is left of a block begins with the statement at the index
-  pub block_from : plain_block (drop i xs) ≡ plain.Then (plain_stmt x) (plain_block (drop (i + 1) xs))
-  block_from = at_drop_more plain_block xs i x within ∙ ap (λ (y : Stmt). plain.Then (plain_stmt y) (plain_block (drop (i + 1) xs))) (sym is)
-
-  pub held_from : (held next : List Pair) → next ≡ held_after (plain_stmt x) held → held_at_end (plain_block (drop (i + 1) xs)) next ≡ held_at_end (plain_block (drop i xs)) held
-  held_from held next goes = ap (held_at_end (plain_block (drop (i + 1) xs))) goes ∙ sym (ap (λ b. held_at_end b held) block_from)
-
-  module _ (s : Scope) (held : List Pair) where
-    abbrev here : List Visit
-    here = visits_of s (plain_stmt x) held
-
-    abbrev after : List Visit
-    after = visits_in s (plain_block (drop (i + 1) xs)) (held_after (plain_stmt x) held)
-
-    splits : visits_in s (plain_block (drop i xs)) held ≡ here ++ after
-    splits = ap (λ b. visits_in s b held) block_from
-
-    -- where the statement has no fault
-    pub found_later : (next : List Pair) → first_fault (visits_of s (plain_stmt x) held) ≡ None → next ≡ held_after (plain_stmt x) held → first_fault (visits_in s (plain_block (drop (i + 1) xs)) next) ≡ first_fault (visits_in s (plain_block (drop i xs)) held)
-    found_later next none goes = ap (λ h. first_fault (visits_in s (plain_block (drop (i + 1) xs)) h)) goes ∙ found_after (visits_in s (plain_block (drop i xs)) held) here after splits none
-
-    -- where it has one
-    pub told_here : (fault : CheckFault) (all : Option (CheckKind × ℕ)) → first_fault (visits_in s (plain_block (drop i xs)) held) ≡ all → Told fault (first_fault (visits_of s (plain_stmt x) held)) → Told fault all
-    told_here fault all is_all told = told_before fault (visits_in s (plain_block (drop i xs)) held) here after all splits is_all told

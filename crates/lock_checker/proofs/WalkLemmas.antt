@@ -5,7 +5,7 @@ use Rattle.std.specs.List.{list_any, list_all}
 use Rattle.std.specs.Map.{lookup}
 use Rattle.std.proofs.lemmas.List.{map-append}
 use Rattle.task_ast.specs.declared.check_kind.CheckKind.{CheckKind}
-use Rattle.task_ast.specs.declared.check_kind.CheckKind.TheVariants.{UnknownName, DataInControl, NotHeld, BranchesDiffer, IndexChangedWhileHeld}
+use Rattle.task_ast.specs.declared.check_kind.CheckKind.TheVariants.{UnknownName, DataInControl, NotHeld, HeldTwice, BranchesDiffer, IndexChangedWhileHeld}
 use Rattle.task_ast.specs.declared.env.Env.{Env}
 use Rattle.task_ast.specs.declared.sync.SyncOp.TheVariants as sync
 use Rattle.task_ast.specs.declared.sync.Next.{Next}
@@ -16,10 +16,10 @@ use Rattle.task_ast.specs.Tree.{Name, Stmt, At, What, SetCtl, While, If, Lock, U
 use Rattle.task_ast.specs.Names.{is_name, head_name, locks_of, cell_number, registers_of, barriers_of}
 use Rattle.task_ast.specs.Value.{value_at, value}
 use Rattle.task_ast.specs.Action.{Action}
-use Rattle.task_ast.specs.Body.{Step, Silent, Turn, Act, Stop}
+use Rattle.task_ast.specs.Body.{Step, Silent, Iteration, Act, Stop}
 use Rattle.task_ast.specs.Control.{Setting, Point, step_at, step_from, known, branch, action, env_at, lock_number, fork_of, index_of, with_value, going, behind, beginning}
 use Rattle.task_ast.specs.Visit.{Visit, visit, fails_if, first_fault}
-use Rattle.task_ast.specs.Declarations.{Scope, is_register, is_atom, has_unknown, has_data_index, head_visits, task_visits, main_visit}
+use Rattle.task_ast.specs.Declarations.{Scope, is_lock, is_register, is_atom, has_unknown, has_data_index, head_visits, task_visits, main_visit}
 use Rattle.task_ast.specs.Held.{Pair, same_pair, has, without, same_pairs, is_index, held_by, held_at_end}
 use Rattle.task_ast.specs.Check.{array_over, lacks, fails_at, fails_after, held_fails, visits_of, visits_inside, visits_in, body_visits, bodies_visits}
 use Rattle.task_ast.specs.Shaped.{is_data, all_data, is_shaped_what, is_shaped_stmt, is_shaped_block, is_shaped_head}
@@ -55,10 +55,11 @@ value-other : (names : List (Name × ℤ)) (x y : Name) (v : ℤ) → is_name x 
 value-other [] x y v apart = refl
 value-other (n ∷ names) x y v apart = by (is_name y n.0) (is_name x n.0) refl refl (value-other names x y v apart)
   where
-    by : (here set : Bool) → is_name y n.0 ≡ here → is_name x n.0 ≡ set → value_at (with_value names x v) y ≡ value_at names y → value_at (cond set (n.0, v) n ∷ with_value names x v) y ≡ value_at (n ∷ names) y
+    by : (here set : Bool) → is_name y n.0 ≡ here → is_name x n.0 ≡ set → value_at (with_value names x v) y ≡ value_at names y
+        → value_at (cond set ((n.0, v) ∷ names) (n ∷ with_value names x v)) y ≡ value_at (n ∷ names) y
     by true true here set rest = absurd (true≢false (sym set ∙ ap (is_name x) (sym (is_name-is y n.0 here)) ∙ apart))
     by true false here set rest = ap (λ b. unwrap_or (cond b (Some n.1) (lookup (is_name y) (with_value names x v))) (pos 0)) here ∙ sym (ap (λ b. unwrap_or (cond b (Some n.1) (lookup (is_name y) names)) (pos 0)) here)
-    by false true here set rest = ap (λ b. unwrap_or (cond b (Some v) (lookup (is_name y) (with_value names x v))) (pos 0)) here ∙ rest ∙ sym (ap (λ b. unwrap_or (cond b (Some n.1) (lookup (is_name y) names)) (pos 0)) here)
+    by false true here set rest = ap (λ b. unwrap_or (cond b (Some v) (lookup (is_name y) names)) (pos 0)) here ∙ sym (ap (λ b. unwrap_or (cond b (Some n.1) (lookup (is_name y) names)) (pos 0)) here)
     by false false here set rest = ap (λ b. unwrap_or (cond b (Some n.1) (lookup (is_name y) (with_value names x v))) (pos 0)) here ∙ rest ∙ sym (ap (λ b. unwrap_or (cond b (Some n.1) (lookup (is_name y) names)) (pos 0)) here)
 
 or_parts : (a b : Bool) → (a || b) ≡ false → (a ≡ false) × (b ≡ false)
@@ -108,7 +109,7 @@ pub record Good (s : Setting) (scope : Scope) (q : Point) (held : List Holding) 
 
 data Keeps (s : Setting) (scope : Scope) (p : Point) (left : List Stmt) (held : List Holding) : Step Point → Type 0 where
   on : {q : Point} → Good s scope q held → Keeps s scope p left held (Silent q)
-  round : {q : Point} → Good s scope q held → Keeps s scope p left held (Turn q)
+  round : {q : Point} → Good s scope q held → Keeps s scope p left held (Iteration q)
   doing : {a : Action} {q : Point} → Good s scope q held → Keeps s scope p left held (Act a q)
   faulting : {line : ℕ} → Keeps s scope p left held (Stop (record { sync = sync.BadIndex; line = line }))
   stopping : {next : Next} → ((child : Option ℕ) → beginning next.sync child p ≡ behind child p p.left) → ((child : Option ℕ) → Good s scope (behind child p left) (held_past next.sync left (env_at s p) held)) → Keeps s scope p left held (Stop next)
@@ -199,14 +200,14 @@ module _ (s : Setting) (scope : Scope) (held : List Holding) where
   step_keeps line (When e a b) rest p none shaped fits names = known_keeps s scope p (At line (When e a b) ∷ rest) held line (action s (registers_of p.task) (When e a b) (env_at s p)) _ (λ v is. doing (record { fits = fits; names = names }))
 
   from_keeps : (left : List Stmt) (p : Point) → p.left ≡ left → Fits scope left pairs → StillNamed s.program.heads (env_at s p) held → Keeps s scope p left held (step_from s left p)
-  from_keeps [] p is fits names = stopping (λ child. refl) (λ child. record { fits = subst (λ l. Fits scope l pairs) (sym is) none_left; names = names })
+  from_keeps [] p is fits names = stopping (λ child. refl) (λ child. record { fits = subst (λ l. Fits scope l pairs) (sym is) fits; names = names })
   from_keeps (At line w ∷ rest) p is (one_more none shaped fits) names = step_keeps line w rest p none shaped fits names
 
 module _ {s : Setting} {scope : Scope} {p : Point} {left : List Stmt} {held : List Holding} where
   keeps-silent : {q : Point} → Keeps s scope p left held (Silent q) → Good s scope q held
   keeps-silent (on good) = good
 
-  keeps-turn : {q : Point} → Keeps s scope p left held (Turn q) → Good s scope q held
+  keeps-turn : {q : Point} → Keeps s scope p left held (Iteration q) → Good s scope q held
   keeps-turn (round good) = good
 
   keeps-act : {a : Action} {q : Point} → Keeps s scope p left held (Act a q) → Good s scope q held
@@ -253,8 +254,10 @@ module _ (scope : Scope) where
     touches line (SetCtl x e) held none shaped = tt
     touches line (While e b) held none shaped = tt
     touches line (If e a b) held none shaped = tt
-    touches line (Lock a i) held none shaped = tt
-    touches line (Unlock a i) held none shaped = tt
+    touches line (Lock a i) held none shaped =
+        last_kind (fails_if (not (is_lock scope a) || not (is_atom scope i)) UnknownName) (has held (a, i)) HeldTwice (kinds_none scope line (Lock a i) held none)
+    touches line (Unlock a i) held none shaped =
+        not_true (has held (a, i)) (last_kind (fails_if (not (is_lock scope a) || not (is_atom scope i)) UnknownName) (not (has held (a, i))) NotHeld (kinds_none scope line (Unlock a i) held none))
     touches line (Fork t es x) held none shaped = tt
     touches line (Join e x) held none shaped = tt
     touches line (Barrier b) held none shaped = tt
@@ -287,8 +290,8 @@ module _ (scope : Scope) where
         )
 
 fits_touches : (scope : Scope) (left : List Stmt) (held : List Pair) → Fits scope left held → NextTouchesHeld scope.program.heads left held
-fits_touches scope left held none_left = tt
-fits_touches scope left held (one_more {st} {left = rest} none shaped fits) = by st none shaped
+fits_touches scope [] held fits = tt
+fits_touches scope (s ∷ left) held (one_more {st} {left = rest} none shaped fits) = by st none shaped
   where
     by : (st : Stmt) → first_fault (visits_of scope st held) ≡ None → is_shaped_stmt st ≡ true → NextTouchesHeld scope.program.heads (st ∷ rest) held
     by (At line w) none shaped = touches scope line w held none shaped
@@ -303,6 +306,19 @@ body_in program (t ∷ tasks) zero task is none shaped =
 body_in program (t ∷ tasks) (suc k) task is none shaped =
     body_in program tasks k task is (none_parts (body_visits program t) (bodies_visits program tasks) none).1 (and_parts (is_shaped_block t.body) (list_all (λ u. is_shaped_block u.body) tasks) shaped).1
 
+-- nothing is held where no statements are left
+fits_end : (scope : Scope) (left : List Stmt) (held : List Holding) → Fits scope left (pairs_held held) → left ≡ [] → held ≡ []
+fits_end scope left [] fits is = refl
+fits_end scope left (h ∷ held) fits is = absurd (none_after (subst (λ l. Fits scope l (h.pair ∷ pairs_held held)) is fits))
+  where
+    none_after : {p : Pair} {pairs : List Pair} → Fits scope [] (p ∷ pairs) → ⊥
+    none_after fits = elim fits [ ]
+
+-- the rule at a task's end
+ended : (line : ℕ) (held : List Pair) → first_fault (visit line (held_fails held) ∷ []) ≡ None → held ≡ []
+ended line [] none = refl
+ended line (p ∷ held) none = cc
+
 pub walk_law : WalkLaw
 walk_law s k task start p held accepted is_task is comes =
     let program = s.program in
@@ -311,7 +327,8 @@ walk_law s k task start p held accepted is_task is comes =
     let bodies = none_parts (main_visit program ∷ []) (bodies_visits program program.tasks) visits.1 in
     let shapes = and_parts (list_all is_shaped_head program.heads) (list_all (λ t. is_shaped_block t.body) program.tasks) accepted.shaped in
     let body = body_in program program.tasks k task is_task bodies.1 shapes.1 in
-    let none = (none_parts (visits_in scope task.body []) (visit task.line (held_fails (held_at_end task.body [])) ∷ []) body.0).0 in
-    let first = subst (λ l. Fits scope l []) (append-nil (statements task.body)) (fits_block task.body [] [] none body.1 none_left) in
+    let inside = none_parts (visits_in scope task.body []) (visit task.line (held_fails (held_at_end task.body [])) ∷ []) body.0 in
+    let last = subst (Fits scope []) (sym (ended task.line (held_at_end task.body []) inside.1)) none_left in
+    let first = subst (λ l. Fits scope l []) (append-nil (statements task.body)) (fits_block task.body [] [] inside.0 body.1 last) in
     let good = comes_good scope (record { fits = subst (λ l. Fits scope l []) (sym is) first; names = none_held }) comes in
-    (fits_touches scope p.left (pairs_held held) good.fits, good.names)
+    (fits_touches scope p.left (pairs_held held) good.fits, good.names, fits_end scope p.left held good.fits)

@@ -1,11 +1,4 @@
 pub mod Accepted
-pub mod Faults
-pub mod Heads
-pub mod Indexes
-pub mod Pairs
-pub mod Positions
-pub mod Scopes
-pub mod Tables
-pub mod TaskNames
-pub mod TaskVariables
+pub mod Soundness
 pub mod WalkLaw
+pub mod inner

@@ -1,5 +1,5 @@
 -- The walk law: along the steps of one thread of an accepted program, what is held is what was locked and not unlocked.
-use Rattle.std.specs.Prelude.{◌≡◌, ◌≢◌, ℕ, ℤ, List, [], ◌∷◌, ◌++◌, true, not, map, filter, Option, Some, slice_get}
+use Rattle.std.specs.Prelude.{◌≡◌, ◌≢◌, ℕ, ℤ, List, [], ◌∷◌, ◌++◌, true, false, not, map, filter, Option, Some, slice_get}
 use Rattle.task_ast.specs.declared.env.Env.{Env}
 use Rattle.task_ast.specs.declared.sync.SyncOp.{SyncOp}
 use Rattle.task_ast.specs.declared.sync.SyncOp.TheVariants as sync
@@ -9,7 +9,7 @@ use Rattle.task_ast.specs.declared.tree.Head.{Head}
 use Rattle.task_ast.specs.Tree.{Name, Stmt, At, What, Lock, Unlock, Read, Write, When, Block, Nothing, Then, statements, TaskText}
 use Rattle.task_ast.specs.Names.{locks_of, arrays_over, named, cell_number}
 use Rattle.task_ast.specs.Action.{Action}
-use Rattle.task_ast.specs.Body.{Silent, Turn, Act, Stop}
+use Rattle.task_ast.specs.Body.{Silent, Iteration, Act, Stop}
 use Rattle.task_ast.specs.Control.{Setting, Point, step, env_at, index_of, beginning}
 use Rattle.task_ast.specs.Held.{Pair, same_pair, has}
 use Rattle.task_ast.specs.Shaped.{IsAccepted}
@@ -45,7 +45,7 @@ held_past op _ env held = held
 pub data Comes (s : Setting) (start : Point) : Point → List Holding → Type 0 where
   begins : Comes s start start []
   silently : {p q : Point} {held : List Holding} → Comes s start p held → step s p ≡ Silent q → Comes s start q held
-  by_turn : {p q : Point} {held : List Holding} → Comes s start p held → step s p ≡ Turn q → Comes s start q held
+  by_turn : {p q : Point} {held : List Holding} → Comes s start p held → step s p ≡ Iteration q → Comes s start q held
   acting : {p q : Point} {a : Action} {held : List Holding} → Comes s start p held → step s p ≡ Act a q → Comes s start q held
   past : {p : Point} {next : Next} {held : List Holding} → Comes s start p held → step s p ≡ Stop next → next.sync ≢ sync.BadIndex → (child : Option ℕ) → Comes s start (beginning next.sync child p) (held_past next.sync p.left (env_at s p) held)
 
@@ -58,6 +58,8 @@ abbrev mutual
   pub TouchesHeld : List Head → What → List Pair → Type 0
   TouchesHeld heads (Read r i x) held = IsUnderHeld heads r i held
   TouchesHeld heads (Write r i e) held = IsUnderHeld heads r i held
+  TouchesHeld heads (Lock a i) held = has held (a, i) ≡ false
+  TouchesHeld heads (Unlock a i) held = has held (a, i) ≡ true
   TouchesHeld heads (When e a b) held = TouchesAllHeld heads a held × TouchesAllHeld heads b held
   TouchesHeld heads _ held = Unit {0}
 
@@ -75,8 +77,8 @@ pub data StillNamed (heads : List Head) (env : Env) : List Holding → Type 0 wh
   none_held : StillNamed heads env []
   one_held : {h : Holding} {held : List Holding} → index_of h.pair.1 env ≡ h.value → cell_number (locks_of heads) h.pair.0 h.value ≡ Some h.cell → StillNamed heads env held → StillNamed heads env (h ∷ held)
 
--- at each point that a thread of an accepted program comes to
+-- at each point that a thread of an accepted program comes to; nothing is held where its task ends
 abbrev pub WalkLaw : Type 0
 WalkLaw =
     (s : Setting) (k : ℕ) (task : TaskText) (start p : Point) (held : List Holding) → IsAccepted s.program → slice_get s.program.tasks k ≡ Some task → start.left ≡ statements task.body → Comes s start p held
-    → NextTouchesHeld s.program.heads p.left (pairs_held held) × StillNamed s.program.heads (env_at s p) held
+    → NextTouchesHeld s.program.heads p.left (pairs_held held) × StillNamed s.program.heads (env_at s p) held × (p.left ≡ [] → held ≡ [])

@@ -1,11 +1,16 @@
 // An accepted program.
+ghost use Rattle.std.specs.Prelude.{◌≡◌};
+ghost use Rattle.task_ast.specs.Layout.{base_of};
+ghost use Rattle.task_ast.specs.Names.{locks_of, records_of};
 ghost use Rattle.task_ast.specs.Shaped.{IsAccepted};
+ghost use Rattle.task_ast.specs.Tree as plain;
 ghost use Rattle.task_ast.specs.View.{plain_program};
+ghost use Rattle.lock_checker.specs.inner.Tables.{found};
 
 use crate::index::natural;
-use crate::layout::{places, push_numbers};
-use crate::scope::same_name;
-use gp_base::{Name, Seq};
+use crate::layout::{cells_by_lock, lock_bases, push_numbers, record_bases};
+use crate::symbol_table::SymbolTable;
+use gp_base::Name;
 use std::alloc::{AllocError, Global};
 use task_ast::{Head, Layout, Program};
 
@@ -13,58 +18,49 @@ use task_ast::{Head, Layout, Program};
 #[derive(Drop)]
 pub struct Checked {
     program: Program,
+    lock_bases: SymbolTable<u32>,
+    record_bases: SymbolTable<u32>,
     pub ghost accepted: { IsAccepted (plain_program program) },
+    ghost locks: { (x : plain.Name) → found lock_bases x ≡ base_of (locks_of program.heads) x },
+    ghost records: { (x : plain.Name) → found record_bases x ≡ base_of (records_of program.heads) x },
 }
 
 impl Checked {
     ghost use Rattle.std.specs.Prelude.{◌≡◌, ◌≤◌, IfOk, IfSome};
+    ghost use Rattle.gp_base.specs.declared.limits.TheConstants.{MOST_CELLS};
     ghost use Rattle.task_ast.specs.Names.{locks_of, records_of, cells_in};
     ghost use Rattle.task_ast.specs.Layout.{base_of, layout};
     ghost use Rattle.lock_checker.specs.Accepted.{program_of};
-    ghost use Rattle.lock_checker.specs.Positions.{cells_over};
+    ghost use Rattle.lock_checker.specs.inner.Positions.{cells_over};
 
-    pub(crate) fn of(program: Program) -> Checked
+    pub(crate) fn of(alloc: Global, program: Program) -> Result<Checked, AllocError>
         requires { IsAccepted (plain_program program) }
-        ensures { program_of result ≡ program }
+        ensures { IfOk result (λ checked. program_of checked ≡ program) }
     {
-        Checked { program }
+        let lock_bases = lock_bases(alloc, program.heads.as_slice())?;
+        let record_bases = record_bases(alloc, program.heads.as_slice())?;
+        Ok(Checked {
+            program,
+            lock_bases,
+            record_bases,
+        })
     }
 
     /// The number of the first cell of a lock array among the cells of all lock arrays in declared order, or `None`
     /// where no lock array has this name. Takes no memory.
-    #[tactic(auto, using(crate::proofs::BaseLemmas::base_steps))]
     pub fn lock_base(&self, array: &Name) -> Option<u32>
         ensures value { result ≡ base_of (locks_of (program_of self.now).heads) array.now }
-        ensures small { IfSome result (λ base. base ≤ 65536) }
+        ensures small { IfSome result (λ base. base ≤ MOST_CELLS) }
     {
-        let mut base: u64 = 0;
-        for head in self.program.heads.as_slice() {
-            if let Head::LockHead { name, size, .. } = head {
-                if same_name(array, name) {
-                    return Some(base as u32);
-                }
-                base += natural(*size);
-            }
-        }
-        None
+        self.lock_bases.get(array)
     }
 
     /// The number of the first cell of a record among the cells of all records in declared order, or `None` where no
     /// record has this name. Takes no memory.
-    #[tactic(auto, using(crate::proofs::BaseLemmas::base_steps))]
     pub fn rec_base(&self, r: &Name) -> Option<u32>
         ensures { result ≡ base_of (records_of (program_of self.now).heads) r.now }
     {
-        let mut base: u64 = 0;
-        for head in self.program.heads.as_slice() {
-            if let Head::RecHead { name, size, .. } = head {
-                if same_name(r, name) {
-                    return Some(base as u32);
-                }
-                base += natural(*size);
-            }
-        }
-        None
+        self.record_bases.get(r)
     }
 
     /// How many cells all lock arrays have.
@@ -97,15 +93,12 @@ impl Checked {
     }
 
     /// For each lock cell, in the order of all lock arrays' cells, the record cells under it, in rising order. The
-    /// only error is want of memory. Looks at each record cell once for each lock cell.
+    /// only error is out of memory.
     pub fn layout(&self, alloc: Global) -> Result<Layout, AllocError>
         ensures { IfOk result (λ l. l ≡ layout (program_of self.now).heads) }
     {
         let over = self.over(alloc)?;
-        let mut under = Seq::new(alloc);
-        for lock in 0..self.lock_count() {
-            under.push(places(alloc, &over, lock)?)?;
-        }
+        let under = cells_by_lock(alloc, &over, self.lock_count())?;
         Ok(Layout { under })
     }
 

@@ -3,7 +3,7 @@ ghost use Rattle.std.specs.Prelude.{◌≡◌};
 ghost use Rattle.std.specs.List.{list_any};
 ghost use Rattle.task_ast.specs.Declarations.{has_unknown, have_unknown, has_data, have_data, has_data_index, have_data_index};
 ghost use Rattle.task_ast.specs.View.{plain_expr, plain_exprs, plain_links};
-ghost use Rattle.lock_checker.specs.Scopes.{scope_of, IsScope};
+ghost use Rattle.lock_checker.specs.inner.Scopes.{scope_of, IsScope};
 
 use crate::scope::{Scope, is_control, is_feed, is_register};
 use task_ast::{Expr, Op};

@@ -3,8 +3,8 @@
 use std::alloc::AllocError;
 use task_ast::CheckKind;
 
-/// Why a program isn't accepted: the rule that fails first with the line where it does, or want of memory.
-#[derive(Clone, Copy, Debug, PartialEq, Eq)]
+/// Why a program isn't accepted: the rule that fails first with the line where it does, or out of memory.
+#[derive(Clone, Copy, Debug)]
 pub enum CheckFault {
     Bad { kind: CheckKind, line: u32 },
     OutOfMemory,

@@ -1,22 +1,21 @@
 // The rules of heads and of the heads of tasks.
 ghost use Rattle.std.specs.Prelude.{◌≡◌, ◌≤◌, ◌<◌, ◌^◌, List, [], ◌∷◌, ◌++◌, OnOk};
+ghost use Rattle.gp_base.specs.declared.limits.TheConstants.{MOST_CELLS};
 ghost use Rattle.task_ast.specs.declared.tree.Head.{Head as PlainHead};
 ghost use Rattle.task_ast.specs.declared.tree.Program.{Program as PlainProgram};
 ghost use Rattle.task_ast.specs.Names.{head_name, locks_of, records_of, cells_in};
 ghost use Rattle.task_ast.specs.Declarations.{line_of, count_of, lacks_array, sizes_differ, passes_limit, head_visit};
 ghost use Rattle.task_ast.specs.View.{plain_program};
-ghost use Rattle.lock_checker.specs.Indexes.{IsIndexOf};
-ghost use Rattle.lock_checker.specs.Heads.{AreHeads};
-ghost use Rattle.lock_checker.specs.Faults.{lowest};
+ghost use Rattle.lock_checker.specs.inner.Indexes.{IsIndexOf};
+ghost use Rattle.lock_checker.specs.inner.Heads.{AreHeads};
+ghost use Rattle.lock_checker.specs.inner.Faults.{lowest};
 
 use crate::index::{Index, natural};
-use crate::table::Table;
+use crate::symbol_table::SymbolTable;
 use gp_base::Name;
+use gp_base::limits::{MOST_CELLS, MOST_FIELDS, MOST_THREADS};
 use std::alloc::{AllocError, Global};
 use task_ast::{CheckKind, Head};
-
-/// How many lock cells, and how many record cells, a program may have.
-const MOST_CELLS: u64 = 65536;
 
 fn head_name(head: &Head) -> &Name
     ensures { result.now ≡ head_name head.now }
@@ -102,18 +101,18 @@ fn record_cells_of(head: &Head) -> u64
 
 /// The heads visited so far: their names, and the cells of their lock arrays and of their records.
 #[derive(Drop)]
-pub struct Heads<'a> {
-    pub names: Table<'a, ()>,
+pub struct Heads {
+    pub names: SymbolTable<()>,
     pub lock_cells: u64,
     pub record_cells: u64,
 }
 
-impl<'a> Heads<'a> {
+impl Heads {
     pub fn new(alloc: Global) -> Self
         ensures { AreHeads result [] }
     {
         Heads {
-            names: Table::new(alloc),
+            names: SymbolTable::new(alloc),
             lock_cells: 0,
             record_cells: 0,
         }
@@ -125,10 +124,10 @@ impl<'a> Heads<'a> {
         ensures { (before : List PlainHead) → AreHeads self.now before → result ≡ passes_limit before head.now }
     {
         match head {
-            Head::LockHead { size, .. } => self.lock_cells + natural(*size) > MOST_CELLS,
-            Head::BarrierHead { number, .. } => natural(*number) > 4096,
-            Head::RecHead { size, .. } => self.record_cells + natural(*size) > MOST_CELLS,
-            Head::FeedHead { fields, .. } => natural(*fields) > 64,
+            Head::LockHead { size, .. } => self.lock_cells + natural(*size) > MOST_CELLS as u64,
+            Head::BarrierHead { number, .. } => natural(*number) > MOST_THREADS as u64,
+            Head::RecHead { size, .. } => self.record_cells + natural(*size) > MOST_CELLS as u64,
+            Head::FeedHead { fields, .. } => natural(*fields) > MOST_FIELDS as u64,
         }
     }
 
@@ -154,7 +153,7 @@ impl<'a> Heads<'a> {
     }
 
     /// Adds a head.
-    pub fn add(&mut self, head: &'a Head) -> Result<(), AllocError>
+    pub fn add(&mut self, head: &Head) -> Result<(), AllocError>
         requires locks { self.old.lock_cells ≤ MOST_CELLS }
         requires records { self.old.record_cells ≤ MOST_CELLS }
         ensures { OnOk result ((before : List PlainHead) → AreHeads self.old before → AreHeads self.new (before ++ head.now ∷ [])) }

@@ -1,103 +1,116 @@
-// Sets of pairs of a lock array and an index, as lists.
-ghost use Rattle.std.specs.Prelude.{◌≡◌, not, IfOk, ◌++◌, [], ◌∷◌, OnOk, filter, ◌&&◌};
-ghost use Rattle.std.specs.List.{list_any, list_all};
-ghost use Rattle.task_ast.specs.Held.{same_atom, same_pair, has, without, same_pairs, is_index};
-ghost use Rattle.lock_checker.specs.Pairs.{pair_of, pairs_of};
+// Sets of pairs, and the changes that lead from one to another.
+ghost use Rattle.std.specs.Prelude.{◌≡◌, ◌↔◌, [], ◌∷◌, ◌++◌, IsTrue, OnOk, IfOk};
+ghost use Rattle.std.specs.List.{list_any};
+ghost use Rattle.task_ast.specs.Held.{has, without, is_index};
+ghost use Rattle.lock_checker.specs.inner.Pairs.{pair_of, pairs_of, pairs_in, IsFlipped, Leads, Moves, TellsAlike};
 
-use crate::scope::same_name;
+use crate::pair::{Index, Pair};
 use gp_base::Name;
 use std::alloc::{AllocError, Global};
-use task_ast::Atom;
+use std::collections::BTreeSet;
 
-/// A lock array and the index of its lock.
-#[derive(Clone, Copy)]
-pub struct Pair<'a> {
-    pub array: &'a Name,
-    pub index: &'a Atom,
+/// A set of pairs.
+#[derive(Drop)]
+pub struct Pairs<'a> {
+    members: BTreeSet<Pair<'a>>,
 }
 
-fn same_atom(i: &Atom, j: &Atom) -> bool
-    ensures { result ≡ same_atom i.now j.now }
-{
-    match i {
-        Atom::Num(v) => match j {
-            Atom::Num(w) => *v == *w,
-            Atom::Var(_) => false,
-        },
-        Atom::Var(x) => match j {
-            Atom::Num(_) => false,
-            Atom::Var(y) => same_name(x, y),
-        },
-    }
-}
-
-fn same_pair(p: &Pair, q: &Pair) -> bool
-    ensures { result ≡ same_pair (pair_of p.now) (pair_of q.now) }
-{
-    same_name(p.array, q.array) && same_atom(p.index, q.index)
-}
-
-/// Whether the pair is held.
-pub fn has(held: &[Pair], p: &Pair) -> bool
-    ensures { result ≡ has (pairs_of held.now) (pair_of p.now) }
-{
-    for q in held {
-        if same_pair(p, q) {
-            return true;
+impl<'a> Pairs<'a> {
+    pub fn new(alloc: Global) -> Self
+        ensures { pairs_in result ≡ [] }
+    {
+        Pairs {
+            members: BTreeSet::new(alloc),
         }
     }
-    false
-}
 
-/// Whether the variable is the index of a held pair.
-pub fn is_held_index(held: &[Pair], x: &Name) -> bool
-    ensures { result ≡ list_any (is_index x.now) (pairs_of held.now) }
-{
-    for q in held {
-        if let Atom::Var(y) = q.index {
-            if same_name(x, y) {
-                return true;
-            }
+    pub fn has(&self, p: &Pair<'a>) -> bool
+        ensures { result ≡ has (pairs_in self.now) (pair_of p.now) }
+    {
+        self.members.contains(p)
+    }
+
+    /// Whether a pair has this variable as its index.
+    pub fn has_index(&self, x: &'a Name) -> bool
+        ensures { result ≡ list_any (is_index x.now) (pairs_in self.now) }
+    {
+        let index = Index::Variable(x.as_slice());
+        let first = Pair { index, array: &[] };
+        match self.members.range(first..).next() {
+            Some(p) => index == p.index,
+            None => false,
         }
     }
-    false
-}
 
-fn all_held(a: &[Pair], b: &[Pair]) -> bool
-    ensures { result ≡ list_all (has (pairs_of b.now)) (pairs_of a.now) }
-{
-    for p in a {
-        if !has(b, p) {
-            return false;
+    pub fn is_empty(&self) -> bool
+        ensures { IsTrue result ↔ (pairs_in self.now ≡ []) }
+    {
+        self.members.is_empty()
+    }
+
+    /// Takes a member out, or puts in a pair that is none.
+    pub fn flip(&mut self, p: Pair<'a>) -> Result<(), AllocError>
+        ensures { OnOk result (IsFlipped (pairs_in self.old) (pair_of p.entry) (pairs_in self.new)) }
+    {
+        if !self.members.remove(&p) {
+            self.members.insert(p)?;
+        }
+        Ok(())
+    }
+
+    /// Flips these pairs in turn. Done twice it leaves the set as it was.
+    pub fn flip_all(&mut self, changes: &[Pair<'a>]) -> Result<(), AllocError>
+        ensures { OnOk result (Leads (pairs_in self.old) (pairs_of changes.now) (pairs_in self.new)) }
+    {
+        for p in changes {
+            self.flip(*p)?;
+        }
+        Ok(())
+    }
+
+    /// Flips a pair, and gives it as the one change.
+    fn change(&mut self, alloc: Global, p: Pair<'a>) -> Result<Vec<Pair<'a>>, AllocError>
+        ensures { IfOk result (λ changes. (changes.items ≡ p.entry ∷ []) × IsFlipped (pairs_in self.old) (pair_of p.entry) (pairs_in self.new)) }
+    {
+        let mut changes = Vec::new(alloc);
+        changes.push(p)?;
+        self.flip(p)?;
+        Ok(changes)
+    }
+
+    /// Puts a pair in, and gives the changes.
+    pub fn insert(&mut self, alloc: Global, p: Pair<'a>) -> Result<Vec<Pair<'a>>, AllocError>
+        ensures { IfOk result (λ changes. Moves (pairs_in self.old) (pairs_of changes.items) (pairs_in self.new) (pairs_in self.old ++ pair_of p.entry ∷ [])) }
+    {
+        if self.has(&p) {
+            Ok(Vec::new(alloc))
+        } else {
+            Ok(self.change(alloc, p)?)
         }
     }
-    true
-}
 
-/// Whether two lists have the same pairs.
-pub fn same_pairs(a: &[Pair], b: &[Pair]) -> bool
-    ensures { result ≡ same_pairs (pairs_of a.now) (pairs_of b.now) }
-{
-    all_held(a, b) && all_held(b, a)
-}
-
-/// The pairs but this one.
-pub fn without<'a>(alloc: Global, held: &[Pair<'a>], p: &Pair) -> Result<Vec<Pair<'a>>, AllocError>
-    ensures { IfOk result (λ kept. pairs_of kept.items ≡ without (pairs_of held.now) (pair_of p.now)) }
-{
-    let mut kept = Vec::new(alloc);
-    for q in held {
-        if !same_pair(p, q) {
-            kept.push(*q)?;
+    /// Takes a pair out, and gives the changes.
+    pub fn remove(&mut self, alloc: Global, p: Pair<'a>) -> Result<Vec<Pair<'a>>, AllocError>
+        ensures { IfOk result (λ changes. Moves (pairs_in self.old) (pairs_of changes.items) (pairs_in self.new) (without (pairs_in self.old) (pair_of p.entry))) }
+    {
+        if self.has(&p) {
+            Ok(self.change(alloc, p)?)
+        } else {
+            Ok(Vec::new(alloc))
         }
     }
-    Ok(kept)
 }
 
-/// The pairs with one more.
-pub fn with<'a>(mut held: Vec<Pair<'a>>, p: Pair<'a>) -> Result<Vec<Pair<'a>>, AllocError>
-    ensures { IfOk result (λ more. pairs_of more.items ≡ pairs_of held.entry.items ++ pair_of p.entry ∷ []) }
+/// Whether two lists of changes lead to the same pairs.
+pub fn lead_alike<'a>(
+    alloc: Global,
+    first: &[Pair<'a>],
+    second: &[Pair<'a>],
+) -> Result<bool, AllocError>
+    ensures { IfOk result (λ alike. TellsAlike alike (pairs_of first.now) (pairs_of second.now)) }
 {
-    held.push(p)?;
-    Ok(held)
+    let mut net = Pairs::new(alloc);
+    net.flip_all(first)?;
+    net.flip_all(second)?;
+    Ok(net.is_empty())
 }

@@ -3,10 +3,10 @@ ghost use Rattle.std.specs.Prelude.{◌≡◌, ◌<◌, ◌^◌, IfOk, is_some, 
 ghost use Rattle.task_ast.specs.Tree as plain;
 ghost use Rattle.task_ast.specs.Names.{is_among, natural, named, locks_of, arrays_over, barriers_of, feeds_of, task_named};
 ghost use Rattle.task_ast.specs.View.{plain_task, plain_program};
-ghost use Rattle.lock_checker.specs.Tables.{found};
-ghost use Rattle.lock_checker.specs.Indexes.{target, IsIndexOf};
+ghost use Rattle.lock_checker.specs.inner.Tables.{found};
+ghost use Rattle.lock_checker.specs.inner.Indexes.{target, IsIndexOf};
 
-use crate::table::Table;
+use crate::symbol_table::SymbolTable;
 use gp_base::Name;
 use std::alloc::{AllocError, Global};
 use task_ast::{Head, Program, TaskText};
@@ -15,11 +15,11 @@ use task_ast::{Head, Program, TaskText};
 /// is declared twice the first counts.
 #[derive(Drop)]
 pub struct Index<'a> {
-    pub locks: Table<'a, u64>,
-    pub arrays: Table<'a, &'a Name>,
-    pub barriers: Table<'a, ()>,
-    pub feeds: Table<'a, ()>,
-    pub tasks: Table<'a, &'a TaskText>,
+    pub locks: SymbolTable<u64>,
+    pub arrays: SymbolTable<&'a Name>,
+    pub barriers: SymbolTable<()>,
+    pub feeds: SymbolTable<()>,
+    pub tasks: SymbolTable<&'a TaskText>,
 }
 
 /// A size as a number; a negative one counts as 0.
@@ -31,10 +31,10 @@ pub fn natural(size: i64) -> u64
 }
 
 #[tactic(auto, using(crate::proofs::TableLemmas::put_steps))]
-fn lock_table<'a>(alloc: Global, heads: &'a [Head]) -> Result<Table<'a, u64>, AllocError>
+fn lock_table(alloc: Global, heads: &[Head]) -> Result<SymbolTable<u64>, AllocError>
     ensures { IfOk result (λ t. (x : plain.Name) → found t x ≡ named x (locks_of heads.now)) }
 {
-    let mut table = Table::new(alloc);
+    let mut table = SymbolTable::new(alloc);
     for head in heads {
         if let Head::LockHead { name, size, .. } = head {
             table.put(name, natural(*size))?;
@@ -44,10 +44,10 @@ fn lock_table<'a>(alloc: Global, heads: &'a [Head]) -> Result<Table<'a, u64>, Al
 }
 
 #[tactic(auto, using(crate::proofs::TableLemmas::put_steps))]
-fn array_table<'a>(alloc: Global, heads: &'a [Head]) -> Result<Table<'a, &'a Name>, AllocError>
+fn array_table<'a>(alloc: Global, heads: &'a [Head]) -> Result<SymbolTable<&'a Name>, AllocError>
     ensures { IfOk result (λ t. (x : plain.Name) → option_map target (found t x) ≡ named x (arrays_over heads.now)) }
 {
-    let mut table = Table::new(alloc);
+    let mut table = SymbolTable::new(alloc);
     for head in heads {
         if let Head::RecHead { name, by, .. } = head {
             table.put(name, by)?;
@@ -57,10 +57,10 @@ fn array_table<'a>(alloc: Global, heads: &'a [Head]) -> Result<Table<'a, &'a Nam
 }
 
 #[tactic(auto, using(crate::proofs::TableLemmas::put_steps))]
-fn barrier_table<'a>(alloc: Global, heads: &'a [Head]) -> Result<Table<'a, ()>, AllocError>
+fn barrier_table(alloc: Global, heads: &[Head]) -> Result<SymbolTable<()>, AllocError>
     ensures { IfOk result (λ t. (x : plain.Name) → is_some (found t x) ≡ is_some (named x (barriers_of heads.now))) }
 {
-    let mut table = Table::new(alloc);
+    let mut table = SymbolTable::new(alloc);
     for head in heads {
         if let Head::BarrierHead { name, .. } = head {
             table.put(name, ())?;
@@ -70,10 +70,10 @@ fn barrier_table<'a>(alloc: Global, heads: &'a [Head]) -> Result<Table<'a, ()>, 
 }
 
 #[tactic(auto, using(crate::proofs::TableLemmas::put_steps))]
-fn feed_table<'a>(alloc: Global, heads: &'a [Head]) -> Result<Table<'a, ()>, AllocError>
+fn feed_table(alloc: Global, heads: &[Head]) -> Result<SymbolTable<()>, AllocError>
     ensures { IfOk result (λ t. (x : plain.Name) → is_some (found t x) ≡ is_among x (feeds_of heads.now)) }
 {
-    let mut table = Table::new(alloc);
+    let mut table = SymbolTable::new(alloc);
     for head in heads {
         if let Head::FeedHead { name, .. } = head {
             table.put(name, ())?;
@@ -86,10 +86,10 @@ fn feed_table<'a>(alloc: Global, heads: &'a [Head]) -> Result<Table<'a, ()>, All
 fn task_table<'a>(
     alloc: Global,
     program: &'a Program,
-) -> Result<Table<'a, &'a TaskText>, AllocError>
+) -> Result<SymbolTable<&'a TaskText>, AllocError>
     ensures { IfOk result (λ t. (x : plain.Name) → option_map (λ task. plain_task task.now) (found t x) ≡ task_named (plain_program program.now) x) }
 {
-    let mut table = Table::new(alloc);
+    let mut table = SymbolTable::new(alloc);
     for task in program.tasks.as_slice() {
         table.put(&task.name, task)?;
     }

@@ -1,23 +1,76 @@
-// The record cells under each lock cell.
-ghost use Rattle.std.specs.Prelude.{◌≡◌, ◌+◌, ◌≤◌, ◌^◌, ◌++◌, length, IfOk, OnOk};
+// The first cells of lock arrays and records, and the record cells under each lock cell.
+ghost use Rattle.std.specs.Prelude.{◌≡◌, ◌+◌, ◌≤◌, ◌^◌, [], ◌++◌, map, length, IfOk, OnOk};
+ghost use Rattle.gp_base.specs.declared.limits.TheConstants.{MOST_CELLS};
+ghost use Rattle.task_ast.specs.Layout.{base_of};
+ghost use Rattle.task_ast.specs.Names.{locks_of, records_of, cells_in};
 ghost use Rattle.task_ast.specs.Table.{numbers};
-ghost use Rattle.lock_checker.specs.Positions.{positions};
+ghost use Rattle.task_ast.specs.Tree as plain;
+ghost use Rattle.lock_checker.specs.inner.Positions.{positions};
+ghost use Rattle.lock_checker.specs.inner.Tables.{found};
 
+use crate::index::natural;
+use crate::symbol_table::SymbolTable;
 use gp_base::{RecNo, Seq};
 use std::alloc::{AllocError, Global};
+use task_ast::Head;
 
-/// The places at which a number stands in a list, in rising order.
-pub fn places(alloc: Global, over: &[u32], number: u32) -> Result<Seq<RecNo>, AllocError>
-    requires small { length over.now ≤ 65536 }
-    ensures { IfOk result (λ cells. cells ≡ positions 0 over.now number) }
+/// The number of the first cell of each lock array.
+#[tactic(auto, using(crate::proofs::TableLemmas::put_steps, crate::proofs::BaseLemmas::base_steps))]
+pub fn lock_bases(alloc: Global, heads: &[Head]) -> Result<SymbolTable<u32>, AllocError>
+    requires { cells_in (locks_of heads.now) ≤ MOST_CELLS }
+    ensures { IfOk result (λ bases. (x : plain.Name) → found bases x ≡ base_of (locks_of heads.now) x) }
 {
-    let mut cells = Seq::new(alloc);
-    for (place, lock) in over.iter().enumerate() {
-        if *lock == number {
-            cells.push(RecNo(place as u32))?;
+    let mut bases = SymbolTable::new(alloc);
+    let mut base: u64 = 0;
+    for head in heads {
+        if let Head::LockHead { name, size, .. } = head {
+            bases.put(name, base as u32)?;
+            base += natural(*size);
         }
     }
-    Ok(cells)
+    Ok(bases)
+}
+
+/// The number of the first cell of each record.
+#[tactic(auto, using(crate::proofs::TableLemmas::put_steps, crate::proofs::BaseLemmas::base_steps))]
+pub fn record_bases(alloc: Global, heads: &[Head]) -> Result<SymbolTable<u32>, AllocError>
+    requires { cells_in (records_of heads.now) ≤ MOST_CELLS }
+    ensures { IfOk result (λ bases. (x : plain.Name) → found bases x ≡ base_of (records_of heads.now) x) }
+{
+    let mut bases = SymbolTable::new(alloc);
+    let mut base: u64 = 0;
+    for head in heads {
+        if let Head::RecHead { name, size, .. } = head {
+            bases.put(name, base as u32)?;
+            base += natural(*size);
+        }
+    }
+    Ok(bases)
+}
+
+/// So many empty lists.
+fn empty_lists(alloc: Global, count: u32) -> Result<Vec<Seq<RecNo>>, AllocError>
+    ensures { IfOk result (λ lists. lists.items ≡ map (positions 0 []) (numbers 0 count)) }
+{
+    let mut lists = Vec::new(alloc);
+    for _lock in 0..count {
+        lists.push(Seq::new(alloc))?;
+    }
+    Ok(lists)
+}
+
+/// For each lock cell the record cells under it, in rising order, from the lock cell over each record cell.
+pub fn cells_by_lock(alloc: Global, over: &[u32], locks: u32) -> Result<Seq<Seq<RecNo>>, AllocError>
+    requires { length over.now ≤ MOST_CELLS }
+    ensures { IfOk result (λ under. under ≡ map (positions 0 over.now) (numbers 0 locks)) }
+{
+    let mut under = empty_lists(alloc, locks)?;
+    for (cell, lock) in over.iter().enumerate() {
+        if let Some(cells) = under.get_mut(*lock as usize) {
+            cells.push(RecNo(cell as u32))?;
+        }
+    }
+    Ok(Seq::from_vec(under))
 }
 
 /// Puts numbers that follow one another at the end.

@@ -2,7 +2,7 @@
 #![tactic(auto)]
 
 mod checked;
-mod checking;
+mod ends;
 mod expressions;
 mod fault;
 mod heads;
@@ -10,17 +10,16 @@ mod held;
 mod index;
 mod laws;
 mod layout;
+mod pair;
 mod program;
 mod rules;
 mod scope;
-mod table;
+mod symbol_table;
 mod tasks;
-#[cfg(test)]
-mod tests;
 mod variables;
 mod walk;
 
 pub use checked::Checked;
-pub use checking::check;
 pub use fault::CheckFault;
-pub use laws::walk_law;
+pub use laws::{soundness_laws, walk_law};
+pub use program::check;

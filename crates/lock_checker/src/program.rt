@@ -1,21 +1,25 @@
-// The walk over a whole program.
-ghost use Rattle.std.specs.Prelude.{◌≡◌, [], ◌∷◌, map, IfOk};
+// The check of a program.
+ghost use Rattle.std.specs.Prelude.{◌≡◌, None, List, [], ◌∷◌, map, IsTrue, OnOk, IfOk, IfErr};
+ghost use Rattle.task_ast.specs.Held.{Pair as PlainPair};
 ghost use Rattle.task_ast.specs.Names.{head_name};
 ghost use Rattle.task_ast.specs.Declarations.{head_visits};
-ghost use Rattle.task_ast.specs.Check.{held_fails, body_visits, bodies_visits, program_visits};
+ghost use Rattle.task_ast.specs.Check.{check_fault, held_fails, body_visits, bodies_visits, program_visits};
+ghost use Rattle.task_ast.specs.Shaped.{is_shaped};
 ghost use Rattle.task_ast.specs.View.{plain_task, plain_program};
-ghost use Rattle.lock_checker.specs.Heads.{HasNames};
-ghost use Rattle.lock_checker.specs.Indexes.{IsIndexOf};
+ghost use Rattle.lock_checker.specs.Accepted.{program_of, IsFaultOf};
+ghost use Rattle.lock_checker.specs.inner.Heads.{HasNames};
+ghost use Rattle.lock_checker.specs.inner.Indexes.{IsIndexOf};
 ghost use Rattle.task_ast.specs.Visit.{visit};
-ghost use Rattle.lock_checker.specs.Pairs.{pairs_of};
-ghost use Rattle.lock_checker.specs.Faults.{Passes};
+ghost use Rattle.lock_checker.specs.inner.Pairs.{pairs_in, HaveSame};
+ghost use Rattle.lock_checker.specs.inner.Faults.{Passes};
 
+use crate::checked::Checked;
 use crate::fault::CheckFault;
 use crate::heads::{Heads, line_of};
-use crate::held::Pair;
+use crate::held::Pairs;
 use crate::index::{Index, index_of};
 use crate::scope::Scope;
-use crate::table::Table;
+use crate::symbol_table::SymbolTable;
 use crate::tasks::{check_main, check_tasks};
 use crate::variables::variables_of;
 use crate::walk::check_block;
@@ -23,11 +27,11 @@ use std::alloc::Global;
 use task_ast::{CheckKind, Program, TaskText};
 
 /// Checks the heads, and gives their names.
-fn check_heads<'a>(
+fn check_heads(
     alloc: Global,
-    index: &Index<'a>,
-    program: &'a Program,
-) -> Result<Table<'a, ()>, CheckFault>
+    index: &Index,
+    program: &Program,
+) -> Result<SymbolTable<()>, CheckFault>
     requires { IsIndexOf index.now program.now }
     ensures visits { Passes result (head_visits (plain_program program.now) [] program.now.heads) }
     ensures names { IfOk result (λ names. HasNames names (map head_name program.now.heads)) }
@@ -46,15 +50,16 @@ fn check_heads<'a>(
 }
 
 /// Checks that nothing is held at the end of the task of this line.
-fn check_end(line: u32, held: &[Pair]) -> Result<(), CheckFault>
-    ensures { Passes result (visit line (held_fails (pairs_of held.now)) ∷ []) }
+fn check_end(line: u32, held: &Pairs) -> Result<(), CheckFault>
+    ensures { (after : List PlainPair) → HaveSame (pairs_in held.now) after → Passes result (visit line (held_fails after) ∷ []) }
 {
-    match held {
-        [] => Ok(()),
-        [_, ..] => Err(CheckFault::Bad {
+    if held.is_empty() {
+        Ok(())
+    } else {
+        Err(CheckFault::Bad {
             kind: CheckKind::HeldAtEnd,
             line,
-        }),
+        })
     }
 }
 
@@ -76,8 +81,9 @@ fn check_body<'a>(
         index,
         variables: &variables,
     };
-    match check_block(alloc, &scope, task.body.as_slice(), &[]) {
-        Ok(held) => check_end(task.line, &held),
+    let mut held = Pairs::new(alloc);
+    match check_block(alloc, &scope, task.body.as_slice(), &mut held) {
+        Ok(_) => check_end(task.line, &held),
         Err(fault) => Err(fault),
     }
 }
@@ -126,9 +132,24 @@ fn check_indexed<'a>(
 }
 
 /// Checks a program.
-pub fn check_program(alloc: Global, program: &Program) -> Result<(), CheckFault>
+fn check_program(alloc: Global, program: &Program) -> Result<(), CheckFault>
     ensures { Passes result (program_visits (plain_program program.now)) }
 {
     let index = index_of(alloc, program)?;
     check_indexed(alloc, &index, program)
+}
+
+/// Accepts a program that keeps all rules of names, counts and held locks, and else answers the rule that fails first,
+/// with the line of the head, the var line, the statement or the task where it does. The only other error is out of
+/// memory.
+pub fn check(alloc: Global, p: Program) -> Result<Checked, CheckFault>
+    requires shaped { IsTrue (is_shaped (plain_program p)) }
+    ensures same { IfOk result (λ checked. program_of checked ≡ p) }
+    ensures accepted { OnOk result (check_fault (plain_program p) ≡ None) }
+    ensures fault { IfErr result (λ fault. IsFaultOf fault p) }
+{
+    match check_program(alloc, &p) {
+        Ok(()) => Ok(Checked::of(alloc, p)?),
+        Err(fault) => Err(fault),
+    }
 }

@@ -5,27 +5,33 @@ ghost use Rattle.task_ast.specs.Tree as plain;
 ghost use Rattle.task_ast.specs.Check.{fails_at, into_unknown, into_index};
 ghost use Rattle.task_ast.specs.Declarations.{is_control, is_register, is_misplaced};
 ghost use Rattle.task_ast.specs.View.{plain_expr, plain_exprs, plain_what};
-ghost use Rattle.lock_checker.specs.Scopes.{scope_of, IsScope};
-ghost use Rattle.lock_checker.specs.Pairs.{pairs_of};
-ghost use Rattle.lock_checker.specs.Faults.{lowest};
+ghost use Rattle.lock_checker.specs.inner.Scopes.{scope_of, IsScope};
+ghost use Rattle.lock_checker.specs.inner.Pairs.{pairs_in};
+ghost use Rattle.lock_checker.specs.inner.Faults.{lowest};
 
 use crate::expressions::{any_data_index, any_unknown, has_data, has_data_index, has_unknown};
-use crate::held::{Pair, has, is_held_index};
+use crate::held::Pairs;
+use crate::pair::Pair;
 use crate::scope::{
     Scope, array_over, is_atom, is_barrier, is_control, is_lock, is_register, task_named,
 };
 use gp_base::Name;
 use task_ast::{Atom, CheckKind, Expr, Param, What};
 
-fn set_control_rule(scope: &Scope, x: &Name, e: &Expr, held: &[Pair]) -> Option<CheckKind>
+fn set_control_rule<'a>(
+    scope: &Scope<'_, 'a>,
+    x: &'a Name,
+    e: &Expr,
+    held: &Pairs<'a>,
+) -> Option<CheckKind>
     requires { IsScope scope.now }
-    ensures { result ≡ lowest (fails_at (scope_of scope.now) (plain.SetCtl x.now (plain_expr e.now)) (pairs_of held.now)) }
+    ensures { result ≡ lowest (fails_at (scope_of scope.now) (plain.SetCtl x.now (plain_expr e.now)) (pairs_in held.now)) }
 {
     if !is_control(scope, x) || has_unknown(scope, e) {
         Some(CheckKind::UnknownName)
     } else if has_data(e) {
         Some(CheckKind::DataInControl)
-    } else if is_held_index(held, x) {
+    } else if held.has_index(x) {
         Some(CheckKind::IndexChangedWhileHeld)
     } else {
         None
@@ -46,26 +52,36 @@ fn condition_rule(scope: &Scope, e: &Expr) -> Option<CheckKind>
     }
 }
 
-fn lock_rule(scope: &Scope, array: &Name, index: &Atom, held: &[Pair]) -> Option<CheckKind>
+fn lock_rule<'a>(
+    scope: &Scope<'_, 'a>,
+    array: &'a Name,
+    index: &'a Atom,
+    held: &Pairs<'a>,
+) -> Option<CheckKind>
     requires { IsScope scope.now }
-    ensures { result ≡ lowest (fails_at (scope_of scope.now) (plain.Lock array.now index.now) (pairs_of held.now)) }
+    ensures { result ≡ lowest (fails_at (scope_of scope.now) (plain.Lock array.now index.now) (pairs_in held.now)) }
 {
     if !is_lock(scope, array) || !is_atom(scope, index) {
         Some(CheckKind::UnknownName)
-    } else if has(held, &Pair { array, index }) {
+    } else if held.has(&Pair::new(array, index)) {
         Some(CheckKind::HeldTwice)
     } else {
         None
     }
 }
 
-fn unlock_rule(scope: &Scope, array: &Name, index: &Atom, held: &[Pair]) -> Option<CheckKind>
+fn unlock_rule<'a>(
+    scope: &Scope<'_, 'a>,
+    array: &'a Name,
+    index: &'a Atom,
+    held: &Pairs<'a>,
+) -> Option<CheckKind>
     requires { IsScope scope.now }
-    ensures { result ≡ lowest (fails_at (scope_of scope.now) (plain.Unlock array.now index.now) (pairs_of held.now)) }
+    ensures { result ≡ lowest (fails_at (scope_of scope.now) (plain.Unlock array.now index.now) (pairs_in held.now)) }
 {
     if !is_lock(scope, array) || !is_atom(scope, index) {
         Some(CheckKind::UnknownName)
-    } else if !has(held, &Pair { array, index }) {
+    } else if !held.has(&Pair::new(array, index)) {
         Some(CheckKind::NotHeld)
     } else {
         None
@@ -113,24 +129,24 @@ fn into_register_unknown(scope: &Scope, into: &Option<Name>) -> bool
     }
 }
 
-fn into_held_index(held: &[Pair], into: &Option<Name>) -> bool
-    ensures { result ≡ into_index (pairs_of held.now) into.now }
+fn into_held_index<'a>(held: &Pairs<'a>, into: &'a Option<Name>) -> bool
+    ensures { result ≡ into_index (pairs_in held.now) into.now }
 {
     match into {
-        Some(x) => is_held_index(held, x),
+        Some(x) => held.has_index(x),
         None => false,
     }
 }
 
-fn fork_rule(
-    scope: &Scope,
+fn fork_rule<'a>(
+    scope: &Scope<'_, 'a>,
     t: &Name,
     arguments: &[Expr],
-    into: &Option<Name>,
-    held: &[Pair],
+    into: &'a Option<Name>,
+    held: &Pairs<'a>,
 ) -> Option<CheckKind>
     requires { IsScope scope.now }
-    ensures { result ≡ lowest (fails_at (scope_of scope.now) (plain.Fork t.now (plain_exprs arguments.now) into.now) (pairs_of held.now)) }
+    ensures { result ≡ lowest (fails_at (scope_of scope.now) (plain.Fork t.now (plain_exprs arguments.now) into.now) (pairs_in held.now)) }
 {
     let unknown = any_unknown(scope, arguments) || into_control_unknown(scope, into);
     match task_named(scope, t) {
@@ -188,9 +204,15 @@ fn set_register_rule(scope: &Scope, x: &Name, e: &Expr) -> Option<CheckKind>
     }
 }
 
-fn read_rule(scope: &Scope, r: &Name, index: &Atom, into: &Name, held: &[Pair]) -> Option<CheckKind>
+fn read_rule<'a>(
+    scope: &Scope<'_, 'a>,
+    r: &Name,
+    index: &'a Atom,
+    into: &Name,
+    held: &Pairs<'a>,
+) -> Option<CheckKind>
     requires { IsScope scope.now }
-    ensures { result ≡ lowest (fails_at (scope_of scope.now) (plain.Read r.now index.now into.now) (pairs_of held.now)) }
+    ensures { result ≡ lowest (fails_at (scope_of scope.now) (plain.Read r.now index.now into.now) (pairs_in held.now)) }
 {
     let unknown = !is_atom(scope, index) || !is_register(scope, into);
     match array_over(scope, r) {
@@ -198,7 +220,7 @@ fn read_rule(scope: &Scope, r: &Name, index: &Atom, into: &Name, held: &[Pair]) 
         Some(array) => {
             if unknown {
                 Some(CheckKind::UnknownName)
-            } else if !has(held, &Pair { array, index }) {
+            } else if !held.has(&Pair::new(array, index)) {
                 Some(CheckKind::NotHeld)
             } else {
                 None
@@ -207,9 +229,15 @@ fn read_rule(scope: &Scope, r: &Name, index: &Atom, into: &Name, held: &[Pair]) 
     }
 }
 
-fn write_rule(scope: &Scope, r: &Name, index: &Atom, e: &Expr, held: &[Pair]) -> Option<CheckKind>
+fn write_rule<'a>(
+    scope: &Scope<'_, 'a>,
+    r: &Name,
+    index: &'a Atom,
+    e: &Expr,
+    held: &Pairs<'a>,
+) -> Option<CheckKind>
     requires { IsScope scope.now }
-    ensures { result ≡ lowest (fails_at (scope_of scope.now) (plain.Write r.now index.now (plain_expr e.now)) (pairs_of held.now)) }
+    ensures { result ≡ lowest (fails_at (scope_of scope.now) (plain.Write r.now index.now (plain_expr e.now)) (pairs_in held.now)) }
 {
     let unknown = !is_atom(scope, index) || has_unknown(scope, e);
     match array_over(scope, r) {
@@ -219,7 +247,7 @@ fn write_rule(scope: &Scope, r: &Name, index: &Atom, e: &Expr, held: &[Pair]) ->
                 Some(CheckKind::UnknownName)
             } else if has_data_index(e) {
                 Some(CheckKind::DataInControl)
-            } else if !has(held, &Pair { array, index }) {
+            } else if !held.has(&Pair::new(array, index)) {
                 Some(CheckKind::NotHeld)
             } else {
                 None
@@ -257,9 +285,9 @@ fn choice_rule(scope: &Scope, e: &Expr) -> Option<CheckKind>
 
 /// The lowest rule that fails at the beginning of a statement.
 #[tactic(auto, using(task_ast::proofs::Views::view))]
-pub fn rule_at(scope: &Scope, what: &What, held: &[Pair]) -> Option<CheckKind>
+pub fn rule_at<'a>(scope: &Scope<'_, 'a>, what: &'a What, held: &Pairs<'a>) -> Option<CheckKind>
     requires { IsScope scope.now }
-    ensures { result ≡ lowest (fails_at (scope_of scope.now) (plain_what what.now) (pairs_of held.now)) }
+    ensures { result ≡ lowest (fails_at (scope_of scope.now) (plain_what what.now) (pairs_in held.now)) }
 {
     match what {
         What::SetCtl(x, e) => set_control_rule(scope, x, e, held),

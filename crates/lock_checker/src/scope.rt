@@ -5,7 +5,7 @@ ghost use Rattle.task_ast.specs.Names.{is_name, task_named};
 ghost use Rattle.task_ast.specs.Declarations.{is_control, is_register, is_feed, is_lock, is_atom};
 ghost use Rattle.task_ast.specs.Check.{array_over, is_barrier};
 ghost use Rattle.task_ast.specs.View.{plain_task, plain_program};
-ghost use Rattle.lock_checker.specs.Scopes.{scope_of, IsScope};
+ghost use Rattle.lock_checker.specs.inner.Scopes.{scope_of, IsScope};
 
 use crate::index::Index;
 use crate::variables::Variables;
@@ -18,7 +18,7 @@ pub struct Scope<'s, 'a> {
     pub program: &'a Program,
     pub task: &'a TaskText,
     pub index: &'s Index<'a>,
-    pub variables: &'s Variables<'a>,
+    pub variables: &'s Variables,
 }
 
 pub fn same_name(x: &Name, y: &Name) -> bool

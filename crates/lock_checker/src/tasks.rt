@@ -1,22 +1,21 @@
 // The rules of the heads of tasks.
 ghost use Rattle.std.specs.Prelude.{◌≡◌, ◌<◌, List, [], ◌∷◌, map, length};
+ghost use Rattle.gp_base.specs.declared.limits.TheConstants.{MOST_VARIABLES};
 ghost use Rattle.task_ast.specs.Tree.{Name as PlainName};
 ghost use Rattle.task_ast.specs.Names.{is_name, is_among};
 ghost use Rattle.task_ast.specs.Declarations.{main, task_visit, task_visits, vars_visits, main_visit};
 ghost use Rattle.task_ast.specs.View.{plain_task, plain_program};
-ghost use Rattle.lock_checker.specs.Heads.{HasNames};
-ghost use Rattle.lock_checker.specs.TaskVariables.{AreVariables};
-ghost use Rattle.lock_checker.specs.Faults.{Passes};
+ghost use Rattle.lock_checker.specs.inner.Heads.{HasNames};
+ghost use Rattle.lock_checker.specs.inner.TaskVariables.{AreVariables};
+ghost use Rattle.lock_checker.specs.inner.Faults.{Passes};
 
 use crate::fault::CheckFault;
-use crate::table::Table;
+use crate::symbol_table::SymbolTable;
 use crate::variables::Variables;
 use gp_base::Name;
+use gp_base::limits::MOST_VARIABLES;
 use std::alloc::Global;
 use task_ast::{CheckKind, Param, Program, TaskText, VarLine};
-
-/// How many variables a task may have, with its parameters and `$ret`.
-const MOST_VARIABLES: u64 = 256;
 
 fn is_main(x: &Name) -> bool
     ensures { result ≡ is_name x.now main }
@@ -25,16 +24,16 @@ fn is_main(x: &Name) -> bool
 }
 
 /// Checks the var lines of a task after its parameters.
-fn check_lines<'a>(
-    mut variables: Variables<'a>,
-    params: &'a [Param],
-    lines: &'a [VarLine],
+fn check_lines(
+    mut variables: Variables,
+    params: &[Param],
+    lines: &[VarLine],
 ) -> Result<(), CheckFault>
     requires variables { AreVariables variables params.now }
     requires few { length params.now < MOST_VARIABLES }
     ensures { Passes result (vars_visits params.now lines.now) }
 {
-    let mut count = params.len() as u64;
+    let mut count = params.len();
     for line in lines {
         let double = variables.add_all(line.names.as_slice())?;
         if double {
@@ -43,7 +42,7 @@ fn check_lines<'a>(
                 line: line.line,
             });
         }
-        count += line.names.len() as u64;
+        count += line.names.len();
         if count >= MOST_VARIABLES {
             return Err(CheckFault::Bad {
                 kind: CheckKind::TooMany,
@@ -71,7 +70,7 @@ fn check_task_head(alloc: Global, double: bool, task: &TaskText) -> Result<(), C
             kind: CheckKind::WrongCount,
             line: task.line,
         })
-    } else if params.len() as u64 >= MOST_VARIABLES {
+    } else if params.len() >= MOST_VARIABLES {
         Err(CheckFault::Bad {
             kind: CheckKind::TooMany,
             line: task.line,
@@ -82,12 +81,12 @@ fn check_task_head(alloc: Global, double: bool, task: &TaskText) -> Result<(), C
 }
 
 /// Checks the heads of the tasks, after these names of heads.
-pub fn check_tasks<'a>(
+pub fn check_tasks(
     alloc: Global,
-    mut names: Table<'a, ()>,
-    tasks: &'a [TaskText],
+    mut names: SymbolTable<()>,
+    tasks: &[TaskText],
 ) -> Result<(), CheckFault>
-    ensures { (before : List PlainName) → HasNames names.entry before → Passes result (task_visits before (map plain_task tasks.now)) }
+    ensures { (before : List PlainName) → HasNames names before → Passes result (task_visits before (map plain_task tasks.now)) }
 {
     for task in tasks {
         let double = names.get(&task.name).is_some();

@@ -2,19 +2,19 @@
 ghost use Rattle.std.specs.Prelude.{◌≡◌, IfOk, List, [], ◌∷◌, ◌++◌, ◌||◌, is_some};
 ghost use Rattle.task_ast.specs.declared.tree.Param.{Param as PlainParam};
 ghost use Rattle.task_ast.specs.Names.{is_name, ret, declared_in};
-ghost use Rattle.lock_checker.specs.Tables.{found};
-ghost use Rattle.lock_checker.specs.TaskVariables.{AreVariables, Adds};
+ghost use Rattle.lock_checker.specs.inner.Tables.{found};
+ghost use Rattle.lock_checker.specs.inner.TaskVariables.{AreVariables, Adds};
 
-use crate::table::Table;
+use crate::symbol_table::SymbolTable;
 use gp_base::Name;
 use std::alloc::{AllocError, Global};
 use task_ast::{Param, TaskText};
 
 /// The control variables and the data variables of a task but `$ret`, by name.
 #[derive(Drop)]
-pub struct Variables<'a> {
-    pub controls: Table<'a, ()>,
-    pub datas: Table<'a, ()>,
+pub struct Variables {
+    pub controls: SymbolTable<()>,
+    pub datas: SymbolTable<()>,
 }
 
 /// Whether this is the name of the data variable that each task has.
@@ -24,13 +24,13 @@ pub fn is_ret(x: &Name) -> bool
     x.as_slice() == b"ret".as_slice()
 }
 
-impl<'a> Variables<'a> {
+impl Variables {
     pub fn new(alloc: Global) -> Self
         ensures { AreVariables result [] }
     {
         Variables {
-            controls: Table::new(alloc),
-            datas: Table::new(alloc),
+            controls: SymbolTable::new(alloc),
+            datas: SymbolTable::new(alloc),
         }
     }
 
@@ -42,7 +42,7 @@ impl<'a> Variables<'a> {
     }
 
     /// Adds a variable, and tells whether one of its name was there.
-    fn add(&mut self, x: &'a Param) -> Result<bool, AllocError>
+    fn add(&mut self, x: &Param) -> Result<bool, AllocError>
         ensures { IfOk result (λ double. (before : List PlainParam) → AreVariables self.old before → Adds self.new before (x.now ∷ []) double) }
     {
         match x {
@@ -60,7 +60,7 @@ impl<'a> Variables<'a> {
     }
 
     /// Adds variables, and tells whether the name of one of them was there before it.
-    pub fn add_all(&mut self, names: &'a [Param]) -> Result<bool, AllocError>
+    pub fn add_all(&mut self, names: &[Param]) -> Result<bool, AllocError>
         ensures { IfOk result (λ double. (before : List PlainParam) → AreVariables self.old before → Adds self.new before names.now double) }
     {
         let mut double = false;
@@ -74,7 +74,7 @@ impl<'a> Variables<'a> {
 }
 
 /// The variables of a task.
-pub fn variables_of<'a>(alloc: Global, task: &'a TaskText) -> Result<Variables<'a>, AllocError>
+pub fn variables_of(alloc: Global, task: &TaskText) -> Result<Variables, AllocError>
     ensures { IfOk result (λ variables. AreVariables variables (task.now.params ++ declared_in task.now.vars)) }
 {
     let mut variables = Variables::new(alloc);

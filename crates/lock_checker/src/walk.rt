@@ -1,55 +1,55 @@
 // The walk over a task's body with the pairs held.
-ghost use Rattle.std.specs.Prelude.{not, [], ◌∷◌};
+ghost use Rattle.std.specs.Prelude.{◌≡◌, List};
 ghost use Rattle.task_ast.specs.Check.{visits_of, visits_in};
-ghost use Rattle.task_ast.specs.Held.{held_after, held_at_end, same_pairs};
-ghost use Rattle.task_ast.specs.Visit.{visit, fails_if};
-ghost use Rattle.task_ast.specs.declared.check_kind.CheckKind.TheVariants.{BranchesDiffer};
+ghost use Rattle.task_ast.specs.Held.{Pair as PlainPair, held_after, held_at_end};
 ghost use Rattle.task_ast.specs.View.{plain_stmt, plain_block};
-ghost use Rattle.lock_checker.specs.Scopes.{scope_of, IsScope};
-ghost use Rattle.lock_checker.specs.Pairs.{pairs_of};
-ghost use Rattle.lock_checker.specs.Faults.{Checks, later_visits};
+ghost use Rattle.lock_checker.specs.inner.Scopes.{scope_of, IsScope};
+ghost use Rattle.lock_checker.specs.inner.Pairs.{pairs_in, HaveSame};
+ghost use Rattle.lock_checker.specs.inner.Faults.{Walks, WalksAside, later_visits};
 
+use crate::ends::{end_branches, end_choice, end_loop, no_changes};
 use crate::fault::CheckFault;
-use crate::held::{Pair, same_pairs, with, without};
+use crate::held::Pairs;
+use crate::pair::Pair;
 use crate::rules::rule_at;
 use crate::scope::Scope;
 use std::alloc::Global;
-use task_ast::{CheckKind, Stmt, What};
+use task_ast::{Stmt, What};
 
-/// Checks the statements of a block, from the pairs held before it to those held after it.
+/// Checks the statements of a block, from the pairs held before it to those held after it, and gives the changes.
 #[cycle(walk)]
 pub fn check_block<'a>(
     alloc: Global,
     scope: &Scope<'_, 'a>,
     block: &'a [Stmt],
-    before: &[Pair<'a>],
+    held: &mut Pairs<'a>,
 ) -> Result<Vec<Pair<'a>>, CheckFault>
     requires { IsScope scope.now }
-    ensures { Checks result (visits_in (scope_of scope.now) (plain_block block.now) (pairs_of before.now)) (held_at_end (plain_block block.now) (pairs_of before.now)) }
+    ensures { (before : List PlainPair) → HaveSame (pairs_in held.old) before → Walks result before (pairs_in held.new) (visits_in (scope_of scope.now) (plain_block block.now) before) (held_at_end (plain_block block.now) before) }
 {
-    let mut held = before.to_vec(alloc)?;
+    let mut changes = Vec::new(alloc);
     for s in block {
-        held = match check_statement(alloc, scope, s, held) {
-            Ok(held) => held,
+        match check_statement(alloc, scope, s, held) {
+            Ok(more) => changes.extend_from_slice(&more)?,
             Err(fault) => return Err(fault),
-        };
+        }
     }
-    Ok(held)
+    Ok(changes)
 }
 
-/// Checks a statement, from the pairs held before it to those held after it.
+/// Checks a statement, from the pairs held before it to those held after it, and gives the changes.
 #[cycle(walk)]
 #[tactic(auto, using(task_ast::proofs::Views::view, crate::proofs::VisitLemmas::first_told))]
 fn check_statement<'a>(
     alloc: Global,
     scope: &Scope<'_, 'a>,
     s: &'a Stmt,
-    held: Vec<Pair<'a>>,
+    held: &mut Pairs<'a>,
 ) -> Result<Vec<Pair<'a>>, CheckFault>
     requires { IsScope scope.now }
-    ensures { Checks result (visits_of (scope_of scope.now) (plain_stmt s.now) (pairs_of held.entry.items)) (held_after (plain_stmt s.now) (pairs_of held.entry.items)) }
+    ensures { Walks result (pairs_in held.old) (pairs_in held.new) (visits_of (scope_of scope.now) (plain_stmt s.now) (pairs_in held.old)) (held_after (plain_stmt s.now) (pairs_in held.old)) }
 {
-    match rule_at(scope, &s.what, &held) {
+    match rule_at(scope, &s.what, held) {
         Some(kind) => Err(CheckFault::Bad { kind, line: s.line }),
         None => check_inside(alloc, scope, s, held),
     }
@@ -62,62 +62,51 @@ fn check_inside<'a>(
     alloc: Global,
     scope: &Scope<'_, 'a>,
     s: &'a Stmt,
-    held: Vec<Pair<'a>>,
+    held: &mut Pairs<'a>,
 ) -> Result<Vec<Pair<'a>>, CheckFault>
     requires { IsScope scope.now }
-    ensures { Checks result (later_visits (scope_of scope.now) (plain_stmt s.now) (pairs_of held.entry.items)) (held_after (plain_stmt s.now) (pairs_of held.entry.items)) }
+    ensures { Walks result (pairs_in held.old) (pairs_in held.new) (later_visits (scope_of scope.now) (plain_stmt s.now) (pairs_in held.old)) (held_after (plain_stmt s.now) (pairs_in held.old)) }
 {
     match &s.what {
         What::While(_, body) => {
-            let end = match check_block(alloc, scope, body.as_slice(), &held) {
-                Ok(end) => end,
-                Err(fault) => return Err(fault),
-            };
-            match end_branches(s.line, end, &held) {
-                Ok(_) => Ok(held),
-                Err(fault) => Err(fault),
-            }
+            let body = check_aside(alloc, scope, body.as_slice(), held);
+            end_loop(alloc, s.line, body)
         }
-        What::If(_, first, second) => {
-            let end = match check_block(alloc, scope, first.as_slice(), &held) {
-                Ok(end) => end,
-                Err(fault) => return Err(fault),
-            };
-            let other = match check_block(alloc, scope, second.as_slice(), &held) {
-                Ok(other) => other,
-                Err(fault) => return Err(fault),
-            };
-            end_branches(s.line, end, &other)
-        }
-        What::When(_, first, second) => {
-            if let Err(fault) = check_block(alloc, scope, first.as_slice(), &held) {
-                return Err(fault);
+        What::If(_, first, second) => match check_aside(alloc, scope, first.as_slice(), held) {
+            Ok(other) => {
+                let second = check_block(alloc, scope, second.as_slice(), held);
+                end_branches(alloc, s.line, &other, second)
             }
-            if let Err(fault) = check_block(alloc, scope, second.as_slice(), &held) {
-                return Err(fault);
+            Err(fault) => Err(fault),
+        },
+        What::When(_, first, second) => match check_aside(alloc, scope, first.as_slice(), held) {
+            Ok(_first) => {
+                let second = check_aside(alloc, scope, second.as_slice(), held);
+                end_choice(second)
             }
-            Ok(held)
-        }
-        What::Lock(array, index) => Ok(with(held, Pair { array, index })?),
-        What::Unlock(array, index) => Ok(without(alloc, &held, &Pair { array, index })?),
-        _ => Ok(held),
+            Err(fault) => Err(fault),
+        },
+        What::Lock(array, index) => Ok(held.insert(alloc, Pair::new(array, index))?),
+        What::Unlock(array, index) => Ok(held.remove(alloc, Pair::new(array, index))?),
+        _ => Ok(no_changes(alloc)),
     }
 }
 
-/// The pairs at the end of the first branch, where the other ends with the same.
-fn end_branches<'a>(
-    line: u32,
-    end: Vec<Pair<'a>>,
-    other: &[Pair<'a>],
+/// Checks a block, goes back to the pairs held before it, and gives the changes that the block makes.
+#[cycle(walk)]
+fn check_aside<'a>(
+    alloc: Global,
+    scope: &Scope<'_, 'a>,
+    block: &'a [Stmt],
+    held: &mut Pairs<'a>,
 ) -> Result<Vec<Pair<'a>>, CheckFault>
-    ensures { Checks result (visit line (fails_if (not (same_pairs (pairs_of end.entry.items) (pairs_of other.now))) BranchesDiffer) ∷ []) (pairs_of end.entry.items) }
+    requires { IsScope scope.now }
+    ensures { (before : List PlainPair) → HaveSame (pairs_in held.old) before → WalksAside result before (pairs_in held.new) (visits_in (scope_of scope.now) (plain_block block.now) before) (held_at_end (plain_block block.now) before) }
 {
-    if same_pairs(&end, other) {
-        Ok(end)
-    } else {
-        Err(CheckFault::Bad {
-            kind: CheckKind::BranchesDiffer,
-            line,
-        })
-    }
+    let changes = match check_block(alloc, scope, block, held) {
+        Ok(changes) => changes,
+        Err(fault) => return Err(fault),
+    };
+    held.flip_all(&changes)?;
+    Ok(changes)
 }

@@ -1,7 +1,7 @@
 use Rattle.std.proofs.Common.{◌≡◌, drop}
 use Rattle.task_ast.specs.View.{plain_links}
 use Rattle.task_ast.specs.Declarations.{have_unknown}
-use Rattle.lock_checker.specs.Scopes.{scope_of}
+use Rattle.lock_checker.specs.inner.Scopes.{scope_of}
 use Rattle.lock_checker.proofs.expressions.+unknown.Given as goal
 
 abbrev pub invariant-have_unknown-loop-link : goal.invariant-have_unknown-loop-link

@@ -1,10 +1,11 @@
 use Rattle.std.proofs.Common.{◌≡◌, ◌+◌, ◌<◌, ◌≤◌, ◌∙◌, ap, sym, subst, length, get_or, take, drop, rules}
+use Rattle.gp_base.specs.declared.limits.TheConstants.{MOST_CELLS}
 use Rattle.std.specs.Prelude.{Some, None}
 use Rattle.task_ast.specs.Declarations.{head_visit, head_visits}
 use Rattle.task_ast.specs.View.{plain_program}
 use Rattle.task_ast.specs.Visit.{first_fault}
-use Rattle.lock_checker.specs.Heads.{AreHeads}
-use Rattle.lock_checker.specs.Faults.{lowest}
+use Rattle.lock_checker.specs.inner.Heads.{AreHeads}
+use Rattle.lock_checker.specs.inner.Faults.{lowest}
 use Rattle.lock_checker.proofs.HeadLemmas.{heads_more, heads_later, head_told, locks_kept, records_kept}
 use Rattle.lock_checker.proofs.program.check_heads.Goals as goal
 
@@ -29,8 +30,8 @@ loop-head-preserved c =
     let are = c.in_ok-add.ensures before c.loop-head.invariant.heads in
     record {
       heads = subst (AreHeads c.add.new.self) (sym more) are;
-      locks = locks_kept program before head none c.add.new.self are (subst (λ n. n ≤ 65536) c.loop-head.invariant.heads.lock_cells c.loop-head.invariant.locks);
-      records = records_kept program before head none c.add.new.self are (subst (λ n. n ≤ 65536) c.loop-head.invariant.heads.record_cells c.loop-head.invariant.records);
+      locks = locks_kept program before head none c.add.new.self are (subst (λ n. n ≤ MOST_CELLS) c.loop-head.invariant.heads.lock_cells c.loop-head.invariant.locks);
+      records = records_kept program before head none c.add.new.self are (subst (λ n. n ≤ MOST_CELLS) c.loop-head.invariant.heads.record_cells c.loop-head.invariant.records);
       told = ap (λ l. first_fault (head_visits program l (drop (c.loop-head.head-index + 1) heads))) more
           ∙ heads_later program heads c.loop-head.head-index head within is before none
           ∙ c.loop-head.invariant.told;

@@ -4,8 +4,8 @@ use Rattle.task_ast.specs.Names.{is_among}
 use Rattle.task_ast.specs.Declarations.{task_visits}
 use Rattle.task_ast.specs.View.{plain_task}
 use Rattle.task_ast.specs.Visit.{first_fault}
-use Rattle.lock_checker.specs.Heads.{HasNames}
-use Rattle.lock_checker.specs.TaskNames.{names_of}
+use Rattle.lock_checker.specs.inner.Heads.{HasNames}
+use Rattle.lock_checker.specs.inner.TaskNames.{names_of}
 use Rattle.lock_checker.proofs.HeadLemmas.{names_with}
 use Rattle.lock_checker.proofs.TaskLemmas.{names_more, tasks_later, task_told}
 use Rattle.lock_checker.proofs.tasks.check_tasks.Goals as goal

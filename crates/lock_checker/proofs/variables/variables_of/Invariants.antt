@@ -1,6 +1,6 @@
 use Rattle.std.proofs.Common.{◌++◌, take}
 use Rattle.task_ast.specs.Names.{declared_in}
-use Rattle.lock_checker.specs.TaskVariables.{AreVariables}
+use Rattle.lock_checker.specs.inner.TaskVariables.{AreVariables}
 use Rattle.lock_checker.proofs.variables.variables_of.Given as goal
 
 abbrev pub invariant-loop-line : goal.invariant-loop-line

@@ -3,13 +3,14 @@ use Rattle.task_ast.specs.Visit.{first_fault}
 use Rattle.task_ast.specs.Check.{visits_in}
 use Rattle.task_ast.specs.Held.{held_at_end}
 use Rattle.task_ast.specs.View.{plain_block}
-use Rattle.lock_checker.specs.Scopes.{scope_of}
-use Rattle.lock_checker.specs.Pairs.{pairs_of}
+use Rattle.lock_checker.specs.inner.Scopes.{scope_of}
+use Rattle.lock_checker.specs.inner.Pairs.{pairs_of, pairs_in, Leads, HaveSame}
 use Rattle.lock_checker.proofs.walk.+walk.Given as goal
 
 -- what is left of the block tells the rest
 abbrev pub invariant-check_block-loop-s : goal.invariant-check_block-loop-s
 invariant-check_block-loop-s l = record {
-  told : first_fault (visits_in (scope_of l.scope) (plain_block (drop l.s-index l.block)) (pairs_of l.held.items)) ≡ first_fault (visits_in (scope_of l.scope) (plain_block l.block) (pairs_of l.before));
-  held : held_at_end (plain_block (drop l.s-index l.block)) (pairs_of l.held.items) ≡ held_at_end (plain_block l.block) (pairs_of l.before);
+  told : first_fault (visits_in (scope_of l.scope) (plain_block (drop l.s-index l.block)) (pairs_in l.held)) ≡ first_fault (visits_in (scope_of l.scope) (plain_block l.block) (pairs_in l.initial.held));
+  leads : Leads (pairs_in l.initial.held) (pairs_of l.changes.items) (pairs_in l.held);
+  ends : HaveSame (held_at_end (plain_block (drop l.s-index l.block)) (pairs_in l.held)) (held_at_end (plain_block l.block) (pairs_in l.initial.held));
 }

@@ -2,7 +2,7 @@ use Rattle.std.proofs.Common.{◌≡◌, List, ◌++◌, take, drop}
 use Rattle.std.specs.Prelude.{◌||◌}
 use Rattle.task_ast.specs.declared.tree.Param.{Param}
 use Rattle.task_ast.specs.Declarations.{has_double}
-use Rattle.lock_checker.specs.TaskVariables.{AreVariables}
+use Rattle.lock_checker.specs.inner.TaskVariables.{AreVariables}
 use Rattle.lock_checker.proofs.variables.Variables.add_all.Given as goal
 
 -- a double among the names so far or among those left is a double among all

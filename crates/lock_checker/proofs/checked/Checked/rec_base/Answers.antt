@@ -1,7 +1,0 @@
-use Rattle.std.proofs.Common.{zero-add}
-use Rattle.task_ast.specs.View.{plain_program}
-use Rattle.lock_checker.proofs.BaseLemmas.{accepted_small, option_map-zero}
-use Rattle.lock_checker.proofs.checked.Checked.rec_base.Goals as goal
-
-pub loop-head-init : goal.loop-head-init
-loop-head-init c = record { found = option_map-zero _; cells = zero-add _; small = (accepted_small (plain_program c.args.self.now.program) c.args.self.now.accepted.faultless).1 }

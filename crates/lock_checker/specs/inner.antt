@@ -1,0 +1,9 @@
+pub mod Faults
+pub mod Heads
+pub mod Indexes
+pub mod Pairs
+pub mod Positions
+pub mod Scopes
+pub mod Tables
+pub mod TaskNames
+pub mod TaskVariables

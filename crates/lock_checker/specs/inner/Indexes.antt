@@ -1,0 +1,21 @@
+-- The index of a program.
+use Rattle.std.specs.Prelude.{◌≡◌, option_map, is_some}
+use Rattle.std.specs.Borrow.{Bor}
+use Rattle.task_ast.specs.declared.tree.Program.{Program}
+use Rattle.task_ast.specs.Tree as plain
+use Rattle.task_ast.specs.Names.{is_among, named, locks_of, arrays_over, barriers_of, feeds_of, task_named}
+use Rattle.task_ast.specs.View.{plain_task, plain_program}
+use Rattle.lock_checker.specs.declared.index.Index.{Index}
+use Rattle.lock_checker.specs.inner.Tables.{found}
+
+-- what a reference to a name points to
+abbrev pub target : Bor plain.Name → plain.Name
+target r = r.now
+
+-- each table of the index finds what the program declares
+pub record IsIndexOf (index : Index) (program : Program) : Type 0 where
+  pub locks : (x : plain.Name) → found index.locks x ≡ named x (locks_of program.heads)
+  pub arrays : (x : plain.Name) → option_map target (found index.arrays x) ≡ named x (arrays_over program.heads)
+  pub barriers : (x : plain.Name) → is_some (found index.barriers x) ≡ is_some (named x (barriers_of program.heads))
+  pub feeds : (x : plain.Name) → is_some (found index.feeds x) ≡ is_among x (feeds_of program.heads)
+  pub tasks : (x : plain.Name) → option_map (λ task. plain_task task.now) (found index.tasks x) ≡ task_named (plain_program program) x
