@@ -8,30 +8,31 @@ use Rattle.std.proofs.lemmas.Bool.{false≢true, eqb-true, eq-eqb, leb-true, le-
 use Rattle.std.proofs.lemmas.Bool.Decides.{Decides-eqb, Decides-ltb, Decides-like, Decides-not, Decides-and, Decides-or, Decides-below_and}
 use Rattle.std.proofs.lemmas.List.Folds.{Any-from_list_any, list_any-from_Any}
 use Rattle.std.proofs.lemmas.Map.Views.{Contains-from_any, list_any-from_Contains}
+use Rattle.gp_base.specs.declared.limits.TheConstants.{LONGEST_DELAY}
 use Rattle.gp_base.specs.declared.fault.Fault.{Fault}
 use Rattle.gp_base.specs.declared.journal.Event.{Event}
 use Rattle.gp_base.specs.declared.journal.Event.TheVariants as event
-use Rattle.dependence.specs.Restarts.{Order, Progress, drains, attempt_of, begun_of, is_live, is_due, least_struck, struck_next, IsFinal}
-use Rattle.dependence.specs.Journal.{Stage, opening, longest_delay, Drained, MayFollow, Allowed, happens, LawfulFrom, Lawful, stage, Complete}
-use Rattle.dependence.specs.JournalTests.{same_pair, all_below, is_drained, may_follow, is_allowed, is_lawful_from, is_lawful, is_final, is_complete}
+use Rattle.dependence.specs.Restarts.{Dependence, Progress, drains, attempt_of, begun_of, is_live, is_due, least_struck, struck_next, IsFinal}
+use Rattle.dependence.specs.Journal.{Stage, initial_stage, Drained, MayFollow, Allowed, happens, LawfulFrom, Lawful, stage, Complete}
+use Rattle.dependence.specs.JournalTests.{same_attempt, all_below, is_drained, may_follow, is_allowed, is_lawful_from, is_lawful, is_final, is_complete}
 
-same_pair-decides : (pair other : ℕ × ℕ) → Decides (same_pair pair other) (pair ≡ other)
-same_pair-decides pair other = (
+pub same_attempt-decides : (pair other : ℕ × ℕ) → Decides (same_attempt pair other) (pair ≡ other)
+same_attempt-decides pair other = (
   λ e.
       (let both = and_parts (nat_eq pair.0 other.0) (nat_eq pair.1 other.1) e in
       let first = eqb-true pair.0 other.0 both.0 in
       let second = eqb-true pair.1 other.1 both.1 in
       λ i. (first i, second i)),
-  λ e. subst (λ x. same_pair pair x ≡ true) e (same pair),
+  λ e. subst (λ x. same_attempt pair x ≡ true) e (same pair),
 )
   where
-    same : (x : ℕ × ℕ) → same_pair x x ≡ true
+    same : (x : ℕ × ℕ) → same_attempt x x ≡ true
     same x = rw (eq-eqb x.0 x.0 refl, eq-eqb x.1 x.1 refl) refl
 
-contains-decides : (pair : ℕ × ℕ) (pairs : List (ℕ × ℕ)) → Decides (list_any (same_pair pair) pairs) (Contains pairs pair)
+pub contains-decides : (pair : ℕ × ℕ) (pairs : List (ℕ × ℕ)) → Decides (list_any (same_attempt pair) pairs) (Contains pairs pair)
 contains-decides pair pairs = (
-  Contains-from_any (λ x y. (same_pair-decides x y).0) pair pairs,
-  list_any-from_Contains (decided same_pair same_pair-decides) pair pairs,
+  Contains-from_any (λ x y. (same_attempt-decides x y).0) pair pairs,
+  list_any-from_Contains (decided same_attempt same_attempt-decides) pair pairs,
 )
 
 none-decides : (o : Option ℕ) → Decides (is_none o) (o ≡ None)
@@ -59,18 +60,18 @@ follow-decides at (Some earlier) = (
   λ h. list_any-from_Any (λ pair. nat_eq earlier pair.0) at.taken (h.1.0, (earlier, h.0), h.1.1, h.1.2, eq-eqb earlier earlier refl),
 )
 
-module _ (order : Order) (faults : List Fault) where
-  drained-decides : (at : Progress) → Decides (is_drained order faults at) (Drained order faults at)
-  drained-decides at = Decides-and _ _ (true-decides (drains order at.front)) (none-decides (least_struck (is_live at) faults))
+module _ (dependence : Dependence) (faults : List Fault) where
+  drained-decides : (at : Progress) → Decides (is_drained dependence faults at) (Drained dependence faults at)
+  drained-decides at = Decides-and _ _ (true-decides (drains dependence at.front)) (none-decides (least_struck (is_live at) faults))
 
-  pub allowed-decides : (at : Stage) (event : Event) → Decides (is_allowed order faults at event) (Allowed order faults at event)
+  pub allowed-decides : (at : Stage) (event : Event) → Decides (is_allowed dependence faults at event) (Allowed dependence faults at event)
   allowed-decides at (event.Issue p) =
       Decides-like _
       (λ h. record { next = h.0; left = h.1.0; none_due = h.1.1.0; follows = h.1.1.1 })
       (λ may. (may.next, (may.left, (may.none_due, may.follows))))
       (Decides-and _ _ (Decides-eqb p at.progress.front)
-      (Decides-and _ _ (Decides-ltb p order.count)
-      (Decides-and _ _ (none-decides (least_struck (is_due at.progress) faults)) (follow-decides at (order.before p)))))
+      (Decides-and _ _ (Decides-ltb p dependence.count)
+      (Decides-and _ _ (none-decides (least_struck (is_due at.progress) faults)) (follow-decides at (dependence.before p)))))
   allowed-decides at (event.Post p attempt) =
       Decides-like _
       (λ h. record { issued = h.0; unretired = h.1.0; present = h.1.1.0; unposted = h.1.1.1.0; ready = h.1.1.1.1 })
@@ -81,12 +82,12 @@ module _ (order : Order) (faults : List Fault) where
       (Decides-and _ _ (Decides-not _ (contains-decides (p, attempt) at.posted)) ready))))
     where
       passes : ℕ → Bool
-      passes earlier = not (order.clash earlier p) || at.applied earlier
+      passes earlier = not (dependence.clash earlier p) || at.applied earlier
 
-      ready : Decides (all_below passes p) ((earlier : ℕ) → earlier < p → order.clash earlier p ≡ true → at.applied earlier ≡ true)
+      ready : Decides (all_below passes p) ((earlier : ℕ) → earlier < p → dependence.clash earlier p ≡ true → at.applied earlier ≡ true)
       ready =
-          Decides-below_and passes (λ earlier. order.clash earlier p ≡ true → at.applied earlier ≡ true) (all_below passes)
-          (λ earlier. implies-decides (order.clash earlier p) (at.applied earlier)) refl (λ _. refl) p
+          Decides-below_and passes (λ earlier. dependence.clash earlier p ≡ true → at.applied earlier ≡ true) (all_below passes)
+          (λ earlier. implies-decides (dependence.clash earlier p) (at.applied earlier)) refl (λ _. refl) p
   allowed-decides at (event.Take p attempt applies) =
       Decides-like _
       (λ h. record { posted = h.0; untaken = h.1.0; decided = h.1.1 })
@@ -97,7 +98,7 @@ module _ (order : Order) (faults : List Fault) where
       Decides-like _
       (λ h. record { numbered = h.0; some_struck = h.1 })
       (λ may. (may.numbered, may.some_struck))
-      (Decides-and _ _ (Decides-eqb number (length at.progress.made)) (Decides-not _ (none-decides (struck_next order faults at.progress))))
+      (Decides-and _ _ (Decides-eqb number (length at.progress.made)) (Decides-not _ (none-decides (struck_next dependence faults at.progress))))
   allowed-decides at (event.Retire p) =
       Decides-like _
       (λ h. record { oldest = h.0; issued = h.1.0; applied = h.1.1.0; none_due = h.1.1.1.0; safe = h.1.1.1.1 })
@@ -106,26 +107,26 @@ module _ (order : Order) (faults : List Fault) where
       (Decides-and _ _ (Decides-ltb p at.progress.front)
       (Decides-and _ _ (true-decides (at.applied p))
       (Decides-and _ _ (none-decides (least_struck (is_due at.progress) faults))
-      (Decides-or _ _ (le-decides (begun_of at.progress.made p + longest_delay) at.progress.front) (drained-decides at.progress))))))
+      (Decides-or _ _ (le-decides (begun_of at.progress.made p + LONGEST_DELAY) at.progress.front) (drained-decides at.progress))))))
 
-  lawful_from-decides : (at : Stage) (events : List Event) → Decides (is_lawful_from order faults at events) (LawfulFrom order faults at events)
+  lawful_from-decides : (at : Stage) (events : List Event) → Decides (is_lawful_from dependence faults at events) (LawfulFrom dependence faults at events)
   lawful_from-decides at [] = (λ _. tt, λ _. refl)
-  lawful_from-decides at (event ∷ rest) = Decides-and _ _ (allowed-decides at event) (lawful_from-decides (happens order faults at event) rest)
+  lawful_from-decides at (event ∷ rest) = Decides-and _ _ (allowed-decides at event) (lawful_from-decides (happens dependence faults at event) rest)
 
-  pub lawful-decides : (events : List Event) → Decides (is_lawful order faults events) (Lawful order faults events)
-  lawful-decides events = lawful_from-decides opening events
+  pub lawful-decides : (events : List Event) → Decides (is_lawful dependence faults events) (Lawful dependence faults events)
+  lawful-decides events = lawful_from-decides initial_stage events
 
-  final-decides : (at : Progress) → Decides (is_final order faults at) (IsFinal order faults at)
+  final-decides : (at : Progress) → Decides (is_final dependence faults at) (IsFinal dependence faults at)
   final-decides at =
       Decides-like _
       (λ h. record { passed = h.0; none_left = h.1 })
       (λ final. (final.passed, final.none_left))
-      (Decides-and _ _ (Decides-eqb at.front order.count) (none-decides (struck_next order faults at)))
+      (Decides-and _ _ (Decides-eqb at.front dependence.count) (none-decides (struck_next dependence faults at)))
 
-  pub complete-decides : (events : List Event) → Decides (is_complete order faults events) (Complete order faults events)
+  pub complete-decides : (events : List Event) → Decides (is_complete dependence faults events) (Complete dependence faults events)
   complete-decides events =
       Decides-like _
       (λ h. record { lawful = h.0; final = h.1.0; retired = h.1.1 })
       (λ complete. (complete.lawful, (complete.final, complete.retired)))
       (Decides-and _ _ (lawful-decides events)
-      (Decides-and _ _ (final-decides (stage order faults events).progress) (Decides-eqb (stage order faults events).retired order.count)))
+      (Decides-and _ _ (final-decides (stage dependence faults events).progress) (Decides-eqb (stage dependence faults events).retired dependence.count)))

@@ -9,21 +9,21 @@ use Rattle.task_ast.specs.Repeat.{steps, repeated, until_done}
 use Rattle.task_ast.specs.Plain.{order}
 use Rattle.task_ast.proofs.RowPrograms.{empty_batch, two_adders}
 use Rattle.task_ast.proofs.RunRows.{zeros, limits}
-use Rattle.dependence.specs.Restarts.{Order}
+use Rattle.dependence.specs.Restarts.{Dependence}
 use Rattle.dependence.specs.Journal.{Lawful, Complete}
-use Rattle.dependence.specs.Runs.{order_of}
+use Rattle.dependence.specs.Runs.{dependence_of}
 use Rattle.dependence.proofs.Auditing.{lawful-decides, complete-decides}
 
-abbrev empty_order : Order
-empty_order = order_of (order empty_batch (zeros 0) (limits 10 20))
+abbrev empty_dependence : Dependence
+empty_dependence = dependence_of (order empty_batch (zeros 0) (limits 10 20))
 
-empty_journal : Complete empty_order [] (Issue 0 ∷ Post 0 0 ∷ Take 0 0 true ∷ Retire 0 ∷ [])
+empty_journal : Complete empty_dependence [] (Issue 0 ∷ Post 0 0 ∷ Take 0 0 true ∷ Retire 0 ∷ [])
 unfolding steps body stretch until_done repeated
-empty_journal = (complete-decides empty_order [] (Issue 0 ∷ Post 0 0 ∷ Take 0 0 true ∷ Retire 0 ∷ [])).0 refl
+empty_journal = (complete-decides empty_dependence [] (Issue 0 ∷ Post 0 0 ∷ Take 0 0 true ∷ Retire 0 ∷ [])).0 refl
 
 -- two threads that add to one record; a fault on position 4 is due at front 8
-abbrev adders : Order
-adders = order_of (order two_adders (zeros 1) (limits 1000 20))
+abbrev adders : Dependence
+adders = dependence_of (order two_adders (zeros 1) (limits 1000 20))
 
 abbrev faults : List Fault
 faults = record { pos = 4; attempt = 0; delay = 3; mask = pos 1 } ∷ []

@@ -3,7 +3,7 @@ use Rattle.std.proofs.Common.{◌≡◌, ◌↔◌, inr, inl, ℕ, ◌<◌, ◌�
 use Rattle.std.proofs.lemmas.Bool.{false≢true}
 use Rattle.std.proofs.lemmas.List.{get_or_default}
 use Rattle.gp_base.specs.declared.footprint.Footprint.{Footprint}
-use Rattle.dependence.specs.Conflict.{Conflict, nowhere, ClashIn}
+use Rattle.dependence.specs.Conflict.{Conflict, idle_foot, ClashIn}
 use Rattle.dependence.specs.Dependents.{IsDependent, itself, later, IsReached}
 use Rattle.dependence.proofs.DependentSets.{IsDependent-from, IsDependent-inverted}
 
@@ -47,6 +47,6 @@ both_moved R {x = x} {y' = y'} e f h = subst (λ a. R a y') e (subst (λ b. R x 
 pub ClashIn-read : (feet : List Footprint) (p q : ℕ) (x y : Footprint) → p < length feet → q < length feet → x ≡ get_or feet p x → y ≡ get_or feet q y
     → Conflict x y ↔ ClashIn feet p q
 ClashIn-read feet p q x y l m e f = (
-  both_moved Conflict (e ∙ get_or_default feet p x nowhere l) (f ∙ get_or_default feet q y nowhere m),
-  both_moved Conflict (sym (e ∙ get_or_default feet p x nowhere l)) (sym (f ∙ get_or_default feet q y nowhere m)),
+  both_moved Conflict (e ∙ get_or_default feet p x idle_foot l) (f ∙ get_or_default feet q y idle_foot m),
+  both_moved Conflict (sym (e ∙ get_or_default feet p x idle_foot l)) (sym (f ∙ get_or_default feet q y idle_foot m)),
 )

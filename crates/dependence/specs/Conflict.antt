@@ -1,9 +1,11 @@
 -- When two footprints are in conflict (Bernstein's conditions).
-use Rattle.std.specs.Prelude.{◌⊎◌, ℕ, Bool, false, ◌||◌, List, [], Contains, nat_eq}
+use Rattle.std.specs.Prelude.{◌⊎◌, ℕ, Bool, false, ◌||◌, List, [], Contains, None, nat_eq}
 use Rattle.std.specs.List.{list_any, slice_index_or}
 use Rattle.gp_base.specs.declared.footprint.Loc.{Loc}
 use Rattle.gp_base.specs.declared.footprint.Loc.TheVariants.{Regs, Lock, Rec}
 use Rattle.gp_base.specs.declared.footprint.Footprint.{Footprint}
+use Rattle.task_ast.specs.declared.sync.SyncOp.TheVariants as sync
+use Rattle.task_ast.specs.Footprint.{footprint}
 
 -- one location stands in both lists
 abbrev pub Shared : List Loc → List Loc → Type 0
@@ -29,17 +31,21 @@ abbrev pub conflicting : Footprint → Footprint → Bool
 conflicting first second =
     shares first.writes second.writes || (shares first.writes second.reads || shares first.reads second.writes)
 
--- the footprint of no location
-abbrev pub nowhere : Footprint
-nowhere = record { reads = []; writes = [] }
+-- the footprint of a subthread that does nothing; such a one stands at each position past the end of a run
+abbrev pub idle_foot : Footprint
+idle_foot = footprint 0 sync.End None []
 
--- the footprint at a place of the list; nothing stands past its end
+-- the footprint at a position, from those of a run
 abbrev pub foot_at : List Footprint → ℕ → Footprint
-foot_at feet p = slice_index_or feet p nowhere
+foot_at feet p = slice_index_or feet p idle_foot
 
--- the footprints at two places of the list are in conflict
+-- the footprints of two positions are in conflict
+abbrev pub InConflict : (ℕ → Footprint) → ℕ → ℕ → Type 0
+InConflict feet p q = Conflict (feet p) (feet q)
+
+-- so are those of two positions of a run
 abbrev pub ClashIn : List Footprint → ℕ → ℕ → Type 0
-ClashIn feet p q = Conflict (foot_at feet p) (foot_at feet q)
+ClashIn feet = InConflict (foot_at feet)
 
 -- `ClashIn` as a test
 abbrev pub clash_in : List Footprint → ℕ → ℕ → Bool

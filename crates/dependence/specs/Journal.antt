@@ -1,10 +1,11 @@
 -- Which lists of events are lawful: subthreads begin in order, run out of order and retire in order (Smith and Pleszkun's reorder buffer).
 use Rattle.std.specs.Prelude.{◌≡◌, ◌≢◌, ◌⊎◌, ℕ, ◌+◌, ◌≤◌, ◌<◌, Bool, true, false, cond, nat_eq, ◌&&◌, ◌||◌, ⊤, List, [], ◌∷◌, ◌++◌, length, Contains, Option, Some, None}
+use Rattle.gp_base.specs.declared.limits.TheConstants.{LONGEST_DELAY}
 use Rattle.gp_base.specs.declared.fault.Fault.{Fault}
 use Rattle.gp_base.specs.declared.journal.Event.{Event}
 use Rattle.gp_base.specs.declared.journal.Event.TheVariants as event
 use Rattle.dependence.specs.Dependents.{is_member}
-use Rattle.dependence.specs.Restarts.{Order, Progress, drains, attempt_of, begun_of, NoneDue, NoneLive, struck_next, restart_of, IsFinal}
+use Rattle.dependence.specs.Restarts.{Dependence, Progress, drains, attempt_of, begun_of, NoneDue, NoneLive, struck_next, restart_of, IsFinal}
 
 -- what the events so far leave
 pub record Stage : Type 0 where
@@ -19,16 +20,12 @@ pub record Stage : Type 0 where
   pub retired : ℕ
 
 -- no event has happened
-abbrev pub opening : Stage
-opening = record { progress = record { front = 0; made = [] }; posted = []; taken = []; applied = λ p. false; retired = 0 }
-
--- the longest delay of a fault: once an attempt began so many fronts ago, no fault on it is still to come
-abbrev pub longest_delay : ℕ
-longest_delay = 64
+abbrev pub initial_stage : Stage
+initial_stage = record { progress = record { front = 0; made = [] }; posted = []; taken = []; applied = λ p. false; retired = 0 }
 
 -- the front drains and no fault is live
-abbrev pub Drained : Order → List Fault → Progress → Type 0
-Drained order faults at = (drains order at.front ≡ true) × NoneLive faults at
+abbrev pub Drained : Dependence → List Fault → Progress → Type 0
+Drained dependence faults at = (drains dependence at.front ≡ true) × NoneLive faults at
 
 -- some attempt of the position was taken
 abbrev pub WasTaken : Stage → ℕ → Type 0
@@ -40,19 +37,19 @@ MayFollow at None = ⊤
 MayFollow at (Some earlier) = WasTaken at earlier
 
 -- p may be issued
-pub record MayIssue (order : Order) (faults : List Fault) (at : Stage) (p : ℕ) : Type 0 where
+pub record MayIssue (dependence : Dependence) (faults : List Fault) (at : Stage) (p : ℕ) : Type 0 where
   pub next : p ≡ at.progress.front
-  pub left : p < order.count
+  pub left : p < dependence.count
   pub none_due : NoneDue faults at.progress
-  pub follows : MayFollow at (order.before p)
+  pub follows : MayFollow at (dependence.before p)
 
 -- an attempt of p may be posted
-pub record MayPost (order : Order) (at : Stage) (p attempt : ℕ) : Type 0 where
+pub record MayPost (dependence : Dependence) (at : Stage) (p attempt : ℕ) : Type 0 where
   pub issued : p < at.progress.front
   pub unretired : at.retired ≤ p
   pub present : attempt ≡ attempt_of at.progress.made p
   pub unposted : ¬ Contains at.posted (p, attempt)
-  pub ready : (earlier : ℕ) → earlier < p → order.clash earlier p ≡ true → at.applied earlier ≡ true
+  pub ready : (earlier : ℕ) → earlier < p → dependence.clash earlier p ≡ true → at.applied earlier ≡ true
 
 -- the result of an attempt of p may be taken; it is applied exactly where the attempt is the present one
 pub record MayTake (at : Stage) (p attempt : ℕ) (applies : Bool) : Type 0 where
@@ -61,63 +58,63 @@ pub record MayTake (at : Stage) (p attempt : ℕ) (applies : Bool) : Type 0 wher
   pub decided : applies ≡ nat_eq attempt (attempt_of at.progress.made p)
 
 -- the restart of this number, from 0, may be made
-pub record MayRestart (order : Order) (faults : List Fault) (at : Stage) (number : ℕ) : Type 0 where
+pub record MayRestart (dependence : Dependence) (faults : List Fault) (at : Stage) (number : ℕ) : Type 0 where
   pub numbered : number ≡ length at.progress.made
-  pub some_struck : struck_next order faults at.progress ≢ None
+  pub some_struck : struck_next dependence faults at.progress ≢ None
 
 -- p may retire
-pub record MayRetire (order : Order) (faults : List Fault) (at : Stage) (p : ℕ) : Type 0 where
+pub record MayRetire (dependence : Dependence) (faults : List Fault) (at : Stage) (p : ℕ) : Type 0 where
   pub oldest : p ≡ at.retired
   pub issued : p < at.progress.front
   pub applied : at.applied p ≡ true
   pub none_due : NoneDue faults at.progress
-  pub safe : (begun_of at.progress.made p + longest_delay ≤ at.progress.front) ⊎ Drained order faults at.progress
+  pub safe : (begun_of at.progress.made p + LONGEST_DELAY ≤ at.progress.front) ⊎ Drained dependence faults at.progress
 
 -- the event may come next
-abbrev pub Allowed : Order → List Fault → Stage → Event → Type 0
-Allowed order faults at (event.Issue p) = MayIssue order faults at p
-Allowed order faults at (event.Post p attempt) = MayPost order at p attempt
-Allowed order faults at (event.Take p attempt applies) = MayTake at p attempt applies
-Allowed order faults at (event.Restart number) = MayRestart order faults at number
-Allowed order faults at (event.Retire p) = MayRetire order faults at p
+abbrev pub Allowed : Dependence → List Fault → Stage → Event → Type 0
+Allowed dependence faults at (event.Issue p) = MayIssue dependence faults at p
+Allowed dependence faults at (event.Post p attempt) = MayPost dependence at p attempt
+Allowed dependence faults at (event.Take p attempt applies) = MayTake at p attempt applies
+Allowed dependence faults at (event.Restart number) = MayRestart dependence faults at number
+Allowed dependence faults at (event.Retire p) = MayRetire dependence faults at p
 
 -- the stage after a restart of the position that is struck
-abbrev pub restarted : Order → Stage → Option ℕ → Stage
-restarted order at None = at
-restarted order at (Some p) =
-    let restart = restart_of order at.progress p in
+abbrev pub restarted : Dependence → Stage → Option ℕ → Stage
+restarted dependence at None = at
+restarted dependence at (Some p) =
+    let restart = restart_of dependence at.progress p in
     record at {
       progress = record { front = at.progress.front; made = at.progress.made ++ restart ∷ [] };
       applied = λ q. cond (is_member q restart.redo) false (at.applied q);
     }
 
 -- the stage after the event
-abbrev pub happens : Order → List Fault → Stage → Event → Stage
-happens order faults at (event.Issue p) = record at { progress = record { front = at.progress.front + 1; made = at.progress.made } }
-happens order faults at (event.Post p attempt) = record at { posted = at.posted ++ (p, attempt) ∷ [] }
-happens order faults at (event.Take p attempt applies) =
+abbrev pub happens : Dependence → List Fault → Stage → Event → Stage
+happens dependence faults at (event.Issue p) = record at { progress = record { front = at.progress.front + 1; made = at.progress.made } }
+happens dependence faults at (event.Post p attempt) = record at { posted = at.posted ++ (p, attempt) ∷ [] }
+happens dependence faults at (event.Take p attempt applies) =
     record at { taken = at.taken ++ (p, attempt) ∷ []; applied = λ q. (applies && nat_eq q p) || at.applied q }
-happens order faults at (event.Restart number) = restarted order at (struck_next order faults at.progress)
-happens order faults at (event.Retire p) = record at { retired = p + 1 }
+happens dependence faults at (event.Restart number) = restarted dependence at (struck_next dependence faults at.progress)
+happens dependence faults at (event.Retire p) = record at { retired = p + 1 }
 
 -- each event is allowed after those before it
-abbrev pub LawfulFrom : Order → List Fault → Stage → List Event → Type 0
-LawfulFrom order faults at [] = ⊤
-LawfulFrom order faults at (event ∷ rest) = Allowed order faults at event × LawfulFrom order faults (happens order faults at event) rest
+abbrev pub LawfulFrom : Dependence → List Fault → Stage → List Event → Type 0
+LawfulFrom dependence faults at [] = ⊤
+LawfulFrom dependence faults at (event ∷ rest) = Allowed dependence faults at event × LawfulFrom dependence faults (happens dependence faults at event) rest
 
-abbrev pub Lawful : Order → List Fault → List Event → Type 0
-Lawful order faults events = LawfulFrom order faults opening events
+abbrev pub Lawful : Dependence → List Fault → List Event → Type 0
+Lawful dependence faults events = LawfulFrom dependence faults initial_stage events
 
 -- the stage after the events
-abbrev pub stage_from : Order → List Fault → Stage → List Event → Stage
-stage_from order faults at [] = at
-stage_from order faults at (event ∷ rest) = stage_from order faults (happens order faults at event) rest
+abbrev pub stage_from : Dependence → List Fault → Stage → List Event → Stage
+stage_from dependence faults at [] = at
+stage_from dependence faults at (event ∷ rest) = stage_from dependence faults (happens dependence faults at event) rest
 
-abbrev pub stage : Order → List Fault → List Event → Stage
-stage order faults events = stage_from order faults opening events
+abbrev pub stage : Dependence → List Fault → List Event → Stage
+stage dependence faults events = stage_from dependence faults initial_stage events
 
 -- all was issued, no fault is left to take, and all has retired
-pub record Complete (order : Order) (faults : List Fault) (events : List Event) : Type 0 where
-  pub lawful : Lawful order faults events
-  pub final : IsFinal order faults (stage order faults events).progress
-  pub retired : (stage order faults events).retired ≡ order.count
+pub record Complete (dependence : Dependence) (faults : List Fault) (events : List Event) : Type 0 where
+  pub lawful : Lawful dependence faults events
+  pub final : IsFinal dependence faults (stage dependence faults events).progress
+  pub retired : (stage dependence faults events).retired ≡ dependence.count

@@ -1,5 +1,5 @@
 -- Laws of the definitions.
-use Rattle.std.specs.Prelude.{◌≡◌, ◌≢◌, ◌↔◌, ℕ, ◌+◌, ◌<◌, Bool, true, false, cond, List, [], ◌∷◌, ◌++◌, length, map, slice_get, Contains, EachIndex, None}
+use Rattle.std.specs.Prelude.{◌≡◌, ◌≢◌, ◌↔◌, ℕ, ◌+◌, ◌<◌, ◌≤◌, Bool, true, false, cond, List, [], ◌∷◌, ◌++◌, length, map, slice_get, Contains, EachIndex, None}
 use Rattle.std.specs.Option.{IsSomeAnd}
 use Rattle.std.specs.List.{slice_index_or}
 use Rattle.std.specs.List.Sorted.{IsStrictlyIncreasing}
@@ -10,10 +10,10 @@ use Rattle.gp_base.specs.declared.journal.Restart.{Restart}
 use Rattle.task_ast.specs.Plain.{Subthread}
 use Rattle.dependence.specs.Conflict.{Conflict, conflicting, clash_in}
 use Rattle.dependence.specs.Dependents.{IsDependent, is_member, dependents, MarksDependents}
-use Rattle.dependence.specs.Restarts.{Order, RedoesStruck, redoes, attempt_of, begun_of, struck_next, progress, IsFinal, restarts}
+use Rattle.dependence.specs.Restarts.{Dependence, RedoesStruck, redoes, attempt_of, begun_of, struck_next, progress, IsFinal, restarts}
 use Rattle.dependence.specs.Journal.{Allowed, happens, Lawful, Complete, stage}
 use Rattle.dependence.specs.JournalTests.{is_lawful, is_complete}
-use Rattle.dependence.specs.Runs.{order_of}
+use Rattle.dependence.specs.Runs.{dependence_of}
 
 -- the test says when two footprints are in conflict
 abbrev pub ConflictLaw : Type 0
@@ -61,29 +61,29 @@ MarksLaw =
 
 -- what a run redoes with a position that is struck holds that position
 abbrev pub RunLaw : Type 0
-RunLaw = (run : List Subthread) → RedoesStruck (order_of run)
+RunLaw = (run : List Subthread) → RedoesStruck (dependence_of run)
 
 -- a beginning of a lawful list is lawful
 abbrev pub FrontLaw : Type 0
-FrontLaw = (order : Order) (faults : List Fault) (events rest : List Event) → Lawful order faults (events ++ rest) → Lawful order faults events
+FrontLaw = (dependence : Dependence) (faults : List Fault) (events rest : List Event) → Lawful dependence faults (events ++ rest) → Lawful dependence faults events
 
 -- after as many steps as there are fronts and faults no fault is left to take
 abbrev pub RestartsEndLaw : Type 0
 RestartsEndLaw =
-    (order : Order) (faults : List Fault) → RedoesStruck order
-    → IsFinal order faults (progress order faults (order.count + length faults))
+    (dependence : Dependence) (faults : List Fault) → RedoesStruck dependence
+    → IsFinal dependence faults (progress dependence faults (dependence.count + length faults))
 
 -- the restarts of a lawful list are the first of all restarts
 abbrev pub RestartsFirstLaw : Type 0
 RestartsFirstLaw =
-    (order : Order) (faults : List Fault) (events : List Event) → RedoesStruck order → Lawful order faults events
-    → (rest : List Restart) × (restarts order faults ≡ (stage order faults events).progress.made ++ rest)
+    (dependence : Dependence) (faults : List Fault) (events : List Event) → RedoesStruck dependence → Lawful dependence faults events
+    → (rest : List Restart) × (restarts dependence faults ≡ (stage dependence faults events).progress.made ++ rest)
 
 -- a complete list has all restarts
 abbrev pub RestartsAllLaw : Type 0
 RestartsAllLaw =
-    (order : Order) (faults : List Fault) (events : List Event) → RedoesStruck order → Complete order faults events
-    → (stage order faults events).progress.made ≡ restarts order faults
+    (dependence : Dependence) (faults : List Fault) (events : List Event) → RedoesStruck dependence → Complete dependence faults events
+    → (stage dependence faults events).progress.made ≡ restarts dependence faults
 
 -- one more restart raises the attempts of those that it redoes, and they begin at its front
 abbrev pub RaiseLaw : Type 0
@@ -95,25 +95,29 @@ RaiseLaw =
 -- a restart may come next in a lawful list exactly where the next of all restarts has the present front
 abbrev pub RestartsNextLaw : Type 0
 RestartsNextLaw =
-    (order : Order) (faults : List Fault) (events : List Event) → RedoesStruck order → Lawful order faults events
-    → let at = (stage order faults events).progress in
-    (struck_next order faults at ≢ None) ↔ IsSomeAnd (slice_get (restarts order faults) (length at.made)) (λ restart. restart.front ≡ at.front)
+    (dependence : Dependence) (faults : List Fault) (events : List Event) → RedoesStruck dependence → Lawful dependence faults events
+    → let at = (stage dependence faults events).progress in
+    (struck_next dependence faults at ≢ None) ↔ IsSomeAnd (slice_get (restarts dependence faults) (length at.made)) (λ restart. restart.front ≡ at.front)
 
 -- an event that is allowed goes on a lawful list
 abbrev pub GrowLaw : Type 0
 GrowLaw =
-    (order : Order) (faults : List Fault) (events : List Event) (event : Event) → Lawful order faults events
-    → Allowed order faults (stage order faults events) event → Lawful order faults (events ++ event ∷ [])
+    (dependence : Dependence) (faults : List Fault) (events : List Event) (event : Event) → Lawful dependence faults events
+    → Allowed dependence faults (stage dependence faults events) event → Lawful dependence faults (events ++ event ∷ [])
 
 -- the stage after one more event
 abbrev pub StageLaw : Type 0
 StageLaw =
-    (order : Order) (faults : List Fault) (events : List Event) (event : Event)
-    → stage order faults (events ++ event ∷ []) ≡ happens order faults (stage order faults events) event
+    (dependence : Dependence) (faults : List Fault) (events : List Event) (event : Event)
+    → stage dependence faults (events ++ event ∷ []) ≡ happens dependence faults (stage dependence faults events) event
 
 -- the tests say which lists are lawful and complete
 abbrev pub LawfulTestLaw : Type 0
-LawfulTestLaw = (order : Order) (faults : List Fault) (events : List Event) → (is_lawful order faults events ≡ true) ↔ Lawful order faults events
+LawfulTestLaw = (dependence : Dependence) (faults : List Fault) (events : List Event) → (is_lawful dependence faults events ≡ true) ↔ Lawful dependence faults events
 
 abbrev pub CompleteTestLaw : Type 0
-CompleteTestLaw = (order : Order) (faults : List Fault) (events : List Event) → (is_complete order faults events ≡ true) ↔ Complete order faults events
+CompleteTestLaw = (dependence : Dependence) (faults : List Fault) (events : List Event) → (is_complete dependence faults events ≡ true) ↔ Complete dependence faults events
+
+-- there are no more restarts than faults
+abbrev pub FewLaw : Type 0
+FewLaw = (dependence : Dependence) (faults : List Fault) → RedoesStruck dependence → length (restarts dependence faults) ≤ length faults

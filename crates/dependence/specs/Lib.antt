@@ -1,7 +1,16 @@
+pub mod Buffer
 pub mod Conflict
+pub mod Counts
 pub mod Dependents
+pub mod Histories
+pub mod Insertion
 pub mod Journal
 pub mod JournalTests
 pub mod Laws
+pub mod Measure
+pub mod Removal
 pub mod Restarts
+pub mod RunBuffer
 pub mod Runs
+pub mod Standing
+pub mod Touching

@@ -6,7 +6,7 @@ use Rattle.gp_base.specs.declared.journal.Restart.{Restart}
 use Rattle.dependence.specs.Dependents.{is_member}
 
 -- what is read of a run
-pub record Order : Type 0 where
+pub record Dependence : Type 0 where
   -- how many subthreads it has
   pub count : ℕ
   -- whether a position is in conflict with a later one
@@ -17,12 +17,12 @@ pub record Order : Type 0 where
   pub before : (position : ℕ) → Option ℕ
 
 -- a position that is struck is redone itself
-abbrev pub RedoesStruck : Order → Type 0
-RedoesStruck order = (struck front : ℕ) → struck < front → Contains (order.redo struck front) struck
+abbrev pub RedoesStruck : Dependence → Type 0
+RedoesStruck dependence = (struck front : ℕ) → struck < front → Contains (dependence.redo struck front) struck
 
 -- whether the front drains: the run is at its end, so that a fault is taken whatever its delay
-abbrev pub drains : Order → ℕ → Bool
-drains order front = nat_eq front order.count
+abbrev pub drains : Dependence → ℕ → Bool
+drains dependence front = nat_eq front dependence.count
 
 -- whether a restart redoes the position
 abbrev pub redoes : ℕ → Restart → Bool
@@ -79,33 +79,33 @@ abbrev pub NoneLive : List Fault → Progress → Type 0
 NoneLive faults at = least_struck (is_live at) faults ≡ None
 
 -- the position whose fault is taken next: the least one that is due by delay, or else, where the front drains, the least one that is live
-abbrev pub struck_next : Order → List Fault → Progress → Option ℕ
-struck_next order faults at =
-    option_or (least_struck (is_due at) faults) (cond (drains order at.front) (least_struck (is_live at) faults) None)
+abbrev pub struck_next : Dependence → List Fault → Progress → Option ℕ
+struck_next dependence faults at =
+    option_or (least_struck (is_due at) faults) (cond (drains dependence at.front) (least_struck (is_live at) faults) None)
 
 -- the restart that taking a fault on p makes
-abbrev pub restart_of : Order → Progress → ℕ → Restart
-restart_of order at p = record { front = at.front; struck = p; attempt = attempt_of at.made p; redo = order.redo p at.front }
+abbrev pub restart_of : Dependence → Progress → ℕ → Restart
+restart_of dependence at p = record { front = at.front; struck = p; attempt = attempt_of at.made p; redo = dependence.redo p at.front }
 
 -- the progress after a restart of the position, where there is one, and else at the next front
-abbrev pub step_by : Order → Progress → Option ℕ → Progress
-step_by order at (Some p) = record { front = at.front; made = at.made ++ restart_of order at p ∷ [] }
-step_by order at None = record { front = min (at.front + 1) order.count; made = at.made }
+abbrev pub advance_by : Dependence → Progress → Option ℕ → Progress
+advance_by dependence at (Some p) = record { front = at.front; made = at.made ++ restart_of dependence at p ∷ [] }
+advance_by dependence at None = record { front = min (at.front + 1) dependence.count; made = at.made }
 
 -- the next restart at this front, or else the next front, up to the end of the run
-abbrev pub step : Order → List Fault → Progress → Progress
-step order faults at = step_by order at (struck_next order faults at)
+abbrev pub advance : Dependence → List Fault → Progress → Progress
+advance dependence faults at = advance_by dependence at (struck_next dependence faults at)
 
 -- the progress after this number of steps
-abbrev pub progress : Order → List Fault → ℕ → Progress
-progress order faults zero = record { front = 0; made = [] }
-progress order faults (suc steps) = step order faults (progress order faults steps)
+abbrev pub progress : Dependence → List Fault → ℕ → Progress
+progress dependence faults zero = record { front = 0; made = [] }
+progress dependence faults (suc steps) = advance dependence faults (progress dependence faults steps)
 
 -- all fronts are passed and no fault is left to take
-pub record IsFinal (order : Order) (faults : List Fault) (at : Progress) : Type 0 where
-  pub passed : at.front ≡ order.count
-  pub none_left : struck_next order faults at ≡ None
+pub record IsFinal (dependence : Dependence) (faults : List Fault) (at : Progress) : Type 0 where
+  pub passed : at.front ≡ dependence.count
+  pub none_left : struck_next dependence faults at ≡ None
 
 -- all restarts of a run: each fault is taken at most once, so this many steps are enough
-abbrev pub restarts : Order → List Fault → List Restart
-restarts order faults = (progress order faults (order.count + length faults)).made
+abbrev pub restarts : Dependence → List Fault → List Restart
+restarts dependence faults = (progress dependence faults (dependence.count + length faults)).made

@@ -1,26 +1,17 @@
 -- What the plain run's order says of conflicts, restarts and journals.
-use Rattle.std.specs.Prelude.{ℕ, zero, suc, Bool, false, cond, nat_eq, List, length, map, Option, Some, None, slice_get}
+use Rattle.std.specs.Prelude.{ℕ, List, length, map, Option, Some, None, slice_get}
 use Rattle.gp_base.specs.declared.fault.Fault.{Fault}
 use Rattle.gp_base.specs.declared.journal.Restart.{Restart}
 use Rattle.gp_base.specs.declared.footprint.Footprint.{Footprint}
-use Rattle.task_ast.specs.Plain.{Subthread}
+use Rattle.task_ast.specs.Plain.{Subthread, foot_of}
+use Rattle.task_ast.specs.Position.{last_below}
 use Rattle.dependence.specs.Conflict.{clash_in}
 use Rattle.dependence.specs.Dependents.{dependents}
-use Rattle.dependence.specs.Restarts.{Order, restarts}
+use Rattle.dependence.specs.Restarts.{Dependence, restarts}
 
 -- the footprints of the positions
 abbrev pub feet_of : List Subthread → List Footprint
-feet_of run = map (λ s. s.foot) run
-
--- whether the thread has the position
-abbrev pub is_of : ℕ → Option Subthread → Bool
-is_of t None = false
-is_of t (Some s) = nat_eq s.thread t
-
--- the last position below this one of the same thread
-abbrev pub last_below : List Subthread → (thread position : ℕ) → Option ℕ
-last_below run t zero = None
-last_below run t (suc p) = cond (is_of t (slice_get run p)) (Some p) (last_below run t p)
+feet_of run = map foot_of run
 
 -- the position of the thread's subthread before the one that may be there
 abbrev pub before_one : List Subthread → ℕ → Option Subthread → Option ℕ
@@ -28,8 +19,8 @@ before_one run p None = None
 before_one run p (Some s) = last_below run s.thread p
 
 -- what the rules of restarts and journals read of a run
-abbrev pub order_of : List Subthread → Order
-order_of run =
+abbrev pub dependence_of : List Subthread → Dependence
+dependence_of run =
     record {
       count = length run;
       clash = clash_in (feet_of run);
@@ -39,4 +30,4 @@ order_of run =
 
 -- the restarts that a list of faults makes of a run
 abbrev pub restarts_of : List Subthread → List Fault → List Restart
-restarts_of run faults = restarts (order_of run) faults
+restarts_of run faults = restarts (dependence_of run) faults

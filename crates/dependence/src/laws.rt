@@ -1,6 +1,9 @@
 // The laws of the definitions, each on a function with an empty body.
 
-ghost use Rattle.dependence.specs.Laws.{ConflictLaw, SwapLaw, DependentsLaw, LeastLaw, RisingLaw, NextLaw, ShiftLaw, MarksLaw, RunLaw, RaiseLaw, RestartsEndLaw, FrontLaw, GrowLaw, StageLaw, RestartsFirstLaw, RestartsNextLaw, RestartsAllLaw, LawfulTestLaw, CompleteTestLaw};
+ghost use Rattle.dependence.specs.Laws.{ConflictLaw, SwapLaw, DependentsLaw, LeastLaw, RisingLaw, NextLaw, ShiftLaw, MarksLaw, RunLaw, RaiseLaw, RestartsEndLaw, FewLaw, FrontLaw, GrowLaw, StageLaw, RestartsFirstLaw, RestartsNextLaw, RestartsAllLaw, LawfulTestLaw, CompleteTestLaw};
+ghost use Rattle.dependence.specs.Counts.{CompleteLaw, RetirementsLaw, OnceLaw, RunsAgainLaw, AttemptsLaw};
+ghost use Rattle.dependence.specs.Measure.{LessLaw, LengthLaw};
+ghost use Rattle.dependence.specs.Standing.{ShortLaw, InitialLaw, EventLaw, StandsLaw, RetiredLaw, RunRedoesLaw, RunStandsLaw, IssuedLaw};
 
 /// The test says when two footprints are in conflict, and conflict has no direction.
 pub fn conflict_laws()
@@ -19,10 +22,23 @@ pub fn dependents_laws()
     ensures marks { MarksLaw }
 {}
 
+/// What holds between two events of a lawful journal: it holds before the first, each event that is allowed keeps it,
+/// from any stage, where a restart redoes nothing that has retired and delays are short, as faults in range have them.
+/// Nothing names a position that was not issued.
+pub fn standing_laws()
+    ensures short { ShortLaw }
+    ensures initial { InitialLaw }
+    ensures event { EventLaw }
+    ensures journal { StandsLaw }
+    ensures retired { RetiredLaw }
+    ensures issued { IssuedLaw }
+{}
+
 /// What one more restart changes; and the restarts end.
 pub fn restarts_laws()
     ensures raise { RaiseLaw }
     ensures ends { RestartsEndLaw }
+    ensures few { FewLaw }
 {}
 
 /// A beginning of a lawful journal is lawful, and one more event that is allowed keeps it so. Its restarts are the
@@ -37,13 +53,32 @@ pub fn journal_laws()
     ensures all { RestartsAllLaw }
 {}
 
+/// A journal is complete exactly where it is lawful and has an issue and a retirement for each position and all
+/// restarts. Positions retire in order, no attempt is posted or taken twice, and one after the first follows the
+/// restart that ended the one before, of which there are no more than faults.
+pub fn count_laws()
+    ensures complete { CompleteLaw }
+    ensures retirements { RetirementsLaw }
+    ensures once { OnceLaw }
+    ensures runs_again { RunsAgainLaw }
+    ensures attempts { AttemptsLaw }
+{}
+
+/// Each event leaves less to do, so that a lawful journal has a greatest length.
+pub fn measure_laws()
+    ensures less { LessLaw }
+    ensures length { LengthLaw }
+{}
+
 /// The tests of journals say which are lawful, and which are complete.
 pub fn journal_tests_laws()
     ensures lawful { LawfulTestLaw }
     ensures complete { CompleteTestLaw }
 {}
 
-/// A plain run's order meets what the laws of restarts and journals ask of one.
-pub fn run_law()
-    ensures { RunLaw }
+/// A plain run's order meets what the laws of restarts and journals ask of one, and so its journals keep what stands.
+pub fn run_laws()
+    ensures struck { RunLaw }
+    ensures conflicts { RunRedoesLaw }
+    ensures stands { RunStandsLaw }
 {}

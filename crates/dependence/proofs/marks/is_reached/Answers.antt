@@ -1,4 +1,4 @@
-use Rattle.std.proofs.Common.{arith, below_more, refl}
+use Rattle.std.proofs.Common.{arith, below_more, refl, rules}
 use Rattle.std.proofs.lemmas.Bool.{both_ways}
 use Rattle.dependence.proofs.Marking.{ClashIn-read}
 use Rattle.dependence.proofs.marks.is_reached.Goals as goal
@@ -24,3 +24,6 @@ loop-earlier-preserved c =
           (w.conflict.ensures.1 ((ClashIn-read c.args.feet.now c.loop-earlier.earlier c.args.position _ _ (omega arith) c.requires.in_range w.index-feet-earlier.is w.index-feet-position.is).1 clash))
       | else-marks-earlier-via-else-marks-earlier w ↦ λ m clash. both_ways _ w.if-marks-earlier.false m
     ])
+
+pub returns : goal.returns
+returns c = search rules

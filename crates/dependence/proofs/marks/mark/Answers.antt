@@ -1,4 +1,4 @@
-use Rattle.std.proofs.Common.{◌<◌, length, ap, arith}
+use Rattle.std.proofs.Common.{◌<◌, length, ap, arith, rules}
 use Rattle.std.proofs.lemmas.Bool.{eq-eqb, le-ltb}
 use Rattle.dependence.proofs.Marking.{marked_none, marked_first, marked_reached}
 use Rattle.dependence.proofs.marks.mark.Goals as goal
@@ -13,3 +13,6 @@ loop-position-preserved c =
       | else-position-first+then-position-first-2 w ↦ rw w.marks-is (marked_reached c.as_slice-feet.result.now c.args.first c.loop-position.marks c.loop-position.position c.loop-position.invariant fits w.is_reached.result (omega arith) (omega arith) w.is_reached.ensures)
       | else-position-first+else-position-first-2 w ↦ rw (w.marks-is, le-ltb _ _ w.if-position-first-2.false) (marked_none c.as_slice-feet.result.now c.args.first c.loop-position.marks c.loop-position.position c.loop-position.invariant fits (omega arith))
     ]
+
+pub loop-position-init : goal.loop-position-init
+loop-position-init c = search rules

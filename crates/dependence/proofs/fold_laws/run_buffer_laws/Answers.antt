@@ -1,0 +1,12 @@
+use Rattle.dependence.proofs.RunBuffers.{event-stands, out-finds, after-events, retired-lines, final-state}
+use Rattle.dependence.proofs.fold_laws.run_buffer_laws.Goals as goal
+
+pub returns : goal.returns
+returns c = record {
+  event = λ under run faults start at e buffer once held cells stands holds. event-stands run faults under once held start cells at buffer stands holds e;
+  journal = λ under run faults start events once held cells short lawful. (after-events run faults under once held start cells short events lawful).1;
+  out = λ under run faults start at e buffer p attempt once held cells stands holds.
+      out-finds run faults under once held start cells at buffer stands holds e p attempt;
+  lines = λ program inputs limits faults at buffer p s short. retired-lines program inputs limits faults short at buffer p s;
+  state = λ program inputs limits under faults events once held short. final-state program inputs limits faults short under events once held;
+}

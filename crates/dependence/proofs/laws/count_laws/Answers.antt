@@ -1,0 +1,11 @@
+use Rattle.dependence.proofs.Counts.{retire-in-order, once, runs-again, few-attempts, complete-has_all}
+use Rattle.dependence.proofs.laws.count_laws.Goals as goal
+
+pub returns : goal.returns
+returns c = record {
+  complete = λ dependence faults events held. complete-has_all dependence faults held events;
+  retirements = retire-in-order;
+  once = once;
+  runs_again = runs-again;
+  attempts = λ dependence faults events held. few-attempts dependence faults held events;
+}

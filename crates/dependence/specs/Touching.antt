@@ -1,0 +1,82 @@
+-- The places that a footprint lets its subthread write and read, and the members of a fold that keep to them.
+use Rattle.std.specs.Prelude.{◌≡◌, ◌⊎◌, ℕ, ℤ, Bool, true, List, [], Contains, Some, option_map, unwrap_or, position, slice_get, slice_index_or}
+use Rattle.std.specs.List.{list_any, list_all}
+use Rattle.gp_base.specs.declared.footprint.Loc.{Loc}
+use Rattle.gp_base.specs.declared.footprint.Loc.TheVariants as loc
+use Rattle.gp_base.specs.declared.footprint.Footprint.{Footprint}
+use Rattle.task_ast.specs.declared.effect.Effect.{Effect}
+use Rattle.task_ast.specs.declared.tree.Head.{Head}
+use Rattle.task_ast.specs.State.{Place, RegistersOf, CellOf, State}
+use Rattle.task_ast.specs.Effect.{effect}
+use Rattle.task_ast.specs.Damage.{damaged}
+use Rattle.task_ast.specs.Footprint.{footprint}
+use Rattle.task_ast.specs.laws.Keeps.{AllName}
+use Rattle.task_ast.specs.Layout.{fits_array, layout}
+use Rattle.task_ast.specs.Fold.{Member}
+use Rattle.task_ast.specs.Members.{member_in}
+use Rattle.task_ast.specs.Under.{under_lock, NamesHeld}
+use Rattle.task_ast.specs.Plain.{Subthread}
+use Rattle.task_ast.specs.History.{IsNamed}
+use Rattle.dependence.specs.Conflict.{foot_at}
+use Rattle.dependence.specs.Dependents.{is_member}
+use Rattle.dependence.specs.Runs.{feet_of}
+
+-- a subthread of this footprint may write the place, where each place has this location
+abbrev pub MayWrite : (location : Place → Loc) → Footprint → Place → Type 0
+MayWrite location foot place = Contains foot.writes (location place)
+
+-- it may read or write the place
+abbrev pub MayTouch : (location : Place → Loc) → Footprint → Place → Type 0
+MayTouch location foot place = Contains foot.reads (location place) ⊎ Contains foot.writes (location place)
+
+-- two states give the same at each of these places
+abbrev pub Agree : (Place → Type 0) → State → State → Type 0
+Agree Among left right = (place : Place) → Among place → left place ≡ right place
+
+-- what a member does to a state, damage included
+abbrev pub done_by : Member → State → Effect
+done_by m state = damaged m.mask (effect m.thread m.begins m.child m.actions state)
+
+-- a member names only places that it may write, and what it does depends on the places that it may touch alone
+pub record KeepsTo (Writes Touches : Place → Type 0) (m : Member) : Type 0 where
+  pub within : (state : State) (place : Place) → IsNamed (done_by m state) place → Writes place
+  pub same : (left right : State) → Agree Touches left right → done_by m left ≡ done_by m right
+
+-- each member keeps to its footprint
+abbrev pub KeepToFeet : (location : Place → Loc) → (ℕ → Footprint) → (ℕ → Member) → Type 0
+KeepToFeet location feet members = (p : ℕ) → KeepsTo (MayWrite location (feet p)) (MayTouch location (feet p)) (members p)
+
+-- the registers of a thread are a location of their own
+abbrev pub IsByThread : (location : Place → Loc) → Type 0
+IsByThread location = (t : ℕ) → location (RegistersOf t) ≡ loc.Regs t
+
+-- a record cell stands under one lock cell at most
+abbrev pub IsApart : List (List ℕ) → Type 0
+IsApart under = (lock other c : ℕ) → Contains (under_lock under lock) c → Contains (under_lock under other) c → lock ≡ other
+
+-- the location of a cell is the lock cell over it, and of registers their own
+abbrev pub lock_location : List (List ℕ) → Place → Loc
+lock_location under (RegistersOf t) = loc.Regs t
+lock_location under (CellOf c) = unwrap_or (option_map loc.Lock (position (is_member c) under)) (loc.Rec c)
+
+-- a cell under a lock has that lock as its location
+abbrev pub LocationLaw : Type 0
+LocationLaw =
+    (under : List (List ℕ)) (lock c : ℕ) → IsApart under → Contains (under_lock under lock) c → lock_location under (CellOf c) ≡ loc.Lock lock
+
+-- a member keeps to the footprint of the locks that it holds, where each cell that its actions name has its location there
+abbrev pub KeepsLaw : Type 0
+KeepsLaw =
+    (location : Place → Loc) (test : ℕ → Bool) (held : List ℕ) (m : Member) → IsByThread location → AllName test m.actions
+    → let foot = footprint m.thread m.begins m.child held in
+    ((c : ℕ) → test c ≡ true → MayWrite location foot (CellOf c)) → KeepsTo (MayWrite location foot) (MayTouch location foot) m
+
+-- each position of a run keeps to its footprint, those past its end included
+abbrev pub RunKeepsLaw : Type 0
+RunKeepsLaw =
+    (under : List (List ℕ)) (run : List Subthread) (masks : ℕ → ℤ) → IsApart under → NamesHeld under run
+    → KeepToFeet (lock_location under) (foot_at (feet_of run)) (member_in run masks)
+
+-- where the sizes of a program's arrays agree, its layout has each cell under one lock at most
+abbrev pub LaidLaw : Type 0
+LaidLaw = (heads : List Head) → list_all (fits_array heads) heads ≡ true → IsApart (layout heads).under
