@@ -1,0 +1,7 @@
+use Rattle.std.proofs.Common.{◌≡◌, ◌+◌, drop}
+use Rattle.task_ast.specs.Names.{locks_of, cells_in}
+use Rattle.one_thread.proofs.cells.lock_count.Given as goal
+
+-- the cells counted, and those of the heads that are left
+abbrev pub invariant-loop-head : goal.invariant-loop-head
+invariant-loop-head l = l.count + cells_in (locks_of (drop l.head-index l.heads)) ≡ cells_in (locks_of l.heads)

@@ -1,0 +1,74 @@
+use Rattle.std.proofs.Common.{◌≡◌, ◌+◌, ◌∙◌, drop, map, ap, sym, subst, rules, List, SFits, w64, Some, None, option_map}
+use Rattle.std.specs.Prelude.{ℤ, pos, is_some}
+use Rattle.std.specs.Ordering.{int_eq}
+use Rattle.std.proofs.lemmas.Int.{to_z-of_z}
+use Rattle.std.proofs.Math.ListN.{drop_of_length-le}
+use Rattle.task_ast.specs.declared.tree.Stmt.{Stmt}
+use Rattle.task_ast.specs.Tree as plain
+use Rattle.task_ast.specs.Action.{term}
+use Rattle.task_ast.specs.Effect.{term_value}
+use Rattle.task_ast.specs.Control.{action, arm, all_of}
+use Rattle.task_ast.specs.View.{plain_expr, plain_exprs, plain_what, plain_stmt, plain_block}
+use Rattle.task_ast.proofs.Views.{stmt_At, what_Print, what_When}
+use Rattle.one_thread.specs.Working.{setting_in, Works, ArmWorks}
+use Rattle.one_thread.proofs.Fitting.{from-here, Ahead, ahead_on, ahead_end, said, unsaid, first_works, second_works}
+use Rattle.one_thread.proofs.data.+performing.Goals as goal
+
+pub perform_all-loop-stmt-preserved : goal.perform_all-loop-stmt-preserved
+perform_all-loop-stmt-preserved t c = λ joined.
+    let s = setting_in c.args.program.now c.args.env.now in
+    let names = c.args.names.now in
+    let env = c.args.env.now in
+    let rest = arm s names (plain_block (drop (c.loop-stmt.stmt-index + 1) c.args.block.now)) env in
+    let here = subst (λ o. Ahead joined (arm s names (plain_block c.args.block.now) env) o c.loop-stmt.data c.args.data.now)
+    (from-here (λ (l : List Stmt). arm s names (plain_block l) env) c.args.block.now c.loop-stmt.stmt-index c.stmt-item.result c.loop-stmt-test.true c.stmt-item.is
+    ∙ ap (λ st. arm s names (plain.Then st (plain_block (drop (c.loop-stmt.stmt-index + 1) c.args.block.now))) env) (stmt_At c.stmt-item.result)) (c.loop-stmt.invariant joined) in
+    ahead_on joined (arm s names (plain_block c.args.block.now) env) (action s names (plain_what c.stmt-item.result.what) env) rest c.loop-stmt.data c.perform.new.data c.args.data.now (c.in_ok-perform.ensures joined) here
+
+pub perform_all-returns : goal.perform_all-returns
+perform_all-returns t c = λ joined a is.
+    let s = setting_in c.args.program.now c.args.env.now in
+    ahead_end joined (arm s c.args.names.now (plain_block c.args.block.now) c.args.env.now) c.loop-stmt.data c.args.data.now
+    (subst (λ o. Ahead joined (arm s c.args.names.now (plain_block c.args.block.now) c.args.env.now) o c.loop-stmt.data c.args.data.now)
+    (ap (λ (l : List Stmt). arm s c.args.names.now (plain_block l) c.args.env.now) (drop_of_length-le c.args.block.now c.loop-stmt-test.false)) (c.loop-stmt.invariant joined)) a is
+
+pub perform-returns-in_ok-push-in-Print : goal.perform-returns-in_ok-push-in-Print
+perform-returns-in_ok-push-in-Print t c = λ joined a is.
+    let s = setting_in c.args.program.now c.args.env.now in
+    let line = rw (c.in-Some-2.is, c.as_slice-in-Print.ensures, c.as_slice-in-Print-2.ensures) at c.in_ok-line-in-Print.ensures in
+    ap (λ l. record c.args.data.now { lines = l }) c.in_ok-push-in-Print.ensures.ok
+    ∙ said (all_of (map (λ e. term c.args.names.now e c.args.env.now) (plain_exprs c.in-Print.es))) c.args.data.now c.in-Some-2.line line joined a
+    (sym (ap (λ w. action s c.args.names.now w c.args.env.now) (ap plain_what c.in-Print.is ∙ what_Print c.in-Print.es)) ∙ is)
+
+pub perform-returns-in_default-2 : goal.perform-returns-in_default-2
+perform-returns-in_default-2 t c = λ joined a is.
+    let s = setting_in c.args.program.now c.args.env.now in
+    let line = rw (c.in_default-2.is, c.as_slice-in-Print.ensures, c.as_slice-in-Print-2.ensures) at c.in_ok-line-in-Print.ensures in
+    unsaid (all_of (map (λ e. term c.args.names.now e c.args.env.now) (plain_exprs c.in-Print.es))) c.args.data.now c.args.data.now line joined a
+    (sym (ap (λ w. action s c.args.names.now w c.args.env.now) (ap plain_what c.in-Print.is ∙ what_Print c.in-Print.es)) ∙ is)
+
+pub perform-returns-in_ok-perform_all-in-Some-data_value-2 : goal.perform-returns-in_ok-perform_all-in-Some-data_value-2
+perform-returns-in_ok-perform_all-in-Some-data_value-2 t c = λ joined act is.
+    let s = setting_in c.args.program.now c.args.env.now in
+    let names = c.args.names.now in
+    let env = c.args.env.now in
+    let v = c.in-Some-data_value-2.v in
+    let fits : SFits w64 v = search rules in
+    let test = rw (to_z-of_z w64 v fits) at c.if-is_zero.ensures in
+    let value = rw c.as_slice-in-When.ensures at c.in-Some-data_value-2.ensures in
+    let does = rw c.as_slice-then-is_zero.ensures at c.in_ok-perform_all-in-Some-data_value-2.ensures in
+    second_works (term names (plain_expr c.in-When.e) env) (arm s names (plain_block c.in-When.first) env) (arm s names (plain_block c.in-When.second) env) c.args.data.now c.perform_all.new.data v (sym test) (sym value) does joined act
+    (sym (ap (λ w. action s names w env) (ap plain_what c.in-When.is ∙ what_When c.in-When.e c.in-When.first c.in-When.second)) ∙ is)
+
+pub perform-returns-in_ok-perform_all-in-Some-data_value-2-2 : goal.perform-returns-in_ok-perform_all-in-Some-data_value-2-2
+perform-returns-in_ok-perform_all-in-Some-data_value-2-2 t c = λ joined act is.
+    let s = setting_in c.args.program.now c.args.env.now in
+    let names = c.args.names.now in
+    let env = c.args.env.now in
+    let v = c.in-Some-data_value-2.v in
+    let fits : SFits w64 v = search rules in
+    let test = rw (to_z-of_z w64 v fits) at c.if-is_zero.ensures in
+    let value = rw c.as_slice-in-When.ensures at c.in-Some-data_value-2.ensures in
+    let does = rw c.as_slice-else-is_zero.ensures at c.in_ok-perform_all-in-Some-data_value-2-2.ensures in
+    first_works (term names (plain_expr c.in-When.e) env) (arm s names (plain_block c.in-When.first) env) (arm s names (plain_block c.in-When.second) env) c.args.data.now c.perform_all-else-is_zero.new.data v (sym test) (sym value) does joined act
+    (sym (ap (λ w. action s names w env) (ap plain_what c.in-When.is ∙ what_When c.in-When.e c.in-When.first c.in-When.second)) ∙ is)

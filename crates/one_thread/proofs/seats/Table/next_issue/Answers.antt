@@ -1,0 +1,28 @@
+use Rattle.std.proofs.Common.{◌≡◌, ◌∙◌, sym, ap}
+use Rattle.gp_base.specs.declared.ending.End.TheVariants.{Finished}
+use Rattle.task_ast.specs.Repeat.{More, go_on}
+use Rattle.task_ast.specs.Turn.{Ended, turn, turns_left, next_issue}
+use Rattle.task_ast.proofs.Turns.{turn-IsFalling, next_issue_step}
+use Rattle.one_thread.specs.View.{table_of, gives, gave}
+use Rattle.one_thread.proofs.Turning.{last-turn}
+use Rattle.one_thread.proofs.seats.Table.next_issue.Goals as goal
+
+pub loop-turn-smaller : goal.loop-turn-smaller
+loop-turn-smaller c =
+    turn-IsFalling.falls (table_of c.loop-turn.self) (table_of c.turn.new.self) (c.in_ok-turn.ensures.turn ∙ ap (λ r. gives r (table_of c.turn.new.self)) c.in-Pass.is)
+
+pub loop-turn-preserved : goal.loop-turn-preserved
+loop-turn-preserved c = record {
+  same =
+      c.loop-turn.invariant.same ∙ next_issue_step (table_of c.loop-turn.self)
+      ∙ ap (go_on turn turns_left (Ended Finished) next_issue) (c.in_ok-turn.ensures.turn ∙ ap (λ r. gives r (table_of c.turn.new.self)) c.in-Pass.is);
+  held = c.in_ok-turn.ensures.held;
+}
+
+pub returns-in_default : goal.returns-in_default
+returns-in_default c = record {
+  turn =
+      c.loop-turn.invariant.same ∙ next_issue_step (table_of c.loop-turn.self) ∙ ap (go_on turn turns_left (Ended Finished) next_issue) c.in_ok-turn.ensures.turn
+      ∙ last-turn c.in_ok-turn.turn (table_of c.turn.new.self) c.in_default.not-Pass;
+  held = c.in_ok-turn.ensures.held;
+}

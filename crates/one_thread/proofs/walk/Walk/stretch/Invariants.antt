@@ -1,0 +1,10 @@
+use Rattle.task_ast.specs.Control.{size}
+use Rattle.one_thread.specs.Walking.{point_of, Came}
+use Rattle.one_thread.proofs.Walks.{Asks}
+use Rattle.one_thread.proofs.walk.Walk.stretch.Given as goal
+
+abbrev pub invariant-loop-went : goal.invariant-loop-went
+invariant-loop-went l = Came l.fn.self l.self
+
+abbrev pub decreases-loop-went : goal.decreases-loop-went
+decreases-loop-went l = size (point_of l.self)

@@ -1,0 +1,52 @@
+-- What the work of one subthread does.
+use Rattle.std.specs.Prelude.{◌≡◌, ℕ, ℤ, Bool, true, false, List, [], ◌++◌, Option}
+use Rattle.task_ast.specs.declared.sync.SyncOp.{SyncOp}
+use Rattle.task_ast.specs.declared.sync.SyncOp.TheVariants as sync
+use Rattle.task_ast.specs.Action.{Action}
+use Rattle.task_ast.specs.Body.{Body}
+use Rattle.task_ast.specs.Control.{Point, beginning, first_actions, tree_body}
+use Rattle.one_thread.specs.declared.data.Data.{Data}
+use Rattle.one_thread.specs.declared.walk.Walk.{Walk}
+use Rattle.one_thread.specs.declared.work.Shared.{Shared}
+use Rattle.one_thread.specs.declared.work.Done.{Done}
+use Rattle.one_thread.specs.Working.{all_worked}
+use Rattle.one_thread.specs.Walking.{setting_of, point_of}
+
+-- whether a thread starts
+abbrev pub is_start : SyncOp → Bool
+is_start sync.Start = true
+is_start _ = false
+
+-- a thread with what all threads share in its hands, before it does anything
+abbrev pub at_work : Walk → Shared → Walk
+at_work walk shared =
+    record walk {
+      env = record walk.env { feeds = shared.feeds };
+      «data» = record { registers = walk.data.registers; child = []; cells = shared.cells; lines = [] };
+    }
+
+-- the body of a subthread that begins so
+abbrev pub body_from : Walk → SyncOp → Option ℕ → ℕ → Body Point
+body_from walk begins child turns = tree_body (setting_of walk) turns (beginning begins child (point_of walk))
+
+-- its actions, with those of the synchronisation before them
+abbrev pub actions_from : Walk → SyncOp → Option ℕ → ℕ → List Action
+actions_from walk begins child turns = first_actions (setting_of walk) begins (point_of walk) ++ (body_from walk begins child turns).actions
+
+-- the data after them
+abbrev pub data_from : Walk → SyncOp → Option ℕ → ℤ → ℕ → Data
+data_from walk begins child joined turns = all_worked joined (actions_from walk begins child turns) walk.data
+
+-- a subthread was run
+pub record RanWith (old : Walk) (shared : Shared) (begins : SyncOp) (child : Option ℕ) (joined : ℤ) (turns : ℕ) (done : Done) (new : Walk) (left : Shared) : Type 0 where
+  pub next_is : done.next ≡ (body_from (at_work old shared) begins child turns).next
+  pub at : point_of new ≡ (body_from (at_work old shared) begins child turns).at
+  pub registers_are : new.data.registers ≡ (data_from (at_work old shared) begins child joined turns).registers
+  pub child_is : done.child ≡ (data_from (at_work old shared) begins child joined turns).child
+  pub lines_are : done.lines ≡ (data_from (at_work old shared) begins child joined turns).lines
+  pub cells_are : left.cells ≡ (data_from (at_work old shared) begins child joined turns).cells
+  pub feeds_are : left.feeds ≡ shared.feeds
+  pub program : new.program ≡ old.program
+  pub task : new.task ≡ old.task
+  pub registers : new.registers ≡ old.registers
+  pub clean : new.env.regs ≡ []

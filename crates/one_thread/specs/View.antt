@@ -1,0 +1,83 @@
+-- The table of the code as the thread table that definitions see.
+use Rattle.std.specs.Prelude.{◌≡◌, ℕ, zero, suc, ℤ, pos, negsuc, Bool, true, false, cond, List, length, map, Option, Some, None, nat_lt}
+use Rattle.gp_base.specs.declared.ending.End.{End}
+use Rattle.task_ast.specs.declared.sync.Next.{Next}
+use Rattle.task_ast.specs.Repeat.{Again, More, Done}
+use Rattle.task_ast.specs.Table as plain
+use Rattle.task_ast.specs.Table.{next_of}
+use Rattle.task_ast.specs.Turn as there
+use Rattle.task_ast.specs.Turn.{Look, To, Unknown, NoThread}
+use Rattle.one_thread.specs.declared.seats.Stand.{Stand}
+use Rattle.one_thread.specs.declared.seats.Stand.TheVariants as stands
+use Rattle.one_thread.specs.declared.seats.Seat.{Seat}
+use Rattle.one_thread.specs.declared.seats.Table.{Table}
+use Rattle.one_thread.specs.declared.turns.Turn.{Turn}
+use Rattle.one_thread.specs.declared.turns.Turn.TheVariants as here
+
+abbrev pub stand_view : Stand → plain.Stand
+stand_view stands.Away = plain.Away
+stand_view stands.Waits = plain.Waits
+stand_view stands.Released = plain.Released
+
+abbrev pub seat_of : Seat → plain.Seat
+seat_of seat = record { next = seat.next; last = seat.last; passed = seat.passed; stand = stand_view seat.stand }
+
+-- whose turn was last, where the token looks first at this thread
+abbrev pub token_of : (start : ℕ) → Option ℕ
+token_of zero = None
+token_of (suc t) = Some t
+
+abbrev pub table_of : Table → plain.Table
+table_of table =
+    record {
+      limit = table.limit;
+      barriers = table.barriers.items;
+      seats = map seat_of table.seats.items;
+      owners = table.owners.owners.items;
+      token = token_of table.start;
+      issued = table.issued;
+    }
+
+-- what a turn gave, where the table stands so afterwards
+abbrev pub gives : Turn → plain.Table → Again plain.Table there.Turn
+gives (here.Issue t next child) after = Done (there.Issue t next child after)
+gives here.Pass after = More after
+gives (here.Needs t) after = Done (there.Needs t)
+gives (here.Ended e) after = Done (there.Ended e)
+
+-- what turns gave up to the first that did not pass
+abbrev pub gave : Turn → plain.Table → there.Turn
+gave (here.Issue t next child) after = there.Issue t next child after
+gave here.Pass after = there.Needs 0
+gave (here.Needs t) after = there.Needs t
+gave (here.Ended e) after = there.Ended e
+
+abbrev pub look_with : ℕ → Option Next → Look
+look_with t None = Unknown t
+look_with t (Some next) = To t next
+
+-- the first thread that isn't known to have ended, with its next synchronisation
+abbrev pub look_of : plain.Table → Option ℕ → Look
+look_of table None = NoThread
+look_of table (Some t) = look_with t (next_of table t)
+
+-- a seat whose thread began a subthread
+abbrev pub begun : ℕ → plain.Seat → plain.Seat
+begun issued seat = record { next = None; last = Some issued; passed = false; stand = plain.Away }
+
+-- the thread that a join names
+abbrev pub joined_in : ℤ → ℕ → Option ℕ
+joined_in (pos h) n = cond (nat_lt h n) (Some h) None
+joined_in (negsuc h) n = None
+
+-- whether a thread at a barrier was released
+abbrev pub is_free_to_go : plain.Stand → Bool
+is_free_to_go plain.Released = true
+is_free_to_go _ = false
+
+-- the turn is none that passes, and a subthread that it begins is of a thread that is there
+abbrev pub Halts : Turn → (threads : ℕ) → Type 0
+Halts (here.Issue t next child) threads = nat_lt t threads ≡ true
+Halts here.Pass threads = ⊥
+Halts (here.Needs t) threads = Unit {0}
+Halts (here.Ended e) threads = Unit {0}

@@ -1,0 +1,287 @@
+// Data statements.
+ghost use Rattle.std.specs.Prelude.{◌≡◌, ℤ, ◌≤◌, List, map, is_some, option_map, unwrap_or, position, pos, IfOk, OnOk, Some};
+ghost use Rattle.std.specs.Ordering.{int_eq};
+ghost use Rattle.task_ast.specs.Names.{slot, is_name, records_of, cells_in, cell_number};
+ghost use Rattle.task_ast.specs.Value.{value_at};
+ghost use Rattle.task_ast.specs.Action.{term, terms, register};
+ghost use Rattle.task_ast.specs.Effect.{term_value, terms_value};
+ghost use Rattle.task_ast.specs.Control.{action, arm, all_of};
+ghost use Rattle.task_ast.specs.View.{plain_expr, plain_exprs, plain_links, plain_what, plain_stmts, plain_block};
+ghost use Rattle.task_ast.specs.Tree.{Name as PlainName};
+ghost use Rattle.one_thread.specs.Working.{setting_in, Works, ArmWorks};
+
+use crate::cells::{record_number, same_name};
+use crate::variables::{number_at, register_place, set_number};
+use gp_base::{Lines, Name, Nums, Seq};
+use std::alloc::{AllocError, Global};
+use task_ast::{Atom, Env, Expr, Op, Program, Stmt, What, apply, eval_d, negate};
+
+/// What a subthread works on: the registers of its thread and of a child that it
+/// forked, the cells of all records, and the lines that it printed.
+#[derive(Drop)]
+pub struct Data {
+    pub registers: Nums,
+    pub child: Nums,
+    pub cells: Nums,
+    pub lines: Lines,
+}
+
+/// The number that an atom stands for.
+pub fn index_of(atom: &Atom, env: &Env) -> i64
+    ensures { result ≡ Rattle.task_ast.specs.Control.index_of atom.now env.now }
+{
+    match atom {
+        Atom::Num(v) => *v,
+        Atom::Var(x) => variable_value(env, x),
+    }
+}
+
+// The value of a control variable, or 0.
+fn variable_value(env: &Env, x: &Name) -> i64
+    ensures { result ≡ value_at env.now.names x.now }
+{
+    for pair in env.names.as_slice() {
+        if same_name(x, &pair.0) {
+            return pair.1;
+        }
+    }
+    0
+}
+
+/// Whether an expression names no cell outside its feed.
+pub fn has_value(e: &Expr, env: &Env) -> bool
+    ensures { (registers : List PlainName) → result ≡ is_some (term registers (plain_expr e.now) env.now) }
+{
+    eval_d(e, env).is_some()
+}
+
+// The value of a data variable.
+fn register_value(names: &[Name], x: &Name, registers: &[i64]) -> i64
+    ensures { result ≡ term_value (register (position (is_name x.now) names.now)) registers.now }
+{
+    match register_place(names, x) {
+        Some(k) => number_at(registers, k),
+        None => 0,
+    }
+}
+
+/// The value of an expression that may name data variables. Cells of feeds are read by control values alone.
+#[cycle(values)]
+#[tactic(auto, using(task_ast::proofs::Views::view))]
+pub fn data_value(e: &Expr, names: &[Name], env: &Env, registers: &[i64]) -> Option<i64>
+    ensures { result ≡ option_map (λ t. term_value t registers.now) (term names.now (plain_expr e.now) env.now) }
+{
+    match e {
+        Expr::Reg(x) => Some(register_value(names, x, registers)),
+        Expr::Neg(a) => Some(negate(data_value(a, names, env, registers)?)),
+        Expr::Not(a) => Some(i64::from(data_value(a, names, env, registers)? == 0)),
+        Expr::Chain(first, links) => {
+            let value = data_value(first, names, env, registers)?;
+            chain_value(links.as_slice(), value, names, env, registers)
+        }
+        Expr::Num(_) => eval_d(e, env),
+        Expr::Ctl(_) => eval_d(e, env),
+        Expr::Me => eval_d(e, env),
+        Expr::Rows(_) => eval_d(e, env),
+        Expr::Cell(_, _, _) => eval_d(e, env),
+    }
+}
+
+// The value of a chain from here on, from the value so far.
+#[cycle(values)]
+#[tactic(auto, using(task_ast::proofs::Views::view))]
+fn chain_value(
+    links: &[(Op, Expr)],
+    first: i64,
+    names: &[Name],
+    env: &Env,
+    registers: &[i64],
+) -> Option<i64>
+    ensures { result ≡ option_map (λ more. terms_value more registers.now first) (terms names.now (plain_links links.now) env.now) }
+{
+    let mut so_far = first;
+    for link in links {
+        so_far = apply(link.0, so_far, data_value(&link.1, names, env, registers)?);
+    }
+    Some(so_far)
+}
+
+// Whether all of these have values.
+fn have_values(es: &[Expr], env: &Env) -> bool
+    ensures { (registers : List PlainName) → result ≡ is_some (all_of (map (λ e. term registers e env.now) (plain_exprs es.now))) }
+{
+    for e in es {
+        if !has_value(e, env) {
+            return false;
+        }
+    }
+    true
+}
+
+/// Whether a data statement names cells that exist.
+#[cycle(fitting)]
+#[tactic(auto, using(task_ast::proofs::Views::view), unfolding(task_ast::specs::View::plain_what, task_ast::specs::View::plain_stmt))]
+pub fn fits(what: &What, program: &Program, env: &Env) -> bool
+    requires { cells_in (records_of program.now.heads) ≤ 65536 }
+    ensures { (registers : List PlainName) → result ≡ is_some (action (setting_in program.now env.now) registers (plain_what what.now) env.now) }
+{
+    match what {
+        What::SetReg(_, e) => has_value(e, env),
+        What::Read(r, i, _) => {
+            record_number(program.heads.as_slice(), r, index_of(i, env)).is_some()
+        }
+        What::Write(r, i, e) => {
+            if has_value(e, env) {
+                record_number(program.heads.as_slice(), r, index_of(i, env)).is_some()
+            } else {
+                false
+            }
+        }
+        What::Print(es) => have_values(es.as_slice(), env),
+        What::When(e, first, second) => {
+            if has_value(e, env) {
+                if all_fit(first.as_slice(), program, env) {
+                    all_fit(second.as_slice(), program, env)
+                } else {
+                    false
+                }
+            } else {
+                false
+            }
+        }
+        _ => false,
+    }
+}
+
+#[cycle(fitting)]
+#[tactic(auto, using(task_ast::proofs::Views::view), unfolding(task_ast::specs::View::plain_what, task_ast::specs::View::plain_stmt))]
+fn all_fit(block: &[Stmt], program: &Program, env: &Env) -> bool
+    requires { cells_in (records_of program.now.heads) ≤ 65536 }
+    ensures { (registers : List PlainName) → result ≡ is_some (arm (setting_in program.now env.now) registers (plain_block block.now) env.now) }
+{
+    for stmt in block {
+        if !fits(&stmt.what, program, env) {
+            return false;
+        }
+    }
+    true
+}
+
+// The values of a printed line, or `None` where one has none.
+fn line_of(
+    alloc: Global,
+    es: &[Expr],
+    names: &[Name],
+    env: &Env,
+    registers: &[i64],
+) -> Result<Option<Nums>, AllocError>
+    ensures { IfOk result (λ line. line ≡ option_map (map (λ t. term_value t registers.now)) (all_of (map (λ e. term names.now e env.now) (plain_exprs es.now)))) }
+{
+    let mut line = Seq::new(alloc);
+    for e in es {
+        match data_value(e, names, env, registers) {
+            Some(v) => line.push(v)?,
+            None => return Ok(None),
+        }
+    }
+    Ok(Some(line))
+}
+
+/// The number of a data variable's register.
+pub fn register_number(names: &[Name], x: &Name) -> usize
+    ensures { result ≡ slot names.now x.now }
+{
+    register_place(names, x).unwrap_or(names.len())
+}
+
+/// Whether a value is 0.
+pub fn is_zero(v: i64) -> bool
+    ensures { result ≡ int_eq v (pos 0) }
+{
+    v == 0
+}
+
+/// Does a data statement that names cells that exist.
+#[cycle(performing)]
+#[tactic(auto, using(task_ast::proofs::Views::view), unfolding(task_ast::specs::View::plain_what, task_ast::specs::View::plain_stmt))]
+pub fn perform(
+    alloc: Global,
+    what: &What,
+    program: &Program,
+    names: &[Name],
+    env: &Env,
+    data: &mut Data,
+) -> Result<(), AllocError>
+    requires { cells_in (records_of program.now.heads) ≤ 65536 }
+    ensures { OnOk result (Works (action (setting_in program.now env.now) names.now (plain_what what.now) env.now) data.old data.new) }
+{
+    match what {
+        What::SetReg(x, e) => {
+            if let Some(v) = data_value(e, names, env, data.registers.as_slice()) {
+                set_number(&mut data.registers, register_number(names, x), v);
+            }
+            Ok(())
+        }
+        What::Read(r, i, x) => {
+            if let Some(c) = record_number(program.heads.as_slice(), r, index_of(i, env)) {
+                let v = number_at(data.cells.as_slice(), c);
+                set_number(&mut data.registers, register_number(names, x), v);
+            }
+            Ok(())
+        }
+        What::Write(r, i, e) => {
+            if let Some(v) = data_value(e, names, env, data.registers.as_slice()) {
+                if let Some(c) = record_number(program.heads.as_slice(), r, index_of(i, env)) {
+                    set_number(&mut data.cells, c, v);
+                }
+            }
+            Ok(())
+        }
+        What::Print(es) => {
+            if let Some(line) = line_of(
+                alloc,
+                es.as_slice(),
+                names,
+                env,
+                data.registers.as_slice(),
+            )? {
+                data.lines.push(line)?;
+            }
+            Ok(())
+        }
+        What::When(e, first, second) => {
+            match data_value(e, names, env, data.registers.as_slice()) {
+                None => Ok(()),
+                Some(v) => {
+                    if is_zero(v) {
+                        perform_all(alloc, second.as_slice(), program, names, env, data)?;
+                        Ok(())
+                    } else {
+                        perform_all(alloc, first.as_slice(), program, names, env, data)?;
+                        Ok(())
+                    }
+                }
+            }
+        }
+        _ => Ok(()),
+    }
+}
+
+#[cycle(performing)]
+#[tactic(auto, using(task_ast::proofs::Views::view), unfolding(task_ast::specs::View::plain_what, task_ast::specs::View::plain_stmt))]
+fn perform_all(
+    alloc: Global,
+    block: &[Stmt],
+    program: &Program,
+    names: &[Name],
+    env: &Env,
+    data: &mut Data,
+) -> Result<(), AllocError>
+    requires { cells_in (records_of program.now.heads) ≤ 65536 }
+    ensures { OnOk result (ArmWorks (arm (setting_in program.now env.now) names.now (plain_block block.now) env.now) data.old data.new) }
+{
+    for stmt in block {
+        perform(alloc, &stmt.what, program, names, env, data)?;
+    }
+    Ok(())
+}

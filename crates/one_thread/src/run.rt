@@ -1,0 +1,131 @@
+// The plain run.
+ghost use Rattle.std.specs.Prelude.{◌≡◌, ◌<◌, length, map, IfOk};
+ghost use Rattle.gp_base.specs.declared.limits.Limits.{Limits as LimitsThere};
+ghost use Rattle.gp_base.specs.declared.feed.Inputs.{Inputs as InputsThere};
+ghost use Rattle.task_ast.specs.Plain.{Plain};
+ghost use Rattle.task_ast.specs.View.{plain_program};
+ghost use Rattle.lock_checker.specs.Accepted.{program_of};
+ghost use Rattle.one_thread.specs.Holding.{AreHeld};
+ghost use Rattle.one_thread.specs.Runs.{slots_of, AreSound, Holds, IsSmall};
+ghost use Rattle.one_thread.specs.PlainRuns.{IsPlainRun, Stepped, Follows};
+
+use crate::footprints::footprint;
+use crate::opening::all_registers;
+use crate::threads::Run;
+use crate::turns::{Turn, thread_number};
+use crate::work::Shared;
+use gp_base::{End, Footprint, Inputs, Limits, Lines, Nums, Seq, ThreadNo};
+use lock_checker::Checked;
+use std::alloc::{AllocError, Global};
+use task_ast::Next;
+
+/// One subthread of the order: its thread, the synchronisation that it begins with, what it reads and writes, and the
+/// lines that it prints.
+#[derive(Drop)]
+pub struct Step {
+    pub thread: ThreadNo,
+    pub begins: Next,
+    pub foot: Footprint,
+    pub prints: Lines,
+}
+
+/// The plain run of a program: its subthreads in order, the cells of all records at the end, and how it ends.
+#[derive(Drop)]
+pub struct PlainRun {
+    pub order: Seq<Step>,
+    pub records: Nums,
+    pub end: End,
+}
+
+// What comes next in a run.
+#[derive(Drop)]
+pub enum Move {
+    Goes(Step),
+    Ends(End),
+}
+
+impl Run<'_> {
+    // One subthread, whose synchronisation the table knows.
+    fn step(
+        &mut self,
+        alloc: Global,
+        t: usize,
+        begins: Next,
+        child: Option<usize>,
+    ) -> Result<Step, AllocError>
+        requires exists { t < length self.old.threads.items }
+        requires seated { t < length self.old.table.seats.items }
+        requires small { IsSmall self.old.program.now }
+        requires slots { self.old.slots.now ≡ map slots_of self.old.program.now.tasks }
+        requires sound { AreSound self.old.program.now self.old.threads.items }
+        requires held { AreHeld self.old.table.owners.owners.items self.old.table.owners.held.items }
+        ensures { IfOk result (λ step. Stepped self.old t begins child step self.new) }
+    {
+        let foot = footprint(alloc, t, &begins.sync, child, self.table.owners.held_by(t))?;
+        let thread = thread_number(t)?;
+        let prints = self.perform(alloc, t, &begins, child)?;
+        Ok(Step {
+            thread,
+            begins,
+            foot,
+            prints,
+        })
+    }
+
+    // The next subthread, or the end.
+    fn next(&mut self, alloc: Global) -> Result<Move, AllocError>
+        requires small { IsSmall self.old.program.now }
+        requires slots { self.old.slots.now ≡ map slots_of self.old.program.now.tasks }
+        requires sound { AreSound self.old.program.now self.old.threads.items }
+        requires held { AreHeld self.old.table.owners.owners.items self.old.table.owners.held.items }
+        requires alike { length self.old.threads.items ≡ length self.old.table.seats.items }
+        ensures { IfOk result (λ m. (inputs : InputsThere) (limits : LimitsThere) (plain : Plain) → Holds self.old.program.now inputs limits self.old plain → Follows self.old.program.now inputs limits self.old plain m self.new) }
+    {
+        match self.table.next_issue(alloc)? {
+            Turn::Issue(t, begins, child) => {
+                let step = self.step(alloc, t, begins, child)?;
+                Ok(Move::Goes(step))
+            }
+            Turn::Ended(end) => Ok(Move::Ends(end)),
+            Turn::Needs(_) => Ok(Move::Ends(End::Finished)),
+            Turn::Pass => Ok(Move::Ends(End::Finished)),
+        }
+    }
+}
+
+// The cells of all records.
+fn cells_of(run: Run) -> Nums
+    ensures { result ≡ run.entry.shared.cells }
+{
+    let Run { shared, .. } = run;
+    let Shared { cells, .. } = shared;
+    cells
+}
+
+/// The plain run of an accepted program: one thread performs its subthreads one after another, in the order of the
+/// token and without faults. The only error is want of memory.
+pub fn run_plain(
+    alloc: Global,
+    c: &Checked,
+    inputs: &Inputs,
+    limits: Limits,
+) -> Result<PlainRun, AllocError>
+    ensures { IfOk result (λ run. IsPlainRun (plain_program (program_of c.now)) inputs.now limits run) }
+{
+    let program = c.program();
+    let slots = all_registers(alloc, program.tasks.as_slice())?;
+    let mut run = Run::new(alloc, program, slots.as_slice(), inputs, limits)?;
+    let mut order = Seq::new(alloc);
+    loop {
+        match run.next(alloc)? {
+            Move::Goes(step) => order.push(step)?,
+            Move::Ends(end) => {
+                return Ok(PlainRun {
+                    order,
+                    records: cells_of(run),
+                    end,
+                });
+            }
+        }
+    }
+}

@@ -1,0 +1,141 @@
+// The threads of a run, and the thread that the token comes to.
+ghost use Rattle.std.specs.Prelude.{◌≡◌, ◌<◌, ◌-◌, [], ◌∷◌, length, map, replicate, IfOk, IfSome, None};
+ghost use Rattle.task_ast.specs.Table.{numbers, ring, learning, unpassed};
+ghost use Rattle.task_ast.specs.Turn.{look};
+ghost use Rattle.one_thread.specs.Holding.{AreHeld};
+ghost use Rattle.one_thread.specs.View.{table_of, seat_of, look_of};
+
+use crate::owners::Owners;
+use std::alloc::{AllocError, Global};
+use task_ast::{Next, SyncOp};
+
+/// How a thread stands to the barrier that comes next.
+#[derive(Clone, Copy)]
+pub enum Stand {
+    Away,
+    Waits,
+    Released,
+}
+
+/// One thread: its next synchronisation where that is known, the position of its last subthread, and whether it has
+/// passed since the last issue or arrival.
+#[derive(Drop)]
+pub struct Seat {
+    pub next: Option<Next>,
+    pub last: Option<u32>,
+    pub passed: bool,
+    pub stand: Stand,
+}
+
+/// The thread table. The token looks first at the thread `start`.
+#[derive(Drop)]
+pub struct Table {
+    pub limit: u32,
+    pub barriers: Vec<u64>,
+    pub seats: Vec<Seat>,
+    pub owners: Owners,
+    pub start: usize,
+    pub issued: u32,
+}
+
+/// Whether a thread ends with this.
+pub fn is_end(next: &Next) -> bool
+    ensures { result ≡ Rattle.task_ast.specs.Table.is_end next.now.sync }
+{
+    matches!(next.sync, SyncOp::End)
+}
+
+// Whether the seat's thread is known to have ended.
+fn has_ended(seat: &Seat) -> bool
+    ensures { result ≡ Rattle.task_ast.specs.Table.has_ended (seat_of seat.now) }
+{
+    match &seat.next {
+        Some(next) => is_end(next),
+        None => false,
+    }
+}
+
+/// A thread that stands at its start.
+pub fn new_seat() -> Seat
+    ensures { seat_of result ≡ Rattle.task_ast.specs.Table.new_seat }
+{
+    Seat {
+        next: Some(Next {
+            sync: SyncOp::Start,
+            line: 0,
+        }),
+        last: None,
+        passed: false,
+        stand: Stand::Away,
+    }
+}
+
+impl Table {
+    /// The table at the start of a run, with one thread.
+    pub fn new(
+        alloc: Global,
+        limit: u32,
+        barriers: Vec<u64>,
+        locks: usize,
+    ) -> Result<Table, AllocError>
+        ensures table { IfOk result (λ t. table_of t ≡ record { limit = limit; barriers = barriers.items; seats = Rattle.task_ast.specs.Table.new_seat ∷ []; owners = replicate locks None; token = None; issued = 0 }) }
+        ensures held { IfOk result (λ t. AreHeld t.owners.owners.items t.owners.held.items) }
+    {
+        let owners = Owners::new(alloc, locks)?;
+        let mut seats = Vec::new(alloc);
+        seats.push(new_seat())?;
+        Ok(Table {
+            limit,
+            barriers,
+            seats,
+            owners,
+            start: 0,
+            issued: 0,
+        })
+    }
+
+    /// The first of these threads that has not ended, as far as is known.
+    pub fn first_live(&self, from: usize, to: usize) -> Option<usize>
+        ensures { look (table_of self.now) (numbers from (to - from)) ≡ look_of (table_of self.now) result }
+    {
+        for t in from..to {
+            match self.seats.get(t) {
+                Some(seat) => {
+                    if !has_ended(seat) {
+                        return Some(t);
+                    }
+                }
+                None => return Some(t),
+            }
+        }
+        None
+    }
+
+    /// The thread that the token comes to.
+    pub fn token_at(&self) -> Option<usize>
+        ensures { look (table_of self.now) (ring (table_of self.now).token (length (table_of self.now).seats)) ≡ look_of (table_of self.now) result }
+    {
+        if let Some(t) = self.first_live(self.start, self.seats.len()) {
+            return Some(t);
+        }
+        self.first_live(0, self.start)
+    }
+
+    /// The next synchronisation of a thread becomes known.
+    pub fn learn(&mut self, t: usize, next: Next)
+        requires { t < length self.old.seats.items }
+        ensures table { table_of self.new ≡ learning (table_of self.old) t next }
+        ensures owners { self.new.owners ≡ self.old.owners }
+    {
+        self.seats[t].next = Some(next);
+    }
+}
+
+/// No thread has passed since the last change.
+pub fn clear(seats: &mut [Seat])
+    ensures { map seat_of seats.new ≡ map unpassed (map seat_of seats.old) }
+{
+    for seat in seats.iter_mut() {
+        seat.passed = false;
+    }
+}

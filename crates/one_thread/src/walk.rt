@@ -1,0 +1,448 @@
+// The walk of one thread over its task's statements.
+ghost use Rattle.std.specs.Prelude.{◌≡◌, ◌≤◌, ◌^◌, ℕ, ℤ, IsTrue, List, Option, Some, is_some, [], ◌∷◌, ◌++◌, position, IfOk, OnOk};
+ghost use Rattle.task_ast.specs.Names.{is_task, is_name, locks_of, records_of, barriers_of, cells_in, registers_of};
+ghost use Rattle.task_ast.specs.Tree as plain;
+ghost use Rattle.task_ast.specs.Tree.{Name as PlainName};
+ghost use Rattle.task_ast.specs.declared.sync.SyncOp.TheVariants as sync;
+ghost use Rattle.task_ast.specs.Control.{step, step_at, tree_body, control_arguments, data_arguments, fork_of, begin_actions, behind, Setting, lock_number as lock_number_at};
+ghost use Rattle.task_ast.specs.View.{plain_expr, plain_exprs, plain_stmts, plain_block, plain_what, plain_task, plain_program};
+ghost use Rattle.task_ast.specs.Shaped.{is_data};
+ghost use Rattle.task_ast.specs.Action.{Action};
+ghost use Rattle.one_thread.specs.Working.{all_worked};
+ghost use Rattle.one_thread.specs.Remaining.{left_of, rest_of};
+ghost use Rattle.one_thread.specs.Walking.{setting_of, point_of, LeadsTo, Stepped, Came, Halted, Ran, Begun, Gives};
+
+use crate::cells::{barrier_number, lock_number, same_name};
+use crate::data::{Data, data_value, fits, has_value, index_of, is_zero, perform, register_number};
+use crate::left::Left;
+use crate::variables::{register_names, set_number, with_value, zeros};
+use gp_base::{LockNo, Name, Nums, Seq};
+use std::alloc::{AllocError, Global};
+use std::mem;
+use task_ast::{Atom, Env, Expr, Next, Param, Program, Stmt, SyncOp, TaskText, What, eval_d};
+
+/// A thread at work: its task, the statements left, its control variables under which expressions are read, and its
+/// data.
+#[derive(Drop)]
+pub struct Walk<'a> {
+    pub program: &'a Program,
+    pub task: &'a TaskText,
+    pub registers: &'a [Name],
+    pub left: Left<'a>,
+    pub env: Env,
+    pub data: Data,
+}
+
+/// What one control step did: it led on, or it found a loop turn with the body of its loop, or a stop.
+#[derive(Drop)]
+pub enum Went<'a> {
+    On,
+    Turned(&'a [Stmt]),
+    Stopped(Next),
+}
+
+fn stop<'a>(sync: SyncOp, line: u32) -> Went<'a>
+    ensures { result ≡ Went.Stopped (record { sync = sync; line = line }) }
+{
+    Went::Stopped(Next { sync, line })
+}
+
+fn fault<'a>(line: u32) -> Went<'a>
+    ensures { result ≡ Went.Stopped (record { sync = SyncOp.BadIndex; line = line }) }
+{
+    stop(SyncOp::BadIndex, line)
+}
+
+// The number of the first task of this name.
+fn task_place(tasks: &[TaskText], name: &Name) -> Option<usize>
+    ensures { result ≡ position (λ task. is_name name.now task.name) tasks.now }
+{
+    tasks.iter().position(|task| same_name(name, &task.name))
+}
+
+fn number(k: usize) -> Result<u32, AllocError>
+    ensures { IfOk result (λ number. number ≡ k) }
+{
+    match u32::try_from(k) {
+        Ok(number) => Ok(number),
+        Err(_) => Err(AllocError),
+    }
+}
+
+// The values of a fork's control arguments, or `None` where one has none.
+fn control_values(
+    alloc: Global,
+    params: &[Param],
+    es: &[Expr],
+    env: &Env,
+) -> Result<Option<Nums>, AllocError>
+    ensures { IfOk result (λ values. values ≡ control_arguments params.now (plain_exprs es.now) env.now) }
+{
+    let mut values = Seq::new(alloc);
+    for (k, param) in params.iter().enumerate() {
+        let Some(e) = es.get(k) else {
+            return Ok(Some(values));
+        };
+        if let Param::Ctl(_) = param {
+            match eval_d(e, env) {
+                Some(v) => values.push(v)?,
+                None => return Ok(None),
+            }
+        }
+    }
+    Ok(Some(values))
+}
+
+// Whether each data argument of a fork has a value.
+fn data_fits(params: &[Param], es: &[Expr], env: &Env) -> bool
+    ensures { (s : Setting) (given registers : List PlainName) → result ≡ is_some (data_arguments s given registers params.now (plain_exprs es.now) env.now) }
+{
+    for (k, param) in params.iter().enumerate() {
+        let Some(e) = es.get(k) else {
+            return true;
+        };
+        match param {
+            Param::Reg(_) => {
+                if !has_value(e, env) {
+                    return false;
+                }
+            }
+            Param::Ctl(_) => {}
+        }
+    }
+    true
+}
+
+// The data arguments of a fork go into the registers of the child.
+fn give(params: &[Param], es: &[Expr], given: &[Name], names: &[Name], env: &Env, data: &mut Data)
+    ensures { (joined : ℤ) (s : Setting) (actions : List Action) → data_arguments s given.now names.now params.now (plain_exprs es.now) env.now ≡ Some actions → data.new ≡ all_worked joined actions data.old }
+{
+    for (k, param) in params.iter().enumerate() {
+        let Some(e) = es.get(k) else {
+            return;
+        };
+        match param {
+            Param::Reg(x) => {
+                if let Some(v) = data_value(e, names, env, data.registers.as_slice()) {
+                    set_number(&mut data.child, register_number(given, x), v);
+                }
+            }
+            Param::Ctl(_) => {}
+        }
+    }
+}
+
+impl<'a> Walk<'a> {
+    // A statement that sets a control variable.
+    fn set_control(&mut self, alloc: Global, x: &Name, e: &Expr, line: u32) -> Went<'a>
+        requires clean { self.old.env.regs ≡ [] }
+        ensures { Stepped (step_at (setting_of self.old) line (plain.SetCtl x.now (plain_expr e.now)) (rest_of self.old.left) (point_of self.old)) result self.old self.new }
+    {
+        match eval_d(e, &self.env) {
+            None => fault(line),
+            Some(v) => {
+                let names = mem::replace(&mut self.env.names, Seq::new(alloc));
+                self.env.names = with_value(names, x, v);
+                self.left.pass();
+                Went::On
+            }
+        }
+    }
+
+    // A loop.
+    fn turn(&mut self, e: &Expr, body: &'a [Stmt], line: u32) -> Went<'a>
+        requires clean { self.old.env.regs ≡ [] }
+        requires first { left_of self.old.left ≡ plain.At line (plain.While (plain_expr e.now) (plain_block body.now)) ∷ rest_of self.old.left }
+        ensures { Stepped (step_at (setting_of self.old) line (plain.While (plain_expr e.now) (plain_block body.now)) (rest_of self.old.left) (point_of self.old)) result self.old self.new }
+    {
+        match eval_d(e, &self.env) {
+            None => fault(line),
+            Some(v) => {
+                if is_zero(v) {
+                    self.left.pass();
+                    Went::On
+                } else {
+                    Went::Turned(body)
+                }
+            }
+        }
+    }
+
+    // A choice.
+    fn choose(
+        &mut self,
+        e: &Expr,
+        first: &'a [Stmt],
+        second: &'a [Stmt],
+        line: u32,
+    ) -> Result<Went<'a>, AllocError>
+        requires clean { self.old.env.regs ≡ [] }
+        ensures { IfOk result (λ went. Stepped (step_at (setting_of self.old) line (plain.If (plain_expr e.now) (plain_block first.now) (plain_block second.now)) (rest_of self.old.left) (point_of self.old)) went self.old self.new) }
+    {
+        match eval_d(e, &self.env) {
+            None => Ok(fault(line)),
+            Some(v) => {
+                self.left.pass();
+                if is_zero(v) {
+                    self.left.enter(second)?;
+                    Ok(Went::On)
+                } else {
+                    self.left.enter(first)?;
+                    Ok(Went::On)
+                }
+            }
+        }
+    }
+
+    // A fork of the task of this name.
+    fn fork(&self, alloc: Global, t: &Name, es: &[Expr], line: u32) -> Result<Went<'a>, AllocError>
+        requires clean { self.now.env.regs ≡ [] }
+        ensures { IfOk result (λ went. (into : Option PlainName) → Stepped (step_at (setting_of self.now) line (plain.Fork t.now (plain_exprs es.now) into) (rest_of self.now.left) (point_of self.now)) went self.now self.now) }
+    {
+        let Some(k) = task_place(self.program.tasks.as_slice(), t) else {
+            return Ok(fault(line));
+        };
+        let params = self.program.tasks.as_slice()[k].params.as_slice();
+        let Some(args) = control_values(alloc, params, es, &self.env)? else {
+            return Ok(fault(line));
+        };
+        if data_fits(params, es, &self.env) {
+            Ok(stop(
+                SyncOp::Fork {
+                    task: number(k)?,
+                    args,
+                },
+                line,
+            ))
+        } else {
+            Ok(fault(line))
+        }
+    }
+
+    // A lock cell that a statement names.
+    fn lock_at(&self, array: &Name, i: &Atom) -> Option<LockNo>
+        requires { cells_in (locks_of self.now.program.now.heads) ≤ 65536 }
+        ensures { result ≡ lock_number_at (setting_of self.now) array.now i.now self.now.env }
+    {
+        match lock_number(self.program.heads.as_slice(), array, index_of(i, &self.env)) {
+            Some(lock) => Some(LockNo(lock)),
+            None => None,
+        }
+    }
+
+    fn barrier(&self, b: &Name, line: u32) -> Result<Went<'a>, AllocError>
+        requires clean { self.now.env.regs ≡ [] }
+        ensures { IfOk result (λ went. Stepped (step_at (setting_of self.now) line (plain.Barrier b.now) (rest_of self.now.left) (point_of self.now)) went self.now self.now) }
+    {
+        match barrier_number(self.program.heads.as_slice(), b) {
+            Some(n) => Ok(stop(SyncOp::Barrier(number(n)?), line)),
+            None => Ok(fault(line)),
+        }
+    }
+
+    // A data statement.
+    fn act(&mut self, alloc: Global, what: &What, line: u32) -> Result<Went<'a>, AllocError>
+        requires clean { self.old.env.regs ≡ [] }
+        requires records { cells_in (records_of self.old.program.now.heads) ≤ 65536 }
+        requires registers { self.old.registers.now ≡ registers_of (plain_task self.old.task.now) }
+        requires data { IsTrue (is_data (plain_what what.now)) }
+        ensures { IfOk result (λ went. Stepped (step_at (setting_of self.old) line (plain_what what.now) (rest_of self.old.left) (point_of self.old)) went self.old self.new) }
+    {
+        if fits(what, self.program, &self.env) {
+            perform(
+                alloc,
+                what,
+                self.program,
+                self.registers,
+                &self.env,
+                &mut self.data,
+            )?;
+            self.left.pass();
+            Ok(Went::On)
+        } else {
+            Ok(fault(line))
+        }
+    }
+
+    // One control step. A loop turn is only found.
+    fn step(&mut self, alloc: Global) -> Result<Went<'a>, AllocError>
+        requires locks { cells_in (locks_of self.old.program.now.heads) ≤ 65536 }
+        requires records { cells_in (records_of self.old.program.now.heads) ≤ 65536 }
+        requires registers { self.old.registers.now ≡ registers_of (plain_task self.old.task.now) }
+        requires clean { self.old.env.regs ≡ [] }
+        ensures { IfOk result (λ went. Stepped (step (setting_of self.old) (point_of self.old)) went self.old self.new) }
+    {
+        let Some(s) = self.left.first() else {
+            return Ok(stop(SyncOp::End, 0));
+        };
+        let line = s.line;
+        match &s.what {
+            What::SetCtl(x, e) => Ok(self.set_control(alloc, x, e, line)),
+            What::While(e, body) => Ok(self.turn(e, body.as_slice(), line)),
+            What::If(e, first, second) => self.choose(e, first.as_slice(), second.as_slice(), line),
+            What::Lock(a, i) => match self.lock_at(a, i) {
+                Some(lock) => Ok(stop(SyncOp::Lock(lock), line)),
+                None => Ok(fault(line)),
+            },
+            What::Unlock(a, i) => match self.lock_at(a, i) {
+                Some(lock) => Ok(stop(SyncOp::Unlock(lock), line)),
+                None => Ok(fault(line)),
+            },
+            What::Fork(t, es, _) => self.fork(alloc, t, es.as_slice(), line),
+            What::Join(e, _) => match eval_d(e, &self.env) {
+                Some(h) => Ok(stop(SyncOp::Join(h), line)),
+                None => Ok(fault(line)),
+            },
+            What::Barrier(b) => self.barrier(b, line),
+            What::SetReg(_, _) => self.act(alloc, &s.what, line),
+            What::Read(_, _, _) => self.act(alloc, &s.what, line),
+            What::Write(_, _, _) => self.act(alloc, &s.what, line),
+            What::Print(_) => self.act(alloc, &s.what, line),
+            What::When(_, _, _) => self.act(alloc, &s.what, line),
+        }
+    }
+
+    // Steps up to a loop turn or a stop.
+    fn stretch(&mut self, alloc: Global) -> Result<Went<'a>, AllocError>
+        requires locks { cells_in (locks_of self.old.program.now.heads) ≤ 65536 }
+        requires records { cells_in (records_of self.old.program.now.heads) ≤ 65536 }
+        requires registers { self.old.registers.now ≡ registers_of (plain_task self.old.task.now) }
+        requires clean { self.old.env.regs ≡ [] }
+        ensures came { OnOk result (Came self.old self.new) }
+        ensures halts { IfOk result (λ went. Halted (step (setting_of self.new) (point_of self.new)) went self.new) }
+    {
+        loop {
+            match self.step(alloc)? {
+                Went::On => {}
+                went => return Ok(went),
+            }
+        }
+    }
+
+    /// Steps up to a stop, with at most so many loop turns.
+    pub fn run(&mut self, alloc: Global, turns: u64) -> Result<Next, AllocError>
+        requires locks { cells_in (locks_of self.old.program.now.heads) ≤ 65536 }
+        requires records { cells_in (records_of self.old.program.now.heads) ≤ 65536 }
+        requires registers { self.old.registers.now ≡ registers_of (plain_task self.old.task.now) }
+        requires clean { self.old.env.regs ≡ [] }
+        ensures { IfOk result (λ next. Ran (tree_body (setting_of self.old) turns (point_of self.old)) next self.old self.new) }
+    {
+        let mut left = turns;
+        loop {
+            match self.stretch(alloc)? {
+                Went::Turned(body) => {
+                    if left == 0 {
+                        return Ok(Next {
+                            sync: SyncOp::Spent,
+                            line: 0,
+                        });
+                    }
+                    left -= 1;
+                    self.left.enter(body)?;
+                }
+                Went::Stopped(next) => return Ok(next),
+                Went::On => unreachable!(),
+            }
+        }
+    }
+
+    // The registers of a fork's child: each data argument stands in the register of its parameter.
+    fn give_registers(&mut self, alloc: Global, t: &Name, es: &[Expr]) -> Result<(), AllocError>
+        requires registers { self.old.registers.now ≡ registers_of (plain_task self.old.task.now) }
+        requires clean { self.old.env.regs ≡ [] }
+        ensures { OnOk result (Gives (fork_of (setting_of self.old) t.now (plain_exprs es.now) (point_of self.old)) self.old self.new) }
+    {
+        let Some(k) = task_place(self.program.tasks.as_slice(), t) else {
+            return Ok(());
+        };
+        let task = &self.program.tasks.as_slice()[k];
+        let params = task.params.as_slice();
+        let Some(_values) = control_values(alloc, params, es, &self.env)? else {
+            return Ok(());
+        };
+        if !data_fits(params, es, &self.env) {
+            return Ok(());
+        }
+        let given = register_names(alloc, task)?;
+        self.data.child = zeros(alloc, given.len())?;
+        give(
+            params,
+            es,
+            given.as_slice(),
+            self.registers,
+            &self.env,
+            &mut self.data,
+        );
+        Ok(())
+    }
+
+    // A fork's variable gets the child's number.
+    fn begin_fork(
+        &mut self,
+        alloc: Global,
+        into: &Option<Name>,
+        child: Option<usize>,
+    ) -> Result<(), AllocError>
+        requires clean { self.old.env.regs ≡ [] }
+        ensures { OnOk result ((line : ℕ) (t : PlainName) (es : List plain.Expr) → LeadsTo (behind child (point_of self.old) (plain.At line (plain.Fork t es into.now) ∷ rest_of self.old.left)) self.old self.new × (self.new.data ≡ self.old.data)) }
+    {
+        if let (Some(c), Some(x)) = (child, into) {
+            let c = i64::from(number(c)?);
+            let names = mem::replace(&mut self.env.names, Seq::new(alloc));
+            self.env.names = with_value(names, x, c);
+        }
+        self.left.pass();
+        Ok(())
+    }
+
+    // A join's variable gets the value that the joined thread left.
+    fn begin_join(&mut self, into: &Option<Name>, joined: i64)
+        requires registers { self.old.registers.now ≡ registers_of (plain_task self.old.task.now) }
+        requires clean { self.old.env.regs ≡ [] }
+        ensures { (child : Option ℕ) (line : ℕ) (e : plain.Expr) → Begun (begin_actions (setting_of self.old) (plain.At line (plain.Join e into.now) ∷ rest_of self.old.left) (point_of self.old)) (behind child (point_of self.old) (plain.At line (plain.Join e into.now) ∷ rest_of self.old.left)) joined self.old self.new }
+    {
+        if let Some(x) = into {
+            let k = register_number(self.registers, x);
+            set_number(&mut self.data.registers, k, joined);
+            self.left.pass();
+            return;
+        }
+        self.left.pass();
+    }
+
+    /// Performs the synchronisation at which the thread stands: a fork's variable gets the child's number and its data
+    /// arguments stand in the child's registers; a join's variable gets the value that the joined thread left.
+    pub fn begin(
+        &mut self,
+        alloc: Global,
+        child: Option<usize>,
+        joined: i64,
+    ) -> Result<(), AllocError>
+        requires registers { self.old.registers.now ≡ registers_of (plain_task self.old.task.now) }
+        requires clean { self.old.env.regs ≡ [] }
+        ensures { OnOk result (Begun (begin_actions (setting_of self.old) (left_of self.old.left) (point_of self.old)) (behind child (point_of self.old) (left_of self.old.left)) joined self.old self.new) }
+    {
+        let Some(s) = self.left.first() else {
+            return Ok(());
+        };
+        match &s.what {
+            What::Fork(t, es, into) => {
+                self.give_registers(alloc, t, es.as_slice())?;
+                self.begin_fork(alloc, into, child)?;
+                Ok(())
+            }
+            What::Join(_, into) => Ok(self.begin_join(into, joined)),
+            What::SetCtl(_, _) => Ok(self.left.pass()),
+            What::While(_, _) => Ok(self.left.pass()),
+            What::If(_, _, _) => Ok(self.left.pass()),
+            What::Lock(_, _) => Ok(self.left.pass()),
+            What::Unlock(_, _) => Ok(self.left.pass()),
+            What::Barrier(_) => Ok(self.left.pass()),
+            What::SetReg(_, _) => Ok(self.left.pass()),
+            What::Read(_, _, _) => Ok(self.left.pass()),
+            What::Write(_, _, _) => Ok(self.left.pass()),
+            What::Print(_) => Ok(self.left.pass()),
+            What::When(_, _, _) => Ok(self.left.pass()),
+        }
+    }
+}
