@@ -1,0 +1,15 @@
+use Rattle.std.proofs.Common.{ap, refl, rules}
+use Rattle.std.specs.Vec.{with_items}
+use Rattle.std.proofs.lemmas.List.{with_items_is}
+use Rattle.token_order.specs.View.{table}
+use Rattle.token_order.proofs.Looking.{get-at}
+use Rattle.token_order.proofs.Turning.{arrived-is}
+use Rattle.token_order.specs.declared.threads.Stand.TheVariants.{Waits}
+use Rattle.token_order.proofs.threads.Threads.arrive.Goals as goal
+
+pub returns-clause-table : goal.returns-clause-table
+returns-clause-table c =
+    let same = with_items_is c.args.self.now.seats c.clear.new.seats (search rules) in
+    ap (λ ss. record (table c.args.self.now) { seats = ss })
+    (arrived-is c.args.self.now c.args.t c.clear.new.seats (with_items c.args.self.now.seats c.clear.new.seats).items c.index_mut.result.now (record c.index_mut.result.now { stand = Waits }) same (search rules)
+    (get-at (with_items c.args.self.now.seats c.clear.new.seats).items c.args.t c.index_mut.result.now (search rules) c.index_mut.ensures.value) refl)

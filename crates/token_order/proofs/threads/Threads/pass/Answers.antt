@@ -1,0 +1,12 @@
+use Rattle.std.proofs.Common.{sym, ap, refl, true, Some}
+use Rattle.task_ast.specs.Repeat.{More}
+use Rattle.token_order.specs.View.{table, seat_of}
+use Rattle.token_order.proofs.Looking.{get-at}
+use Rattle.token_order.proofs.Changing.{map-replaced}
+use Rattle.token_order.proofs.threads.Threads.pass.Goals as goal
+
+pub returns : goal.returns
+returns c =
+    ap (λ ss. More (record (table c.args.self.now) { seats = ss; token = Some c.args.t }))
+    (sym (map-replaced seat_of c.args.self.now.seats.items c.args.t (λ s. record s { passed = true }) c.index_mut.result.now _
+    (get-at c.args.self.now.seats.items c.args.t c.index_mut.result.now c.requires.exists c.index_mut.ensures.value) refl))

@@ -1,0 +1,32 @@
+-- What a turn answers, by the rules of turns.
+use Rattle.std.specs.Prelude.{◌≡◌, ℕ, ℤ, pos, negsuc, Bool, true, false, cond, Option, Some, None, nat_lt}
+use Rattle.task_ast.specs.Repeat.{Again, More, Done}
+use Rattle.task_ast.specs.Table.{Stand, Released, Away, Seat, Table}
+use Rattle.task_ast.specs.Turn.{Turn, Issue, Needs, Ended, turn}
+use Rattle.token_order.specs.declared.rules.Turn.{Turn as TurnHere}
+use Rattle.token_order.specs.declared.rules.Turn.TheVariants as here
+
+-- the answer by the rules is this one, with this table after it; where no thread moves the table is as it was
+abbrev pub Answered : Again Table Turn → Table → TurnHere → Table → Type 0
+Answered answer before (here.Issue t next child) after = answer ≡ Done (Issue t next child after)
+Answered answer before here.Pass after = answer ≡ More after
+Answered answer before (here.Needs t) after = (answer ≡ Done (Needs t)) × (after ≡ before)
+Answered answer before (here.Ended e) after = (answer ≡ Done (Ended e)) × (after ≡ before)
+
+-- one turn of a table answered this, and left that table
+abbrev pub Turned : Table → TurnHere → Table → Type 0
+Turned before result after = Answered (turn before) before result after
+
+-- a seat whose thread began a subthread
+abbrev pub begun : ℕ → Seat → Seat
+begun issued seat = record { next = None; last = Some issued; passed = false; stand = Away }
+
+-- the thread that a join names
+abbrev pub joined_in : ℤ → ℕ → Option ℕ
+joined_in (pos h) n = cond (nat_lt h n) (Some h) None
+joined_in (negsuc h) n = None
+
+-- whether a thread at a barrier was released
+abbrev pub is_free_to_go : Stand → Bool
+is_free_to_go Released = true
+is_free_to_go _ = false

@@ -1,0 +1,64 @@
+-- How the fields stand for the thread table.
+use Rattle.std.specs.Prelude.{ℕ, suc, ◌<◌, ◌≤◌, ⊤, cond, length, map, Option, Some, None, is_none}
+use Rattle.gp_base.specs.declared.limits.TheConstants.{MOST_THREADS}
+use Rattle.task_ast.specs.declared.sync.Next.{Next}
+use Rattle.task_ast.specs.Table.{Stand, Away, Waits, Released, Seat, Table, next_of, last_in}
+use Rattle.task_ast.specs.Turn.{Look, To, Unknown, NoThread}
+use Rattle.token_order.specs.declared.threads.Stand.{Stand as StandHere}
+use Rattle.token_order.specs.declared.threads.Stand.TheVariants as stands
+use Rattle.token_order.specs.declared.threads.Seat.{Seat as SeatHere}
+use Rattle.token_order.specs.declared.threads.Threads.{Threads}
+
+-- the table of the threads, and room for how many more there is
+pub record Roomy : Type 0 where
+  pub table : Table
+  pub spare : ℕ
+
+abbrev pub stand_view : StandHere → Stand
+stand_view stands.Away = Away
+stand_view stands.Waits = Waits
+stand_view stands.Released = Released
+
+abbrev pub seat_of : SeatHere → Seat
+seat_of seat = record { next = seat.next; last = seat.last; passed = seat.passed; stand = stand_view seat.stand }
+
+-- the thread table that the fields are
+abbrev pub table : Threads → Table
+table threads =
+    record {
+      limit = threads.limit;
+      barriers = threads.barriers.items;
+      seats = map seat_of threads.seats.items;
+      owners = threads.owners.items;
+      token = threads.token;
+      issued = threads.issued;
+    }
+
+abbrev pub look_with : ℕ → Option Next → Look
+look_with t None = Unknown t
+look_with t (Some next) = To t next
+
+-- the first thread that isn't known to have ended, with its next synchronisation
+abbrev pub look_of : Table → Option ℕ → Look
+look_of table None = NoThread
+look_of table (Some t) = look_with t (next_of table t)
+
+abbrev pub IsBelow : ℕ → Option ℕ → Type 0
+IsBelow n None = ⊤
+IsBelow n (Some t) = t < n
+
+-- there are at most as many threads as may exist, the thread whose turn was last is one of them, and locks have numbers of
+-- 32 bits
+pub record StandsInside (threads : Threads) : Type 0 where
+  pub few : length threads.seats.items ≤ MOST_THREADS
+  pub token : IsBelow (length threads.seats.items) threads.token
+  pub locks : length threads.owners.items ≤ 4294967295
+
+-- where the token begins to look
+abbrev pub start_of : Option ℕ → ℕ
+start_of None = 0
+start_of (Some t) = suc t
+
+-- from which position a thread's next synchronisation is awaited
+abbrev pub awaited : Table → ℕ → Option ℕ
+awaited table t = cond (is_none (next_of table t)) (last_in table t) None

@@ -1,0 +1,131 @@
+// The ring of threads, as its callers see it.
+
+ghost use Rattle.std.specs.Prelude.{◌≡◌, ◌<◌, ◌≤◌, length, None, IfOk, OnOk, replicate};
+ghost use Rattle.std.specs.Option.{option_map, option_copied};
+ghost use Rattle.task_ast.specs.Reached.{start_table};
+ghost use Rattle.task_ast.specs.Table.{next_of, learning, owned_from};
+ghost use Rattle.task_ast.specs.Turn.{owners_after};
+ghost use Rattle.task_ast.specs.laws.Threads.{ahead};
+ghost use Rattle.token_order.specs.Turned.{Turned};
+ghost use Rattle.token_order.specs.View.{awaited};
+
+use crate::rules::Turn;
+use crate::threads::Threads;
+use gp_base::{LockNo, Pos, Seq, ThreadNo};
+use std::alloc::{AllocError, Global};
+use std::marker::Model;
+use task_ast::{Next, SyncOp};
+
+/// The threads of a run, whose turns a token gives them as it goes round. Contracts see the thread table, and room for
+/// how many more threads there is.
+#[derive(Drop)]
+pub struct Ring {
+    threads: Threads,
+}
+
+impl Model for Ring {
+    ghost use Rattle.std.specs.Prelude.{◌-◌, vec_len, vec_capacity};
+    ghost use Rattle.token_order.specs.View.{Roomy, StandsInside, table};
+
+    ghost Value = { Roomy };
+
+    ghost view = { λ r. record { table = table r.threads; spare = vec_capacity r.threads.seats - vec_len r.threads.seats } };
+
+    ghost invariant = { λ r. StandsInside r.threads };
+}
+
+impl Ring {
+    /// One thread, which begins with `main`; so many lock cells, which nobody owns; the stated numbers of the barriers;
+    /// and the number of subthreads that may begin at most. The error is that memory is out.
+    pub fn new(
+        alloc: Global,
+        locks: u32,
+        barriers: Seq<u32>,
+        limit: u32,
+        main: Next,
+    ) -> Result<Ring, AllocError>
+        ensures { IfOk result (λ ring. ring.table ≡ start_table limit barriers (replicate locks None) main) }
+    {
+        let threads = Threads::new(alloc, locks, barriers.into_vec(), limit, main)?;
+        Ok(Ring { threads })
+    }
+
+    /// How many threads there are.
+    pub fn len(&self) -> usize
+        ensures { result ≡ length self.now.table.seats }
+    {
+        self.threads.seats.len()
+    }
+
+    /// Makes room for one more thread, which the next turn may fork. The error is that memory is out.
+    pub fn reserve(&mut self) -> Result<(), AllocError>
+        ensures table { self.new.table ≡ self.old.table }
+        ensures room { OnOk result (0 < self.new.spare) }
+        ensures kept { self.old.spare ≤ self.new.spare }
+    {
+        self.threads.seats.reserve(1)
+    }
+
+    /// One turn: a pass, an issue, or what is needed for one, or the end. Takes no memory.
+    pub fn turn(&mut self) -> Turn
+        requires { 0 < self.old.spare }
+        ensures turned { Turned self.old.table result self.new.table }
+    {
+        self.threads.turn()
+    }
+
+    /// The next synchronisation of a thread becomes known.
+    pub fn learn(&mut self, thread: ThreadNo, next: Next)
+        requires { thread < length self.old.table.seats }
+        ensures table { self.new.table ≡ learning self.old.table thread next }
+    {
+        self.threads.learn(thread.0, next);
+    }
+
+    /// The thread whose rules the next turn tries: none where a next synchronisation is needed, or every thread has passed
+    /// or ended.
+    pub fn ahead(&self) -> Option<ThreadNo>
+        ensures { result ≡ option_map (λ tried. tried.0) (ahead self.now.table) }
+    {
+        let t = self.threads.token_at()?;
+        let seat = &self.threads.seats[t as usize];
+        if seat.next.is_none() || seat.passed {
+            return None;
+        }
+        Some(ThreadNo(t))
+    }
+
+    /// A thread's next synchronisation, where it is known.
+    pub fn next_of(&self, thread: ThreadNo) -> Option<&Next>
+        ensures { option_copied result ≡ next_of self.now.table thread }
+    {
+        self.threads.seats.get(thread.0 as usize)?.next.as_ref()
+    }
+
+    /// The position of the thread's last subthread, where the next synchronisation is not known.
+    pub fn awaits(&self, thread: ThreadNo) -> Option<Pos>
+        ensures { result ≡ awaited self.now.table thread }
+    {
+        let seat = self.threads.seats.get(thread.0 as usize)?;
+        if seat.next.is_some() {
+            return None;
+        }
+        match seat.last {
+            Some(position) => Some(Pos(position)),
+            None => None,
+        }
+    }
+
+    /// The locks that the thread holds once it has performed the synchronisation, in rising order. The error is that memory
+    /// is out.
+    pub fn held_after(
+        &self,
+        alloc: Global,
+        thread: ThreadNo,
+        sync: &SyncOp,
+    ) -> Result<Seq<LockNo>, AllocError>
+        ensures { IfOk result (λ locks. locks ≡ owned_from 0 (owners_after sync.now thread self.now.table.owners) thread) }
+    {
+        self.threads.held_after(alloc, thread.0, sync)
+    }
+}
