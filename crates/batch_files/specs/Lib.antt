@@ -1,0 +1,6 @@
+pub mod Answers
+pub mod Faults
+pub mod Feeds
+pub mod Numbers
+pub mod Records
+pub mod Rows
