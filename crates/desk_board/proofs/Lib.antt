@@ -1,0 +1,11 @@
+pub mod Collecting
+pub mod DeskLists
+pub mod Draining
+pub mod FactsHold
+pub mod Hands
+pub mod LaidOut
+pub mod Places
+pub mod Seats
+pub mod Stages
+pub mod Steps
+pub mod Tallies

@@ -1,0 +1,60 @@
+// What lies on a desk, and what a seat at the board's table knows. Of the types that seats know no value is ever made:
+// they stand in proofs alone.
+
+use std::collections::LinkedList;
+use std::snapshot::Snapshot;
+
+/// What lies on a desk.
+#[derive(Drop)]
+pub enum Slot<J, R> {
+    Empty,
+    Todo(J),
+    Done(R),
+}
+
+/// What a board was made of: its jobs, of which job k lies on desk k, and what they are run under.
+pub struct About<J, W> {
+    pub jobs: LinkedList<J>,
+    pub with: W,
+}
+
+/// What a pass knows of itself.
+pub struct Hand {
+    /// Its part of the 64 parts of the right to draw.
+    pub share: u64,
+    /// The desks that it has drawn, and those that passes joined into it had drawn.
+    pub drawn: LinkedList<u64>,
+    /// Those of them whose run isn't back yet.
+    pub held: LinkedList<u64>,
+    /// The ticket at which it ended.
+    pub ticket: Option<u64>,
+}
+
+/// What the clerk knows.
+pub struct Book {
+    /// 1 at the clerk, and 0 elsewhere.
+    pub clerk: u64,
+    /// The desks that were seen done.
+    pub seen: LinkedList<u64>,
+    /// The desks that were collected.
+    pub taken: LinkedList<u64>,
+    /// How many looks there were.
+    pub looks: u64,
+    /// The desk of the last look, and the number found there.
+    pub last: Option<(u64, u64)>,
+}
+
+/// What a seat knows. A pass has an empty book, and the clerk an empty hand until it has gathered.
+pub struct View<J, W> {
+    /// What the board was made of, except at a seat that is given up.
+    pub about: Option<About<J, W>>,
+    pub hand: Hand,
+    pub book: Book,
+}
+
+/// What the rule is told once, when the table is made.
+#[derive(Drop)]
+pub struct Plan<J, W> {
+    pub jobs: Snapshot<Vec<J>>,
+    pub with: Snapshot<W>,
+}
