@@ -1,0 +1,2 @@
+pub mod AskedFacts
+pub mod ParseFacts

@@ -1,0 +1,35 @@
+-- The arguments of a command, and what words stand for them, by the definitions of `clap`.
+use Rattle.std.specs.Prelude.{◌≡◌, ℕ, Bool, true, false, List, [], ◌∷◌, Option, Some, None}
+use Rattle.clap.specs.Words.{App, Kinds, Row, Rule, Text, fault_of, first_of, found_of, matches_of, new_rule, rows_of}
+use Rattle.clap.specs.declared.parser.matches.ArgMatches.{ArgMatches}
+use Rattle.command_line.specs.Numbers.{number_in}
+
+-- a required positional, and an option with a value
+abbrev pub positional : Text → Rule
+positional name = record (new_rule name) { required = true }
+
+abbrev pub option_of : Text → Rule
+option_of name = record (new_rule name) { long = Some name }
+
+-- a parse has no fault
+abbrev pub is_faultless : Kinds → Bool
+is_faultless [] = true
+is_faultless (kind ∷ kinds) = false
+
+-- the command takes the words: no step of the parse has a fault
+abbrev pub Takes : App → List Text → Type 0
+Takes command words = fault_of command words ≡ []
+
+-- the text that stands for an argument, if one does
+abbrev pub text_of : Text → List Row → Option Text
+text_of = first_of
+
+-- the number of an option's text, or another number where there is no text
+abbrev pub number_or : (low high other : ℕ) → Option Text → Option ℕ
+number_or low high other (Some text) = number_in low high text
+number_or low high other None = Some other
+
+-- these are the matches of the words, or the command does not take the words
+abbrev pub IsParsedAs : App → List Text → Option ArgMatches → Type 0
+IsParsedAs command words (Some matches) = Takes command words × (rows_of (found_of matches) ≡ matches_of command words)
+IsParsedAs command words None = Takes command words → ⊥

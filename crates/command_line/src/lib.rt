@@ -1,0 +1,8 @@
+//! What the words of a command line ask for, read exactly.
+#![tactic(auto)]
+
+mod arguments;
+mod asked;
+mod number;
+
+pub use asked::{Asked, Command, read_words};
