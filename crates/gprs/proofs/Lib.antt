@@ -1,8 +1,9 @@
-pub mod Assigned
-pub mod Declared
+pub mod Loads
 pub mod OneCase
 pub mod PlainTexts
+pub mod Readable
+pub mod ReadsProgram
 pub mod Refused
-pub mod SmallTasks
+pub mod RunPieces
 pub mod Tail
 pub mod TopCall

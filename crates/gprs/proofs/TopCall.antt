@@ -1,151 +1,334 @@
--- From what the parts of the top call ensure to its own clauses.
-use Rattle.gp_base.proofs.Written.{prefix_whole}
-use Rattle.std.proofs.Common.{◌≡◌, ◌⊎◌, ℕ, List, IfSome, refl, inl, inr, arith}
+-- From what the parts of the top call ensure to what is promised of a call.
+use Rattle.std.proofs.Common.{◌≡◌, ◌⊎◌, ℕ, Bool, true, false, if◌then◌else◌, List, [], ◌++◌, take, IfSome, refl, sym, subst, inl, inr, arith, append-nil}
+use Rattle.std.specs.List.{Contains}
 use Rattle.std.specs.declared.option.Option.{Option}
 use Rattle.std.specs.declared.option.Option.TheVariants.{None, Some}
 use Rattle.std.specs.declared.result.Result.TheVariants.{Err}
+use Rattle.gp_base.specs.declared.ending.End.{End}
+use Rattle.gp_base.specs.declared.ending.End.TheVariants.{Finished, Stuck, Spent}
+use Rattle.gp_base.specs.declared.journal.Journal.{Journal}
+use Rattle.gp_base.proofs.Written.{prefix_whole, prefix_none, Keeps-same}
+use Rattle.task_ast.specs.Tree.{Name}
+use Rattle.command_line.specs.declared.asked.Asked.{Asked}
+use Rattle.command_line.specs.declared.asked.Command.{Command}
 use Rattle.gprs.specs.declared.batch.Refusal.{Refusal}
-use Rattle.gprs.specs.declared.batch.Refusal.TheVariants.{Usage as RefusedUsage}
-use Rattle.std.proofs.Common.{Result}
-use Rattle.gprs.specs.Case.{Case, Usage, BadProgram, Go, IsCase, ForCase, names_read, status_of, text_of, line_of}
-use Rattle.task_ast.specs.Tree.{Program}
-use Rattle.gprs.specs.declared.words.Command.{Command}
-use Rattle.gprs.specs.declared.run.Batch.{Batch}
-use Rattle.gprs.specs.Decided.{case_of, TouchesShelf}
-use Rattle.gprs.specs.Answers.{Change, TakesAll, TakesPart, TakesNothing, Fails, Grew, write_fault_line, Yields, due_status, no_memory, read_fault, write_fault, LineEnds, whole, line_failed, line_no_memory, RunEnds, finished, run_no_memory, output_failed, error_failed}
-use Rattle.gprs.specs.Headline.{IsWhole, TellsCase, IsRefusal, HasCaseLine, TellsReadFault, TellsWriteFault, RefusalEnds, usage_told, program_told, read_told, refusal_no_memory, refusal_failed}
+use Rattle.gprs.specs.declared.batch.Refusal.TheVariants.{Usage as RefusedUsage, BadProgram as RefusedProgram, BadInput as RefusedInput, ReadFault, OutOfMemory}
+use Rattle.gprs.specs.Work.{Files, Work, Commands, runs, is_traced}
+use Rattle.gprs.specs.PlainText.{plain_ran}
+use Rattle.gprs.specs.Case.{Case, Usage, BadProgram, BadInput, Go, IsCase, ForCase, IsMissing, end_status, work_status, names_read, status_of, text_of, line_of}
+use Rattle.gprs.specs.Lines.{out_of_memory_line, write_fault_line}
+use Rattle.gprs.specs.Decided.{AnswersCase, AnswersNoCommand, TouchesShelf, TellsRefusal, TakesRefusal, RefusalEnds, usage_told, program_told, input_told, read_told, refusal_no_memory, refusal_failed}
+use Rattle.gprs.specs.Answers.{Change, TakesAll, TakesPart, TakesNothing, Fails, Grew, IsStopLine, Yields, due_status, no_memory, read_fault, write_fault, LineEnds, whole, line_failed, line_no_memory, RunEnds, finished, run_no_memory, output_failed, error_failed}
+use Rattle.gprs.specs.Headline.{IsWhole, TellsCase, IsRefusal, HasCaseLine, TakesTrace, TellsReadFault, TellsWriteFault, IsStop, IsDue, TakesStopLines, IsEmpty, Headline}
 use Rattle.gprs.proofs.OneCase.{for_known, for_each}
 
 -- a line that was due for a refusal
-pub ends_by_line : (line : List ℕ) (err : Change) (refusal : Refusal) (due status : ℕ) → (TakesAll err line → RefusalEnds err refusal due) → LineEnds due line err status → RefusalEnds err refusal status
-ends_by_line line err refusal due status told (whole all) = told all
-ends_by_line line err refusal due status told (line_failed fails) = refusal_failed fails
-ends_by_line line err refusal due status told line_no_memory = refusal_no_memory
+pub ends_by_line : (line : List ℕ) (err : Change) (refusal : Refusal) (due status : ℕ) → TellsRefusal refusal line ⊎ IsStopLine line → (TakesAll err line → RefusalEnds err refusal due) → LineEnds due line err status
+    → RefusalEnds err refusal status
+ends_by_line line err refusal due status tells told (whole all) = told all
+ends_by_line line err refusal due status tells told (line_failed part fails) = refusal_failed fails (line, tells, part)
+ends_by_line line err refusal due status tells told (line_no_memory part) = refusal_no_memory (line, tells, part)
 
--- a run's text that was not written whole, and the line that tells why
-pub run_of_failed : (text : List ℕ) (out err : Change) (status : ℕ) → TakesPart out text → Fails out → LineEnds 8 write_fault_line err status → RunEnds text out err status
-run_of_failed text out err status part fails (whole all) = output_failed part fails all
-run_of_failed text out err status part fails (line_failed failed) = error_failed part failed
-run_of_failed text out err status part fails line_no_memory = run_no_memory part
+-- the line of status 1 where a refusal finds no memory
+pub ends_by_memory : (err : Change) (refusal : Refusal) (status : ℕ) → LineEnds 1 out_of_memory_line err status → RefusalEnds err refusal status
+ends_by_memory err refusal status ends =
+    ends_by_line out_of_memory_line err refusal 1 status (inr (inl refl)) (λ all. refusal_no_memory (out_of_memory_line, inr (inl refl), prefix_whole err.written err.written' out_of_memory_line all)) ends
 
-pub run_of_memory : (text line : List ℕ) (out err : Change) (status : ℕ) → TakesPart out text → LineEnds 1 line err status → RunEnds text out err status
-run_of_memory text line out err status part (whole all) = run_no_memory part
-run_of_memory text line out err status part (line_failed failed) = error_failed part failed
-run_of_memory text line out err status part line_no_memory = run_no_memory part
+-- a text that was not written whole, and the line that tells why
+pub run_of_failed : (text : List ℕ) (due : ℕ) (out err : Change) (status : ℕ) → TakesPart out text → Fails out → LineEnds 8 write_fault_line err status → RunEnds text due out err status
+run_of_failed text due out err status part fails (whole all) = output_failed part fails all
+run_of_failed text due out err status part fails (line_failed taken failed) = error_failed part failed (write_fault_line, inr refl, taken)
+run_of_failed text due out err status part fails (line_no_memory taken) = run_no_memory part (write_fault_line, inr refl, taken)
 
--- a run that was begun
-pub run_status : (command : Command) (program : Program) (out err : Change) (grew : Type 0) (status : ℕ) → RunEnds (text_of (Go command program)) out err status → Yields (status_of (Go command program)) grew (Fails out ⊎ Fails err) status
-run_status command program out err grew status (finished all quiet) = due_status
-run_status command program out err grew status (run_no_memory part) = no_memory
-run_status command program out err grew status (output_failed part fails told) = write_fault (inl fails)
-run_status command program out err grew status (error_failed part fails) = write_fault (inr fails)
+pub run_of_memory : (text : List ℕ) (due : ℕ) (out err : Change) (status : ℕ) → TakesPart out text → LineEnds 1 out_of_memory_line err status → RunEnds text due out err status
+run_of_memory text due out err status part (whole all) = run_no_memory part (out_of_memory_line, inl refl, prefix_whole err.written err.written' out_of_memory_line all)
+run_of_memory text due out err status part (line_failed taken failed) = error_failed part failed (out_of_memory_line, inl refl, taken)
+run_of_memory text due out err status part (line_no_memory taken) = run_no_memory part (out_of_memory_line, inl refl, taken)
 
-pub run_whole : (text : List ℕ) (out err : Change) (status : ℕ) → RunEnds text out err status → IsWhole status → TakesAll out text
-run_whole text out err status (finished all quiet) is = all
-run_whole text out err status (run_no_memory part) (inl is) = absurd (omega (arith, is))
-run_whole text out err status (run_no_memory part) (inr (inl is)) = absurd (omega (arith, is))
-run_whole text out err status (run_no_memory part) (inr (inr is)) = absurd (omega (arith, is))
-run_whole text out err status (output_failed part fails told) (inl is) = absurd (omega (arith, is))
-run_whole text out err status (error_failed part fails) (inl is) = absurd (omega (arith, is))
-run_whole text out err status (output_failed part fails told) (inr (inl is)) = absurd (omega (arith, is))
-run_whole text out err status (error_failed part fails) (inr (inl is)) = absurd (omega (arith, is))
-run_whole text out err status (output_failed part fails told) (inr (inr is)) = absurd (omega (arith, is))
-run_whole text out err status (error_failed part fails) (inr (inr is)) = absurd (omega (arith, is))
+-- a prefix of a line that is due, or of the line that tells the stop
+due_lines : (is_due : List ℕ → Type 0) (err : Change) (due : List ℕ) → is_due due → TakesPart err due → TakesStopLines is_due err
+due_lines is_due err due for_case (n, taken) = record {
+  due = due;
+  for_case = for_case;
+  first = n;
+  stop = out_of_memory_line;
+  for_stop = inl refl;
+  second = 0;
+  taken = subst (TakesAll err) (sym (append-nil (take n due))) taken;
+}
 
-pub run_quiet : (text : List ℕ) (out err : Change) (status : ℕ) → RunEnds text out err status → IsWhole status → TakesNothing err
-run_quiet text out err status (finished all quiet) is = quiet
-run_quiet text out err status (run_no_memory part) is = absurd (grind (arith, is))
-run_quiet text out err status (output_failed part fails told) is = absurd (grind (arith, is))
-run_quiet text out err status (error_failed part fails) is = absurd (grind (arith, is))
+stop_lines : (is_due : List ℕ → Type 0) (err : Change) (due stop : List ℕ) → is_due due → IsStopLine stop → TakesPart err stop → TakesStopLines is_due err
+stop_lines is_due err due stop for_case for_stop (n, taken) = record { due = due; for_case = for_case; first = 0; stop = stop; for_stop = for_stop; second = n; taken = taken }
 
-pub run_not_refused : (text : List ℕ) (out err : Change) (status : ℕ) → RunEnds text out err status → IsRefusal status → TakesNothing out
-run_not_refused text out err status (finished all quiet) is = absurd (grind (arith, is))
-run_not_refused text out err status (run_no_memory part) is = absurd (grind (arith, is))
-run_not_refused text out err status (output_failed part fails told) is = absurd (grind (arith, is))
-run_not_refused text out err status (error_failed part fails) is = absurd (grind (arith, is))
+-- the status that a work calls for is one of a whole text
+end_whole : (e : End) → IsWhole (end_status e)
+end_whole Finished = inl refl
+end_whole (Stuck why thread line) = inr (inl refl)
+end_whole (Spent position) = inr (inr refl)
 
-pub run_part : (text : List ℕ) (out err : Change) (status : ℕ) → RunEnds text out err status → TakesPart out text
-run_part text out err status (finished all quiet) = prefix_whole out.written out.written' text all
-run_part text out err status (run_no_memory part) = part
-run_part text out err status (output_failed part fails told) = part
-run_part text out err status (error_failed part fails) = part
+work_whole : (command : Command) (work : Work) → IsWhole (work_status command work)
+work_whole command work = go (runs command)
+  where
+    go : (b : Bool) → IsWhole (if b then end_status (plain_ran work).end else 0)
+    go true = end_whole (plain_ran work).end
+    go false = inl refl
 
-pub run_fault : (text : List ℕ) (out err : Change) (status : ℕ) → RunEnds text out err status → status ≡ 8 → TellsWriteFault out err
-run_fault text out err status (finished all quiet) is = absurd (omega (arith, is))
-run_fault text out err status (run_no_memory part) is = absurd (omega (arith, is))
-run_fault text out err status (output_failed part fails told) is = inr (fails, told)
-run_fault text out err status (error_failed part fails) is = inl fails
+-- the case that an answer tells, and its status
+told_case : (commands : Commands) (words : List (List ℕ)) (files : Option Files) (known : Case) → IfSome files (λ told. IsCase commands words told known)
+    → IfSome files (λ told. (case : Case) × IsCase commands words told case × (status_of case ≡ status_of known))
+told_case commands words None known is = tt
+told_case commands words (Some files) known is = (known, is, refl)
 
-pub run_no_line : (text : List ℕ) (out err : Change) (status : ℕ) → RunEnds text out err status → HasCaseLine status → ⊥
-run_no_line text out err status (finished all quiet) is = grind (arith, is)
-run_no_line text out err status (run_no_memory part) is = grind (arith, is)
-run_no_line text out err status (output_failed part fails told) is = grind (arith, is)
-run_no_line text out err status (error_failed part fails) is = grind (arith, is)
+quiet_of : (asked : Option Asked) (journal : Journal) (err : Change) → TakesNothing err → IfSome asked (λ asked. TakesTrace (is_traced asked) journal err)
+quiet_of None journal err quiet = tt
+quiet_of (Some asked) journal err quiet = quiet
 
-pub run_no_read : (text : List ℕ) (out err : Change) (status : ℕ) → RunEnds text out err status → status ≡ 7 → ⊥
-run_no_read text out err status (finished all quiet) is = omega (arith, is)
-run_no_read text out err status (run_no_memory part) is = omega (arith, is)
-run_no_read text out err status (output_failed part fails told) is = omega (arith, is)
-run_no_read text out err status (error_failed part fails) is = omega (arith, is)
+-- a work that was begun
+module _ (text : List ℕ) (due : ℕ) (out err : Change) where
+  run_status : (grew : Type 0) (status : ℕ) → RunEnds text due out err status → Yields due grew (Fails out ⊎ Fails err) status
+  run_status grew status (finished all quiet) = due_status
+  run_status grew status (run_no_memory part stop) = no_memory
+  run_status grew status (output_failed part fails told) = write_fault (inl fails)
+  run_status grew status (error_failed part fails stop) = write_fault (inr fails)
+
+  run_whole : (status : ℕ) → RunEnds text due out err status → IsWhole status → TakesAll out text × TakesNothing err × (due ≡ status)
+  run_whole status (finished all quiet) is = (all, quiet, refl)
+  run_whole status (run_no_memory part stop) is = absurd (grind (arith, is))
+  run_whole status (output_failed part fails told) is = absurd (grind (arith, is))
+  run_whole status (error_failed part fails stop) is = absurd (grind (arith, is))
+
+  run_part : (status : ℕ) → RunEnds text due out err status → TakesPart out text
+  run_part status (finished all quiet) = prefix_whole out.written out.written' text all
+  run_part status (run_no_memory part stop) = part
+  run_part status (output_failed part fails told) = part
+  run_part status (error_failed part fails stop) = part
+
+  run_fault : (status : ℕ) → IsWhole due → RunEnds text due out err status → status ≡ 8 → TellsWriteFault out err
+  run_fault status is_whole (finished all quiet) is = absurd (grind (arith, is_whole, is))
+  run_fault status is_whole (run_no_memory part stop) is = absurd (omega (arith, is))
+  run_fault status is_whole (output_failed part fails told) is = inr (fails, told)
+  run_fault status is_whole (error_failed part fails stop) is = inl fails
+
+  run_not_refused : (status : ℕ) → IsWhole due → RunEnds text due out err status → IsRefusal status → ⊥
+  run_not_refused status is_whole (finished all quiet) is = grind (arith, is_whole, is)
+  run_not_refused status is_whole (run_no_memory part stop) is = grind (arith, is)
+  run_not_refused status is_whole (output_failed part fails told) is = grind (arith, is)
+  run_not_refused status is_whole (error_failed part fails stop) is = grind (arith, is)
+
+  run_stopped : (is_due : List ℕ → Type 0) (line : List ℕ) → is_due line → (status : ℕ) → IsWhole due → RunEnds text due out err status → IsStop status → TakesStopLines is_due err
+  run_stopped is_due line for_case status is_whole (finished all quiet) is = absurd (grind (arith, is_whole, is))
+  run_stopped is_due line for_case status is_whole (run_no_memory part stop) is = stop_lines is_due err line stop.0 for_case stop.1 stop.2
+  run_stopped is_due line for_case status is_whole (output_failed part fails told) is =
+      stop_lines is_due err line write_fault_line for_case (inr refl) (prefix_whole err.written err.written' write_fault_line told)
+  run_stopped is_due line for_case status is_whole (error_failed part fails stop) is = stop_lines is_due err line stop.0 for_case stop.1 stop.2
+
+-- a work that was begun meets the promise
+pub run_headline : (commands : Commands) (words : List (List ℕ)) (files : Option Files) (failed failed' : List Name) (out err : Change) (status : ℕ) (journal : Journal) (work : Work)
+    → (commands.reading words ≡ None → ⊥) → IfSome files (λ told. IsCase commands words told (Go work)) → failed' ≡ failed → IsEmpty journal
+    → RunEnds (text_of (Go work)) (status_of (Go work)) out err status
+    → Headline commands (record { words = words; files = files; failed = failed; failed' = failed'; out = out; err = err; status = status; journal = journal })
+run_headline commands words files failed failed' out err status journal work command known same empty ends =
+    let text = text_of (Go work) in
+    let due = status_of (Go work) in
+    let is_whole = work_whole work.command work in
+    let not_refused : IsRefusal status → ⊥ = run_not_refused text due out err status is_whole ends in
+    record {
+      status = for_known commands words files (Go work) (λ case. Yields (status_of case) (Grew failed failed') (Fails out ⊎ Fails err) status) known (run_status text due out err (Grew failed failed') status ends);
+      told = run_told commands words files out err status work known not_refused ends;
+      usage = λ is. absurd (not_refused (inl (inl is)));
+      no_command = λ none. absurd (command none);
+      text = for_known commands words files (Go work) (λ case. IsWhole status → TakesAll out (text_of case)) known (λ is. (run_whole text due out err status ends is).0);
+      prefix = for_known commands words files (Go work) (λ case. TakesPart out (text_of case)) known (run_part text due out err status ends);
+      refused = λ is. absurd (not_refused is);
+      quiet = λ is. quiet_of (commands.reading words) journal err (run_whole text due out err status ends is).1;
+      line = for_each commands words files (λ case. HasCaseLine status → TakesAll err (line_of case)) (λ case is. absurd (not_refused (inl is)));
+      read_fault = λ is. absurd (not_refused (inr is));
+      write_fault = run_fault text due out err status is_whole ends;
+      stopped = λ is. for_known commands words files (Go work) (λ case. TakesStopLines (IsDue case) err) known (run_stopped text due out err (IsDue (Go work)) [] (inl refl) status is_whole ends is);
+      untouched = λ tells. same;
+      unread = λ none. same;
+      missing = for_known commands words files (Go work) (λ case. IsMissing case → Grew failed failed' ⊎ (status ≡ 1) ⊎ Fails err) known (λ missing. absurd missing);
+      journal = λ unbegun. empty;
+    }
+  where
+    run_told : (commands : Commands) (words : List (List ℕ)) (files : Option Files) (out err : Change) (status : ℕ) (work : Work) → IfSome files (λ told. IsCase commands words told (Go work)) → (IsRefusal status → ⊥)
+        → RunEnds (text_of (Go work)) (status_of (Go work)) out err status → TellsCase status → IfSome files (λ told. (case : Case) × IsCase commands words told case × (status_of case ≡ status))
+    run_told commands words None out err status work known not_refused ends tells = tt
+    run_told commands words (Some files) out err status work known not_refused ends (inl is_whole) = (Go work, known, (run_whole (text_of (Go work)) (status_of (Go work)) out err status ends is_whole).2)
+    run_told commands words (Some files) out err status work known not_refused ends (inr is_line) = absurd (not_refused (inl is_line))
+
+-- what holds of a case that is known but for a part
+for_some : (commands : Commands) (words : List (List ℕ)) (files : Option Files) (X : Type 0) (known : X → Case) (P : Case → Type 0) → IfSome files (λ told. (x : X) × IsCase commands words told (known x)) → ((x : X) → P (known x))
+    → ForCase commands words files P
+for_some commands words None X known P is holds = tt
+for_some commands words (Some files) X known P (x, is) holds = for_known commands words (Some files) (known x) P is (holds x)
+
+told_some : (commands : Commands) (words : List (List ℕ)) (files : Option Files) (X : Type 0) (known : X → Case) (status : ℕ) → IfSome files (λ told. (x : X) × IsCase commands words told (known x)) → ((x : X) → status_of (known x) ≡ status)
+    → IfSome files (λ told. (case : Case) × IsCase commands words told case × (status_of case ≡ status))
+told_some commands words None X known status is same = tt
+told_some commands words (Some files) X known status (x, is) same = (known x, is, same x)
 
 -- a refusal
-pub refused_status : (words : List (List ℕ)) (files : Option (List (List ℕ × List ℕ))) (before now : List (List ℕ)) (out err : Change) (refusal : Refusal) (status : ℕ) → IfSome files (λ told. IfSome (case_of (Err refusal)) (IsCase words told)) → TouchesShelf words before now (Err refusal) → RefusalEnds err refusal status → ForCase words files (λ case. Yields (status_of case) (Grew before now) (Fails out ⊎ Fails err) status)
-refused_status words files before now out err refusal status known shelf (usage_told line) = for_known words files Usage (λ case. Yields (status_of case) (Grew before now) (Fails out ⊎ Fails err) 2) known due_status
-refused_status words files before now out err refusal status known shelf (program_told {line} all) = for_known words files (BadProgram line) (λ case. Yields (status_of case) (Grew before now) (Fails out ⊎ Fails err) 3) known due_status
-refused_status words files before now out err refusal status known shelf (read_told {name} all) = for_each words files (λ case. Yields (status_of case) (Grew before now) (Fails out ⊎ Fails err) 7) (λ case. read_fault shelf.1)
-refused_status words files before now out err refusal status known shelf refusal_no_memory = for_each words files (λ case. Yields (status_of case) (Grew before now) (Fails out ⊎ Fails err) 1) (λ case. no_memory)
-refused_status words files before now out err refusal status known shelf (refusal_failed fails) = for_each words files (λ case. Yields (status_of case) (Grew before now) (Fails out ⊎ Fails err) 8) (λ case. write_fault (inr fails))
+module _ (commands : Commands) (words : List (List ℕ)) (files : Option Files) (before now : List Name) (out err : Change) where
+  refused_status : (refusal : Refusal) (status : ℕ) → IfSome files (λ told. AnswersCase (IsCase commands words told) (Err refusal)) → TouchesShelf (commands.reading words) before now (Err refusal)
+      → RefusalEnds err refusal status → ForCase commands words files (λ case. Yields (status_of case) (Grew before now) (Fails out ⊎ Fails err) status)
+  refused_status refusal status known shelf (usage_told line) = for_known commands words files Usage (λ case. Yields (status_of case) (Grew before now) (Fails out ⊎ Fails err) 2) known due_status
+  refused_status refusal status known shelf (program_told {line} all) =
+      for_some commands words files Name (λ name. BadProgram name line) (λ case. Yields (status_of case) (Grew before now) (Fails out ⊎ Fails err) 3) known (λ name. due_status)
+  refused_status refusal status known shelf (input_told {line} all) =
+      for_some commands words files (List Name) (λ names. BadInput names line) (λ case. Yields (status_of case) (Grew before now) (Fails out ⊎ Fails err) 4) known (λ names. due_status)
+  refused_status refusal status known shelf (read_told {name} all) = for_each commands words files (λ case. Yields (status_of case) (Grew before now) (Fails out ⊎ Fails err) 7) (λ case. read_fault shelf.1)
+  refused_status refusal status known shelf (refusal_no_memory taken) = for_each commands words files (λ case. Yields (status_of case) (Grew before now) (Fails out ⊎ Fails err) 1) (λ case. no_memory)
+  refused_status refusal status known shelf (refusal_failed fails taken) = for_each commands words files (λ case. Yields (status_of case) (Grew before now) (Fails out ⊎ Fails err) 8) (λ case. write_fault (inr fails))
 
-pub refused_not_whole : (err : Change) (refusal : Refusal) (status : ℕ) → RefusalEnds err refusal status → IsWhole status → ⊥
+  refused_line : (refusal : Refusal) (status : ℕ) → IfSome files (λ told. AnswersCase (IsCase commands words told) (Err refusal)) → RefusalEnds err refusal status
+      → ForCase commands words files (λ case. HasCaseLine status → TakesAll err (line_of case))
+  refused_line refusal status known (usage_told all) = for_known commands words files Usage (λ case. HasCaseLine 2 → TakesAll err (line_of case)) known (λ _. all)
+  refused_line refusal status known (program_told {line} all) =
+      for_some commands words files Name (λ name. BadProgram name line) (λ case. HasCaseLine 3 → TakesAll err (line_of case)) known (λ name _. all)
+  refused_line refusal status known (input_told {line} all) =
+      for_some commands words files (List Name) (λ names. BadInput names line) (λ case. HasCaseLine 4 → TakesAll err (line_of case)) known (λ names _. all)
+  refused_line refusal status known (read_told all) = for_each commands words files (λ case. HasCaseLine 7 → TakesAll err (line_of case)) (λ case is. absurd (grind (arith, is)))
+  refused_line refusal status known (refusal_no_memory taken) = for_each commands words files (λ case. HasCaseLine 1 → TakesAll err (line_of case)) (λ case is. absurd (grind (arith, is)))
+  refused_line refusal status known (refusal_failed fails taken) = for_each commands words files (λ case. HasCaseLine 8 → TakesAll err (line_of case)) (λ case is. absurd (grind (arith, is)))
+
+  refused_told : (refusal : Refusal) (status : ℕ) → IfSome files (λ told. AnswersCase (IsCase commands words told) (Err refusal)) → RefusalEnds err refusal status → TellsCase status
+      → IfSome files (λ told. (case : Case) × IsCase commands words told case × (status_of case ≡ status))
+  refused_told refusal status known (usage_told all) tells = told_case commands words files Usage known
+  refused_told refusal status known (program_told {line} all) tells = told_some commands words files Name (λ name. BadProgram name line) 3 known (λ name. refl)
+  refused_told refusal status known (input_told {line} all) tells = told_some commands words files (List Name) (λ names. BadInput names line) 4 known (λ names. refl)
+  refused_told refusal status known (read_told all) tells = absurd (grind (arith, tells))
+  refused_told refusal status known (refusal_no_memory taken) tells = absurd (grind (arith, tells))
+  refused_told refusal status known (refusal_failed fails taken) tells = absurd (grind (arith, tells))
+
+  -- where a file that is read is not there
+  refused_missing : (refusal : Refusal) (status : ℕ) → IfSome files (λ told. AnswersCase (IsCase commands words told) (Err refusal)) → TouchesShelf (commands.reading words) before now (Err refusal)
+      → RefusalEnds err refusal status → ForCase commands words files (λ case. IsMissing case → Grew before now ⊎ (status ≡ 1) ⊎ Fails err)
+  refused_missing refusal status known shelf (usage_told all) = for_known commands words files Usage (λ case. IsMissing case → Grew before now ⊎ ◌≡◌ {A = ℕ} 2 1 ⊎ Fails err) known (λ missing. absurd missing)
+  refused_missing refusal status known shelf (program_told {line} all) =
+      for_some commands words files Name (λ name. BadProgram name line) (λ case. IsMissing case → Grew before now ⊎ ◌≡◌ {A = ℕ} 3 1 ⊎ Fails err) known (λ name missing. absurd missing)
+  refused_missing refusal status known shelf (input_told {line} all) =
+      for_some commands words files (List Name) (λ names. BadInput names line) (λ case. IsMissing case → Grew before now ⊎ ◌≡◌ {A = ℕ} 4 1 ⊎ Fails err) known (λ names missing. absurd missing)
+  refused_missing refusal status known shelf (read_told all) = for_each commands words files (λ case. IsMissing case → Grew before now ⊎ ◌≡◌ {A = ℕ} 7 1 ⊎ Fails err) (λ case missing. inl shelf.1)
+  refused_missing refusal status known shelf (refusal_no_memory taken) = for_each commands words files (λ case. IsMissing case → Grew before now ⊎ ◌≡◌ {A = ℕ} 1 1 ⊎ Fails err) (λ case missing. inr (inl refl))
+  refused_missing refusal status known shelf (refusal_failed fails taken) = for_each commands words files (λ case. IsMissing case → Grew before now ⊎ ◌≡◌ {A = ℕ} 8 1 ⊎ Fails err) (λ case missing. inr (inr fails))
+
+  -- a refusal whose line was not written whole
+  refused_stop : (refusal : Refusal) → IfSome files (λ told. AnswersCase (IsCase commands words told) (Err refusal)) → TakesRefusal refusal err → ForCase commands words files (λ case. TakesStopLines (IsDue case) err)
+  refused_stop refusal known (line, inr for_stop, part) =
+      for_each commands words files (λ case. TakesStopLines (IsDue case) err) (λ case. stop_lines (IsDue case) err (line_of case) line (inl refl) for_stop part)
+  refused_stop RefusedUsage known (line, inl tells, part) = for_known commands words files Usage (λ case. TakesStopLines (IsDue case) err) known (due_lines (IsDue Usage) err line (inl tells) part)
+  refused_stop (RefusedProgram told) known (line, inl tells, part) =
+      for_some commands words files Name (λ name. BadProgram name told) (λ case. TakesStopLines (IsDue case) err) known (λ name. due_lines (IsDue (BadProgram name told)) err line (inl tells) part)
+  refused_stop (RefusedInput told) known (line, inl tells, part) =
+      for_some commands words files (List Name) (λ names. BadInput names told) (λ case. TakesStopLines (IsDue case) err) known (λ names. due_lines (IsDue (BadInput names told)) err line (inl tells) part)
+  refused_stop (ReadFault name) known (line, inl tells, part) = for_read files known
+    where
+      for_read : (files : Option Files) → IfSome files (λ told. (case : Case) × IsCase commands words told case × Contains (names_read case) name) → ForCase commands words files (λ case. TakesStopLines (IsDue case) err)
+      for_read None is = tt
+      for_read (Some files) (case, is, reads) = for_known commands words (Some files) case (λ c. TakesStopLines (IsDue c) err) is (due_lines (IsDue case) err line (inr (name, reads, tells)) part)
+  refused_stop OutOfMemory known (line, inl tells, part) = absurd tells
+
+  refused_stopped : (refusal : Refusal) (status : ℕ) → IfSome files (λ told. AnswersCase (IsCase commands words told) (Err refusal)) → RefusalEnds err refusal status → IsStop status
+      → ForCase commands words files (λ case. TakesStopLines (IsDue case) err)
+  refused_stopped refusal status known (usage_told all) is = absurd (grind (arith, is))
+  refused_stopped refusal status known (program_told all) is = absurd (grind (arith, is))
+  refused_stopped refusal status known (input_told all) is = absurd (grind (arith, is))
+  refused_stopped refusal status known (read_told all) is = absurd (grind (arith, is))
+  refused_stopped refusal status known (refusal_no_memory taken) is = refused_stop refusal known taken
+  refused_stopped refusal status known (refusal_failed fails taken) is = refused_stop refusal known taken
+
+refused_not_whole : (err : Change) (refusal : Refusal) (status : ℕ) → RefusalEnds err refusal status → IsWhole status → ⊥
 refused_not_whole err refusal status (usage_told line) is = grind (arith, is)
 refused_not_whole err refusal status (program_told all) is = grind (arith, is)
+refused_not_whole err refusal status (input_told all) is = grind (arith, is)
 refused_not_whole err refusal status (read_told all) is = grind (arith, is)
-refused_not_whole err refusal status refusal_no_memory is = grind (arith, is)
-refused_not_whole err refusal status (refusal_failed fails) is = grind (arith, is)
+refused_not_whole err refusal status (refusal_no_memory taken) is = grind (arith, is)
+refused_not_whole err refusal status (refusal_failed fails taken) is = grind (arith, is)
 
-pub refused_line : (words : List (List ℕ)) (files : Option (List (List ℕ × List ℕ))) (err : Change) (refusal : Refusal) (status : ℕ) → IfSome files (λ told. IfSome (case_of (Err refusal)) (IsCase words told)) → RefusalEnds err refusal status → ForCase words files (λ case. HasCaseLine status → TakesAll err (line_of case))
-refused_line words files err refusal status known (usage_told all) = for_known words files Usage (λ case. HasCaseLine 2 → TakesAll err (line_of case)) known (λ _. all)
-refused_line words files err refusal status known (program_told {line} all) = for_known words files (BadProgram line) (λ case. HasCaseLine 3 → TakesAll err (line_of case)) known (λ _. all)
-refused_line words files err refusal status known (read_told all) = for_each words files (λ case. HasCaseLine 7 → TakesAll err (line_of case)) (λ case is. absurd (grind (arith, is)))
-refused_line words files err refusal status known refusal_no_memory = for_each words files (λ case. HasCaseLine 1 → TakesAll err (line_of case)) (λ case is. absurd (grind (arith, is)))
-refused_line words files err refusal status known (refusal_failed fails) = for_each words files (λ case. HasCaseLine 8 → TakesAll err (line_of case)) (λ case is. absurd (grind (arith, is)))
-
-pub refused_read : (words : List (List ℕ)) (before now : List (List ℕ)) (err : Change) (refusal : Refusal) (status : ℕ) → TouchesShelf words before now (Err refusal) → RefusalEnds err refusal status → status ≡ 7 → TellsReadFault (names_read words) before now err
-refused_read words before now err refusal status shelf (usage_told all) is = absurd (omega (arith, is))
-refused_read words before now err refusal status shelf (program_told all) is = absurd (omega (arith, is))
-refused_read words before now err refusal status shelf (read_told {name} all) is = record { name = name; read = shelf.2; alone = shelf.0; grew = shelf.1; line = all }
-refused_read words before now err refusal status shelf refusal_no_memory is = absurd (omega (arith, is))
-refused_read words before now err refusal status shelf (refusal_failed fails) is = absurd (omega (arith, is))
-
--- the case that a status tells
-pub told_case : (words : List (List ℕ)) (files : Option (List (List ℕ × List ℕ))) (known : Case) → IfSome files (λ told. IsCase words told known) → IfSome files (λ told. (case : Case) × IsCase words told case × (status_of case ≡ status_of known))
-told_case words None known is = tt
-told_case words (Some files) known is = (known, is, refl)
-
-pub run_case : (words : List (List ℕ)) (files : Option (List (List ℕ × List ℕ))) (command : Command) (program : Program) (out err : Change) (status : ℕ) → IfSome files (λ told. IsCase words told (Go command program)) → RunEnds (text_of (Go command program)) out err status → TellsCase status → IfSome files (λ told. (case : Case) × IsCase words told case × (status_of case ≡ status))
-run_case words files command program out err status is (finished all quiet) tells = told_case words files (Go command program) is
-run_case words files command program out err status is (run_no_memory part) tells = absurd (grind (arith, tells))
-run_case words files command program out err status is (output_failed part fails told) tells = absurd (grind (arith, tells))
-run_case words files command program out err status is (error_failed part fails) tells = absurd (grind (arith, tells))
-
-pub refused_case : (words : List (List ℕ)) (files : Option (List (List ℕ × List ℕ))) (err : Change) (refusal : Refusal) (status : ℕ) → IfSome files (λ told. IfSome (case_of (Err refusal)) (IsCase words told)) → RefusalEnds err refusal status → TellsCase status → IfSome files (λ told. (case : Case) × IsCase words told case × (status_of case ≡ status))
-refused_case words files err refusal status is (usage_told all) tells = told_case words files Usage is
-refused_case words files err refusal status is (program_told {line} all) tells = told_case words files (BadProgram line) is
-refused_case words files err refusal status is (read_told all) tells = absurd (grind (arith, tells))
-refused_case words files err refusal status is refusal_no_memory tells = absurd (grind (arith, tells))
-refused_case words files err refusal status is (refusal_failed fails) tells = absurd (grind (arith, tells))
+refused_usage : (asked : Option Asked) (before now : List Name) (err : Change) (refusal : Refusal) (status : ℕ) → TouchesShelf asked before now (Err refusal) → RefusalEnds err refusal status → status ≡ 2 → asked ≡ None
+refused_usage asked before now err refusal status shelf (usage_told all) is = shelf.0
+refused_usage asked before now err refusal status shelf (program_told all) is = absurd (omega (arith, is))
+refused_usage asked before now err refusal status shelf (input_told all) is = absurd (omega (arith, is))
+refused_usage asked before now err refusal status shelf (read_told all) is = absurd (omega (arith, is))
+refused_usage asked before now err refusal status shelf (refusal_no_memory taken) is = absurd (omega (arith, is))
+refused_usage asked before now err refusal status shelf (refusal_failed fails taken) is = absurd (omega (arith, is))
 
 -- words of no command
-pub refused_words : (err : Change) (refusal : Refusal) (status : ℕ) → ◌≡◌ {A = Result Batch Refusal} (Err refusal) (Err RefusedUsage) → RefusalEnds err refusal status → Yields 2 ⊥ (Fails err) status
+refused_words : (err : Change) (refusal : Refusal) (status : ℕ) → AnswersNoCommand (Err refusal) → RefusalEnds err refusal status → Yields 2 ⊥ (Fails err) status
 refused_words err refusal status is (usage_told all) = due_status
-refused_words err refusal status is (program_told all) = absurd cc
-refused_words err refusal status is (read_told all) = absurd cc
-refused_words err refusal status is refusal_no_memory = no_memory
-refused_words err refusal status is (refusal_failed fails) = write_fault fails
+refused_words err refusal status is (program_told all) = absurd is
+refused_words err refusal status is (input_told all) = absurd is
+refused_words err refusal status is (read_told all) = absurd is
+refused_words err refusal status is (refusal_no_memory taken) = no_memory
+refused_words err refusal status is (refusal_failed fails taken) = write_fault fails
 
-pub refused_fault : (out err : Change) (refusal : Refusal) (status : ℕ) → RefusalEnds err refusal status → status ≡ 8 → TellsWriteFault out err
+refused_fault : (out err : Change) (refusal : Refusal) (status : ℕ) → RefusalEnds err refusal status → status ≡ 8 → TellsWriteFault out err
 refused_fault out err refusal status (usage_told all) is = absurd (omega (arith, is))
 refused_fault out err refusal status (program_told all) is = absurd (omega (arith, is))
+refused_fault out err refusal status (input_told all) is = absurd (omega (arith, is))
 refused_fault out err refusal status (read_told all) is = absurd (omega (arith, is))
-refused_fault out err refusal status refusal_no_memory is = absurd (omega (arith, is))
-refused_fault out err refusal status (refusal_failed fails) is = inl fails
+refused_fault out err refusal status (refusal_no_memory taken) is = absurd (omega (arith, is))
+refused_fault out err refusal status (refusal_failed fails taken) is = inl fails
+
+-- the shelf at a status that tells the case
+refused_untouched : (asked : Option Asked) (before now : List Name) (err : Change) (refusal : Refusal) (status : ℕ) → TouchesShelf asked before now (Err refusal) → RefusalEnds err refusal status → TellsCase status → now ≡ before
+refused_untouched asked before now err refusal status shelf (usage_told all) tells = shelf.1
+refused_untouched asked before now err refusal status shelf (program_told all) tells = shelf
+refused_untouched asked before now err refusal status shelf (input_told all) tells = shelf
+refused_untouched asked before now err refusal status shelf (read_told all) tells = absurd (grind (arith, tells))
+refused_untouched asked before now err refusal status shelf (refusal_no_memory taken) tells = absurd (grind (arith, tells))
+refused_untouched asked before now err refusal status shelf (refusal_failed fails taken) tells = absurd (grind (arith, tells))
+
+-- the case reads a file whose read failed
+reads_failed : (commands : Commands) (words : List (List ℕ)) (files : Option Files) (name : Name) → IfSome files (λ told. (case : Case) × IsCase commands words told case × Contains (names_read case) name)
+    → ForCase commands words files (λ case. Contains (names_read case) name)
+reads_failed commands words None name is = tt
+reads_failed commands words (Some files) name (case, is, reads) = for_known commands words (Some files) case (λ c. Contains (names_read c) name) is reads
+
+refused_read : (commands : Commands) (words : List (List ℕ)) (files : Option Files) (failed failed' : List Name) (out err : Change) (refusal : Refusal) (status : ℕ) (journal : Journal)
+    → IfSome files (λ told. AnswersCase (IsCase commands words told) (Err refusal)) → TouchesShelf (commands.reading words) failed failed' (Err refusal) → RefusalEnds err refusal status → status ≡ 7
+    → TellsReadFault commands (record { words = words; files = files; failed = failed; failed' = failed'; out = out; err = err; status = status; journal = journal })
+refused_read commands words files failed failed' out err refusal status journal known shelf (usage_told all) is = absurd (omega (arith, is))
+refused_read commands words files failed failed' out err refusal status journal known shelf (program_told all) is = absurd (omega (arith, is))
+refused_read commands words files failed failed' out err refusal status journal known shelf (input_told all) is = absurd (omega (arith, is))
+refused_read commands words files failed failed' out err refusal status journal known shelf (read_told {name} all) is =
+    record { name = name; read = reads_failed commands words files name known; asked = shelf.2; alone = shelf.0; grew = shelf.1; line = all }
+refused_read commands words files failed failed' out err refusal status journal known shelf (refusal_no_memory taken) is = absurd (omega (arith, is))
+refused_read commands words files failed failed' out err refusal status journal known shelf (refusal_failed fails taken) is = absurd (omega (arith, is))
+
+-- a refusal meets the promise
+pub refused_headline : (commands : Commands) (words : List (List ℕ)) (files : Option Files) (failed failed' : List Name) (written : Option (List ℕ)) (faults : ℕ) (err : Change) (status : ℕ) (journal : Journal) (refusal : Refusal)
+    → (commands.reading words ≡ None → AnswersNoCommand (Err refusal) × (failed' ≡ failed))
+    → IfSome files (λ told. AnswersCase (IsCase commands words told) (Err refusal)) → TouchesShelf (commands.reading words) failed failed' (Err refusal) → IsEmpty journal → RefusalEnds err refusal status
+    → Headline commands (record {
+      words = words;
+      files = files;
+      failed = failed;
+      failed' = failed';
+      out = record { written = written; written' = written; faults = faults; faults' = faults };
+      err = err;
+      status = status;
+      journal = journal;
+    })
+refused_headline commands words files failed failed' written faults err status journal refusal no_command known shelf empty ends =
+    let out : Change = record { written = written; written' = written; faults = faults; faults' = faults } in
+    let not_whole : IsWhole status → ⊥ = refused_not_whole err refusal status ends in
+    record {
+      status = refused_status commands words files failed failed' out err refusal status known shelf ends;
+      told = refused_told commands words files failed failed' out err refusal status known ends;
+      usage = refused_usage (commands.reading words) failed failed' err refusal status shelf ends;
+      no_command = λ none. refused_words err refusal status (no_command none).0 ends;
+      text = for_each commands words files (λ case. IsWhole status → TakesAll out (text_of case)) (λ case is. absurd (not_whole is));
+      prefix = for_each commands words files (λ case. TakesPart out (text_of case)) (λ case. prefix_none written (text_of case));
+      refused = λ is. Keeps-same written;
+      quiet = λ is. absurd (not_whole is);
+      line = refused_line commands words files failed failed' out err refusal status known ends;
+      read_fault = refused_read commands words files failed failed' out err refusal status journal known shelf ends;
+      write_fault = refused_fault out err refusal status ends;
+      stopped = refused_stopped commands words files failed failed' out err refusal status known ends;
+      untouched = refused_untouched (commands.reading words) failed failed' err refusal status shelf ends;
+      unread = λ none. (no_command none).1;
+      missing = refused_missing commands words files failed failed' out err refusal status known shelf ends;
+      journal = λ unbegun. empty;
+    }

@@ -1,7 +1,8 @@
 -- How the answer of a call, and what it wrote, stand to its case.
-use Rattle.std.specs.Prelude.{ℕ, ◌<◌, List, Option, length, codes}
+use Rattle.std.specs.Prelude.{◌≡◌, ◌⊎◌, ℕ, ◌<◌, List, Option, length}
 use Rattle.std.specs.Io.KnownBytes.{Appends, Keeps}
 use Rattle.gp_base.specs.Sinks.{Rose, AppendsPrefix}
+use Rattle.gprs.specs.Lines.{out_of_memory_line, write_fault_line}
 
 -- what a call did to a sink: its bytes where it tells them, and its count of faults
 pub record Change : Type 0 where
@@ -31,26 +32,30 @@ Fails change = Rose change.faults change.faults'
 abbrev pub Grew : List (List ℕ) → List (List ℕ) → Type 0
 Grew before now = length before < length now
 
--- the line of a write that failed
-abbrev pub write_fault_line : List ℕ
-write_fault_line = codes "gprs: write fault\n"
-
--- The status is the due one. It yields to want of memory, and to a fault of reading or of writing that was counted in this call.
+-- The status is the due one. It yields to running out of memory, and to a fault of reading or of writing that was counted in this call.
 pub data Yields (due : ℕ) (shelf_failed sink_failed : Type 0) : ℕ → Type 0 where
   due_status : Yields due shelf_failed sink_failed due
   no_memory : Yields due shelf_failed sink_failed 1
   read_fault : shelf_failed → Yields due shelf_failed sink_failed 7
   write_fault : sink_failed → Yields due shelf_failed sink_failed 8
 
--- A line was written whole and the due status is answered. A fault of the sink makes it 8, and want of memory 1.
+-- the line of status 1 or of status 8
+abbrev pub IsStopLine : List ℕ → Type 0
+IsStopLine line = (line ≡ out_of_memory_line) ⊎ (line ≡ write_fault_line)
+
+-- it took a prefix of such a line
+abbrev pub TakesStop : Change → Type 0
+TakesStop err = (line : List ℕ) × IsStopLine line × TakesPart err line
+
+-- A line was written whole and the due status is answered. A fault of the sink makes it 8, and running out of memory 1; a prefix was then written.
 pub data LineEnds (due : ℕ) (line : List ℕ) (err : Change) : ℕ → Type 0 where
   whole : TakesAll err line → LineEnds due line err due
-  line_failed : Fails err → LineEnds due line err 8
-  line_no_memory : LineEnds due line err 1
+  line_failed : TakesPart err line → Fails err → LineEnds due line err 8
+  line_no_memory : TakesPart err line → LineEnds due line err 1
 
--- how the writing of a run's text ends
-pub data RunEnds (text : List ℕ) (out err : Change) : ℕ → Type 0 where
-  finished : TakesAll out text → TakesNothing err → RunEnds text out err 0
-  run_no_memory : TakesPart out text → RunEnds text out err 1
-  output_failed : TakesPart out text → Fails out → TakesAll err write_fault_line → RunEnds text out err 8
-  error_failed : TakesPart out text → Fails err → RunEnds text out err 8
+-- How a work ends whose text and status are these, and which writes nothing to the error stream but the line that tells why it stopped.
+pub data RunEnds (text : List ℕ) (due : ℕ) (out err : Change) : ℕ → Type 0 where
+  finished : TakesAll out text → TakesNothing err → RunEnds text due out err due
+  run_no_memory : TakesPart out text → TakesStop err → RunEnds text due out err 1
+  output_failed : TakesPart out text → Fails out → TakesAll err write_fault_line → RunEnds text due out err 8
+  error_failed : TakesPart out text → Fails err → TakesStop err → RunEnds text due out err 8

@@ -1,61 +1,89 @@
--- What is known of the case of a call once its words and its files were read.
-use Rattle.std.specs.Prelude.{◌≡◌, ◌<◌, List, ℕ, length, Contains, Option, Result, ⊤}
-use Rattle.std.specs.declared.option.Option.TheVariants.{None, Some}
+-- What is known of the case of a call once its words and its program were read.
+use Rattle.std.specs.Prelude.{◌≡◌, ◌⊎◌, List, ℕ, [], ◌∷◌, ℤ, true, false, Option, Result, IsSomeAnd, Contains, None, ⊤}
 use Rattle.std.specs.declared.result.Result.TheVariants.{Ok, Err}
-use Rattle.gprs.specs.declared.words.Command.{Command}
-use Rattle.gprs.specs.declared.words.Command.TheVariants as asked
-use Rattle.gprs.specs.declared.run.Batch.{Batch}
-use Rattle.gprs.specs.declared.run.Batch.TheVariants.{Check, Run}
-use Rattle.gprs.specs.declared.batch.Refusal.{Refusal}
-use Rattle.gprs.specs.declared.batch.Refusal.TheVariants.{Usage as RefusedUsage, BadProgram as RefusedProgram, ReadFault, OutOfMemory}
-use Rattle.task_ast.specs.Tree.{Program}
+use Rattle.gp_base.specs.Files.{GrowsByOnly}
+use Rattle.task_ast.specs.Tree.{Name, Program}
 use Rattle.task_ast.specs.View.{plain_program}
-use Rattle.lock_checker.specs.Accepted.{program_of}
-use Rattle.lock_checker.specs.declared.fault.CheckFault.{CheckFault}
-use Rattle.lock_checker.specs.declared.fault.CheckFault.TheVariants as check
+use Rattle.task_parser.specs.Spelling.{Meaning, Means, Spells}
 use Rattle.task_parser.specs.declared.fault.LexFault.{LexFault}
 use Rattle.task_parser.specs.declared.fault.LexFault.TheVariants as lex
 use Rattle.task_parser.specs.declared.fault.ParseFault.{ParseFault}
 use Rattle.task_parser.specs.declared.fault.ParseFault.TheVariants as parse
-use Rattle.gprs.specs.Case.{Case, Usage, BadProgram, Go, IsRefused, IsGo, lex_line, parse_line, check_line, names_read}
-use Rattle.gp_base.specs.Files.{GrowsByOnly}
+use Rattle.gp_base.specs.declared.feed.Inputs.{Inputs}
+use Rattle.lock_checker.specs.Accepted.{program_of}
+use Rattle.lock_checker.specs.declared.checked.Checked.{Checked}
+use Rattle.lock_checker.specs.declared.fault.CheckFault.{CheckFault}
+use Rattle.lock_checker.specs.declared.fault.CheckFault.TheVariants as check
+use Rattle.command_line.specs.declared.asked.Asked.{Asked}
+use Rattle.command_line.specs.declared.asked.Command.{Command}
+use Rattle.gprs.specs.declared.work.Batch.{Batch}
+use Rattle.gprs.specs.declared.batch.Refusal.{Refusal}
+use Rattle.gprs.specs.declared.batch.Refusal.TheVariants.{Usage as RefusedUsage, BadProgram as RefusedProgram, BadInput as RefusedInput, ReadFault, OutOfMemory}
+use Rattle.gprs.specs.Work.{Files, Work, runs, is_traced}
+use Rattle.gprs.specs.InputFiles.{names_for}
+use Rattle.gprs.specs.PlainText.{commands}
+use Rattle.gprs.specs.Case.{Case, Usage, BadProgram, BadInput, Go, program_case, meant_case, names_read}
+use Rattle.gprs.specs.Lines.{usage_line, read_fault_line, lex_line, parse_line, check_line}
+use Rattle.gprs.specs.Answers.{Change, TakesAll, TakesPart, Fails, Grew, IsStopLine}
+use Rattle.gprs.specs.Headline.{MayRead}
 
--- what a batch is read for
-abbrev pub command_in : Batch → Command
-command_in (Run small) = asked.Run
-command_in (Check checked) = asked.Check
+-- what is to be done for what is asked, on this program, from these inputs
+abbrev pub work_for : Asked → Program → Inputs → Work
+work_for asked program inputs = record {
+  command = asked.command;
+  program = program;
+  inputs = inputs;
+  faults = [];
+  limits = asked.limits;
+  trace = is_traced asked;
+  files = asked.program ∷ names_for asked.command program.heads;
+}
 
--- the program of a batch
+-- the program of a batch, and what is to be done with it
 abbrev pub program_in : Batch → Program
-program_in (Run small) = plain_program (program_of small.checked)
-program_in (Check checked) = plain_program (program_of checked)
+program_in batch = plain_program (program_of batch.checked)
 
--- the case of a batch
-abbrev pub go_of : Batch → Case
-go_of batch = Go (command_in batch) (program_in batch)
+abbrev pub work_of : Batch → Work
+work_of batch = work_for batch.asked (program_in batch) batch.inputs
 
--- the case that an answer tells; a fault of reading and want of memory tell none
-abbrev pub case_of : Result Batch Refusal → Option Case
-case_of (Ok batch) = Some (go_of batch)
-case_of (Err RefusedUsage) = Some Usage
-case_of (Err (RefusedProgram line)) = Some (BadProgram line)
-case_of (Err (ReadFault name)) = None
-case_of (Err OutOfMemory) = None
+-- the case of what is asked, where the program's file has this text, whatever other files there are
+abbrev pub ComesTo : Asked → List ℕ → Case → Type 0
+ComesTo asked text case = (meaning : Meaning) × Means text meaning × ((files : Files) → meant_case commands files asked meaning ≡ case)
 
--- what is answered to a command for these bytes of a program
-abbrev pub IsDecidedOn : Command → List ℕ → Result Batch Refusal → Type 0
-IsDecidedOn command bytes (Ok batch) = (command_in batch ≡ command) × IsGo command bytes (program_in batch)
-IsDecidedOn command bytes (Err RefusedUsage) = ⊥
-IsDecidedOn command bytes (Err (RefusedProgram line)) = IsRefused command bytes line
-IsDecidedOn command bytes (Err (ReadFault name)) = ⊥
-IsDecidedOn command bytes (Err OutOfMemory) = ⊤
+-- the program of a text, where it is accepted, or the line of the text
+abbrev pub IsAcceptedIn : Asked → List ℕ → Result Checked Refusal → Type 0
+IsAcceptedIn asked text (Ok checked) = Spells text (plain_program (program_of checked))
+IsAcceptedIn asked text (Err (RefusedProgram line)) = ComesTo asked text (BadProgram asked.program line)
+IsAcceptedIn asked text (Err OutOfMemory) = ⊤
+IsAcceptedIn asked text (Err refusal) = ⊥
+
+-- the case of an accepted program
+abbrev pub accepted_case : Asked → Program → Files → Case
+accepted_case asked program files = program_case commands files asked program None
+
+-- an answer tells this case; a fault of reading tells that the case reads the file
+abbrev pub AnswersCase : (Case → Type 0) → Result Batch Refusal → Type 0
+AnswersCase Is (Ok batch) = Is (Go (work_of batch))
+AnswersCase Is (Err RefusedUsage) = Is Usage
+AnswersCase Is (Err (RefusedProgram line)) = (name : Name) × Is (BadProgram name line)
+AnswersCase Is (Err (RefusedInput line)) = (names : List Name) × Is (BadInput names line)
+AnswersCase Is (Err (ReadFault name)) = (case : Case) × Is case × Contains (names_read case) name
+AnswersCase Is (Err OutOfMemory) = ⊤
+
+-- the answers to words of no command
+abbrev pub AnswersNoCommand : Result Batch Refusal → Type 0
+AnswersNoCommand (Ok batch) = ⊥
+AnswersNoCommand (Err RefusedUsage) = ⊤
+AnswersNoCommand (Err (RefusedProgram line)) = ⊥
+AnswersNoCommand (Err (RefusedInput line)) = ⊥
+AnswersNoCommand (Err (ReadFault name)) = ⊥
+AnswersNoCommand (Err OutOfMemory) = ⊤
 
 -- a refusal of the program with this line, unless memory is short
 abbrev pub IsRefusedWith : List ℕ → Refusal → Type 0
-IsRefusedWith line RefusedUsage = ⊥
 IsRefusedWith line (RefusedProgram told) = told ≡ line
-IsRefusedWith line (ReadFault name) = ⊥
 IsRefusedWith line OutOfMemory = ⊤
+IsRefusedWith line refusal = ⊥
 
 -- the refusal of a text with this fault of lexing
 abbrev pub RefusesLexing : LexFault → Refusal → Type 0
@@ -72,10 +100,33 @@ abbrev pub RefusesChecking : CheckFault → Refusal → Type 0
 RefusesChecking (check.Bad kind line) refusal = IsRefusedWith (check_line kind line) refusal
 RefusesChecking check.OutOfMemory refusal = refusal ≡ OutOfMemory
 
--- The reads failed only where the answer names a file whose read failed, a file that the order of reading comes to, and no other name was added.
-abbrev pub TouchesShelf : List (List ℕ) → List (List ℕ) → List (List ℕ) → Result Batch Refusal → Type 0
-TouchesShelf words before now (Ok batch) = now ≡ before
-TouchesShelf words before now (Err RefusedUsage) = now ≡ before
-TouchesShelf words before now (Err (RefusedProgram line)) = now ≡ before
-TouchesShelf words before now (Err (ReadFault name)) = GrowsByOnly name before now × (length before < length now) × Contains (names_read words) name
-TouchesShelf words before now (Err OutOfMemory) = ⊤
+-- The reads failed only where the answer names a file whose read failed, one that the words ask for, and no other name was added. Words of no command
+-- are told as such, and no other words.
+abbrev pub TouchesShelf : Option Asked → List Name → List Name → Result Batch Refusal → Type 0
+TouchesShelf asked before now (Ok batch) = now ≡ before
+TouchesShelf asked before now (Err RefusedUsage) = (asked ≡ None) × (now ≡ before)
+TouchesShelf asked before now (Err (RefusedProgram line)) = now ≡ before
+TouchesShelf asked before now (Err (RefusedInput line)) = now ≡ before
+TouchesShelf asked before now (Err (ReadFault name)) = GrowsByOnly name before now × Grew before now × IsSomeAnd asked (λ a. MayRead a name)
+TouchesShelf asked before now (Err OutOfMemory) = ⊤
+
+-- the line that tells a refusal
+abbrev pub TellsRefusal : Refusal → List ℕ → Type 0
+TellsRefusal RefusedUsage line = line ≡ usage_line
+TellsRefusal (RefusedProgram told) line = line ≡ told
+TellsRefusal (RefusedInput told) line = line ≡ told
+TellsRefusal (ReadFault name) line = line ≡ read_fault_line name
+TellsRefusal OutOfMemory line = ⊥
+
+-- the error stream took a prefix of that line, or of the line that tells why it was not written
+abbrev pub TakesRefusal : Refusal → Change → Type 0
+TakesRefusal refusal err = (line : List ℕ) × (TellsRefusal refusal line ⊎ IsStopLine line) × TakesPart err line
+
+-- how a refusal ends
+pub data RefusalEnds (err : Change) : Refusal → ℕ → Type 0 where
+  usage_told : TakesAll err usage_line → RefusalEnds err RefusedUsage 2
+  program_told : {line : List ℕ} → TakesAll err line → RefusalEnds err (RefusedProgram line) 3
+  input_told : {line : List ℕ} → TakesAll err line → RefusalEnds err (RefusedInput line) 4
+  read_told : {name : Name} → TakesAll err (read_fault_line name) → RefusalEnds err (ReadFault name) 7
+  refusal_no_memory : {refusal : Refusal} → TakesRefusal refusal err → RefusalEnds err refusal 1
+  refusal_failed : {refusal : Refusal} → Fails err → TakesRefusal refusal err → RefusalEnds err refusal 8

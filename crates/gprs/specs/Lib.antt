@@ -2,6 +2,9 @@ pub mod Answers
 pub mod Case
 pub mod Decided
 pub mod Headline
+pub mod InputFiles
+pub mod Lines
+pub mod Loading
 pub mod PlainText
-pub mod Registers
 pub mod Texts
+pub mod Work

@@ -1,30 +1,35 @@
--- How the plain run of a program goes, as its text tells it.
-use Rattle.std.specs.Prelude.{pos, [], length, replicate, flat_map}
-use Rattle.gp_base.specs.declared.feed.Inputs.{Inputs}
-use Rattle.gp_base.specs.declared.limits.Limits.{Limits}
-use Rattle.task_ast.specs.Tree.{Program}
-use Rattle.task_ast.specs.Names.{records_of, cells_in}
+-- How the plain run of a work goes, as its text tells it.
+use Rattle.std.specs.Prelude.{ℤ, List, length, flat_map}
+use Rattle.task_ast.specs.declared.tree.Head.{Head}
+use Rattle.task_ast.specs.Names.{records_of}
 use Rattle.task_ast.specs.Layout.{cut}
 use Rattle.task_ast.specs.Plain.{Subthread, order, end, final_records}
+use Rattle.one_thread.specs.declared.run.Step.{Step}
+use Rattle.one_thread.specs.declared.run.PlainRun.{PlainRun}
+use Rattle.command_line.specs.Words.{asked_by}
 use Rattle.gprs.specs.Texts.{Ran}
+use Rattle.gprs.specs.Work.{Work, Commands}
+use Rattle.gprs.specs.InputFiles.{supplied_by}
 
--- no file is read: each record cell is 0, and there is no feed
-abbrev pub no_files : Program → Inputs
-no_files program = record { records = replicate (cells_in (records_of program.heads)) (pos 0); feeds = [] }
+-- the commands of the program
+abbrev pub commands : Commands
+commands = record { reading = asked_by; supplied = supplied_by }
 
--- the limits of a run for which the words name none
-abbrev pub default_limits : Limits
-default_limits = record { turns = 1000000; subthreads = 100000 }
-
--- the plain run of a program without files, under the default limits
-unfoldable pub plain_ran : Program → Ran
-plain_ran program =
-    let run = order program (no_files program) default_limits in
+-- the plain run of what is to be done
+unfoldable pub plain_ran : Work → Ran
+plain_ran work =
+    let run = order work.program work.inputs work.limits in
     record {
       lines = flat_map (λ (s : Subthread). s.lines) run;
-      end = end program (no_files program) default_limits;
-      records = cut (records_of program.heads) (final_records program (no_files program) default_limits);
+      end = end work.program work.inputs work.limits;
+      records = cut (records_of work.program.heads) (final_records work.program work.inputs work.limits);
       subthreads = length run;
-      restarts = [];
-      faults = 0;
     }
+
+-- the lines that these subthreads print
+abbrev pub lines_in : List Step → List (List ℤ)
+lines_in steps = flat_map (λ (s : Step). s.prints) steps
+
+-- how a run went of a program with these heads
+abbrev pub ran_in : List Head → PlainRun → Ran
+ran_in heads run = record { lines = lines_in run.order; end = run.end; records = cut (records_of heads) run.records; subthreads = length run.order }

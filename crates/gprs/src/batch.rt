@@ -1,30 +1,45 @@
 // What a call is to do, from its words and the shelf.
-ghost use Rattle.std.specs.Prelude.{◌≡◌, ◌≤◌, ◌↔◌, Err, None, IfSome, length};
-ghost use Rattle.task_parser.specs.Lexing.{length_limit};
-ghost use Rattle.gprs.specs.Case.{program_of, texts, fault_line, number_of, IsCase};
-ghost use Rattle.gprs.specs.Decided.{case_of, IsDecidedOn, IsRefusedWith, RefusesLexing, RefusesParsing, RefusesChecking, TouchesShelf};
+ghost use Rattle.std.specs.Prelude.{◌≡◌, ◌<◌, ◌≤◌, Some, None, IfSome, length};
+ghost use Rattle.gp_base.specs.declared.limits.TheConstants.{MOST_PROGRAM_BYTES};
+ghost use Rattle.task_ast.specs.View.{plain_program};
+ghost use Rattle.command_line.specs.Words.{texts, asked_by};
+ghost use Rattle.gprs.specs.PlainText.{commands};
+ghost use Rattle.gprs.specs.Lines.{fault_line, number_of};
+ghost use Rattle.gprs.specs.Case.{IsCase};
+ghost use Rattle.lock_checker.specs.Accepted.{program_of};
+ghost use Rattle.gprs.specs.Loading.{ReadsAmong, AnswersLoad};
+ghost use Rattle.gprs.specs.InputFiles.{names_for, supplied_for};
+ghost use Rattle.gprs.specs.declared.batch.Refusal.TheVariants.{OutOfMemory};
+ghost use Rattle.gprs.specs.Decided.{AnswersCase, AnswersNoCommand, IsAcceptedIn, accepted_case, IsRefusedWith, RefusesLexing, RefusesParsing, RefusesChecking, TouchesShelf};
 
-use crate::lines::{NOT_BUILT, TOO_LONG, fault_line};
-use crate::run::Batch;
-use crate::small::{SmallProgram, small_registers};
-use crate::words::{Command, command_of};
-use gp_base::{Name, Shelf, ShelfFault, Text};
-use lock_checker::{CheckFault, check};
-use std::alloc::Global;
-use task_ast::CheckKind;
+use crate::inputs::read_inputs;
+use crate::lines::{TOO_LONG, fault_line};
+use crate::work::{Batch, runs};
+use command_line::{Asked, Command, read_words};
+use gp_base::limits::MOST_PROGRAM_BYTES;
+use gp_base::{Inputs, Name, Seq, Shelf, ShelfFault, Text};
+use lock_checker::{CheckFault, Checked, check};
+use std::alloc::{AllocError, Global};
+use task_ast::{CheckKind, Program};
 use task_parser::{LexFault, ParseFault, lex, parse};
 
-/// No more bytes of a program are read.
-pub const PROGRAM_LIMIT: usize = 1048576;
-
-/// Why there is nothing to do: the words are those of no command; the program is refused with this line; this file
-/// could not be read; there is no memory.
+/// Why there is nothing to do: the words are those of no command; the program, or a file that it names, is refused with
+/// this line; this file could not be read; memory ran out.
 #[derive(Drop)]
 pub enum Refusal {
     Usage,
     BadProgram(Text),
+    BadInput(Text),
     ReadFault(Name),
     OutOfMemory,
+}
+
+impl From<AllocError> for Refusal {
+    ghost from_gives = { λ _ e. e ≡ OutOfMemory };
+
+    fn from(_: AllocError) -> Self {
+        Refusal::OutOfMemory
+    }
 }
 
 // A refusal of the program with this line.
@@ -96,10 +111,10 @@ fn refused_checking(alloc: Global, fault: CheckFault) -> Refusal
     }
 }
 
-// What the command is to do with the program for which these bytes stand.
-fn batch_in(alloc: Global, command: Command, bytes: &[u8]) -> Result<Batch, Refusal>
-    requires { length bytes.now ≤ length_limit }
-    ensures { IsDecidedOn command bytes.now result }
+// The program for which these bytes stand, where it is accepted.
+fn program_in(alloc: Global, asked: &Asked, bytes: &[u8]) -> Result<Checked, Refusal>
+    requires { length bytes.now ≤ MOST_PROGRAM_BYTES }
+    ensures { IsAcceptedIn asked.now bytes.now result }
 {
     let tokens = match lex(alloc, bytes) {
         Ok(tokens) => tokens,
@@ -109,40 +124,78 @@ fn batch_in(alloc: Global, command: Command, bytes: &[u8]) -> Result<Batch, Refu
         Ok(program) => program,
         Err(fault) => return Err(refused_parsing(alloc, fault)),
     };
-    let checked = match check(alloc, program) {
-        Ok(checked) => checked,
-        Err(fault) => return Err(refused_checking(alloc, fault)),
-    };
-    match command {
-        Command::Check => Ok(Batch::Check(checked)),
-        Command::Run => match small_registers(alloc, checked.program()) {
-            Ok(Some(registers)) => Ok(Batch::Run(SmallProgram { checked, registers })),
-            Ok(None) => Err(refused(alloc, NOT_BUILT)),
-            Err(_) => Err(Refusal::OutOfMemory),
-        },
+    match check(alloc, program) {
+        Ok(checked) => Ok(checked),
+        Err(fault) => Err(refused_checking(alloc, fault)),
     }
 }
 
-/// What the words ask for, with the program that they name. The first refusal met is the answer.
+// The inputs of an accepted program. A command that does not run it reads none.
+fn inputs_for<H: Shelf>(
+    alloc: Global,
+    command: Command,
+    checked: &Checked,
+    shelf: &mut H,
+) -> Result<Inputs, Refusal>
+    ensures failed { ReadsAmong (names_for command (program_of checked.now).heads) (H.failed shelf.old) (H.failed shelf.new) result }
+    ensures told { IfSome (H.files shelf.old) (λ files.
+        AnswersLoad (supplied_for command (program_of checked.now).heads files) (names_for command (program_of checked.now).heads) result) }
+{
+    if runs(command) {
+        return read_inputs(alloc, shelf, checked.program().heads.as_slice());
+    }
+    Ok(Inputs {
+        records: Seq::new(alloc),
+        feeds: Seq::new(alloc),
+    })
+}
+
+// What is asked, on an accepted program.
+fn batch_of<H: Shelf>(
+    alloc: Global,
+    asked: Asked,
+    checked: Checked,
+    shelf: &mut H,
+) -> Result<Batch, Refusal>
+    ensures shelf { TouchesShelf (Some asked) (H.failed shelf.old) (H.failed shelf.new) result }
+    ensures case { IfSome (H.files shelf.old) (λ files.
+        AnswersCase (λ case. accepted_case asked (plain_program (program_of checked)) files ≡ case) result) }
+{
+    let inputs = match inputs_for(alloc, asked.command, &checked, shelf) {
+        Ok(inputs) => inputs,
+        Err(refusal) => return Err(refusal),
+    };
+    Ok(Batch {
+        asked,
+        checked,
+        inputs,
+    })
+}
+
+/// What the words ask for, with the program that they name and the files that the program names. The first refusal met
+/// is the answer.
 pub fn read_batch<H: Shelf>(
     alloc: Global,
     words: &[String],
     shelf: &mut H,
 ) -> Result<Batch, Refusal>
-    ensures usage { (result ≡ Err Refusal.Usage) ↔ (program_of (texts words.now) ≡ None) }
-    ensures shelf { TouchesShelf (texts words.now) (H.failed shelf.old) (H.failed shelf.new) result }
-    ensures case { IfSome (H.files shelf.old) (λ files. IfSome (case_of result) (IsCase (texts words.now) files)) }
+    ensures no_command { asked_by (texts words.now) ≡ None → AnswersNoCommand result × (shelf.new ≡ shelf.old) }
+    ensures shelf { TouchesShelf (asked_by (texts words.now)) (H.failed shelf.old) (H.failed shelf.new) result }
+    ensures case { IfSome (H.files shelf.old) (λ files. AnswersCase (IsCase commands (texts words.now) files) result) }
 {
-    let Some((command, word)) = command_of(words) else {
-        return Err(Refusal::Usage);
+    let asked = match read_words(alloc, words) {
+        Ok(Some(asked)) => asked,
+        Ok(None) => return Err(Refusal::Usage),
+        Err(_) => return Err(Refusal::OutOfMemory),
     };
-    let Ok(name) = Name::from_slice(alloc, word.as_bytes()) else {
-        return Err(Refusal::OutOfMemory);
+    let text = match shelf.read(&asked.program, MOST_PROGRAM_BYTES) {
+        Ok(text) => text,
+        Err(ShelfFault::TooLong) => return Err(refused(alloc, TOO_LONG)),
+        Err(ShelfFault::Failed) => return Err(Refusal::ReadFault(asked.program)),
+        Err(ShelfFault::OutOfMemory) => return Err(Refusal::OutOfMemory),
     };
-    match shelf.read(&name, PROGRAM_LIMIT) {
-        Ok(text) => batch_in(alloc, command, text.as_slice()),
-        Err(ShelfFault::TooLong) => Err(refused(alloc, TOO_LONG)),
-        Err(ShelfFault::Failed) => Err(Refusal::ReadFault(name)),
-        Err(ShelfFault::OutOfMemory) => Err(Refusal::OutOfMemory),
+    match program_in(alloc, &asked, text.as_slice()) {
+        Ok(checked) => batch_of(alloc, asked, checked, shelf),
+        Err(refusal) => Err(refusal),
     }
 }

@@ -1,6 +1,6 @@
 // The lines on the error stream.
 ghost use Rattle.std.specs.Prelude.{◌≡◌, IfOk};
-ghost use Rattle.gprs.specs.Case.{fault_line, read_fault_line};
+ghost use Rattle.gprs.specs.Lines.{fault_line, read_fault_line, input_line};
 ghost use Rattle.gprs.specs.Answers.{LineEnds, change_of};
 
 use gp_base::{Name, Sink, SinkFault, put_all};
@@ -13,10 +13,7 @@ pub const USAGE: &[u8] = b"gprs: usage: run | one | check | soak\n";
 /// A program's text that is too long.
 pub const TOO_LONG: &[u8] = b"gprs: lex 3\n";
 
-/// A program that can't be run yet.
-pub const NOT_BUILT: &[u8] = b"gprs: not built yet\n";
-
-/// Want of memory.
+/// Memory ran out.
 pub const OUT_OF_MEMORY: &[u8] = b"gprs: out of memory\n";
 
 /// A write that failed.
@@ -55,7 +52,21 @@ pub fn fault_line(
     Ok(line)
 }
 
-/// Writes a line, and answers the status that is due. It is 8 where the write fails, and 1 where it finds no memory.
+/// The line of a file that is refused by a rule at a row.
+pub fn input_line(alloc: Global, name: &Name, kind: u8, row: u32) -> Result<Vec<u8>, AllocError>
+    ensures { IfOk result (λ line. line.items ≡ input_line name.now kind row) }
+{
+    let mut line = Vec::from_slice(alloc, b"gprs: input ")?;
+    line.extend_from_slice(name.as_slice())?;
+    line.extend_from_slice(b" kind ")?;
+    line.extend_from_slice(Buffer::new().format(kind).as_bytes())?;
+    line.extend_from_slice(b" row ")?;
+    line.extend_from_slice(Buffer::new().format(row).as_bytes())?;
+    line.extend_from_slice(b"\n")?;
+    Ok(line)
+}
+
+/// Writes a line, and answers the status that is due. It is 8 where the write fails, and 1 where memory runs out.
 pub fn end_with<E: Sink>(err: &mut E, line: &[u8], due: u8) -> u8
     ensures { LineEnds due line.now (change_of E.written E.faults err.old err.new) result }
 {

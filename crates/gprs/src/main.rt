@@ -3,15 +3,15 @@
 
 mod batch;
 mod file_shelf;
+mod inputs;
 mod lines;
 mod run;
-mod small;
 mod std_sink;
 #[cfg(test)]
 mod tests;
 mod texts;
 mod top;
-mod words;
+mod work;
 
 use file_shelf::FileShelf;
 use gp_base::FreeGate;

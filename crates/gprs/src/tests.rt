@@ -45,6 +45,84 @@ task main() {
 }
 ";
 
+const DEADLOCK: &str = "lock x[1];
+lock y[1];
+lock z[1];
+task p() {
+  print 1;
+  lock x[0];
+  lock z[0];
+  lock y[0];
+  unlock y[0];
+  unlock z[0];
+  unlock x[0];
+}
+task q() {
+  print 2;
+  lock y[0];
+  lock x[0];
+  unlock x[0];
+  unlock y[0];
+}
+task main() {
+  fork p();
+  fork q();
+  join 1;
+}
+";
+
+const INDEX: &str = "lock bank[4];
+record acct[4] by bank;
+task main() {
+  var i;
+  i = 4;
+  lock bank[i];
+  write acct[i] = 1;
+  unlock bank[i];
+}
+";
+
+const INSIDE: &str = "lock bank[4];
+record acct[4] by bank;
+task main() {
+  var i;
+  i = 3;
+  lock bank[i];
+  write acct[i] = 1;
+  unlock bank[i];
+}
+";
+
+const BARRIER: &str = "barrier meet(2);
+task t() { print 1; barrier meet; print 2; }
+task main() { fork t(); print 3; barrier meet; print 4; }
+";
+
+const RETURN: &str = "task double($n) { $ret = $n + $n; }
+task main() { var h, $r; fork double(21) into h; join h into $r; print $r; }
+";
+
+const LOOP: &str = "task main() { while 1 { } }";
+
+const TEN_TURNS: &str = "task main() { var i; while i < 10 { i = i + 1; } }";
+
+const FILES: &str = "lock bank[2];
+record acct[2] by bank from \"acct.csv\";
+feed moves[3] from \"moves.csv\";
+task main() {
+  var i, $x;
+  i = moves[0, 1];
+  lock bank[i];
+  read acct[i] into $x;
+  write acct[i] = $x + moves[0, 2];
+  unlock bank[i];
+}
+";
+
+const NO_RUN: &str = "restarts\ncounts\nsubthreads ";
+
+const NONE_REDONE: &str = "\nrestarts 0\nredone 0\nunused 0\n";
+
 // Programs that are checked, a line for each: the answer, and the program with a bar for each line end.
 const CHECKS: &str =
     r#"check 9 at line 6: lock bank[2];|record acct[2] by bank;|task main() {|  var i;|  lock bank[i];|  i = 1;|  write acct[i] = 5;|  unlock bank[i];|}
@@ -146,13 +224,37 @@ fn words_of(alloc: Global, text: &str) -> Result<Vec<String>, AllocError> {
     Ok(words)
 }
 
-// A shelf of the program, whose read of this number fails.
-fn shelf_of(alloc: Global, program: &[u8], fails: u64) -> Result<MemShelf, AllocError> {
-    let file = (
+// The bytes of the three files of a shelf.
+#[derive(Clone, Copy)]
+struct Files<'a> {
+    program: &'a [u8],
+    acct: &'a [u8],
+    moves: &'a [u8],
+}
+
+fn alone(program: &str) -> Files<'_> {
+    Files {
+        program: program.as_bytes(),
+        acct: &[],
+        moves: &[],
+    }
+}
+
+// A shelf of these files, whose read of this number fails.
+fn shelf_of(alloc: Global, files: Files<'_>, fails: u64) -> Result<MemShelf, AllocError> {
+    let program = (
         Name::from_slice(alloc, b"p.gp")?,
-        Text::from_slice(alloc, program)?,
+        Text::from_slice(alloc, files.program)?,
     );
-    let files = Seq::from_vec(vec![in alloc; file]?);
+    let acct = (
+        Name::from_slice(alloc, b"acct.csv")?,
+        Text::from_slice(alloc, files.acct)?,
+    );
+    let moves = (
+        Name::from_slice(alloc, b"moves.csv")?,
+        Text::from_slice(alloc, files.moves)?,
+    );
+    let files = Seq::from_vec(vec![in alloc; program, acct, moves]?);
     Ok(MemShelf::new(alloc, files, Seq::from_slice(alloc, &[fails])?))
 }
 
@@ -163,12 +265,12 @@ fn sink_of(alloc: Global, most: usize, fails: u64) -> Result<MemSink, AllocError
 fn answer_of<R: Threads + Sync + AllocGlobal>(
     rt: &R,
     words: &str,
-    program: &[u8],
+    files: Files<'_>,
     devices: Devices,
 ) -> Result<Answer, AllocError> {
     let alloc = rt.alloc();
     let words = words_of(alloc, words)?;
-    let mut shelf = shelf_of(alloc, program, devices.read)?;
+    let mut shelf = shelf_of(alloc, files, devices.read)?;
     let mut output = sink_of(alloc, devices.most, devices.output)?;
     let mut error = sink_of(alloc, devices.most, devices.error)?;
     let outcome = gprs_run(rt, &words, &mut shelf, &mut output, &mut error, &FreeGate);
@@ -179,60 +281,77 @@ fn answer_of<R: Threads + Sync + AllocGlobal>(
     })
 }
 
-// The words with the program are refused with this status and line.
-fn refuses<R: Threads + Sync + AllocGlobal + Abort>(
+// The words with these files have this status, output and line on the error stream.
+fn gives<R: Threads + Sync + AllocGlobal>(
     rt: &R,
     words: &str,
-    program: &[u8],
+    files: Files<'_>,
     status: u8,
-    line: &str,
-) -> Result<(), AllocError> {
-    let answer = answer_of(rt, words, program, SOUND)?;
-    assert_eq!(rt; answer.status, status);
-    assert_eq!(rt; answer.output.written(), b"".as_slice());
-    assert_eq!(rt; answer.error.written(), line.as_bytes());
-    Ok(())
+    output: &str,
+    error: &str,
+) -> Result<bool, AllocError> {
+    let answer = answer_of(rt, words, files, SOUND)?;
+    Ok(
+        answer.status == status
+            && answer.output.written() == output.as_bytes()
+            && answer.error.written() == error.as_bytes(),
+    )
 }
 
-// The check accepts the program.
-fn accepts<R: Threads + Sync + AllocGlobal + Abort>(
+// The words with the program are refused with this status and line.
+fn refuses<R: Threads + Sync + AllocGlobal>(
     rt: &R,
-    program: &[u8],
-) -> Result<(), AllocError> {
-    let answer = answer_of(rt, "check p.gp", program, SOUND)?;
-    assert_eq!(rt; answer.status, 0);
-    assert_eq!(rt; answer.output.written(), b"ok\n".as_slice());
-    assert_eq!(rt; answer.error.written(), b"".as_slice());
-    Ok(())
+    words: &str,
+    program: &str,
+    status: u8,
+    line: &str,
+) -> Result<bool, AllocError> {
+    gives(rt, words, alone(program), status, "", line)
 }
 
 // The check has this answer to the program, which has a bar for each line end.
-fn checks<R: Threads + Sync + AllocGlobal + Abort>(
+fn checks<R: Threads + Sync + AllocGlobal>(
     rt: &R,
     answer: &str,
     barred: &str,
-) -> Result<(), AllocError> {
+) -> Result<bool, AllocError> {
     let alloc = rt.alloc();
     let program = barred.replace(alloc, '|', "\n")?;
     if answer == "ok" {
-        return accepts(rt, program.as_bytes());
+        return gives(rt, "check p.gp", alone(program.as_str()), 0, "ok\n", "");
     }
     let line = format!(in alloc; "gprs: {answer}\n")?;
-    refuses(rt, "check p.gp", program.as_bytes(), 3, line.as_str())
+    refuses(rt, "check p.gp", program.as_str(), 3, line.as_str())
+}
+
+// The program with these options has this status, the text up to the restarts, and so many subthreads, by each of the
+// commands that run it.
+fn ends<R: Threads + Sync + AllocGlobal>(
+    rt: &R,
+    options: &str,
+    files: Files<'_>,
+    status: u8,
+    text: &str,
+    subthreads: u32,
+) -> Result<bool, AllocError> {
+    let alloc = rt.alloc();
+    let text = format!(in alloc; "output\n{text}{NO_RUN}{subthreads}{NONE_REDONE}")?;
+    let run = format!(in alloc; "run p.gp{options}")?;
+    let one = format!(in alloc; "one p.gp{options}")?;
+    Ok(
+        gives(rt, run.as_str(), files, status, text.as_str(), "")?
+            && gives(rt, one.as_str(), files, status, text.as_str(), "")?,
+    )
 }
 
 // The program prints these lines.
-fn prints<R: Threads + Sync + AllocGlobal + Abort>(
+fn prints<R: Threads + Sync + AllocGlobal>(
     rt: &R,
     program: &str,
     lines: &str,
-) -> Result<(), AllocError> {
-    let answer = answer_of(rt, "run p.gp", program.as_bytes(), SOUND)?;
-    let text = format!(in rt.alloc(); "output\n{lines}{TAIL}")?;
-    assert_eq!(rt; answer.status, 0);
-    assert_eq!(rt; answer.output.written(), text.as_bytes());
-    assert_eq!(rt; answer.error.written(), b"".as_slice());
-    Ok(())
+) -> Result<bool, AllocError> {
+    let text = format!(in rt.alloc(); "{lines}records\n")?;
+    ends(rt, "", alone(program), 0, text.as_str(), 1)
 }
 
 // A program that prints 1 behind so many of these marks.
@@ -255,20 +374,27 @@ fn words_of_no_command(rt: HostRuntime) -> Result<(), Fail> {
         "",
         "run",
         "fly p.gp",
-        "run p.gp q.gp",
-        "run ",
-        "run -p.gp",
-        "one p.gp",
-        "check",
-        "check -p.gp",
-        "check p.gp q.gp",
         "run p.gp --workers 65",
         "run p.gp --turns 0",
         "run p.gp --crew fast",
     ];
     for words in rows {
-        refuses(&rt, words, EMPTY.as_bytes(), 2, USAGE)?;
+        assert!(rt; refuses(&rt, words, EMPTY, 2, USAGE)?);
     }
+    Ok(())
+}
+
+// The first read of the shelf fails, and words of no command make none.
+#[test]
+fn words_of_no_command_read_nothing(rt: HostRuntime) -> Result<(), Fail> {
+    let alloc = rt.alloc();
+    let words = words_of(alloc, "fly p.gp")?;
+    let mut shelf = shelf_of(alloc, alone(EMPTY), 1)?;
+    let mut output = sink_of(alloc, 1000, 0)?;
+    let mut error = sink_of(alloc, 1000, 0)?;
+    let outcome = gprs_run(&rt, &words, &mut shelf, &mut output, &mut error, &FreeGate);
+    assert!(rt; outcome.status == 2);
+    assert!(rt; shelf.read(&Name::from_slice(alloc, b"p.gp")?, 15).is_err());
     Ok(())
 }
 
@@ -287,44 +413,22 @@ fn programs_that_are_refused(rt: HostRuntime) -> Result<(), Fail> {
             "gprs: parse 1 at byte 26\n",
         ),
         ("task t() { }", "gprs: check 1 at line 1\n"),
-        ("task main() { print self; }", "gprs: not built yet\n"),
-        (ADD, "gprs: not built yet\n"),
     ];
     for (program, line) in rows {
-        refuses(&rt, "run p.gp", program.as_bytes(), 3, line)?;
+        assert!(rt; refuses(&rt, "run p.gp", program, 3, line)?);
     }
-    refuses(
-        &rt,
-        "run q.gp",
-        EMPTY.as_bytes(),
-        7,
-        "gprs: read fault q.gp\n",
-    )?;
+    let text = " ".repeat(rt.alloc(), 1048577)?;
+    assert!(rt; refuses(&rt, "run p.gp", text.as_str(), 3, "gprs: lex 3\n")?);
+    assert!(rt; refuses(&rt, "run q.gp", EMPTY, 7, "gprs: read fault q.gp\n")?);
     Ok(())
 }
 
 #[test]
 fn programs_that_are_checked(rt: HostRuntime) -> Result<(), Fail> {
-    accepts(&rt, ADD.as_bytes())?;
     for row in CHECKS.lines() {
         let (answer, barred) = row.split_once(": ").unwrap_or((row, ""));
-        checks(&rt, answer, barred)?;
+        assert!(rt; checks(&rt, answer, barred)?);
     }
-    Ok(())
-}
-
-// The answer of a check is one piece.
-#[test]
-fn a_check_whose_output_fails(rt: HostRuntime) -> Result<(), Fail> {
-    let answer = answer_of(
-        &rt,
-        "check p.gp",
-        ADD.as_bytes(),
-        Devices { output: 1, ..SOUND },
-    )?;
-    assert_eq!(rt; answer.status, 8);
-    assert_eq!(rt; answer.output.written(), b"".as_slice());
-    assert_eq!(rt; answer.error.written(), b"gprs: write fault\n".as_slice());
     Ok(())
 }
 
@@ -332,48 +436,154 @@ fn a_check_whose_output_fails(rt: HostRuntime) -> Result<(), Fail> {
 fn nesting_has_a_limit(rt: HostRuntime) -> Result<(), Fail> {
     let alloc = rt.alloc();
     let deep = "gprs: parse 2 at byte 84\n";
-    prints(&rt, marked(alloc, "(", ")", 64)?.as_str(), "1\n")?;
-    refuses(
-        &rt,
-        "run p.gp",
-        marked(alloc, "(", ")", 65)?.as_bytes(),
-        3,
-        deep,
-    )?;
-    refuses(
-        &rt,
-        "run p.gp",
-        marked(alloc, "-", "", 65)?.as_bytes(),
-        3,
-        deep,
-    )?;
+    assert!(rt; prints(&rt, marked(alloc, "(", ")", 64)?.as_str(), "1\n")?);
+    assert!(rt;
+        refuses(
+            &rt,
+            "run p.gp",
+            marked(alloc, "(", ")", 65)?.as_str(),
+            3,
+            deep
+        )?
+    );
+    assert!(rt;
+        refuses(
+            &rt,
+            "run p.gp",
+            marked(alloc, "-", "", 65)?.as_str(),
+            3,
+            deep
+        )?
+    );
     Ok(())
 }
 
 #[test]
-fn programs_have_their_texts(rt: HostRuntime) -> Result<(), Fail> {
-    prints(&rt, EMPTY, "")?;
-    prints(&rt, PRINTS, "7\n42\n")?;
-    prints(
-        &rt,
-        EDGES,
-        "-9223372036854775808\n-9223372036854775808\n0 0 -3 -1\n",
-    )?;
-    prints(
-        &rt,
-        marked(rt.alloc(), "", " + 1", 100000)?.as_str(),
-        "100001\n",
-    )?;
+fn programs_of_one_task(rt: HostRuntime) -> Result<(), Fail> {
+    assert!(rt; prints(&rt, EMPTY, "")?);
+    assert!(rt; prints(&rt, PRINTS, "7\n42\n")?);
+    assert!(rt;
+        prints(
+            &rt,
+            EDGES,
+            "-9223372036854775808\n-9223372036854775808\n0 0 -3 -1\n"
+        )?
+    );
+    assert!(rt;
+        prints(
+            &rt,
+            marked(rt.alloc(), "", " + 1", 100000)?.as_str(),
+            "100001\n"
+        )?
+    );
     Ok(())
 }
 
-// A text that is cut off is refused, or stands for a program that can't be run yet.
+// The options, the program, the status, the text up to the restarts, and the number of subthreads.
+#[test]
+fn programs_of_threads(rt: HostRuntime) -> Result<(), Fail> {
+    let rows = [
+        ("", ADD, 0, "records\ntotal: 7\n", 11),
+        (" --subthreads 11", ADD, 0, "records\ntotal: 7\n", 11),
+        (" --subthreads 10", ADD, 6, "spent 10\n", 10),
+        (
+            "",
+            DEADLOCK,
+            5,
+            "1\n2\nstuck deadlock thread 0 line 23\n",
+            8,
+        ),
+        ("", INDEX, 5, "stuck index thread 0 line 6\n", 1),
+        ("", INSIDE, 0, "records\nacct: 0 0 0 1\n", 3),
+        ("", BARRIER, 0, "3\n1\n2\n4\nrecords\n", 5),
+        ("", RETURN, 0, "42\nrecords\n", 4),
+        (" --turns 10", LOOP, 6, "spent 0\n", 1),
+        (" --turns 10", TEN_TURNS, 0, "records\n", 1),
+        (
+            "",
+            "task main() { fork main(); }",
+            5,
+            "stuck threads thread 4095 line 1\n",
+            8191,
+        ),
+        (
+            "",
+            "task main() { join 7; }",
+            5,
+            "stuck join thread 0 line 1\n",
+            1,
+        ),
+        (
+            "",
+            "task main() { join 0; }",
+            5,
+            "stuck deadlock thread 0 line 1\n",
+            1,
+        ),
+    ];
+    for (options, program, status, text, subthreads) in rows {
+        assert!(rt; ends(&rt, options, alone(program), status, text, subthreads)?);
+    }
+    Ok(())
+}
+
+#[test]
+fn files_beside_the_program(rt: HostRuntime) -> Result<(), Fail> {
+    let files = Files {
+        program: FILES.as_bytes(),
+        acct: b"0,5\n1,-7\n",
+        moves: b"0,1,3\n",
+    };
+    assert!(rt; ends(&rt, "", files, 0, "records\nacct: 5 -4\n", 3)?);
+    let unmoved = Files { acct: b"", ..files };
+    assert!(rt; ends(&rt, "", unmoved, 0, "records\nacct: 0 3\n", 3)?);
+    let rows: [(&[u8], &str); 2] = [
+        (b"0,5\n0,6\n", "gprs: input acct.csv kind 4 row 2\n"),
+        (b"2,5\n0,6\n", "gprs: input acct.csv kind 3 row 1\n"),
+    ];
+    for (acct, line) in rows {
+        assert!(rt; gives(&rt, "run p.gp", Files { acct, ..files }, 4, "", line)?);
+        assert!(rt; gives(&rt, "check p.gp", Files { acct, ..files }, 0, "ok\n", "")?);
+    }
+    Ok(())
+}
+
+#[test]
+fn a_file_that_is_too_long(rt: HostRuntime) -> Result<(), Fail> {
+    let text = " ".repeat(rt.alloc(), 33554433)?;
+    let files = Files {
+        moves: text.as_bytes(),
+        ..alone(FILES)
+    };
+    let line = "gprs: input moves.csv kind 6 row 0\n";
+    assert!(rt; gives(&rt, "run p.gp", files, 4, "", line)?);
+    Ok(())
+}
+
+// The third read, which is that of the feed, fails; and a file that is not there.
+#[test]
+fn files_that_can_not_be_read(rt: HostRuntime) -> Result<(), Fail> {
+    let answer = answer_of(&rt, "run p.gp", alone(FILES), Devices { read: 3, ..SOUND })?;
+    assert!(rt; answer.status == 7);
+    assert!(rt; answer.output.written().is_empty());
+    assert!(rt; answer.error.written() == b"gprs: read fault moves.csv\n".as_slice());
+    let program = "lock a[1];\nrecord r[1] by a from \"gone.csv\";\ntask main() { }\n";
+    assert!(rt; refuses(&rt, "one p.gp", program, 7, "gprs: read fault gone.csv\n")?);
+    Ok(())
+}
+
+// A text that is cut off is refused.
 #[test]
 fn beginnings_are_refused(rt: HostRuntime) -> Result<(), Fail> {
-    for end in 0..ADD.len() {
-        let (front, _) = ADD.as_bytes().split_at(end);
-        let answer = answer_of(&rt, "run p.gp", front, SOUND)?;
-        assert_eq!(rt; (answer.status, answer.output.written().len()), (3, 0));
+    let whole = ADD.trim_end().as_bytes();
+    for end in 0..whole.len() {
+        let (front, _) = whole.split_at(end);
+        let files = Files {
+            program: front,
+            ..alone("")
+        };
+        let answer = answer_of(&rt, "run p.gp", files, SOUND)?;
+        assert!(rt; answer.status == 3 && answer.output.written().is_empty());
     }
     Ok(())
 }
@@ -411,7 +621,7 @@ fn an_output_that_fails_has_a_prefix(rt: HostRuntime) -> Result<(), Fail> {
                 let answer = answer_of(
                     &rt,
                     "run p.gp",
-                    program.as_bytes(),
+                    alone(program),
                     Devices {
                         most,
                         output,
@@ -448,7 +658,7 @@ fn an_error_stream_that_fails_has_a_prefix(rt: HostRuntime) -> Result<(), Fail> 
                 let answer = answer_of(
                     &rt,
                     words,
-                    EMPTY.as_bytes(),
+                    alone(EMPTY),
                     Devices {
                         most,
                         read,
@@ -472,7 +682,7 @@ fn four_bytes_at_a_time(rt: HostRuntime) -> Result<(), Fail> {
     let answer = answer_of(
         &rt,
         "run p.gp",
-        EMPTY.as_bytes(),
+        alone(EMPTY),
         Devices {
             most: 4,
             output: 2,

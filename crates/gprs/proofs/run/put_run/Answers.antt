@@ -1,83 +1,85 @@
-use Rattle.std.proofs.Common.{◌++◌, codes, rules, subst, sym, ap, ◌∙◌}
+use Rattle.std.proofs.Common.{[], rules, subst, ap, ◌∙◌}
 use Rattle.std.specs.Io.KnownBytes.{Appends}
 use Rattle.gp_base.specs.Sinks.{AppendsPrefix}
-use Rattle.gp_base.proofs.Written.{Appends-append, prefix_first, prefix_second, prefix_all}
-use Rattle.task_ast.specs.Small.{small_lines}
-use Rattle.task_ast.specs.View.{plain_program}
-use Rattle.lock_checker.specs.Accepted.{program_of}
-use Rattle.gprs.specs.Texts.{printed, tail_text, one_subthread}
-use Rattle.gprs.proofs.Tail.{tail_bytes}
-use Rattle.gprs.proofs.PlainTexts.{text-small}
+use Rattle.gprs.specs.Case.{end_status}
+use Rattle.gprs.specs.Decided.{work_of}
+use Rattle.gprs.specs.PlainText.{plain_ran, lines_in, ran_in}
+use Rattle.gprs.proofs.PlainTexts.{plain_ran-run}
+use Rattle.gprs.specs.Texts.{printed, tail_text}
+use Rattle.gprs.proofs.RunPieces.{part_of_first, after_first, part_of_second, after_second, part_of_third, whole_text}
 use Rattle.gprs.proofs.run.put_run.Goals as goal
 
 pub returns-in_err-put_all-clause-prefix : goal.returns-in_err-put_all-clause-prefix
 returns-in_err-put_all-clause-prefix g c =
-    let program = plain_program (program_of c.args.small.checked) in
-    let lines = small_lines program in
     let before = g.O.Sink.written c.args.out.now in
     let first = g.O.Sink.written c.put_all.new.to in
-    let part = prefix_first before first (codes "output\n") (printed lines ++ tail_text (one_subthread lines)) c.in_err-put_all.ensures.prefix in
-    let prefix = subst (AppendsPrefix before first) (sym (text-small program c.args.small.small)) part in
+    let prefix = part_of_first (plain_ran (work_of c.args.batch.now)) before first c.in_err-put_all.ensures.prefix in
     search (rules, prefix)
 
-pub returns-in_err-lines-clause-prefix : goal.returns-in_err-lines-clause-prefix
-returns-in_err-lines-clause-prefix g c =
-    let program = plain_program (program_of c.args.small.checked) in
-    let lines = small_lines program in
+pub returns-in_err-ran-clause-prefix : goal.returns-in_err-ran-clause-prefix
+returns-in_err-ran-clause-prefix g c =
     let before = g.O.Sink.written c.args.out.now in
     let first = g.O.Sink.written c.put_all.new.to in
-    let part = prefix_all before first (codes "output\n") (printed lines ++ tail_text (one_subthread lines)) c.in_ok-put_all.ensures.all in
-    let prefix = subst (AppendsPrefix before first) (sym (text-small program c.args.small.small)) part in
+    let prefix = after_first (plain_ran (work_of c.args.batch.now)) before first c.in_ok-put_all.ensures.all in
     search (rules, prefix)
 
 pub returns-in_err-text-clause-prefix : goal.returns-in_err-text-clause-prefix
 returns-in_err-text-clause-prefix g c =
-    let program = plain_program (program_of c.args.small.checked) in
-    let lines = small_lines program in
     let before = g.O.Sink.written c.args.out.now in
     let first = g.O.Sink.written c.put_all.new.to in
-    let part = prefix_all before first (codes "output\n") (printed lines ++ tail_text (one_subthread lines)) c.in_ok-put_all.ensures.all in
-    let prefix = subst (AppendsPrefix before first) (sym (text-small program c.args.small.small)) part in
+    let prefix = after_first (plain_ran (work_of c.args.batch.now)) before first c.in_ok-put_all.ensures.all in
     search (rules, prefix)
 
 pub returns-in_err-put_all-2-clause-prefix : goal.returns-in_err-put_all-2-clause-prefix
 returns-in_err-put_all-2-clause-prefix g c =
-    let program = plain_program (program_of c.args.small.checked) in
-    let lines = small_lines program in
+    let ran = plain_ran (work_of c.args.batch.now) in
     let before = g.O.Sink.written c.args.out.now in
     let first = g.O.Sink.written c.put_all.new.to in
     let second = g.O.Sink.written c.put_all-2.new.to in
-    let middle = subst (AppendsPrefix first second) (c.deref.ensures.value ∙ c.in_ok-text.ensures ∙ ap printed (c.in_ok-lines.ensures ∙ ap (λ p. small_lines (plain_program p)) c.program.ensures)) c.in_err-put_all-2.ensures.prefix in
-    let part = prefix_second before first second (codes "output\n") (printed lines ++ tail_text (one_subthread lines)) c.in_ok-put_all.ensures.all
-    (prefix_first first second (printed lines) (tail_text (one_subthread lines)) middle) in
-    let prefix = subst (AppendsPrefix before second) (sym (text-small program c.args.small.small)) part in
+    let is = plain_ran-run (work_of c.args.batch.now) c.in_ok-ran.ran c.in_ok-ran.ensures in
+    let lines = c.deref.ensures.value ∙ c.in_ok-text.ensures ∙ ap (λ order. printed (lines_in order)) c.as_slice.ensures ∙ ap (λ r. printed r.lines) is in
+    let prefix = part_of_second ran before first second c.in_ok-put_all.ensures.all (subst (AppendsPrefix first second) lines c.in_err-put_all-2.ensures.prefix) in
+    search (rules, prefix)
+
+pub returns-in_err-tail-clause-prefix : goal.returns-in_err-tail-clause-prefix
+returns-in_err-tail-clause-prefix g c =
+    let ran = plain_ran (work_of c.args.batch.now) in
+    let before = g.O.Sink.written c.args.out.now in
+    let first = g.O.Sink.written c.put_all.new.to in
+    let second = g.O.Sink.written c.put_all-2.new.to in
+    let is = plain_ran-run (work_of c.args.batch.now) c.in_ok-ran.ran c.in_ok-ran.ensures in
+    let lines = c.deref.ensures.value ∙ c.in_ok-text.ensures ∙ ap (λ order. printed (lines_in order)) c.as_slice.ensures ∙ ap (λ r. printed r.lines) is in
+    let prefix = after_second ran before first second c.in_ok-put_all.ensures.all (subst (Appends first second) lines c.in_ok-put_all-2.ensures.all) in
     search (rules, prefix)
 
 pub returns-in_err-put_all-3-clause-prefix : goal.returns-in_err-put_all-3-clause-prefix
 returns-in_err-put_all-3-clause-prefix g c =
-    let program = plain_program (program_of c.args.small.checked) in
-    let lines = small_lines program in
+    let ran = plain_ran (work_of c.args.batch.now) in
     let before = g.O.Sink.written c.args.out.now in
     let first = g.O.Sink.written c.put_all.new.to in
     let second = g.O.Sink.written c.put_all-2.new.to in
     let third = g.O.Sink.written c.put_all-3.new.to in
-    let middle = subst (Appends first second) (c.deref.ensures.value ∙ c.in_ok-text.ensures ∙ ap printed (c.in_ok-lines.ensures ∙ ap (λ p. small_lines (plain_program p)) c.program.ensures)) c.in_ok-put_all-2.ensures.all in
-    let last = subst (AppendsPrefix second third) (tail_bytes lines) c.in_err-put_all-3.ensures.prefix in
-    let part = prefix_second before first third (codes "output\n") (printed lines ++ tail_text (one_subthread lines)) c.in_ok-put_all.ensures.all
-    (prefix_second first second third (printed lines) (tail_text (one_subthread lines)) middle last) in
-    let prefix = subst (AppendsPrefix before third) (sym (text-small program c.args.small.small)) part in
+    let is = plain_ran-run (work_of c.args.batch.now) c.in_ok-ran.ran c.in_ok-ran.ensures in
+    let lines = c.deref.ensures.value ∙ c.in_ok-text.ensures ∙ ap (λ order. printed (lines_in order)) c.as_slice.ensures ∙ ap (λ r. printed r.lines) is in
+    let heads = c.as_slice-2.ensures ∙ ap (λ p. p.heads) c.program.ensures in
+    let tail = c.deref-2.ensures.value ∙ c.in_ok-tail.ensures ∙ ap (λ h. tail_text (ran_in h c.in_ok-ran.ran) [] 0) heads ∙ ap (λ r. tail_text r [] 0) is in
+    let prefix = part_of_third ran before first second c.in_ok-put_all.ensures.all third (subst (Appends first second) lines c.in_ok-put_all-2.ensures.all)
+    (subst (AppendsPrefix second third) tail c.in_err-put_all-3.ensures.prefix) in
     search (rules, prefix)
 
 pub returns-clause-all : goal.returns-clause-all
 returns-clause-all g c =
-    let program = plain_program (program_of c.args.small.checked) in
-    let lines = small_lines program in
+    let ran = plain_ran (work_of c.args.batch.now) in
     let before = g.O.Sink.written c.args.out.now in
     let first = g.O.Sink.written c.put_all.new.to in
     let second = g.O.Sink.written c.put_all-2.new.to in
     let third = g.O.Sink.written c.put_all-3.new.to in
-    let middle = subst (Appends first second) (c.deref.ensures.value ∙ c.in_ok-text.ensures ∙ ap printed (c.in_ok-lines.ensures ∙ ap (λ p. small_lines (plain_program p)) c.program.ensures)) c.in_ok-put_all-2.ensures.all in
-    let last = subst (Appends second third) (tail_bytes lines) c.in_ok-put_all-3.ensures.all in
-    subst (Appends before third) (sym (text-small program c.args.small.small))
-    (Appends-append before first third (codes "output\n") (printed lines ++ tail_text (one_subthread lines)) c.in_ok-put_all.ensures.all
-    (Appends-append first second third (printed lines) (tail_text (one_subthread lines)) middle last))
+    let is = plain_ran-run (work_of c.args.batch.now) c.in_ok-ran.ran c.in_ok-ran.ensures in
+    let lines = c.deref.ensures.value ∙ c.in_ok-text.ensures ∙ ap (λ order. printed (lines_in order)) c.as_slice.ensures ∙ ap (λ r. printed r.lines) is in
+    let heads = c.as_slice-2.ensures ∙ ap (λ p. p.heads) c.program.ensures in
+    let tail = c.deref-2.ensures.value ∙ c.in_ok-tail.ensures ∙ ap (λ h. tail_text (ran_in h c.in_ok-ran.ran) [] 0) heads ∙ ap (λ r. tail_text r [] 0) is in
+    whole_text ran before first second c.in_ok-put_all.ensures.all third (subst (Appends first second) lines c.in_ok-put_all-2.ensures.all)
+    (subst (Appends second third) tail c.in_ok-put_all-3.ensures.all)
+
+pub returns-clause-status : goal.returns-clause-status
+returns-clause-status g c = c.end_status.ensures ∙ ap (λ r. end_status r.end) (plain_ran-run (work_of c.args.batch.now) c.in_ok-ran.ran c.in_ok-ran.ensures)

@@ -1,13 +1,11 @@
-use Rattle.std.proofs.Common.{OnErr, subst, sym}
+use Rattle.std.proofs.Common.{[], codes, if◌then◌else◌, OnErr, subst, sym, ◌∙◌}
 use Rattle.gp_base.specs.Sinks.{AppendsPrefix}
-use Rattle.gprs.specs.Case.{text_of}
-use Rattle.gprs.specs.Decided.{go_of}
+use Rattle.gprs.specs.Decided.{work_of}
+use Rattle.gprs.specs.PlainText.{plain_ran}
+use Rattle.gprs.specs.Texts.{run_text}
 use Rattle.gprs.proofs.run.put_text.Goals as goal
 
-pub returns-in-Run-clause-prefix : goal.returns-in-Run-clause-prefix
-returns-in-Run-clause-prefix g c =
-    subst (λ b. OnErr c.put_run.result (AppendsPrefix (g.O.Sink.written c.args.out.now) (g.O.Sink.written c.put_run.new.out) (text_of (go_of b)))) (sym c.in-Run.is) c.put_run.ensures.prefix
-
-pub returns-clause-prefix : goal.returns-clause-prefix
-returns-clause-prefix g c =
-    subst (λ b. OnErr c.put_all.result (AppendsPrefix (g.O.Sink.written c.args.out.now) (g.O.Sink.written c.put_all.new.to) (text_of (go_of b)))) (sym c.in-Check.is) c.put_all.ensures.prefix
+pub returns-then-runs-clause-prefix : goal.returns-then-runs-clause-prefix
+returns-then-runs-clause-prefix g c =
+    subst (λ b. OnErr c.put_run.result (AppendsPrefix (g.O.Sink.written c.args.out.now) (g.O.Sink.written c.put_run.new.out) (if b then run_text (plain_ran (work_of c.args.batch.now)) [] 0 else codes "ok\n")))
+    (sym (sym c.runs.ensures ∙ c.if-runs.true)) c.put_run.ensures.prefix

@@ -1,7 +1,8 @@
 use Rattle.std.proofs.Common.{◌≡◌, take}
 use Rattle.gprs.specs.Texts.{printed}
+use Rattle.gprs.specs.PlainText.{lines_in}
 use Rattle.gprs.proofs.texts.printed.Given as goal
 
--- the lines so far
-abbrev pub invariant-loop-line : goal.invariant-loop-line
-invariant-loop-line l = l.text.items ≡ printed (take l.line-index l.line-items)
+-- the lines of the subthreads so far
+abbrev pub invariant-loop-step : goal.invariant-loop-step
+invariant-loop-step l = l.text.items ≡ printed (lines_in (take l.step-index l.order))

@@ -1,0 +1,22 @@
+// What a call is to do.
+ghost use Rattle.std.specs.Prelude.{◌≡◌};
+ghost use Rattle.gprs.specs.Work.{runs};
+
+use command_line::{Asked, Command};
+use gp_base::Inputs;
+use lock_checker::Checked;
+
+/// What a call is to do: what its words ask for, on an accepted program, from these inputs.
+#[derive(Drop)]
+pub struct Batch {
+    pub asked: Asked,
+    pub checked: Checked,
+    pub inputs: Inputs,
+}
+
+/// Whether the command runs its program, and does not only check it.
+pub fn runs(command: Command) -> bool
+    ensures { result ≡ runs command }
+{
+    !matches!(command, Command::Check)
+}

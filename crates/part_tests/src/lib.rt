@@ -1,0 +1,28 @@
+//! Tests of the crates that the program stands on. They stand in a crate of their own, above those: a crate with tests is
+//! proved twice.
+#![tactic(auto)]
+
+#[cfg(test)]
+mod checks;
+#[cfg(test)]
+mod dependents;
+#[cfg(test)]
+mod expressions;
+#[cfg(test)]
+mod operators;
+#[cfg(test)]
+mod rooms;
+#[cfg(test)]
+mod rows;
+#[cfg(test)]
+mod shelves;
+#[cfg(test)]
+mod sinks;
+#[cfg(test)]
+mod texts;
+#[cfg(test)]
+mod tokens;
+#[cfg(test)]
+mod turns;
+#[cfg(test)]
+mod words;

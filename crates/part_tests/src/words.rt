@@ -1,0 +1,105 @@
+// Words of commands, and words of no command.
+use command_line::{Command, read_words};
+use gp_base::limits::{DEFAULT_SUBTHREADS, DEFAULT_TURNS};
+use std::alloc::{AllocError, Global};
+use std::test::Fail;
+
+// The words between spaces.
+fn words_of(alloc: Global, text: &str) -> Result<Vec<String>, AllocError> {
+    let mut words = Vec::new(alloc);
+    for word in text.split(' ') {
+        words.push(String::from_str(alloc, word)?)?;
+    }
+    Ok(words)
+}
+
+// The words ask for this command on this program, under these limits.
+fn asks(
+    alloc: Global,
+    text: &str,
+    command: Command,
+    program: &str,
+    turns: u64,
+    subthreads: u32,
+) -> Result<bool, AllocError> {
+    let words = words_of(alloc, text)?;
+    Ok(match read_words(alloc, &words)? {
+        Some(asked) => {
+            asked.command == command
+                && asked.program.as_slice() == program.as_bytes()
+                && asked.limits.turns == turns
+                && asked.limits.subthreads == subthreads
+        }
+        None => false,
+    })
+}
+
+#[test]
+fn words_of_a_command(rt: HostRuntime) -> Result<(), Fail> {
+    let alloc = rt.alloc();
+    let (turns, subthreads) = (DEFAULT_TURNS, DEFAULT_SUBTHREADS);
+    let rows = [
+        ("run p.gp", Command::Run, "p.gp", turns, subthreads),
+        ("one p.gp", Command::One, "p.gp", turns, subthreads),
+        ("check p.gp", Command::Check, "p.gp", turns, subthreads),
+        ("run --turns 007 p.gp", Command::Run, "p.gp", 7, subthreads),
+        (
+            "one p.gp --subthreads=200000",
+            Command::One,
+            "p.gp",
+            turns,
+            200000,
+        ),
+        (
+            "run --subthreads 1 p.gp --turns 10000000",
+            Command::Run,
+            "p.gp",
+            10000000,
+            1,
+        ),
+        ("run -- --turns", Command::Run, "--turns", turns, subthreads),
+        ("run -", Command::Run, "-", turns, subthreads),
+        ("run ", Command::Run, "", turns, subthreads),
+    ];
+    for (text, command, program, turns, subthreads) in rows {
+        assert!(rt; asks(alloc, text, command, program, turns, subthreads)?);
+    }
+    Ok(())
+}
+
+#[test]
+fn words_of_no_command(rt: HostRuntime) -> Result<(), Fail> {
+    let alloc = rt.alloc();
+    let rows = [
+        "",
+        "run",
+        "fly p.gp",
+        "Run p.gp",
+        "run p.gp q.gp",
+        "run -p.gp",
+        "run p.gp --turns",
+        "run p.gp --turns 0",
+        "run p.gp --turns 10000001",
+        "run p.gp --turns +5",
+        "run p.gp --turns -5",
+        "run p.gp --turns=-5",
+        "run p.gp --turns=",
+        "run p.gp --turns 5 --turns 6",
+        "run p.gp --turns 18446744073709551617",
+        "one p.gp --subthreads 0",
+        "one p.gp --subthreads 200001",
+        "check p.gp --turns 5",
+        "run p.gp --workers 2",
+        "run p.gp --help",
+        "run -h",
+        "run p.gp --version",
+        "check",
+        "check p.gp q.gp",
+    ];
+    for text in rows {
+        let words = words_of(alloc, text)?;
+        assert!(rt; read_words(alloc, &words)?.is_none());
+    }
+    assert!(rt; read_words(alloc, &Vec::new(alloc))?.is_none());
+    Ok(())
+}
