@@ -1,5 +1,7 @@
-# Transfers between accounts: eight threads share the rows of a feed. A transfer that would leave an account below 0 is
-# refused and counted. Locks are taken in rising order, so no two threads wait for each other.
+# Transfers between accounts: eight threads share the rows of a feed, each row an account, an account and an amount. A transfer
+# that would leave an account below 0 is refused and counted. One from an account to itself moves nothing and is passed over,
+# since its thread would wait for a lock that it holds itself. Locks are taken in rising order, so no two threads wait for
+# each other.
 lock bank[100];
 record acct[100] by bank from "acct.csv";
 feed moves[3] from "moves.csv";
@@ -7,27 +9,29 @@ task mover(first) {
   var i, lo, hi, amt, $x, $y;
   i = first;
   while i < rows(moves) {
-    if moves[i, 0] < moves[i, 1] {
-      lo = moves[i, 0];
-      hi = moves[i, 1];
-      amt = moves[i, 2];
-    } else {
-      lo = moves[i, 1];
-      hi = moves[i, 0];
-      amt = 0 - moves[i, 2];
+    if moves[i, 0] != moves[i, 1] {
+      if moves[i, 0] < moves[i, 1] {
+        lo = moves[i, 0];
+        hi = moves[i, 1];
+        amt = moves[i, 2];
+      } else {
+        lo = moves[i, 1];
+        hi = moves[i, 0];
+        amt = 0 - moves[i, 2];
+      }
+      lock bank[lo];
+      lock bank[hi];
+      read acct[lo] into $x;
+      read acct[hi] into $y;
+      when $x - amt >= 0 and $y + amt >= 0 {
+        write acct[lo] = $x - amt;
+        write acct[hi] = $y + amt;
+      } else {
+        $ret = $ret + 1;
+      }
+      unlock bank[hi];
+      unlock bank[lo];
     }
-    lock bank[lo];
-    lock bank[hi];
-    read acct[lo] into $x;
-    read acct[hi] into $y;
-    when $x - amt >= 0 and $y + amt >= 0 {
-      write acct[lo] = $x - amt;
-      write acct[hi] = $y + amt;
-    } else {
-      $ret = $ret + 1;
-    }
-    unlock bank[hi];
-    unlock bank[lo];
     i = i + 8;
   }
 }
