@@ -40,6 +40,16 @@ pub const MOST_TURNS: u64 = 10000000;
 
 pub const DEFAULT_TURNS: u64 = 1000000;
 
+/// The workers of a run, and those that it has where nothing else is said.
+pub const MOST_WORKERS: u32 = 64;
+
+pub const DEFAULT_WORKERS: u32 = 4;
+
+/// The moves of a batch that the program makes itself, at least and at most.
+pub const LEAST_MOVES: u32 = 4;
+
+pub const MOST_MOVES: u32 = 20000;
+
 /// The limits of a run: loop turns in one subthread, and subthreads in all.
 #[derive(Clone, Copy, PartialEq, Eq)]
 pub struct Limits {
