@@ -1,5 +1,5 @@
 -- Laws of what goes on step by step.
-use Rattle.std.proofs.Common.{◌≡◌, ℕ, zero, suc, ◌+◌, ◌<◌, ◌≤◌, List, [], ◌∷◌, take, Some, None, refl, sym, ap, ◌∙◌, subst, arith}
+use Rattle.std.proofs.Common.{◌≡◌, ℕ, zero, suc, ◌+◌, ◌<◌, ◌≤◌, List, ◌∷◌, take, Some, None, refl, sym, ap, ◌∙◌, subst, arith}
 use Rattle.std.specs.Prelude.{slice_get}
 use Rattle.task_ast.specs.Repeat.{Again, More, Done, IsFalling, go_on, repeated, until_done, Move, Goes, Ends, steps_from, steps, state_from, state_after, step_of}
 
@@ -107,13 +107,3 @@ module _ {A S E : Type 0} (move : A → Move A S E) where
   step_reached n p a s e =
       let step = step_there n p a s e in
       state_after_next p a ∙ ap (λ m. state_from move (state_after move p a) m (λ b. b)) step.moves
-
-  -- where the first step leads to an end, it is the only one
-  pub only_step : (n : ℕ) (a b : A) (s : S) (e : E) → move a ≡ Goes s b → move b ≡ Ends e
-      → (steps move (suc n) a ≡ s ∷ []) × (move (state_after move (suc n) a) ≡ Ends e)
-  unfolding steps state_after
-  only_step zero a b s e leads ends = (ap (λ m. steps_from move m (steps move 0)) leads, ap (λ m. move (state_from move a m (state_after move 0))) leads ∙ ends)
-  only_step (suc n) a b s e leads ends = (
-    ap (λ m. steps_from move m (steps move (suc n))) leads ∙ ap (λ m. s ∷ steps_from move m (steps move n)) ends,
-    ap (λ m. move (state_from move a m (state_after move (suc n)))) leads ∙ ap (λ m. move (state_from move b m (state_after move n))) ends ∙ ends,
-  )

@@ -2,7 +2,7 @@
 use Rattle.std.specs.Prelude.{◌≡◌, ◌↔◌, ℕ, ◌+◌, ◌<◌, ◌-◌, ◌==◌, ℤ, pos, Bool, true, false, not, ◌&&◌, cond, List, [], ◌∷◌, map, take, drop, Option, Some, None, nat_lt, option_map}
 use Rattle.std.specs.List.{list_all, filter, Contains}
 use Rattle.std.specs.List.Sorted.{IsStrictlyIncreasing}
-use Rattle.task_ast.specs.declared.sync.Layout.{Layout}
+use Rattle.task_ast.specs.declared.layout.Layout.{Layout}
 use Rattle.task_ast.specs.declared.tree.Head.{Head}
 use Rattle.task_ast.specs.declared.tree.Head.TheVariants.{RecHead}
 use Rattle.task_ast.specs.Tree.{Name, Program}

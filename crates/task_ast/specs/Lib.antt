@@ -18,7 +18,6 @@ pub mod Position
 pub mod Reached
 pub mod Repeat
 pub mod Shaped
-pub mod Small
 pub mod State
 pub mod Table
 pub mod Tree

@@ -6,7 +6,6 @@ ghost use Rattle.task_ast.specs.laws.Ends.{EndLaw, CountLaw, TablesLaw, WholeLaw
 ghost use Rattle.task_ast.specs.laws.Folds.{WritesLaw, NoDamageLaw, FoldLaw};
 ghost use Rattle.task_ast.specs.laws.Keeps.{ReadsLaw, WithinLaw};
 ghost use Rattle.task_ast.specs.Layout.{LayoutLaw, SizesLaw, OverLaw, BaseLaw};
-ghost use Rattle.task_ast.specs.Small.{SmallRunLaw};
 
 /// An expression without data in an index has the value of its term.
 pub fn value_law()
@@ -21,11 +20,6 @@ pub fn body_law()
 /// The next issue is one turn, and then the same again where the turn passes.
 pub fn turn_law()
     ensures { TurnLaw }
-{}
-
-/// A small program runs as one subthread, which prints the lines of its statements in order, and its run is finished.
-pub fn small_run_law()
-    ensures { SmallRunLaw }
 {}
 
 /// The token comes back to a thread that has passed exactly where every thread that has not ended has passed.

@@ -60,9 +60,3 @@ impl Next {
         })
     }
 }
-
-/// For each lock cell the record cells under it, in rising order.
-#[derive(Drop)]
-pub struct Layout {
-    pub under: Seq<Seq<RecNo>>,
-}
