@@ -11,6 +11,7 @@ use Rattle.task_ast.specs.Names.{is_name, natural, named, place, locks_of, recor
 use Rattle.task_ast.specs.Declarations.{is_other_size}
 use Rattle.task_ast.specs.Layout.{base_of, lock_over, is_lock_cell, cells_under, fits_array}
 use Rattle.task_ast.specs.Table.{numbers}
+use Rattle.task_ast.proofs.Layouts.{array_found, length-numbers}
 use Rattle.lock_checker.specs.inner.Positions.{positions, numbers_at, cells_over}
 
 numbers-more : (a n : ℕ) → numbers a (suc n) ≡ numbers a n ++ (a + n) ∷ []
@@ -28,10 +29,6 @@ numbers-push xs ys a n is = ap (λ l. l ++ (a + n) ∷ []) is ∙ append_assoc x
 -- what belongs to the numbers below a count, with that of the next one
 pub map-push : {T : Type 0} (f : ℕ → T) (ys : List T) (n : ℕ) → ys ≡ map f (numbers 0 n) → ys ++ f n ∷ [] ≡ map f (numbers 0 (n + 1))
 map-push f ys n is = ap (λ l. l ++ f n ∷ []) is ∙ ap (λ k. map f (numbers 0 n) ++ f k ∷ []) (sym (zero-add n)) ∙ sym (map-append f (numbers 0 n) ((0 + n) ∷ [])) ∙ ap (map f) (sym (numbers_more 0 n))
-
-length-numbers : (a n : ℕ) → length (numbers a n) ≡ n
-length-numbers a zero = refl
-length-numbers a (suc n) = ap suc (length-numbers (suc a) n)
 
 -- what agrees number by number
 pub map_numbers : {T : Type 0} (f g : ℕ → T) (a b n : ℕ) → ((k : ℕ) → k < n → f (a + k) ≡ g (b + k)) → map f (numbers a n) ≡ map g (numbers b n)
@@ -117,11 +114,6 @@ has_base (array ∷ arrays) x size e = go (is_name x array.0) e (has_base arrays
     go false e later =
         let there = later e in
         (array.1 + there.0, ap (option_map (λ n. array.1 + n)) there.1, λ k less. ap (option_map (λ n. array.1 + n)) (there.2 k less) ∙ ap Some (omega arith))
-
--- the array of a record that fits it has the record's size
-array_found : (size : ℕ) (o : Option ℕ) → not (is_none o) ≡ true → not (is_other_size size o) ≡ true → o ≡ Some size
-array_found size None there same = absurd (false≢true there)
-array_found size (Some other) there same = ap Some (sym (eqb-true size other (not-false (size == other) (not-true (not (size == other)) same))))
 
 -- the cells over the record cells are those that the heads tell
 over_told : (all heads : List Head) → list_all (fits_array all) heads ≡ true

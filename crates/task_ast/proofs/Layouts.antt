@@ -32,7 +32,7 @@ cell_there (array ∷ arrays) name size k e less = go (is_name name array.0) e (
     go false found later = let there = later found in (array.1 + there.0, omega arith, ap (option_map (λ n. array.1 + n)) there.2)
 
 -- the array of a record that fits it has the record's size
-array_found : (size : ℕ) (o : Option ℕ) → not (is_none o) ≡ true → not (is_other_size size o) ≡ true → o ≡ Some size
+pub array_found : (size : ℕ) (o : Option ℕ) → not (is_none o) ≡ true → not (is_other_size size o) ≡ true → o ≡ Some size
 array_found size None there same = absurd (false≢true there)
 array_found size (Some other) there same = ap Some (sym (eqb-true size other (not-false (size == other) (not-true (not (size == other)) same))))
 
