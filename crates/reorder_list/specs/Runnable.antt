@@ -1,0 +1,23 @@
+-- Which entries may be posted.
+use Rattle.std.specs.Prelude.{◌≡◌, ◌<◌, ◌≤◌, ℕ, List, Option, Some}
+use Rattle.dependence.specs.Conflict.{Conflict}
+use Rattle.reorder_list.specs.declared.entry.Entry.{Entry}
+use Rattle.reorder_list.specs.declared.entry.State.TheVariants.{Waiting, Applied}
+use Rattle.reorder_list.specs.Entries.{entry_at}
+
+-- the entry of the position waits, and each earlier one that is in conflict with it is applied
+pub record IsRunnable (entries : List Entry) (p : ℕ) : Type 0 where
+  pub entry : Entry
+  pub is_there : entry_at entries p ≡ Some entry
+  pub waits : entry.state ≡ Waiting
+  pub ready : (q : ℕ) (earlier : Entry) → q < p → entry_at entries q ≡ Some earlier → Conflict earlier.foot entry.foot → earlier.state ≡ Applied
+
+-- no entry from this position on is runnable
+abbrev pub NoneRunnable : List Entry → (from : ℕ) → Type 0
+NoneRunnable entries from = (q : ℕ) → from ≤ q → ¬ IsRunnable entries q
+
+-- the first entry from this position on that is runnable
+pub record IsFirstRunnable (entries : List Entry) (from p : ℕ) : Type 0 where
+  pub later : from ≤ p
+  pub runnable : IsRunnable entries p
+  pub first : (q : ℕ) → from ≤ q → q < p → ¬ IsRunnable entries q
