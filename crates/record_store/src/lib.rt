@@ -5,6 +5,7 @@
 //! interrupts in pipelined processors", ISCA 1985.
 #![tactic(auto)]
 
+mod exchange;
 mod given;
 mod history;
 mod store;
