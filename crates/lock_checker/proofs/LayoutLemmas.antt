@@ -1,8 +1,8 @@
 -- The lock cells over record cells, and the record cells under each.
 use Rattle.std.proofs.Common.{◌≡◌, ◌≢◌, ℕ, zero, suc, ◌+◌, ◌-◌, ◌≤◌, ◌<◌, ◌==◌, Bool, true, false, not, cond, List, [], ◌∷◌, ◌++◌, map, length, Option, Some, None, is_none, refl, sym, ap, ◌∙◌, arith, option_map, add-one, zero-add, append_assoc, append-nil, subst, take, set, get_or}
-use Rattle.std.specs.Prelude.{pos}
+use Rattle.std.specs.Prelude.{pos, slice_get}
 use Rattle.std.specs.List.{list_all, filter}
-use Rattle.std.proofs.lemmas.Bool.{false≢true, ne_eqb, eq-eqb, lt-ltb, le-ltb, eqb-true, and_parts, not-true, not-false}
+use Rattle.std.proofs.lemmas.Bool.{ne_eqb, eq-eqb, lt-ltb, le-ltb, and_parts}
 use Rattle.std.proofs.lemmas.List.{map-append, length-append, length-map, length-take-le, take_more}
 use Rattle.task_ast.specs.declared.tree.Head.{Head}
 use Rattle.task_ast.specs.declared.tree.Head.TheVariants.{LockHead, BarrierHead, RecHead, FeedHead}
@@ -142,6 +142,36 @@ over_told all (RecHead name size by from line ∷ heads) fits =
     ∙ ap (λ l. map here (numbers 0 n) ++ l) (over_told all heads parts.1 ∙ later)
     ∙ sym (map-append here (numbers 0 n) (numbers (0 + n) m))
     ∙ sym (ap (map here) (numbers-split 0 n m))
+
+-- past the record cells there is none
+lock_over-past : (arrays : List (Name × ℕ)) (heads : List Head) (c : ℕ) → cells_in (records_of heads) ≤ c → lock_over arrays heads c ≡ None
+lock_over-past arrays [] c past = refl
+lock_over-past arrays (LockHead name size line ∷ heads) c past = lock_over-past arrays heads c past
+lock_over-past arrays (BarrierHead name number line ∷ heads) c past = lock_over-past arrays heads c past
+lock_over-past arrays (FeedHead name fields from line ∷ heads) c past = lock_over-past arrays heads c past
+lock_over-past arrays (RecHead name size by from line ∷ heads) c past =
+    ap (λ b. cond b (cell_number arrays by (pos c)) (lock_over arrays heads (c - natural size))) (le-ltb c (natural size) (omega arith))
+    ∙ lock_over-past arrays heads (c - natural size) (omega arith)
+
+-- what a list has at each place, where the places tell its members
+got_told : (f : ℕ → Option ℕ) (xs : List ℕ) (from n : ℕ) → map Some xs ≡ map f (numbers from n) → ((k : ℕ) → n ≤ k → f (from + k) ≡ None)
+    → (k : ℕ) → slice_get xs k ≡ f (from + k)
+got_told f [] from zero e past k = sym (past k (omega arith))
+got_told f [] from (suc n) e past k = absurd (cc e)
+got_told f (x ∷ xs) from zero e past k = absurd (cc e)
+got_told f (x ∷ xs) from (suc n) e past zero = let first : Some x ≡ f from = cc e in first ∙ ap f (omega arith)
+got_told f (x ∷ xs) from (suc n) e past (suc k) =
+    let rest : map Some xs ≡ map f (numbers (suc from) n) = cc e in
+    got_told f xs (suc from) n rest (λ j less. ap f (omega arith) ∙ past (suc j) (omega arith)) k ∙ ap f (omega arith)
+
+-- the lock cell at each place is the one over the record cell of this number
+pub over_got : (heads : List Head) → list_all (fits_array heads) heads ≡ true → (c : ℕ)
+    → slice_get (cells_over (locks_of heads) heads) c ≡ lock_over (locks_of heads) heads c
+over_got heads fits c =
+    let over = lock_over (locks_of heads) heads in
+    got_told over (cells_over (locks_of heads) heads) 0 (cells_in (records_of heads)) (over_told heads heads fits)
+    (λ k past. ap over (zero-add k) ∙ lock_over-past (locks_of heads) heads k past) c
+    ∙ ap over (zero-add c)
 
 -- the places of a lock cell are the numbers that it is over
 places_told : (over : ℕ → Option ℕ) (lock from n : ℕ) (xs : List ℕ) → map Some xs ≡ map over (numbers from n)

@@ -10,7 +10,7 @@ ghost use Rattle.lock_checker.specs.inner.Tables.{found};
 use crate::index::natural;
 use crate::layout::{cells_by_lock, lock_bases, push_numbers, record_bases};
 use crate::symbol_table::SymbolTable;
-use gp_base::Name;
+use gp_base::{LockNo, Name, Seq};
 use std::alloc::{AllocError, Global};
 use task_ast::{Head, Layout, Program};
 
@@ -26,10 +26,10 @@ pub struct Checked {
 }
 
 impl Checked {
-    ghost use Rattle.std.specs.Prelude.{◌≡◌, ◌≤◌, IfOk, IfSome};
+    ghost use Rattle.std.specs.Prelude.{◌≡◌, ℕ, ◌≤◌, slice_get, IfOk, IfSome};
     ghost use Rattle.gp_base.specs.declared.limits.TheConstants.{MOST_CELLS};
     ghost use Rattle.task_ast.specs.Names.{locks_of, records_of, cells_in};
-    ghost use Rattle.task_ast.specs.Layout.{base_of, layout};
+    ghost use Rattle.task_ast.specs.Layout.{base_of, lock_over, layout};
     ghost use Rattle.lock_checker.specs.Accepted.{program_of};
     ghost use Rattle.lock_checker.specs.inner.Positions.{cells_over};
 
@@ -63,7 +63,7 @@ impl Checked {
         self.record_bases.get(r)
     }
 
-    /// How many cells all lock arrays have.
+    // How many cells all lock arrays have.
     #[tactic(auto, using(crate::proofs::BaseLemmas::base_steps))]
     fn lock_count(&self) -> u32
         ensures { result ≡ cells_in (locks_of (program_of self.now).heads) }
@@ -77,8 +77,8 @@ impl Checked {
         count as u32
     }
 
-    /// The lock cell over each record cell.
-    fn over(&self, alloc: Global) -> Result<Vec<u32>, AllocError>
+    // The lock cell over each record cell.
+    fn lock_cells(&self, alloc: Global) -> Result<Vec<LockNo>, AllocError>
         ensures { IfOk result (λ over. over.items ≡ cells_over (locks_of (program_of self.now).heads) (program_of self.now).heads) }
     {
         let mut over = Vec::new(alloc);
@@ -92,12 +92,19 @@ impl Checked {
         Ok(over)
     }
 
+    /// The lock cell over each record cell, in the order of all records' cells. The only error is out of memory.
+    pub fn over(&self, alloc: Global) -> Result<Seq<LockNo>, AllocError>
+        ensures { IfOk result (λ over. (cell : ℕ) → slice_get over cell ≡ lock_over (locks_of (program_of self.now).heads) (program_of self.now).heads cell) }
+    {
+        Ok(Seq::from_vec(self.lock_cells(alloc)?))
+    }
+
     /// For each lock cell, in the order of all lock arrays' cells, the record cells under it, in rising order. The
     /// only error is out of memory.
     pub fn layout(&self, alloc: Global) -> Result<Layout, AllocError>
         ensures { IfOk result (λ l. l ≡ layout (program_of self.now).heads) }
     {
-        let over = self.over(alloc)?;
+        let over = self.lock_cells(alloc)?;
         let under = cells_by_lock(alloc, &over, self.lock_count())?;
         Ok(Layout { under })
     }

@@ -10,7 +10,7 @@ ghost use Rattle.lock_checker.specs.inner.Tables.{found};
 
 use crate::index::natural;
 use crate::symbol_table::SymbolTable;
-use gp_base::{RecNo, Seq};
+use gp_base::{LockNo, RecNo, Seq};
 use std::alloc::{AllocError, Global};
 use task_ast::Head;
 
@@ -48,7 +48,7 @@ pub fn record_bases(alloc: Global, heads: &[Head]) -> Result<SymbolTable<u32>, A
     Ok(bases)
 }
 
-/// So many empty lists.
+// So many empty lists.
 fn empty_lists(alloc: Global, count: u32) -> Result<Vec<Seq<RecNo>>, AllocError>
     ensures { IfOk result (λ lists. lists.items ≡ map (positions 0 []) (numbers 0 count)) }
 {
@@ -60,26 +60,30 @@ fn empty_lists(alloc: Global, count: u32) -> Result<Vec<Seq<RecNo>>, AllocError>
 }
 
 /// For each lock cell the record cells under it, in rising order, from the lock cell over each record cell.
-pub fn cells_by_lock(alloc: Global, over: &[u32], locks: u32) -> Result<Seq<Seq<RecNo>>, AllocError>
+pub fn cells_by_lock(
+    alloc: Global,
+    over: &[LockNo],
+    locks: u32,
+) -> Result<Seq<Seq<RecNo>>, AllocError>
     requires { length over.now ≤ MOST_CELLS }
     ensures { IfOk result (λ under. under ≡ map (positions 0 over.now) (numbers 0 locks)) }
 {
     let mut under = empty_lists(alloc, locks)?;
     for (cell, lock) in over.iter().enumerate() {
-        if let Some(cells) = under.get_mut(*lock as usize) {
+        if let Some(cells) = under.get_mut(lock.0 as usize) {
             cells.push(RecNo(cell as u32))?;
         }
     }
     Ok(Seq::from_vec(under))
 }
 
-/// Puts numbers that follow one another at the end.
-pub fn push_numbers(over: &mut Vec<u32>, from: u32, count: u32) -> Result<(), AllocError>
+/// Puts lock cells whose numbers follow one another at the end.
+pub fn push_numbers(over: &mut Vec<LockNo>, from: u32, count: u32) -> Result<(), AllocError>
     requires { from + count ≤ 2 ^ 31 }
     ensures { OnOk result (over.new.items ≡ over.old.items ++ numbers from count) }
 {
     for k in 0..count {
-        over.push(from + k)?;
+        over.push(LockNo(from + k))?;
     }
     Ok(())
 }

@@ -23,3 +23,4 @@ pub use checked::Checked;
 pub use fault::CheckFault;
 pub use laws::{soundness_laws, walk_law};
 pub use program::check;
+pub use symbol_table::SymbolTable;

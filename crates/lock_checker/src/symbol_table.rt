@@ -16,6 +16,7 @@ pub struct SymbolTable<T: Copy> {
 }
 
 impl<T: Copy> SymbolTable<T> {
+    /// The table of no name. Takes no memory.
     pub fn new(alloc: Global) -> Self
         ensures { (y : plain.Name) → found result y ≡ None }
     {
@@ -25,14 +26,14 @@ impl<T: Copy> SymbolTable<T> {
         }
     }
 
-    /// What stands beside the name.
+    /// What stands beside the name, or `None`. Takes no memory.
     pub fn get(&self, x: &Name) -> Option<T>
         ensures { result ≡ found self.now x.now }
     {
         self.first.get(x.as_slice()).copied()
     }
 
-    /// Puts a value beside a name, unless one stands there.
+    /// Puts a value beside a name, unless one stands there. The error is that memory is out.
     pub fn put(&mut self, x: &Name, value: T) -> Result<(), AllocError>
         ensures { OnOk result ((y : plain.Name) → found self.new y ≡ or_else (found self.old y) (if is_name y x.now then Some value else None)) }
     {
