@@ -39,7 +39,7 @@ use Rattle.dependence.proofs.Folds.{Kept}
 use Rattle.dependence.proofs.Struck.{Contains-head, Contains-later}
 
 -- a cell that passes stands under a lock that is held
-under-held : (under : List (List ℕ)) (held : List ℕ) (c : ℕ) → is_under under held c ≡ true → (lock : ℕ) × Contains (under_lock under lock) c × Contains held lock
+pub under-held : (under : List (List ℕ)) (held : List ℕ) (c : ℕ) → is_under under held c ≡ true → (lock : ℕ) × Contains (under_lock under lock) c × Contains held lock
 under-held under held c passes =
     let h = Any-from_list_any (λ lock. is_member c (under_lock under lock)) held passes in
     (h.1, (is_member-is c (under_lock under h.1)).0 h.4, (h.0, h.2, h.3))
@@ -53,7 +53,7 @@ Contains-map f (y ∷ xs) x c = at c.0 c.1 c.2 (λ k l same. Contains-map f xs x
     at (suc k) l same rest = Contains-append_right (f y ∷ []) (map f xs) (f x) (rest k (omega arith) same)
 
 -- `$ret` of the thread that is joined depends on its registers alone
-joined_same : (begins : SyncOp) (left right : State) → ((h : ℕ) → Contains (joined_registers begins) (loc.Regs h) → left (RegistersOf h) ≡ right (RegistersOf h))
+pub joined_same : (begins : SyncOp) (left right : State) → ((h : ℕ) → Contains (joined_registers begins) (loc.Regs h) → left (RegistersOf h) ≡ right (RegistersOf h))
     → joined_ret begins left ≡ joined_ret begins right
 joined_same (sync.Join (pos h)) left right agree = ap (λ xs. number_at xs 0) (agree h (Contains-head (loc.Regs h) []))
 joined_same (sync.Join (negsuc h)) left right agree = refl
@@ -140,7 +140,7 @@ pub keeps_law : KeepsLaw
 keeps_law location test held m by_thread names passes = keeps location by_thread test held m names passes
 
 -- the location of a cell under a lock that is held stands in the footprint
-under-writes : (under : List (List ℕ)) → IsApart under → (held : List ℕ) (m : Member) (c : ℕ) → is_under under held c ≡ true
+pub under-writes : (under : List (List ℕ)) → IsApart under → (held : List ℕ) (m : Member) (c : ℕ) → is_under under held c ≡ true
     → MayWrite (lock_location under) (footprint m.thread m.begins m.child held) (CellOf c)
 under-writes under once held m c passes =
     let h = under-held under held c passes in
@@ -182,7 +182,7 @@ module _ (heads : List Head) where
   locks = numbers 0 (cells_in (locks_of heads))
 
   -- what stands under a lock stands under the lock cell of this number
-  under-is : (lock c : ℕ) → Contains (under_lock (layout heads).under lock) c → Contains (cells_under heads lock) c
+  pub under-is : (lock c : ℕ) → Contains (under_lock (layout heads).under lock) c → Contains (cells_under heads lock) c
   under-is lock c member =
       elim (cases_lt lock (length locks)) [
         | inl l ↦

@@ -1,2 +1,5 @@
 pub mod Exchanged
+pub mod Fitting
+pub mod Givens
 pub mod Left
+pub mod States

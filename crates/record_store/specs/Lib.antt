@@ -1,3 +1,4 @@
 pub mod Given
+pub mod Laws
 pub mod Stored
 pub mod inner

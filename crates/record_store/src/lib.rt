@@ -8,6 +8,7 @@
 mod exchange;
 mod given;
 mod history;
+pub mod laws;
 mod store;
 
 pub use given::{Bundle, Given};
