@@ -2,8 +2,8 @@
 use Rattle.std.specs.Prelude.{ℕ, ℤ, List, [], ◌∷◌, Option}
 use Rattle.task_ast.specs.declared.tree.Op.{Op}
 use Rattle.task_ast.specs.Tree.{Program}
-use Rattle.task_code.specs.declared.code.Cells.{Cells}
-use Rattle.task_code.specs.declared.code.Index.{Index}
+use Rattle.task_code.specs.declared.instrs.Cells.{Cells}
+use Rattle.task_code.specs.declared.instrs.Index.{Index}
 
 mutual
   -- an expression over numbered variables and feeds

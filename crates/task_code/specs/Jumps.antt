@@ -1,10 +1,9 @@
 -- What holds of lowered code beside what it does.
 use Rattle.std.specs.Prelude.{◌≡◌, ℕ, ◌+◌, ◌≤◌, ◌<◌, ◌^◌, List, Some, slice_get, length}
-use Rattle.std.specs.List.{All}
 use Rattle.task_ast.specs.Shaped.{IsAccepted}
-use Rattle.task_ast.specs.Tree.{Program}
 use Rattle.task_code.specs.Instructions.{Instr, At, Calc, GoOn, Unless, Again, Lowered}
 use Rattle.task_code.specs.Lowering.{lowered}
+use Rattle.task_code.specs.Reading.{instrs_of}
 
 -- each jump leads to an instruction, or behind the last one
 pub record AreInside (code : List Instr) : Type 0 where
@@ -20,5 +19,5 @@ IsShort code = length code < 2 ^ 32
 pub record IsCode (code : Lowered) : Type 0 where
   pub accepted : IsAccepted code.program
   pub made : code ≡ lowered code.program
-  pub inside : All AreInside code.tasks
-  pub short : All IsShort code.tasks
+  pub inside : (task : ℕ) → AreInside (instrs_of code.tasks task)
+  pub short : (task : ℕ) → IsShort (instrs_of code.tasks task)

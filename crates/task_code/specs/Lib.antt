@@ -1,6 +1,8 @@
+pub mod Flat
 pub mod Instructions
 pub mod Jumps
 pub mod Lowering
+pub mod Parts
 pub mod Reading
 pub mod Relation
 pub mod View

@@ -8,9 +8,9 @@ use Rattle.task_ast.specs.Tree as tree
 use Rattle.task_ast.specs.Tree.{Name, Expr, Links, What, Stmt, Block, TaskText, Program}
 use Rattle.task_ast.specs.Names.{is_name, named, slot, locks_of, records_of, barriers_of, feeds_of, controls_of, registers_of, task_named, task_number}
 use Rattle.task_ast.specs.Layout.{base_of}
-use Rattle.task_code.specs.declared.code.Cells.{Cells}
-use Rattle.task_code.specs.declared.code.Index.{Index}
-use Rattle.task_code.specs.declared.code.Index.TheVariants.{Number, Variable}
+use Rattle.task_code.specs.declared.instrs.Cells.{Cells}
+use Rattle.task_code.specs.declared.instrs.Index.{Index}
+use Rattle.task_code.specs.declared.instrs.Index.TheVariants.{Number, Variable}
 use Rattle.task_code.specs.Instructions.{Calc, Const, Ctl, Reg, Me, Rows, Cell, Neg, Not, Chain, NoValue, Operands, NoOperands, Operand, Deed, SetReg, Read, Write, Print, When, Deeds, NoDeeds, Also, Forking, Does, Assign, GoOn, Unless, Again, Lock, Unlock, Fork, Join, Barrier, Do, Instr, At, Lowered}
 
 -- the cells of the array of a name; where there is none, it has no cells

@@ -14,9 +14,9 @@ use Rattle.task_ast.specs.Action.{Term, Constant, Register, Negated, Inverted, J
 use Rattle.task_ast.specs.Body.{Step, Silent, Iteration, Act, Stop, Body, body}
 use Rattle.task_ast.specs.Control.{all_of}
 use Rattle.task_ast.specs.Plain.{Machine, task_at, start_point}
-use Rattle.task_code.specs.declared.code.Cells.{Cells}
-use Rattle.task_code.specs.declared.code.Index.{Index}
-use Rattle.task_code.specs.declared.code.Index.TheVariants.{Number, Variable}
+use Rattle.task_code.specs.declared.instrs.Cells.{Cells}
+use Rattle.task_code.specs.declared.instrs.Index.{Index}
+use Rattle.task_code.specs.declared.instrs.Index.TheVariants.{Number, Variable}
 use Rattle.task_code.specs.Instructions.{Calc, Const, Ctl, Reg, Me, Rows, Cell, Neg, Not, Chain, NoValue, Operands, NoOperands, Operand, Deed, SetReg, Read, Write, Print, When, Deeds, NoDeeds, Also, Forking, Does, Assign, GoOn, Unless, Again, Lock, Unlock, Fork, Join, Barrier, Do, Instr, At, Lowered}
 
 -- what a control expression of code is read under: the control variables, the thread's number, the feeds in declared order

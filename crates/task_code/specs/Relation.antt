@@ -82,6 +82,12 @@ StartsLaw =
     (program : Program) (task thread : ℕ) (arguments : List ℤ)
     → Corresponds program (start_point (task_at program task) thread arguments) (start_place program task thread arguments)
 
+-- the machine of the code follows that of the tree
+abbrev pub FollowsLaw : Type 0
+FollowsLaw =
+    (program : Program) (inputs : Inputs) (limits : Limits)
+    → Follows (Rests program) (tree_machine program inputs limits) (code_machine (lowered program) inputs.feeds limits.turns)
+
 -- the plain run on the code of a program is the plain run on its tree: the same order and end, and before each position the same
 -- table and state, and points and places that stand for each other, thread by thread
 abbrev pub RunLaw : Type 0

@@ -3,16 +3,16 @@ use Rattle.std.specs.Prelude.{ℕ, List, map}
 use Rattle.task_ast.specs.declared.tree.Op.{Op}
 use Rattle.task_code.specs.Instructions as plain
 use Rattle.task_code.specs.Instructions.{operands, deeds, Operands, Deeds}
-use Rattle.task_code.specs.declared.code.Calc.{Calc}
-use Rattle.task_code.specs.declared.code.Calc.TheOpen as c
-use Rattle.task_code.specs.declared.code.Calc.TheFolds.{fold-Calc}
-use Rattle.task_code.specs.declared.code.Deed.{Deed}
-use Rattle.task_code.specs.declared.code.Deed.TheOpen as d
-use Rattle.task_code.specs.declared.code.Deed.TheFolds.{fold-Deed}
-use Rattle.task_code.specs.declared.code.Forking.{Forking}
-use Rattle.task_code.specs.declared.code.Does.{Does}
-use Rattle.task_code.specs.declared.code.Does.TheVariants as o
-use Rattle.task_code.specs.declared.code.Instr.{Instr}
+use Rattle.task_code.specs.declared.instrs.Calc.{Calc}
+use Rattle.task_code.specs.declared.instrs.Calc.TheOpen as c
+use Rattle.task_code.specs.declared.instrs.Calc.TheFolds.{fold-Calc}
+use Rattle.task_code.specs.declared.instrs.Deed.{Deed}
+use Rattle.task_code.specs.declared.instrs.Deed.TheOpen as d
+use Rattle.task_code.specs.declared.instrs.Deed.TheFolds.{fold-Deed}
+use Rattle.task_code.specs.declared.instrs.Forking.{Forking}
+use Rattle.task_code.specs.declared.instrs.Does.{Does}
+use Rattle.task_code.specs.declared.instrs.Does.TheVariants as o
+use Rattle.task_code.specs.declared.instrs.Instr.{Instr}
 
 abbrev pub calc_of : c.Calc-F plain.Calc → plain.Calc
 calc_of (c.Const n) = plain.Const n

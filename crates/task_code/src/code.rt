@@ -1,87 +1,105 @@
-// Instructions, and what they compute with.
+// The code of a program.
 
-use gp_base::Seq;
-use task_ast::Op;
+ghost use Rattle.std.specs.Prelude.{◌≡◌, ℕ, option_map, slice_get};
+ghost use Rattle.task_ast.specs.Layout.{layout, lock_over};
+ghost use Rattle.task_ast.specs.Names.{locks_of};
+ghost use Rattle.task_ast.specs.Plain.{main_number};
+ghost use Rattle.task_code.specs.Flat.{code_of};
+ghost use Rattle.task_code.specs.Jumps.{IsCode};
+ghost use Rattle.task_code.specs.Parts.{first_place, shape_of, stated_numbers};
+ghost use Rattle.task_code.specs.Reading.{instrs_of};
+ghost use Rattle.task_code.specs.View.{plain_instrs};
 
-/// The cells of an array among those of all lock arrays, or of all records: the number of its first cell, and how many
-/// there are.
-#[derive(Clone, Copy)]
-pub struct Cells {
-    pub first: u32,
-    pub size: u32,
-}
+use crate::instrs::{Instr, Shape};
+use crate::parts::Parts;
+use gp_base::{At, LockNo, Seq};
+use std::marker::Model;
+use task_ast::Layout;
 
-/// The index of a lock cell or of a record cell: a number, or the number of a control variable.
-#[derive(Clone, Copy)]
-pub enum Index {
-    Number(i64),
-    Variable(usize),
-}
-
-/// An expression over numbered variables and feeds. `NoValue` stands for what names nothing that exists, and has no
-/// value.
+/// The code of an accepted program, beside its layout. Contracts see the program and the instructions of each task; each
+/// jump leads to an instruction or behind the last one, and a number of 32 bits counts the instructions of a task.
 #[derive(Drop)]
-pub enum Calc {
-    Const(i64),
-    Ctl(usize),
-    Reg(usize),
-    Me,
-    Rows(usize),
-    Cell(usize, Box<Calc>, Box<Calc>),
-    Neg(Box<Calc>),
-    Not(Box<Calc>),
-    Chain(Box<Calc>, Seq<(Op, Calc)>),
-    NoValue,
+pub struct Code {
+    parts: Parts,
 }
 
-/// What a data statement does to registers, record cells and printed lines. A `when` is one instruction: both arms are
-/// looked up before data pick one.
-#[derive(Drop)]
-pub enum Deed {
-    SetReg(usize, Calc),
-    Read(Cells, Index, usize),
-    Write(Cells, Index, Calc),
-    Print(Seq<Calc>),
-    When(Calc, Seq<Deed>, Seq<Deed>),
+impl Model for Code {
+    ghost use Rattle.std.specs.Coded.{codes};
+    ghost use Rattle.task_ast.specs.contracts.tree.Program as program;
+    ghost use Rattle.task_code.specs.contracts.instrs.Instr as instr;
+    ghost use Rattle.task_code.specs.Flat.{Flat};
+    ghost use Rattle.task_code.specs.Parts.{flat_of, AreParts};
+
+    ghost Value = { Flat };
+
+    ghost coded = { Prim.hlevel (codes, program.the_row.coded, instr.the_row.coded) };
+
+    ghost view = { λ c. flat_of c.parts };
+
+    ghost invariant = { λ c. AreParts c.parts };
 }
 
-/// What a fork begins: the number of the task, how many registers it has, the values of its control parameters in order,
-/// the values of its data parameters beside their registers, and the control variable that takes the child's number.
-#[derive(Drop)]
-pub struct Forking {
-    pub task: u32,
-    pub registers: usize,
-    pub controls: Seq<Calc>,
-    pub gifts: Seq<(usize, Calc)>,
-    pub into: Option<usize>,
-}
+impl Code {
+    /// The instructions of a task, tasks being numbered from 0 in text order; none where there is no such task.
+    pub fn instrs(&self, task: u32) -> &[Instr]
+        ensures { plain_instrs result.now ≡ instrs_of (code_of self.now).tasks task }
+    {
+        match self.parts.tasks.get(task as usize) {
+            Some(instrs) => instrs.as_slice(),
+            None => &[],
+        }
+    }
 
-/// What an instruction does. A jump says how many instructions it passes: forward, or back to the beginning of a loop's
-/// body.
-#[derive(Drop)]
-pub enum Does {
-    Assign(usize, Calc),
-    GoOn(usize),
-    Unless(Calc, usize),
-    Again(Calc, usize),
-    Lock(Cells, Index),
-    Unlock(Cells, Index),
-    Fork(Forking),
-    Join(Calc, Option<usize>),
-    Barrier(u32),
-    Do(Deed),
-}
+    /// The place at which a task begins, or `None` where there is no such task.
+    pub fn start(&self, task: u32) -> Option<At>
+        ensures { result ≡ first_place (code_of self.now).program task }
+    {
+        if (task as usize) < self.parts.tasks.len() {
+            Some(At { task, pc: 0 })
+        } else {
+            None
+        }
+    }
 
-/// An instruction, with the line of its statement.
-#[derive(Drop)]
-pub struct Instr {
-    pub does: Does,
-    pub line: u32,
-}
+    /// How many control variables and registers a task has, or `None` where there is no such task.
+    pub fn shape(&self, task: u32) -> Option<Shape>
+        ensures { result ≡ option_map shape_of (slice_get (code_of self.now).program.tasks task) }
+    {
+        self.parts.shapes.get(task as usize).copied()
+    }
 
-/// How many control variables and how many registers a task has.
-#[derive(Clone, Copy)]
-pub struct Shape {
-    pub ctl: u32,
-    pub regs: u32,
+    /// The number of the task `main`.
+    pub fn main(&self) -> u32
+        ensures { result ≡ main_number (code_of self.now).program }
+    {
+        self.parts.main
+    }
+
+    /// The stated numbers of the barriers, in declared order.
+    pub fn barriers(&self) -> &Seq<u32>
+        ensures { result.now ≡ stated_numbers (code_of self.now).program }
+    {
+        &self.parts.barriers
+    }
+
+    /// For each lock cell the record cells under it, in rising order.
+    pub fn layout(&self) -> &Layout
+        ensures { result.now ≡ layout (code_of self.now).program.heads }
+    {
+        &self.parts.layout
+    }
+
+    /// For each record cell the lock cell over it.
+    pub fn over(&self) -> &Seq<LockNo>
+        ensures { (cell : ℕ) → slice_get result.now cell ≡ lock_over (locks_of (code_of self.now).program.heads) (code_of self.now).program.heads cell }
+    {
+        &self.parts.over
+    }
+
+    /// The code is that of its program, which is accepted; its jumps stay inside it, and it is short. Does nothing.
+    pub fn facts(&self)
+        ensures { IsCode (code_of self.now) }
+    {
+        let _ = &self.parts;
+    }
 }

@@ -2,5 +2,10 @@
 #![tactic(auto)]
 
 mod code;
+mod instrs;
+mod lowering;
+mod parts;
 
-pub use code::{Calc, Cells, Deed, Does, Forking, Index, Instr, Shape};
+pub use code::Code;
+pub use instrs::{Calc, Cells, Deed, Does, Forking, Index, Instr, Shape};
+pub use lowering::lower;
