@@ -1,5 +1,5 @@
 -- The entries of the positions from the oldest that has not retired, and how they change.
-use Rattle.std.specs.Prelude.{◌≡◌, ◌↔◌, ℕ, suc, ◌+◌, ℤ, Bool, true, false, cond, nat_eq, is_some, ⊤, List, [], ◌∷◌, map, length, Option, Some, None, option_map, unwrap_or}
+use Rattle.std.specs.Prelude.{◌≡◌, ℕ, suc, ◌+◌, ℤ, Bool, true, false, cond, nat_eq, ⊤, List, [], ◌∷◌, map, Option, Some, None, option_map, unwrap_or}
 use Rattle.std.specs.Option.{option_and_then}
 use Rattle.task_ast.specs.declared.effect.Effect.{Effect}
 use Rattle.reorder_list.specs.declared.entry.Entry.{Entry}

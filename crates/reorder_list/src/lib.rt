@@ -8,6 +8,8 @@
 
 mod entry;
 mod report;
+mod rol;
 
 pub use entry::{Entry, State};
 pub use report::{EngineStop, Report, StopWhy};
+pub use rol::Rol;

@@ -1,0 +1,243 @@
+// The list of entries from the oldest that has not retired.
+
+ghost use Rattle.std.specs.Prelude.{◌≡◌, ◌↔◌, ◌+◌, ◌<◌, ◌≤◌, ◌^◌, [], ◌∷◌, ◌++◌, IsTrue, OnOk, MatchOption, IfSome, IfNone, None, Some, length, slice_get, is_some};
+ghost use Rattle.std.specs.Option.{IsSomeAnd, option_copied};
+ghost use Rattle.reorder_list.specs.Entries.{IsInRow, ComesNext, IsFresh, is_applied, entry_at, first_position, with_change_at, out_entry, applied_entry, raised_entry, histories_of};
+ghost use Rattle.reorder_list.specs.Places.{IsPlaceOf};
+ghost use Rattle.reorder_list.specs.Runnable.{LetsPass, IsRunnable, IsFirstRunnable, NoneRunnable};
+ghost use Rattle.reorder_list.specs.declared.entry.Entry.{Entry};
+ghost use Rattle.reorder_list.specs.declared.entry.State.TheVariants.{Out, Applied};
+
+use crate::{Entry, State};
+use dependence::conflict;
+use gp_base::{Lines, Pos, Seq};
+use record_store::History;
+use std::alloc::{AllocError, Global};
+use std::collections::VecDeque;
+use std::marker::Model;
+
+/// The entries of the subthreads that have begun and not retired, the oldest first, at positions that follow one
+/// another. Contracts see the list, and room for how many more entries there is.
+#[derive(Drop)]
+pub struct Rol {
+    entries: VecDeque<Entry>,
+}
+
+impl Model for Rol {
+    ghost use Rattle.std.specs.Prelude.{◌-◌};
+    ghost use Rattle.std.specs.VecDeque.{deque_len, deque_capacity};
+    ghost use Rattle.reorder_list.specs.Entries.{Entered};
+    ghost use Rattle.reorder_list.specs.Places.{IsKept};
+
+    ghost Value = { Entered };
+
+    ghost view = { λ r. record { entries = r.entries.items; spare = deque_capacity r.entries - deque_len r.entries } };
+
+    ghost invariant = { λ r. IsKept r.entries.items };
+}
+
+/// The place of a position among the entries, where it has one.
+fn place_of(entries: &VecDeque<Entry>, p: Pos) -> Option<usize>
+    requires { IsInRow entries.now.items }
+    ensures { MatchOption result (entry_at entries.now.items p ≡ None) (λ place. IsPlaceOf entries.now.items p place) }
+{
+    let first = entries.front()?.pos;
+    if p.0 < first.0 {
+        return None;
+    }
+    let place = (p.0 - first.0) as usize;
+    if place < entries.len() {
+        Some(place)
+    } else {
+        None
+    }
+}
+
+/// Whether an earlier entry is applied or not in conflict with the later one.
+fn lets_pass(earlier: &Entry, later: &Entry) -> bool
+    ensures { IsTrue result ↔ LetsPass earlier.now later.now }
+{
+    earlier.state.is_applied() || !conflict(&earlier.foot, &later.foot)
+}
+
+/// Whether the entry at a place waits and each earlier one in conflict with it is applied.
+fn is_runnable(entries: &VecDeque<Entry>, place: usize) -> bool
+    requires in_row { IsInRow entries.now.items }
+    requires in_range { place < length entries.now.items }
+    ensures { IsTrue result ↔ IsRunnable entries.now.items (first_position entries.now.items + place) }
+{
+    let entry = &entries[place];
+    if !entry.state.is_waiting() {
+        return false;
+    }
+    for earlier in 0..place {
+        let before = &entries[earlier];
+        if !lets_pass(before, entry) {
+            return false;
+        }
+    }
+    true
+}
+
+/// The first position from this one on whose entry is runnable.
+fn first_runnable(entries: &VecDeque<Entry>, from: Pos) -> Option<Pos>
+    requires { IsInRow entries.now.items }
+    ensures found { IfSome result (λ p. IsFirstRunnable entries.now.items from p) }
+    ensures none { IfNone result (NoneRunnable entries.now.items from) }
+{
+    for place in 0..entries.len() {
+        let p = entries[place].pos;
+        if from.0 <= p.0 && is_runnable(entries, place) {
+            return Some(p);
+        }
+    }
+    None
+}
+
+/// The next attempt of an entry begins at this front and waits; the history of the last one is handed out.
+fn raise_entry(alloc: Global, entry: &mut Entry, front: Pos) -> Option<History>
+    requires { entry.old.attempt < 4294967295 }
+    ensures entry { entry.new ≡ raised_entry front entry.old }
+    ensures history { result ≡ entry.old.hist }
+{
+    entry.attempt += 1;
+    entry.begun = front.0;
+    entry.state = State::Waiting;
+    entry.prints = Seq::new(alloc);
+    entry.hist.take()
+}
+
+/// The attempt of an entry is out.
+fn send_entry(entry: &mut Entry)
+    ensures { entry.new ≡ out_entry entry.old }
+{
+    entry.state = State::Out;
+}
+
+/// The result of an entry's attempt is applied.
+fn apply_entry(entry: &mut Entry, history: History, lines: Lines)
+    ensures { entry.new ≡ applied_entry history lines entry.old }
+{
+    entry.state = State::Applied;
+    entry.hist = Some(history);
+    entry.prints = lines;
+}
+
+impl Rol {
+    /// No entries. Takes no memory.
+    pub fn new(alloc: Global) -> Rol
+        ensures { result.entries ≡ [] }
+    {
+        Rol {
+            entries: VecDeque::new(alloc),
+        }
+    }
+
+    /// How many entries there are.
+    pub fn len(&self) -> usize
+        ensures { result ≡ length self.now.entries }
+    {
+        self.entries.len()
+    }
+
+    /// Makes room for one more entry. The error is that memory is out.
+    pub fn reserve(&mut self) -> Result<(), AllocError>
+        ensures entries { self.new.entries ≡ self.old.entries }
+        ensures room { OnOk result (0 < self.new.spare) }
+        ensures kept { self.old.spare ≤ self.new.spare }
+    {
+        self.entries.reserve(1)
+    }
+
+    /// Puts the entry of the next position, which waits, at the end. Takes no memory, as every call but `reserve`.
+    pub fn push_back(&mut self, entry: Entry)
+        requires room { 0 < self.old.spare }
+        requires next { ComesNext self.old.entries entry.pos }
+        requires fresh { IsFresh entry }
+        ensures entries { self.new.entries ≡ self.old.entries ++ entry ∷ [] }
+        ensures spare { self.old.spare ≤ self.new.spare + 1 }
+    {
+        self.entries.push_back_reserved(entry);
+    }
+
+    /// The oldest entry, where there is one.
+    pub fn front(&self) -> Option<&Entry>
+        ensures { option_copied result ≡ slice_get self.now.entries 0 }
+    {
+        self.entries.front()
+    }
+
+    /// The entry of a position, where it is in the list.
+    pub fn get(&self, p: Pos) -> Option<&Entry>
+        ensures { option_copied result ≡ entry_at self.now.entries p }
+    {
+        let place = place_of(&self.entries, p)?;
+        self.entries.get(place)
+    }
+
+    /// Whether the entry of a position waits and each earlier entry in conflict with it is applied.
+    pub fn runnable(&self, p: Pos) -> bool
+        ensures { IsTrue result ↔ IsRunnable self.now.entries p }
+    {
+        match place_of(&self.entries, p) {
+            Some(place) => is_runnable(&self.entries, place),
+            None => false,
+        }
+    }
+
+    /// The first position from this one on whose entry is runnable. The list stays as it is.
+    pub fn next_runnable(&mut self, from: Pos) -> Option<Pos>
+        ensures found { IfSome result (λ p. IsFirstRunnable self.old.entries from p) }
+        ensures none { IfNone result (NoneRunnable self.old.entries from) }
+        ensures same { self.new ≡ self.old }
+    {
+        first_runnable(&self.entries, from)
+    }
+
+    /// The attempt of a position is out.
+    pub fn set_out(&mut self, p: Pos)
+        requires { IsRunnable self.old.entries p }
+        ensures entries { self.new.entries ≡ with_change_at p out_entry self.old.entries }
+        ensures spare { self.new.spare ≡ self.old.spare }
+    {
+        if let Some(place) = place_of(&self.entries, p) {
+            send_entry(&mut self.entries[place]);
+        }
+    }
+
+    /// The result of a position's attempt is applied, with the history that it left and the lines that it printed.
+    pub fn set_applied(&mut self, p: Pos, history: History, lines: Lines)
+        requires { IsSomeAnd (entry_at self.old.entries p) (λ e. e.state ≡ Out) }
+        ensures entries { self.new.entries ≡ with_change_at p (applied_entry history lines) self.old.entries }
+        ensures spare { self.new.spare ≡ self.old.spare }
+    {
+        if let Some(place) = place_of(&self.entries, p) {
+            apply_entry(&mut self.entries[place], history, lines);
+        }
+    }
+
+    /// The next attempt of a position begins at this front and waits, and its lines are dropped. Answers the history,
+    /// which there is exactly where the result of the last attempt was applied.
+    pub fn raise(&mut self, alloc: Global, p: Pos, front: Pos) -> Option<History>
+        requires { IsSomeAnd (entry_at self.old.entries p) (λ e. e.attempt < 4294967295) }
+        ensures history { result ≡ histories_of self.old.entries p }
+        ensures applied { IfSome (entry_at self.old.entries p) (λ e. is_some result ≡ is_applied e.state) }
+        ensures entries { self.new.entries ≡ with_change_at p (raised_entry front) self.old.entries }
+        ensures spare { self.new.spare ≡ self.old.spare }
+    {
+        let place = place_of(&self.entries, p)?;
+        raise_entry(alloc, &mut self.entries[place], front)
+    }
+
+    /// Takes the oldest entry, whose result is applied, out of the list.
+    pub fn retire_front(&mut self) -> Entry
+        requires { IsSomeAnd (slice_get self.old.entries 0) (λ e. e.state ≡ Applied) }
+        ensures entries { self.old.entries ≡ result ∷ self.new.entries }
+        ensures spare { self.old.spare ≤ self.new.spare }
+    {
+        match self.entries.pop_front() {
+            Some(entry) => entry,
+            None => unreachable!(),
+        }
+    }
+}
