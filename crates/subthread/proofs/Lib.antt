@@ -1,0 +1,3 @@
+pub mod Damages
+pub mod Fitted
+pub mod HeldLocks

@@ -1,0 +1,13 @@
+//! Runs of the tasks of a batch on flat code: what a subthread does on what it is given.
+#![tactic(auto)]
+
+mod damage;
+mod footprints;
+pub mod laws;
+mod numbers;
+mod run;
+mod task;
+
+pub use footprints::footprint;
+pub use run::run_task;
+pub use task::{Done, Task, Work};
