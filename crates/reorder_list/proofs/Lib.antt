@@ -1,3 +1,4 @@
 pub mod Rows
+pub mod Changes
 pub mod Kept
 pub mod Readiness
