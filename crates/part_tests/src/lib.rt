@@ -19,6 +19,8 @@ mod shelves;
 #[cfg(test)]
 mod sinks;
 #[cfg(test)]
+mod stores;
+#[cfg(test)]
 mod texts;
 #[cfg(test)]
 mod tokens;

@@ -109,13 +109,14 @@ impl Store {
         }
     }
 
-    /// Leaves what an effect leaves, and gives the values that it overwrote and the lines that it printed. Takes no
-    /// memory.
+    /// Leaves what an effect leaves, and gives the values that it overwrote, which fit this store from now on, and the
+    /// lines that it printed. Takes no memory.
     pub fn apply(&mut self, effect: Effect) -> (History, Lines)
         requires fits { Fits self.old effect }
         ensures state { state_of self.new ≡ after effect (state_of self.old) }
         ensures history { result.0 ≡ old_of effect (state_of self.old) }
         ensures lines { result.1 ≡ effect.prints }
+        ensures back { Fits self.new result.0 }
         ensures shape { SameShape self.old self.new }
     {
         let Effect {
