@@ -1,6 +1,16 @@
-//! The texts of a run: its printed lines, what follows them, and the trace of its events.
+//! The texts of a run: its printed lines, what follows them, the trace of its events, and the summary of a batch that
+//! the program made itself.
 #![tactic(auto)]
 
+mod counts;
 mod lines;
+mod records;
+mod restarts;
+mod soak;
+mod tail;
+mod trace;
 
-pub use lines::{printed, push_lines, push_number, push_spaced};
+pub use lines::{printed, push_lines};
+pub use soak::soak_text;
+pub use tail::{plain_tail_text, tail_text};
+pub use trace::trace_text;

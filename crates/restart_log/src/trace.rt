@@ -1,0 +1,72 @@
+// The trace of a run's events.
+ghost use Rattle.std.specs.Prelude.{◌≡◌, ◌++◌, IfOk, OnOk};
+ghost use Rattle.restart_log.specs.Trace.{attempt_text, event_restart, event_line, trace_text};
+
+use crate::lines::push_number;
+use crate::restarts::push_redo;
+use gp_base::{Event, Journal, Pos, Restart, Seq, Text};
+use std::alloc::{AllocError, Global};
+
+// Appends an attempt of a position.
+fn push_attempt(text: &mut Vec<u8>, position: Pos, attempt: u32) -> Result<(), AllocError>
+    ensures { OnOk result (text.new.items ≡ text.old.items ++ attempt_text position attempt) }
+{
+    push_number(text, position.0)?;
+    text.extend_from_slice(b" ")?;
+    push_number(text, attempt)
+}
+
+// Appends the line of a restart among the events.
+fn push_restart(text: &mut Vec<u8>, restart: &Restart) -> Result<(), AllocError>
+    ensures { OnOk result (text.new.items ≡ text.old.items ++ event_restart restart.now) }
+{
+    text.extend_from_slice(b"restart ")?;
+    push_number(text, restart.front.0)?;
+    text.extend_from_slice(b" ")?;
+    push_attempt(text, restart.struck, restart.attempt)?;
+    push_redo(text, restart.redo.as_slice())?;
+    text.extend_from_slice(b"\n")
+}
+
+// Appends the line of an event; a restart is a member of this list.
+fn push_event(text: &mut Vec<u8>, restarts: &[Restart], event: Event) -> Result<(), AllocError>
+    ensures { OnOk result (text.new.items ≡ text.old.items ++ event_line restarts.now event) }
+{
+    match event {
+        Event::Issue(position) => {
+            text.extend_from_slice(b"issue ")?;
+            push_number(text, position.0)?;
+        }
+        Event::Post(position, attempt) => {
+            text.extend_from_slice(b"post ")?;
+            push_attempt(text, position, attempt)?;
+        }
+        Event::Take(position, attempt, applied) => {
+            text.extend_from_slice(b"take ")?;
+            push_attempt(text, position, attempt)?;
+            text.extend_from_slice(if applied { b" applied" } else { b" stale" })?;
+        }
+        Event::Restart(number) => {
+            return match restarts.get(number as usize) {
+                Some(restart) => push_restart(text, restart),
+                None => Ok(()),
+            };
+        }
+        Event::Retire(position) => {
+            text.extend_from_slice(b"retire ")?;
+            push_number(text, position.0)?;
+        }
+    }
+    text.extend_from_slice(b"\n")
+}
+
+/// The trace of a journal: a line for each event, in order. The error is that memory is out.
+pub fn trace_text(alloc: Global, j: &Journal) -> Result<Text, AllocError>
+    ensures { IfOk result (λ text. text ≡ trace_text j.now) }
+{
+    let mut text = Vec::new(alloc);
+    for event in j.events.as_slice() {
+        push_event(&mut text, j.restarts.as_slice(), *event)?;
+    }
+    Ok(Seq::from_vec(text))
+}
