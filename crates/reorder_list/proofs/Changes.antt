@@ -1,8 +1,9 @@
 -- What stands at a position of entries that were changed, and of entries with one more.
-use Rattle.std.proofs.Common.{◌≡◌, ℕ, zero, suc, ◌+◌, ◌<◌, ◌≤◌, Bool, true, false, cond, nat_eq, List, [], ◌∷◌, ◌++◌, length, All, Option, Some, None, refl, sym, ap, subst, ◌∙◌, arith, map}
+use Rattle.std.proofs.Common.{◌≡◌, ℕ, suc, ◌+◌, ◌<◌, ◌≤◌, Bool, true, false, cond, nat_eq, List, [], ◌∷◌, ◌++◌, length, All, Some, None, refl, sym, ap, ◌∙◌, arith}
 use Rattle.std.specs.Prelude.{option_map}
 use Rattle.std.specs.Option.{option_or}
-use Rattle.std.proofs.lemmas.Bool.{eqb-true, eq-eqb, ne_eqb}
+use Rattle.std.proofs.lemmas.Bool.{eqb-true, eq-eqb}
+use Rattle.std.proofs.lemmas.List.{length-map}
 use Rattle.std.proofs.lemmas.List.Elements.{All-nil, All-cons, All-head, All-tail}
 use Rattle.reorder_list.specs.declared.entry.Entry.{Entry}
 use Rattle.reorder_list.specs.Entries.{StandFrom, entry_at, with_change}
@@ -87,3 +88,6 @@ all-changed P Q test change (e ∷ entries) same new all =
     go : (b : Bool) → Q (changed_where b change e)
     go true = new e (All-head P e entries all)
     go false = same e (All-head P e entries all)
+
+pub same-length : (test : ℕ → Bool) (change : Entry → Entry) (entries : List Entry) → length (with_change test change entries) ≡ length entries
+same-length test change entries = length-map entries (λ e. changed_where (test e.pos) change e)

@@ -1,4 +1,6 @@
 pub mod Rows
+pub mod Buffered
 pub mod Changes
 pub mod Kept
 pub mod Readiness
+pub mod Staged

@@ -24,7 +24,7 @@ stands-at b p (suc k) (e ∷ entries) stands is =
 pub unchanged : (b p : ℕ) (change : Entry → Entry) (entries : List Entry) → StandFrom b entries → p < b → with_change_at p change entries ≡ entries
 unchanged b p change [] stands l = refl
 unchanged b p change (e ∷ entries) stands l =
-    rw (ne_eqb p e.pos (λ same. let first = stands.0 in omega arith)) (ap (λ rest. e ∷ rest) (unchanged (suc b) p change entries stands.1 (omega arith)))
+    rw (ne_eqb e.pos p (λ same. let first = stands.0 in omega arith)) (ap (λ rest. e ∷ rest) (unchanged (suc b) p change entries stands.1 (omega arith)))
 
 -- a change at a position is one at its place
 pub changed-at : (b p k : ℕ) (change : Entry → Entry) (entries : List Entry) (e : Entry) → StandFrom b entries → p ≡ b + k → slice_get entries k ≡ Some e
@@ -32,10 +32,10 @@ pub changed-at : (b p k : ℕ) (change : Entry → Entry) (entries : List Entry)
 changed-at b p k change [] e stands is there = absurd (cc there)
 changed-at b p zero change (x ∷ entries) e stands is there =
     let same : x ≡ e = cc there in
-    rw (eq-eqb p x.pos (let first = stands.0 in omega arith))
+    rw (eq-eqb x.pos p (let first = stands.0 in omega arith))
     (ap (λ y. change y ∷ entries) (sym same) ∙ ap (λ rest. change x ∷ rest) (sym (unchanged (suc b) p change entries stands.1 (omega arith))))
 changed-at b p (suc k) change (x ∷ entries) e stands is there =
-    rw (ne_eqb p x.pos (λ same. let first = stands.0 in omega arith)) (ap (λ rest. x ∷ rest) (changed-at (suc b) p k change entries e stands.1 (omega arith) there))
+    rw (ne_eqb x.pos p (λ same. let first = stands.0 in omega arith)) (ap (λ rest. x ∷ rest) (changed-at (suc b) p k change entries e stands.1 (omega arith) there))
 
 -- another entry of the same position stands in a row too
 pub stands-set : (b k : ℕ) (entries : List Entry) (e y : Entry) → StandFrom b entries → slice_get entries k ≡ Some e → y.pos ≡ e.pos → StandFrom b (slice_set entries k y)

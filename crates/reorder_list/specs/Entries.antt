@@ -57,7 +57,7 @@ with_change test change entries = map (λ e. cond (test e.pos) (change e) e) ent
 
 -- the entry of one position is changed
 abbrev pub with_change_at : ℕ → (Entry → Entry) → List Entry → List Entry
-with_change_at p change entries = with_change (nat_eq p) change entries
+with_change_at p change entries = with_change (λ q. nat_eq q p) change entries
 
 -- the attempt is out
 abbrev pub out_entry : Entry → Entry

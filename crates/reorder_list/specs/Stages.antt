@@ -101,7 +101,7 @@ RestartLaw =
     (run : List Subthread) (faults : List Fault) (at : Stage) (entries : List Entry) (struck number : ℕ) → StageStands (dependence_of run) faults at → EntriesStand run at entries
     → struck_next (dependence_of run) faults at.progress ≡ Some struck
     → EntriesStand run (happens (dependence_of run) faults at (event.Restart number))
-      (with_change (λ q. is_member q ((dependence_of run).redo struck at.progress.front)) (raised_entry at.progress.front) entries)
+    (with_change (λ q. is_member q ((dependence_of run).redo struck at.progress.front)) (raised_entry at.progress.front) entries)
 
 -- a retirement takes the oldest entry out
 abbrev pub RetireLaw : Type 0

@@ -7,6 +7,7 @@
 #![tactic(auto)]
 
 mod entry;
+pub mod laws;
 mod report;
 mod rol;
 

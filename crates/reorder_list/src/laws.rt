@@ -1,0 +1,23 @@
+// What each event of a journal does to the entries and to what they hold, each on a function with an empty body.
+
+ghost use Rattle.reorder_list.specs.Stages.{RunnableLaw, IssueLaw, PostLaw, TakeLaw, StaleLaw, RestartLaw, RetireLaw, PushedLaw, SentLaw, TakenLaw, RaisedLaw, DroppedLaw};
+
+/// The entries stand after each event that is allowed, and one is runnable exactly where its attempt may be posted.
+pub fn entries_laws()
+    ensures runnable { RunnableLaw }
+    ensures issue { IssueLaw }
+    ensures post { PostLaw }
+    ensures take { TakeLaw }
+    ensures stale { StaleLaw }
+    ensures restart { RestartLaw }
+    ensures retire { RetireLaw }
+{}
+
+/// A store and the entries hold, after each event, what the history buffer of the run holds.
+pub fn held_laws()
+    ensures pushed { PushedLaw }
+    ensures sent { SentLaw }
+    ensures taken { TakenLaw }
+    ensures raised { RaisedLaw }
+    ensures dropped { DroppedLaw }
+{}
