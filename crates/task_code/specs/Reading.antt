@@ -185,14 +185,14 @@ module _ (tasks : List (List Instr)) where
   code_begins sync.Start child q = q
   code_begins _ child q = behind (instr_at q q.at.pc) child q
 
+  -- silent jumps go forward, so this falls
+  abbrev pub code_size : Place → ℕ
+  code_size q = length (instrs_of q.at.task) - q.at.pc
+
   module _ (feeds : List Feed) where
     -- the control step
     abbrev pub code_step : Place → Step Place
     code_step q = step_instr feeds (instr_at q q.at.pc) q
-
-    -- silent jumps go forward, so this falls
-    abbrev pub code_size : Place → ℕ
-    code_size q = length (instrs_of q.at.task) - q.at.pc
 
     -- the body from a place
     abbrev pub code_body : (turns : ℕ) → Place → Body Place

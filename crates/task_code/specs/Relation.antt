@@ -66,7 +66,7 @@ StepLaw =
 abbrev pub BodiesLaw : Type 0
 BodiesLaw =
     (program : Program) (inputs : Inputs) (turns : ℕ) (p : Point) (q : Place) → Corresponds program p q
-    → Agrees (Rests program (code_body (lowered program).tasks inputs.feeds turns q).next.sync) (tree_body (setting_of program inputs) turns p)
+    → Agrees (Rests program (tree_body (setting_of program inputs) turns p).next.sync) (tree_body (setting_of program inputs) turns p)
     (code_body (lowered program).tasks inputs.feeds turns q)
 
 -- subthreads begin at points and places that correspond, with the same actions
