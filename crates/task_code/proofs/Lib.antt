@@ -1,5 +1,8 @@
+pub mod Beginning
 pub mod CodeSizes
 pub mod Following
+pub mod Inside
+pub mod Machines
 pub mod Standing
 pub mod Stopping
 pub mod Values

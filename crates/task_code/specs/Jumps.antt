@@ -1,8 +1,9 @@
 -- What holds of lowered code beside what it does.
 use Rattle.std.specs.Prelude.{◌≡◌, ℕ, ◌+◌, ◌≤◌, ◌<◌, ◌^◌, List, Some, slice_get, length}
 use Rattle.task_ast.specs.Shaped.{IsAccepted}
+use Rattle.task_ast.specs.Tree.{TaskText, Program}
 use Rattle.task_code.specs.Instructions.{Instr, At, Calc, GoOn, Unless, Again, Lowered}
-use Rattle.task_code.specs.Lowering.{lowered}
+use Rattle.task_code.specs.Lowering.{task_code, lowered}
 use Rattle.task_code.specs.Reading.{instrs_of}
 
 -- each jump leads to an instruction, or behind the last one
@@ -21,3 +22,7 @@ pub record IsCode (code : Lowered) : Type 0 where
   pub made : code ≡ lowered code.program
   pub inside : (task : ℕ) → AreInside (instrs_of code.tasks task)
   pub short : (task : ℕ) → IsShort (instrs_of code.tasks task)
+
+-- each jump of a task's code stays inside it
+abbrev pub JumpsLaw : Type 0
+JumpsLaw = (program : Program) (task : TaskText) → AreInside (task_code program task)

@@ -3,6 +3,7 @@
 
 mod code;
 mod instrs;
+pub mod laws;
 mod lowering;
 mod parts;
 
