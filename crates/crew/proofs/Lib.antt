@@ -1,0 +1,5 @@
+pub mod Lists
+pub mod Parts
+pub mod Standing
+pub mod Taking
+pub mod Untaken

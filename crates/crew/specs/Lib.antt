@@ -1,0 +1,4 @@
+pub mod Out
+pub mod Standing
+pub mod State
+pub mod inner
