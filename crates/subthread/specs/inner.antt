@@ -1,2 +1,4 @@
 -- What describes parts of the crate alone.
+pub mod Running
+pub mod Searches
 pub mod Turning

@@ -1,0 +1,84 @@
+-- What a run of a task of the plain run does.
+use Rattle.std.proofs.Common.{◌≡◌, ℕ, suc, List, ◌++◌, sym, ap, ◌∙◌, subst}
+use Rattle.gp_base.specs.declared.limits.Limits.{Limits}
+use Rattle.gp_base.specs.declared.feed.Inputs.{Inputs}
+use Rattle.task_ast.specs.declared.layout.Layout.{Layout}
+use Rattle.task_ast.specs.Action.{Action}
+use Rattle.task_ast.specs.Body.{Body}
+use Rattle.task_ast.specs.Control.{Point}
+use Rattle.task_ast.specs.State.{State}
+use Rattle.task_ast.specs.Effect.{effect, effect_on}
+use Rattle.task_ast.specs.Damage.{damaged}
+use Rattle.task_ast.specs.laws.Following.{Agrees, Follows}
+use Rattle.task_ast.specs.Plain.{Subthread, Machine, tree_machine}
+use Rattle.task_ast.specs.Position.{before, body_at, IsStep, point_in}
+use Rattle.task_ast.proofs.Positions.{step_is}
+use Rattle.lock_checker.proofs.LocksHeld.{sound}
+use Rattle.record_store.specs.Given.{given_of, joined_by, found_of}
+use Rattle.record_store.proofs.Givens.{given_law}
+use Rattle.task_code.specs.Reading.{Place, code_machine}
+use Rattle.task_code.proofs.Machines.{follows as follows_code}
+use Rattle.task_code.specs.Flat.{code_of}
+use Rattle.task_code.specs.Lowering.{lowered}
+use Rattle.task_code.specs.Relation.{Rests}
+use Rattle.subthread.specs.declared.task.Work.{Work}
+use Rattle.subthread.specs.declared.task.Task.{Task}
+use Rattle.subthread.specs.declared.task.Done.{Done}
+use Rattle.subthread.specs.Tasks.{task_of, effect_of, place_of, place_left, program_in, machine_of, under_of, body_from, actions_from, IsRun, Suits}
+use Rattle.subthread.specs.Joining.{IsTaskOf, IsGiven, Runs, RunsLaw}
+
+module _ (work : Work) (cells : Layout) (inputs : Inputs) (limits : Limits) (suits : Suits work cells inputs limits) (p : ℕ) (s : Subthread) (done : Done) (is_task : IsTaskOf work inputs limits p s (task_of done)) (run : IsRun work done) where
+  abbrev task : Task
+  task = task_of done
+
+  abbrev tree : Machine Point
+  tree = tree_machine (program_in work) inputs limits
+
+  abbrev code : Machine Place
+  code = code_machine (lowered (program_in work)) inputs.feeds limits.turns
+
+  -- where the thread stands in the plain run, and what the subthread does there
+  abbrev point : Point
+  point = point_in (program_in work) inputs limits (before (program_in work) inputs limits p) s.thread
+
+  step : IsStep tree (before (program_in work) inputs limits p) s (before (program_in work) inputs limits (suc p))
+  step = step_is (tree_machine (program_in work) inputs limits) (program_in work) inputs limits p s is_task.position
+
+  follows : Follows (Rests (program_in work)) tree code
+  follows = follows_code (program_in work) inputs limits
+
+  -- the machine of the work is that of the run
+  machine_is : machine_of work ≡ code
+  machine_is = λ i. code_machine (suits.code.made i) (suits.feeds_are i) (suits.turns_are i)
+
+  abbrev here : Body Place
+  here = code.bodies (code.begins s.begins.sync s.child (place_of task))
+
+  body_is : body_from work task.begins.sync task.child (place_of task) ≡ here
+  body_is = λ i. (machine_is i).bodies ((machine_is i).begins (is_task.begins i).sync (is_task.child i) (place_of task))
+
+  agrees : Agrees (Rests (program_in work) (body_at (program_in work) inputs limits p s).next.sync) (body_at (program_in work) inputs limits p s) here
+  agrees = follows.bodies s.begins.sync s.child point (place_of task) is_task.place
+
+  actions_are : actions_from work task.begins.sync task.child (place_of task) ≡ s.actions
+  actions_are =
+      (λ i. (machine_is i).first (is_task.begins i).sync (place_of task) ++ (body_is i).actions)
+      ∙ sym (step.actions ∙ (λ i. follows.first s.begins.sync point (place_of task) is_task.place i ++ agrees.actions i))
+
+  -- on what was given the actions do what they do on the state
+  done_on : (state : State) → IsGiven work inputs limits task state
+      → effect_on task.thread task.child (actions_from work task.begins.sync task.child (place_of task)) (found_of (under_of work) task.given) ≡ effect s.thread s.begins.sync s.child s.actions state
+  done_on state given =
+      (λ i. effect_on (is_task.thread i) (is_task.child i) (actions_are i) (found_of (under_of work) ((given ∙ (λ j. given_of (under_of work) state (is_task.thread j) (joined_by (is_task.begins j).sync) (is_task.held j))) i)))
+      ∙ given_law (under_of work) s.held s.thread s.begins.sync s.child s.actions state (sound (program_in work) inputs limits suits.code.accepted p s is_task.position)
+
+  pub runs : Runs work inputs limits p s done
+  runs = record {
+    next = run.next_is ∙ ap (λ (b : Body Place). b.next) body_is ∙ sym agrees.next;
+    place = subst (λ q. Rests (program_in work) (body_at (program_in work) inputs limits p s).next.sync (body_at (program_in work) inputs limits p s).at q) (sym (run.place_is ∙ ap (λ (b : Body Place). b.at) body_is)) agrees.at;
+    given = run.effect_is ∙ (λ i. damaged task.mask (effect_on (is_task.thread i) (is_task.child i) (actions_are i) (found_of (under_of work) task.given)));
+    on = λ state given. run.effect_is ∙ ap (damaged task.mask) (done_on state given);
+  }
+
+pub runs_law : RunsLaw
+runs_law = runs
