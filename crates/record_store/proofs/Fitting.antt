@@ -16,19 +16,26 @@ use Rattle.task_ast.proofs.Writes.{all_rises}
 use Rattle.task_ast.proofs.Layouts.{laid_out}
 use Rattle.dependence.proofs.Keeping.{under-held, under-is}
 use Rattle.record_store.specs.Stored.{Stored, FitsChild, Fits}
-use Rattle.record_store.specs.Laws.{WithinLaw, EffectFitsLaw, FittingLaw, HistoryFitsLaw}
+use Rattle.record_store.specs.Laws.{WithinLaw, EffectFitsLaw, WiderLaw, FittingLaw, HistoryFitsLaw}
 
 pub within_law : WithinLaw
 within_law heads fits lock c there = (laid_out heads fits).within lock c (under-is heads lock c there)
 
-pub fitting_law : FittingLaw
-fitting_law before later e shape fits =
+pub wider_law : WiderLaw
+wider_law before later e threads cells fits =
     record {
-      thread = subst (λ n. e.thread < n) (sym shape.threads) fits.thread;
-      child = subst (λ n. FitsChild n e.thread e.child) (sym shape.threads) fits.child;
-      in_range = λ k d l. subst (λ n. (get_or e.writes k d).0 < n) (sym shape.cells) (fits.in_range k d l);
+      thread = let there = fits.thread in omega arith;
+      child = go e.child fits.child;
+      in_range = λ k d l. subst (λ n. (get_or e.writes k d).0 < n) (sym cells) (fits.in_range k d l);
       rising = fits.rising;
     }
+  where
+    go : (child : Option (ℕ × List ℤ)) → FitsChild (length before.threads) e.thread child → FitsChild (length later.threads) e.thread child
+    go None f = tt
+    go (Some c) f = let there = f.0 in (omega arith, f.1)
+
+pub fitting_law : FittingLaw
+fitting_law before later e shape = wider_law before later e (let same = shape.threads in omega arith) shape.cells
 
 -- writes of the same cells
 module _ (value : ℕ × ℤ → ℤ) where

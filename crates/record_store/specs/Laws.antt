@@ -1,5 +1,5 @@
 -- Laws of the store: what is given, what fits, and the states of stores.
-use Rattle.std.specs.Prelude.{◌≡◌, ◌≢◌, ℕ, ◌<◌, ℤ, true, List, length, map, Option, Some}
+use Rattle.std.specs.Prelude.{◌≡◌, ◌≢◌, ℕ, ◌<◌, ◌≤◌, ℤ, true, List, length, map, Option, Some}
 use Rattle.std.specs.List.{list_all, Contains}
 use Rattle.gp_base.specs.declared.limits.Limits.{Limits}
 use Rattle.gp_base.specs.declared.feed.Inputs.{Inputs}
@@ -53,7 +53,12 @@ EffectFitsLaw =
     → IsWithin s.under (length s.cells) → AllName (is_under s.under held) actions → t < length s.threads
     → ((c : ℕ) → child ≡ Some c → (c < length s.threads) × (c ≢ t)) → Fits s (damaged mask (effect_on t child actions found))
 
--- what fits a store fits each one of the same shape
+-- what fits a store fits each one with no fewer threads and as many cells
+abbrev pub WiderLaw : Type 0
+WiderLaw =
+    (before later : Stored) (e : Effect) → length before.threads ≤ length later.threads → length later.cells ≡ length before.cells → Fits before e → Fits later e
+
+-- and so each one of the same shape
 abbrev pub FittingLaw : Type 0
 FittingLaw = (before later : Stored) (e : Effect) → SameShape before later → Fits before e → Fits later e
 

@@ -1,6 +1,6 @@
 // The laws of the store, each on a function with an empty body.
 
-ghost use Rattle.record_store.specs.Laws.{GivenLaw, SameGivenLaw, WithinLaw, EffectFitsLaw, FittingLaw, HistoryFitsLaw, CellsLaw, RecordsLaw, SlotLaw, OpeningLaw};
+ghost use Rattle.record_store.specs.Laws.{GivenLaw, SameGivenLaw, WithinLaw, EffectFitsLaw, WiderLaw, FittingLaw, HistoryFitsLaw, CellsLaw, RecordsLaw, SlotLaw, OpeningLaw};
 
 /// What a subthread does on what it was given is what it does on the whole state; and states that agree at what it may
 /// touch give it the same.
@@ -14,6 +14,7 @@ pub fn given_laws()
 pub fn fitting_laws()
     ensures within { WithinLaw }
     ensures effect { EffectFitsLaw }
+    ensures wider { WiderLaw }
     ensures shape { FittingLaw }
     ensures history { HistoryFitsLaw }
 {}
