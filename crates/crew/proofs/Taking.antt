@@ -1,9 +1,10 @@
 -- A member is taken out of a list.
-use Rattle.std.proofs.Common.{◌≡◌, ◌↔◌, ℕ, ◌+◌, ◌<◌, List, ◌∷◌, ◌++◌, length, take, drop, get_or, slice_index_or, Option, None, Some, IsSome, IfSome, OnSome, refl, sym, arith}
+use Rattle.std.proofs.Common.{◌≡◌, ◌↔◌, ℕ, suc, ◌+◌, ◌<◌, List, All, ◌∷◌, ◌++◌, length, take, drop, get_or, slice_index_or, Option, None, Some, IsSome, IfSome, IfNone, OnSome, refl, sym, subst, arith}
 use Rattle.std.specs.List.{remove}
 use Rattle.std.proofs.Math.Seq.{drop-cons}
 use Rattle.std.proofs.Math.Numerals.{add-one}
 use Rattle.std.proofs.lemmas.List.{take-append-drop}
+use Rattle.std.proofs.lemmas.List.Elements.{All-append, All-take, All-drop}
 use Rattle.subthread.specs.declared.task.Task.{Task}
 use Rattle.crew.specs.Out.{TakesOut}
 
@@ -21,3 +22,14 @@ pub removed : (xs ys : List Task) (at n : ℕ) (found : Option Task) → n ≡ l
 removed xs ys at n None same variant value items = tt
 removed xs ys at n (Some t) same variant value items =
     record { earlier = take at xs; later = drop (at + 1) xs; before_is = cut_at xs at t (let below = variant.0 refl in omega arith) value; after_is = rw add-one items }
+
+-- the member that is taken out has what all have
+pub taken_has : (P : Task → Type 0) (xs : List Task) (at n : ℕ) (found : Option Task) → n ≡ length xs → (IsSome found ↔ (at < n)) → IfSome found (λ t. t ≡ slice_index_or xs at t) → All P xs → IfSome found P
+taken_has P xs at n None same variant value all = tt
+taken_has P xs at n (Some t) same variant value all = subst P (sym value) (all at t (let below = variant.0 refl in omega arith))
+
+-- and so do the others
+pub rest_has : (P : Task → Type 0) {D : Type 0} (items : D → List Task) (before after : D) (at : ℕ) (found : Option Task) → IfNone found (after ≡ before) → OnSome found (items after ≡ remove (items before) at)
+    → All P (items before) → All P (items after)
+rest_has P items before after at None same rest all = subst (λ q. All P (items q)) (sym same) all
+rest_has P items before after at (Some t) same rest all = subst (All P) (sym rest) (All-append P (take at (items before)) (drop (suc at) (items before)) (All-take P at (items before) all) (All-drop P (suc at) (items before) all))

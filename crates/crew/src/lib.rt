@@ -3,5 +3,10 @@
 #![tactic(auto)]
 
 mod crew;
+mod inbox;
+mod inline;
+mod script;
 
 pub use crew::Crew;
+pub use inline::InlineCrew;
+pub use script::ScriptCrew;
