@@ -1,0 +1,3 @@
+pub mod Redone
+pub mod Undoing
+pub mod Standing
