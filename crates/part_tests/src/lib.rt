@@ -11,6 +11,10 @@ mod expressions;
 #[cfg(test)]
 mod operators;
 #[cfg(test)]
+mod plain_runs;
+#[cfg(test)]
+mod programs;
+#[cfg(test)]
 mod rooms;
 #[cfg(test)]
 mod rows;
@@ -19,7 +23,11 @@ mod shelves;
 #[cfg(test)]
 mod sinks;
 #[cfg(test)]
+mod soak;
+#[cfg(test)]
 mod stores;
+#[cfg(test)]
+mod tails;
 #[cfg(test)]
 mod texts;
 #[cfg(test)]

@@ -1,2 +1,1 @@
 pub mod RecordLines
-pub mod RestartLines
