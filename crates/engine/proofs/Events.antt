@@ -1,0 +1,117 @@
+-- What stands after an event, and how much of the run is left.
+use Rattle.std.proofs.Common.{◌≡◌, inl, inr, ℕ, ◌<◌, ◌≤◌, true, Option, Some, None, refl, sym, ap, subst, ◌∙◌, arith, IfSome}
+use Rattle.gp_base.specs.declared.ending.End.{End}
+use Rattle.gp_base.specs.declared.journal.Event.{Event}
+use Rattle.gp_base.specs.declared.journal.Event.TheVariants as event
+use Rattle.dependence.specs.Conflict.{clash_in}
+use Rattle.dependence.specs.Dependents.{itself}
+use Rattle.dependence.specs.Restarts.{RedoesStruck, drains, struck_next}
+use Rattle.dependence.specs.Journal.{Stage, initial_stage, Allowed, happens, restarted}
+use Rattle.dependence.specs.Runs.{feet_of}
+use Rattle.dependence.specs.Standing.{StageStands}
+use Rattle.dependence.proofs.DependentSets.{dependents-are}
+use Rattle.dependence.proofs.Journals.{LawfulFrom-push, stage_from-push}
+use Rattle.dependence.proofs.Measured.{leaves-less}
+use Rattle.dependence.proofs.Standing.{run-stands}
+use Rattle.engine.specs.View.{Batch, View, run_in, dependence_in, end_in, now, ended_after, grown, learnt, Stands}
+use Rattle.engine.specs.Gives.{Did}
+use Rattle.engine.specs.inner.Rounds.{left, Onward}
+
+pub redoes-struck : (batch : Batch) → RedoesStruck (dependence_in batch)
+redoes-struck batch struck front l = (dependents-are (clash_in (feet_of (run_in batch))) struck front struck).1 (itself l)
+
+pub stage-stands : (view : View) → Stands view → StageStands (dependence_in view.batch) view.batch.faults (now view)
+stage-stands view stands = run-stands (run_in view.batch) view.batch.faults view.events stands.short stands.lawful
+
+-- the stage after one event more
+pub now-grown : (view : View) (e : Event) → now (grown view e) ≡ happens (dependence_in view.batch) view.batch.faults (now view) e
+now-grown view e = stage_from-push (dependence_in view.batch) view.batch.faults initial_stage view.events e
+
+-- a known end drains until the next issue
+abbrev Draining : View → Option End → Stage → Type 0
+Draining view ended at = IfSome ended (λ ending. (drains (dependence_in view.batch) at.progress.front ≡ true) × (ending ≡ end_in view.batch))
+
+still-drains : (view : View) → Stands view → (e : Event) → Draining view (ended_after e view.ended) (happens (dependence_in view.batch) view.batch.faults (now view) e)
+still-drains view stands (event.Issue p) = tt
+still-drains view stands (event.Post p attempt) = stands.ended
+still-drains view stands (event.Take p attempt applies) = stands.ended
+still-drains view stands (event.Restart number) = go (struck_next (dependence_in view.batch) view.batch.faults (now view).progress)
+  where
+    go : (o : Option ℕ) → Draining view view.ended (restarted (dependence_in view.batch) (now view) o)
+    go None = stands.ended
+    go (Some p) = stands.ended
+still-drains view stands (event.Retire p) = stands.ended
+
+grown-stands : (view : View) (e : Event) → Stands view → Allowed (dependence_in view.batch) view.batch.faults (now view) e → Stands (grown view e)
+grown-stands view e stands allowed =
+    record {
+      accepted = stands.accepted;
+      short = stands.short;
+      lawful = LawfulFrom-push (dependence_in view.batch) view.batch.faults initial_stage view.events e stands.lawful allowed;
+      ended = subst (Draining view (ended_after e view.ended)) (sym (now-grown view e)) (still-drains view stands e);
+    }
+
+grown-leaves : (view : View) (e : Event) → Stands view → Allowed (dependence_in view.batch) view.batch.faults (now view) e → left (grown view e) < left view
+grown-leaves view e stands allowed =
+    rw (now-grown view e)
+    (leaves-less (dependence_in view.batch) (redoes-struck view.batch) view.batch.faults (now view) e (stage-stands view stands).front_low allowed)
+
+pub did-stands : (before after : View) (e : Event) → Stands before → Did before e after → Stands after
+did-stands before after e stands did = subst Stands (sym did.grown) (grown-stands before e stands did.allowed)
+
+pub did-leaves : (before after : View) (e : Event) → Stands before → Did before e after → left after < left before
+did-leaves before after e stands did = subst (λ v. left v < left before) (sym did.grown) (grown-leaves before e stands did.allowed)
+
+pub did-onward : (before after : View) (e : Event) → Stands before → Did before e after → Onward before after
+did-onward before after e stands did =
+    record { batch = ap (λ v. v.batch) did.grown; stands = did-stands before after e stands did; moved = inl (did-leaves before after e stands did) }
+
+-- the stage after an event that was made
+pub now-did : (before after : View) (e : Event) → Did before e after → now after ≡ happens (dependence_in before.batch) before.batch.faults (now before) e
+now-did before after e did = ap now did.grown ∙ now-grown before e
+
+-- the run rests
+pub still-onward : (view : View) → Stands view → Onward view view
+still-onward view stands = record { batch = refl; stands = stands; moved = inr (record { events = refl; known = λ known. known }) }
+
+pub same-onward : (before after : View) → Stands before → after ≡ before → Onward before after
+same-onward before after stands same = subst (Onward before) (sym same) (still-onward before stands)
+
+-- an end that the plain run comes to became known
+pub learnt-onward : (before after : View) (ending : End) → Stands before → after ≡ learnt ending before
+    → drains (dependence_in before.batch) (now before).progress.front ≡ true → ending ≡ end_in before.batch → Onward before after
+learnt-onward before after ending stands same drained is_end =
+    subst (Onward before) (sym same)
+    (record {
+      batch = refl;
+      stands = record { accepted = stands.accepted; short = stands.short; lawful = stands.lawful; ended = (drained, is_end) };
+      moved = inr (record { events = refl; known = λ known. refl });
+    })
+
+-- what is left is a matter of the batch and the events
+pub left-same : (before after : View) → after.batch ≡ before.batch → after.events ≡ before.events → left after ≡ left before
+left-same before after batch events = rw (batch, events) refl
+
+pub now-same : (before after : View) → after.batch ≡ before.batch → after.events ≡ before.events → now after ≡ now before
+now-same before after batch events = rw (batch, events) refl
+
+pub onward-then : (first second third : View) → Onward first second → Onward second third → Onward first third
+onward-then first second third one two =
+    record {
+      batch = two.batch ∙ one.batch;
+      stands = two.stands;
+      moved = elim one.moved [
+        | inl less ↦ elim two.moved [
+          | inl again ↦ inl (omega arith)
+          | inr rests ↦ inl (let e = left-same second third two.batch rests.events in omega arith)
+        ]
+        | inr rests ↦ elim two.moved [
+          | inl less ↦ inl (let e = left-same first second one.batch rests.events in omega arith)
+          | inr again ↦ inr (record { events = again.events ∙ rests.events; known = λ known. again.known (rests.known known) })
+        ]
+      ];
+    }
+
+pub onward-most : (before after : View) → Onward before after → left after ≤ left before
+onward-most before after onward =
+    elim onward.moved [ inl less ↦ omega arith | inr rests ↦ (let e = left-same before after onward.batch rests.events in omega arith) ]

@@ -1,0 +1,7 @@
+pub mod Beginning
+pub mod Crews
+pub mod Events
+pub mod Progress
+pub mod Tasks
+pub mod Turns
+pub mod Written

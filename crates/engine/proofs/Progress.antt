@@ -1,0 +1,196 @@
+-- Some event is possible while work is left, so that each round of a run leaves less to do or makes the end known.
+use Rattle.std.proofs.Common.{◌≡◌, ◌⊎◌, inl, inr, ℕ, zero, suc, ◌<◌, ◌≤◌, Bool, true, false, cond, ◌&&◌, nat_eq, List, [], ◌∷◌, Contains, Option, Some, None, is_some, IfSome, refl, sym, subst, ◌∙◌, arith}
+use Rattle.std.specs.Bool.{Decides}
+use Rattle.std.specs.List.{list_any}
+use Rattle.std.specs.Option.{option_or}
+use Rattle.std.proofs.lemmas.Bool.{both_ways, false≢true, eqb-true, and_parts, or_cases, cases_lt}
+use Rattle.std.proofs.lemmas.List.Elements.{Contains-push, Contains-append_left}
+use Rattle.gp_base.specs.declared.fault.Fault.{Fault}
+use Rattle.gp_base.specs.declared.ending.End.{End}
+use Rattle.gp_base.specs.declared.journal.Event.{Event}
+use Rattle.gp_base.specs.declared.journal.Event.TheVariants as event
+use Rattle.dependence.specs.Dependents.{is_member}
+use Rattle.dependence.specs.Restarts.{Dependence, drains, is_live, is_due, least_struck, NoneDue, NoneLive, struck_next, restart_of}
+use Rattle.dependence.specs.Journal.{Stage, initial_stage, WasTaken, happens, restarted, stage_from, Complete}
+use Rattle.dependence.specs.JournalTests.{same_attempt}
+use Rattle.dependence.specs.Standing.{present}
+use Rattle.dependence.proofs.Auditing.{contains-decides}
+use Rattle.engine.specs.View.{View, dependence_in, end_in, now, is_known, Stands}
+use Rattle.engine.specs.Gives.{struck_now, NoneToPost}
+use Rattle.engine.specs.inner.Rounds.{left, left_to_know, Rests, Onward, IsSettled, IsIssued, AreTaken, TakeGives}
+use Rattle.engine.proofs.Events.{stage-stands, now-same, left-same, onward-most}
+
+-- what is applied was taken
+abbrev AppliedTaken : Stage → Type 0
+AppliedTaken at = (p : ℕ) → at.applied p ≡ true → WasTaken at p
+
+module _ (dependence : Dependence) (faults : List Fault) where
+  still-taken : (at : Stage) (e : Event) → AppliedTaken at → AppliedTaken (happens dependence faults at e)
+  still-taken at (event.Issue p) taken q applied = taken q applied
+  still-taken at (event.Post p attempt) taken q applied = taken q applied
+  still-taken at (event.Take p attempt applies) taken q applied =
+      elim (or_cases (applies && nat_eq q p) (at.applied q) applied) [
+        | inl this ↦
+            (let same : q ≡ p = eqb-true q p (and_parts applies (nat_eq q p) this).1 in
+            subst (WasTaken (happens dependence faults at (event.Take p attempt applies))) (sym same) (attempt, Contains-push at.taken (p, attempt)))
+        | inr other ↦ (let before = taken q other in (before.0, Contains-append_left at.taken ((p, attempt) ∷ []) (q, before.0) before.1))
+      ]
+  still-taken at (event.Restart number) taken q applied = go (struck_next dependence faults at.progress) applied
+    where
+      kept : (p : ℕ) (b : Bool) → cond b false (at.applied q) ≡ true → WasTaken at q
+      kept p true e = absurd (false≢true e)
+      kept p false e = taken q e
+
+      go : (o : Option ℕ) → (restarted dependence at o).applied q ≡ true → WasTaken (restarted dependence at o) q
+      go None e = taken q e
+      go (Some p) e = kept p (is_member q (restart_of dependence at.progress p).redo) e
+  still-taken at (event.Retire p) taken q applied = taken q applied
+
+  taken-from : (at : Stage) (events : List Event) → AppliedTaken at → AppliedTaken (stage_from dependence faults at events)
+  taken-from at [] taken = taken
+  taken-from at (e ∷ rest) taken = taken-from (happens dependence faults at e) rest (still-taken at e taken)
+
+applied-taken : (view : View) → AppliedTaken (now view)
+applied-taken view = taken-from (dependence_in view.batch) view.batch.faults initial_stage view.events (λ p e. absurd (false≢true e))
+
+-- where nothing is out and nothing may be posted, each position below the front is applied
+module _ (view : View) (stands : Stands view) (none : NoneToPost view 0) (home : AreTaken view) where
+  was-posted : (p : ℕ) → (now view).retired ≤ p → p < (now view).progress.front → ((q : ℕ) → q < p → (now view).applied q ≡ true)
+      → Contains (now view).posted (p, present (now view) p)
+  was-posted p young below earlier = go (list_any (same_attempt (p, present (now view) p)) (now view).posted) refl
+    where
+      decided : Decides (list_any (same_attempt (p, present (now view) p)) (now view).posted) (Contains (now view).posted (p, present (now view) p))
+      decided = contains-decides (p, present (now view) p) (now view).posted
+
+      go : (b : Bool) → list_any (same_attempt (p, present (now view) p)) (now view).posted ≡ b → Contains (now view).posted (p, present (now view) p)
+      go true e = decided.0 e
+      go false e =
+          absurd (none p (omega arith)
+          (record {
+            issued = below;
+            unretired = young;
+            present = refl;
+            unposted = λ h. both_ways (list_any (same_attempt (p, present (now view) p)) (now view).posted) e (decided.1 h);
+            ready = λ q l clash. earlier q l;
+          }))
+
+  all-below : (n p : ℕ) → p < n → p < (now view).progress.front → (now view).applied p ≡ true
+  all-below zero p l below = absurd (omega arith)
+  all-below (suc n) p l below =
+      elim (cases_lt p (now view).retired) [
+        | inl old ↦ (stage-stands view stands).retired_applied p old
+        | inr young ↦ (stage-stands view stands).taken_applied p
+            (home (p, present (now view) p) (was-posted p young below (λ q m. all-below n q (omega arith) (omega arith))))
+      ]
+
+  all-applied : (p : ℕ) → p < (now view).progress.front → (now view).applied p ≡ true
+  all-applied p below = all-below (suc p) p (omega arith) below
+
+  -- so no thread waits for a result
+  none-awaited : (q : ℕ) → q < (now view).progress.front → WasTaken (now view) q
+  none-awaited q below = applied-taken view q (all-applied q below)
+
+-- no fault is due where no position is struck
+pub none-due : (view : View) → struck_now view ≡ None → NoneDue view.batch.faults (now view).progress
+none-due view none =
+    go (least_struck (is_due (now view).progress) view.batch.faults) (cond (is_known view) (least_struck (is_live (now view).progress) view.batch.faults) None) refl none
+  where
+    go : (o other : Option ℕ) → least_struck (is_due (now view).progress) view.batch.faults ≡ o → option_or o other ≡ None
+        → least_struck (is_due (now view).progress) view.batch.faults ≡ None
+    go None other e f = e
+    go (Some p) other e f = absurd (cc f)
+
+-- and none is live where the end is known
+none-live : (view : View) → is_known view ≡ true → struck_now view ≡ None → NoneLive view.batch.faults (now view).progress
+none-live view known none = rw (none-due view none, known) at none
+
+known-ends : (view : View) → Stands view → is_known view ≡ true → drains (dependence_in view.batch) (now view).progress.front ≡ true
+known-ends view stands known = go view.ended known stands.ended
+  where
+    go : (o : Option End) → is_some o ≡ true → IfSome o (λ ending. (drains (dependence_in view.batch) (now view).progress.front ≡ true) × (ending ≡ end_in view.batch))
+        → drains (dependence_in view.batch) (now view).progress.front ≡ true
+    go None e h = absurd (false≢true e)
+    go (Some ending) e h = h.0
+
+-- a settled run whose end is known and of which all has retired is complete
+pub completed : (view : View) → Stands view → struck_now view ≡ None → (is_known view ≡ true) × ((now view).retired ≡ (now view).progress.front)
+    → Complete (dependence_in view.batch) view.batch.faults view.events
+completed view stands none done =
+    record {
+      lawful = stands.lawful;
+      final = record {
+        passed = passed;
+        none_left = rw (none-due view none, known-ends view stands done.0, none-live view done.0 none) refl;
+      };
+      retired = done.1 ∙ passed;
+    }
+  where
+    passed : (now view).progress.front ≡ (dependence_in view.batch).count
+    passed = eqb-true (now view).progress.front (dependence_in view.batch).count (known-ends view stands done.0)
+
+-- at the end of a round with nothing out, nothing to post and no event, a position would have retired or been issued, or the run ended
+stuck : (settled issued posted : View) → Stands settled → Stands posted → IsSettled settled
+    → ¬ ((is_known settled ≡ true) × ((now settled).retired ≡ (now settled).progress.front)) → now posted ≡ now settled → now posted ≡ now issued → IsIssued issued
+    → NoneToPost posted 0 → AreTaken posted → (is_known issued ≡ true → is_known posted ≡ true)
+    → (is_known settled ≡ true) ⊎ (is_known posted ≡ false) → ⊥
+stuck settled issued posted stood stands quiet unfinished same same' answer none home kept (inr unknown) =
+    elim answer [
+      | inl known ↦ both_ways (is_known posted) unknown (kept known)
+      | inr awaited ↦ awaited.2 (subst (λ at. WasTaken at awaited.0) same' (none-awaited posted stands none home awaited.0 (subst (λ at. awaited.0 < at.progress.front) (sym same') awaited.1)))
+    ]
+stuck settled issued posted stood stands quiet unfinished same same' answer none home kept (inl known) =
+    elim (cases_lt (now settled).retired (now settled).progress.front) [
+      | inl more ↦ quiet.none_retires
+          (record {
+            issued = more;
+            applied = subst (λ at. at.applied at.retired ≡ true) same (all-applied posted stands none home (now posted).retired (subst (λ at. at.retired < at.progress.front) (sym same) more));
+            none_due = none-due settled quiet.none_struck;
+            safe = inr (known, none-live settled known quiet.none_struck);
+          })
+      | inr all ↦ unfinished (known, let low = (stage-stands settled stood).retired_low in omega arith)
+    ]
+
+flag-most : (b : Bool) → cond b 0 1 ≤ 1
+flag-most true = omega arith
+flag-most false = omega arith
+
+less-to-know : (first last : View) → left last < left first → left_to_know last < left_to_know first
+less-to-know first last less = let flag = flag-most (is_known last) in omega arith
+
+-- a round in which nothing comes back leaves less to do, or makes the end known
+idle-round : (first settled issued posted : View) → Onward first settled → IsSettled settled
+    → ¬ ((is_known settled ≡ true) × ((now settled).retired ≡ (now settled).progress.front)) → Onward settled issued → IsIssued issued → Onward issued posted
+    → NoneToPost posted 0 → AreTaken posted → left_to_know posted < left_to_know first
+idle-round first settled issued posted one quiet unfinished two answer three none home =
+    elim one.moved [
+      | inl less ↦ less-to-know first posted (let a = onward-most settled issued two in let b = onward-most issued posted three in omega arith)
+      | inr rests ↦ elim two.moved [
+        | inl less ↦ less-to-know first posted (let a = onward-most first settled one in let b = onward-most issued posted three in omega arith)
+        | inr rests' ↦ elim three.moved [
+          | inl less ↦ less-to-know first posted (let a = onward-most first settled one in let b = onward-most settled issued two in omega arith)
+          | inr rests'' ↦ go (is_known first) (is_known posted) refl refl rests rests' rests''
+        ]
+      ]
+    ]
+  where
+    impossible : Rests first settled → Rests settled issued → Rests issued posted → (is_known settled ≡ true) ⊎ (is_known posted ≡ false) → ⊥
+    impossible rests rests' rests'' =
+        stuck settled issued posted one.stands three.stands quiet unfinished
+        (now-same settled posted (three.batch ∙ two.batch) (rests''.events ∙ rests'.events)) (now-same issued posted three.batch rests''.events) answer none home rests''.known
+
+    go : (b c : Bool) → is_known first ≡ b → is_known posted ≡ c → Rests first settled → Rests settled issued → Rests issued posted → left_to_know posted < left_to_know first
+    go b false e f rests rests' rests'' = absurd (impossible rests rests' rests'' (inr f))
+    go true true e f rests rests' rests'' = absurd (impossible rests rests' rests'' (inl (rests.known e)))
+    go false true e f rests rests' rests'' =
+        let same = left-same first posted (three.batch ∙ (two.batch ∙ one.batch)) (rests''.events ∙ (rests'.events ∙ rests.events)) in
+        rw (e, f) (omega arith)
+
+-- each round leaves less to do, or makes the end known
+pub round-falls : (first settled issued posted taken : View) (b : Bool) → Onward first settled → IsSettled settled
+    → ¬ ((is_known settled ≡ true) × ((now settled).retired ≡ (now settled).progress.front)) → Onward settled issued → IsIssued issued → Onward issued posted
+    → NoneToPost posted 0 → TakeGives posted taken b → left_to_know taken < left_to_know first
+round-falls first settled issued posted taken true one quiet unfinished two answer three none less =
+    less-to-know first taken
+    (let a = onward-most first settled one in let b = onward-most settled issued two in let c = onward-most issued posted three in omega arith)
+round-falls first settled issued posted taken false one quiet unfinished two answer three none nothing =
+    subst (λ v. left_to_know v < left_to_know first) (sym nothing.0) (idle-round first settled issued posted one quiet unfinished two answer three none nothing.1)

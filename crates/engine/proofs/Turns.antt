@@ -1,0 +1,155 @@
+-- What each call leaves of the run, and several calls one after another.
+use Rattle.std.proofs.Common.{◌≡◌, inl, inr, ℕ, zero, suc, cond, length, slice_get, Contains, ◌<◌, ◌≤◌, Bool, true, false, List, [], ◌∷◌, ◌++◌, Option, Some, None, refl, sym, ap, subst, ◌∙◌, arith, Result, Ok, Err}
+use Rattle.std.specs.Result.{OnOk, OnErr}
+use Rattle.std.proofs.lemmas.Bool.{cases_lt}
+use Rattle.std.proofs.lemmas.List.Elements.{Contains-push, Contains-append_left}
+use Rattle.gp_base.specs.declared.ending.End.{End}
+use Rattle.gp_base.specs.declared.journal.Event.TheVariants as event
+use Rattle.gp_base.specs.Sinks.{Rose}
+use Rattle.task_ast.specs.Position.{last_below, is_of}
+use Rattle.task_ast.specs.Plain.{Subthread}
+use Rattle.dependence.specs.Restarts.{Dependence, struck_next}
+use Rattle.dependence.specs.Journal.{Stage, restarted, MayPost, happens}
+use Rattle.dependence.specs.Standing.{present}
+use Rattle.engine.specs.declared.calls.Issued.{Issued}
+use Rattle.engine.specs.declared.calls.Issued.TheVariants.{One, Needs, Ended}
+use Rattle.engine.specs.View.{View, run_in, dependence_in, now, is_known, Stands}
+use Rattle.engine.specs.Gives.{Did, IssueGives, struck_now, DetectGives, MayRetireNow, RetireGives, MayPostNow, IsNextToPost, NoneToPost}
+use Rattle.engine.specs.inner.Rounds.{left, GoesOn, IsSettled, IsIssued}
+use Rattle.engine.proofs.Events.{now-did, did-onward, did-leaves, same-onward, still-onward, learnt-onward, onward-then}
+use Rattle.engine.proofs.Crews.{crew-alone, crew-same, crew-learnt}
+
+pub goes-then : (first second third : View) → GoesOn first second → GoesOn second third → GoesOn first third
+goes-then first second third one two =
+    record { onward = onward-then first second third one.onward two.onward; crew = λ posted out crew. two.crew posted out (one.crew posted out crew) }
+
+pub goes-still : (view : View) → Stands view → GoesOn view view
+goes-still view stands = record { onward = still-onward view stands; crew = λ posted out crew. crew }
+
+pub goes-same : (before after : View) → Stands before → after ≡ before → GoesOn before after
+goes-same before after stands same = record { onward = same-onward before after stands same; crew = crew-same before after same }
+
+pub retired-same : (before after : View) → after ≡ before → (now after).retired ≡ (now before).retired
+retired-same before after same = ap (λ v. (now v).retired) same
+
+restarted-keeps : (dependence : Dependence) (at : Stage) (o : Option ℕ)
+    → ((restarted dependence at o).posted ≡ at.posted) × ((restarted dependence at o).taken ≡ at.taken) × ((restarted dependence at o).retired ≡ at.retired)
+restarted-keeps dependence at None = (refl, refl, refl)
+restarted-keeps dependence at (Some p) = (refl, refl, refl)
+
+-- a detection
+pub detected : (before after : View) (b : Bool) → Stands before → DetectGives before after b → GoesOn before after × ((now after).retired ≡ (now before).retired)
+detected before after true stands did =
+    let e = event.Restart (length (now before).progress.made) in
+    let at = now-did before after e did in
+    let kept = restarted-keeps (dependence_in before.batch) (now before) (struck_next (dependence_in before.batch) before.batch.faults (now before).progress) in (
+      record {
+        onward = did-onward before after e stands did;
+        crew = crew-alone before after e stands did (ap (λ at. at.posted) at ∙ kept.0) (ap (λ at. at.taken) at ∙ kept.1);
+      },
+      ap (λ at. at.retired) at ∙ kept.2,
+    )
+detected before after false stands gives = (goes-same before after stands gives.0, retired-same before after gives.0)
+
+pub detected-leaves : (before after : View) → Stands before → DetectGives before after true → left after < left before
+detected-leaves before after stands did = did-leaves before after (event.Restart (length (now before).progress.made)) stands did
+
+pub detected-none : (before after : View) → DetectGives before after false → struck_now after ≡ None
+detected-none before after gives = ap struck_now gives.0 ∙ gives.1
+
+-- a retirement
+pub retired : (before after : View) (b : Bool) → Stands before → RetireGives before after b → GoesOn before after
+retired before after true stands did =
+    let e = event.Retire (now before).retired in
+    let at = now-did before after e did in
+    record {
+      onward = did-onward before after e stands did;
+      crew = crew-alone before after e stands did (ap (λ at. at.posted) at) (ap (λ at. at.taken) at);
+    }
+retired before after false stands gives = goes-same before after stands gives.0
+
+pub retired-leaves : (before after : View) → Stands before → RetireGives before after true → left after < left before
+retired-leaves before after stands did = did-leaves before after (event.Retire (now before).retired) stands did
+
+pub retired-settles : (before after : View) → struck_now before ≡ None → RetireGives before after false → IsSettled after
+retired-settles before after none gives = record { none_struck = ap struck_now gives.0 ∙ none; none_retires = subst (λ v. ¬ MayRetireNow v) (sym gives.0) gives.1 }
+
+-- a thread's last position below the front is below it
+last-is_below : (run : List Subthread) (t p q : ℕ) → last_below run t p ≡ Some q → q < p
+last-is_below run t zero q e = absurd (cc e)
+last-is_below run t (suc p) q e = go (is_of t (slice_get run p)) e (last-is_below run t p q)
+  where
+    go : (b : Bool) → cond b (Some p) (last_below run t p) ≡ Some q → (last_below run t p ≡ Some q → q < p) → q < suc p
+    go true f rest = let same : p ≡ q = cc f in omega arith
+    go false f rest = let less = rest f in omega arith
+
+-- an issue
+pub issued : (before after : View) (answer : Issued) → Stands before → IssueGives before after answer → GoesOn before after × ((now after).retired ≡ (now before).retired)
+issued before after (One p) stands did =
+    let at = now-did before after (event.Issue p) did in (
+      record {
+        onward = did-onward before after (event.Issue p) stands did;
+        crew = crew-alone before after (event.Issue p) stands did (ap (λ at. at.posted) at) (ap (λ at. at.taken) at);
+      },
+      ap (λ at. at.retired) at,
+    )
+issued before after (Needs t) stands gives = (goes-same before after stands gives.0, retired-same before after gives.0)
+issued before after (Ended ending) stands gives = (
+  record { onward = learnt-onward before after ending stands gives.0 gives.1 gives.2; crew = crew-learnt before after ending gives.0 },
+  ap (λ v. (now v).retired) gives.0,
+)
+
+pub issued-leaves : (before after : View) (p : ℕ) → Stands before → IssueGives before after (One p) → left after < left before
+issued-leaves before after p stands did = did-leaves before after (event.Issue p) stands did
+
+pub issued-needs : (before after : View) (t : ℕ) → IssueGives before after (Needs t) → IsIssued after
+issued-needs before after t gives =
+    subst IsIssued (sym gives.0) (inr (gives.1.0, last-is_below (run_in before.batch) t (now before).progress.front gives.1.0 gives.1.1, gives.1.2))
+
+pub issued-ends : (before after : View) (ending : End) → IssueGives before after (Ended ending) → IsIssued after
+issued-ends before after ending gives = inl (ap is_known gives.0)
+
+-- a position that may be posted after another was posted might have been before, and is another
+may-before : (before after : View) (p q : ℕ) → Did before (event.Post p (present (now before) p)) after → MayPostNow after q → MayPostNow before q × ¬ (q ≡ p)
+may-before before after p q did may = (
+  record {
+    issued = moved.issued;
+    unretired = moved.unretired;
+    present = refl;
+    unposted = λ h. moved.unposted (Contains-append_left (now before).posted ((p, present (now before) p) ∷ []) (q, present (now before) q) h);
+    ready = moved.ready;
+  },
+  λ same.
+      moved.unposted (subst (λ x. Contains ((now before).posted ++ (p, present (now before) p) ∷ []) (x, present (now before) x)) (sym same)
+      (Contains-push (now before).posted (p, present (now before) p))),
+)
+  where
+    moved : MayPost (dependence_in before.batch) (happens (dependence_in before.batch) before.batch.faults (now before) (event.Post p (present (now before) p))) q (present (now before) q)
+    moved =
+        subst (λ at. MayPost (dependence_in before.batch) at q (present at q)) (now-did before after (event.Post p (present (now before) p)) did)
+        (subst (λ batch. MayPost (dependence_in batch) (now after) q (present (now after) q)) (ap (λ v. v.batch) did.grown) may)
+
+-- where none before the position might be posted, none before or at it may be after its post
+abbrev pub NoneBefore : View → ℕ → Type 0
+NoneBefore view from = (q : ℕ) → q < from → ¬ MayPostNow view q
+
+pub none-yet : (before after : View) (from p : ℕ) → NoneBefore before from → IsNextToPost before from p → Did before (event.Post p (present (now before) p)) after → NoneBefore after p
+none-yet before after from p none next did q l may =
+    let h = may-before before after p q did may in
+    elim (cases_lt q from) [ inl old ↦ none q old h.0 | inr young ↦ next.first q young l h.0 ]
+
+pub none-at_all : (view : View) (from : ℕ) → NoneBefore view from → NoneToPost view from → NoneToPost view 0
+none-at_all view from none rest q l may = elim (cases_lt q from) [ inl old ↦ none q old may | inr young ↦ rest q young may ]
+
+-- a count that rose later rose
+pub rose-later : (first second third : ℕ) → first ≤ second → Rose second third → Rose first third
+rose-later first second third later rose = omega (arith, later, rose)
+
+-- what holds anyway holds on an error, and on success
+pub on-err : {T E : Type 0} (r : Result T E) (P : Type 0) → P → OnErr r P
+on-err (Ok x) P p = tt
+on-err (Err e) P p = p
+
+pub on-ok : {T E : Type 0} (r : Result T E) (P : Type 0) → P → OnOk r P
+on-ok (Ok x) P p = p
+on-ok (Err e) P p = tt

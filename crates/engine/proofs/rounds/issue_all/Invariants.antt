@@ -1,0 +1,13 @@
+use Rattle.std.proofs.Common.{◌≡◌}
+use Rattle.engine.specs.View.{now}
+use Rattle.engine.specs.inner.Rounds.{left, GoesOn}
+use Rattle.engine.proofs.rounds.issue_all.Given as goal
+
+abbrev pub invariant-issuing : goal.invariant-issuing
+invariant-issuing g l = record {
+  goes_on : GoesOn (g.E.Calls.view l.fn.engine) (g.E.Calls.view l.engine);
+  retired : (now (g.E.Calls.view l.engine)).retired ≡ (now (g.E.Calls.view l.fn.engine)).retired;
+}
+
+abbrev pub decreases-issuing : goal.decreases-issuing
+decreases-issuing g l = left (g.E.Calls.view l.engine)

@@ -1,0 +1,68 @@
+use Rattle.std.proofs.Common.{◌<◌, ◌∙◌, refl, sym, ap, arith, subst}
+use Rattle.gp_base.specs.declared.journal.Event.TheVariants as event
+use Rattle.dependence.specs.Standing.{present}
+use Rattle.engine.specs.View.{now, Stands}
+use Rattle.engine.specs.inner.Rounds.{left}
+use Rattle.engine.proofs.Events.{did-leaves, did-onward, now-did, onward-then, still-onward}
+use Rattle.engine.proofs.Crews.{crew-posted}
+use Rattle.engine.proofs.Turns.{none-yet, none-at_all, retired-same}
+use Rattle.engine.proofs.rounds.post_all.Goals as goal
+
+pub posting-init : goal.posting-init
+posting-init g c =
+    record {
+      onward = still-onward (g.E.Calls.view c.args.engine.now) c.requires.stands;
+      ready = c.requires.ready;
+      work = refl;
+      crew = c.requires.crew;
+      retired = refl;
+      none = λ q l. absurd (omega arith);
+    }
+
+pub post-requires-clause-may : goal.post-requires-clause-may
+post-requires-clause-may g c = rw c.runnable.ensures.same c.in-Some.ensures.found.may
+
+pub post-requires-clause-posted : goal.post-requires-clause-posted
+post-requires-clause-posted g c = c.posting.invariant.crew.posted_are ∙ sym (ap (λ v. (now v).posted) c.runnable.ensures.same)
+
+pub returns-in_err-post-clause-retired : goal.returns-in_err-post-clause-retired
+returns-in_err-post-clause-retired g c =
+    let view = g.E.Calls.view in
+    retired-same (view c.runnable.new.self) (view c.post.new.self) c.in_err-post.ensures.err
+    ∙ (retired-same (view c.posting.engine) (view c.runnable.new.self) c.runnable.ensures.same ∙ c.posting.invariant.retired)
+
+pub posting-smaller : goal.posting-smaller
+posting-smaller g c =
+    let view = g.E.Calls.view in
+    let less = did-leaves (view c.runnable.new.self) (view c.post.new.self) (event.Post c.in-Some.position (present (now (view c.runnable.new.self)) c.in-Some.position))
+    (rw c.runnable.ensures.same c.posting.invariant.onward.stands) c.in_ok-post.ensures.did in
+    subst (λ v. left (view c.post.new.self) < left v) c.runnable.ensures.same less
+
+pub posting-preserved : goal.posting-preserved
+posting-preserved g c =
+    let view = g.E.Calls.view in
+    let held = c.posting.invariant in
+    let made = c.in_ok-post.ensures in
+    let before = view c.runnable.new.self in
+    let p = c.in-Some.position in
+    let e = event.Post p (present (now before) p) in
+    let stood : Stands before = rw c.runnable.ensures.same held.onward.stands in
+    record {
+      onward = onward-then (view c.args.engine.now) before (view c.post.new.self) (rw c.runnable.ensures.same held.onward) (did-onward before (view c.post.new.self) e stood made.did);
+      ready = c.post.ensures.ready;
+      work = c.post.ensures.work ∙ held.work;
+      crew = rw (made.posted, made.out.1)
+          (crew-posted before (view c.post.new.self) p (present (now before) p) (g.C.Crew.posted c.posting.crew) (g.C.Crew.out c.posting.crew) made.out.0 stood made.did made.out.2 made.out.3
+          (rw c.runnable.ensures.same held.crew));
+      retired = ap (λ at. at.retired) (now-did before (view c.post.new.self) e made.did)
+          ∙ (retired-same (view c.posting.engine) before c.runnable.ensures.same ∙ held.retired);
+      none = none-yet before (view c.post.new.self) c.posting.from p (rw c.runnable.ensures.same held.none) (rw c.runnable.ensures.same c.in-Some.ensures.found) made.did;
+    }
+
+pub returns-clause-retired : goal.returns-clause-retired
+returns-clause-retired g c =
+    retired-same (g.E.Calls.view c.posting.engine) (g.E.Calls.view c.runnable.new.self) c.runnable.ensures.same ∙ c.posting.invariant.retired
+
+pub returns-clause-none : goal.returns-clause-none
+returns-clause-none g c =
+    rw c.runnable.ensures.same (none-at_all (g.E.Calls.view c.posting.engine) c.posting.from c.posting.invariant.none c.in_default.ensures.none)

@@ -1,0 +1,85 @@
+use Rattle.std.proofs.Common.{◌<◌, ◌≤◌, refl, ap, arith}
+use Rattle.engine.specs.inner.Rounds.{left, GoesOn, KeepsPart, KeepsWritten}
+use Rattle.engine.proofs.Events.{onward-most}
+use Rattle.engine.proofs.Turns.{goes-then, goes-still, goes-same, retired, retired-leaves, retired-settles, retired-same, on-err}
+use Rattle.engine.proofs.Written.{wrote-same, wrote-more, wrote-part, wrote-whole}
+use Rattle.engine.proofs.rounds.retire_all.Goals as goal
+use Rattle.engine.proofs.rounds.retire_all.Goals.{After-detect_all}
+
+-- after the restarts of a turn
+so_far : (g : _) (c : After-detect_all g) → GoesOn (g.E.Calls.view c.args.engine.now) (g.E.Calls.view c.detect_all.new.engine)
+so_far g c =
+    goes-then (g.E.Calls.view c.args.engine.now) (g.E.Calls.view c.retiring.engine) (g.E.Calls.view c.detect_all.new.engine) c.retiring.invariant.goes_on c.detect_all.ensures.goes_on
+
+kept : (g : _) (c : After-detect_all g) → KeepsWritten (g.E.Calls.view c.args.engine.now) (g.E.Calls.view c.detect_all.new.engine) (g.O.Sink.written c.args.out.now) (g.O.Sink.written c.retiring.out)
+kept g c start wrote =
+    wrote-same start (g.E.Calls.view c.retiring.engine) (g.E.Calls.view c.detect_all.new.engine) (g.O.Sink.written c.retiring.out) (g.O.Sink.written c.retiring.out)
+    c.detect_all.ensures.goes_on.onward.batch c.detect_all.ensures.retired refl (c.retiring.invariant.written start wrote)
+
+pub retiring-init : goal.retiring-init
+retiring-init g c = record { goes_on = goes-still (g.E.Calls.view c.args.engine.now) c.requires.stands; written = λ start wrote. wrote; later = omega arith }
+
+pub returns-in_err-detect_all-clause-goes_on : goal.returns-in_err-detect_all-clause-goes_on
+returns-in_err-detect_all-clause-goes_on g c = so_far g (goal.at.returns-in_err-detect_all-clause-goes_on g c).After-detect_all
+
+pub returns-in_err-detect_all-clause-partly : goal.returns-in_err-detect_all-clause-partly
+returns-in_err-detect_all-clause-partly g c =
+    let view = g.E.Calls.view in let written = g.O.Sink.written in
+    on-err c.from_residual.result (KeepsPart (view c.args.engine.now) (view c.detect_all.new.engine) (written c.args.out.now) (written c.retiring.out))
+    (λ start wrote. wrote-whole start (view c.detect_all.new.engine) (written c.retiring.out) (kept g (goal.at.returns-in_err-detect_all-clause-partly g c).After-detect_all start wrote))
+
+pub returns-in_err-retire-clause-goes_on : goal.returns-in_err-retire-clause-goes_on
+returns-in_err-retire-clause-goes_on g c =
+    let view = g.E.Calls.view in
+    goes-then (view c.args.engine.now) (view c.detect_all.new.engine) (view c.retire.new.self) (so_far g (goal.at.returns-in_err-retire-clause-goes_on g c).After-detect_all)
+    (goes-same (view c.detect_all.new.engine) (view c.retire.new.self) c.detect_all.ensures.goes_on.onward.stands c.in_err-retire.ensures.err)
+
+pub returns-in_err-retire-clause-partly : goal.returns-in_err-retire-clause-partly
+returns-in_err-retire-clause-partly g c =
+    let view = g.E.Calls.view in let written = g.O.Sink.written in
+    on-err c.from_residual-in_err-retire.result (KeepsPart (view c.args.engine.now) (view c.retire.new.self) (written c.args.out.now) (written c.retire.new.out))
+    (λ start wrote.
+    rw c.in_err-retire.ensures.err
+    (wrote-part start (view c.detect_all.new.engine) (written c.retiring.out) (written c.retire.new.out) c.in_err-retire.ensures.lines
+    (kept g (goal.at.returns-in_err-retire-clause-partly g c).After-detect_all start wrote)))
+
+pub returns-then-not-branch-clause-goes_on : goal.returns-then-not-branch-clause-goes_on
+returns-then-not-branch-clause-goes_on g c =
+    let view = g.E.Calls.view in
+    goes-then (view c.args.engine.now) (view c.detect_all.new.engine) (view c.retire.new.self) (so_far g (goal.at.returns-then-not-branch-clause-goes_on g c).After-detect_all)
+    (retired (view c.detect_all.new.engine) (view c.retire.new.self) c.in_ok-retire.field-0 c.detect_all.ensures.goes_on.onward.stands c.in_ok-retire.ensures.gives)
+
+pub returns-then-not-branch-clause-settled : goal.returns-then-not-branch-clause-settled
+returns-then-not-branch-clause-settled g c =
+    retired-settles (g.E.Calls.view c.detect_all.new.engine) (g.E.Calls.view c.retire.new.self) c.in_ok-detect_all.ensures.none_struck
+    (rw c.if-not-branch.true at c.in_ok-retire.ensures.gives)
+
+pub returns-then-not-branch-clause-written : goal.returns-then-not-branch-clause-written
+returns-then-not-branch-clause-written g c start wrote =
+    let view = g.E.Calls.view in
+    let gives = rw c.if-not-branch.true at c.in_ok-retire.ensures.gives in
+    wrote-same start (view c.detect_all.new.engine) (view c.retire.new.self) (g.O.Sink.written c.retiring.out) (g.O.Sink.written c.retire.new.out)
+    (ap (λ v. v.batch) gives.0) (retired-same (view c.detect_all.new.engine) (view c.retire.new.self) gives.0) (rw c.if-not-branch.true at c.in_ok-retire.ensures.lines)
+    (kept g (goal.at.returns-then-not-branch-clause-written g c).After-detect_all start wrote)
+
+pub retiring-smaller : goal.retiring-smaller
+retiring-smaller g c =
+    let view = g.E.Calls.view in
+    let less : left (view c.retire.new.self) < left (view c.detect_all.new.engine) =
+    retired-leaves (view c.detect_all.new.engine) (view c.retire.new.self) c.detect_all.ensures.goes_on.onward.stands (rw c.if-not-branch.false at c.in_ok-retire.ensures.gives) in
+    let most : left (view c.detect_all.new.engine) ≤ left (view c.retiring.engine) =
+    onward-most (view c.retiring.engine) (view c.detect_all.new.engine) c.detect_all.ensures.goes_on.onward in
+    omega arith
+
+pub retiring-preserved : goal.retiring-preserved
+retiring-preserved g c =
+    let view = g.E.Calls.view in
+    let before = (goal.at.retiring-preserved g c).After-detect_all in
+    record {
+      goes_on = goes-then (view c.args.engine.now) (view c.detect_all.new.engine) (view c.retire.new.self) (so_far g before)
+          (retired (view c.detect_all.new.engine) (view c.retire.new.self) c.in_ok-retire.field-0 c.detect_all.ensures.goes_on.onward.stands c.in_ok-retire.ensures.gives);
+      written = λ start wrote.
+          wrote-more start (view c.detect_all.new.engine) (view c.retire.new.self) (g.O.Sink.written c.retiring.out) (g.O.Sink.written c.retire.new.out)
+          (rw c.if-not-branch.false at c.in_ok-retire.ensures.gives) (rw c.if-not-branch.false at c.in_ok-retire.ensures.lines) (kept g before start wrote);
+      later = let first = c.retiring.invariant.later in let second = c.retire.ensures.cause.later in omega arith;
+    }

@@ -1,0 +1,13 @@
+use Rattle.std.proofs.Common.{◌≤◌}
+use Rattle.engine.specs.inner.Rounds.{left, GoesOn, KeepsWritten}
+use Rattle.engine.proofs.rounds.retire_all.Given as goal
+
+abbrev pub invariant-retiring : goal.invariant-retiring
+invariant-retiring g l = record {
+  goes_on : GoesOn (g.E.Calls.view l.fn.engine) (g.E.Calls.view l.engine);
+  written : KeepsWritten (g.E.Calls.view l.fn.engine) (g.E.Calls.view l.engine) (g.O.Sink.written l.fn.out) (g.O.Sink.written l.out);
+  later : g.O.Sink.faults l.fn.out ≤ g.O.Sink.faults l.out;
+}
+
+abbrev pub decreases-retiring : goal.decreases-retiring
+decreases-retiring g l = left (g.E.Calls.view l.engine)

@@ -1,0 +1,83 @@
+-- What the calls of an engine answer.
+use Rattle.std.specs.Prelude.{◌≡◌, ◌⊎◌, ℕ, ◌+◌, ◌≤◌, ◌<◌, Bool, true, false, cond, List, length, Option, Some, None, Result, Ok, Err, IsErrOf}
+use Rattle.std.specs.Option.{option_or}
+use Rattle.std.specs.Io.KnownBytes.{Appends}
+use Rattle.gp_base.specs.declared.limits.TheConstants.{LONGEST_DELAY}
+use Rattle.gp_base.specs.declared.journal.Event.{Event}
+use Rattle.gp_base.specs.declared.journal.Event.TheVariants as event
+use Rattle.gp_base.specs.Sinks.{Rose, AppendsPrefix}
+use Rattle.task_ast.specs.Position.{last_below}
+use Rattle.dependence.specs.Restarts.{drains, begun_of, is_live, is_due, least_struck, NoneDue, NoneLive}
+use Rattle.dependence.specs.Journal.{Allowed, WasTaken, MayPost}
+use Rattle.dependence.specs.Standing.{present}
+use Rattle.reorder_list.specs.declared.report.StopWhy.{StopWhy}
+use Rattle.reorder_list.specs.declared.report.StopWhy.TheVariants.{WriteFault}
+use Rattle.restart_log.specs.Lines.{printed}
+use Rattle.engine.specs.declared.calls.Issued.{Issued}
+use Rattle.engine.specs.declared.calls.Issued.TheVariants.{One, Needs, Ended}
+use Rattle.engine.specs.View.{View, run_in, dependence_in, end_in, lines_at, now, is_known, grown, learnt}
+
+-- the event was allowed, and was made
+pub record Did (before : View) (event : Event) (after : View) : Type 0 where
+  pub allowed : Allowed (dependence_in before.batch) before.batch.faults (now before) event
+  pub grown : after ≡ grown before event
+
+-- the thread's last subthread is at a position of which no attempt was taken
+abbrev pub IsAwaited : View → (thread : ℕ) → Type 0
+IsAwaited view t = (q : ℕ) × (last_below (run_in view.batch) t (now view).progress.front ≡ Some q) × ¬ WasTaken (now view) q
+
+-- an issue makes the next position, or needs what a thread does next, or finds that the run has ended
+abbrev pub IssueGives : (before after : View) → Issued → Type 0
+IssueGives before after (One p) = Did before (event.Issue p) after
+IssueGives before after (Needs t) = (after ≡ before) × IsAwaited before t
+IssueGives before after (Ended ending) =
+    (after ≡ learnt ending before) × (drains (dependence_in before.batch) (now before).progress.front ≡ true) × (ending ≡ end_in before.batch)
+
+-- the position that is struck next, as far as the end is known
+abbrev pub struck_now : View → Option ℕ
+struck_now view =
+    option_or (least_struck (is_due (now view).progress) view.batch.faults)
+    (cond (is_known view) (least_struck (is_live (now view).progress) view.batch.faults) None)
+
+-- a restart was made, or no position is struck
+abbrev pub DetectGives : (before after : View) → Bool → Type 0
+DetectGives before after true = Did before (event.Restart (length (now before).progress.made)) after
+DetectGives before after false = (after ≡ before) × (struck_now before ≡ None)
+
+-- the oldest position may retire, as far as the end is known
+pub record MayRetireNow (view : View) : Type 0 where
+  pub issued : (now view).retired < (now view).progress.front
+  pub applied : (now view).applied (now view).retired ≡ true
+  pub none_due : NoneDue view.batch.faults (now view).progress
+  pub safe : (begun_of (now view).progress.made (now view).retired + LONGEST_DELAY ≤ (now view).progress.front)
+      ⊎ ((is_known view ≡ true) × NoneLive view.batch.faults (now view).progress)
+
+-- the oldest position retired, or may not retire
+abbrev pub RetireGives : (before after : View) → Bool → Type 0
+RetireGives before after true = Did before (event.Retire (now before).retired) after
+RetireGives before after false = (after ≡ before) × ¬ MayRetireNow before
+
+-- all lines of the oldest position are written where it retires, none where it may not, and a part of them where the call stops
+abbrev pub RetireWrites : View → (before after : Option (List ℕ)) → Result Bool StopWhy → Type 0
+RetireWrites view before after (Ok true) = Appends before after (printed (lines_at view.batch (now view).retired))
+RetireWrites view before after (Ok false) = after ≡ before
+RetireWrites view before after (Err why) = AppendsPrefix before after (printed (lines_at view.batch (now view).retired))
+
+-- the sink's count of faults does not fall, and a write fault is answered only where it rose
+pub record HasStopCause {T : Type 0} (before after : ℕ) (result : Result T StopWhy) : Type 0 where
+  pub later : before ≤ after
+  pub failed : IsErrOf result WriteFault → Rose before after
+
+-- the present attempt of the position may be posted
+abbrev pub MayPostNow : View → (position : ℕ) → Type 0
+MayPostNow view p = MayPost (dependence_in view.batch) (now view) p (present (now view) p)
+
+-- the first position from this one on whose present attempt may be posted
+pub record IsNextToPost (view : View) (from position : ℕ) : Type 0 where
+  pub later : from ≤ position
+  pub may : MayPostNow view position
+  pub first : (p : ℕ) → from ≤ p → p < position → ¬ MayPostNow view p
+
+-- none from this one on may be posted
+abbrev pub NoneToPost : View → (from : ℕ) → Type 0
+NoneToPost view from = (p : ℕ) → from ≤ p → ¬ MayPostNow view p

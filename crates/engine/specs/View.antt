@@ -1,0 +1,104 @@
+-- What contracts see of an engine, and what that means.
+use Rattle.std.specs.Prelude.{◌≡◌, ℕ, ℤ, Bool, true, List, [], ◌∷◌, ◌++◌, take, flat_map, Option, Some, None, is_some, IfSome, slice_get}
+use Rattle.gp_base.specs.declared.limits.Limits.{Limits}
+use Rattle.gp_base.specs.declared.feed.Inputs.{Inputs}
+use Rattle.gp_base.specs.declared.fault.Fault.{Fault}
+use Rattle.gp_base.specs.declared.ending.End.{End}
+use Rattle.gp_base.specs.declared.journal.Event.{Event}
+use Rattle.gp_base.specs.declared.journal.Event.TheVariants as event
+use Rattle.task_ast.specs.Tree.{Program}
+use Rattle.task_ast.specs.State.{State}
+use Rattle.task_ast.specs.Shaped.{IsAccepted}
+use Rattle.task_ast.specs.Fold.{fold}
+use Rattle.task_ast.specs.Plain.{Subthread, order, opening, end}
+use Rattle.dependence.specs.Restarts.{Dependence, drains}
+use Rattle.dependence.specs.Journal.{Stage, Lawful, stage}
+use Rattle.dependence.specs.Runs.{dependence_of}
+use Rattle.dependence.specs.Standing.{AreShort}
+use Rattle.dependence.specs.RunBuffer.{members_at}
+use Rattle.subthread.specs.declared.task.Work.{Work}
+use Rattle.subthread.specs.Tasks.{program_in as program_of, under_of}
+
+-- what is run: the work that its tasks share, the values at its start, its limits, and the faults that strike it
+pub record Batch : Type 0 where
+  pub work : Work
+  pub inputs : Inputs
+  pub limits : Limits
+  pub faults : List Fault
+
+-- an engine: its batch, the events so far, and how the run ends, where it is known that it ends at this front
+pub record View : Type 0 where
+  pub batch : Batch
+  pub events : List Event
+  pub ended : Option End
+
+module _ (batch : Batch) where
+  abbrev pub program_in : Program
+  program_in = program_of batch.work
+
+  -- the subthreads of the plain run, in order
+  abbrev pub run_in : List Subthread
+  run_in = order program_in batch.inputs batch.limits
+
+  abbrev pub dependence_in : Dependence
+  dependence_in = dependence_of run_in
+
+  -- how the plain run ends
+  abbrev pub end_in : End
+  end_in = end program_in batch.inputs batch.limits
+
+  -- the state that the plain run begins with
+  abbrev pub start_in : State
+  start_in = (opening program_in batch.inputs batch.limits).state
+
+  -- the record cells under each lock cell
+  abbrev pub under_in : List (List ℕ)
+  under_in = under_of batch.work
+
+-- the lines of a subthread of the plain run, if it is there
+abbrev pub lines_of : Option Subthread → List (List ℤ)
+lines_of None = []
+lines_of (Some s) = s.lines
+
+-- the lines of the plain run at a position
+abbrev pub lines_at : Batch → (position : ℕ) → List (List ℤ)
+lines_at batch p = lines_of (slice_get (run_in batch) p)
+
+-- the lines of the plain run before a position
+abbrev pub lines_below : Batch → (position : ℕ) → List (List ℤ)
+lines_below batch p = flat_map (λ (s : Subthread). s.lines) (take p (run_in batch))
+
+-- the stage that the events lead to
+abbrev pub now : View → Stage
+now view = stage (dependence_in view.batch) view.batch.faults view.events
+
+-- what the store holds: the fold of what is applied
+abbrev pub state_in : View → State
+state_in view = fold (members_at (run_in view.batch) view.batch.faults (now view)) (start_in view.batch) (now view).applied (now view).progress.front
+
+abbrev pub is_known : View → Bool
+is_known view = is_some view.ended
+
+-- an end that is known is so until the next issue
+abbrev pub ended_after : Event → Option End → Option End
+ended_after (event.Issue p) ended = None
+ended_after _ ended = ended
+
+-- with one event more
+abbrev pub grown : View → Event → View
+grown view event = record { batch = view.batch; events = view.events ++ event ∷ []; ended = ended_after event view.ended }
+
+-- with its end known
+abbrev pub learnt : End → View → View
+learnt ending view = record { batch = view.batch; events = view.events; ended = Some ending }
+
+-- no event was made
+abbrev pub begun : Batch → View
+begun batch = record { batch = batch; events = []; ended = None }
+
+-- what stands between two calls: the journal is lawful, and an end that is known is that of the plain run, which drains
+pub record Stands (view : View) : Type 0 where
+  pub accepted : IsAccepted (program_in view.batch)
+  pub short : AreShort view.batch.faults
+  pub lawful : Lawful (dependence_in view.batch) view.batch.faults view.events
+  pub ended : IfSome view.ended (λ ending. (drains (dependence_in view.batch) (now view).progress.front ≡ true) × (ending ≡ end_in view.batch))

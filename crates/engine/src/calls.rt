@@ -1,0 +1,100 @@
+// The calls of an engine that its loop makes.
+ghost use Rattle.std.specs.Prelude.{◌≡◌, ◌↔◌, ◌<◌, ℕ, List, [], ◌∷◌, ◌++◌, true, IsTrue, OnOk, OnErr, IfOk, IfSome, IfNone};
+ghost use Rattle.gp_base.specs.declared.journal.Event.TheVariants as event;
+ghost use Rattle.dependence.specs.Restarts.{NoneDue};
+ghost use Rattle.dependence.specs.Standing.{present};
+ghost use Rattle.subthread.specs.declared.task.Task.{Task};
+ghost use Rattle.subthread.specs.Tasks.{task_of, IsRun};
+ghost use Rattle.crew.specs.Out.{pair_of};
+ghost use Rattle.engine.specs.View.{View, now, is_known};
+ghost use Rattle.engine.specs.Gives.{Did, IssueGives, DetectGives, RetireGives, RetireWrites, HasStopCause, MayPostNow, IsNextToPost, NoneToPost};
+ghost use Rattle.engine.specs.Takes.{TaskStands};
+
+use crew::Crew;
+use gp_base::{End, Pos, Sink, ThreadNo};
+use reorder_list::StopWhy;
+use std::alloc::AllocError;
+use std::thread::Threads;
+use subthread::Done;
+
+/// What an issue answers: the position that was issued, a thread whose next synchronisation is needed first, or how the
+/// run ends.
+#[derive(Clone, Copy, PartialEq, Eq)]
+pub enum Issued {
+    One(Pos),
+    Needs(ThreadNo),
+    Ended(End),
+}
+
+/// What the loop of a run asks of an engine.
+pub trait Calls {
+    // What contracts see of the engine.
+    ghost view: { Self → View };
+
+    // How many events it has room for.
+    ghost room: { Self → ℕ };
+
+    /// Issues the next position. The error is that memory is out, and changes nothing.
+    fn issue(&mut self) -> Result<Issued, AllocError>
+        requires none_due { NoneDue (view self.old).batch.faults (now (view self.old)).progress }
+        ensures gives { IfOk result (IssueGives (view self.old) (view self.new)) }
+        ensures err { OnErr result (view self.new ≡ view self.old) };
+
+    /// Makes one restart and answers `true`, or answers `false` where none is due. The error is that memory is out, and
+    /// changes nothing.
+    fn detect(&mut self) -> Result<bool, AllocError>
+        ensures gives { IfOk result (DetectGives (view self.old) (view self.new)) }
+        ensures err { OnErr result (view self.new ≡ view self.old) };
+
+    /// Retires the oldest position, whose lines it writes, and answers `true`, or answers `false` where that may not
+    /// retire. After an error nothing has retired, and `out` got a part of the lines.
+    fn retire<O: Sink>(&mut self, out: &mut O) -> Result<bool, StopWhy>
+        ensures gives { IfOk result (RetireGives (view self.old) (view self.new)) }
+        ensures err { OnErr result (view self.new ≡ view self.old) }
+        ensures lines { RetireWrites (view self.old) (O.written out.old) (O.written out.new) result }
+        ensures cause { HasStopCause (O.faults out.old) (O.faults out.new) result };
+
+    /// Whether the end is known and all positions have retired.
+    fn is_done(&self) -> bool
+        ensures { IsTrue result ↔ ((is_known (view self.now) ≡ true) × ((now (view self.now)).retired ≡ (now (view self.now)).progress.front)) };
+
+    /// The first position from this one on whose present attempt may be posted.
+    fn runnable(&mut self, from: Pos) -> Option<Pos>
+        ensures same { view self.new ≡ view self.old }
+        ensures found { IfSome result (IsNextToPost (view self.old) from) }
+        ensures none { IfNone result (NoneToPost (view self.old) from) };
+
+    /// Posts the present attempt of a position to a crew of this engine's work. The error is that memory is out; nothing
+    /// was posted then.
+    fn post<R: Threads + Sync, C: Crew>(
+        &mut self,
+        rt: &R,
+        crew: &mut C,
+        position: Pos,
+    ) -> Result<(), AllocError>
+        requires may { MayPostNow (view self.old) position }
+        requires ready { C.ready crew.old }
+        requires work { C.work crew.old ≡ (view self.old).batch.work }
+        requires posted { C.posted crew.old ≡ (now (view self.old)).posted }
+        ensures did { OnOk result (Did (view self.old) (event.Post position (present (now (view self.old)) position)) (view self.new)) }
+        ensures err { OnErr result (view self.new ≡ view self.old) }
+        ensures ready { C.ready crew.new }
+        ensures work { C.work crew.new ≡ C.work crew.old }
+        ensures out { OnOk result ((task : Task) × (C.out crew.new ≡ C.out crew.old ++ task ∷ []) × (pair_of task ≡ (position, present (now (view self.old)) position)) × TaskStands (view self.new) task) }
+        ensures posted { OnOk result (C.posted crew.new ≡ C.posted crew.old ++ (position, present (now (view self.old)) position) ∷ []) }
+        ensures posted_kept { OnErr result (C.posted crew.new ≡ C.posted crew.old) }
+        ensures out_kept { OnErr result (C.out crew.new ≡ C.out crew.old) };
+
+    /// Makes room for one more event. The error is that memory is out.
+    fn reserve(&mut self) -> Result<(), AllocError>
+        ensures same { view self.new ≡ view self.old }
+        ensures room { OnOk result (0 < room self.new) };
+
+    /// Takes the run of a task of this engine that is out, and applies it where its attempt is the present one, which is
+    /// the answer. Takes no memory.
+    fn accept(&mut self, done: Done) -> bool
+        requires task { TaskStands (view self.old) (task_of done) }
+        requires run { IsRun (view self.old).batch.work done }
+        requires room { 0 < room self.old }
+        ensures { Did (view self.old) (event.Take (task_of done).pos (task_of done).attempt result) (view self.new) };
+}

@@ -1,0 +1,11 @@
+//! The engine: subthreads are issued in the order of the plain run, run by a crew out of order, redone where a fault
+//! strikes, and retired in order.
+#![tactic(auto)]
+
+mod calls;
+mod driver;
+mod rounds;
+
+pub use calls::{Calls, Issued};
+pub use driver::drive;
+pub use reorder_list::{EngineStop, Report, StopWhy};

@@ -1,0 +1,149 @@
+// The rounds of a run.
+ghost use Rattle.std.specs.Prelude.{◌≡◌, true, None, OnOk, OnErr, IfOk, IsErrOf};
+ghost use Rattle.dependence.specs.Journal.{Complete};
+ghost use Rattle.reorder_list.specs.declared.report.StopWhy.TheVariants as stop;
+ghost use Rattle.engine.specs.View.{dependence_in, now, is_known, Stands};
+ghost use Rattle.engine.specs.Gives.{struck_now, HasStopCause, NoneToPost};
+ghost use Rattle.engine.specs.Takes.{CrewStands};
+ghost use Rattle.engine.specs.inner.Rounds.{Onward, GoesOn, IsSettled, IsIssued, KeepsWritten, KeepsPart, TakeGives};
+
+use crate::calls::{Calls, Issued};
+use crew::Crew;
+use gp_base::{Pos, Sink};
+use reorder_list::StopWhy;
+use std::alloc::AllocError;
+use std::thread::Threads;
+
+// Makes all restarts that are due.
+fn detect_all<E: Calls>(engine: &mut E) -> Result<(), AllocError>
+    requires stands { Stands (E.view engine.old) }
+    ensures goes_on { GoesOn (E.view engine.old) (E.view engine.new) }
+    ensures retired { (now (E.view engine.new)).retired ≡ (now (E.view engine.old)).retired }
+    ensures none_struck { OnOk result (struck_now (E.view engine.new) ≡ None) }
+{
+    'detecting: loop {
+        if !engine.detect()? {
+            return Ok(());
+        }
+    }
+}
+
+// Retires what may retire, each position after all restarts that are due.
+fn retire_all<E: Calls, O: Sink>(engine: &mut E, out: &mut O) -> Result<(), StopWhy>
+    requires stands { Stands (E.view engine.old) }
+    ensures goes_on { GoesOn (E.view engine.old) (E.view engine.new) }
+    ensures settled { OnOk result (IsSettled (E.view engine.new)) }
+    ensures written { OnOk result (KeepsWritten (E.view engine.old) (E.view engine.new) (O.written out.old) (O.written out.new)) }
+    ensures partly { OnErr result (KeepsPart (E.view engine.old) (E.view engine.new) (O.written out.old) (O.written out.new)) }
+    ensures cause { HasStopCause (O.faults out.old) (O.faults out.new) result }
+{
+    'retiring: loop {
+        detect_all(engine)?;
+        if !engine.retire(out)? {
+            return Ok(());
+        }
+    }
+}
+
+// Issues until it is needed what a thread does next, or the end is known.
+fn issue_all<E: Calls>(engine: &mut E) -> Result<(), AllocError>
+    requires stands { Stands (E.view engine.old) }
+    ensures goes_on { GoesOn (E.view engine.old) (E.view engine.new) }
+    ensures retired { (now (E.view engine.new)).retired ≡ (now (E.view engine.old)).retired }
+    ensures issued { OnOk result (IsIssued (E.view engine.new)) }
+{
+    'issuing: loop {
+        detect_all(engine)?;
+        match engine.issue()? {
+            Issued::One(_) => {}
+            Issued::Needs(_) => return Ok(()),
+            Issued::Ended(_) => return Ok(()),
+        }
+    }
+}
+
+// Posts each position that may be posted.
+fn post_all<R: Threads + Sync, E: Calls, C: Crew>(
+    rt: &R,
+    engine: &mut E,
+    crew: &mut C,
+) -> Result<(), AllocError>
+    requires stands { Stands (E.view engine.old) }
+    requires ready { C.ready crew.old }
+    requires work { C.work crew.old ≡ (E.view engine.old).batch.work }
+    requires crew { CrewStands (E.view engine.old) (C.posted crew.old) (C.out crew.old) }
+    ensures onward { Onward (E.view engine.old) (E.view engine.new) }
+    ensures ready { C.ready crew.new }
+    ensures work { C.work crew.new ≡ C.work crew.old }
+    ensures crew { CrewStands (E.view engine.new) (C.posted crew.new) (C.out crew.new) }
+    ensures retired { (now (E.view engine.new)).retired ≡ (now (E.view engine.old)).retired }
+    ensures none { OnOk result (NoneToPost (E.view engine.new) 0) }
+{
+    let mut from = Pos(0);
+    'posting: while let Some(position) = engine.runnable(from) {
+        engine.post(rt, crew, position)?;
+        from = position;
+    }
+    Ok(())
+}
+
+// Takes one run of a task, where one is out.
+fn take_one<R: Threads + Sync, E: Calls, C: Crew>(
+    rt: &R,
+    engine: &mut E,
+    crew: &mut C,
+) -> Result<bool, AllocError>
+    requires stands { Stands (E.view engine.old) }
+    requires ready { C.ready crew.old }
+    requires work { C.work crew.old ≡ (E.view engine.old).batch.work }
+    requires crew { CrewStands (E.view engine.old) (C.posted crew.old) (C.out crew.old) }
+    ensures onward { Onward (E.view engine.old) (E.view engine.new) }
+    ensures ready { C.ready crew.new }
+    ensures work { C.work crew.new ≡ C.work crew.old }
+    ensures posted { C.posted crew.new ≡ (now (E.view engine.new)).posted }
+    ensures crew { OnOk result (CrewStands (E.view engine.new) (C.posted crew.new) (C.out crew.new)) }
+    ensures retired { (now (E.view engine.new)).retired ≡ (now (E.view engine.old)).retired }
+    ensures took { IfOk result (TakeGives (E.view engine.old) (E.view engine.new)) }
+{
+    engine.reserve()?;
+    match crew.next(rt)? {
+        None => Ok(false),
+        Some(done) => {
+            engine.accept(done);
+            Ok(true)
+        }
+    }
+}
+
+/// Goes on with a run to its end.
+pub fn run_rounds<R: Threads + Sync, E: Calls, C: Crew, O: Sink>(
+    rt: &R,
+    engine: &mut E,
+    crew: &mut C,
+    out: &mut O,
+) -> Result<(), StopWhy>
+    requires stands { Stands (E.view engine.old) }
+    requires ready { C.ready crew.old }
+    requires work { C.work crew.old ≡ (E.view engine.old).batch.work }
+    requires crew { CrewStands (E.view engine.old) (C.posted crew.old) (C.out crew.old) }
+    ensures onward { Onward (E.view engine.old) (E.view engine.new) }
+    ensures complete { OnOk result (Complete (dependence_in (E.view engine.new).batch) (E.view engine.new).batch.faults (E.view engine.new).events) }
+    ensures known { OnOk result (is_known (E.view engine.new) ≡ true) }
+    ensures ready { C.ready crew.new }
+    ensures work { C.work crew.new ≡ C.work crew.old }
+    ensures posted { C.posted crew.new ≡ (now (E.view engine.new)).posted }
+    ensures crew { ¬ IsErrOf result stop.OutOfMemory → CrewStands (E.view engine.new) (C.posted crew.new) (C.out crew.new) }
+    ensures written { OnOk result (KeepsWritten (E.view engine.old) (E.view engine.new) (O.written out.old) (O.written out.new)) }
+    ensures partly { OnErr result (KeepsPart (E.view engine.old) (E.view engine.new) (O.written out.old) (O.written out.new)) }
+    ensures cause { HasStopCause (O.faults out.old) (O.faults out.new) result }
+{
+    'rounds: loop {
+        retire_all(engine, out)?;
+        if engine.is_done() {
+            return Ok(());
+        }
+        issue_all(engine)?;
+        post_all(rt, engine, crew)?;
+        take_one(rt, engine, crew)?;
+    }
+}
