@@ -59,6 +59,13 @@ impl Store {
         &self.cells
     }
 
+    /// The cells of all records, in declared order; all else is given up. Takes no memory.
+    pub fn into_records(self) -> Nums
+        ensures { result ≡ self.cells }
+    {
+        self.cells
+    }
+
     /// Adds the next thread, with so many registers that are 0. The error is that memory is out; the store is then as
     /// it was.
     pub fn reserve_thread(&mut self, alloc: Global, regs: u32) -> Result<(), AllocError>
