@@ -4,3 +4,4 @@ pub mod Changes
 pub mod Kept
 pub mod Readiness
 pub mod Staged
+pub mod Watching

@@ -54,7 +54,7 @@ comes-next b p [] stands is = tt
 comes-next b p (e ∷ []) stands is = let first = stands.0 in omega arith
 comes-next b p (e ∷ x ∷ entries) stands is = comes-next (suc b) p (x ∷ entries) stands.1 (omega arith)
 
-next-is : (b p : ℕ) (e : Entry) (entries : List Entry) → StandFrom b (e ∷ entries) → ComesNext (e ∷ entries) p → p ≡ b + suc (length entries)
+pub next-is : (b p : ℕ) (e : Entry) (entries : List Entry) → StandFrom b (e ∷ entries) → ComesNext (e ∷ entries) p → p ≡ b + suc (length entries)
 next-is b p e [] stands next = let first = stands.0 in omega arith
 next-is b p e (x ∷ entries) stands next = let rest = next-is (suc b) p x entries stands.1 next in omega arith
 

@@ -2,3 +2,4 @@ pub mod Entries
 pub mod Places
 pub mod Runnable
 pub mod Stages
+pub mod Watched

@@ -10,6 +10,7 @@ mod entry;
 pub mod laws;
 mod report;
 mod rol;
+mod search;
 
 pub use entry::{Entry, State};
 pub use report::{EngineStop, Report, StopWhy};

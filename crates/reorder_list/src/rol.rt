@@ -1,15 +1,14 @@
 // The list of entries from the oldest that has not retired.
 
-ghost use Rattle.std.specs.Prelude.{◌≡◌, ◌↔◌, ◌+◌, ◌<◌, ◌≤◌, ◌^◌, [], ◌∷◌, ◌++◌, IsTrue, OnOk, MatchOption, IfSome, IfNone, None, Some, length, slice_get, is_some};
+ghost use Rattle.std.specs.Prelude.{◌≡◌, ◌↔◌, ◌+◌, ◌<◌, ◌≤◌, ◌^◌, [], ◌∷◌, ◌++◌, IsTrue, OnOk, MatchOption, IfSome, IfNone, None, Some, length, min, slice_get, is_some};
 ghost use Rattle.std.specs.Option.{IsSomeAnd, option_copied};
-ghost use Rattle.reorder_list.specs.Entries.{IsInRow, ComesNext, IsFresh, is_applied, entry_at, first_position, with_change_at, out_entry, applied_entry, raised_entry, histories_of};
-ghost use Rattle.reorder_list.specs.Places.{IsPlaceOf};
-ghost use Rattle.reorder_list.specs.Runnable.{LetsPass, IsRunnable, IsFirstRunnable, NoneRunnable};
+ghost use Rattle.reorder_list.specs.Entries.{ComesNext, IsFresh, is_applied, entry_at, with_change_at, out_entry, applied_entry, raised_entry, histories_of};
+ghost use Rattle.reorder_list.specs.Runnable.{IsRunnable, IsFirstRunnable, NoneRunnable};
 ghost use Rattle.reorder_list.specs.declared.entry.Entry.{Entry};
 ghost use Rattle.reorder_list.specs.declared.entry.State.TheVariants.{Out, Applied};
 
+use crate::search::{first_runnable, first_waiting, is_runnable, place_of};
 use crate::{Entry, State};
-use dependence::conflict;
 use gp_base::{Lines, Pos, Seq};
 use record_store::History;
 use std::alloc::{AllocError, Global};
@@ -21,77 +20,30 @@ use std::marker::Model;
 #[derive(Drop)]
 pub struct Rol {
     entries: VecDeque<Entry>,
+    // for each entry an earlier position in conflict with it that was not applied when last looked for
+    watched: VecDeque<Option<Pos>>,
+    // no entry before this position waits
+    idle: Pos,
 }
 
 impl Model for Rol {
-    ghost use Rattle.std.specs.Prelude.{◌-◌};
+    ghost use Rattle.std.specs.Prelude.{◌-◌, min};
     ghost use Rattle.std.specs.VecDeque.{deque_len, deque_capacity};
     ghost use Rattle.reorder_list.specs.Entries.{Entered};
-    ghost use Rattle.reorder_list.specs.Places.{IsKept};
+    ghost use Rattle.reorder_list.specs.Watched.{IsUpheld};
 
     ghost Value = { Entered };
 
-    ghost view = { λ r. record { entries = r.entries.items; spare = deque_capacity r.entries - deque_len r.entries } };
+    ghost view = { λ r. record { entries = r.entries.items; spare = min (deque_capacity r.entries - deque_len r.entries) (deque_capacity r.watched - deque_len r.watched) } };
 
-    ghost invariant = { λ r. IsKept r.entries.items };
+    ghost invariant = { λ r. IsUpheld r.entries.items r.watched.items r.idle };
 }
 
-/// The place of a position among the entries, where it has one.
-fn place_of(entries: &VecDeque<Entry>, p: Pos) -> Option<usize>
-    requires { IsInRow entries.now.items }
-    ensures { MatchOption result (entry_at entries.now.items p ≡ None) (λ place. IsPlaceOf entries.now.items p place) }
+/// The earlier of two positions.
+fn earlier_of(a: Pos, b: Pos) -> Pos
+    ensures { result ≡ min a b }
 {
-    let first = entries.front()?.pos;
-    if p.0 < first.0 {
-        return None;
-    }
-    let place = (p.0 - first.0) as usize;
-    if place < entries.len() {
-        Some(place)
-    } else {
-        None
-    }
-}
-
-/// Whether an earlier entry is applied or not in conflict with the later one.
-fn lets_pass(earlier: &Entry, later: &Entry) -> bool
-    ensures { IsTrue result ↔ LetsPass earlier.now later.now }
-{
-    earlier.state.is_applied() || !conflict(&earlier.foot, &later.foot)
-}
-
-/// Whether the entry at a place waits and each earlier one in conflict with it is applied.
-fn is_runnable(entries: &VecDeque<Entry>, place: usize) -> bool
-    requires in_row { IsInRow entries.now.items }
-    requires in_range { place < length entries.now.items }
-    ensures { IsTrue result ↔ IsRunnable entries.now.items (first_position entries.now.items + place) }
-{
-    let entry = &entries[place];
-    if !entry.state.is_waiting() {
-        return false;
-    }
-    for earlier in 0..place {
-        let before = &entries[earlier];
-        if !lets_pass(before, entry) {
-            return false;
-        }
-    }
-    true
-}
-
-/// The first position from this one on whose entry is runnable.
-fn first_runnable(entries: &VecDeque<Entry>, from: Pos) -> Option<Pos>
-    requires { IsInRow entries.now.items }
-    ensures found { IfSome result (λ p. IsFirstRunnable entries.now.items from p) }
-    ensures none { IfNone result (NoneRunnable entries.now.items from) }
-{
-    for place in 0..entries.len() {
-        let p = entries[place].pos;
-        if from.0 <= p.0 && is_runnable(entries, place) {
-            return Some(p);
-        }
-    }
-    None
+    Pos(a.0.min(b.0))
 }
 
 /// The next attempt of an entry begins at this front and waits; the history of the last one is handed out.
@@ -130,6 +82,8 @@ impl Rol {
     {
         Rol {
             entries: VecDeque::new(alloc),
+            watched: VecDeque::new(alloc),
+            idle: Pos(0),
         }
     }
 
@@ -146,7 +100,8 @@ impl Rol {
         ensures room { OnOk result (0 < self.new.spare) }
         ensures kept { self.old.spare ≤ self.new.spare }
     {
-        self.entries.reserve(1)
+        self.entries.reserve(1)?;
+        self.watched.reserve(1)
     }
 
     /// Puts the entry of the next position, which waits, at the end. Takes no memory, as every call but `reserve`.
@@ -157,7 +112,9 @@ impl Rol {
         ensures entries { self.new.entries ≡ self.old.entries ++ entry ∷ [] }
         ensures spare { self.old.spare ≤ self.new.spare + 1 }
     {
+        self.idle = earlier_of(self.idle, entry.pos);
         self.entries.push_back_reserved(entry);
+        self.watched.push_back_reserved(None);
     }
 
     /// The oldest entry, where there is one.
@@ -191,7 +148,8 @@ impl Rol {
         ensures none { IfNone result (NoneRunnable self.old.entries from) }
         ensures same { self.new ≡ self.old }
     {
-        first_runnable(&self.entries, from)
+        self.idle = first_waiting(&self.entries, self.idle);
+        first_runnable(&self.entries, &mut self.watched, from, self.idle)
     }
 
     /// The attempt of a position is out.
@@ -226,6 +184,7 @@ impl Rol {
         ensures spare { self.new.spare ≡ self.old.spare }
     {
         let place = place_of(&self.entries, p)?;
+        self.idle = earlier_of(self.idle, p);
         raise_entry(alloc, &mut self.entries[place], front)
     }
 
@@ -235,6 +194,7 @@ impl Rol {
         ensures entries { self.old.entries ≡ result ∷ self.new.entries }
         ensures spare { self.old.spare ≤ self.new.spare }
     {
+        let _ = self.watched.pop_front();
         match self.entries.pop_front() {
             Some(entry) => entry,
             None => unreachable!(),

@@ -1,9 +1,16 @@
-use Rattle.std.proofs.Common.{◌∙◌, sym, ap, is_some}
-use Rattle.reorder_list.specs.Entries.{is_applied}
+use Rattle.std.proofs.Common.{◌∙◌, ap, sym, is_some}
+use Rattle.reorder_list.specs.Entries.{ComesNext, is_applied}
 use Rattle.reorder_list.proofs.Kept.{kept-push}
+use Rattle.reorder_list.proofs.Watching.{watches-pushed, waits-pushed}
 use Rattle.reorder_list.proofs.rol.Rol.push_back.Goals as goal
 
 pub invariant_of-self : goal.invariant_of-self
 invariant_of-self c =
     let fresh = c.requires.fresh in
-    rw c.push_back_reserved.ensures.items (kept-push c.self.inside.entries.items c.args.entry c.self.invariant (rw (ap (λ s. s.entries) c.self.view_is) c.requires.next) (ap is_some fresh.no_history ∙ sym (ap is_applied fresh.waits)))
+    let next : ComesNext c.self.inside.entries.items c.args.entry.pos = rw (ap (λ s. s.entries) c.self.view_is) c.requires.next in
+    rw (c.push_back_reserved.ensures.items, c.push_back_reserved-2.ensures.items, c.earlier_of-self-inside.ensures)
+    (record {
+      kept = kept-push c.self.inside.entries.items c.args.entry c.self.invariant.kept next (ap is_some fresh.no_history ∙ sym (ap is_applied fresh.waits));
+      watches = watches-pushed c.self.inside.entries.items c.args.entry c.self.inside.watched.items c.self.invariant.kept.row next c.self.invariant.watches;
+      none_waits = waits-pushed c.self.inside.entries.items c.args.entry c.self.inside.idle c.self.invariant.none_waits;
+    })
