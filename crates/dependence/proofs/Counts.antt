@@ -25,17 +25,17 @@ use Rattle.dependence.proofs.RestartEnds.{few-restarts}
 
 module _ (dependence : Dependence) (faults : List Fault) where
   -- each issue moves the front, each restart is made and each retirement counted
-  record IsCounted (at after : Stage) (issues made retired : ℕ) : Type 0 where
-    front_is : after.progress.front ≡ at.progress.front + issues
-    made_is : length after.progress.made ≡ length at.progress.made + made
-    retired_is : after.retired ≡ at.retired + retired
+  pub record IsCounted (at after : Stage) (issues made retired : ℕ) : Type 0 where
+    pub front_is : after.progress.front ≡ at.progress.front + issues
+    pub made_is : length after.progress.made ≡ length at.progress.made + made
+    pub retired_is : after.retired ≡ at.retired + retired
 
   one_made : (at : Stage) (o : Option ℕ) → o ≢ None → (restarted dependence at o).progress.front ≡ at.progress.front
       × (length (restarted dependence at o).progress.made ≡ length at.progress.made + 1) × ((restarted dependence at o).retired ≡ at.retired)
   one_made at None some = absurd (some refl)
   one_made at (Some p) some = (refl, length-append at.progress.made _, refl)
 
-  counted : (at : Stage) (events : List Event) → LawfulFrom dependence faults at events
+  pub counted : (at : Stage) (events : List Event) → LawfulFrom dependence faults at events
       → IsCounted at (stage_from dependence faults at events) (count_by is_issue events) (count_by is_restart events) (length (retirements events))
   counted at [] lawful = record { front_is = omega arith; made_is = omega arith; retired_is = omega arith }
   counted at (event.Issue p ∷ rest) lawful =

@@ -1,6 +1,7 @@
 pub mod Beginning
 pub mod Crews
 pub mod Events
+pub mod Outcomes
 pub mod Progress
 pub mod Tasks
 pub mod Turns

@@ -1,5 +1,5 @@
 -- Some event is possible while work is left, so that each round of a run leaves less to do or makes the end known.
-use Rattle.std.proofs.Common.{◌≡◌, ◌⊎◌, inl, inr, ℕ, zero, suc, ◌<◌, ◌≤◌, Bool, true, false, cond, ◌&&◌, nat_eq, List, [], ◌∷◌, Contains, Option, Some, None, is_some, IfSome, refl, sym, subst, ◌∙◌, arith}
+use Rattle.std.proofs.Common.{◌≡◌, ◌⊎◌, inl, inr, ℕ, zero, suc, ◌<◌, ◌≤◌, Bool, true, false, cond, ◌&&◌, nat_eq, List, [], ◌∷◌, Contains, Option, Some, None, is_some, IfSome, refl, sym, ap, subst, ◌∙◌, arith}
 use Rattle.std.specs.Bool.{Decides}
 use Rattle.std.specs.List.{list_any}
 use Rattle.std.specs.Option.{option_or}
@@ -16,7 +16,7 @@ use Rattle.dependence.specs.JournalTests.{same_attempt}
 use Rattle.dependence.specs.Standing.{present}
 use Rattle.dependence.proofs.Auditing.{contains-decides}
 use Rattle.engine.specs.View.{View, dependence_in, end_in, now, is_known, Stands}
-use Rattle.engine.specs.Gives.{struck_now, NoneToPost}
+use Rattle.engine.specs.Gives.{struck_now, NoneToPost, HasFinished}
 use Rattle.engine.specs.inner.Rounds.{left, left_to_know, Rests, Onward, IsSettled, IsIssued, AreTaken, TakeGives}
 use Rattle.engine.proofs.Events.{stage-stands, now-same, left-same, onward-most}
 
@@ -112,25 +112,37 @@ known-ends view stands known = go view.ended known stands.ended
     go None e h = absurd (false≢true e)
     go (Some ending) e h = h.0
 
--- a settled run whose end is known and of which all has retired is complete
-pub completed : (view : View) → Stands view → struck_now view ≡ None → (is_known view ≡ true) × ((now view).retired ≡ (now view).progress.front)
+-- a run that has ended does so as the plain run
+pub ends-so : (view : View) (ending : End) → Stands view → HasFinished view ending → ending ≡ end_in view.batch
+ends-so view ending stands done =
+    (subst (λ o. IfSome o (λ e. (drains (dependence_in view.batch) (now view).progress.front ≡ true) × (e ≡ end_in view.batch))) done.ended stands.ended).1
+
+-- and is complete where no position is struck
+pub completed : (view : View) (ending : End) → Stands view → struck_now view ≡ None → HasFinished view ending
     → Complete (dependence_in view.batch) view.batch.faults view.events
-completed view stands none done =
+completed view ending stands none done =
     record {
       lawful = stands.lawful;
       final = record {
         passed = passed;
-        none_left = rw (none-due view none, known-ends view stands done.0, none-live view done.0 none) refl;
+        none_left = rw (none-due view none, known-ends view stands known, none-live view known none) refl;
       };
-      retired = done.1 ∙ passed;
+      retired = done.retired ∙ passed;
     }
   where
+    known : is_known view ≡ true
+    known = ap is_some done.ended
+
     passed : (now view).progress.front ≡ (dependence_in view.batch).count
-    passed = eqb-true (now view).progress.front (dependence_in view.batch).count (known-ends view stands done.0)
+    passed = eqb-true (now view).progress.front (dependence_in view.batch).count (known-ends view stands (ap is_some done.ended))
+
+some-end : (o : Option End) → is_some o ≡ true → (ending : End) × (o ≡ Some ending)
+some-end None e = absurd (false≢true e)
+some-end (Some ending) e = (ending, refl)
 
 -- at the end of a round with nothing out, nothing to post and no event, a position would have retired or been issued, or the run ended
 stuck : (settled issued posted : View) → Stands settled → Stands posted → IsSettled settled
-    → ¬ ((is_known settled ≡ true) × ((now settled).retired ≡ (now settled).progress.front)) → now posted ≡ now settled → now posted ≡ now issued → IsIssued issued
+    → ((ending : End) → ¬ HasFinished settled ending) → now posted ≡ now settled → now posted ≡ now issued → IsIssued issued
     → NoneToPost posted 0 → AreTaken posted → (is_known issued ≡ true → is_known posted ≡ true)
     → (is_known settled ≡ true) ⊎ (is_known posted ≡ false) → ⊥
 stuck settled issued posted stood stands quiet unfinished same same' answer none home kept (inr unknown) =
@@ -147,7 +159,9 @@ stuck settled issued posted stood stands quiet unfinished same same' answer none
             none_due = none-due settled quiet.none_struck;
             safe = inr (known, none-live settled known quiet.none_struck);
           })
-      | inr all ↦ unfinished (known, let low = (stage-stands settled stood).retired_low in omega arith)
+      | inr all ↦
+          (let ending = some-end settled.ended known in
+          unfinished ending.0 (record { ended = ending.1; retired = let low = (stage-stands settled stood).retired_low in omega arith }))
     ]
 
 flag-most : (b : Bool) → cond b 0 1 ≤ 1
@@ -159,7 +173,7 @@ less-to-know first last less = let flag = flag-most (is_known last) in omega ari
 
 -- a round in which nothing comes back leaves less to do, or makes the end known
 idle-round : (first settled issued posted : View) → Onward first settled → IsSettled settled
-    → ¬ ((is_known settled ≡ true) × ((now settled).retired ≡ (now settled).progress.front)) → Onward settled issued → IsIssued issued → Onward issued posted
+    → ((ending : End) → ¬ HasFinished settled ending) → Onward settled issued → IsIssued issued → Onward issued posted
     → NoneToPost posted 0 → AreTaken posted → left_to_know posted < left_to_know first
 idle-round first settled issued posted one quiet unfinished two answer three none home =
     elim one.moved [
@@ -187,7 +201,7 @@ idle-round first settled issued posted one quiet unfinished two answer three non
 
 -- each round leaves less to do, or makes the end known
 pub round-falls : (first settled issued posted taken : View) (b : Bool) → Onward first settled → IsSettled settled
-    → ¬ ((is_known settled ≡ true) × ((now settled).retired ≡ (now settled).progress.front)) → Onward settled issued → IsIssued issued → Onward issued posted
+    → ((ending : End) → ¬ HasFinished settled ending) → Onward settled issued → IsIssued issued → Onward issued posted
     → NoneToPost posted 0 → TakeGives posted taken b → left_to_know taken < left_to_know first
 round-falls first settled issued posted taken true one quiet unfinished two answer three none less =
     less-to-know first taken

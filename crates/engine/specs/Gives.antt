@@ -1,21 +1,27 @@
 -- What the calls of an engine answer.
-use Rattle.std.specs.Prelude.{◌≡◌, ◌⊎◌, ℕ, ◌+◌, ◌≤◌, ◌<◌, Bool, true, false, cond, List, length, Option, Some, None, Result, Ok, Err, IsErrOf}
+use Rattle.std.specs.Prelude.{◌≡◌, ◌⊎◌, ℕ, map, ◌-◌, ◌+◌, ◌≤◌, ◌<◌, Bool, true, false, cond, List, length, Option, Some, None, Result, Ok, Err, IsErrOf}
 use Rattle.std.specs.Option.{option_or}
 use Rattle.std.specs.Io.KnownBytes.{Appends}
 use Rattle.gp_base.specs.declared.limits.TheConstants.{LONGEST_DELAY}
+use Rattle.gp_base.specs.declared.ending.End.{End}
 use Rattle.gp_base.specs.declared.journal.Event.{Event}
+use Rattle.gp_base.specs.declared.journal.Journal.{Journal}
 use Rattle.gp_base.specs.declared.journal.Event.TheVariants as event
 use Rattle.gp_base.specs.Sinks.{Rose, AppendsPrefix}
+use Rattle.task_ast.specs.Names.{records_of, cells_in}
+use Rattle.task_ast.specs.State.{cell_value}
+use Rattle.task_ast.specs.Table.{numbers}
 use Rattle.task_ast.specs.Position.{last_below}
 use Rattle.dependence.specs.Restarts.{drains, begun_of, is_live, is_due, least_struck, NoneDue, NoneLive}
 use Rattle.dependence.specs.Journal.{Allowed, WasTaken, MayPost}
 use Rattle.dependence.specs.Standing.{present}
+use Rattle.reorder_list.specs.declared.report.Report.{Report}
 use Rattle.reorder_list.specs.declared.report.StopWhy.{StopWhy}
 use Rattle.reorder_list.specs.declared.report.StopWhy.TheVariants.{WriteFault}
 use Rattle.restart_log.specs.Lines.{printed}
 use Rattle.engine.specs.declared.calls.Issued.{Issued}
 use Rattle.engine.specs.declared.calls.Issued.TheVariants.{One, Needs, Ended}
-use Rattle.engine.specs.View.{View, run_in, dependence_in, end_in, lines_at, now, is_known, grown, learnt}
+use Rattle.engine.specs.View.{View, program_in, run_in, dependence_in, end_in, lines_at, now, state_in, is_known, grown, learnt}
 
 -- the event was allowed, and was made
 pub record Did (before : View) (event : Event) (after : View) : Type 0 where
@@ -81,3 +87,21 @@ pub record IsNextToPost (view : View) (from position : ℕ) : Type 0 where
 -- none from this one on may be posted
 abbrev pub NoneToPost : View → (from : ℕ) → Type 0
 NoneToPost view from = (p : ℕ) → from ≤ p → ¬ MayPostNow view p
+
+-- the run has ended so, which is known, and all positions have retired
+pub record HasFinished (view : View) (ending : End) : Type 0 where
+  pub ended : view.ended ≡ Some ending
+  pub retired : (now view).retired ≡ (now view).progress.front
+
+-- the events of the run, and the restarts that they made
+pub record IsJournalOf (view : View) (journal : Journal) : Type 0 where
+  pub events : journal.events ≡ view.events
+  pub restarts : journal.restarts ≡ (now view).progress.made
+
+-- the run as it stands: its end, the cells of all records, how many subthreads were issued, and how many faults made no restart
+pub record IsReportOf (view : View) (ending : End) (report : Report) : Type 0 where
+  pub end : report.end ≡ ending
+  pub records : report.records ≡ map (cell_value (state_in view)) (numbers 0 (cells_in (records_of (program_in view.batch).heads)))
+  pub subthreads : report.subthreads ≡ (now view).progress.front
+  pub unused : report.unused ≡ length view.batch.faults - length (now view).progress.made
+  pub journal : IsJournalOf view report.journal

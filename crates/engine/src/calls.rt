@@ -1,18 +1,19 @@
 // The calls of an engine that its loop makes.
-ghost use Rattle.std.specs.Prelude.{◌≡◌, ◌↔◌, ◌<◌, ℕ, List, [], ◌∷◌, ◌++◌, true, IsTrue, OnOk, OnErr, IfOk, IfSome, IfNone};
+ghost use Rattle.std.specs.Prelude.{◌≡◌, ◌↔◌, ◌<◌, ℕ, List, [], ◌∷◌, ◌++◌, OnOk, OnErr, IfOk, IfSome, IfNone};
+ghost use Rattle.gp_base.specs.declared.ending.End.{End as EndThere};
 ghost use Rattle.gp_base.specs.declared.journal.Event.TheVariants as event;
 ghost use Rattle.dependence.specs.Restarts.{NoneDue};
 ghost use Rattle.dependence.specs.Standing.{present};
 ghost use Rattle.subthread.specs.declared.task.Task.{Task};
 ghost use Rattle.subthread.specs.Tasks.{task_of, IsRun};
 ghost use Rattle.crew.specs.Out.{pair_of};
-ghost use Rattle.engine.specs.View.{View, now, is_known};
-ghost use Rattle.engine.specs.Gives.{Did, IssueGives, DetectGives, RetireGives, RetireWrites, HasStopCause, MayPostNow, IsNextToPost, NoneToPost};
+ghost use Rattle.engine.specs.View.{View, now};
+ghost use Rattle.engine.specs.Gives.{Did, IssueGives, DetectGives, RetireGives, RetireWrites, HasStopCause, MayPostNow, IsNextToPost, NoneToPost, HasFinished, IsJournalOf, IsReportOf};
 ghost use Rattle.engine.specs.Takes.{TaskStands};
 
 use crew::Crew;
-use gp_base::{End, Pos, Sink, ThreadNo};
-use reorder_list::StopWhy;
+use gp_base::{End, Journal, Pos, Sink, ThreadNo};
+use reorder_list::{Report, StopWhy};
 use std::alloc::AllocError;
 use std::thread::Threads;
 use subthread::Done;
@@ -54,9 +55,10 @@ pub trait Calls {
         ensures lines { RetireWrites (view self.old) (O.written out.old) (O.written out.new) result }
         ensures cause { HasStopCause (O.faults out.old) (O.faults out.new) result };
 
-    /// Whether the end is known and all positions have retired.
-    fn is_done(&self) -> bool
-        ensures { IsTrue result ↔ ((is_known (view self.now) ≡ true) × ((now (view self.now)).retired ≡ (now (view self.now)).progress.front)) };
+    /// How the run ends, where that is known and all positions have retired.
+    fn finished(&self) -> Option<End>
+        ensures found { IfSome result (HasFinished (view self.now)) }
+        ensures none { IfNone result ((ending : EndThere) → ¬ HasFinished (view self.now) ending) };
 
     /// The first position from this one on whose present attempt may be posted.
     fn runnable(&mut self, from: Pos) -> Option<Pos>
@@ -97,4 +99,12 @@ pub trait Calls {
         requires run { IsRun (view self.old).batch.work done }
         requires room { 0 < room self.old }
         ensures { Did (view self.old) (event.Take (task_of done).pos (task_of done).attempt result) (view self.new) };
+
+    /// What the run did. Takes no memory.
+    fn into_journal(self) -> Journal
+        ensures { IsJournalOf (view self) result };
+
+    /// The report of the run, which has ended so. Takes no memory.
+    fn into_report(self, end: End) -> Report
+        ensures { IsReportOf (view self) end result };
 }

@@ -1,15 +1,15 @@
 // The rounds of a run.
-ghost use Rattle.std.specs.Prelude.{◌≡◌, true, None, OnOk, OnErr, IfOk, IsErrOf};
+ghost use Rattle.std.specs.Prelude.{◌≡◌, None, OnOk, OnErr, IfOk, IsErrOf};
 ghost use Rattle.dependence.specs.Journal.{Complete};
 ghost use Rattle.reorder_list.specs.declared.report.StopWhy.TheVariants as stop;
-ghost use Rattle.engine.specs.View.{dependence_in, now, is_known, Stands};
+ghost use Rattle.engine.specs.View.{dependence_in, end_in, now, Stands};
 ghost use Rattle.engine.specs.Gives.{struck_now, HasStopCause, NoneToPost};
 ghost use Rattle.engine.specs.Takes.{CrewStands};
 ghost use Rattle.engine.specs.inner.Rounds.{Onward, GoesOn, IsSettled, IsIssued, KeepsWritten, KeepsPart, TakeGives};
 
 use crate::calls::{Calls, Issued};
 use crew::Crew;
-use gp_base::{Pos, Sink};
+use gp_base::{End, Pos, Sink};
 use reorder_list::StopWhy;
 use std::alloc::AllocError;
 use std::thread::Threads;
@@ -115,20 +115,20 @@ fn take_one<R: Threads + Sync, E: Calls, C: Crew>(
     }
 }
 
-/// Goes on with a run to its end.
+/// Goes on with a run to its end, and answers how it ends.
 pub fn run_rounds<R: Threads + Sync, E: Calls, C: Crew, O: Sink>(
     rt: &R,
     engine: &mut E,
     crew: &mut C,
     out: &mut O,
-) -> Result<(), StopWhy>
+) -> Result<End, StopWhy>
     requires stands { Stands (E.view engine.old) }
     requires ready { C.ready crew.old }
     requires work { C.work crew.old ≡ (E.view engine.old).batch.work }
     requires crew { CrewStands (E.view engine.old) (C.posted crew.old) (C.out crew.old) }
     ensures onward { Onward (E.view engine.old) (E.view engine.new) }
     ensures complete { OnOk result (Complete (dependence_in (E.view engine.new).batch) (E.view engine.new).batch.faults (E.view engine.new).events) }
-    ensures known { OnOk result (is_known (E.view engine.new) ≡ true) }
+    ensures end { IfOk result (λ end. end ≡ end_in (E.view engine.new).batch) }
     ensures ready { C.ready crew.new }
     ensures work { C.work crew.new ≡ C.work crew.old }
     ensures posted { C.posted crew.new ≡ (now (E.view engine.new)).posted }
@@ -139,8 +139,8 @@ pub fn run_rounds<R: Threads + Sync, E: Calls, C: Crew, O: Sink>(
 {
     'rounds: loop {
         retire_all(engine, out)?;
-        if engine.is_done() {
-            return Ok(());
+        if let Some(end) = engine.finished() {
+            return Ok(end);
         }
         issue_all(engine)?;
         post_all(rt, engine, crew)?;

@@ -1,13 +1,13 @@
 use Rattle.std.proofs.Common.{◌∙◌, refl, sym, ap, arith}
-use Rattle.std.proofs.lemmas.Bool.{both_ways}
+use Rattle.engine.specs.Gives.{HasFinished}
 use Rattle.engine.specs.Takes.{CrewStands}
 use Rattle.engine.specs.inner.Rounds.{Onward, KeepsPart, KeepsWritten}
 use Rattle.engine.proofs.Events.{onward-then, still-onward}
-use Rattle.engine.proofs.Progress.{completed, round-falls}
+use Rattle.engine.proofs.Progress.{completed, ends-so, round-falls}
 use Rattle.engine.proofs.Turns.{on-err}
 use Rattle.engine.proofs.Written.{wrote-same, written-whole}
 use Rattle.engine.proofs.rounds.run_rounds.Goals as goal
-use Rattle.engine.proofs.rounds.run_rounds.Goals.{After-retire_all, In_ok-retire_all, After-issue_all, After-post_all, After-take_one}
+use Rattle.engine.proofs.rounds.run_rounds.Goals.{After-retire_all, In_ok-retire_all, In-Some, After-issue_all, After-post_all, After-take_one}
 
 -- after the retirements of a round
 onward₁ : (g : _) (c : After-retire_all g) → Onward (g.E.Calls.view c.args.engine.now) (g.E.Calls.view c.retire_all.new.engine)
@@ -97,24 +97,30 @@ returns-in_err-retire_all-clause-partly g c =
     (KeepsPart (g.E.Calls.view c.args.engine.now) (g.E.Calls.view c.retire_all.new.engine) (g.O.Sink.written c.args.out.now) (g.O.Sink.written c.retire_all.new.out))
     (λ start wrote. c.in_err-retire_all.ensures.partly start (c.rounds.invariant.written start wrote))
 
-pub returns-then-is_done-clause-onward : goal.returns-then-is_done-clause-onward
-returns-then-is_done-clause-onward g c = onward₁ g (goal.at.returns-then-is_done-clause-onward g c).After-retire_all
+-- where the run has finished
+finished : (g : _) (c : In-Some g) → HasFinished (g.E.Calls.view c.retire_all.new.engine) c.in-Some.end
+finished g c = rw c.in-Some.is at c.finished.ensures.found
 
-pub returns-then-is_done-clause-complete : goal.returns-then-is_done-clause-complete
-returns-then-is_done-clause-complete g c =
-    completed (g.E.Calls.view c.retire_all.new.engine) c.retire_all.ensures.goes_on.onward.stands c.in_ok-retire_all.ensures.settled.none_struck (c.is_done.ensures.0 c.if-is_done.true)
+pub returns-in-Some-clause-onward : goal.returns-in-Some-clause-onward
+returns-in-Some-clause-onward g c = onward₁ g (goal.at.returns-in-Some-clause-onward g c).After-retire_all
 
-pub returns-then-is_done-clause-known : goal.returns-then-is_done-clause-known
-returns-then-is_done-clause-known g c = (c.is_done.ensures.0 c.if-is_done.true).0
+pub returns-in-Some-clause-complete : goal.returns-in-Some-clause-complete
+returns-in-Some-clause-complete g c =
+    completed (g.E.Calls.view c.retire_all.new.engine) c.in-Some.end c.retire_all.ensures.goes_on.onward.stands c.in_ok-retire_all.ensures.settled.none_struck
+    (finished g (goal.at.returns-in-Some-clause-complete g c).In-Some)
 
-pub returns-then-is_done-clause-posted : goal.returns-then-is_done-clause-posted
-returns-then-is_done-clause-posted g c = (crew₁ g (goal.at.returns-then-is_done-clause-posted g c).After-retire_all).posted_are
+pub returns-in-Some-clause-end : goal.returns-in-Some-clause-end
+returns-in-Some-clause-end g c =
+    ends-so (g.E.Calls.view c.retire_all.new.engine) c.in-Some.end c.retire_all.ensures.goes_on.onward.stands (finished g (goal.at.returns-in-Some-clause-end g c).In-Some)
 
-pub returns-then-is_done-clause-crew : goal.returns-then-is_done-clause-crew
-returns-then-is_done-clause-crew g c other = crew₁ g (goal.at.returns-then-is_done-clause-crew g c).After-retire_all
+pub returns-in-Some-clause-posted : goal.returns-in-Some-clause-posted
+returns-in-Some-clause-posted g c = (crew₁ g (goal.at.returns-in-Some-clause-posted g c).After-retire_all).posted_are
 
-pub returns-then-is_done-clause-written : goal.returns-then-is_done-clause-written
-returns-then-is_done-clause-written g c = written₁ g (goal.at.returns-then-is_done-clause-written g c).In_ok-retire_all
+pub returns-in-Some-clause-crew : goal.returns-in-Some-clause-crew
+returns-in-Some-clause-crew g c other = crew₁ g (goal.at.returns-in-Some-clause-crew g c).After-retire_all
+
+pub returns-in-Some-clause-written : goal.returns-in-Some-clause-written
+returns-in-Some-clause-written g c = written₁ g (goal.at.returns-in-Some-clause-written g c).In_ok-retire_all
 
 pub returns-in_err-issue_all-clause-onward : goal.returns-in_err-issue_all-clause-onward
 returns-in_err-issue_all-clause-onward g c = onward₂ g (goal.at.returns-in_err-issue_all-clause-onward g c).After-issue_all
@@ -174,7 +180,7 @@ pub rounds-smaller : goal.rounds-smaller
 rounds-smaller g c =
     let view = g.E.Calls.view in
     round-falls (view c.rounds.engine) (view c.retire_all.new.engine) (view c.issue_all.new.engine) (view c.post_all.new.engine) (view c.take_one.new.engine) c.in_ok-take_one.field-0
-    c.retire_all.ensures.goes_on.onward c.in_ok-retire_all.ensures.settled (λ done. both_ways c.is_done.result c.if-is_done.false (c.is_done.ensures.1 done))
+    c.retire_all.ensures.goes_on.onward c.in_ok-retire_all.ensures.settled c.in_default.ensures.none
     c.issue_all.ensures.goes_on.onward c.in_ok-issue_all.ensures.issued c.post_all.ensures.onward c.in_ok-post_all.ensures.none c.in_ok-take_one.ensures.took
 
 pub rounds-preserved : goal.rounds-preserved
