@@ -6,4 +6,5 @@ pub mod Machines
 pub mod Standing
 pub mod Stopping
 pub mod Values
+pub mod VariableLines
 pub mod Views

@@ -6,3 +6,4 @@ pub mod Parts
 pub mod Reading
 pub mod Relation
 pub mod View
+pub mod inner

@@ -6,6 +6,8 @@ mod instrs;
 pub mod laws;
 mod lowering;
 mod parts;
+mod tables;
+mod variables;
 
 pub use code::Code;
 pub use instrs::{Calc, Cells, Deed, Does, Forking, Index, Instr, Shape};

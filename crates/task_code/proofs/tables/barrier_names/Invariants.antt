@@ -1,0 +1,7 @@
+use Rattle.std.proofs.Common.{◌≡◌, ◌++◌, drop}
+use Rattle.task_ast.specs.Names.{barriers_of, firsts}
+use Rattle.task_code.specs.inner.Tables.{targets}
+use Rattle.task_code.proofs.tables.barrier_names.Given as goal
+
+abbrev pub invariant-loop-head : goal.invariant-loop-head
+invariant-loop-head l = targets l.names.items ++ firsts (barriers_of (drop l.head-index l.heads)) ≡ firsts (barriers_of l.heads)

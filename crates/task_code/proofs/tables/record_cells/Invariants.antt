@@ -1,0 +1,12 @@
+use Rattle.std.proofs.Common.{◌≡◌, ◌+◌, drop}
+use Rattle.task_ast.specs.Tree as plain
+use Rattle.task_ast.specs.Names.{records_of, cells_in}
+use Rattle.lock_checker.specs.inner.Tables.{found, or_else}
+use Rattle.task_code.specs.inner.Tables.{cells_from}
+use Rattle.task_code.proofs.tables.record_cells.Given as goal
+
+abbrev pub invariant-loop-head : goal.invariant-loop-head
+invariant-loop-head l = record {
+  same : (x : plain.Name) → or_else (found l.table x) (cells_from l.base (records_of (drop l.head-index l.heads)) x) ≡ cells_from 0 (records_of l.heads) x;
+  within : l.base + cells_in (records_of (drop l.head-index l.heads)) ≡ cells_in (records_of l.heads);
+}

@@ -1,0 +1,6 @@
+use Rattle.std.proofs.Common.{◌≡◌, ◌++◌, drop}
+use Rattle.task_ast.specs.Names.{datas}
+use Rattle.task_code.proofs.variables.add_datas.Given as goal
+
+abbrev pub invariant-loop-param : goal.invariant-loop-param
+invariant-loop-param l = l.names ++ datas (drop l.param-index l.params) ≡ l.fn.names ++ datas l.params

@@ -1,0 +1,76 @@
+// The names of the variables of tasks.
+
+ghost use Rattle.std.specs.Prelude.{◌≡◌, ◌++◌, map, position, IfOk, OnOk};
+ghost use Rattle.task_ast.specs.Names.{is_name, slot, controls, datas, controls_of, registers_of};
+ghost use Rattle.task_ast.specs.View.{plain_task};
+
+use gp_base::{Name, Seq};
+use std::alloc::{AllocError, Global};
+use task_ast::{Param, TaskText};
+
+// Adds the names of the control variables among these.
+fn add_controls(
+    alloc: Global,
+    names: &mut Seq<Name>,
+    params: &[Param],
+) -> Result<(), AllocError>
+    ensures { OnOk result (names.new ≡ names.old ++ controls params.now) }
+{
+    for param in params {
+        if let Param::Ctl(name) = param {
+            names.push(name.copied(alloc)?)?;
+        }
+    }
+    Ok(())
+}
+
+// Adds the names of the data variables among these.
+fn add_datas(alloc: Global, names: &mut Seq<Name>, params: &[Param]) -> Result<(), AllocError>
+    ensures { OnOk result (names.new ≡ names.old ++ datas params.now) }
+{
+    for param in params {
+        if let Param::Reg(name) = param {
+            names.push(name.copied(alloc)?)?;
+        }
+    }
+    Ok(())
+}
+
+/// The names of a task's control variables, in declared order.
+pub fn control_names(alloc: Global, task: &TaskText) -> Result<Seq<Name>, AllocError>
+    ensures { IfOk result (λ names. names ≡ controls_of (plain_task task.now)) }
+{
+    let mut names = Seq::new(alloc);
+    add_controls(alloc, &mut names, task.params.as_slice())?;
+    for line in task.vars.as_slice() {
+        add_controls(alloc, &mut names, line.names.as_slice())?;
+    }
+    Ok(names)
+}
+
+/// The names of a task's registers: `$ret`, then its data variables in declared order.
+pub fn register_names(alloc: Global, task: &TaskText) -> Result<Seq<Name>, AllocError>
+    ensures { IfOk result (λ names. names ≡ registers_of (plain_task task.now)) }
+{
+    let mut names = Seq::new(alloc);
+    names.push(Name::from_slice(alloc, b"ret")?)?;
+    add_datas(alloc, &mut names, task.params.as_slice())?;
+    for line in task.vars.as_slice() {
+        add_datas(alloc, &mut names, line.names.as_slice())?;
+    }
+    Ok(names)
+}
+
+/// The place of the first of these names that is this one, or `None` where there is none.
+pub fn place(names: &[Name], x: &Name) -> Option<usize>
+    ensures { result ≡ position (is_name x.now) names.now }
+{
+    names.iter().position(|name| x.as_slice() == name.as_slice())
+}
+
+/// The same, or how many names there are where there is none.
+pub fn slot(names: &[Name], x: &Name) -> usize
+    ensures { result ≡ slot names.now x.now }
+{
+    place(names, x).unwrap_or(names.len())
+}
