@@ -5,6 +5,7 @@ pub mod Inside
 pub mod Machines
 pub mod Standing
 pub mod Stopping
+pub mod TableLemmas
 pub mod Values
 pub mod VariableLines
 pub mod Views

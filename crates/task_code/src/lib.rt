@@ -6,6 +6,7 @@ mod instrs;
 pub mod laws;
 mod lowering;
 mod parts;
+mod scope;
 mod tables;
 mod variables;
 

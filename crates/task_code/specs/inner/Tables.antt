@@ -16,3 +16,8 @@ targets names = map target names
 abbrev pub cells_from : (base : ℕ) → List (Name × ℕ) → Name → Option Cells
 cells_from base [] x = None
 cells_from base (array ∷ arrays) x = cond (is_name x array.0) (Some (record { first = base; size = array.1 })) (cells_from (base + array.1) arrays x)
+
+-- the cells that were found, or none
+abbrev pub cells_or_none : Option Cells → Cells
+cells_or_none (Some cells) = cells
+cells_or_none None = record { first = 0; size = 0 }
