@@ -3,6 +3,7 @@ pub mod CodeSizes
 pub mod Following
 pub mod Inside
 pub mod Machines
+pub mod Rows
 pub mod Standing
 pub mod Stopping
 pub mod TableLemmas

@@ -73,6 +73,9 @@ module _ (s : Scope) where
     operands_of tree.NoLinks = NoOperands
     operands_of (tree.Link op e links) = Operand op (calc e) (operands_of links)
 
+  abbrev pub calcs : List Expr → List Calc
+  calcs es = map calc es
+
   abbrev pub index : Atom → Index
   index (atom.Num v) = Number v
   index (atom.Var x) = Variable (slot s.controls x)
@@ -83,7 +86,7 @@ module _ (s : Scope) where
     deed (tree.SetReg x e) = SetReg (slot s.registers x) (calc e)
     deed (tree.Read r i x) = Read (cells_of (records_of s.program.heads) r) (index i) (slot s.registers x)
     deed (tree.Write r i e) = Write (cells_of (records_of s.program.heads) r) (index i) (calc e)
-    deed (tree.Print es) = Print (map calc es)
+    deed (tree.Print es) = Print (calcs es)
     deed (tree.When e a b) = When (calc e) (arm a) (arm b)
     deed _ = no_deed
 

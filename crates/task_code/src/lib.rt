@@ -2,11 +2,14 @@
 #![tactic(auto)]
 
 mod code;
+mod control;
+mod expressions;
 mod instrs;
 pub mod laws;
 mod lowering;
 mod parts;
 mod scope;
+mod statements;
 mod tables;
 mod variables;
 
