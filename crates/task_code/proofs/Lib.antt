@@ -1,8 +1,10 @@
 pub mod Beginning
 pub mod CodeSizes
 pub mod Following
+pub mod Forks
 pub mod Inside
 pub mod Machines
+pub mod Patches
 pub mod Rows
 pub mod Standing
 pub mod Stopping

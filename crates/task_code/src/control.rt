@@ -7,6 +7,7 @@ ghost use Rattle.task_code.specs.Instructions.{At, Do, NoValue as no_value};
 ghost use Rattle.task_code.specs.Lowering as lowering;
 ghost use Rattle.task_code.specs.Lowering.{deed, control_calcs, gifts, forking, calc, if_code, while_code, what_code, block_code, stmt_code};
 ghost use Rattle.task_code.specs.View.{plain_calc, plain_calcs, plain_gifts, plain_forking, plain_does, plain_instrs};
+ghost use Rattle.task_code.specs.inner.Patched.{ended_while, ended_if};
 ghost use Rattle.task_code.specs.inner.Scopes.{scope_here, IsScope};
 
 use crate::expressions::lower_expr;
@@ -29,22 +30,22 @@ pub fn small(number: usize) -> Result<u32, AllocError>
 }
 
 // One more instruction.
-fn put(code: &mut Vec<Instr>, line: u32, does: Does) -> Result<(), AllocError>
-    ensures { OnOk result (plain_instrs code.new.items ≡ plain_instrs code.old.items ++ At line (plain_does does) ∷ []) }
+fn put(code: &mut Seq<Instr>, line: u32, does: Does) -> Result<(), AllocError>
+    ensures { OnOk result (plain_instrs code.new ≡ plain_instrs code.old ++ At line (plain_does does) ∷ []) }
 {
     code.push(Instr { does, line })?;
     Ok(())
 }
 
 // Writes an instruction whose jump is now known.
-fn patch(code: &mut Vec<Instr>, at: usize, line: u32, does: Does)
-    requires { at < length code.old.items }
-    ensures { plain_instrs code.new.items ≡ slice_set (plain_instrs code.old.items) at (At line (plain_does does)) }
+fn patch(code: &mut Seq<Instr>, at: usize, line: u32, does: Does)
+    requires { at < length code.old }
+    ensures { plain_instrs code.new ≡ slice_set (plain_instrs code.old) at (At line (plain_does does)) }
 {
-    code[at] = Instr { does, line };
+    code.set(at, Instr { does, line });
 }
 
-// The variable of this number, or an index fault where there is none.
+// A barrier of this number, or an index fault where there is none.
 fn barrier_code(place: Option<usize>) -> Result<Does, AllocError>
     ensures { IfOk result (λ d. plain_does d ≡ lowering.barrier_code place) }
 {
@@ -158,5 +159,128 @@ fn lower_fork(
     match task_place(scope, t) {
         Some(task) => known_forking(alloc, scope, task, es, into),
         None => no_forking(alloc, into),
+    }
+}
+
+// Ends a loop whose body stands behind the instruction at `start`: that one jumps to the test, which leads back to the
+// body.
+fn end_while(
+    alloc: Global,
+    scope: &Scope,
+    code: &mut Seq<Instr>,
+    line: u32,
+    start: usize,
+    e: &Expr,
+) -> Result<(), AllocError>
+    requires scope { IsScope scope.now }
+    requires within { start < length code.old }
+    ensures { OnOk result (plain_instrs code.new ≡ ended_while line (calc (scope_here scope.now) (plain_expr e.now)) start (plain_instrs code.old)) }
+{
+    let size = code.len() - start - 1;
+    let test = lower_expr(alloc, scope, e)?;
+    patch(code, start, line, Does::GoOn(size));
+    put(code, line, Does::Again(test, size))
+}
+
+// Ends a choice whose first side stands behind the instruction at `start`, and its second side behind that at `middle`:
+// the one jumps to the second side where the test is 0, the other over the second side.
+fn end_if(
+    alloc: Global,
+    scope: &Scope,
+    code: &mut Seq<Instr>,
+    line: u32,
+    start: usize,
+    middle: usize,
+    e: &Expr,
+) -> Result<(), AllocError>
+    requires scope { IsScope scope.now }
+    requires sides { start < middle }
+    requires within { middle < length code.old }
+    ensures { OnOk result (plain_instrs code.new ≡ ended_if line (calc (scope_here scope.now) (plain_expr e.now)) start middle (plain_instrs code.old)) }
+{
+    let size = code.len() - middle - 1;
+    let test = lower_expr(alloc, scope, e)?;
+    patch(code, start, line, Does::Unless(test, middle - start));
+    patch(code, middle, line, Does::GoOn(size));
+    Ok(())
+}
+
+/// Adds the instructions of a block.
+#[cycle(control)]
+#[tactic(auto, using(task_ast::proofs::Views::view))]
+pub fn lower_block(
+    alloc: Global,
+    scope: &Scope,
+    code: &mut Seq<Instr>,
+    block: &[Stmt],
+) -> Result<(), AllocError>
+    requires { IsScope scope.now }
+    ensures { OnOk result (plain_instrs code.new ≡ plain_instrs code.old ++ block_code (scope_here scope.now) (plain_block block.now)) }
+{
+    for s in block {
+        lower_statement(alloc, scope, code, s)?;
+    }
+    Ok(())
+}
+
+// Adds the instructions of a statement.
+#[cycle(control)]
+#[tactic(auto, using(task_ast::proofs::Views::view))]
+fn lower_statement(
+    alloc: Global,
+    scope: &Scope,
+    code: &mut Seq<Instr>,
+    s: &Stmt,
+) -> Result<(), AllocError>
+    requires { IsScope scope.now }
+    ensures { OnOk result (plain_instrs code.new ≡ plain_instrs code.old ++ stmt_code (scope_here scope.now) (plain_stmt s.now)) }
+{
+    let line = s.line;
+    match &s.what {
+        What::While(e, body) => {
+            let start = code.len();
+            put(code, line, Does::GoOn(0))?;
+            lower_block(alloc, scope, code, body.as_slice())?;
+            end_while(alloc, scope, code, line, start, e)
+        }
+        What::If(e, first, second) => {
+            let start = code.len();
+            put(code, line, Does::GoOn(0))?;
+            lower_block(alloc, scope, code, first.as_slice())?;
+            let middle = code.len();
+            put(code, line, Does::GoOn(0))?;
+            lower_block(alloc, scope, code, second.as_slice())?;
+            end_if(alloc, scope, code, line, start, middle, e)
+        }
+        What::SetCtl(x, e) => {
+            let does = Does::Assign(control(scope, x), lower_expr(alloc, scope, e)?);
+            put(code, line, does)
+        }
+        What::Lock(a, i) => {
+            let does = Does::Lock(lock_array(scope, a), cell_index(scope, i));
+            put(code, line, does)
+        }
+        What::Unlock(a, i) => {
+            let does = Does::Unlock(lock_array(scope, a), cell_index(scope, i));
+            put(code, line, does)
+        }
+        What::Fork(t, es, x) => {
+            let into = into_slot(scope.controls, x);
+            let forking = lower_fork(alloc, scope, t, es.as_slice(), into)?;
+            put(code, line, Does::Fork(forking))
+        }
+        What::Join(e, x) => {
+            let into = into_slot(scope.registers, x);
+            let does = Does::Join(lower_expr(alloc, scope, e)?, into);
+            put(code, line, does)
+        }
+        What::Barrier(b) => {
+            let does = barrier_code(barrier_place(scope, b))?;
+            put(code, line, does)
+        }
+        What::SetReg(..) | What::Read(..) | What::Write(..) | What::Print(..) | What::When(..) => {
+            let does = Does::Do(lower_deed(alloc, scope, &s.what)?);
+            put(code, line, does)
+        }
     }
 }
