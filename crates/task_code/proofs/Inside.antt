@@ -42,9 +42,10 @@ joined : (b a : ℕ) (xs ys : List Instr) → AllFit b (length ys + a) xs → Al
 joined b a [] ys first second = wider (b + 0) b a a ys (omega arith) (omega arith) second
 joined b a (At line d ∷ xs) ys first second =
     let len : length xs + (length ys + a) ≤ length (xs ++ ys) + a = omega (arith, length-append xs ys) in
-    let on : b + length (At line d ∷ xs) ≤ b + 1 + length xs = omega arith in
-    (fits_wider b b (length xs + (length ys + a)) (length (xs ++ ys) + a) d (omega arith) len first.0,
-    joined (b + 1) a xs ys first.1 (wider (b + length (At line d ∷ xs)) (b + 1 + length xs) a a ys on (omega arith) second))
+    let on : b + length (At line d ∷ xs) ≤ b + 1 + length xs = omega arith in (
+      fits_wider b b (length xs + (length ys + a)) (length (xs ++ ys) + a) d (omega arith) len first.0,
+      joined (b + 1) a xs ys first.1 (wider (b + length (At line d ∷ xs)) (b + 1 + length xs) a a ys on (omega arith) second),
+    )
 
 barrier_fits : (before after : ℕ) (o : Option ℕ) → Fits before after (barrier_code o)
 barrier_fits before after None = tt
@@ -61,10 +62,11 @@ module _ (s : Scope) where
     what_fits line (tree.If e a b) =
         let c = block_code s a in
         let d = block_code s b in
-        let over = At line (GoOn (length d)) in
-        (omega (arith, length-append c (over ∷ d)),
-        joined 1 0 c (over ∷ d) (wider 0 1 0 (length (over ∷ d) + 0) c (omega arith) (omega arith) (block_fits a))
-        (omega arith, wider 0 (1 + length c + 1) 0 0 d (omega arith) (omega arith) (block_fits b)))
+        let over = At line (GoOn (length d)) in (
+          omega (arith, length-append c (over ∷ d)),
+          joined 1 0 c (over ∷ d) (wider 0 1 0 (length (over ∷ d) + 0) c (omega arith) (omega arith) (block_fits a))
+              (omega arith, wider 0 (1 + length c + 1) 0 0 d (omega arith) (omega arith) (block_fits b)),
+        )
     what_fits line (tree.Lock a i) = (tt, tt)
     what_fits line (tree.Unlock a i) = (tt, tt)
     what_fits line (tree.Fork t es x) = (tt, tt)

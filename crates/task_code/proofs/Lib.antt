@@ -9,6 +9,7 @@ pub mod Rows
 pub mod Standing
 pub mod Stopping
 pub mod TableLemmas
+pub mod TaskLists
 pub mod Values
 pub mod VariableLines
 pub mod Views

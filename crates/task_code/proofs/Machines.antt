@@ -39,7 +39,7 @@ no_jump feeds q (Some (At line (Do d))) h = tt
 pub bodies : BodiesLaw
 bodies program inputs turns p q r =
     let b = bodies_agree (Corresponds program) (step (setting_of program inputs)) (code_step (lowered program).tasks inputs.feeds) size (code_size (lowered program).tasks)
-        (tree_sized (setting_of program inputs)) (code_sized (lowered program).tasks inputs.feeds) (following program inputs) turns p q r in
+    (tree_sized (setting_of program inputs)) (code_sized (lowered program).tasks inputs.feeds) (following program inputs) turns p q r in
     let at = (code_body (lowered program).tasks inputs.feeds turns q).at in
     record {
       actions = b.actions;

@@ -1,3 +1,4 @@
 pub mod Tables
 pub mod Scopes
 pub mod Patched
+pub mod Tasks

@@ -40,6 +40,15 @@ impl Model for Code {
 }
 
 impl Code {
+    ghost use Rattle.task_code.specs.Parts.{flat_of, AreParts};
+
+    pub(crate) fn of(parts: Parts) -> Code
+        requires { AreParts parts }
+        ensures { result ≡ flat_of parts }
+    {
+        Code { parts }
+    }
+
     /// The instructions of a task, tasks being numbered from 0 in text order; none where there is no such task.
     pub fn instrs(&self, task: u32) -> &[Instr]
         ensures { plain_instrs result.now ≡ instrs_of (code_of self.now).tasks task }

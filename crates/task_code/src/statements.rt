@@ -30,10 +30,7 @@ pub fn lower_deed(alloc: Global, scope: &Scope, what: &What) -> Result<Deed, All
     ensures { IfOk result (λ d. plain_deed d ≡ deed (scope_here scope.now) (plain_what what.now)) }
 {
     match what {
-        What::SetReg(x, e) => Ok(Deed::SetReg(
-            register(scope, x),
-            lower_expr(alloc, scope, e)?,
-        )),
+        What::SetReg(x, e) => Ok(Deed::SetReg(register(scope, x), lower_expr(alloc, scope, e)?)),
         What::Read(r, i, x) => Ok(Deed::Read(
             record_array(scope, r),
             cell_index(scope, i),

@@ -14,8 +14,8 @@ use lock_checker::SymbolTable;
 use std::alloc::{AllocError, Global};
 use task_ast::{Head, TaskText};
 
-// A size as a number; a negative one counts as 0.
-fn natural(size: i64) -> u64
+/// A size as a number; a negative one counts as 0.
+pub fn natural(size: i64) -> u64
     ensures value { result ≡ natural size }
     ensures small { result < 2 ^ 63 }
 {

@@ -9,11 +9,7 @@ use std::alloc::{AllocError, Global};
 use task_ast::{Param, TaskText};
 
 // Adds the names of the control variables among these.
-fn add_controls(
-    alloc: Global,
-    names: &mut Seq<Name>,
-    params: &[Param],
-) -> Result<(), AllocError>
+fn add_controls(alloc: Global, names: &mut Seq<Name>, params: &[Param]) -> Result<(), AllocError>
     ensures { OnOk result (names.new ≡ names.old ++ controls params.now) }
 {
     for param in params {
@@ -65,7 +61,9 @@ pub fn register_names(alloc: Global, task: &TaskText) -> Result<Seq<Name>, Alloc
 pub fn place(names: &[Name], x: &Name) -> Option<usize>
     ensures { result ≡ position (is_name x.now) names.now }
 {
-    names.iter().position(|name| x.as_slice() == name.as_slice())
+    names
+        .iter()
+        .position(|name| x.as_slice() == name.as_slice())
 }
 
 /// The same, or how many names there are where there is none.
