@@ -1,7 +1,9 @@
 pub mod Barriers
 pub mod Changing
+pub mod Holds
 pub mod Inside
 pub mod Issuing
 pub mod Looking
 pub mod Owned
+pub mod Rings
 pub mod Turning

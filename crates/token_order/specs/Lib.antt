@@ -1,3 +1,4 @@
 pub mod Owning
+pub mod Standing
 pub mod Turned
 pub mod View

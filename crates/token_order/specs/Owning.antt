@@ -1,15 +1,47 @@
--- Who owns a lock.
-use Rattle.std.specs.Prelude.{ℕ, ◌==◌, Bool, false, cond, Option, Some, None}
-use Rattle.task_ast.specs.declared.sync.SyncOp.{SyncOp}
-use Rattle.task_ast.specs.declared.sync.SyncOp.TheVariants as sync
+-- Who owns a lock, and which locks a thread holds.
+use Rattle.std.specs.Prelude.{◌≡◌, ℕ, ◌==◌, ◌<◌, Bool, false, cond, List, [], ◌∷◌, ◌++◌, length, Option, Some, None, nat_lt, slice_get, slice_set, unwrap_or}
+use Rattle.std.specs.List.{filter}
+use Rattle.std.specs.Option.{ForSome}
+use Rattle.task_ast.specs.Table.{owned_from}
+use Rattle.task_ast.specs.Turn.{owners_after}
+use Rattle.token_order.specs.declared.held.Change.{Change}
+use Rattle.token_order.specs.declared.held.Held.{Held}
+use Rattle.token_order.specs.declared.rules.Turn.{Turn}
+use Rattle.token_order.specs.declared.rules.Turn.TheVariants.{Issue}
 
 -- whether the thread is the owner
-abbrev pub owns : ℕ → Option ℕ → Bool
-owns t None = false
-owns t (Some owner) = t == owner
+abbrev pub is_owner : ℕ → Option ℕ → Bool
+is_owner t None = false
+is_owner t (Some owner) = t == owner
 
--- the owner of a lock after a thread's synchronisation
-abbrev pub owner_after : SyncOp → ℕ → ℕ → Option ℕ → Option ℕ
-owner_after (sync.Lock l) t lock owner = cond (l == lock) (Some t) owner
-owner_after (sync.Unlock l) t lock owner = cond (l == lock) None owner
-owner_after _ t lock owner = owner
+-- a rising list with this lock, or without it
+abbrev pub with_lock : (holds : Bool) → (lock : ℕ) → List ℕ → List ℕ
+with_lock holds lock held = filter (λ x. nat_lt x lock) held ++ cond holds (lock ∷ []) [] ++ filter (λ x. nat_lt lock x) held
+
+-- the locks of a thread; one that has no list yet holds none
+abbrev pub held_at : List (List ℕ) → ℕ → List ℕ
+held_at held t = unwrap_or (slice_get held t) []
+
+-- the owners after a change, where there is one
+abbrev pub owners_with : Option Change → List (Option ℕ) → List (Option ℕ)
+owners_with None owners = owners
+owners_with (Some change) owners = slice_set owners change.lock change.owner
+
+-- the locks of a thread after a change, where there is one
+abbrev pub locks_with : Option Change → ℕ → List ℕ → List ℕ
+locks_with None t held = held
+locks_with (Some change) t held = with_lock (is_owner t change.owner) change.lock held
+
+-- the owners now
+abbrev pub owners_now : Held → List (Option ℕ)
+owners_now held = owners_with held.change held.owners.items
+
+-- each thread's list has the locks that it owned before the change, which is of a lock that there is
+pub record HeldStands (held : Held) : Type 0 where
+  pub each : (t : ℕ) → held_at held.locks.items t ≡ owned_from 0 held.owners.items t
+  pub within : ForSome held.change (λ change. change.lock < length held.owners.items)
+
+-- the owners after a turn that answered this
+abbrev pub noted : Turn → List (Option ℕ) → List (Option ℕ)
+noted (Issue t next child) owners = owners_after next.sync t owners
+noted _ owners = owners

@@ -1,39 +1,213 @@
-// The locks that a thread holds.
+// The locks that each thread holds.
 
-ghost use Rattle.std.specs.Prelude.{◌≡◌, ◌≤◌, length, IfOk};
+ghost use Rattle.std.specs.Prelude.{◌≡◌, ℕ, ◌<◌, List, Option, Some, None, true, is_none, length, slice_set, slice_get, ◌==◌, if◌then◌else◌, replicate, IfOk, IfSome, OnOk, OnErr};
 ghost use Rattle.task_ast.specs.Table.{owned_from};
 ghost use Rattle.task_ast.specs.Turn.{owners_after};
-ghost use Rattle.token_order.specs.Owning.{owns, owner_after};
+ghost use Rattle.token_order.specs.Owning.{is_owner, with_lock, held_at, owners_with, locks_with, owners_now, HeldStands, noted};
 
-use crate::threads::Threads;
+use crate::rules::Turn;
 use gp_base::{LockNo, Seq};
 use std::alloc::{AllocError, Global};
 use task_ast::SyncOp;
 
-/// Whether the thread owns a lock, which has this owner, once it has performed the synchronisation.
-fn owns_after(owner: Option<u32>, lock: u32, sync: &SyncOp, t: u32) -> bool
-    ensures { result ≡ owns t (owner_after sync.now t lock owner) }
+/// A lock that gets another owner, or none.
+#[derive(Clone, Copy)]
+pub struct Change {
+    pub lock: u32,
+    pub owner: Option<u32>,
+}
+
+/// The owner of each lock cell before the change of the last issue, and for each thread the locks that it owned then, in
+/// rising order. A turn takes no memory, so what it changes is told to the lists later.
+#[derive(Drop)]
+pub struct Held {
+    pub owners: Vec<Option<u32>>,
+    pub locks: Vec<Seq<u32>>,
+    pub change: Option<Change>,
+    pub alloc: Global,
+}
+
+// The change of a lock that there is, where there are so many.
+fn change_to(lock: u32, owner: Option<u32>, locks: usize) -> Option<Change>
+    ensures told { (owners : List (Option ℕ)) → length owners ≡ locks → owners_with result owners ≡ slice_set owners lock owner }
+    ensures within { IfSome result (λ change. change.lock < locks) }
+{
+    if (lock as usize) < locks {
+        Some(Change { lock, owner })
+    } else {
+        None
+    }
+}
+
+// The change that a thread's synchronisation makes, where there are so many locks.
+fn change_of(sync: &SyncOp, t: u32, locks: usize) -> Option<Change>
+    ensures told { (owners : List (Option ℕ)) → length owners ≡ locks → owners_with result owners ≡ owners_after sync.now t owners }
+    ensures within { IfSome result (λ change. change.lock < locks) }
 {
     match sync {
-        SyncOp::Lock(taken) => {
-            if taken.0 == lock {
-                return true;
-            }
-        }
-        SyncOp::Unlock(given) => {
-            if given.0 == lock {
-                return false;
-            }
-        }
-        _ => {}
+        SyncOp::Lock(lock) => change_to(lock.0, Some(t), locks),
+        SyncOp::Unlock(lock) => change_to(lock.0, None, locks),
+        _ => None,
     }
+}
+
+// The locks of a rising list with one more or one less.
+fn with_lock(alloc: Global, held: &[u32], lock: u32, holds: bool) -> Result<Seq<u32>, AllocError>
+    ensures { IfOk result (λ locks. locks ≡ with_lock holds lock held.now) }
+{
+    let mut locks = Seq::new(alloc);
+    for other in held {
+        if *other < lock {
+            locks.push(*other)?;
+        }
+    }
+    if holds {
+        locks.push(lock)?;
+    }
+    for other in held {
+        if *other > lock {
+            locks.push(*other)?;
+        }
+    }
+    Ok(locks)
+}
+
+// Whether the thread is the owner.
+fn is_owner(t: u32, owner: Option<u32>) -> bool
+    ensures { result ≡ is_owner t owner }
+{
     match owner {
         Some(owner) => t == owner,
         None => false,
     }
 }
 
-impl Threads {
+// The locks of a thread after a change, where there is one.
+fn locks_with(
+    alloc: Global,
+    held: &[u32],
+    t: u32,
+    change: Option<Change>,
+) -> Result<Seq<u32>, AllocError>
+    ensures { IfOk result (λ locks. locks ≡ locks_with change t held.now) }
+{
+    match change {
+        Some(change) => with_lock(alloc, held, change.lock, is_owner(t, change.owner)),
+        None => Seq::from_slice(alloc, held),
+    }
+}
+
+// The locks by their numbers.
+fn lock_numbers(alloc: Global, locks: &[u32]) -> Result<Seq<LockNo>, AllocError>
+    ensures { IfOk result (λ numbers. numbers ≡ locks.now) }
+{
+    let mut numbers = Seq::new(alloc);
+    for lock in locks {
+        numbers.push(LockNo(*lock))?;
+    }
+    Ok(numbers)
+}
+
+impl Held {
+    /// Nobody owns a lock.
+    pub fn new(alloc: Global, locks: usize) -> Result<Held, AllocError>
+        ensures owners { IfOk result (λ held. owners_now held ≡ replicate locks None) }
+        ensures stands { IfOk result HeldStands }
+    {
+        Ok(Held {
+            owners: Vec::from_elem(alloc, None, locks)?,
+            locks: Vec::new(alloc),
+            change: None,
+            alloc,
+        })
+    }
+
+    // The list of a thread.
+    fn of(&self, t: u32) -> &[u32]
+        ensures { result.now ≡ held_at self.now.locks.items t }
+    {
+        match self.locks.get(t as usize) {
+            Some(locks) => locks.as_slice(),
+            None => &[],
+        }
+    }
+
+    // The list of a thread gets a lock more, or less.
+    fn put(&mut self, t: u32, lock: u32, holds: bool) -> Result<(), AllocError>
+        ensures owners { self.new.owners ≡ self.old.owners }
+        ensures change { self.new.change ≡ self.old.change }
+        ensures ok { OnOk result ((u : ℕ) → held_at self.new.locks.items u ≡ (if u == t then with_lock holds lock (held_at self.old.locks.items t) else held_at self.old.locks.items u)) }
+        ensures err { OnErr result ((u : ℕ) → held_at self.new.locks.items u ≡ held_at self.old.locks.items u) }
+    {
+        let t = t as usize;
+        while self.locks.len() <= t {
+            self.locks.push(Seq::new(self.alloc))?;
+        }
+        self.locks[t] = with_lock(self.alloc, self.locks[t].as_slice(), lock, holds)?;
+        Ok(())
+    }
+
+    // The owner of a lock, where there is one, gives it back.
+    fn release(&mut self, lock: u32) -> Result<(), AllocError>
+        requires stands { HeldStands self.old }
+        requires within { lock < length self.old.owners.items }
+        ensures stands { HeldStands self.new }
+        ensures change { self.new.change ≡ self.old.change }
+        ensures ok { OnOk result (self.new.owners.items ≡ slice_set self.old.owners.items lock None) }
+        ensures err { OnErr result (self.new.owners.items ≡ self.old.owners.items) }
+    {
+        if let Some(owner) = self.owners[lock as usize] {
+            self.put(owner, lock, false)?;
+            self.owners[lock as usize] = None;
+        }
+        Ok(())
+    }
+
+    // A thread takes a lock that nobody owns.
+    fn take(&mut self, lock: u32, t: u32) -> Result<(), AllocError>
+        requires stands { HeldStands self.old }
+        requires free { slice_get self.old.owners.items lock ≡ Some None }
+        ensures stands { HeldStands self.new }
+        ensures change { self.new.change ≡ self.old.change }
+        ensures ok { OnOk result (self.new.owners.items ≡ slice_set self.old.owners.items lock (Some t)) }
+        ensures err { OnErr result (self.new.owners.items ≡ self.old.owners.items) }
+    {
+        self.put(t, lock, true)?;
+        self.owners[lock as usize] = Some(t);
+        Ok(())
+    }
+
+    // The lists are told the change of the last issue. The error is that memory is out.
+    pub fn settle(&mut self) -> Result<(), AllocError>
+        requires stands { HeldStands self.old }
+        ensures stands { HeldStands self.new }
+        ensures owners { owners_now self.new ≡ owners_now self.old }
+        ensures settled { OnOk result (self.new.change ≡ None) }
+        ensures kept { self.old.change ≡ None → self.new.change ≡ None }
+    {
+        let Some(change) = self.change else {
+            return Ok(());
+        };
+        self.release(change.lock)?;
+        if let Some(t) = change.owner {
+            self.take(change.lock, t)?;
+        }
+        self.change = None;
+        Ok(())
+    }
+
+    /// What a turn changes. Takes no memory.
+    pub fn note(&mut self, turn: &Turn)
+        requires stands { HeldStands self.old }
+        requires settled { self.old.change ≡ None }
+        ensures stands { HeldStands self.new }
+        ensures owners { owners_now self.new ≡ noted turn.now (owners_now self.old) }
+    {
+        if let Turn::Issue { thread, begins, .. } = turn {
+            self.change = change_of(&begins.sync, thread.0, self.owners.len());
+        }
+    }
+
     /// The locks that the thread owns once it has performed the synchronisation, in rising order.
     pub fn held_after(
         &self,
@@ -41,15 +215,12 @@ impl Threads {
         t: u32,
         sync: &SyncOp,
     ) -> Result<Seq<LockNo>, AllocError>
-        requires { length self.now.owners.items ≤ 4294967295 }
-        ensures { IfOk result (λ locks. locks ≡ owned_from 0 (owners_after sync.now t self.now.owners.items) t) }
+        requires { HeldStands self.now }
+        ensures { IfOk result (λ locks. locks ≡ owned_from 0 (owners_after sync.now t (owners_now self.now)) t) }
     {
-        let mut locks = Seq::new(alloc);
-        for lock in 0..self.owners.len() {
-            if owns_after(self.owners[lock], lock as u32, sync, t) {
-                locks.push(LockNo(lock as u32))?;
-            }
-        }
-        Ok(locks)
+        let now = locks_with(alloc, self.of(t), t, self.change)?;
+        let change = change_of(sync, t, self.owners.len());
+        let after = locks_with(alloc, now.as_slice(), t, change)?;
+        lock_numbers(alloc, after.as_slice())
     }
 }

@@ -9,6 +9,7 @@ ghost use Rattle.task_ast.specs.laws.Threads.{ahead};
 ghost use Rattle.token_order.specs.Turned.{Turned};
 ghost use Rattle.token_order.specs.View.{awaited};
 
+use crate::held::Held;
 use crate::rules::Turn;
 use crate::threads::Threads;
 use gp_base::{LockNo, Pos, Seq, ThreadNo};
@@ -21,17 +22,18 @@ use task_ast::{Next, SyncOp};
 #[derive(Drop)]
 pub struct Ring {
     threads: Threads,
+    held: Held,
 }
 
 impl Model for Ring {
-    ghost use Rattle.std.specs.Prelude.{◌-◌, vec_len, vec_capacity};
-    ghost use Rattle.token_order.specs.View.{Roomy, StandsInside, table};
+    ghost use Rattle.token_order.specs.View.{Roomy, table};
+    ghost use Rattle.token_order.specs.Standing.{RingStands, spare_of};
 
     ghost Value = { Roomy };
 
-    ghost view = { λ r. record { table = table r.threads; spare = vec_capacity r.threads.seats - vec_len r.threads.seats } };
+    ghost view = { λ r. record { table = table r.threads; spare = spare_of r.threads r.held } };
 
-    ghost invariant = { λ r. StandsInside r.threads };
+    ghost invariant = { λ r. RingStands r.threads r.held };
 }
 
 impl Ring {
@@ -47,7 +49,8 @@ impl Ring {
         ensures { IfOk result (λ ring. ring.table ≡ start_table limit barriers (replicate locks None) main) }
     {
         let threads = Threads::new(alloc, locks, barriers.into_vec(), limit, main)?;
-        Ok(Ring { threads })
+        let held = Held::new(alloc, locks as usize)?;
+        Ok(Ring { threads, held })
     }
 
     /// How many threads there are.
@@ -63,7 +66,8 @@ impl Ring {
         ensures room { OnOk result (0 < self.new.spare) }
         ensures kept { self.old.spare ≤ self.new.spare }
     {
-        self.threads.seats.reserve(1)
+        self.threads.seats.reserve(1)?;
+        self.held.settle()
     }
 
     /// One turn: a pass, an issue, or what is needed for one, or the end. Takes no memory.
@@ -71,7 +75,9 @@ impl Ring {
         requires { 0 < self.old.spare }
         ensures turned { Turned self.old.table result self.new.table }
     {
-        self.threads.turn()
+        let turn = self.threads.turn();
+        self.held.note(&turn);
+        turn
     }
 
     /// The next synchronisation of a thread becomes known.
@@ -126,6 +132,6 @@ impl Ring {
     ) -> Result<Seq<LockNo>, AllocError>
         ensures { IfOk result (λ locks. locks ≡ owned_from 0 (owners_after sync.now thread self.now.table.owners) thread) }
     {
-        self.threads.held_after(alloc, thread.0, sync)
+        self.held.held_after(alloc, thread.0, sync)
     }
 }
