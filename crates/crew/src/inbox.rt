@@ -87,6 +87,7 @@ impl<'a> Inbox<'a> {
         requires fits { Fits self.old.work task }
         ensures ok { OnOk result (self.new ≡ record self.old { out = self.old.out ++ task ∷ []; posted = self.old.posted ++ pair_of task ∷ [] }) }
         ensures err { OnErr result (self.new ≡ record self.old { failed = true }) }
+        ensures work { self.new.work ≡ self.old.work }
         ensures back { IfErr result (λ refused. refused.value ≡ task) }
         ensures stays_failed { self.old.failed ≡ true → IsErr result }
     {

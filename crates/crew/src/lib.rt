@@ -2,11 +2,13 @@
 //! of a script, or in waves of threads.
 #![tactic(auto)]
 
+mod batch;
 mod crew;
 mod inbox;
 mod inline;
 mod script;
 
+pub use batch::BatchCrew;
 pub use crew::Crew;
 pub use inline::InlineCrew;
 pub use script::ScriptCrew;

@@ -1,0 +1,7 @@
+use Rattle.std.proofs.Common.{[]}
+use Rattle.std.proofs.lemmas.List.Elements.{All-nil}
+use Rattle.subthread.specs.Tasks.{IsRun}
+use Rattle.crew.proofs.batch.BatchCrew.new.Goals as goal
+
+pub returns-clause-ready : goal.returns-clause-ready
+returns-clause-ready g c = record { runs_all = rw c.new.ensures c.requires; are_runs = rw c.new-2.ensures.items (All-nil (IsRun c.new.result.work)) }
