@@ -1,0 +1,34 @@
+use Rattle.std.proofs.Common.{refl}
+use Rattle.std.proofs.lemmas.List.Elements.{All-nil, All-head, All-push, All-tail}
+use Rattle.subthread.specs.Tasks.{Fits, IsRun}
+use Rattle.crew.proofs.Parts.{one_more}
+use Rattle.crew.proofs.wave.run_part.Goals as goal
+
+pub loop-task-preserved : goal.loop-task-preserved
+loop-task-preserved g c =
+    let w = c.args.work.now in
+    let t = c.in-Some.task in
+    let done = c.in_ok-done.done in
+    let before = c.loop-task.runs.items in
+    let rest = c.next.new.self.rest.items in
+    let front = c.in-Some.ensures.steps.0 in
+    let pushed = c.in_ok-push.ensures.items in
+    record {
+      tasks = rw pushed (one_more before done t rest c.args.part c.in_ok-done.ensures.of_task (rw front at c.loop-task.invariant.tasks));
+      runs = rw pushed (All-push (IsRun w) before done c.loop-task.invariant.runs c.in_ok-done.ensures.run);
+      fits = All-tail (Fits w) t rest (rw front at c.loop-task.invariant.fits);
+    }
+
+pub loop-task-init : goal.loop-task-init
+loop-task-init g c =
+    let gives = c.into_iter-task-iterator.ensures.into_iter_gives.0 in
+    let whole = c.into_vec-task-items.ensures in
+    let runs = c.new-runs.ensures.items in
+    record {
+      tasks = rw (runs, gives, whole) refl;
+      runs = rw runs (All-nil (IsRun c.args.work.now));
+      fits = rw (gives, whole) c.requires;
+    }
+
+pub run_task-requires : goal.run_task-requires
+run_task-requires g c = All-head (Fits c.args.work.now) c.in-Some.task c.next.new.self.rest.items (rw c.in-Some.ensures.steps.0 at c.loop-task.invariant.fits)
