@@ -1,5 +1,5 @@
 -- A task of the plain run fits.
-use Rattle.std.proofs.Common.{◌≡◌, suc, map, sym, ◌∙◌, subst}
+use Rattle.std.proofs.Common.{suc, map, sym, ◌∙◌, subst}
 use Rattle.std.specs.List.Sorted.{IsStrictlyIncreasing}
 use Rattle.task_ast.specs.Plain.{tree_machine}
 use Rattle.task_ast.specs.Position.{before, IsStep}

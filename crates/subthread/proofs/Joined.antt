@@ -1,9 +1,8 @@
 -- What a run of a task of the plain run does.
-use Rattle.std.proofs.Common.{◌≡◌, ℕ, suc, List, ◌++◌, sym, ap, ◌∙◌, subst}
+use Rattle.std.proofs.Common.{◌≡◌, ℕ, suc, ◌++◌, sym, ap, ◌∙◌, subst}
 use Rattle.gp_base.specs.declared.limits.Limits.{Limits}
 use Rattle.gp_base.specs.declared.feed.Inputs.{Inputs}
 use Rattle.task_ast.specs.declared.layout.Layout.{Layout}
-use Rattle.task_ast.specs.Action.{Action}
 use Rattle.task_ast.specs.Body.{Body}
 use Rattle.task_ast.specs.Control.{Point}
 use Rattle.task_ast.specs.State.{State}
@@ -18,13 +17,12 @@ use Rattle.record_store.specs.Given.{given_of, joined_by, found_of}
 use Rattle.record_store.proofs.Givens.{given_law}
 use Rattle.task_code.specs.Reading.{Place, code_machine}
 use Rattle.task_code.proofs.Machines.{follows as follows_code}
-use Rattle.task_code.specs.Flat.{code_of}
 use Rattle.task_code.specs.Lowering.{lowered}
 use Rattle.task_code.specs.Relation.{Rests}
 use Rattle.subthread.specs.declared.task.Work.{Work}
 use Rattle.subthread.specs.declared.task.Task.{Task}
 use Rattle.subthread.specs.declared.task.Done.{Done}
-use Rattle.subthread.specs.Tasks.{task_of, effect_of, place_of, place_left, program_in, machine_of, under_of, body_from, actions_from, IsRun, Suits}
+use Rattle.subthread.specs.Tasks.{task_of, place_of, program_in, machine_of, under_of, body_from, actions_from, IsRun, Suits}
 use Rattle.subthread.specs.Joining.{IsTaskOf, IsGiven, Runs, RunsLaw}
 
 module _ (work : Work) (cells : Layout) (inputs : Inputs) (limits : Limits) (suits : Suits work cells inputs limits) (p : ℕ) (s : Subthread) (done : Done) (is_task : IsTaskOf work inputs limits p s (task_of done)) (run : IsRun work done) where

@@ -1,8 +1,15 @@
+pub mod Arms
+pub mod Beginnings
 pub mod Bundles
 pub mod Damages
 pub mod Entries
 pub mod Fitted
+pub mod Gifts
+pub mod Grounds
 pub mod HeldLocks
+pub mod Instructions
 pub mod Joined
+pub mod Leavings
 pub mod Searched
 pub mod Terms
+pub mod Walks

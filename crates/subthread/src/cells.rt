@@ -16,11 +16,11 @@ use std::alloc::AllocError;
 use std::collections::BTreeMap;
 
 // The place of a cell among cells that rise.
-fn place_in(cells: &[RecNo], cell: usize) -> Option<usize>
+fn place_in(cells: &[RecNo], cell: u32) -> Option<usize>
     requires { IsStrictlyIncreasing cells.now }
     ensures { IsPlaceIn cells.now cell result }
 {
-    cells.binary_search_by_key(&cell, |c| c.0 as usize).ok()
+    cells.binary_search_by_key(&cell, |c| c.0).ok()
 }
 
 // The bundle of a lock among bundles whose locks rise.
@@ -44,14 +44,14 @@ fn under_lock<'a>(under: &'a [Seq<RecNo>], lock: LockNo) -> &'a [RecNo]
 }
 
 // The lock cell over a record cell.
-fn lock_over(over: &[LockNo], cell: usize) -> Option<LockNo>
+fn lock_over(over: &[LockNo], cell: u32) -> Option<LockNo>
     ensures { result ≡ slice_get over.now cell }
 {
-    over.get(cell).copied()
+    over.get(cell as usize).copied()
 }
 
 // The value of a record cell as it was given: that in the bundle of the lock over it, or 0.
-fn given_value(ground: &Ground, cell: usize) -> i64
+fn given_value(ground: &Ground, cell: u32) -> i64
     requires { HasCells ground.now }
     ensures { result ≡ cells_in ground.now cell }
 {
@@ -69,7 +69,7 @@ fn given_value(ground: &Ground, cell: usize) -> i64
 }
 
 /// The value of a record cell: that which was written last, or else that which was given.
-pub fn cell_value(ground: &Ground, written: &BTreeMap<usize, i64>, cell: usize) -> i64
+pub fn cell_value(ground: &Ground, written: &BTreeMap<u32, i64>, cell: u32) -> i64
     requires { HasCells ground.now }
     ensures { result ≡ unwrap_or (find nat_cmp cell written.now.entries) (cells_in ground.now cell) }
 {
@@ -80,11 +80,7 @@ pub fn cell_value(ground: &Ground, written: &BTreeMap<usize, i64>, cell: usize) 
 }
 
 /// Writes a record cell.
-pub fn set_cell(
-    written: &mut BTreeMap<usize, i64>,
-    cell: usize,
-    value: i64,
-) -> Result<(), AllocError>
+pub fn set_cell(written: &mut BTreeMap<u32, i64>, cell: u32, value: i64) -> Result<(), AllocError>
     ensures { OnOk result (written.new.entries ≡ put nat_cmp cell value written.old.entries) }
 {
     written.insert(cell, value)?;

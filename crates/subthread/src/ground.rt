@@ -4,12 +4,14 @@ use gp_base::{Feed, Lines, LockNo, Nums, RecNo, Seq, ThreadNo};
 use record_store::Bundle;
 use std::collections::BTreeMap;
 use task_ast::Next;
-use task_code::Instr;
+use task_code::{Code, Instr};
 
-/// What a run reads and never changes: its task's number and instructions, the feeds, the record cells under each lock
-/// cell, the lock cell over each record cell, the bundles at hand, `$ret` of the thread that is joined, and its thread.
+/// What a run reads and never changes: the code, its task's number and instructions, the feeds, the record cells under
+/// each lock cell, the lock cell over each record cell, the bundles at hand, `$ret` of the thread that is joined, and its
+/// thread.
 #[derive(Drop)]
 pub struct Ground<'a> {
+    pub code: &'a Code,
     pub task: u32,
     pub instrs: &'a [Instr],
     pub feeds: &'a [Feed],
@@ -33,7 +35,7 @@ pub struct Stand {
 pub struct Doing {
     pub regs: Nums,
     pub child: Nums,
-    pub written: BTreeMap<usize, i64>,
+    pub written: BTreeMap<u32, i64>,
     pub lines: Lines,
 }
 

@@ -1,8 +1,10 @@
 //! Runs of the tasks of a batch on flat code: what a subthread does on what it is given.
 #![tactic(auto)]
 
+mod begins;
 mod cells;
 mod damage;
+mod deeds;
 mod footprints;
 mod ground;
 pub mod laws;
@@ -10,6 +12,7 @@ mod numbers;
 mod run;
 mod task;
 mod values;
+mod walk;
 
 pub use footprints::footprint;
 pub use run::run_task;

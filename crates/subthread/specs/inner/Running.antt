@@ -1,15 +1,19 @@
 -- What a run does, step by step.
-use Rattle.std.specs.Prelude.{◌≡◌, ℕ, ℤ, ◌<◌, ◌^◌, List, map, length, Option, Some, slice_get}
+use Rattle.std.specs.Prelude.{◌≡◌, ℕ, ℤ, Bool, true, false, ◌+◌, ◌<◌, ◌≤◌, ◌^◌, List, map, length, Option, Some, slice_get}
 use Rattle.std.specs.List.{Contains}
 use Rattle.std.specs.List.Sorted.{IsStrictlyIncreasing}
 use Rattle.task_ast.specs.Under.{under_lock}
 use Rattle.task_ast.specs.Action.{Action, Arm}
 use Rattle.task_ast.specs.Body.{Step, Silent, Iteration, Act, Stop, Body}
 use Rattle.task_ast.specs.declared.sync.Next.{Next}
+use Rattle.task_ast.specs.declared.sync.SyncOp.{SyncOp}
+use Rattle.task_ast.specs.declared.sync.SyncOp.TheVariants as sync
 use Rattle.task_ast.specs.Effect.{Doing, done, arm_done, all_done}
 use Rattle.record_store.specs.declared.given.Bundle.{Bundle}
 use Rattle.record_store.specs.Given.{value_in}
-use Rattle.task_code.specs.Reading.{CalcEnv, Place, goto}
+use Rattle.task_code.specs.Flat.{code_of}
+use Rattle.task_code.specs.Instructions.{Does, GoOn, Unless, Again, Instr}
+use Rattle.task_code.specs.Reading.{CalcEnv, Place, goto, instrs_of, code_body}
 use Rattle.task_code.specs.Jumps.{AreInside}
 use Rattle.task_code.specs.View.{plain_instrs}
 use Rattle.subthread.specs.declared.ground.Ground.{Ground}
@@ -66,10 +70,26 @@ pub record AreSearchable (under : List (List ℕ)) (over : List ℕ) (bundles : 
 abbrev pub HasCells : Ground → Type 0
 HasCells ground = AreSearchable ground.under.now ground.over.now ground.bundles.now
 
--- a run stays inside its task's instructions
-pub record IsInside (ground : Ground) : Type 0 where
+-- the tasks of the code
+abbrev pub tasks_in : Ground → List (List Instr)
+tasks_in ground = (code_of ground.code.now).tasks
+
+-- the instructions are those of the task, its jumps stay inside it, and it is short
+pub record IsTask (ground : Ground) : Type 0 where
+  pub instrs_are : plain_instrs ground.instrs.now ≡ instrs_of (tasks_in ground) ground.task
   pub inside : AreInside (plain_instrs ground.instrs.now)
   pub short : length ground.instrs.now < 2 ^ 32
+
+-- the jump of an instruction with this number stays among numbers of 32 bits
+abbrev pub StaysInside : Does → (pc : ℕ) → Type 0
+StaysInside (GoOn n) pc = pc + 1 + n < 2 ^ 32
+StaysInside (Unless c n) pc = pc + 1 + n < 2 ^ 32
+StaysInside (Again c n) pc = (n ≤ pc) × (pc + 1 < 2 ^ 32)
+StaysInside _ pc = pc + 1 < 2 ^ 32
+
+-- the body from a place, of at most so many loop turns
+abbrev pub body_in : Ground → (turns : ℕ) → Place → Body Place
+body_in ground turns q = code_body (tasks_in ground) ground.feeds.now turns q
 
 -- what one step of the run did; a loop turn is only found, and not yet taken
 abbrev pub Stepped : Ground → Step Place → Went → (before after : Place) → (old new : Doing) → Type 0
@@ -84,3 +104,13 @@ pub record Ran (ground : Ground) (b : Body Place) (next : Next) (at : Place) (ol
   pub next_is : next ≡ b.next
   pub at_is : at ≡ b.at
   pub data_is : new ≡ after_all ground b.actions old
+
+-- a subthread has begun: the actions of its synchronisation were done, and the run stands behind it
+pub record Begun (ground : Ground) (actions : List Action) (behind : Place) (at : Place) (old new : Doing) : Type 0 where
+  pub at_is : at ≡ behind
+  pub data_is : new ≡ after_all ground actions old
+
+-- whether a thread starts
+abbrev pub is_start : SyncOp → Bool
+is_start sync.Start = true
+is_start _ = false

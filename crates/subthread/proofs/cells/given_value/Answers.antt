@@ -1,8 +1,7 @@
-use Rattle.std.proofs.Common.{rules, ◌≡◌, Option, Some, None, ap, sym, ◌∙◌, subst, SFits, w64}
+use Rattle.std.proofs.Common.{rules, ap, sym, ◌∙◌, SFits, w64}
 use Rattle.std.proofs.lemmas.Int.{to_z-of_z}
 use Rattle.task_ast.specs.State.{number_at}
 use Rattle.record_store.specs.declared.given.Bundle.{Bundle}
-use Rattle.subthread.specs.inner.Searches.{IsPlaceIn}
 use Rattle.subthread.proofs.Bundles.{without_lock, without_bundle, at_place, at_none}
 use Rattle.subthread.proofs.cells.given_value.Goals as goal
 

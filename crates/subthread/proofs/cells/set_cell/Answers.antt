@@ -1,4 +1,4 @@
-use Rattle.std.proofs.Common.{◌≡◌, ◌∙◌, rules, SFits, w64}
+use Rattle.std.proofs.Common.{◌∙◌, rules, SFits, w64}
 use Rattle.std.proofs.lemmas.Int.{to_z-of_z}
 use Rattle.subthread.proofs.Entries.{inserted}
 use Rattle.subthread.proofs.cells.set_cell.Goals as goal

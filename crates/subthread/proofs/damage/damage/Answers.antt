@@ -1,4 +1,4 @@
-use Rattle.std.proofs.Common.{◌≡◌, ap, sym, ◌∙◌, rules, SFits, w64}
+use Rattle.std.proofs.Common.{sym, ◌∙◌, rules, SFits, w64}
 use Rattle.std.proofs.lemmas.Int.{to_z-of_z}
 use Rattle.subthread.proofs.Damages.{spared, struck}
 use Rattle.subthread.proofs.damage.damage.Goals as goal

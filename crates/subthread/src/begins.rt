@@ -1,0 +1,170 @@
+// The synchronisation with which a run begins.
+ghost use Rattle.std.specs.Prelude.{◌≡◌, ◌<◌, ◌^◌, ℕ, map, option_map, slice_get, unwrap_or, [], OnOk, Some};
+ghost use Rattle.task_ast.specs.Control.{all_of};
+ghost use Rattle.task_code.specs.Instructions.{At as PlainAt};
+ghost use Rattle.task_code.specs.Reading.{begin_actions, behind, code_begins, code_first, fork_arguments, gift_action, passed};
+ghost use Rattle.task_code.specs.View.{plain_calc, plain_does, plain_forking, plain_gifts, plain_instrs};
+ghost use Rattle.subthread.specs.inner.Running.{env_in, place_in, doing_of, after_all, is_start, tasks_in, IsTask, StaysInside, Performs, AllPerform, Begun};
+
+use crate::ground::{Doing, Ground, Stand};
+use crate::numbers::{set_number, zeros};
+use crate::values::data_value;
+use crate::walk::fork_values;
+use gp_base::ThreadNo;
+use std::alloc::{AllocError, Global};
+use task_ast::SyncOp;
+use task_code::{Calc, Does, Forking};
+
+// A data argument of a fork goes into the register of its parameter.
+fn give_one(gift: &(usize, Calc), ground: &Ground, ctl: &[i64], doing: &mut Doing)
+    ensures { Performs ground.now (gift_action (gift.now.0, plain_calc gift.now.1) (env_in ground.now ctl.now)) (doing_of doing.old) (doing_of doing.new) }
+{
+    if let Some(v) = data_value(&gift.1, ground, ctl, doing.regs.as_slice()) {
+        set_number(&mut doing.child, gift.0, v);
+    }
+}
+
+// So do all.
+fn give_all(gifts: &[(usize, Calc)], ground: &Ground, ctl: &[i64], doing: &mut Doing)
+    ensures { AllPerform ground.now (all_of (map (λ g. gift_action g (env_in ground.now ctl.now)) (plain_gifts gifts.now))) (doing_of doing.old) (doing_of doing.new) }
+{
+    for gift in gifts {
+        give_one(gift, ground, ctl, doing);
+    }
+}
+
+// The registers of a fork's child: those of its data arguments, and 0.
+fn make_child(
+    alloc: Global,
+    forking: &Forking,
+    ground: &Ground,
+    ctl: &[i64],
+    doing: &mut Doing,
+) -> Result<(), AllocError>
+    ensures { OnOk result (doing_of doing.new ≡ after_all ground.now (unwrap_or (option_map (λ a. a.1) (fork_arguments (plain_forking forking.now) (env_in ground.now ctl.now))) []) (doing_of doing.old)) }
+{
+    let Some(_values) = fork_values(alloc, forking, ground, ctl)? else {
+        return Ok(());
+    };
+    doing.child = zeros(alloc, forking.registers)?;
+    give_all(forking.gifts.as_slice(), ground, ctl, doing);
+    Ok(())
+}
+
+// How many instructions the jump at the end of a choice's first side passes.
+fn jump_of(does: &Does) -> usize
+    ensures { (line : ℕ) → result ≡ passed (Some (PlainAt line (plain_does does.now))) }
+{
+    match does {
+        Does::GoOn(n) => *n,
+        Does::Assign(_, _) => 0,
+        Does::Unless(_, _) => 0,
+        Does::Again(_, _) => 0,
+        Does::Lock(_, _) => 0,
+        Does::Unlock(_, _) => 0,
+        Does::Fork(_) => 0,
+        Does::Join(_, _) => 0,
+        Does::Barrier(_) => 0,
+        Does::Do(_) => 0,
+    }
+}
+
+// The same of the instruction with this number.
+fn jump_at(ground: &Ground, pc: usize) -> usize
+    requires { IsTask ground.now }
+    ensures value { result ≡ passed (slice_get (plain_instrs ground.now.instrs.now) pc) }
+    ensures short { result < 2 ^ 32 }
+{
+    if pc < ground.instrs.len() {
+        jump_of(&ground.instrs[pc].does)
+    } else {
+        0
+    }
+}
+
+// The synchronisation at an instruction.
+fn begin_at(
+    alloc: Global,
+    does: &Does,
+    ground: &Ground,
+    child: Option<ThreadNo>,
+    stand: &mut Stand,
+    doing: &mut Doing,
+) -> Result<(), AllocError>
+    requires task { IsTask ground.now }
+    requires inside { StaysInside (plain_does does.now) stand.old.pc }
+    ensures { OnOk result ((line : ℕ) → Begun ground.now (begin_actions ground.now.feeds.now (Some (PlainAt line (plain_does does.now))) (place_in ground.now stand.old)) (behind (tasks_in ground.now) (Some (PlainAt line (plain_does does.now))) child (place_in ground.now stand.old)) (place_in ground.now stand.new) (doing_of doing.old) (doing_of doing.new)) }
+{
+    match does {
+        Does::Fork(forking) => {
+            make_child(alloc, forking, ground, stand.ctl.as_slice(), doing)?;
+            if let (Some(c), Some(k)) = (child, forking.into) {
+                set_number(&mut stand.ctl, k, i64::from(c.0));
+                stand.pc += 1;
+                Ok(())
+            } else {
+                stand.pc += 1;
+                Ok(())
+            }
+        }
+        Does::Join(_, into) => {
+            if let Some(k) = into {
+                set_number(&mut doing.regs, *k, ground.joined);
+                stand.pc += 1;
+                Ok(())
+            } else {
+                stand.pc += 1;
+                Ok(())
+            }
+        }
+        Does::Unless(_, n) => {
+            stand.pc = stand.pc + 1 + *n + jump_at(ground, stand.pc + *n);
+            Ok(())
+        }
+        Does::Assign(_, _) => Ok(stand.pc += 1),
+        Does::GoOn(_) => Ok(stand.pc += 1),
+        Does::Again(_, _) => Ok(stand.pc += 1),
+        Does::Lock(_, _) => Ok(stand.pc += 1),
+        Does::Unlock(_, _) => Ok(stand.pc += 1),
+        Does::Barrier(_) => Ok(stand.pc += 1),
+        Does::Do(_) => Ok(stand.pc += 1),
+    }
+}
+
+// Whether a thread starts.
+fn is_start(begins: &SyncOp) -> bool
+    ensures { result ≡ is_start begins.now }
+{
+    matches!(begins, SyncOp::Start)
+}
+
+/// Performs the synchronisation with which a run begins, and stands behind it: the data arguments of a fork go into the
+/// registers of its child, whose number goes into the variable that takes it; the value that a joined thread returns goes
+/// into the register that takes it.
+pub fn begin(
+    alloc: Global,
+    begins: &SyncOp,
+    ground: &Ground,
+    child: Option<ThreadNo>,
+    stand: &mut Stand,
+    doing: &mut Doing,
+) -> Result<(), AllocError>
+    requires { IsTask ground.now }
+    ensures { OnOk result (Begun ground.now (code_first (tasks_in ground.now) ground.now.feeds.now begins.now (place_in ground.now stand.old)) (code_begins (tasks_in ground.now) begins.now child (place_in ground.now stand.old)) (place_in ground.now stand.new) (doing_of doing.old) (doing_of doing.new)) }
+{
+    if is_start(begins) {
+        return Ok(());
+    }
+    if stand.pc < ground.instrs.len() {
+        begin_at(
+            alloc,
+            &ground.instrs[stand.pc].does,
+            ground,
+            child,
+            stand,
+            doing,
+        )
+    } else {
+        Ok(())
+    }
+}

@@ -1,0 +1,192 @@
+// The walk of a run over its task's instructions.
+ghost use Rattle.std.specs.Prelude.{◌≡◌, is_some, map, option_map, slice_get, IfOk};
+ghost use Rattle.task_ast.specs.Control.{all_of};
+ghost use Rattle.task_code.specs.Reading.{fork_arguments, gift_action, step_does, step_instr};
+ghost use Rattle.task_code.specs.View.{plain_does, plain_forking, plain_gifts, plain_instrs};
+ghost use Rattle.subthread.specs.inner.Running.{env_in, place_in, doing_of, body_in, HasCells, IsTask, StaysInside, Stepped, Ran};
+
+use crate::deeds::{fits, perform};
+use crate::ground::{Doing, Ground, Stand, Went};
+use crate::numbers::{is_zero, narrow, set_number};
+use crate::values::{cell_at, control_value, control_values, has_value};
+use gp_base::{LockNo, Nums};
+use std::alloc::{AllocError, Global};
+use task_ast::{Next, SyncOp};
+use task_code::{Calc, Does, Forking};
+
+fn stop(sync: SyncOp, line: u32) -> Went
+    ensures { result ≡ Went.Stopped (record { sync = sync; line = line }) }
+{
+    Went::Stopped(Next { sync, line })
+}
+
+fn fault(line: u32) -> Went
+    ensures { result ≡ Went.Stopped (record { sync = SyncOp.BadIndex; line = line }) }
+{
+    stop(SyncOp::BadIndex, line)
+}
+
+/// Whether each data argument of a fork has a value.
+pub fn gifts_fit(gifts: &[(usize, Calc)], ground: &Ground, ctl: &[i64]) -> bool
+    ensures { result ≡ is_some (all_of (map (λ g. gift_action g (env_in ground.now ctl.now)) (plain_gifts gifts.now))) }
+{
+    for gift in gifts {
+        if !has_value(&gift.1, ground, ctl) {
+            return false;
+        }
+    }
+    true
+}
+
+/// The values of a fork's control arguments, or `None` where an argument has no value.
+pub fn fork_values(
+    alloc: Global,
+    forking: &Forking,
+    ground: &Ground,
+    ctl: &[i64],
+) -> Result<Option<Nums>, AllocError>
+    ensures { IfOk result (λ values. values ≡ option_map (λ a. a.0) (fork_arguments (plain_forking forking.now) (env_in ground.now ctl.now))) }
+{
+    let Some(values) = control_values(alloc, forking.controls.as_slice(), ground, ctl)? else {
+        return Ok(None);
+    };
+    if gifts_fit(forking.gifts.as_slice(), ground, ctl) {
+        Ok(Some(values))
+    } else {
+        Ok(None)
+    }
+}
+
+// The step at an instruction. A loop turn is only found.
+fn step_at(
+    alloc: Global,
+    does: &Does,
+    line: u32,
+    ground: &Ground,
+    stand: &mut Stand,
+    doing: &mut Doing,
+) -> Result<Went, AllocError>
+    requires cells { HasCells ground.now }
+    requires inside { StaysInside (plain_does does.now) stand.old.pc }
+    ensures { IfOk result (λ went. Stepped ground.now (step_does ground.now.feeds.now line (plain_does does.now) (place_in ground.now stand.old)) went (place_in ground.now stand.old) (place_in ground.now stand.new) (doing_of doing.old) (doing_of doing.new)) }
+{
+    match does {
+        Does::Assign(k, c) => match control_value(c, ground, stand.ctl.as_slice()) {
+            None => Ok(fault(line)),
+            Some(v) => {
+                set_number(&mut stand.ctl, *k, v);
+                stand.pc += 1;
+                Ok(Went::On)
+            }
+        },
+        Does::GoOn(n) => {
+            stand.pc = stand.pc + 1 + *n;
+            Ok(Went::On)
+        }
+        Does::Unless(c, n) => match control_value(c, ground, stand.ctl.as_slice()) {
+            None => Ok(fault(line)),
+            Some(v) => {
+                if is_zero(v) {
+                    stand.pc = stand.pc + 1 + *n;
+                    Ok(Went::On)
+                } else {
+                    stand.pc += 1;
+                    Ok(Went::On)
+                }
+            }
+        },
+        Does::Again(c, n) => match control_value(c, ground, stand.ctl.as_slice()) {
+            None => Ok(fault(line)),
+            Some(v) => {
+                if is_zero(v) {
+                    stand.pc += 1;
+                    Ok(Went::On)
+                } else {
+                    Ok(Went::Turned(stand.pc - *n))
+                }
+            }
+        },
+        Does::Lock(cells, i) => match cell_at(*cells, *i, stand.ctl.as_slice()) {
+            None => Ok(fault(line)),
+            Some(lock) => Ok(stop(SyncOp::Lock(LockNo(narrow(lock)?)), line)),
+        },
+        Does::Unlock(cells, i) => match cell_at(*cells, *i, stand.ctl.as_slice()) {
+            None => Ok(fault(line)),
+            Some(lock) => Ok(stop(SyncOp::Unlock(LockNo(narrow(lock)?)), line)),
+        },
+        Does::Fork(forking) => match fork_values(alloc, forking, ground, stand.ctl.as_slice())? {
+            None => Ok(fault(line)),
+            Some(args) => Ok(stop(
+                SyncOp::Fork {
+                    task: forking.task,
+                    args,
+                },
+                line,
+            )),
+        },
+        Does::Join(c, _) => match control_value(c, ground, stand.ctl.as_slice()) {
+            None => Ok(fault(line)),
+            Some(thread) => Ok(stop(SyncOp::Join(thread), line)),
+        },
+        Does::Barrier(b) => Ok(stop(SyncOp::Barrier(*b), line)),
+        Does::Do(deed) => {
+            if fits(deed, ground, stand.ctl.as_slice()) {
+                perform(alloc, deed, ground, stand.ctl.as_slice(), doing)?;
+                stand.pc += 1;
+                Ok(Went::On)
+            } else {
+                Ok(fault(line))
+            }
+        }
+    }
+}
+
+// One control step.
+fn step(
+    alloc: Global,
+    ground: &Ground,
+    stand: &mut Stand,
+    doing: &mut Doing,
+) -> Result<Went, AllocError>
+    requires cells { HasCells ground.now }
+    requires task { IsTask ground.now }
+    ensures { IfOk result (λ went. Stepped ground.now (step_instr ground.now.feeds.now (slice_get (plain_instrs ground.now.instrs.now) stand.old.pc) (place_in ground.now stand.old)) went (place_in ground.now stand.old) (place_in ground.now stand.new) (doing_of doing.old) (doing_of doing.new)) }
+{
+    if stand.pc < ground.instrs.len() {
+        let instr = &ground.instrs[stand.pc];
+        step_at(alloc, &instr.does, instr.line, ground, stand, doing)
+    } else {
+        Ok(stop(SyncOp::End, 0))
+    }
+}
+
+/// Runs a body from where the run stands, with at most so many loop turns.
+pub fn run_body(
+    alloc: Global,
+    ground: &Ground,
+    turns: u64,
+    stand: &mut Stand,
+    doing: &mut Doing,
+) -> Result<Next, AllocError>
+    requires cells { HasCells ground.now }
+    requires task { IsTask ground.now }
+    ensures { IfOk result (λ next. Ran ground.now (body_in ground.now turns (place_in ground.now stand.old)) next (place_in ground.now stand.new) (doing_of doing.old) (doing_of doing.new)) }
+{
+    let mut left = turns;
+    loop {
+        match step(alloc, ground, stand, doing)? {
+            Went::On => {}
+            Went::Turned(pc) => {
+                if left == 0 {
+                    return Ok(Next {
+                        sync: SyncOp::Spent,
+                        line: 0,
+                    });
+                }
+                left -= 1;
+                stand.pc = pc;
+            }
+            Went::Stopped(next) => return Ok(next),
+        }
+    }
+}
