@@ -5,6 +5,8 @@
 #[cfg(test)]
 mod checks;
 #[cfg(test)]
+mod codes;
+#[cfg(test)]
 mod dependents;
 #[cfg(test)]
 mod expressions;
