@@ -25,6 +25,9 @@ returns-then-blocks-clause-some c =
       clash = λ e there. subst (λ (x : Entry). Conflict c.index-before.result.now.foot x.foot) (one-entry entries (first_position entries + c.args.place) c.index-entry.result.now e here there) found.0;
     }
 
+pub returns-then-blocks-clause-none : goal.returns-then-blocks-clause-none
+returns-then-blocks-clause-none c = tt
+
 pub loop-earlier-preserved : goal.loop-earlier-preserved
 loop-earlier-preserved c =
     let-pass-more c.args.entries.now.items c.requires.in_row c.args.place c.requires.in_range c.index-entry.result.now c.index-entry.ensures c.loop-earlier.earlier c.loop-earlier-test.true
