@@ -1,5 +1,6 @@
 -- Tasks, and what their runs give.
-use Rattle.std.specs.Prelude.{◌≡◌, ℕ, List, ◌++◌, map, Option}
+use Rattle.std.specs.Prelude.{◌≡◌, ℕ, List, ◌++◌, map, Option, Result, MatchResult}
+use Rattle.std.specs.declared.alloc.AllocFailed.{AllocFailed}
 use Rattle.std.specs.List.Sorted.{IsStrictlyIncreasing}
 use Rattle.gp_base.specs.declared.limits.Limits.{Limits}
 use Rattle.gp_base.specs.declared.feed.Inputs.{Inputs}
@@ -64,6 +65,10 @@ pub record IsRun (work : Work) (done : Done) : Type 0 where
       ≡ damaged (task_of done).mask
       (effect_on (task_of done).thread (task_of done).child
       (actions_from work (task_of done).begins.sync (task_of done).child (place_of (task_of done))) (found_of (under_of work) (task_of done).given))
+
+-- what a call that runs a task answers: a run of it, or the task as it was
+abbrev pub Answers : Work → Task → Result Done (AllocFailed Task) → Type 0
+Answers work task answer = MatchResult answer (λ done. (task_of done ≡ task) × IsRun work done) (λ failed. failed.value ≡ task)
 
 abbrev pub lock_in : Bundle → ℕ
 lock_in bundle = bundle.lock

@@ -7,6 +7,7 @@ mod damage;
 mod deeds;
 mod footprints;
 mod ground;
+mod job;
 pub mod laws;
 mod numbers;
 mod run;
