@@ -1,4 +1,5 @@
 pub mod Drive
+pub mod Engaged
 pub mod Gives
 pub mod Takes
 pub mod View

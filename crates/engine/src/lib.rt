@@ -4,8 +4,11 @@
 
 mod calls;
 mod driver;
+mod engine;
+mod parts;
 mod rounds;
 
 pub use calls::{Calls, Issued};
 pub use driver::drive;
+pub use engine::Engine;
 pub use reorder_list::{EngineStop, Report, StopWhy};

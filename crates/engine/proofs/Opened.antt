@@ -1,0 +1,100 @@
+-- What an engine keeps before its first event.
+use Rattle.std.proofs.Common.{◌≡◌, ℕ, ◌<◌, ◌≤◌, List, [], ◌∷◌, length, map, replicate, Option, Some, None, refl, sym, ap, ◌∙◌, subst, arith}
+use Rattle.std.specs.Prelude.{All, ℤ, ◌^◌}
+use Rattle.std.proofs.lemmas.Bool.{false≢true}
+use Rattle.std.proofs.Math.ListN.{length-map}
+use Rattle.gp_base.specs.Faults.{IsInRange}
+use Rattle.gp_base.specs.declared.journal.Event.{Event}
+use Rattle.gp_base.specs.declared.journal.Restart.{Restart}
+use Rattle.task_ast.specs.declared.layout.Layout.{Layout}
+use Rattle.task_ast.specs.declared.sync.SyncOp.TheVariants as sync
+use Rattle.task_ast.specs.Names.{locks_of, barriers_of, registers_of, cells_in}
+use Rattle.task_ast.specs.Layout.{layout, cells_under}
+use Rattle.task_ast.specs.Reached.{start_table}
+use Rattle.task_ast.specs.Table.{Table, numbers}
+use Rattle.task_ast.specs.Plain.{opening, main_task, main_number, start_point, task_at}
+use Rattle.task_ast.proofs.Layouts.{length-numbers}
+use Rattle.lock_checker.proofs.BaseLemmas.{accepted_small}
+use Rattle.dependence.specs.Journal.{initial_stage}
+use Rattle.dependence.specs.RunBuffer.{RunStands, initial_buffer}
+use Rattle.dependence.proofs.RunBuffers.{after-events}
+use Rattle.task_code.specs.Reading.{start_place}
+use Rattle.task_code.proofs.Machines.{follows}
+use Rattle.record_store.specs.Stored.{Stored, state_of, with_thread, without_threads}
+use Rattle.record_store.proofs.States.{opening_law}
+use Rattle.reorder_list.specs.declared.entry.Entry.{Entry}
+use Rattle.reorder_list.specs.Stages.{buffer_of}
+use Rattle.subthread.specs.Tasks.{Suits}
+use Rattle.engine.specs.declared.parts.Place.{Place}
+use Rattle.engine.specs.View.{Batch, program_in, run_in, under_in, start_in}
+use Rattle.engine.specs.inner.Kept.{IsPlaceIn, IsFit, WindowStands, Keeps}
+use Rattle.engine.proofs.Options.{none_some}
+use Rattle.engine.proofs.RingOpens.{ring_opens}
+use Rattle.engine.proofs.Windows.{apart, names-held, start-cells}
+use Rattle.engine.proofs.Kepts.{keeps_as}
+
+-- where thread 0 starts
+pub place_opens : (batch : Batch) (task : ℕ) (arguments ctl : List ℤ) → task ≡ main_number (program_in batch) → arguments ≡ []
+    → ctl ≡ (start_place (program_in batch) task 0 arguments).ctl
+    → IsPlaceIn batch 0 sync.Start (record { at = record { task = task; pc = 0 }; ctl = ctl }) (start_point (main_task (program_in batch)) 0 [])
+place_opens batch task arguments ctl is_main none ctl_is =
+    rw ctl_is (rw none (rw is_main ((follows (program_in batch) batch.inputs batch.limits).starts (main_number (program_in batch)) 0 [])))
+
+module _ (batch : Batch) (cells : Layout) (suits : Suits batch.work cells batch.inputs batch.limits) where
+  -- how many lock cells there are
+  locks : length cells.under ≡ cells_in (locks_of (program_in batch).heads)
+  locks =
+      ap (λ (l : Layout). length l.under) suits.layout_is
+      ∙ (length-map (numbers 0 (cells_in (locks_of (program_in batch).heads))) (cells_under (program_in batch).heads) ∙ length-numbers 0 (cells_in (locks_of (program_in batch).heads)))
+
+  pub few_locks : length cells.under ≤ 65536
+  few_locks = let few = (accepted_small (program_in batch) suits.code.accepted.faultless).0 in let same = locks in omega arith
+
+  -- the ring begins as the plain run's table
+  pub ring_begins : (table : Table) (n : ℕ) (barriers : List ℕ) → n ≡ length cells.under → barriers ≡ map (λ b. b.1) (barriers_of (program_in batch).heads)
+      → table ≡ start_table batch.limits.subthreads barriers (replicate n None) (record { sync = sync.Start; line = 0 })
+      → table ≡ (opening (program_in batch) batch.inputs batch.limits).table
+  ring_begins table n barriers is_n are is =
+      is ∙ (λ i. start_table batch.limits.subthreads (are i) (replicate ((is_n ∙ locks) i) None) (record { sync = sync.Start; line = 0 }))
+
+  fit : All IsInRange batch.faults → batch.limits.subthreads < 4294967296 → IsFit batch
+  fit ranges few =
+      record {
+        suits = record { code = suits.code; layout_is = refl; inputs_are = suits.inputs_are; feeds_are = suits.feeds_are; turns_are = suits.turns_are };
+        short = λ k d l. (ranges k d l).delay;
+        few = few;
+      }
+
+  -- nothing was issued
+  pub kept_opens : All IsInRange batch.faults → batch.limits.subthreads < 4294967296 → (table : Table) (places : List Place) (entries : List Entry) (store : Stored) (events : List Event)
+      (restarts : List Restart) (place : Place)
+      → table ≡ (opening (program_in batch) batch.inputs batch.limits).table → places ≡ place ∷ []
+      → IsPlaceIn batch 0 sync.Start place (start_point (main_task (program_in batch)) 0 [])
+      → store ≡ with_thread (length (registers_of (main_task (program_in batch)))) (without_threads batch.inputs.records cells.under)
+      → entries ≡ [] → events ≡ [] → restarts ≡ [] → Keeps batch table places entries store events restarts 0 None
+  kept_opens ranges few table places entries store events restarts place table_is places_are starts store_is no_entries no_events no_restarts =
+      keeps_as batch (opening (program_in batch) batch.inputs batch.limits).table table (place ∷ []) places [] entries opened store [] events [] restarts 0 0 None None
+      table_is places_are no_entries store_is no_events no_restarts refl refl keeps
+    where
+      opened : Stored
+      opened = with_thread (length (registers_of (main_task (program_in batch)))) (without_threads batch.inputs.records cells.under)
+
+      opens : initial_buffer (start_in batch) ≡ buffer_of opened []
+      opens = λ i. record (initial_buffer (start_in batch)) { state = sym (opening_law (program_in batch) batch.inputs batch.limits cells.under) i }
+
+      keeps : Keeps batch (opening (program_in batch) batch.inputs batch.limits).table (place ∷ []) [] opened [] [] 0 None
+      keeps =
+          record {
+            fit = fit ranges few;
+            journal = record { lawful = tt; restarts_are = refl; issued_are = refl; ended_is = tt };
+            ring = ring_opens batch (IsPlaceIn batch) place starts;
+            window = record {
+              entries_are = record { row = tt; front = refl; each = λ p e there. absurd (none_some there) };
+              buffer_is = subst (RunStands (run_in batch) batch.faults (start_in batch) initial_stage) opens
+                  (after-events (run_in batch) batch.faults (under_in batch) (apart batch (fit ranges few)) (names-held batch (fit ranges few)) (start_in batch)
+                  (start-cells batch (fit ranges few)) (fit ranges few).short [] tt).1;
+              placed = λ k d l. absurd (omega arith);
+              undoable = λ k d l. absurd (omega arith);
+              home = record { threads = omega arith; cells = suits.inputs_are.records; under = ap (λ (l : Layout). l.under) suits.layout_is };
+            };
+          }

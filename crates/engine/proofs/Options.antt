@@ -1,0 +1,11 @@
+-- Values that are there, and values that are not.
+use Rattle.std.proofs.Common.{◌≡◌, Option, Some, None, unwrap_or, ap}
+
+pub some_none : {A : Type 0} {x : A} → Some x ≡ None → ⊥
+some_none e = cc e
+
+pub none_some : {A : Type 0} {x : A} → None ≡ Some x → ⊥
+none_some e = cc e
+
+pub some_same : {A : Type 0} {a b : A} → Some a ≡ Some b → a ≡ b
+some_same {a = a} e = ap (λ o. unwrap_or o a) e

@@ -1,0 +1,171 @@
+-- All is kept where an attempt was posted, and its task stands.
+use Rattle.std.proofs.Common.{◌≡◌, ℕ, nat_eq, Bool, true, false, cond, List, [], ◌∷◌, ◌++◌, Some, refl, sym, ap, ◌∙◌, subst, arith}
+use Rattle.std.specs.Prelude.{All, Contains, pos, negsuc}
+use Rattle.std.specs.Option.{IsSomeAnd}
+use Rattle.std.proofs.lemmas.List.Elements.{All-head, All-tail, Contains-push}
+use Rattle.gp_base.specs.declared.journal.Event.{Event}
+use Rattle.gp_base.specs.declared.journal.Event.TheVariants as event
+use Rattle.task_ast.specs.declared.sync.SyncOp.{SyncOp}
+use Rattle.task_ast.specs.declared.sync.SyncOp.TheVariants as sync
+use Rattle.task_ast.specs.declared.sync.Next.{Next}
+use Rattle.task_ast.specs.Plain.{Subthread, tree_machine}
+use Rattle.task_ast.specs.Position.{point_in, before}
+use Rattle.task_ast.specs.Fold.{fold}
+use Rattle.task_ast.proofs.Positions.{forked_is}
+use Rattle.task_ast.proofs.SeatLimits.{most_threads_law}
+use Rattle.task_ast.proofs.Standings.{agrees}
+use Rattle.task_code.specs.Relation.{Rests}
+use Rattle.dependence.specs.Journal.{Stage, Allowed, happens}
+use Rattle.dependence.specs.Standing.{present, StageStands}
+use Rattle.dependence.specs.RunBuffer.{members_at}
+use Rattle.record_store.specs.Given.{given_of, joined_by}
+use Rattle.record_store.specs.Stored.{state_of}
+use Rattle.reorder_list.specs.declared.entry.Entry.{Entry}
+use Rattle.reorder_list.specs.Entries.{entry_at, with_change_at, out_entry}
+use Rattle.reorder_list.specs.Runnable.{IsRunnable}
+use Rattle.reorder_list.specs.Stages.{IsEntry}
+use Rattle.reorder_list.proofs.Changes.{position-of}
+use Rattle.reorder_list.proofs.Staged.{is-runnable}
+use Rattle.subthread.specs.declared.task.Task.{Task}
+use Rattle.subthread.specs.Footprints.{IsNumbered}
+use Rattle.subthread.specs.Tasks.{Fits, place_of}
+use Rattle.subthread.specs.Joining.{IsTaskOf, IsGiven}
+use Rattle.subthread.proofs.Fitted.{fits_law}
+use Rattle.crew.specs.Out.{pair_of}
+use Rattle.engine.specs.declared.parts.Parts.{Parts}
+use Rattle.engine.specs.View.{Batch, program_in, run_in, dependence_in, start_in, grown}
+use Rattle.engine.specs.Gives.{MayPostNow}
+use Rattle.engine.specs.Takes.{TaskStands}
+use Rattle.engine.specs.inner.Kept.{view_of, stage_of, IsPlaceIn, IsPlaced, Keeps, Kept}
+use Rattle.engine.specs.inner.Posted.{task_in}
+use Rattle.engine.proofs.Kepts.{stage_then, stage_stands, keeps_then}
+use Rattle.engine.proofs.RingTakes.{ring_same}
+use Rattle.engine.proofs.Windows.{threads-below, window-post}
+
+-- what all entries meet, the entry of a position meets
+all-there : (P : Entry → Type 0) (entries : List Entry) (p : ℕ) (e : Entry) → All P entries → entry_at entries p ≡ Some e → P e
+all-there P [] p e all there = absurd (cc there)
+all-there P (x ∷ entries) p e all there = go (all-there P entries p e (All-tail P x entries all)) (nat_eq x.pos p) there
+  where
+    go : (entry_at entries p ≡ Some e → P e) → (b : Bool) → cond b (Some x) (entry_at entries p) ≡ Some e → P e
+    go later true is = subst P (cc is) (All-head P x entries all)
+    go later false is = later is
+
+module _ (batch : Batch) (parts : Parts) (kept : Kept batch parts) (p : ℕ) (may : MayPostNow (view_of batch parts) p) where
+  abbrev at : Stage
+  at = stage_of batch parts.events.items
+
+  stage : StageStands (dependence_in batch) batch.faults at
+  stage = stage_stands batch parts.events.items kept.fit kept.journal
+
+  pub runnable : IsRunnable parts.rol.entries p
+  runnable = is-runnable (run_in batch) at parts.rol.entries kept.window.entries_are batch.faults p may
+
+  abbrev e : Entry
+  e = runnable.entry
+
+  is : IsEntry (run_in batch) at p e
+  is = kept.window.entries_are.each p e runnable.is_there
+
+  abbrev s : Subthread
+  s = is.subthread
+
+  -- the thread that is joined has a number of 32 bits
+  numbered-sync : (op : SyncOp) → s.begins.sync ≡ op → IsNumbered op
+  numbered-sync (sync.Join (pos h)) same =
+      let front = stage.front_low in
+      let below = may.issued in
+      let forked = (forked_is (tree_machine (program_in batch) batch.inputs batch.limits) (program_in batch) batch.inputs batch.limits p s is.is_there).joined (pos h) same in
+      let reached = threads-below batch p at.progress.front (omega (arith, below)) front in
+      let many = (agrees (tree_machine (program_in batch) batch.inputs batch.limits) (program_in batch) batch.inputs batch.limits at.progress.front parts.ring.table kept.ring.stands).threads in
+      let most = most_threads_law parts.ring.table kept.ring.stands.reached in
+      let same_number : h ≡ forked.0 = cc (forked.1) in
+      let low = forked.2 in
+      omega arith
+  numbered-sync (sync.Join (negsuc h)) same = tt
+  numbered-sync sync.Start same = tt
+  numbered-sync (sync.Lock l) same = tt
+  numbered-sync (sync.Unlock l) same = tt
+  numbered-sync (sync.Fork k es) same = tt
+  numbered-sync (sync.Barrier b) same = tt
+  numbered-sync sync.End same = tt
+  numbered-sync sync.BadIndex same = tt
+  numbered-sync sync.Spent same = tt
+
+  pub numbered : IsSomeAnd (entry_at parts.rol.entries p) (λ x. IsNumbered x.begins.sync)
+  numbered =
+      subst (λ o. IsSomeAnd o (λ (x : Entry). IsNumbered x.begins.sync)) (sym runnable.is_there)
+      (subst (λ next. IsNumbered next.sync) (sym is.is_of.begins) (numbered-sync s.begins.sync refl))
+
+  abbrev task : Task
+  task = task_in batch.faults parts.store p e
+
+  is-task : IsTaskOf batch.work batch.inputs batch.limits p s task
+  is-task = record { position = is.is_there; thread = is.is_of.thread; begins = is.is_of.begins; child = is.is_of.child; held = is.is_of.held; place = place }
+    where
+      at_entry : IsPlaced batch e
+      at_entry = all-there (IsPlaced batch) parts.rol.entries p e kept.window.placed runnable.is_there
+
+      place : Rests (program_in batch) s.begins.sync (point_in (program_in batch) batch.inputs batch.limits (before (program_in batch) batch.inputs batch.limits p) s.thread) (place_of task)
+      place =
+          subst (λ (next : Next). Rests (program_in batch) next.sync (point_in (program_in batch) batch.inputs batch.limits (before (program_in batch) batch.inputs batch.limits p) s.thread) (place_of task)) is.is_of.begins
+          (subst (λ t. Rests (program_in batch) e.begins.sync (point_in (program_in batch) batch.inputs batch.limits (before (program_in batch) batch.inputs batch.limits p) t) (place_of task)) is.is_of.thread
+          (subst (λ q. Rests (program_in batch) e.begins.sync (point_in (program_in batch) batch.inputs batch.limits (before (program_in batch) batch.inputs batch.limits q) e.thread) (place_of task))
+          (position-of parts.rol.entries p e runnable.is_there) at_entry))
+
+  is-given : IsGiven batch.work batch.inputs batch.limits task (state_of parts.store)
+  is-given = ap (λ under. given_of under (state_of parts.store) e.thread (joined_by e.begins.sync) e.held) kept.window.home.under
+
+  fits-it : Fits batch.work task
+  fits-it = fits_law batch.work batch.inputs batch.limits p s task (state_of parts.store) is-task is-given
+
+  abbrev post : Event
+  post = event.Post p (present at p)
+
+  allowed : Allowed (dependence_in batch) batch.faults at post
+  allowed = may
+
+  -- the task stands once it is posted
+  task-stands : TaskStands (grown (view_of batch parts) post) task
+  task-stands =
+      let then = stage_then batch parts.events.items post in
+      record {
+        is_task = record { subthread = s; is_of = is-task; mask = refl };
+        posted = subst (λ (x : Stage). Contains x.posted (p, e.attempt)) (sym then)
+            (subst (λ a. Contains (at.posted ++ (p, present at p) ∷ []) (p, a)) (sym is.attempt) (Contains-push at.posted (p, present at p)));
+        untaken = λ h. may.unposted (stage.taken_posted p (present at p)
+            (subst (λ a. Contains at.taken (p, a)) is.attempt (subst (λ (x : Stage). Contains x.taken (p, e.attempt)) then h)));
+        given = λ same. subst (IsGiven batch.work batch.inputs batch.limits task) (kept.window.buffer_is.state_is
+            ∙ ap (λ (x : Stage). fold (members_at (run_in batch) batch.faults x) (start_in batch) x.applied x.progress.front) (sym then)) is-given;
+      }
+
+  kept-posted : Keeps batch parts.ring.table parts.places.items (with_change_at p out_entry parts.rol.entries) parts.store (parts.events.items ++ post ∷ []) parts.restarts.items parts.issued parts.ended
+  kept-posted =
+      keeps_then batch parts.events.items kept.fit kept.journal post allowed parts.ring.table parts.places.items (with_change_at p out_entry parts.rol.entries) parts.store parts.restarts.items parts.issued
+      parts.ended (ring_same batch (IsPlaceIn batch) at (happens (dependence_in batch) batch.faults at post) parts.ring.table parts.places.items refl refl kept.ring)
+      (window-post batch kept.fit at stage parts.ring.table parts.store parts.rol.entries kept.window p (present at p) allowed) kept.journal.restarts_are kept.journal.issued_are kept.journal.ended_is
+
+  -- the same of the task that was found, and of the events that were made
+  module _ (found : Task) (some : IsSomeAnd (entry_at parts.rol.entries p) (λ x. found ≡ task_in batch.faults parts.store p x)) where
+    same : found ≡ task
+    same = subst (λ o. IsSomeAnd o (λ (x : Entry). found ≡ task_in batch.faults parts.store p x)) runnable.is_there some
+
+    pub fits : Fits batch.work found
+    fits = subst (Fits batch.work) (sym same) fits-it
+
+    pub pair : pair_of found ≡ (p, present at p)
+    pair = ap pair_of same ∙ ap (λ a. (p, a)) is.attempt
+
+    module _ (before events : List Event) (before_are : before ≡ parts.events.items) (events_are : events ≡ before ++ event.Post p found.attempt ∷ []) where
+      pub made : events ≡ parts.events.items ++ post ∷ []
+      made = events_are ∙ (λ i. before_are i ++ event.Post p (pair i).1 ∷ [])
+
+      pub view-made : record { batch = batch; events = events; ended = parts.ended } ≡ grown (view_of batch parts) post
+      view-made = λ i. record { batch = batch; events = made i; ended = parts.ended }
+
+      pub stands : TaskStands (record { batch = batch; events = events; ended = parts.ended }) found
+      stands = rw (view-made, same) task-stands
+
+      pub kept-then : (entries : List Entry) → entries ≡ with_change_at p out_entry parts.rol.entries
+          → Keeps batch parts.ring.table parts.places.items entries parts.store events parts.restarts.items parts.issued parts.ended
+      kept-then entries entries_are = rw (entries_are, made) kept-posted

@@ -1,0 +1,207 @@
+-- All is kept where the run of a task was taken.
+use Rattle.std.proofs.Common.{◌≡◌, inl, inr, ℕ, nat_eq, Bool, true, false, cond, ◌<◌, ◌≤◌, List, [], ◌∷◌, ◌++◌, length, Option, Some, None, refl, sym, ap, ◌∙◌, subst, arith, slice_get, slice_set}
+use Rattle.std.specs.Prelude.{Contains}
+use Rattle.std.specs.Option.{IsSomeAnd}
+use Rattle.std.proofs.lemmas.Bool.{eqb-true, eq-eqb, false≢true, false_from_ne_true, cases_lt}
+use Rattle.gp_base.specs.declared.journal.Event.{Event}
+use Rattle.gp_base.specs.declared.journal.Event.TheVariants as event
+use Rattle.task_ast.specs.declared.sync.Next.{Next}
+use Rattle.task_ast.specs.Table.{Table, learning}
+use Rattle.task_ast.specs.Plain.{Subthread}
+use Rattle.task_ast.specs.Position.{body_at}
+use Rattle.task_ast.proofs.IssuedTables.{learnt_length}
+use Rattle.task_code.specs.Relation.{Rests}
+use Rattle.dependence.specs.Restarts.{mask_of}
+use Rattle.dependence.specs.Journal.{Stage, Allowed, happens}
+use Rattle.dependence.specs.Standing.{present, StageStands}
+use Rattle.dependence.specs.Touching.{done_by}
+use Rattle.dependence.specs.RunBuffer.{members_at}
+use Rattle.token_order.specs.View.{awaited}
+use Rattle.record_store.specs.Given.{given_of, joined_by}
+use Rattle.record_store.specs.Stored.{Stored, state_of, Fits}
+use Rattle.reorder_list.specs.declared.entry.Entry.{Entry}
+use Rattle.reorder_list.specs.declared.entry.State.{State}
+use Rattle.reorder_list.specs.declared.entry.State.TheVariants as entry
+use Rattle.reorder_list.specs.Entries.{entry_at}
+use Rattle.reorder_list.proofs.Changes.{is-there}
+use Rattle.subthread.specs.declared.task.Done.{Done}
+use Rattle.subthread.specs.Tasks.{task_of, effect_of, IsRun}
+use Rattle.subthread.specs.Joining.{Runs}
+use Rattle.subthread.proofs.Joined.{runs_law}
+use Rattle.task_ast.specs.Layout.{layout}
+use Rattle.engine.specs.declared.parts.Parts.{Parts}
+use Rattle.engine.specs.declared.parts.Place.{Place}
+use Rattle.engine.specs.View.{Batch, program_in, run_in, dependence_in, under_in}
+use Rattle.engine.specs.Takes.{TaskStands}
+use Rattle.engine.specs.inner.RingStands.{RingStands}
+use Rattle.engine.specs.inner.Kept.{view_of, stage_of, IsPlaceIn, IsHome, WindowStands, Keeps, Kept}
+use Rattle.engine.specs.inner.Taken.{is_number, awaits, learning_from, placing_from, has_attempt, IsAppliedWhere}
+use Rattle.engine.proofs.Kepts.{stage_stands, keeps_then}
+use Rattle.engine.proofs.RingTakes.{ring_stale, ring_learnt}
+use Rattle.engine.proofs.Windows.{window-stale, window-take, effect-fits, effect-fresh}
+
+number-is : (p : ℕ) (o : Option ℕ) → is_number p o ≡ true → o ≡ Some p
+number-is p None e = absurd (false≢true e)
+number-is p (Some q) e = ap Some (eqb-true q p e)
+
+number-not : (p : ℕ) (o : Option ℕ) → is_number p o ≡ false → o ≡ Some p → ⊥
+number-not p None e same = absurd (cc same)
+number-not p (Some q) e same = absurd (let is : q ≡ p = cc same in let yes = eq-eqb q p is in cc (e, yes))
+
+-- an attempt that was posted and is not applied is out
+state-out : (state : State) → (state ≡ entry.Waiting → ⊥) → (state ≡ entry.Applied → ⊥) → state ≡ entry.Out
+state-out entry.Waiting waits applied = absurd (waits refl)
+state-out entry.Out waits applied = refl
+state-out entry.Applied waits applied = absurd (applied refl)
+
+module _ (batch : Batch) (parts : Parts) (kept : Kept batch parts) (done : Done) (task : TaskStands (view_of batch parts) (task_of done)) (run : IsRun batch.work done) where
+  abbrev at : Stage
+  at = stage_of batch parts.events.items
+
+  abbrev p : ℕ
+  p = (task_of done).pos
+
+  abbrev attempt : ℕ
+  attempt = (task_of done).attempt
+
+  abbrev t : ℕ
+  t = (task_of done).thread
+
+  abbrev s : Subthread
+  s = task.is_task.subthread
+
+  abbrev there : slice_get (run_in batch) p ≡ Some s
+  there = task.is_task.is_of.position
+
+  stage : StageStands (dependence_in batch) batch.faults at
+  stage = stage_stands batch parts.events.items kept.fit kept.journal
+
+  runs : Runs batch.work batch.inputs batch.limits p s done
+  runs = runs_law batch.work (layout (program_in batch).heads) batch.inputs batch.limits kept.fit.suits p s done task.is_task.is_of run
+
+  below : p < at.progress.front
+  below = (stage.posted_low p attempt task.posted).0
+
+  -- the run's attempt is the present one exactly where its entry has it
+  abbrev fresh : Bool
+  fresh = has_attempt attempt (entry_at parts.rol.entries p)
+
+  young : attempt ≡ present at p → at.retired ≤ p
+  young same =
+      elim (cases_lt p at.retired) [
+        | inl l ↦ absurd (task.untaken (subst (λ a. Contains at.taken (p, a)) (sym same)
+            (stage.applied_taken p (stage.retired_applied p l) (subst (λ a. Contains at.posted (p, a)) same task.posted))))
+        | inr l ↦ l
+      ]
+
+  found : attempt ≡ present at p → (e : Entry) × (entry_at parts.rol.entries p ≡ Some e)
+  found same =
+      let front = kept.window.entries_are.front in
+      let low = young same in
+      let high = below in
+      is-there at.retired parts.rol.entries p kept.window.entries_are.row low (omega arith)
+
+  fresh-is : fresh ≡ nat_eq attempt (present at p)
+  fresh-is = go (entry_at parts.rol.entries p) refl
+    where
+      go : (o : Option Entry) → entry_at parts.rol.entries p ≡ o → has_attempt attempt o ≡ nat_eq attempt (present at p)
+      go (Some e) is = ap (nat_eq attempt) (kept.window.entries_are.each p e is).attempt
+      go None is = sym (false_from_ne_true (nat_eq attempt (present at p)) (λ e. absurd (let f = (found (eqb-true attempt (present at p) e)).1 in let both = sym is ∙ f in cc both)))
+
+  is-present : fresh ≡ true → attempt ≡ present at p
+  is-present e = eqb-true attempt (present at p) (sym fresh-is ∙ e)
+
+  pub allowed : Allowed (dependence_in batch) batch.faults at (event.Take p attempt fresh)
+  allowed = record { posted = task.posted; untaken = task.untaken; decided = fresh-is }
+
+  pub fits : Fits parts.store (effect_of done)
+  fits = effect-fits batch kept.fit at stage parts.ring.table parts.store parts.rol.entries kept.window p s done there below task.is_task.is_of runs kept.ring.stands
+
+  pub out : fresh ≡ true → IsSomeAnd (entry_at parts.rol.entries p) (λ e. e.state ≡ entry.Out)
+  out e =
+      let same = is-present e in
+      let posted = subst (λ a. Contains at.posted (p, a)) same task.posted in
+      let f = found same in
+      let is = kept.window.entries_are.each p f.0 f.1 in
+      subst (λ o. IsSomeAnd o (λ (x : Entry). x.state ≡ entry.Out)) (sym f.1)
+      (state-out f.0.state (λ w. is.waits.0 w posted) (λ a. task.untaken (subst (λ b. Contains at.taken (p, b)) (sym same) (stage.applied_taken p (is.applied.0 a) posted))))
+
+  module _ (next : Next) (place : Place) (next_is : done.next ≡ next) (at_is : done.at ≡ place.at) (ctl_is : done.ctl ≡ place.ctl) where
+    ring-then : (applies : Bool)
+        → RingStands batch (IsPlaceIn batch) (happens (dependence_in batch) batch.faults at (event.Take p attempt applies))
+        (learning_from p t next parts.ring.table) (placing_from p t place parts.ring.table parts.places.items)
+    ring-then applies = go (awaits parts.ring.table t p) refl
+      where
+        same : t ≡ s.thread
+        same = task.is_task.is_of.thread
+
+        rests : Rests (program_in batch) next.sync (body_at (program_in batch) batch.inputs batch.limits p s).at (record { at = place.at; ctl = place.ctl; me = s.thread })
+        rests =
+            subst (λ (n : Next). Rests (program_in batch) n.sync (body_at (program_in batch) batch.inputs batch.limits p s).at (record { at = place.at; ctl = place.ctl; me = s.thread }))
+            (sym runs.next ∙ next_is)
+            (subst (λ here. Rests (program_in batch) (body_at (program_in batch) batch.inputs batch.limits p s).next.sync (body_at (program_in batch) batch.inputs batch.limits p s).at here)
+            (λ i. record { at = at_is i; ctl = ctl_is i; me = same i }) runs.place)
+
+        go : (b : Bool) → awaits parts.ring.table t p ≡ b
+            → RingStands batch (IsPlaceIn batch) (happens (dependence_in batch) batch.faults at (event.Take p attempt applies))
+            (cond b (learning parts.ring.table t next) parts.ring.table) (cond b (slice_set parts.places.items t place) parts.places.items)
+        go true e =
+            subst (λ u. RingStands batch (IsPlaceIn batch) (happens (dependence_in batch) batch.faults at (event.Take p attempt applies))
+            (learning parts.ring.table u next) (slice_set parts.places.items u place)) (sym same)
+            (ring_learnt batch (IsPlaceIn batch) at parts.ring.table parts.places.items kept.ring p attempt applies s there next place (sym next_is ∙ runs.next) rests
+            (subst (λ u. awaited parts.ring.table u ≡ Some p) same (number-is p (awaited parts.ring.table t) e)))
+        go false e =
+            ring_stale batch (IsPlaceIn batch) at parts.ring.table parts.places.items kept.ring p attempt applies s there
+            (subst (λ u. awaited parts.ring.table u ≡ Some p → ⊥) same (number-not p (awaited parts.ring.table t) e))
+
+    seats-then : length (learning_from p t next parts.ring.table).seats ≡ length parts.ring.table.seats
+    seats-then = go (awaits parts.ring.table t p)
+      where
+        go : (b : Bool) → length (cond b (learning parts.ring.table t next) parts.ring.table).seats ≡ length parts.ring.table.seats
+        go true = learnt_length parts.ring.table t next
+        go false = refl
+
+    window-then : (store : Stored) (entries : List Entry) (applies : Bool) → Allowed (dependence_in batch) batch.faults at (event.Take p attempt applies)
+        → (applies ≡ true → fresh ≡ true) → IsAppliedWhere applies p (effect_of done) parts.store store parts.rol.entries entries
+        → WindowStands batch (happens (dependence_in batch) batch.faults at (event.Take p attempt applies)) (learning_from p t next parts.ring.table) entries store
+    window-then store entries false may is applied =
+        subst (λ later. WindowStands batch (happens (dependence_in batch) batch.faults at (event.Take p attempt false)) (learning_from p t next parts.ring.table) entries later) (sym applied.0)
+        (subst (λ others. WindowStands batch (happens (dependence_in batch) batch.faults at (event.Take p attempt false)) (learning_from p t next parts.ring.table) others parts.store) (sym applied.1)
+        (window-stale batch kept.fit at stage parts.ring.table parts.store parts.rol.entries kept.window p attempt may (learning_from p t next parts.ring.table) home))
+      where
+        home : IsHome batch (learning_from p t next parts.ring.table) parts.store
+        home = record { threads = (let many = kept.window.home.threads in let same = seats-then in omega arith); cells = kept.window.home.cells; under = kept.window.home.under }
+    window-then store entries true may is applied =
+        subst (λ others. WindowStands batch (happens (dependence_in batch) batch.faults at (event.Take p attempt true)) (learning_from p t next parts.ring.table) others store) (sym applied.entries_are)
+        (window-take batch kept.fit at stage parts.ring.table parts.store parts.rol.entries kept.window p attempt may (found present_is).0 (found present_is).1 (effect_of done) effect_is
+        (learning_from p t next parts.ring.table) store home applied.state applied.shape applied.back)
+      where
+        present_is : attempt ≡ present at p
+        present_is = is-present (is refl)
+
+        effect_is : effect_of done ≡ done_by (members_at (run_in batch) batch.faults at p) (state_of parts.store)
+        effect_is =
+            effect-fresh batch kept.fit at stage parts.ring.table parts.store parts.rol.entries kept.window p s done there below task.is_task.is_of runs kept.ring.stands
+            (task.is_task.mask ∙ ap (mask_of batch.faults p) present_is)
+            (subst (λ state. (task_of done).given ≡ given_of (under_in batch) state (task_of done).thread (joined_by (task_of done).begins.sync) (task_of done).held)
+            (sym kept.window.buffer_is.state_is) (task.given present_is))
+
+        home : IsHome batch (learning_from p t next parts.ring.table) store
+        home =
+            record {
+              threads = (let many = kept.window.home.threads in let same = seats-then in let shape = applied.shape.threads in omega arith);
+              cells = applied.shape.cells ∙ kept.window.home.cells;
+              under = applied.shape.under ∙ kept.window.home.under;
+            }
+
+    -- all is kept
+    pub kept-taken : (answer : Bool) → answer ≡ fresh → (table : Table) (places : List Place) (entries : List Entry) (store : Stored) (events : List Event)
+        → table ≡ learning_from p t next parts.ring.table → places ≡ placing_from p t place parts.ring.table parts.places.items
+        → IsAppliedWhere answer p (effect_of done) parts.store store parts.rol.entries entries → events ≡ parts.events.items ++ event.Take p attempt answer ∷ []
+        → Keeps batch table places entries store events parts.restarts.items parts.issued parts.ended
+    kept-taken answer is table places entries store events table_is places_is applied events_is =
+        rw (table_is, places_is, events_is, is)
+        (keeps_then batch parts.events.items kept.fit kept.journal (event.Take p attempt fresh) allowed (learning_from p t next parts.ring.table)
+        (placing_from p t place parts.ring.table parts.places.items) entries store parts.restarts.items parts.issued parts.ended (ring-then fresh)
+        (window-then store entries fresh allowed (λ e. e) (subst (λ b. IsAppliedWhere b p (effect_of done) parts.store store parts.rol.entries entries) is applied))
+        kept.journal.restarts_are kept.journal.issued_are kept.journal.ended_is)

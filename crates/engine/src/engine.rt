@@ -1,0 +1,66 @@
+// The engine over its real parts.
+
+use crate::parts::{Parts, Plan, begin};
+use gp_base::{Faults, Inputs, Limits};
+use std::alloc::{AllocError, Global};
+use std::marker::Model;
+use std::snapshot::Snapshot;
+use subthread::Work;
+use task_ast::Layout;
+
+/// A run while it goes on. Contracts see what it was begun with, its events and its end where that is known, and how
+/// many events it has room for. All that stands between two calls stands in the type.
+#[derive(Drop)]
+pub struct Engine<'a> {
+    alloc: Global,
+    plan: Plan<'a>,
+    parts: Parts,
+}
+
+impl<'a> Model for Engine<'a> {
+    ghost use Rattle.std.specs.Coded.{codes};
+    ghost use Rattle.task_ast.specs.contracts.tree.Program as program;
+    ghost use Rattle.task_code.specs.contracts.instrs.Instr as instr;
+    ghost use Rattle.engine.specs.Engaged.{Engaged};
+
+    ghost Value = { Engaged };
+
+    ghost coded = { Prim.hlevel (codes, program.the_row.coded, instr.the_row.coded) };
+
+    ghost use Rattle.engine.specs.inner.Kept.{batch_of, view_of, Kept};
+
+    ghost view = { λ e. record { view = view_of (batch_of e.plan) e.parts; room = e.parts.events.spare } };
+
+    ghost invariant = { λ e. Kept (batch_of e.plan) e.parts };
+}
+
+impl<'a> Engine<'a> {
+    ghost use Rattle.std.specs.Prelude.{◌≡◌, IfOk};
+    ghost use Rattle.subthread.specs.Tasks.{Suits};
+    ghost use Rattle.engine.specs.View.{begun};
+    ghost use Rattle.engine.specs.Drive.{batch_of};
+
+    /// A run of this work that begins, with this layout, these inputs and faults, within these limits. The error is that
+    /// memory is out.
+    pub fn new(
+        alloc: Global,
+        work: &'a Work,
+        layout: Layout,
+        inputs: Inputs,
+        faults: Faults,
+        limits: Limits,
+    ) -> Result<Engine<'a>, AllocError>
+        requires { Suits work.now layout inputs limits }
+        ensures { IfOk result (λ engine. engine.view ≡ begun (batch_of work.now inputs limits faults)) }
+    {
+        let plan = Plan {
+            work,
+            inputs: Snapshot::of(&inputs),
+            limits,
+            faults,
+        };
+        let Inputs { records, feeds: _ } = inputs;
+        let parts = begin(alloc, &plan, layout, records)?;
+        Ok(Engine { alloc, plan, parts })
+    }
+}

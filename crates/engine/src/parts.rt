@@ -1,0 +1,65 @@
+// What an engine keeps of a run, and what it was begun with.
+
+ghost use Rattle.std.specs.Prelude.{◌≡◌, IfOk};
+
+mod beginning;
+mod issuing;
+mod posting;
+mod taking;
+
+pub use beginning::begin;
+pub use issuing::issue;
+pub use posting::post;
+pub use taking::accept;
+
+use gp_base::{At, End, Event, Faults, Inputs, Limits, Nums, Restart, Room};
+use record_store::Store;
+use reorder_list::Rol;
+use std::alloc::{AllocError, Global};
+use std::snapshot::Snapshot;
+use subthread::Work;
+use token_order::Ring;
+
+/// What is run: the work that its tasks share, the inputs as they were at its start, its limits, and the faults that
+/// strike it.
+#[derive(Drop)]
+pub struct Plan<'a> {
+    pub work: &'a Work,
+    pub inputs: Snapshot<Inputs>,
+    pub limits: Limits,
+    pub faults: Faults,
+}
+
+/// A place of the code with the values of the control variables.
+#[derive(Drop)]
+pub struct Place {
+    pub at: At,
+    pub ctl: Nums,
+}
+
+/// How far a run has come: the ring of its threads and where each of them stands, the entries of the subthreads that have
+/// not retired, the data, the events and restarts so far, how many subthreads were issued, and how the run ends, where it
+/// is known that it ends at this front.
+#[derive(Drop)]
+pub struct Parts {
+    pub ring: Ring,
+    pub places: Vec<Place>,
+    pub rol: Rol,
+    pub store: Store,
+    pub events: Room<Event>,
+    pub restarts: Room<Restart>,
+    pub issued: u32,
+    pub ended: Option<End>,
+}
+
+impl Place {
+    /// The same place. The error is that memory is out.
+    fn copied(&self, alloc: Global) -> Result<Place, AllocError>
+        ensures { IfOk result (λ place. place ≡ self.now) }
+    {
+        Ok(Place {
+            at: self.at,
+            ctl: self.ctl.copied(alloc)?,
+        })
+    }
+}

@@ -1,0 +1,107 @@
+// Taking the run of a task.
+
+ghost use Rattle.std.specs.Prelude.{◌≡◌, ◌<◌, true, length};
+ghost use Rattle.std.specs.Option.{IsSomeAnd};
+ghost use Rattle.gp_base.specs.declared.journal.Event.TheVariants as event;
+ghost use Rattle.record_store.specs.Stored.{Fits};
+ghost use Rattle.reorder_list.specs.Entries.{entry_at};
+ghost use Rattle.reorder_list.specs.declared.entry.State.TheVariants as state;
+ghost use Rattle.subthread.specs.Tasks.{task_of, IsRun};
+ghost use Rattle.engine.specs.Gives.{Did};
+ghost use Rattle.engine.specs.Takes.{TaskStands};
+ghost use Rattle.engine.specs.inner.Kept.{batch_of, view_of, Kept};
+ghost use Rattle.engine.specs.inner.Taken.{awaits, learning_from, placing_from, has_attempt, IsAppliedWhere};
+
+use crate::parts::{Parts, Place, Plan};
+use gp_base::{Event, Pos, ThreadNo};
+use record_store::Store;
+use reorder_list::Rol;
+use subthread::Done;
+use task_ast::{Effect, Next};
+use token_order::Ring;
+
+/// Whether this attempt of a position is its present one. A position that has retired has none.
+fn is_present(rol: &Rol, pos: Pos, attempt: u32) -> bool
+    ensures { result ≡ has_attempt attempt (entry_at rol.now.entries pos) }
+{
+    match rol.get(pos) {
+        Some(entry) => attempt == entry.attempt,
+        None => false,
+    }
+}
+
+/// Whether a thread's next synchronisation is awaited from this position.
+fn is_awaited(ring: &Ring, thread: ThreadNo, pos: Pos) -> bool
+    ensures { result ≡ awaits ring.now.table thread pos }
+{
+    match ring.awaits(thread) {
+        Some(last) => last.0 == pos.0,
+        None => false,
+    }
+}
+
+/// Learns a thread's next synchronisation and place, where these are awaited from this position.
+fn learn(
+    ring: &mut Ring,
+    places: &mut [Place],
+    thread: ThreadNo,
+    pos: Pos,
+    next: Next,
+    place: Place,
+)
+    requires exists { awaits ring.old.table thread pos ≡ true → thread < length ring.old.table.seats }
+    requires places { length places.old ≡ length ring.old.table.seats }
+    ensures table { ring.new.table ≡ learning_from pos thread next ring.old.table }
+    ensures places { places.new ≡ placing_from pos thread place ring.old.table places.old }
+{
+    if is_awaited(ring, thread, pos) {
+        ring.learn(thread, next);
+        places[thread.0 as usize] = place;
+    }
+}
+
+/// Applies an effect, where that is to be.
+fn apply_where(fresh: bool, store: &mut Store, rol: &mut Rol, pos: Pos, effect: Effect)
+    requires fits { fresh ≡ true → Fits store.old effect }
+    requires out { fresh ≡ true → IsSomeAnd (entry_at rol.old.entries pos) (λ e. e.state ≡ state.Out) }
+    ensures { IsAppliedWhere fresh pos effect store.old store.new rol.old.entries rol.new.entries }
+{
+    if fresh {
+        let (history, lines) = store.apply(effect);
+        rol.set_applied(pos, history, lines);
+    }
+}
+
+/// Takes the run of a task that is out, and applies it where its attempt is the present one, which is the answer. What
+/// its thread does next is learnt in any case, where it is awaited.
+pub fn accept(plan: &Plan, parts: &mut Parts, done: Done) -> bool
+    requires kept { Kept (batch_of plan.now) parts.old }
+    requires task { TaskStands (view_of (batch_of plan.now) parts.old) (task_of done) }
+    requires run { IsRun (batch_of plan.now).work done }
+    requires room { 0 < parts.old.events.spare }
+    ensures kept { Kept (batch_of plan.now) parts.new }
+    ensures did { Did (view_of (batch_of plan.now) parts.old) (event.Take (task_of done).pos (task_of done).attempt result) (view_of (batch_of plan.now) parts.new) }
+{
+    let Done {
+        task,
+        effect,
+        next,
+        at,
+        ctl,
+    } = done;
+    let pos = task.pos;
+    let attempt = task.attempt;
+    let fresh = is_present(&parts.rol, pos, attempt);
+    let place = Place { at, ctl };
+    learn(
+        &mut parts.ring,
+        &mut parts.places,
+        task.thread,
+        pos,
+        next,
+        place,
+    );
+    apply_where(fresh, &mut parts.store, &mut parts.rol, pos, effect);
+    parts.events.push(Event::Take(pos, attempt, fresh));
+    fresh
+}
