@@ -1,6 +1,6 @@
 -- What an engine keeps while the next subthread is issued.
-use Rattle.std.proofs.Common.{◌≡◌, inl, inr, ℕ, suc, ◌+◌, ◌<◌, ◌≤◌, Bool, true, false, List, [], ◌∷◌, ◌++◌, length, Option, Some, None, is_some, option_map, refl, sym, ap, ◌∙◌, subst, arith}
-use Rattle.std.specs.Prelude.{◌⊎◌, IsSome, slice_get, pos, negsuc, ℤ}
+use Rattle.std.proofs.Common.{◌≡◌, inl, inr, ℕ, suc, ◌+◌, ◌<◌, ◌≤◌, true, false, List, [], ◌∷◌, ◌++◌, length, Option, Some, None, is_some, option_map, refl, sym, ap, ◌∙◌, subst, arith}
+use Rattle.std.specs.Prelude.{IsSome, slice_get, pos, negsuc, ℤ}
 use Rattle.std.proofs.lemmas.Bool.{eq-eqb, lt-ltb, ltb-true, false≢true}
 use Rattle.gp_base.specs.declared.ending.End.{End}
 use Rattle.gp_base.specs.declared.journal.Event.{Event}
@@ -23,8 +23,8 @@ use Rattle.task_ast.proofs.SeatLimits.{most_threads_law}
 use Rattle.task_ast.proofs.PlainRuns.{count_law}
 use Rattle.task_ast.proofs.IssuedTables.{length_push}
 use Rattle.dependence.specs.Restarts.{NoneDue, drains}
-use Rattle.dependence.specs.Journal.{Stage, Allowed, happens}
-use Rattle.record_store.specs.Stored.{Stored, state_of, with_thread}
+use Rattle.dependence.specs.Journal.{Stage, Allowed}
+use Rattle.record_store.specs.Stored.{Stored, with_thread}
 use Rattle.record_store.proofs.States.{slot_law}
 use Rattle.record_store.proofs.Fitting.{wider_law}
 use Rattle.reorder_list.specs.declared.entry.Entry.{Entry}
@@ -43,7 +43,7 @@ use Rattle.engine.specs.inner.RingStands.{StartIs, places_after, point_before}
 use Rattle.engine.specs.inner.Kept.{stage_of, view_of, IsPlaceIn, IsPlaced, IsHome, WindowStands, Keeps, Kept}
 use Rattle.engine.specs.inner.Prepared.{PreparedFor, IsPrepared, IsReadyFor, IsPushed, SameParts, IsSlotted, names_thread, new_entry}
 use Rattle.engine.proofs.Options.{some_none, none_some, some_same}
-use Rattle.engine.proofs.RingIssues.{same_run, ring_passed, ring_needs, ring_ends, ring_issued, told, begun, below, begins_at, may_issue}
+use Rattle.engine.proofs.RingIssues.{same_run, ring_passed, ring_needs, ring_ends, ring_issued, told, begun, below, may_issue}
 use Rattle.engine.proofs.Windows.{histories-fit, window-issue}
 use Rattle.engine.proofs.Kepts.{stage_stands, names_issued, keeps_then, kept_as}
 

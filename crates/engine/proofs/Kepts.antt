@@ -1,10 +1,9 @@
 -- What an engine keeps, and what follows from it.
-use Rattle.std.proofs.Common.{◌≡◌, ℕ, ◌+◌, ◌<◌, ◌≤◌, List, [], ◌∷◌, ◌++◌, length, Option, Some, None, refl, sym, ap, ◌∙◌, subst, arith}
+use Rattle.std.proofs.Common.{◌≡◌, ℕ, List, [], ◌∷◌, ◌++◌, Option, sym, ap, ◌∙◌, subst}
 use Rattle.gp_base.specs.declared.ending.End.{End}
 use Rattle.gp_base.specs.declared.journal.Event.{Event}
 use Rattle.gp_base.specs.declared.journal.Restart.{Restart}
 use Rattle.task_ast.specs.Table.{Table}
-use Rattle.task_ast.specs.Under.{NamesHeld}
 use Rattle.dependence.specs.Journal.{Stage, initial_stage, Allowed, happens}
 use Rattle.dependence.specs.Standing.{StageStands, NamesIssued}
 use Rattle.dependence.proofs.Journals.{LawfulFrom-push, stage_from-push}

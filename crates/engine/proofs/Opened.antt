@@ -1,7 +1,6 @@
 -- What an engine keeps before its first event.
-use Rattle.std.proofs.Common.{◌≡◌, ℕ, ◌<◌, ◌≤◌, List, [], ◌∷◌, length, map, replicate, Option, Some, None, refl, sym, ap, ◌∙◌, subst, arith}
-use Rattle.std.specs.Prelude.{All, ℤ, ◌^◌}
-use Rattle.std.proofs.lemmas.Bool.{false≢true}
+use Rattle.std.proofs.Common.{◌≡◌, ℕ, ◌<◌, ◌≤◌, List, [], ◌∷◌, length, map, replicate, None, refl, sym, ap, ◌∙◌, subst, arith}
+use Rattle.std.specs.Prelude.{All, ℤ}
 use Rattle.std.proofs.Math.ListN.{length-map}
 use Rattle.gp_base.specs.Faults.{IsInRange}
 use Rattle.gp_base.specs.declared.journal.Event.{Event}
@@ -9,10 +8,10 @@ use Rattle.gp_base.specs.declared.journal.Restart.{Restart}
 use Rattle.task_ast.specs.declared.layout.Layout.{Layout}
 use Rattle.task_ast.specs.declared.sync.SyncOp.TheVariants as sync
 use Rattle.task_ast.specs.Names.{locks_of, barriers_of, registers_of, cells_in}
-use Rattle.task_ast.specs.Layout.{layout, cells_under}
+use Rattle.task_ast.specs.Layout.{cells_under}
 use Rattle.task_ast.specs.Reached.{start_table}
 use Rattle.task_ast.specs.Table.{Table, numbers}
-use Rattle.task_ast.specs.Plain.{opening, main_task, main_number, start_point, task_at}
+use Rattle.task_ast.specs.Plain.{opening, main_task, main_number, start_point}
 use Rattle.task_ast.proofs.Layouts.{length-numbers}
 use Rattle.lock_checker.proofs.BaseLemmas.{accepted_small}
 use Rattle.dependence.specs.Journal.{initial_stage}
@@ -20,14 +19,14 @@ use Rattle.dependence.specs.RunBuffer.{RunStands, initial_buffer}
 use Rattle.dependence.proofs.RunBuffers.{after-events}
 use Rattle.task_code.specs.Reading.{start_place}
 use Rattle.task_code.proofs.Machines.{follows}
-use Rattle.record_store.specs.Stored.{Stored, state_of, with_thread, without_threads}
+use Rattle.record_store.specs.Stored.{Stored, with_thread, without_threads}
 use Rattle.record_store.proofs.States.{opening_law}
 use Rattle.reorder_list.specs.declared.entry.Entry.{Entry}
 use Rattle.reorder_list.specs.Stages.{buffer_of}
 use Rattle.subthread.specs.Tasks.{Suits}
 use Rattle.engine.specs.declared.parts.Place.{Place}
 use Rattle.engine.specs.View.{Batch, program_in, run_in, under_in, start_in}
-use Rattle.engine.specs.inner.Kept.{IsPlaceIn, IsFit, WindowStands, Keeps}
+use Rattle.engine.specs.inner.Kept.{IsPlaceIn, IsFit, Keeps}
 use Rattle.engine.proofs.Options.{none_some}
 use Rattle.engine.proofs.RingOpens.{ring_opens}
 use Rattle.engine.proofs.Windows.{apart, names-held, start-cells}

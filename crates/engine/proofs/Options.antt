@@ -1,5 +1,5 @@
 -- Values that are there, and values that are not.
-use Rattle.std.proofs.Common.{◌≡◌, Option, Some, None, unwrap_or, ap}
+use Rattle.std.proofs.Common.{◌≡◌, Some, None, unwrap_or, ap}
 
 pub some_none : {A : Type 0} {x : A} → Some x ≡ None → ⊥
 some_none e = cc e

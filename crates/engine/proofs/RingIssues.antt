@@ -10,11 +10,11 @@ use Rattle.task_ast.specs.declared.sync.SyncOp.TheVariants as sync
 use Rattle.task_ast.specs.declared.sync.Next.{Next}
 use Rattle.task_ast.specs.Control.{Point}
 use Rattle.task_ast.specs.Repeat.{Again, More, Done}
-use Rattle.task_ast.specs.Table.{Table, next_of, last_in, owned}
+use Rattle.task_ast.specs.Table.{Table, next_of, last_in}
 use Rattle.task_ast.specs.Turn.{Turn, Issue, Needs, Ended, child_of, turn}
 use Rattle.task_ast.specs.laws.Threads.{SameThreads, HasBegun, with_child}
 use Rattle.task_ast.specs.laws.Standing.{Agrees, IsIssuedBy, TurnTells, passes, issues, needs, ends}
-use Rattle.task_ast.specs.Plain.{Subthread, tree_machine, start_point, task_at, end}
+use Rattle.task_ast.specs.Plain.{tree_machine, start_point, task_at, end}
 use Rattle.task_ast.specs.Position.{IsStep, last_below}
 use Rattle.task_ast.proofs.Standings.{agrees, turns_tell}
 use Rattle.task_ast.proofs.Positions.{step_is, plain_stands}

@@ -1,13 +1,13 @@
 -- The ring and the places before the first event.
-use Rattle.std.proofs.Common.{◌≡◌, ℕ, zero, suc, ◌<◌, List, [], ◌∷◌, Option, Some, None, refl, sym, ap, ◌∙◌, subst, arith, option_and_then}
-use Rattle.std.specs.Prelude.{◌≢◌, slice_get}
+use Rattle.std.proofs.Common.{◌≡◌, ℕ, zero, suc, ◌<◌, [], ◌∷◌, Some, None, refl, sym, ◌∙◌, subst, arith, option_and_then}
+use Rattle.std.specs.Prelude.{slice_get}
 use Rattle.task_ast.specs.declared.sync.SyncOp.{SyncOp}
 use Rattle.task_ast.specs.declared.sync.SyncOp.TheVariants as sync
 use Rattle.task_ast.specs.declared.sync.Next.{Next}
 use Rattle.task_ast.specs.Control.{Point}
 use Rattle.task_ast.specs.Position.{point_in}
-use Rattle.task_ast.specs.Table.{Table, new_seat}
-use Rattle.task_ast.specs.Plain.{opening, move, start_point, main_task, tree_machine, move_by, opening_by}
+use Rattle.task_ast.specs.Table.{new_seat}
+use Rattle.task_ast.specs.Plain.{opening, start_point, main_task, tree_machine, move_by}
 use Rattle.task_ast.proofs.Repeats.{state_after_none}
 use Rattle.task_ast.proofs.Standings.{own_stands}
 use Rattle.dependence.specs.Journal.{initial_stage, WasTaken}

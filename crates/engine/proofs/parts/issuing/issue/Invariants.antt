@@ -1,6 +1,5 @@
-use Rattle.std.specs.Prelude.{◌≡◌}
 use Rattle.task_ast.specs.Turn.{turns_left}
-use Rattle.engine.specs.inner.Kept.{batch_of, view_of}
+use Rattle.engine.specs.inner.Kept.{batch_of}
 use Rattle.engine.specs.inner.Prepared.{KeepsView}
 use Rattle.engine.proofs.parts.issuing.issue.Given as goal
 
