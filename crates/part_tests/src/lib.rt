@@ -17,6 +17,8 @@ mod plain_runs;
 #[cfg(test)]
 mod programs;
 #[cfg(test)]
+mod restarts;
+#[cfg(test)]
 mod rooms;
 #[cfg(test)]
 mod rows;
