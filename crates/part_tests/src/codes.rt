@@ -6,7 +6,8 @@ use task_code::lower;
 
 // In text order: task 0 is one instruction. In task 1 an assignment is one, the loop three, the choice four, and each of
 // the ten statements behind them one.
-const EACH: &[u8] = b"lock bank[2]; barrier gate(1); record acct[2] by bank; feed moves[2] from \"m\";
+const EACH: &[u8] =
+    b"lock bank[2]; barrier gate(1); record acct[2] by bank; feed moves[2] from \"m\";
 task pay(n, $v) { $ret = $v; }
 task main() {
   var i, h; var $x;
@@ -36,8 +37,14 @@ fn lowers_each_statement(rt: HostRuntime) -> Result<(), Fail> {
         let task = task as u32;
         let shape = code.shape(task);
         assert!(rt; code.instrs(task).len() == *instrs, "{task}");
-        assert!(rt; shape.is_some_and(|s| s.ctl == *ctl && s.regs == *regs), "{task}");
-        assert!(rt; code.start(task).is_some_and(|at| at.task == task && at.pc == 0));
+        assert!(rt;
+            shape.is_some_and(|s| s.ctl == *ctl && s.regs == *regs),
+            "{task}"
+        );
+        assert!(rt;
+            code.start(task)
+                .is_some_and(|at| at.task == task && at.pc == 0)
+        );
     }
     assert!(rt; code.start(2).is_none() && code.shape(2).is_none());
     assert!(rt; code.main() == 1 && code.barriers().as_slice() == [1u32].as_slice());

@@ -7,6 +7,8 @@ mod checks;
 #[cfg(test)]
 mod codes;
 #[cfg(test)]
+mod crews;
+#[cfg(test)]
 mod dependents;
 #[cfg(test)]
 mod expressions;

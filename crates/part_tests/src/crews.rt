@@ -1,0 +1,160 @@
+// Crews over tasks of one program: each hands back what was posted, once, in an order of its own.
+ghost use Rattle.std.specs.Prelude.{◌≡◌, [], All, IfOk};
+ghost use Rattle.subthread.specs.Tasks.{Fits};
+ghost use Rattle.crew.specs.Out.{AreRuns};
+
+use crate::programs::{ADD, accepted};
+use crew::{BatchCrew, Crew, InlineCrew, ScriptCrew, run_wave};
+use gp_base::{At, FreeGate, Gate, Pos, Seq, ThreadNo};
+use record_store::Given;
+use std::alloc::{AllocError, Global};
+use std::sync::atomic::{AtomicU64, Ordering};
+use std::test::Fail;
+use std::thread::Threads;
+use subthread::{Done, Task, Work};
+use task_ast::{Next, SyncOp};
+use task_code::lower;
+
+/// What the tasks of the program run under in which two threads add to one total.
+fn adding(alloc: Global) -> Result<Work, Fail> {
+    let code = lower(alloc, &accepted(alloc, ADD)?)?;
+    Ok(Work {
+        code,
+        feeds: Seq::new(alloc),
+        turns: 100,
+    })
+}
+
+/// An attempt of the program's first subthread: `main` begins, and runs to its fork in line 3.
+fn start(alloc: Global, attempt: u32) -> Result<Task, AllocError>
+    ensures attempt { IfOk result (λ task. task.attempt ≡ attempt) }
+    ensures bundles { IfOk result (λ task. task.given.bundles ≡ []) }
+{
+    let regs = Seq::from_slice(alloc, &[0])?;
+    Ok(Task {
+        pos: Pos(0),
+        thread: ThreadNo(0),
+        attempt,
+        begins: Next {
+            sync: SyncOp::Start,
+            line: 0,
+        },
+        at: At { task: 1, pc: 0 },
+        ctl: Seq::new(alloc),
+        child: None,
+        given: Given {
+            regs,
+            joined: 0,
+            bundles: Seq::new(alloc),
+        },
+        held: Seq::new(alloc),
+        mask: 0,
+    })
+}
+
+/// The attempt that comes back next and ends at the fork, or `None` where none is out.
+fn attempt_back<C: Crew, R: Threads + Sync>(rt: &R, crew: &mut C) -> Result<Option<u32>, AllocError>
+    requires ready { C.ready crew.old }
+    ensures ready { C.ready crew.new }
+{
+    match crew.next(rt)? {
+        Some(done) if done.next.line == 3 => Ok(Some(done.task.attempt)),
+        _ => Ok(None),
+    }
+}
+
+/// Which attempts come back after attempts 0 and 1 were posted, and what comes after these.
+fn attempts_back<C: Crew, R: Threads + Sync>(
+    rt: &R,
+    alloc: Global,
+    crew: &mut C,
+) -> Result<(Option<u32>, Option<u32>, Option<u32>), AllocError>
+    requires ready { C.ready crew.old }
+    requires posted { C.posted crew.old ≡ [] }
+{
+    crew.post(rt, start(alloc, 0)?)?;
+    crew.post(rt, start(alloc, 1)?)?;
+    let first = attempt_back(rt, crew)?;
+    let second = attempt_back(rt, crew)?;
+    let third = attempt_back(rt, crew)?;
+    Ok((first, second, third))
+}
+
+/// Which attempts come back from a crew that runs waves of two workers.
+fn attempts_in_waves<G: Gate, R: Threads + Sync>(
+    rt: &R,
+    alloc: Global,
+    work: &Work,
+    gate: &G,
+) -> Result<(Option<u32>, Option<u32>, Option<u32>), AllocError> {
+    let run_all = |tasks: Seq<Task>| -> Result<Seq<Done>, AllocError>
+        requires { All (Fits work.now) tasks }
+        ensures { IfOk result (AreRuns work.entry.now tasks) }
+    { run_wave(rt, alloc, work, gate, 2, tasks) };
+    let mut crew = BatchCrew::new(alloc, work, run_all);
+    attempts_back(rt, alloc, &mut crew)
+}
+
+/// Holds the first task that enters until a second has entered, for so many looks at most.
+#[derive(Drop)]
+struct Meeting {
+    entered: AtomicU64,
+    met: AtomicU64,
+}
+
+const MOST_LOOKS: u32 = 100_000_000;
+
+impl Gate for Meeting {
+    fn enter(&self, _pos: Pos) {
+        if self.entered.fetch_add(1, Ordering::SeqCst) > 0 {
+            return;
+        }
+        for _ in 0..MOST_LOOKS {
+            if self.entered.load(Ordering::SeqCst) > 1 {
+                self.met.store(1, Ordering::SeqCst);
+                return;
+            }
+        }
+    }
+}
+
+#[test]
+fn the_oldest_comes_back_first(rt: HostRuntime) -> Result<(), Fail> {
+    let alloc = rt.alloc();
+    let work = adding(alloc)?;
+    let gate = FreeGate;
+    let mut crew = InlineCrew::new(alloc, &work, &gate);
+    let (first, second, third) = attempts_back(&rt, alloc, &mut crew)?;
+    assert!(rt; first == Some(0) && second == Some(1) && third.is_none());
+    Ok(())
+}
+
+#[test]
+fn the_one_that_the_script_names_comes_back(rt: HostRuntime) -> Result<(), Fail> {
+    let alloc = rt.alloc();
+    let work = adding(alloc)?;
+    let choice = Seq::from_slice(alloc, &[3])?;
+    let mut crew = ScriptCrew::new(alloc, &work, choice);
+    let (first, second, third) = attempts_back(&rt, alloc, &mut crew)?;
+    assert!(rt; first == Some(1) && second == Some(0) && third.is_none());
+    assert!(rt; crew.posts() == 2);
+    Ok(())
+}
+
+#[test]
+fn two_tasks_of_a_wave_meet(rt: HostRuntime) -> Result<(), Fail> {
+    let alloc = rt.alloc();
+    let work = adding(alloc)?;
+    let gate = Meeting {
+        entered: AtomicU64::new(0),
+        met: AtomicU64::new(0),
+    };
+    let (first, second, third) = attempts_in_waves(&rt, alloc, &work, &gate)?;
+    assert!(rt; first == Some(0) && second == Some(1) && third.is_none());
+    assert!(rt; gate.entered.load(Ordering::SeqCst) == 2);
+    assert!(rt;
+        gate.met.load(Ordering::SeqCst) == 1,
+        "a second entered while the first waited"
+    );
+    Ok(())
+}
