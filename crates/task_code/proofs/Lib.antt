@@ -1,5 +1,6 @@
 pub mod Beginning
 pub mod CodeSizes
+pub mod Existence
 pub mod Following
 pub mod Forks
 pub mod Inside

@@ -14,14 +14,16 @@ use Rattle.task_code.specs.declared.instrs.Instr as instr_here
 use Rattle.task_code.specs.declared.instrs.Shape.{Shape}
 use Rattle.task_code.specs.declared.parts.Parts.{Parts}
 use Rattle.task_code.specs.Instructions.{Instr, Lowered}
+use Rattle.task_code.specs.Existing.{shape_of, VariablesExist}
 use Rattle.task_code.specs.Flat.{code_of}
 use Rattle.task_code.specs.Jumps.{AreInside, IsShort, IsCode}
 use Rattle.task_code.specs.Lowering.{scope_of, task_code, lowered}
-use Rattle.task_code.specs.Parts.{shape_of, stated_numbers, flat_of, AreParts}
+use Rattle.task_code.specs.Parts.{stated_numbers, flat_of, AreParts}
 use Rattle.task_code.specs.Reading.{instrs_of}
 use Rattle.task_code.specs.View.{plain_instrs}
 use Rattle.task_code.specs.inner.Tasks.{AreTasksOf}
 use Rattle.task_code.proofs.Beginning.{instrs_at}
+use Rattle.task_code.proofs.Existence.{all_exist}
 use Rattle.task_code.proofs.Inside.{block_inside}
 use Rattle.task_code.proofs.Rows.{one_more}
 
@@ -70,6 +72,8 @@ is_code program tasks accepted made short =
       made = ap (λ l. record { program = program; tasks = l }) made;
       inside = λ k. subst (λ l. AreInside (instrs_of l k)) (sym made) (inside_all program k);
       short = short;
+      variables = λ k. subst (λ l. VariablesExist (shape_of (task_at program k)) (instrs_of l k)) (sym made)
+          (subst (VariablesExist (shape_of (task_at program k))) (sym (instrs_at program program.tasks k)) (all_exist program accepted.faultless k));
     }
 
 -- the parts of a program's code

@@ -2,6 +2,8 @@
 use Rattle.std.specs.Prelude.{◌≡◌, ℕ, ◌+◌, ◌≤◌, ◌<◌, ◌^◌, List, Some, slice_get, length}
 use Rattle.task_ast.specs.Shaped.{IsAccepted}
 use Rattle.task_ast.specs.Tree.{TaskText, Program}
+use Rattle.task_ast.specs.Plain.{task_at}
+use Rattle.task_code.specs.Existing.{shape_of, VariablesExist}
 use Rattle.task_code.specs.Instructions.{Instr, At, Calc, GoOn, Unless, Again, Lowered}
 use Rattle.task_code.specs.Lowering.{task_code, lowered}
 use Rattle.task_code.specs.Reading.{instrs_of}
@@ -22,6 +24,7 @@ pub record IsCode (code : Lowered) : Type 0 where
   pub made : code ≡ lowered code.program
   pub inside : (task : ℕ) → AreInside (instrs_of code.tasks task)
   pub short : (task : ℕ) → IsShort (instrs_of code.tasks task)
+  pub variables : (task : ℕ) → VariablesExist (shape_of (task_at code.program task)) (instrs_of code.tasks task)
 
 -- each jump of a task's code stays inside it
 abbrev pub JumpsLaw : Type 0

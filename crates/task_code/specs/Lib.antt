@@ -1,3 +1,4 @@
+pub mod Existing
 pub mod Flat
 pub mod Instructions
 pub mod Jumps

@@ -1,19 +1,15 @@
 -- What contracts see of code, from its parts.
-use Rattle.std.specs.Prelude.{◌≡◌, ℕ, List, map, length, Option, option_map, slice_get}
+use Rattle.std.specs.Prelude.{◌≡◌, ℕ, List, map, Option, option_map, slice_get}
 use Rattle.gp_base.specs.declared.numbers.At.{At}
-use Rattle.task_ast.specs.Tree.{TaskText, Program}
+use Rattle.task_ast.specs.Tree.{Program}
 use Rattle.task_ast.specs.View.{plain_program}
-use Rattle.task_ast.specs.Names.{locks_of, barriers_of, controls_of, registers_of}
+use Rattle.task_ast.specs.Names.{locks_of, barriers_of}
 use Rattle.task_ast.specs.Layout.{layout, lock_over}
 use Rattle.task_ast.specs.Plain.{main_number}
-use Rattle.task_code.specs.declared.instrs.Shape.{Shape}
 use Rattle.task_code.specs.declared.parts.Parts.{Parts}
+use Rattle.task_code.specs.Existing.{shape_of}
 use Rattle.task_code.specs.Flat.{Flat, code_of}
 use Rattle.task_code.specs.Jumps.{IsCode}
-
--- how many control variables and registers a task has
-abbrev pub shape_of : TaskText → Shape
-shape_of task = record { ctl = length (controls_of task); regs = length (registers_of task) }
 
 -- the first place of the task of this number, where there is such a task
 abbrev pub first_place : Program → (task : ℕ) → Option At

@@ -4,9 +4,10 @@ ghost use Rattle.std.specs.Prelude.{◌≡◌, ℕ, option_map, slice_get};
 ghost use Rattle.task_ast.specs.Layout.{layout, lock_over};
 ghost use Rattle.task_ast.specs.Names.{locks_of};
 ghost use Rattle.task_ast.specs.Plain.{main_number};
+ghost use Rattle.task_code.specs.Existing.{shape_of};
 ghost use Rattle.task_code.specs.Flat.{code_of};
 ghost use Rattle.task_code.specs.Jumps.{IsCode};
-ghost use Rattle.task_code.specs.Parts.{first_place, shape_of, stated_numbers};
+ghost use Rattle.task_code.specs.Parts.{first_place, stated_numbers};
 ghost use Rattle.task_code.specs.Reading.{instrs_of};
 ghost use Rattle.task_code.specs.View.{plain_instrs};
 
@@ -17,7 +18,8 @@ use std::marker::Model;
 use task_ast::Layout;
 
 /// The code of an accepted program, beside its layout. Contracts see the program and the instructions of each task; each
-/// jump leads to an instruction or behind the last one, and a number of 32 bits counts the instructions of a task.
+/// jump leads to an instruction or behind the last one, each variable exists, and a number of 32 bits counts the
+/// instructions of a task.
 #[derive(Drop)]
 pub struct Code {
     parts: Parts,
@@ -105,7 +107,8 @@ impl Code {
         &self.parts.over
     }
 
-    /// The code is that of its program, which is accepted; its jumps stay inside it, and it is short. Does nothing.
+    /// The code is that of its program, which is accepted; its jumps stay inside it, it is short, and the variables that it
+    /// names exist. Does nothing.
     pub fn facts(&self)
         ensures { IsCode (code_of self.now) }
     {

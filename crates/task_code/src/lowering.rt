@@ -4,11 +4,13 @@ ghost use Rattle.std.specs.Prelude.{◌≡◌, ℕ, ◌<◌, ◌^◌, length, ma
 ghost use Rattle.lock_checker.specs.Accepted.{program_of};
 ghost use Rattle.task_ast.specs.Names.{registers_of, natural};
 ghost use Rattle.task_ast.specs.Plain.{main_number};
+ghost use Rattle.task_ast.specs.Tree as plain;
 ghost use Rattle.task_ast.specs.View.{plain_program, plain_task};
+ghost use Rattle.task_code.specs.Existing.{shape_of};
 ghost use Rattle.task_code.specs.Flat.{code_of};
 ghost use Rattle.task_code.specs.Jumps.{IsShort};
 ghost use Rattle.task_code.specs.Lowering.{task_code, lowered};
-ghost use Rattle.task_code.specs.Parts.{shape_of, stated_numbers};
+ghost use Rattle.task_code.specs.Parts.{stated_numbers};
 ghost use Rattle.task_code.specs.Reading.{instrs_of};
 ghost use Rattle.task_code.specs.View.{plain_instrs};
 ghost use Rattle.task_code.specs.inner.Scopes.{IsIndexOf};
@@ -79,11 +81,9 @@ fn lower_tasks(
 }
 
 // The number of the task `main`, or 0 where there is none.
-fn main_number(alloc: Global, program: &Program, index: &Index) -> Result<u32, AllocError>
-    requires { IsIndexOf index.now (plain_program program.now) }
-    ensures { IfOk result (λ n. n ≡ main_number (plain_program program.now)) }
+fn main_number(alloc: Global, index: &Index) -> Result<u32, AllocError>
+    ensures { IfOk result (λ n. (program : plain.Program) → IsIndexOf index.now program → n ≡ main_number program) }
 {
-    let _ = program;
     let main = Name::from_slice(alloc, b"main")?;
     small(index.tasks.get(&main).unwrap_or(0))
 }
@@ -108,7 +108,7 @@ pub fn lower(alloc: Global, c: &Checked) -> Result<Code, AllocError>
     let program = c.program();
     let index = index_of(alloc, program)?;
     let (tasks, shapes) = lower_tasks(alloc, program, &index)?;
-    let main = main_number(alloc, program, &index)?;
+    let main = main_number(alloc, &index)?;
     let barriers = barrier_numbers(alloc, program)?;
     let layout = c.layout(alloc)?;
     let over = c.over(alloc)?;

@@ -7,7 +7,7 @@ use Rattle.task_code.specs.declared.instrs.Instr.{Instr}
 use Rattle.task_code.specs.declared.instrs.Shape.{Shape}
 use Rattle.task_code.specs.Jumps.{IsShort}
 use Rattle.task_code.specs.Lowering.{task_code}
-use Rattle.task_code.specs.Parts.{shape_of}
+use Rattle.task_code.specs.Existing.{shape_of}
 use Rattle.task_code.specs.Reading.{instrs_of}
 use Rattle.task_code.specs.View.{plain_instrs}
 

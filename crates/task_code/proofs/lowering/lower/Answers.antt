@@ -22,6 +22,6 @@ pub of-requires-2 : goal.of-requires-2
 of-requires-2 c =
     let program = c.program-program.result.now in
     let same = c.program-program.ensures in
-    parts_made _ program c.of.ensures (subst (λ p. IsAccepted (plain_program p)) (sym same) c.args.c.now.accepted) c.in_ok-tasks.ensures c.in_ok-main.ensures c.in_ok-barriers.ensures
+    parts_made _ program c.of.ensures (subst (λ p. IsAccepted (plain_program p)) (sym same) c.args.c.now.accepted) c.in_ok-tasks.ensures (c.in_ok-main.ensures (plain_program program) c.in_ok-index.ensures) c.in_ok-barriers.ensures
     (subst (λ p. c.in_ok-layout.layout ≡ layout p.heads) (sym same) c.in_ok-layout.ensures)
     (λ cell. subst (λ p. slice_get c.in_ok-over.over cell ≡ lock_over (locks_of p.heads) p.heads cell) (sym same) (c.in_ok-over.ensures cell))
