@@ -1,6 +1,6 @@
 -- Subthreads begin alike on the tree and in code, and tasks start alike.
 use Rattle.std.proofs.Common.{◌≡◌, ℕ, zero, suc, ◌+◌, List, [], ◌∷◌, ◌++◌, map, length, Option, Some, None, unwrap_or, option_map, refl, sym, ap, ◌∙◌, subst, inl, inr, arith, length-append}
-use Rattle.std.specs.Prelude.{⊤, ◌⊎◌, ℤ, pos, position, slice_get}
+use Rattle.std.specs.Prelude.{⊤, ℤ, pos, position, slice_get}
 use Rattle.gp_base.specs.declared.feed.Inputs.{Inputs}
 use Rattle.task_ast.specs.declared.sync.SyncOp.{SyncOp}
 use Rattle.task_ast.specs.declared.sync.SyncOp.TheVariants as sync
@@ -8,16 +8,15 @@ use Rattle.task_ast.specs.declared.tree.Param.{Param}
 use Rattle.task_ast.specs.declared.tree.Param.TheVariants as param
 use Rattle.task_ast.specs.Tree as tree
 use Rattle.task_ast.specs.Tree.{Name, Expr, Stmt, What, statements, TaskText, Program}
-use Rattle.task_ast.specs.Names.{is_name, slot, firsts, barriers_of, controls, declared_in, controls_of, registers_of, task_named, task_number}
-use Rattle.task_ast.specs.Action.{Action}
+use Rattle.task_ast.specs.Names.{is_name, slot, firsts, barriers_of, controls, declared_in, controls_of, task_named, task_number}
 use Rattle.task_ast.specs.Control.{Setting, Point, going, begin_actions, behind, beginning, first_actions}
 use Rattle.task_ast.specs.Plain.{no_task, task_at, given, setting_of, start_point}
 use Rattle.task_code.specs.Instructions.{Instr, At, GoOn, Unless}
 use Rattle.task_code.specs.Reading.{Place, goto, next_place, with_child, passed, instrs_of, instr_at, code_begins, code_first, start_place}
 use Rattle.task_code.specs.Reading as code
-use Rattle.task_code.specs.Lowering.{Scope, if_code, barrier_code, forking, calc, what_code, block_code, task_code, scope_of, lowered}
-use Rattle.task_code.specs.Relation.{HasAt, Left, ends, stands, jumps, tests, Corresponds, IsNoJump, IsStopped, Rests}
-use Rattle.task_code.proofs.Standing.{has_front, has_back, begins_block}
+use Rattle.task_code.specs.Lowering.{Scope, if_code, barrier_code, calc, what_code, block_code, task_code, scope_of, lowered}
+use Rattle.task_code.specs.Relation.{HasAt, Left, ends, stands, jumps, tests, Corresponds, IsNoJump, IsStopped}
+use Rattle.task_code.proofs.Standing.{has_back, begins_block}
 use Rattle.task_code.proofs.Following.{forking_into, at_left, at_set, fork_same}
 
 abbrev IsNoFork : What → Type 0

@@ -1,6 +1,6 @@
 -- Each step of code but a loop turn goes forward.
-use Rattle.std.proofs.Common.{◌≡◌, ℕ, zero, suc, ◌+◌, ◌-◌, ◌<◌, ◌≤◌, List, [], ◌∷◌, length, Option, Some, None, refl, subst, arith}
-use Rattle.std.specs.Prelude.{ℤ, pos, negsuc, slice_get}
+use Rattle.std.proofs.Common.{◌≡◌, ℕ, zero, suc, ◌+◌, ◌-◌, ◌<◌, List, length, Option, Some, None, refl, subst, arith}
+use Rattle.std.specs.Prelude.{ℤ, pos, negsuc}
 use Rattle.std.proofs.lemmas.Option.{slice_get_within}
 use Rattle.gp_base.specs.declared.feed.Feed.{Feed}
 use Rattle.task_ast.specs.declared.sync.Next.{Next}

@@ -1,5 +1,5 @@
 -- In the code of an accepted program each variable exists.
-use Rattle.std.proofs.Common.{◌≡◌, ℕ, zero, suc, ◌+◌, ◌<◌, Bool, true, false, ◌||◌, not, cond, List, [], ◌∷◌, ◌++◌, map, length, Option, Some, None, unwrap_or, option_map, refl, sym, ap, ◌∙◌, subst, arith, position}
+use Rattle.std.proofs.Common.{◌≡◌, ℕ, zero, suc, ◌<◌, Bool, true, false, ◌||◌, not, cond, List, [], ◌∷◌, ◌++◌, map, length, Option, Some, None, unwrap_or, option_map, refl, sym, ap, ◌∙◌, subst, arith, position}
 use Rattle.std.specs.Prelude.{⊤, slice_get, is_none}
 use Rattle.std.specs.List.{list_any}
 use Rattle.std.proofs.lemmas.Bool.{true≢false}
@@ -14,16 +14,16 @@ use Rattle.task_ast.specs.Tree as tree
 use Rattle.task_ast.specs.Tree.{Name, Expr, Links, What, Stmt, Block, TaskText, Program}
 use Rattle.task_ast.specs.Names.{is_name, is_among, slot, ret, datas, declared_in, controls_of, registers_of, head_name, barriers_of, feeds_of, task_named, task_number}
 use Rattle.task_ast.specs.Visit.{Visit, visit, fails_if, fault_at, first_fault}
-use Rattle.task_ast.specs.Held.{Pair, held_after, held_at_end}
+use Rattle.task_ast.specs.Held.{Pair, held_after}
 use Rattle.task_ast.specs.Declarations.{Scope, is_control, is_register, is_feed, is_lock, is_atom, has_unknown, have_unknown, head_visits, task_visits, main_visit}
 use Rattle.task_ast.specs.Plain.{no_task, task_at}
-use Rattle.task_ast.specs.Check.{array_over, into_unknown, fails_at, fails_after, visits_of, visits_inside, visits_in, held_fails, body_visits, bodies_visits, check_fault}
+use Rattle.task_ast.specs.Check.{array_over, into_unknown, fails_at, fails_after, visits_of, visits_inside, visits_in, body_visits, bodies_visits, check_fault}
 use Rattle.task_ast.proofs.Registers.{or_false}
 use Rattle.task_ast.proofs.Terms.{position-cons}
 use Rattle.lock_checker.proofs.TableLemmas.{is_name-itself}
 use Rattle.lock_checker.proofs.VisitLemmas.{or_later, first_fault-append}
 use Rattle.task_code.proofs.VariableLines.{datas-append}
-use Rattle.task_code.specs.Instructions.{Calc, Fork, Instr, At, Does}
+use Rattle.task_code.specs.Instructions.{Calc, Fork, Instr, At}
 use Rattle.task_code.specs.Lowering as lowering
 use Rattle.task_code.specs.Lowering.{register_calc, rows_calc, cell_calc, barrier_code, if_code, while_code, calc, operands_of, calcs, index, deed, arm, deed_in, control_calcs, gifts, forking, what_code, block_code, stmt_code, scope_of, task_code}
 use Rattle.task_code.specs.Existing.{shape_of, IntoExists, CalcExists, OperandsExist, CalcsExist, GiftsExist, IndexExists, DeedExists, DeedsExist, DoesExists, VariablesExist}
@@ -242,7 +242,7 @@ module _ (program : Program) (task : TaskText) where
     what_exists line (tree.Unlock a i) held fails inside = (index_exists i (yes _ (or_false (not (is_lock s a)) (not (is_atom s i)) (known _ _ fails)).1), tt)
     what_exists line (tree.Fork t es x) held fails inside =
         let parts = or_false (list_any (has_unknown s) es) (into_unknown (is_control s) x)
-            (or_false (is_none (task_named program t)) (list_any (has_unknown s) es || into_unknown (is_control s) x) (known _ _ (known_left _ _ (known_left _ _ fails)))).1 in
+        (or_false (is_none (task_named program t)) (list_any (has_unknown s) es || into_unknown (is_control s) x) (known _ _ (known_left _ _ (known_left _ _ fails)))).1 in
         (fork_exists (task_named program t) (unwrap_or (task_number program t) 0) es (option_map (slot (controls_of task)) x) parts.0 (control_into x parts.1), tt)
     what_exists line (tree.Join e x) held fails inside =
         let parts = or_false (has_unknown s e) (into_unknown (is_register s) x) (known _ _ fails) in ((calc_exists e parts.0, register_into x parts.1), tt)

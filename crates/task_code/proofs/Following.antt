@@ -1,20 +1,20 @@
 -- Each step of the code is a jump, or does what the step of the tree does.
-use Rattle.std.proofs.Common.{◌≡◌, ℕ, zero, suc, ◌+◌, ◌-◌, List, [], ◌∷◌, ◌++◌, length, Option, Some, None, unwrap_or, option_map, option_and_then, refl, sym, ap, ◌∙◌, subst, inl, inr, arith, length-append}
+use Rattle.std.proofs.Common.{◌≡◌, ℕ, zero, suc, ◌+◌, ◌-◌, List, [], ◌∷◌, ◌++◌, length, Option, Some, None, unwrap_or, option_map, refl, sym, ap, ◌∙◌, subst, inl, inr, arith, length-append}
 use Rattle.std.specs.Prelude.{◌⊎◌, ℤ, pos, negsuc, position, slice_get, slice_set}
 use Rattle.gp_base.specs.declared.feed.Inputs.{Inputs}
 use Rattle.task_ast.specs.declared.sync.SyncOp.TheVariants as sync
 use Rattle.task_ast.specs.declared.tree.Atom.{Atom}
 use Rattle.task_ast.specs.Tree as tree
 use Rattle.task_ast.specs.Tree.{Name, Expr, Stmt, What, Block, statements, TaskText, Program}
-use Rattle.task_ast.specs.Names.{is_name, slot, firsts, seconds, cell_number, locks_of, barriers_of, controls_of, registers_of, task_named, task_number}
+use Rattle.task_ast.specs.Names.{is_name, slot, seconds, locks_of, barriers_of, controls_of, registers_of, task_named, task_number}
 use Rattle.task_ast.specs.Value.{value}
-use Rattle.task_ast.specs.Body.{Step, Silent, Iteration, Act, Stop}
-use Rattle.task_ast.specs.Control.{Setting, Point, with_value, index_of, going, stop, known, branch, env_at, lock_number, action, fork_of, step_at, step_from, step}
+use Rattle.task_ast.specs.Body.{Step, Silent, Act}
+use Rattle.task_ast.specs.Control.{Setting, Point, with_value, going, stop, known, branch, env_at, lock_number, action, fork_of, step_at, step_from, step}
 use Rattle.task_ast.specs.Plain.{setting_of}
 use Rattle.task_ast.specs.laws.Following.{Matches, both_silent, both_turn, both_act, both_stop, IsFollowing}
 use Rattle.task_ast.proofs.Slots.{sets_first}
-use Rattle.task_code.specs.Instructions.{Instr, At, Does, Assign, GoOn, Unless, Again, Lock, Unlock, Fork, Join, Barrier, Do}
-use Rattle.task_code.specs.Reading.{Place, goto, halt, given_value, either, env_of, calc_value, cell_of, index_at, deed_action, fork_arguments, step_does, step_instr, instrs_of, instr_at, code_step}
+use Rattle.task_code.specs.Instructions.{Instr, At, Does, Assign, GoOn, Unless, Again, Lock, Unlock, Fork, Join, Do}
+use Rattle.task_code.specs.Reading.{Place, goto, halt, given_value, either, env_of, calc_value, cell_of, index_at, deed_action, fork_arguments, step_does, step_instr, instrs_of, code_step}
 use Rattle.task_code.specs.Lowering.{Scope, cells_of, barrier_code, if_code, while_code, calc, index, deed, forking, what_code, block_code, scope_of, lowered}
 use Rattle.task_code.specs.Relation.{HasAt, Left, ends, stands, jumps, tests, Corresponds}
 use Rattle.task_code.proofs.Values.{same_value, same_cell, same_action, same_fork}

@@ -8,6 +8,7 @@ pub mod Machines
 pub mod Patches
 pub mod Rows
 pub mod Standing
+pub mod StartValues
 pub mod Stopping
 pub mod TableLemmas
 pub mod TaskLists

@@ -1,26 +1,19 @@
 -- The machine of a program's code follows that of its tree.
-use Rattle.std.proofs.Common.{◌≡◌, ℕ, List, Option, Some, None, subst, inl, inr, refl}
-use Rattle.std.specs.Prelude.{◌⊎◌}
-use Rattle.gp_base.specs.declared.limits.Limits.{Limits}
+use Rattle.std.proofs.Common.{List, Option, Some, None, inl, inr, refl}
 use Rattle.gp_base.specs.declared.feed.Feed.{Feed}
-use Rattle.gp_base.specs.declared.feed.Inputs.{Inputs}
-use Rattle.task_ast.specs.declared.sync.SyncOp.{SyncOp}
-use Rattle.task_ast.specs.Tree.{Program}
-use Rattle.task_ast.specs.Body.{Step, Body}
-use Rattle.task_ast.specs.Control.{Setting, Point, beginning, size, step, tree_body}
+use Rattle.task_ast.specs.Control.{beginning, size, step}
 use Rattle.task_ast.specs.Plain.{setting_of, tree_machine}
-use Rattle.task_ast.specs.laws.Following.{Agrees, Follows, IsSameRun}
 use Rattle.task_ast.proofs.Sizes.{tree_sized}
 use Rattle.task_ast.proofs.Following.{bodies_agree}
 use Rattle.task_ast.proofs.SameRuns.{same_run}
-use Rattle.task_code.specs.Instructions.{Does, Assign, GoOn, Unless, Again, Lock, Unlock, Fork, Join, Barrier, Do, Instr, At}
+use Rattle.task_code.specs.Instructions.{Assign, GoOn, Unless, Again, Lock, Unlock, Fork, Join, Barrier, Do, Instr, At}
 use Rattle.task_code.specs.Reading.{Place, step_instr, instr_at, code_begins, code_size, code_step, code_body, code_machine}
 use Rattle.task_code.specs.Lowering.{lowered}
 use Rattle.task_code.specs.Relation.{Corresponds, IsNoJump, Rests, BodiesLaw, FollowsLaw, RunLaw}
 use Rattle.task_code.proofs.Following.{following}
 use Rattle.task_code.proofs.Beginning.{begins_alike, starts_alike}
 use Rattle.task_code.proofs.CodeSizes.{code_sized}
-use Rattle.task_code.proofs.Stopping.{Halts, by_stop, by_turn, halts}
+use Rattle.task_code.proofs.Stopping.{Halts, halts}
 
 -- where the step is not silent, there is no jump
 no_jump : (feeds : List Feed) (q : Place) (o : Option Instr) → Halts (step_instr feeds o q) → IsNoJump o

@@ -1,5 +1,5 @@
 -- The code of tasks, one after the other, and the parts of a program's code.
-use Rattle.std.proofs.Common.{◌≡◌, ℕ, zero, suc, ◌+◌, ◌<◌, List, [], ◌∷◌, ◌++◌, length, take, get_or, map, Some, None, unwrap_or, refl, sym, ap, ◌∙◌, subst, arith, rules}
+use Rattle.std.proofs.Common.{◌≡◌, ℕ, zero, suc, ◌+◌, ◌<◌, List, [], ◌∷◌, ◌++◌, length, take, get_or, map, refl, sym, ap, ◌∙◌, subst, arith}
 use Rattle.std.specs.Prelude.{slice_get}
 use Rattle.std.proofs.lemmas.List.{map-append, map_more}
 use Rattle.task_ast.specs.declared.tree.Program as program_here
@@ -13,12 +13,11 @@ use Rattle.task_ast.specs.View.{plain_task, plain_program}
 use Rattle.task_code.specs.declared.instrs.Instr as instr_here
 use Rattle.task_code.specs.declared.instrs.Shape.{Shape}
 use Rattle.task_code.specs.declared.parts.Parts.{Parts}
-use Rattle.task_code.specs.Instructions.{Instr, Lowered}
-use Rattle.task_code.specs.Existing.{shape_of, VariablesExist}
-use Rattle.task_code.specs.Flat.{code_of}
+use Rattle.task_code.specs.Instructions.{Instr}
+use Rattle.task_code.specs.Existing.{shape_of, params_of, VariablesExist}
 use Rattle.task_code.specs.Jumps.{AreInside, IsShort, IsCode}
 use Rattle.task_code.specs.Lowering.{scope_of, task_code, lowered}
-use Rattle.task_code.specs.Parts.{stated_numbers, flat_of, AreParts}
+use Rattle.task_code.specs.Parts.{stated_numbers, AreParts}
 use Rattle.task_code.specs.Reading.{instrs_of}
 use Rattle.task_code.specs.View.{plain_instrs}
 use Rattle.task_code.specs.inner.Tasks.{AreTasksOf}
@@ -78,14 +77,15 @@ is_code program tasks accepted made short =
 
 -- the parts of a program's code
 pub parts_made : (parts : Parts) (program : program_here.Program) → parts.program.value ≡ program → IsAccepted (plain_program program)
-    → AreTasksOf (plain_program program) program.tasks parts.tasks parts.shapes → parts.main ≡ main_number (plain_program program) → parts.barriers ≡ stated_numbers (plain_program program)
+    → AreTasksOf (plain_program program) program.tasks parts.tasks parts.shapes → parts.params ≡ map params_of (plain_program program).tasks → parts.main ≡ main_number (plain_program program) → parts.barriers ≡ stated_numbers (plain_program program)
     → parts.layout ≡ layout program.heads → ((cell : ℕ) → slice_get parts.over cell ≡ lock_over (locks_of program.heads) program.heads cell) → AreParts parts
-parts_made parts program same accepted tasks main barriers is_layout over =
+parts_made parts program same accepted tasks params main barriers is_layout over =
     record {
       code =
           subst (λ v. IsCode (record { program = plain_program v; tasks = map plain_instrs parts.tasks })) (sym same)
           (is_code (plain_program program) (map plain_instrs parts.tasks) accepted (tasks.code ∙ mapped (task_code (plain_program program)) plain_task program.tasks) tasks.short);
       shapes = subst (λ v. parts.shapes ≡ map shape_of (plain_program v).tasks) (sym same) (tasks.sizes ∙ mapped shape_of plain_task program.tasks);
+      params = subst (λ v. parts.params ≡ map params_of (plain_program v).tasks) (sym same) params;
       main = subst (λ v. parts.main ≡ main_number (plain_program v)) (sym same) main;
       barriers = subst (λ v. parts.barriers ≡ stated_numbers (plain_program v)) (sym same) barriers;
       layout = subst (λ v. parts.layout ≡ layout v.heads) (sym same) is_layout;

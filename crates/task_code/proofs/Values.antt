@@ -1,26 +1,24 @@
 -- The same values on the tree and in code.
-use Rattle.std.proofs.Common.{◌≡◌, ℕ, zero, suc, ◌+◌, Bool, true, false, cond, List, [], ◌∷◌, map, length, Option, Some, None, unwrap_or, option_map, option_and_then, refl, sym, ap, ◌∙◌, arith}
+use Rattle.std.proofs.Common.{◌≡◌, ℕ, suc, ◌+◌, Bool, true, false, cond, List, [], ◌∷◌, map, length, Option, Some, None, unwrap_or, option_map, option_and_then, refl, sym, ap, ◌∙◌, arith}
 use Rattle.std.specs.Prelude.{ℤ, pos, negsuc, position, slice_get, zip}
 use Rattle.std.proofs.lemmas.Bool.{le-ltb}
 use Rattle.gp_base.specs.Feeds.{rows_in}
 use Rattle.gp_base.specs.declared.feed.Feed.{Feed}
 use Rattle.task_ast.specs.declared.env.Env.{Env}
-use Rattle.task_ast.specs.declared.tree.Op.{Op}
 use Rattle.task_ast.specs.declared.tree.Atom.{Atom}
 use Rattle.task_ast.specs.declared.tree.Atom.TheVariants as atom
 use Rattle.task_ast.specs.declared.tree.Param.{Param}
 use Rattle.task_ast.specs.declared.tree.Param.TheVariants as param
 use Rattle.task_ast.specs.Tree as tree
 use Rattle.task_ast.specs.Tree.{Name, Expr, Links, What, Stmt, Block, TaskText, Program}
-use Rattle.task_ast.specs.Names.{is_name, named, slot, place, firsts, seconds, cell_number, locks_of, records_of, feeds_of, registers_of, task_named}
+use Rattle.task_ast.specs.Names.{is_name, named, slot, place, firsts, seconds, cell_number, records_of, feeds_of, registers_of}
 use Rattle.task_ast.specs.Layout.{base_of}
 use Rattle.task_ast.specs.State.{number_at}
 use Rattle.task_ast.specs.Value.{value, value_on, value_at, operate_on, cell_in}
-use Rattle.task_ast.specs.Action.{Term, Constant, Negated, Inverted, Joined, MoreTerms, OneTerm, register, term, terms, Action, Set, Load, Store, Say, Choose, Child, Give, Arm, OneAction}
+use Rattle.task_ast.specs.Action.{Term, Constant, Negated, Inverted, Joined, OneTerm, register, term, terms, Action, Set, Load, Store, Say, Choose, Child, Give, OneAction}
 use Rattle.task_ast.specs.Control.{Setting, index_of, all_of, action, arm, action_of, control_arguments, data_arguments}
 use Rattle.task_ast.proofs.Terms.{position-cons}
-use Rattle.task_code.specs.declared.instrs.Cells.{Cells}
-use Rattle.task_code.specs.Instructions.{Calc, Operands, Deed, Deeds, Forking}
+use Rattle.task_code.specs.Instructions.{Calc}
 use Rattle.task_code.specs.Reading.{CalcEnv, calc_value, calc_value_on, calc_term, calc_terms, index_at, cell_of, deed_action, deeds_arm, gift_action}
 use Rattle.task_code.specs.Reading as code
 use Rattle.task_code.specs.Lowering.{Scope, cells_of, register_calc, rows_calc, cell_calc, calc, operands_of, index, deed, deed_in, control_calcs, gifts, forking}

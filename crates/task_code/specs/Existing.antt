@@ -1,7 +1,7 @@
 -- Code names only variables that exist.
 use Rattle.std.specs.Prelude.{◌≡◌, ⊤, ℕ, ◌<◌, List, [], ◌∷◌, Option, Some, None, slice_get, length}
 use Rattle.task_ast.specs.Tree.{TaskText}
-use Rattle.task_ast.specs.Names.{controls_of, registers_of}
+use Rattle.task_ast.specs.Names.{controls, controls_of, registers_of}
 use Rattle.task_code.specs.declared.instrs.Index.{Index}
 use Rattle.task_code.specs.declared.instrs.Index.TheVariants.{Number, Variable}
 use Rattle.task_code.specs.declared.instrs.Shape.{Shape}
@@ -10,6 +10,10 @@ use Rattle.task_code.specs.Instructions.{Calc, Const, Ctl, Reg, Me, Rows, Cell, 
 -- how many control variables and registers a task has
 abbrev pub shape_of : TaskText → Shape
 shape_of task = record { ctl = length (controls_of task); regs = length (registers_of task) }
+
+-- how many control parameters a task has
+abbrev pub params_of : TaskText → ℕ
+params_of task = length (controls task.params)
 
 -- a variable that may be left out is among so many
 abbrev pub IntoExists : ℕ → Option ℕ → Type 0

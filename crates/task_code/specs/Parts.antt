@@ -7,7 +7,7 @@ use Rattle.task_ast.specs.Names.{locks_of, barriers_of}
 use Rattle.task_ast.specs.Layout.{layout, lock_over}
 use Rattle.task_ast.specs.Plain.{main_number}
 use Rattle.task_code.specs.declared.parts.Parts.{Parts}
-use Rattle.task_code.specs.Existing.{shape_of}
+use Rattle.task_code.specs.Existing.{shape_of, params_of}
 use Rattle.task_code.specs.Flat.{Flat, code_of}
 use Rattle.task_code.specs.Jumps.{IsCode}
 
@@ -27,6 +27,7 @@ flat_of parts = record { program = parts.program.value; tasks = parts.tasks }
 pub record AreParts (parts : Parts) : Type 0 where
   pub code : IsCode (code_of (flat_of parts))
   pub shapes : parts.shapes ≡ map shape_of (plain_program parts.program.value).tasks
+  pub params : parts.params ≡ map params_of (plain_program parts.program.value).tasks
   pub main : parts.main ≡ main_number (plain_program parts.program.value)
   pub barriers : parts.barriers ≡ stated_numbers (plain_program parts.program.value)
   pub layout : parts.layout ≡ layout parts.program.value.heads

@@ -2,14 +2,12 @@
 use Rattle.std.specs.Prelude.{◌≡◌, ⊤, ◌⊎◌, ℕ, ℤ, ◌+◌, List, [], ◌∷◌, Option, Some, None, slice_get, length}
 use Rattle.gp_base.specs.declared.limits.Limits.{Limits}
 use Rattle.gp_base.specs.declared.feed.Inputs.{Inputs}
-use Rattle.gp_base.specs.declared.feed.Feed.{Feed}
 use Rattle.task_ast.specs.declared.sync.SyncOp.{SyncOp}
 use Rattle.task_ast.specs.declared.sync.SyncOp.TheVariants as sync
 use Rattle.task_ast.specs.Tree as tree
 use Rattle.task_ast.specs.Tree.{Stmt, What, While, Expr, Block, TaskText, Program}
 use Rattle.task_ast.specs.Names.{firsts, seconds, controls_of}
-use Rattle.task_ast.specs.Body.{Body}
-use Rattle.task_ast.specs.Control.{Setting, Point, beginning, first_actions, step, tree_body}
+use Rattle.task_ast.specs.Control.{Point, beginning, first_actions, step, tree_body}
 use Rattle.task_ast.specs.Plain.{setting_of, task_at, start_point, tree_machine}
 use Rattle.task_ast.specs.laws.Following.{IsFollowing, Agrees, Follows, IsSameRun}
 use Rattle.task_code.specs.Instructions.{Instr, At, GoOn, Again}

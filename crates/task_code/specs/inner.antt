@@ -2,3 +2,4 @@ pub mod Tables
 pub mod Scopes
 pub mod Patched
 pub mod Tasks
+pub mod Padded

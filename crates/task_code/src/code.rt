@@ -1,6 +1,6 @@
 // The code of a program.
 
-ghost use Rattle.std.specs.Prelude.{◌≡◌, ℕ, option_map, slice_get};
+ghost use Rattle.std.specs.Prelude.{◌≡◌, ℕ, ◌≤◌, option_map, unwrap_or, slice_get, IfOk};
 ghost use Rattle.task_ast.specs.Layout.{layout, lock_over};
 ghost use Rattle.task_ast.specs.Names.{locks_of};
 ghost use Rattle.task_ast.specs.Plain.{main_number};
@@ -8,12 +8,14 @@ ghost use Rattle.task_code.specs.Existing.{shape_of};
 ghost use Rattle.task_code.specs.Flat.{code_of};
 ghost use Rattle.task_code.specs.Jumps.{IsCode};
 ghost use Rattle.task_code.specs.Parts.{first_place, stated_numbers};
-ghost use Rattle.task_code.specs.Reading.{instrs_of};
+ghost use Rattle.task_code.specs.Reading.{instrs_of, start_place};
 ghost use Rattle.task_code.specs.View.{plain_instrs};
+ghost use Rattle.task_code.specs.inner.Padded.{padded};
 
 use crate::instrs::{Instr, Shape};
 use crate::parts::Parts;
-use gp_base::{At, LockNo, Seq};
+use gp_base::{At, LockNo, Nums, Seq};
+use std::alloc::{AllocError, Global};
 use std::marker::Model;
 use task_ast::Layout;
 
@@ -39,6 +41,29 @@ impl Model for Code {
     ghost view = { λ c. flat_of c.parts };
 
     ghost invariant = { λ c. AreParts c.parts };
+}
+
+// How many control variables a task of this shape has; none where there is no such task.
+fn controls_in(shape: Option<Shape>) -> usize
+    ensures { result ≡ unwrap_or (option_map (λ s. s.ctl) shape) 0 }
+{
+    match shape {
+        Some(shape) => shape.ctl as usize,
+        None => 0,
+    }
+}
+
+// The first so many of these values, and 0 up to the whole count.
+fn padded(alloc: Global, values: &[i64], most: usize, count: usize) -> Result<Nums, AllocError>
+    requires { most ≤ count }
+    ensures { IfOk result (λ all. all ≡ padded most count values.now) }
+{
+    let mut all = match values.get(..most) {
+        Some(first) => Vec::from_slice(alloc, first)?,
+        None => Vec::from_slice(alloc, values)?,
+    };
+    all.resize(count, 0)?;
+    Ok(Seq::from_vec(all))
 }
 
 impl Code {
@@ -77,6 +102,25 @@ impl Code {
         ensures { result ≡ option_map shape_of (slice_get (code_of self.now).program.tasks task) }
     {
         self.parts.shapes.get(task as usize).copied()
+    }
+
+    /// The control variables with which a thread of a task starts: the values of its control parameters, and 0 for all
+    /// others; none where there is no such task. The error is that memory is out.
+    pub fn start_values(
+        &self,
+        alloc: Global,
+        task: u32,
+        arguments: &Nums,
+    ) -> Result<Nums, AllocError>
+        ensures { IfOk result (λ values. values ≡ (start_place (code_of self.now).program task 0 arguments.now).ctl) }
+    {
+        let params = self.parts.params.get(task as usize).copied().unwrap_or(0);
+        padded(
+            alloc,
+            arguments.as_slice(),
+            params,
+            controls_in(self.shape(task)),
+        )
     }
 
     /// The number of the task `main`.

@@ -22,7 +22,7 @@ use crate::instrs::{Instr, Shape};
 use crate::parts::Parts;
 use crate::scope::{Index, Scope, index_of};
 use crate::tables::natural;
-use crate::variables::control_names;
+use crate::variables::{all_params, control_names};
 use gp_base::{Name, Seq};
 use lock_checker::Checked;
 use std::alloc::{AllocError, Global};
@@ -108,6 +108,7 @@ pub fn lower(alloc: Global, c: &Checked) -> Result<Code, AllocError>
     let program = c.program();
     let index = index_of(alloc, program)?;
     let (tasks, shapes) = lower_tasks(alloc, program, &index)?;
+    let params = all_params(alloc, program.tasks.as_slice())?;
     let main = main_number(alloc, &index)?;
     let barriers = barrier_numbers(alloc, program)?;
     let layout = c.layout(alloc)?;
@@ -116,6 +117,7 @@ pub fn lower(alloc: Global, c: &Checked) -> Result<Code, AllocError>
         program: Snapshot::of(program),
         tasks,
         shapes,
+        params,
         main,
         barriers,
         layout,

@@ -1,8 +1,9 @@
 // The names of the variables of tasks.
 
-ghost use Rattle.std.specs.Prelude.{◌≡◌, ◌++◌, map, position, IfOk, OnOk};
+ghost use Rattle.std.specs.Prelude.{◌≡◌, ◌++◌, length, map, position, IfOk, OnOk};
 ghost use Rattle.task_ast.specs.Names.{is_name, slot, controls, datas, controls_of, registers_of};
 ghost use Rattle.task_ast.specs.View.{plain_task};
+ghost use Rattle.task_code.specs.Existing.{params_of};
 
 use gp_base::{Name, Seq};
 use std::alloc::{AllocError, Global};
@@ -30,6 +31,30 @@ fn add_datas(alloc: Global, names: &mut Seq<Name>, params: &[Param]) -> Result<(
         }
     }
     Ok(())
+}
+
+// How many control variables are among these.
+fn count_controls(params: &[Param]) -> usize
+    ensures { result ≡ length (controls params.now) }
+{
+    let mut count: usize = 0;
+    for param in params {
+        if let Param::Ctl(_) = param {
+            count += 1;
+        }
+    }
+    count
+}
+
+/// How many control parameters each task has.
+pub fn all_params(alloc: Global, tasks: &[TaskText]) -> Result<Seq<usize>, AllocError>
+    ensures { IfOk result (λ all. all ≡ map params_of (map plain_task tasks.now)) }
+{
+    let mut all = Seq::new(alloc);
+    for task in tasks {
+        all.push(count_controls(task.params.as_slice()))?;
+    }
+    Ok(all)
 }
 
 /// The names of a task's control variables, in declared order.

@@ -1,6 +1,5 @@
 -- What the statements of a task are lowered under, from the code's scope.
-use Rattle.std.specs.Prelude.{◌≡◌, ℕ, map, position}
-use Rattle.task_ast.specs.declared.tree.Program.{Program}
+use Rattle.std.specs.Prelude.{◌≡◌, map, position}
 use Rattle.task_ast.specs.Tree as plain
 use Rattle.task_ast.specs.Names.{is_name, locks_of, records_of, barriers_of, feeds_of, registers_of, is_task}
 use Rattle.task_ast.specs.View.{plain_program}

@@ -1,11 +1,11 @@
-use Rattle.std.proofs.Common.{◌≡◌, ◌++◌, ap, sym, ◌∙◌, subst, length}
+use Rattle.std.proofs.Common.{◌≡◌, ◌++◌, ap, sym, ◌∙◌, subst}
 use Rattle.std.specs.Prelude.{OnOk}
 use Rattle.std.proofs.lemmas.List.{length-map}
 use Rattle.task_ast.specs.Tree as tree
-use Rattle.task_ast.specs.View.{plain_expr, plain_what, plain_stmt, plain_block}
+use Rattle.task_ast.specs.View.{plain_expr, plain_what, plain_block}
 use Rattle.task_ast.proofs.Views.{stmt_At, what_While, what_If}
 use Rattle.task_code.specs.Instructions.{At, GoOn}
-use Rattle.task_code.specs.Lowering.{calc, what_code, block_code, stmt_code}
+use Rattle.task_code.specs.Lowering.{calc, block_code, stmt_code}
 use Rattle.task_code.specs.View.{plain_instr, plain_instrs}
 use Rattle.task_code.specs.inner.Scopes.{scope_here}
 use Rattle.task_code.proofs.Patches.{patched_while, patched_if}

@@ -1,4 +1,4 @@
-use Rattle.std.proofs.Common.{◌≡◌, ◌++◌, map, take}
+use Rattle.std.proofs.Common.{◌≡◌, map, take}
 use Rattle.task_ast.specs.View.{plain_members}
 use Rattle.task_code.specs.Lowering.{calc}
 use Rattle.task_code.specs.View as view

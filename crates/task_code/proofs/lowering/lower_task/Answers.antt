@@ -1,4 +1,4 @@
-use Rattle.std.proofs.Common.{◌≡◌, ◌++◌, ap, ◌∙◌}
+use Rattle.std.proofs.Common.{◌++◌, ap, ◌∙◌}
 use Rattle.task_ast.specs.Names.{controls_of}
 use Rattle.task_ast.specs.View.{plain_program, plain_task, plain_block}
 use Rattle.task_code.specs.Lowering.{Scope, block_code}

@@ -1,4 +1,4 @@
-use Rattle.std.proofs.Common.{◌≡◌, ◌∙◌, take, take_all, ap, sym, arith, rules}
+use Rattle.std.proofs.Common.{◌∙◌, take, take_all, ap, sym, arith, rules}
 use Rattle.task_ast.specs.View.{plain_stmt, plain_block}
 use Rattle.task_ast.proofs.Views.{stmt_At}
 use Rattle.task_code.specs.Instructions.{deeds}
