@@ -1,4 +1,4 @@
--- A journal without events.
+-- What a run begins with.
 use Rattle.std.proofs.Common.{◌≡◌, ℕ, List, [], Option, sym, subst, refl}
 use Rattle.std.proofs.KnownBytes.{Appends-nil}
 use Rattle.gp_base.specs.declared.journal.Event.{Event}

@@ -1,6 +1,9 @@
 pub mod Beginning
+pub mod Closed
 pub mod Crews
+pub mod Detected
 pub mod Events
+pub mod Found
 pub mod IssuesKept
 pub mod Kepts
 pub mod Opened
@@ -11,6 +14,8 @@ pub mod Progress
 pub mod RingIssues
 pub mod RingOpens
 pub mod RingTakes
+pub mod Retired
+pub mod Struck
 pub mod Taken
 pub mod Tasks
 pub mod Turns

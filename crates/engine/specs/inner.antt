@@ -1,6 +1,9 @@
+pub mod Detected
 pub mod Kept
 pub mod Posted
 pub mod Prepared
+pub mod Retiring
 pub mod RingStands
 pub mod Rounds
+pub mod Striking
 pub mod Taken

@@ -1,5 +1,6 @@
 // The calls of an engine that its loop makes.
 ghost use Rattle.std.specs.Prelude.{◌≡◌, ◌↔◌, ◌<◌, ℕ, List, [], ◌∷◌, ◌++◌, OnOk, OnErr, IfOk, IfSome, IfNone};
+ghost use Rattle.std.specs.Thread.{IsSync};
 ghost use Rattle.gp_base.specs.declared.ending.End.{End as EndThere};
 ghost use Rattle.gp_base.specs.declared.journal.Event.TheVariants as event;
 ghost use Rattle.dependence.specs.Restarts.{NoneDue};
@@ -74,6 +75,7 @@ pub trait Calls {
         crew: &mut C,
         position: Pos,
     ) -> Result<(), AllocError>
+        requires sync { IsSync R.row }
         requires may { MayPostNow (view self.old) position }
         requires ready { C.ready crew.old }
         requires work { C.work crew.old ≡ (view self.old).batch.work }

@@ -7,6 +7,7 @@ ghost use Rattle.engine.specs.View.{begun, Stands};
 ghost use Rattle.engine.specs.Drive.{batch_of, journal_in, JournalStands, ReportsRun, all_lines, WritesRetired, HasRunCause, ArePosts, IsUntaken, RanOut};
 
 use crate::calls::Calls;
+use crate::engine::Engine;
 use crate::rounds::run_rounds;
 use crew::Crew;
 use gp_base::{Faults, Inputs, Journal, Limits, Seq, Sink};
@@ -79,11 +80,14 @@ pub fn drive<R: Threads + Sync, C: Crew, O: Sink>(
     ensures posts { ArePosts (C.posted crew.new) (journal_in result) }
     ensures out { ¬ RanOut result → IsUntaken (C.out crew.new) (journal_in result) }
 {
-    Err(EngineStop {
-        why: StopWhy::OutOfMemory,
-        journal: Journal {
-            events: Seq::new(alloc),
-            restarts: Seq::new(alloc),
-        },
-    })
+    match Engine::new(alloc, w, layout, inputs, faults, limits) {
+        Ok(engine) => finish(rt, engine, crew, out),
+        Err(_) => Err(EngineStop {
+            why: StopWhy::OutOfMemory,
+            journal: Journal {
+                events: Seq::new(alloc),
+                restarts: Seq::new(alloc),
+            },
+        }),
+    }
 }

@@ -12,9 +12,9 @@ use task_ast::Layout;
 /// many events it has room for. All that stands between two calls stands in the type.
 #[derive(Drop)]
 pub struct Engine<'a> {
-    alloc: Global,
-    plan: Plan<'a>,
-    parts: Parts,
+    pub(crate) alloc: Global,
+    pub(crate) plan: Plan<'a>,
+    pub(crate) parts: Parts,
 }
 
 impl<'a> Model for Engine<'a> {

@@ -5,6 +5,7 @@
 mod calls;
 mod driver;
 mod engine;
+mod engine_calls;
 mod parts;
 mod rounds;
 

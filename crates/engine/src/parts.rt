@@ -3,21 +3,27 @@
 ghost use Rattle.std.specs.Prelude.{◌≡◌, IfOk};
 
 mod beginning;
+mod closing;
+mod detecting;
 mod issuing;
 mod posting;
+mod retiring;
+mod striking;
 mod taking;
 
 pub use beginning::begin;
+pub use closing::{finished, into_journal, into_report, runnable};
+pub use detecting::detect;
+use gp_base::{At, End, Event, Faults, Inputs, Limits, Nums, Restart, Room};
 pub use issuing::issue;
 pub use posting::post;
-pub use taking::accept;
-
-use gp_base::{At, End, Event, Faults, Inputs, Limits, Nums, Restart, Room};
 use record_store::Store;
 use reorder_list::Rol;
+pub use retiring::retire;
 use std::alloc::{AllocError, Global};
 use std::snapshot::Snapshot;
 use subthread::Work;
+pub use taking::accept;
 use token_order::Ring;
 
 /// What is run: the work that its tasks share, the inputs as they were at its start, its limits, and the faults that

@@ -23,7 +23,6 @@ use Rattle.engine.specs.declared.parts.Parts.{Parts}
 use Rattle.engine.specs.View.{Batch, View, program_in, run_in, dependence_in, under_in, start_in, end_in}
 use Rattle.engine.specs.inner.RingStands.{point_before, RingStands}
 
-
 -- what a plan is to definitions
 abbrev pub batch_of : Plan → Batch
 batch_of plan = record { work = plan.work.now; inputs = plan.inputs.value; limits = plan.limits; faults = plan.faults.list }

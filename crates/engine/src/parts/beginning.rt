@@ -46,12 +46,7 @@ fn ring_of(alloc: Global, plan: &Plan, layout: &Layout) -> Result<Ring, AllocErr
 }
 
 /// The store with the records and the registers of thread 0.
-fn store_of(
-    alloc: Global,
-    plan: &Plan,
-    layout: Layout,
-    records: Nums,
-) -> Result<Store, AllocError>
+fn store_of(alloc: Global, plan: &Plan, layout: Layout, records: Nums) -> Result<Store, AllocError>
     ensures { IfOk result (λ store. store ≡ with_thread (length (registers_of (main_task (program_in (batch_of plan.now))))) (without_threads records layout.under)) }
 {
     let code = &plan.work.code;
@@ -72,12 +67,7 @@ fn first_place(alloc: Global, plan: &Plan) -> Result<Place, AllocError>
 }
 
 /// Nothing was issued. The error is that memory is out.
-pub fn begin(
-    alloc: Global,
-    plan: &Plan,
-    layout: Layout,
-    records: Nums,
-) -> Result<Parts, AllocError>
+pub fn begin(alloc: Global, plan: &Plan, layout: Layout, records: Nums) -> Result<Parts, AllocError>
     requires suits { Suits (batch_of plan.now).work layout (batch_of plan.now).inputs (batch_of plan.now).limits }
     requires few { (batch_of plan.now).limits.subthreads < 2 ^ 32 }
     requires records { records ≡ (batch_of plan.now).inputs.records }

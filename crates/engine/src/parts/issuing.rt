@@ -70,7 +70,12 @@ fn forks(prepared: &Option<Prepared>) -> bool
 }
 
 /// Stand-in for a call of the code.
-pub(crate) fn start_values(_alloc: Global, code: &Code, _task: u32, arguments: &Nums) -> Result<Nums, AllocError>
+pub(crate) fn start_values(
+    _alloc: Global,
+    code: &Code,
+    _task: u32,
+    arguments: &Nums,
+) -> Result<Nums, AllocError>
     ensures { IfOk result (λ values. values ≡ (start_place (code_of code.now).program _task 0 arguments.now).ctl) }
 {
     let _ = code;
@@ -177,11 +182,7 @@ fn reserve_room(parts: &mut Parts) -> Result<(), AllocError>
 }
 
 /// Takes all memory that the next turn can need.
-fn make_ready(
-    alloc: Global,
-    plan: &Plan,
-    parts: &mut Parts,
-) -> Result<Option<Prepared>, AllocError>
+fn make_ready(alloc: Global, plan: &Plan, parts: &mut Parts) -> Result<Option<Prepared>, AllocError>
     requires kept { Kept (batch_of plan.now) parts.old }
     ensures kept { Kept (batch_of plan.now) parts.new }
     ensures same { SameParts parts.old parts.new }

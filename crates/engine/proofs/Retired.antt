@@ -1,0 +1,166 @@
+-- When the oldest position retires, what it writes, and that all is kept.
+use Rattle.std.proofs.Common.{◌≡◌, inl, inr, ℕ, nat_le, Bool, true, false, ◌&&◌, ◌||◌, ◌+◌, ◌<◌, List, [], ◌∷◌, ◌++◌, Option, Some, None, is_some, is_none, option_map, unwrap_or, refl, sym, ap, ◌∙◌, subst, arith, slice_get}
+use Rattle.std.specs.Prelude.{Result, Ok, Err}
+use Rattle.std.specs.Result.{IsErr}
+use Rattle.std.proofs.lemmas.Bool.{eq-eqb, false≢true, and_parts, and_from, or_cases, or_left, or_right, leb-true, le-leb}
+use Rattle.std.proofs.lemmas.List.{append-nil}
+use Rattle.gp_base.specs.declared.limits.TheConstants.{LONGEST_DELAY}
+use Rattle.gp_base.specs.declared.ending.End.{End}
+use Rattle.gp_base.specs.declared.journal.Event.{Event}
+use Rattle.gp_base.specs.declared.journal.Event.TheVariants as event
+use Rattle.gp_base.specs.Sinks.{AppendsPrefix}
+use Rattle.dependence.specs.Restarts.{is_due, is_live, least_struck, NoneLive}
+use Rattle.dependence.specs.Journal.{Stage, Allowed, Drained, happens}
+use Rattle.dependence.specs.Standing.{StageStands}
+use Rattle.dependence.proofs.RunBuffers.{retired-lines}
+use Rattle.reorder_list.specs.declared.entry.Entry.{Entry}
+use Rattle.reorder_list.specs.declared.entry.State.{State}
+use Rattle.reorder_list.specs.declared.entry.State.TheVariants as entry
+use Rattle.reorder_list.specs.Entries.{entry_at, is_applied}
+use Rattle.reorder_list.specs.Stages.{IsEntry, EntriesStand, buffer_of}
+use Rattle.engine.specs.declared.parts.Parts.{Parts}
+use Rattle.engine.specs.View.{Batch, View, now, program_in, run_in, dependence_in, lines_of, lines_at}
+use Rattle.reorder_list.specs.declared.report.StopWhy.{StopWhy}
+use Rattle.restart_log.specs.Lines.{printed}
+use Rattle.engine.specs.Gives.{MayRetireNow, RetireWrites}
+use Rattle.engine.specs.inner.Kept.{view_of, stage_of, IsPlaceIn, IsEnd, WindowStands, Keeps, Kept}
+use Rattle.engine.specs.inner.Retiring.{none_strikes, entry_retires, oldest_retires, lines_of_entry, oldest_lines}
+use Rattle.engine.proofs.Kepts.{stage_stands, keeps_then}
+use Rattle.engine.proofs.RingTakes.{ring_same}
+use Rattle.engine.proofs.Struck.{due-is, live-is}
+use Rattle.engine.proofs.Windows.{window-retire}
+
+none-is : {X : Type 0} (o : Option X) → is_none o ≡ true → o ≡ None
+none-is None e = refl
+none-is (Some x) e = absurd (false≢true e)
+
+is-none : {X : Type 0} (o : Option X) → o ≡ None → is_none o ≡ true
+is-none o e = ap is_none e
+
+applied-is : (state : State) → is_applied state ≡ true → state ≡ entry.Applied
+applied-is entry.Waiting e = absurd (false≢true e)
+applied-is entry.Out e = absurd (false≢true e)
+applied-is entry.Applied e = refl
+
+-- nothing was written
+pub none-written : (o : Option (List ℕ)) (bytes : List ℕ) → AppendsPrefix o o bytes
+none-written None bytes = (0, tt)
+none-written (Some xs) bytes = (0, sym (append-nil xs))
+
+-- after an error a part was written
+pub err-writes : (view : View) (before after : Option (List ℕ)) (result : Result Bool StopWhy) → IsErr result → AppendsPrefix before after (printed (lines_at view.batch (now view).retired))
+    → RetireWrites view before after result
+err-writes view before after (Err why) is part = part
+err-writes view before after (Ok answer) is part = absurd (false≢true is)
+
+module _ (batch : Batch) (at : Stage) where
+  -- the oldest entry is that of the position that retires next
+  oldest-is : (entries : List Entry) (e : Entry) → EntriesStand (run_in batch) at entries → slice_get entries 0 ≡ Some e
+      → IsEntry (run_in batch) at at.retired e × (at.retired < at.progress.front) × (entry_at entries at.retired ≡ Some e)
+  oldest-is [] e stand is = absurd (cc is)
+  oldest-is (x ∷ entries) e stand is =
+      let same : x ≡ e = cc is in
+      let here : entry_at (x ∷ entries) at.retired ≡ Some x = rw (eq-eqb x.pos at.retired stand.row.0) refl in
+      subst (λ y. IsEntry (run_in batch) at at.retired y × (at.retired < at.progress.front) × (entry_at (x ∷ entries) at.retired ≡ Some y)) same
+      (stand.each at.retired x here, (let front = stand.front in omega arith), here)
+
+  -- where one is not retired, there is an oldest entry
+  oldest-there : (entries : List Entry) → EntriesStand (run_in batch) at entries → at.retired < at.progress.front → (e : Entry) × (slice_get entries 0 ≡ Some e)
+  oldest-there [] stand l = absurd (let front = stand.front in omega arith)
+  oldest-there (x ∷ entries) stand l = (x, refl)
+
+module _ (batch : Batch) (parts : Parts) (kept : Kept batch parts) where
+  abbrev at : Stage
+  at = stage_of batch parts.events.items
+
+  stage : StageStands (dependence_in batch) batch.faults at
+  stage = stage_stands batch parts.events.items kept.fit kept.journal
+
+  abbrev retires : Bool
+  retires = oldest_retires (is_some parts.ended) parts.rol.entries parts.issued batch.faults
+
+  due-none : none_strikes false parts.rol.entries parts.issued batch.faults ≡ is_none (least_struck (is_due at.progress) batch.faults)
+  due-none = ap is_none (due-is batch parts kept)
+
+  live-none : none_strikes true parts.rol.entries parts.issued batch.faults ≡ is_none (least_struck (is_live at.progress) batch.faults)
+  live-none = ap is_none (live-is batch parts kept)
+
+  may-now : retires ≡ true → MayRetireNow (view_of batch parts)
+  may-now true_is = go (slice_get parts.rol.entries 0) refl true_is
+    where
+      go : (o : Option Entry) → slice_get parts.rol.entries 0 ≡ o → entry_retires (is_some parts.ended) parts.rol.entries parts.issued batch.faults o ≡ true → MayRetireNow (view_of batch parts)
+      go None there both = absurd (false≢true both)
+      go (Some e) there both =
+          let is = oldest-is batch at parts.rol.entries e kept.window.entries_are there in
+          let first = and_parts _ _ both in
+          let second = and_parts _ _ first.1 in
+          record {
+            issued = is.1;
+            applied = is.0.applied.0 (applied-is e.state first.0);
+            none_due = none-is _ (sym due-none ∙ second.0);
+            safe = elim (or_cases _ _ second.1) [
+              | inl late ↦ inl (let l = leb-true (e.begun + LONGEST_DELAY) parts.issued late in let begun = is.0.begun in let front = kept.journal.issued_are in omega arith)
+              | inr end ↦ inr (let parts_are = and_parts _ _ end in (parts_are.0, none-is _ (sym live-none ∙ parts_are.1)))
+            ];
+          }
+
+  retires-now : MayRetireNow (view_of batch parts) → retires ≡ true
+  retires-now may =
+      let there = oldest-there batch at parts.rol.entries kept.window.entries_are may.issued in
+      let is = oldest-is batch at parts.rol.entries there.0 kept.window.entries_are there.1 in
+      let safe : (nat_le (there.0.begun + LONGEST_DELAY) parts.issued || (is_some parts.ended && none_strikes true parts.rol.entries parts.issued batch.faults)) ≡ true = elim may.safe [
+        | inl late ↦ or_left _ _ (le-leb (there.0.begun + LONGEST_DELAY) parts.issued (let begun = is.0.begun in let front = kept.journal.issued_are in omega arith))
+        | inr end ↦ or_right _ _ (and_from _ _ end.0 (live-none ∙ is-none _ end.1))
+      ] in
+      subst (λ o. entry_retires (is_some parts.ended) parts.rol.entries parts.issued batch.faults o ≡ true) (sym there.1)
+      (and_from _ _ (ap is_applied (is.0.applied.1 may.applied)) (and_from _ _ (due-none ∙ is-none _ may.none_due) safe))
+
+  pub not-now : retires ≡ false → ¬ MayRetireNow (view_of batch parts)
+  not-now false_is may = false≢true (sym false_is ∙ retires-now may)
+
+  module _ (true_is : retires ≡ true) where
+    pub allowed : Allowed (dependence_in batch) batch.faults at (event.Retire at.retired)
+    allowed =
+        let may = may-now true_is in
+        record {
+          oldest = refl;
+          issued = may.issued;
+          applied = may.applied;
+          none_due = may.none_due;
+          safe = elim may.safe [
+            | inl late ↦ inl late
+            | inr end ↦ inr (drained parts.ended kept.journal.ended_is end.0 end.1)
+          ];
+        }
+      where
+        drained : (ended : Option End) → IsEnd batch at.progress.front ended → is_some ended ≡ true → NoneLive batch.faults at.progress → Drained (dependence_in batch) batch.faults at.progress
+        drained None is known none = absurd (false≢true known)
+        drained (Some ending) is known none = (is.0, none)
+
+    pub lines-are : oldest_lines parts.rol.entries ≡ lines_at batch at.retired
+    lines-are =
+        let may = may-now true_is in
+        let there = oldest-there batch at parts.rol.entries kept.window.entries_are may.issued in
+        let is = oldest-is batch at parts.rol.entries there.0 kept.window.entries_are there.1 in
+        ap lines_of_entry there.1
+        ∙ (ap (λ o. unwrap_or (option_map (λ (x : Entry). x.prints) o) []) (sym is.2)
+        ∙ (retired-lines (program_in batch) batch.inputs batch.limits batch.faults kept.fit.short at (buffer_of parts.store parts.rol.entries) at.retired is.0.subthread stage kept.window.buffer_is allowed is.0.is_there
+        ∙ ap lines_of (sym is.0.is_there)))
+
+    module _ (e : Entry) (others : List Entry) (entries_are : parts.rol.entries ≡ e ∷ others) where
+      position : e.pos ≡ at.retired
+      position = (subst (EntriesStand (run_in batch) at) entries_are kept.window.entries_are).row.0
+
+      window : WindowStands batch at parts.ring.table (e ∷ others) parts.store
+      window = subst (λ entries. WindowStands batch at parts.ring.table entries parts.store) entries_are kept.window
+
+      pub made : (before events : List Event) → before ≡ parts.events.items → events ≡ before ++ event.Retire e.pos ∷ [] → events ≡ parts.events.items ++ event.Retire at.retired ∷ []
+      made before events before_are events_are = events_are ∙ (λ i. before_are i ++ event.Retire (position i) ∷ [])
+
+      pub kept-retired : (events : List Event) → events ≡ parts.events.items ++ event.Retire at.retired ∷ []
+          → Keeps batch parts.ring.table parts.places.items others parts.store events parts.restarts.items parts.issued parts.ended
+      kept-retired events events_are =
+          rw events_are
+          (keeps_then batch parts.events.items kept.fit kept.journal (event.Retire at.retired) allowed parts.ring.table parts.places.items others parts.store parts.restarts.items parts.issued parts.ended
+          (ring_same batch (IsPlaceIn batch) at (happens (dependence_in batch) batch.faults at (event.Retire at.retired)) parts.ring.table parts.places.items refl refl kept.ring)
+          (window-retire batch kept.fit at stage parts.ring.table parts.store e others window) kept.journal.restarts_are kept.journal.issued_are kept.journal.ended_is)
