@@ -35,6 +35,8 @@ mod stores;
 #[cfg(test)]
 mod tails;
 #[cfg(test)]
+mod tasks;
+#[cfg(test)]
 mod texts;
 #[cfg(test)]
 mod tokens;

@@ -1,0 +1,229 @@
+// Runs of tasks on flat code.
+ghost use Rattle.std.specs.Prelude.{◌≡◌, ◌<◌, ◌^◌, [], IfOk, length};
+ghost use Rattle.subthread.specs.declared.task.Work.{Work as PlainWork};
+ghost use Rattle.subthread.specs.Tasks.{Fits};
+
+use crate::programs::accepted;
+use gp_base::{At, Feed, LockNo, Nums, Pos, RecNo, Seq, ThreadNo};
+use record_store::{Bundle, Given};
+use std::alloc::{AllocError, Global};
+use std::test::Fail;
+use subthread::{Done, Task, Work, run_task};
+use task_ast::{Next, SyncOp};
+use task_code::lower;
+
+/// A thread adds to a total, under its lock.
+const ADD: &[u8] = b"lock tally[1];
+record total[1] by tally;
+task add(n) {
+  var $t;
+  lock tally[0];
+  read total[0] into $t;
+  write total[0] = $t + n;
+  unlock tally[0];
+}
+task main() { fork add(3); }";
+
+/// Each kind of statement that needs no lock. The lock of line 12 isn't there.
+const KINDS: &[u8] = b"lock tally[1]; barrier meet(1); feed move[2] from \"moves\";
+task sum(k, $a) { }
+task main() {
+  var i, n, c, $s, $r;
+  n = rows(move);
+  while i < n { $s = $s + move[i, 1]; print i, $s; i = i + 1; }
+  if not (n == 2) { print 0; } else { print -n, self; }
+  when $s { $r = $s % 4; } else { $r = 9; }
+  fork sum(n, $r + 1) into c; print c;
+  join c into $r;
+  barrier meet;
+  lock tally[n]; unlock tally[n];
+}";
+
+fn work(alloc: Global, text: &[u8], feeds: Seq<Feed>, turns: u64) -> Result<Work, Fail>
+    requires { length text.now < 2 ^ 32 }
+{
+    let code = lower(alloc, &accepted(alloc, text)?)?;
+    Ok(Work { code, feeds, turns })
+}
+
+fn run(alloc: Global, work: &Work, task: Task) -> Result<Done, AllocError>
+    requires { Fits work.now task }
+{
+    Ok(run_task(alloc, work, task)?)
+}
+
+/// Thread 1 holds the lock, and the total is 0.
+fn adding(alloc: Global, mask: i64) -> Result<Task, AllocError>
+    ensures { IfOk result (λ task. (work : PlainWork) → Fits work task) }
+{
+    let bundle = Bundle {
+        lock: LockNo(0),
+        cells: Seq::from_slice(alloc, &[0])?,
+    };
+    Ok(Task {
+        pos: Pos(4),
+        thread: ThreadNo(1),
+        attempt: 0,
+        begins: Next {
+            sync: SyncOp::Lock(LockNo(0)),
+            line: 5,
+        },
+        at: At { task: 0, pc: 0 },
+        ctl: Seq::from_slice(alloc, &[3])?,
+        child: None,
+        given: Given {
+            regs: Seq::from_slice(alloc, &[0, 0])?,
+            joined: 0,
+            bundles: Seq::from_vec(vec![in alloc; bundle]?),
+        },
+        held: Seq::from_slice(alloc, &[LockNo(0)])?,
+        mask,
+    })
+}
+
+fn added(done: &Done, register: i64, total: i64) -> bool {
+    done.effect.regs.as_slice() == [register, register].as_slice()
+        && done.effect.writes.as_slice() == [(RecNo(0), total)].as_slice()
+        && matches!(&done.next.sync, SyncOp::Unlock(LockNo(0)))
+        && done.next.line == 8
+}
+
+#[test]
+fn adds_and_is_damaged(rt: HostRuntime) -> Result<(), Fail> {
+    let alloc = rt.alloc();
+    let work = work(alloc, ADD, Seq::new(alloc), 10)?;
+    for (mask, register, total) in [(0, 0, 3), (1, 1, 2)] {
+        let done = run(alloc, &work, adding(alloc, mask)?)?;
+        assert!(rt; added(&done, register, total), "{mask}");
+    }
+    Ok(())
+}
+
+/// Thread 0 holds no lock.
+fn free(
+    alloc: Global,
+    begins: Next,
+    at: At,
+    ctl: Nums,
+    child: Option<ThreadNo>,
+    regs: Nums,
+    joined: i64,
+) -> Task
+    ensures { (work : PlainWork) → Fits work result }
+{
+    Task {
+        pos: Pos(0),
+        thread: ThreadNo(0),
+        attempt: 0,
+        begins,
+        at,
+        ctl,
+        child,
+        given: Given {
+            regs,
+            joined,
+            bundles: Seq::new(alloc),
+        },
+        held: Seq::new(alloc),
+        mask: 0,
+    }
+}
+
+/// `main` at its start.
+fn starting(alloc: Global) -> Result<Task, AllocError>
+    ensures { IfOk result (λ task. (work : PlainWork) → Fits work task) }
+{
+    let begins = Next {
+        sync: SyncOp::Start,
+        line: 0,
+    };
+    let ctl = Seq::from_slice(alloc, &[0, 0, 0])?;
+    let regs = Seq::from_slice(alloc, &[0, 0, 0])?;
+    Ok(free(alloc, begins, At { task: 1, pc: 0 }, ctl, None, regs, 0))
+}
+
+/// The subthread after another: the first forks thread 1, and one that is joined returns 7.
+fn next(alloc: Global, done: Done, step: usize) -> Task
+    ensures { (work : PlainWork) → Fits work result }
+{
+    let child = if step == 0 { Some(ThreadNo(1)) } else { None };
+    let Done {
+        effect,
+        next,
+        at,
+        ctl,
+        ..
+    } = done;
+    free(alloc, next, at, ctl, child, effect.regs, 7)
+}
+
+/// The work of all kinds of statements, with a feed of two rows of two cells.
+fn kinds(alloc: Global, turns: u64) -> Result<Work, Fail> {
+    let mut feeds = Seq::new(alloc);
+    feeds.push(Feed::new(2, Seq::from_slice(alloc, &[5, 6, 7, 8])?))?;
+    work(alloc, KINDS, feeds, turns)
+}
+
+fn prints(done: &Done, lines: &[&[i64]]) -> bool {
+    let prints = done.effect.prints.as_slice();
+    prints.len() == lines.len() && prints.iter().zip(lines).all(|(a, b)| a.as_slice() == *b)
+}
+
+fn is_numbers(numbers: &Nums, want: [i64; 3]) -> bool {
+    numbers.as_slice() == want.as_slice()
+}
+
+/// The first subthread stops at the fork of `sum` with 2, on line 9.
+fn forks(done: &Done) -> bool {
+    match &done.next.sync {
+        SyncOp::Fork { task: 0, args } => {
+            args.as_slice() == [2].as_slice()
+                && is_numbers(&done.effect.regs, [0, 14, 2])
+                && prints(done, &[&[0, 6], &[1, 14], &[-2, 0]])
+        }
+        _ => false,
+    }
+}
+
+/// The next one gave the child its registers, and stops at the join of thread 1.
+fn joins(done: &Done) -> bool {
+    match (&done.next.sync, &done.effect.child) {
+        (SyncOp::Join(1), Some((ThreadNo(1), regs))) => {
+            regs.as_slice() == [0, 3].as_slice()
+                && is_numbers(&done.ctl, [2, 2, 1])
+                && prints(done, &[&[1]])
+        }
+        _ => false,
+    }
+}
+
+fn is_right(step: usize, done: &Done) -> bool {
+    match step {
+        0 => forks(done),
+        1 => joins(done),
+        2 => matches!(&done.next.sync, SyncOp::Barrier(0))
+            && is_numbers(&done.effect.regs, [0, 14, 7]),
+        _ => matches!(&done.next.sync, SyncOp::BadIndex) && done.next.line == 12,
+    }
+}
+
+#[test]
+fn does_each_kind_of_statement(rt: HostRuntime) -> Result<(), Fail> {
+    let alloc = rt.alloc();
+    let work = kinds(alloc, 2)?;
+    let mut task = starting(alloc)?;
+    for step in 0..4 {
+        let done = run(alloc, &work, task)?;
+        assert!(rt; is_right(step, &done), "{step}");
+        task = next(alloc, done, step);
+    }
+    Ok(())
+}
+
+#[test]
+fn spends_its_turns(rt: HostRuntime) -> Result<(), Fail> {
+    let alloc = rt.alloc();
+    let done = run(alloc, &kinds(alloc, 1)?, starting(alloc)?)?;
+    assert!(rt; matches!(&done.next.sync, SyncOp::Spent) && prints(&done, &[&[0, 6]]));
+    Ok(())
+}
