@@ -1,8 +1,8 @@
 // The code of a program with each kind of statement.
 use crate::programs::accepted;
-use gp_base::LockNo;
+use gp_base::{LockNo, Seq};
 use std::test::Fail;
-use task_code::lower;
+use task_code::{Code, lower};
 
 // In text order: task 0 is one instruction. In task 1 an assignment is one, the loop three, the choice four, and each of
 // the ten statements behind them one.
@@ -26,25 +26,30 @@ task main() {
   print $x, i;
 }";
 
-// The code of each task: how many instructions, control variables and registers.
-const TASKS: [(usize, u32, u32); 2] = [(1, 1, 2), (18, 2, 2)];
+// The code of each task: its number, how many instructions, control variables and registers it has, and with which values
+// a thread starts that is given 7 and 9.
+const TASKS: [(u32, usize, u32, u32, &[i64]); 2] = [(0, 1, 1, 2, &[7]), (1, 18, 2, 2, &[0, 0])];
+
+// Whether a task begins at its first instruction, and has so many control variables and registers.
+fn begins(code: &Code, task: u32, ctl: u32, regs: u32) -> bool {
+    match (code.start(task), code.shape(task)) {
+        (Some(at), Some(shape)) => {
+            at.task == task && at.pc == 0 && shape.ctl == ctl && shape.regs == regs
+        }
+        _ => false,
+    }
+}
 
 #[test]
 fn lowers_each_statement(rt: HostRuntime) -> Result<(), Fail> {
     let alloc = rt.alloc();
     let code = lower(alloc, &accepted(alloc, EACH)?)?;
-    for (task, (instrs, ctl, regs)) in TASKS.iter().enumerate() {
-        let task = task as u32;
-        let shape = code.shape(task);
-        assert!(rt; code.instrs(task).len() == *instrs, "{task}");
-        assert!(rt;
-            shape.is_some_and(|s| s.ctl == *ctl && s.regs == *regs),
-            "{task}"
-        );
-        assert!(rt;
-            code.start(task)
-                .is_some_and(|at| at.task == task && at.pc == 0)
-        );
+    let arguments = Seq::from_slice(alloc, &[7, 9])?;
+    for (task, instrs, ctl, regs, starts) in &TASKS {
+        let values = code.start_values(alloc, *task, &arguments)?;
+        assert!(rt; code.instrs(*task).len() == *instrs, "{task}");
+        assert!(rt; begins(&code, *task, *ctl, *regs), "{task}");
+        assert!(rt; values.as_slice() == *starts, "{task}");
     }
     assert!(rt; code.start(2).is_none() && code.shape(2).is_none());
     assert!(rt; code.main() == 1 && code.barriers().as_slice() == [1u32].as_slice());
