@@ -1,4 +1,4 @@
--- What a run begins with.
+-- What stands where nothing was done.
 use Rattle.std.proofs.Common.{◌≡◌, ℕ, List, [], Option, sym, subst, refl}
 use Rattle.std.proofs.KnownBytes.{Appends-nil}
 use Rattle.gp_base.specs.declared.journal.Event.{Event}
