@@ -27,11 +27,11 @@ impl<'a> Model for Engine<'a> {
 
     ghost coded = { Prim.hlevel (codes, program.the_row.coded, instr.the_row.coded) };
 
-    ghost use Rattle.engine.specs.inner.Kept.{batch_of, view_of, Kept};
+    ghost use Rattle.engine.specs.inner.Kept.{batch_in, view_of, Kept};
 
-    ghost view = { λ e. record { view = view_of (batch_of e.plan) e.parts; room = e.parts.events.spare } };
+    ghost view = { λ e. record { view = view_of (batch_in e.plan) e.parts; room = e.parts.events.spare } };
 
-    ghost invariant = { λ e. Kept (batch_of e.plan) e.parts };
+    ghost invariant = { λ e. Kept (batch_in e.plan) e.parts };
 }
 
 impl<'a> Engine<'a> {

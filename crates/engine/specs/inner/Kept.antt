@@ -24,8 +24,8 @@ use Rattle.engine.specs.View.{Batch, View, program_in, run_in, dependence_in, un
 use Rattle.engine.specs.inner.RingStands.{point_before, RingStands}
 
 -- what a plan is to definitions
-abbrev pub batch_of : Plan → Batch
-batch_of plan = record { work = plan.work.now; inputs = plan.inputs.value; limits = plan.limits; faults = plan.faults.list }
+abbrev pub batch_in : Plan → Batch
+batch_in plan = record { work = plan.work.now; inputs = plan.inputs.value; limits = plan.limits; faults = plan.faults.list }
 
 -- what contracts see of the parts
 abbrev pub view_of : Batch → Parts → View

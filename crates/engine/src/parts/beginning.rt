@@ -8,9 +8,8 @@ ghost use Rattle.task_code.specs.Flat.{code_of};
 ghost use Rattle.record_store.specs.Stored.{with_thread, without_threads};
 ghost use Rattle.subthread.specs.Tasks.{Suits};
 ghost use Rattle.engine.specs.View.{program_in, begun};
-ghost use Rattle.engine.specs.inner.Kept.{batch_of, view_of, IsPlaceIn, Kept};
+ghost use Rattle.engine.specs.inner.Kept.{batch_in, view_of, IsPlaceIn, Kept};
 
-use crate::parts::issuing::start_values;
 use crate::parts::{Parts, Place, Plan};
 use gp_base::{At, Nums, Room};
 use record_store::Store;
@@ -32,8 +31,8 @@ fn registers(code: &Code, task: u32) -> u32
 
 /// The ring with thread 0 at the start of `main`.
 fn ring_of(alloc: Global, plan: &Plan, layout: &Layout) -> Result<Ring, AllocError>
-    requires { Suits (batch_of plan.now).work layout.now (batch_of plan.now).inputs (batch_of plan.now).limits }
-    ensures { IfOk result (λ ring. ring.table ≡ (opening (program_in (batch_of plan.now)) (batch_of plan.now).inputs (batch_of plan.now).limits).table) }
+    requires { Suits (batch_in plan.now).work layout.now (batch_in plan.now).inputs (batch_in plan.now).limits }
+    ensures { IfOk result (λ ring. ring.table ≡ (opening (program_in (batch_in plan.now)) (batch_in plan.now).inputs (batch_in plan.now).limits).table) }
 {
     let locks = layout.under.len() as u32;
     let barriers = plan.work.code.barriers().copied(alloc)?;
@@ -47,7 +46,7 @@ fn ring_of(alloc: Global, plan: &Plan, layout: &Layout) -> Result<Ring, AllocErr
 
 /// The store with the records and the registers of thread 0.
 fn store_of(alloc: Global, plan: &Plan, layout: Layout, records: Nums) -> Result<Store, AllocError>
-    ensures { IfOk result (λ store. store ≡ with_thread (length (registers_of (main_task (program_in (batch_of plan.now))))) (without_threads records layout.under)) }
+    ensures { IfOk result (λ store. store ≡ with_thread (length (registers_of (main_task (program_in (batch_in plan.now))))) (without_threads records layout.under)) }
 {
     let code = &plan.work.code;
     let mut store = Store::new(alloc, records, layout);
@@ -57,22 +56,22 @@ fn store_of(alloc: Global, plan: &Plan, layout: Layout, records: Nums) -> Result
 
 /// Where thread 0 starts.
 fn first_place(alloc: Global, plan: &Plan) -> Result<Place, AllocError>
-    ensures { IfOk result (λ place. IsPlaceIn (batch_of plan.now) 0 sync.Start place (start_point (main_task (program_in (batch_of plan.now))) 0 [])) }
+    ensures { IfOk result (λ place. IsPlaceIn (batch_in plan.now) 0 sync.Start place (start_point (main_task (program_in (batch_in plan.now))) 0 [])) }
 {
     let code = &plan.work.code;
     let task = code.main();
-    let ctl = start_values(alloc, code, task, &Nums::new(alloc))?;
+    let ctl = code.start_values(alloc, task, &Nums::new(alloc))?;
     let at = At { task, pc: 0 };
     Ok(Place { at, ctl })
 }
 
 /// Nothing was issued. The error is that memory is out.
 pub fn begin(alloc: Global, plan: &Plan, layout: Layout, records: Nums) -> Result<Parts, AllocError>
-    requires suits { Suits (batch_of plan.now).work layout (batch_of plan.now).inputs (batch_of plan.now).limits }
-    requires few { (batch_of plan.now).limits.subthreads < 2 ^ 32 }
-    requires records { records ≡ (batch_of plan.now).inputs.records }
-    ensures kept { IfOk result (Kept (batch_of plan.now)) }
-    ensures view { IfOk result (λ parts. view_of (batch_of plan.now) parts ≡ begun (batch_of plan.now)) }
+    requires suits { Suits (batch_in plan.now).work layout (batch_in plan.now).inputs (batch_in plan.now).limits }
+    requires few { (batch_in plan.now).limits.subthreads < 2 ^ 32 }
+    requires records { records ≡ (batch_in plan.now).inputs.records }
+    ensures kept { IfOk result (Kept (batch_in plan.now)) }
+    ensures view { IfOk result (λ parts. view_of (batch_in plan.now) parts ≡ begun (batch_in plan.now)) }
 {
     let ring = ring_of(alloc, plan, &layout)?;
     let place = first_place(alloc, plan)?;

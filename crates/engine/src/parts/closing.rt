@@ -3,7 +3,7 @@
 ghost use Rattle.std.specs.Prelude.{◌≡◌, IfSome, IfNone};
 ghost use Rattle.gp_base.specs.declared.ending.End.{End as EndThere};
 ghost use Rattle.engine.specs.Gives.{IsNextToPost, NoneToPost, HasFinished, IsJournalOf, IsReportOf};
-ghost use Rattle.engine.specs.inner.Kept.{batch_of, view_of, Kept};
+ghost use Rattle.engine.specs.inner.Kept.{batch_in, view_of, Kept};
 
 use crate::parts::{Parts, Plan};
 use gp_base::{End, Journal, Pos};
@@ -11,21 +11,21 @@ use reorder_list::Report;
 
 /// The first position from this one on whose present attempt may be posted.
 pub fn runnable(plan: &Plan, parts: &mut Parts, from: Pos) -> Option<Pos>
-    requires kept { Kept (batch_of plan.now) parts.old }
-    ensures kept { Kept (batch_of plan.now) parts.new }
-    ensures same { view_of (batch_of plan.now) parts.new ≡ view_of (batch_of plan.now) parts.old }
+    requires kept { Kept (batch_in plan.now) parts.old }
+    ensures kept { Kept (batch_in plan.now) parts.new }
+    ensures same { view_of (batch_in plan.now) parts.new ≡ view_of (batch_in plan.now) parts.old }
     ensures room { parts.new.events ≡ parts.old.events }
-    ensures found { IfSome result (IsNextToPost (view_of (batch_of plan.now) parts.old) from) }
-    ensures none { IfNone result (NoneToPost (view_of (batch_of plan.now) parts.old) from) }
+    ensures found { IfSome result (IsNextToPost (view_of (batch_in plan.now) parts.old) from) }
+    ensures none { IfNone result (NoneToPost (view_of (batch_in plan.now) parts.old) from) }
 {
     parts.rol.next_runnable(from)
 }
 
 /// How the run ends, where that is known and all positions have retired.
 pub fn finished(plan: &Plan, parts: &Parts) -> Option<End>
-    requires kept { Kept (batch_of plan.now) parts.now }
-    ensures found { IfSome result (HasFinished (view_of (batch_of plan.now) parts.now)) }
-    ensures none { IfNone result ((ending : EndThere) → ¬ HasFinished (view_of (batch_of plan.now) parts.now) ending) }
+    requires kept { Kept (batch_in plan.now) parts.now }
+    ensures found { IfSome result (HasFinished (view_of (batch_in plan.now) parts.now)) }
+    ensures none { IfNone result ((ending : EndThere) → ¬ HasFinished (view_of (batch_in plan.now) parts.now) ending) }
 {
     if parts.rol.len() == 0 {
         parts.ended
@@ -36,8 +36,8 @@ pub fn finished(plan: &Plan, parts: &Parts) -> Option<End>
 
 /// What the run did. Takes no memory.
 pub fn into_journal(plan: &Plan, parts: Parts) -> Journal
-    requires kept { Kept (batch_of plan.now) parts }
-    ensures { IsJournalOf (view_of (batch_of plan.now) parts) result }
+    requires kept { Kept (batch_in plan.now) parts }
+    ensures { IsJournalOf (view_of (batch_in plan.now) parts) result }
 {
     let Parts {
         events,
@@ -52,8 +52,8 @@ pub fn into_journal(plan: &Plan, parts: Parts) -> Journal
 
 /// The report of the run, which has ended so. Takes no memory.
 pub fn into_report(plan: &Plan, parts: Parts, end: End) -> Report
-    requires kept { Kept (batch_of plan.now) parts }
-    ensures { IsReportOf (view_of (batch_of plan.now) parts) end result }
+    requires kept { Kept (batch_in plan.now) parts }
+    ensures { IsReportOf (view_of (batch_in plan.now) parts) end result }
 {
     let unused = (plan.faults.as_slice().len() - parts.restarts.len()) as u32;
     let Parts {

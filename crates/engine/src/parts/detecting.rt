@@ -6,7 +6,7 @@ ghost use Rattle.gp_base.specs.declared.journal.Event.TheVariants as event;
 ghost use Rattle.reorder_list.specs.Entries.{entry_at};
 ghost use Rattle.engine.specs.Gives.{Did, DetectGives, struck_now};
 ghost use Rattle.engine.specs.View.{now};
-ghost use Rattle.engine.specs.inner.Kept.{batch_of, view_of, Kept};
+ghost use Rattle.engine.specs.inner.Kept.{batch_in, view_of, Kept};
 ghost use Rattle.engine.specs.inner.Detected.{HasRooms, attempt_in};
 
 use crate::parts::striking::struck;
@@ -47,12 +47,12 @@ fn attempt_of(rol: &Rol, p: Pos) -> u32
 
 // Redoes the position that is struck, and notes it.
 fn redo_from(alloc: Global, plan: &Plan, parts: &mut Parts, struck: Pos, redo: Room<Pos>)
-    requires kept { Kept (batch_of plan.now) parts.old }
-    requires is_struck { struck_now (view_of (batch_of plan.now) parts.old) ≡ Some struck }
+    requires kept { Kept (batch_in plan.now) parts.old }
+    requires is_struck { struck_now (view_of (batch_in plan.now) parts.old) ≡ Some struck }
     requires empty { redo.items ≡ [] }
     requires rooms { HasRooms (length parts.old.rol.entries) parts.old.events parts.old.restarts redo }
-    ensures kept { Kept (batch_of plan.now) parts.new }
-    ensures did { Did (view_of (batch_of plan.now) parts.old) (event.Restart (length (now (view_of (batch_of plan.now) parts.old)).progress.made)) (view_of (batch_of plan.now) parts.new) }
+    ensures kept { Kept (batch_in plan.now) parts.new }
+    ensures did { Did (view_of (batch_in plan.now) parts.old) (event.Restart (length (now (view_of (batch_in plan.now) parts.old)).progress.made)) (view_of (batch_in plan.now) parts.new) }
 {
     let mut redo = redo;
     let front = Pos(parts.issued);
@@ -79,10 +79,10 @@ fn redo_from(alloc: Global, plan: &Plan, parts: &mut Parts, struck: Pos, redo: R
 /// Makes one restart and answers `true`, or answers `false` where none is due, as far as the end is known. The error is
 /// that memory is out, and changes nothing.
 pub fn detect(alloc: Global, plan: &Plan, parts: &mut Parts) -> Result<bool, AllocError>
-    requires kept { Kept (batch_of plan.now) parts.old }
-    ensures kept { Kept (batch_of plan.now) parts.new }
-    ensures gives { IfOk result (DetectGives (view_of (batch_of plan.now) parts.old) (view_of (batch_of plan.now) parts.new)) }
-    ensures err { OnErr result (view_of (batch_of plan.now) parts.new ≡ view_of (batch_of plan.now) parts.old) }
+    requires kept { Kept (batch_in plan.now) parts.old }
+    ensures kept { Kept (batch_in plan.now) parts.new }
+    ensures gives { IfOk result (DetectGives (view_of (batch_in plan.now) parts.old) (view_of (batch_in plan.now) parts.new)) }
+    ensures err { OnErr result (view_of (batch_in plan.now) parts.new ≡ view_of (batch_in plan.now) parts.old) }
 {
     let faults = plan.faults.as_slice();
     let Some(p) = struck(&parts.rol, faults, parts.issued, parts.ended.is_some()) else {

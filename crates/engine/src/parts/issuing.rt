@@ -5,24 +5,21 @@ ghost use Rattle.gp_base.specs.declared.limits.TheConstants.{MOST_THREADS};
 ghost use Rattle.task_ast.specs.Turn.{child_of};
 ghost use Rattle.dependence.specs.Restarts.{NoneDue};
 ghost use Rattle.subthread.specs.Footprints.{IsNumbered};
-ghost use Rattle.task_code.specs.Flat.{code_of};
-ghost use Rattle.task_code.specs.Reading.{start_place};
 ghost use Rattle.reorder_list.specs.Entries.{ComesNext};
 ghost use Rattle.engine.specs.View.{now};
 ghost use Rattle.engine.specs.Gives.{IssueGives};
 ghost use Rattle.engine.specs.inner.RingStands.{StartIs};
-ghost use Rattle.engine.specs.inner.Kept.{batch_of, view_of, IsPlaceIn, Kept};
+ghost use Rattle.engine.specs.inner.Kept.{batch_in, view_of, IsPlaceIn, Kept};
 ghost use Rattle.engine.specs.inner.Prepared.{names_thread, forks, new_entry, PreparedFor, IsPrepared, IsReadyFor, IsPushed, IsSlotted, SameParts, HasRoom, TurnGives};
 
 use crate::Issued;
 use crate::parts::{Parts, Place, Plan};
-use gp_base::{At, Event, Footprint, LockNo, Nums, Pos, Seq, ThreadNo};
+use gp_base::{At, Event, Footprint, LockNo, Pos, Seq, ThreadNo};
 use record_store::Store;
 use reorder_list::{Entry, State};
 use std::alloc::{AllocError, Global};
 use subthread::footprint;
 use task_ast::{Next, SyncOp};
-use task_code::Code;
 use token_order::Turn;
 
 /// What the entry of the thread ahead needs, and the place at which its child starts.
@@ -69,20 +66,6 @@ fn forks(prepared: &Option<Prepared>) -> bool
     }
 }
 
-/// Stand-in for a call of the code.
-pub(crate) fn start_values(
-    _alloc: Global,
-    code: &Code,
-    _task: u32,
-    arguments: &Nums,
-) -> Result<Nums, AllocError>
-    ensures { IfOk result (λ values. values ≡ (start_place (code_of code.now).program _task 0 arguments.now).ctl) }
-{
-    let _ = code;
-    let _ = arguments;
-    Err(AllocError)
-}
-
 /// Where the child of a fork starts.
 fn start_of(
     alloc: Global,
@@ -90,11 +73,11 @@ fn start_of(
     sync: &SyncOp,
     threads: usize,
 ) -> Result<Option<Place>, AllocError>
-    ensures { IfOk result (λ start. StartIs (batch_of plan.now) (IsPlaceIn (batch_of plan.now)) threads sync.now start) }
+    ensures { IfOk result (λ start. StartIs (batch_in plan.now) (IsPlaceIn (batch_in plan.now)) threads sync.now start) }
 {
     match sync {
         SyncOp::Fork { task, args } => {
-            let ctl = start_values(alloc, &plan.work.code, *task, args)?;
+            let ctl = plan.work.code.start_values(alloc, *task, args)?;
             let at = At { task: *task, pc: 0 };
             Ok(Some(Place { at, ctl }))
         }
@@ -114,7 +97,7 @@ fn prepare_for(
     requires places { length parts.now.places.items ≡ length parts.now.ring.table.seats }
     requires few { length parts.now.places.items ≤ MOST_THREADS }
     requires numbered { IsNumbered begins.now.sync }
-    ensures { IfOk result (PreparedFor (batch_of plan.now) parts.now.ring.table parts.now.places.items thread begins.now.sync) }
+    ensures { IfOk result (PreparedFor (batch_in plan.now) parts.now.ring.table parts.now.places.items thread begins.now.sync) }
 {
     let threads = parts.places.len();
     let place = parts.places[thread.0 as usize].copied(alloc)?;
@@ -134,7 +117,7 @@ fn prepare_for(
 fn prepare(alloc: Global, plan: &Plan, parts: &Parts) -> Result<Option<Prepared>, AllocError>
     requires places { length parts.now.places.items ≡ length parts.now.ring.table.seats }
     requires few { length parts.now.places.items ≤ MOST_THREADS }
-    ensures { IfOk result (λ prepared. IsPrepared (batch_of plan.now) parts.now.ring.table parts.now.places.items prepared) }
+    ensures { IfOk result (λ prepared. IsPrepared (batch_in plan.now) parts.now.ring.table parts.now.places.items prepared) }
 {
     let Some(thread) = parts.ring.ahead() else {
         return Ok(None);
@@ -183,12 +166,12 @@ fn reserve_room(parts: &mut Parts) -> Result<(), AllocError>
 
 /// Takes all memory that the next turn can need.
 fn make_ready(alloc: Global, plan: &Plan, parts: &mut Parts) -> Result<Option<Prepared>, AllocError>
-    requires kept { Kept (batch_of plan.now) parts.old }
-    ensures kept { Kept (batch_of plan.now) parts.new }
+    requires kept { Kept (batch_in plan.now) parts.old }
+    ensures kept { Kept (batch_in plan.now) parts.new }
     ensures same { SameParts parts.old parts.new }
     ensures thread { OnOk result (0 < parts.new.ring.spare) }
     ensures room { OnOk result (HasRoom parts.new) }
-    ensures ready { IfOk result (λ prepared. IsReadyFor (batch_of plan.now) parts.new prepared) }
+    ensures ready { IfOk result (λ prepared. IsReadyFor (batch_in plan.now) parts.new prepared) }
 {
     reserve_room(parts)?;
     let prepared = prepare(alloc, plan, parts)?;
@@ -251,13 +234,13 @@ fn turn(
     parts: &mut Parts,
     prepared: Option<Prepared>,
 ) -> Option<Issued>
-    requires kept { Kept (batch_of _plan.now) parts.old }
-    requires none_due { NoneDue (batch_of _plan.now).faults (now (view_of (batch_of _plan.now) parts.old)).progress }
+    requires kept { Kept (batch_in _plan.now) parts.old }
+    requires none_due { NoneDue (batch_in _plan.now).faults (now (view_of (batch_in _plan.now) parts.old)).progress }
     requires thread { 0 < parts.old.ring.spare }
     requires room { HasRoom parts.old }
-    requires ready { IsReadyFor (batch_of _plan.now) parts.old prepared }
-    ensures kept { Kept (batch_of _plan.now) parts.new }
-    ensures gives { TurnGives (batch_of _plan.now) parts.old parts.new result }
+    requires ready { IsReadyFor (batch_in _plan.now) parts.old prepared }
+    ensures kept { Kept (batch_in _plan.now) parts.new }
+    ensures gives { TurnGives (batch_in _plan.now) parts.old parts.new result }
 {
     match parts.ring.turn() {
         Turn::Pass => None,
@@ -280,11 +263,11 @@ fn turn(
 
 /// Issues the next subthread, or answers which thread's next synchronisation is needed first, or how the run ends.
 pub fn issue(alloc: Global, plan: &Plan, parts: &mut Parts) -> Result<Issued, AllocError>
-    requires kept { Kept (batch_of plan.now) parts.old }
-    requires none_due { NoneDue (batch_of plan.now).faults (now (view_of (batch_of plan.now) parts.old)).progress }
-    ensures kept { Kept (batch_of plan.now) parts.new }
-    ensures gives { IfOk result (IssueGives (view_of (batch_of plan.now) parts.old) (view_of (batch_of plan.now) parts.new)) }
-    ensures err { OnErr result (view_of (batch_of plan.now) parts.new ≡ view_of (batch_of plan.now) parts.old) }
+    requires kept { Kept (batch_in plan.now) parts.old }
+    requires none_due { NoneDue (batch_in plan.now).faults (now (view_of (batch_in plan.now) parts.old)).progress }
+    ensures kept { Kept (batch_in plan.now) parts.new }
+    ensures gives { IfOk result (IssueGives (view_of (batch_in plan.now) parts.old) (view_of (batch_in plan.now) parts.new)) }
+    ensures err { OnErr result (view_of (batch_in plan.now) parts.new ≡ view_of (batch_in plan.now) parts.old) }
 {
     'turning: loop {
         let prepared = make_ready(alloc, plan, parts)?;

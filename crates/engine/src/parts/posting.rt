@@ -13,7 +13,7 @@ ghost use Rattle.crew.specs.Out.{pair_of};
 ghost use Rattle.engine.specs.View.{now};
 ghost use Rattle.engine.specs.Gives.{Did, MayPostNow};
 ghost use Rattle.engine.specs.Takes.{TaskStands};
-ghost use Rattle.engine.specs.inner.Kept.{batch_of, view_of, Kept};
+ghost use Rattle.engine.specs.inner.Kept.{batch_in, view_of, Kept};
 ghost use Rattle.engine.specs.inner.Posted.{task_in};
 
 use crate::parts::{Parts, Plan};
@@ -102,18 +102,18 @@ pub fn post<R: Threads + Sync, C: Crew>(
     crew: &mut C,
     position: Pos,
 ) -> Result<(), AllocError>
-    requires kept { Kept (batch_of plan.now) parts.old }
-    requires may { MayPostNow (view_of (batch_of plan.now) parts.old) position }
+    requires kept { Kept (batch_in plan.now) parts.old }
+    requires may { MayPostNow (view_of (batch_in plan.now) parts.old) position }
     requires ready { C.ready crew.old }
-    requires work { C.work crew.old ≡ (batch_of plan.now).work }
-    requires posted { C.posted crew.old ≡ (now (view_of (batch_of plan.now) parts.old)).posted }
-    ensures kept { Kept (batch_of plan.now) parts.new }
-    ensures did { OnOk result (Did (view_of (batch_of plan.now) parts.old) (event.Post position (present (now (view_of (batch_of plan.now) parts.old)) position)) (view_of (batch_of plan.now) parts.new)) }
-    ensures err { OnErr result (view_of (batch_of plan.now) parts.new ≡ view_of (batch_of plan.now) parts.old) }
+    requires work { C.work crew.old ≡ (batch_in plan.now).work }
+    requires posted { C.posted crew.old ≡ (now (view_of (batch_in plan.now) parts.old)).posted }
+    ensures kept { Kept (batch_in plan.now) parts.new }
+    ensures did { OnOk result (Did (view_of (batch_in plan.now) parts.old) (event.Post position (present (now (view_of (batch_in plan.now) parts.old)) position)) (view_of (batch_in plan.now) parts.new)) }
+    ensures err { OnErr result (view_of (batch_in plan.now) parts.new ≡ view_of (batch_in plan.now) parts.old) }
     ensures ready { C.ready crew.new }
     ensures work { C.work crew.new ≡ C.work crew.old }
-    ensures out { OnOk result ((task : Task) × (C.out crew.new ≡ C.out crew.old ++ task ∷ []) × (pair_of task ≡ (position, present (now (view_of (batch_of plan.now) parts.old)) position)) × TaskStands (view_of (batch_of plan.now) parts.new) task) }
-    ensures posted { OnOk result (C.posted crew.new ≡ C.posted crew.old ++ (position, present (now (view_of (batch_of plan.now) parts.old)) position) ∷ []) }
+    ensures out { OnOk result ((task : Task) × (C.out crew.new ≡ C.out crew.old ++ task ∷ []) × (pair_of task ≡ (position, present (now (view_of (batch_in plan.now) parts.old)) position)) × TaskStands (view_of (batch_in plan.now) parts.new) task) }
+    ensures posted { OnOk result (C.posted crew.new ≡ C.posted crew.old ++ (position, present (now (view_of (batch_in plan.now) parts.old)) position) ∷ []) }
     ensures posted_kept { OnErr result (C.posted crew.new ≡ C.posted crew.old) }
     ensures out_kept { OnErr result (C.out crew.new ≡ C.out crew.old) }
 {

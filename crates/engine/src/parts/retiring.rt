@@ -5,7 +5,7 @@ ghost use Rattle.std.specs.Io.KnownBytes.{Appends};
 ghost use Rattle.gp_base.specs.Sinks.{AppendsPrefix};
 ghost use Rattle.restart_log.specs.Lines.{printed};
 ghost use Rattle.engine.specs.Gives.{RetireGives, RetireWrites, HasStopCause};
-ghost use Rattle.engine.specs.inner.Kept.{batch_of, view_of, Kept};
+ghost use Rattle.engine.specs.inner.Kept.{batch_in, view_of, Kept};
 ghost use Rattle.engine.specs.inner.Retiring.{none_strikes, oldest_retires, oldest_lines};
 
 use crate::parts::striking::least_struck;
@@ -74,11 +74,11 @@ pub fn retire<O: Sink>(
     parts: &mut Parts,
     out: &mut O,
 ) -> Result<bool, StopWhy>
-    requires kept { Kept (batch_of plan.now) parts.old }
-    ensures kept { Kept (batch_of plan.now) parts.new }
-    ensures gives { IfOk result (RetireGives (view_of (batch_of plan.now) parts.old) (view_of (batch_of plan.now) parts.new)) }
-    ensures err { OnErr result (view_of (batch_of plan.now) parts.new ≡ view_of (batch_of plan.now) parts.old) }
-    ensures lines { RetireWrites (view_of (batch_of plan.now) parts.old) (O.written out.old) (O.written out.new) result }
+    requires kept { Kept (batch_in plan.now) parts.old }
+    ensures kept { Kept (batch_in plan.now) parts.new }
+    ensures gives { IfOk result (RetireGives (view_of (batch_in plan.now) parts.old) (view_of (batch_in plan.now) parts.new)) }
+    ensures err { OnErr result (view_of (batch_in plan.now) parts.new ≡ view_of (batch_in plan.now) parts.old) }
+    ensures lines { RetireWrites (view_of (batch_in plan.now) parts.old) (O.written out.old) (O.written out.new) result }
     ensures cause { HasStopCause (O.faults out.old) (O.faults out.new) result }
 {
     let faults = plan.faults.as_slice();

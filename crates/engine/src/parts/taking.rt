@@ -9,7 +9,7 @@ ghost use Rattle.reorder_list.specs.declared.entry.State.TheVariants as state;
 ghost use Rattle.subthread.specs.Tasks.{task_of, IsRun};
 ghost use Rattle.engine.specs.Gives.{Did};
 ghost use Rattle.engine.specs.Takes.{TaskStands};
-ghost use Rattle.engine.specs.inner.Kept.{batch_of, view_of, Kept};
+ghost use Rattle.engine.specs.inner.Kept.{batch_in, view_of, Kept};
 ghost use Rattle.engine.specs.inner.Taken.{awaits, learning_from, placing_from, has_attempt, IsAppliedWhere};
 
 use crate::parts::{Parts, Place, Plan};
@@ -75,12 +75,12 @@ fn apply_where(fresh: bool, store: &mut Store, rol: &mut Rol, pos: Pos, effect: 
 /// Takes the run of a task that is out, and applies it where its attempt is the present one, which is the answer. What
 /// its thread does next is learnt in any case, where it is awaited.
 pub fn accept(plan: &Plan, parts: &mut Parts, done: Done) -> bool
-    requires kept { Kept (batch_of plan.now) parts.old }
-    requires task { TaskStands (view_of (batch_of plan.now) parts.old) (task_of done) }
-    requires run { IsRun (batch_of plan.now).work done }
+    requires kept { Kept (batch_in plan.now) parts.old }
+    requires task { TaskStands (view_of (batch_in plan.now) parts.old) (task_of done) }
+    requires run { IsRun (batch_in plan.now).work done }
     requires room { 0 < parts.old.events.spare }
-    ensures kept { Kept (batch_of plan.now) parts.new }
-    ensures did { Did (view_of (batch_of plan.now) parts.old) (event.Take (task_of done).pos (task_of done).attempt result) (view_of (batch_of plan.now) parts.new) }
+    ensures kept { Kept (batch_in plan.now) parts.new }
+    ensures did { Did (view_of (batch_in plan.now) parts.old) (event.Take (task_of done).pos (task_of done).attempt result) (view_of (batch_in plan.now) parts.new) }
 {
     let Done {
         task,

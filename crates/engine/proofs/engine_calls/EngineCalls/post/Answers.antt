@@ -7,7 +7,7 @@ use Rattle.crew.specs.Out.{pair_of}
 use Rattle.engine.specs.View.{now}
 use Rattle.engine.specs.Gives.{Did, MayPostNow}
 use Rattle.engine.specs.Takes.{TaskStands}
-use Rattle.engine.specs.inner.Kept.{batch_of, view_of}
+use Rattle.engine.specs.inner.Kept.{batch_in, view_of}
 use Rattle.engine.proofs.engine_calls.EngineCalls.post.Goals as goal
 
 pub post-requires-clause-may : goal.post-requires-clause-may
@@ -18,13 +18,13 @@ post-requires-clause-posted g c lifetimes within = subst (λ view. g.C.Crew.post
 
 pub returns-clause-did : goal.returns-clause-did
 returns-clause-did g c =
-    subst (λ view. OnOk c.post.result (Did view (event.Post c.args.position (present (now view) c.args.position)) (view_of (batch_of c.self.inside.plan) c.post.new.parts)))
+    subst (λ view. OnOk c.post.result (Did view (event.Post c.args.position (present (now view) c.args.position)) (view_of (batch_in c.self.inside.plan) c.post.new.parts)))
     (ap (λ e. e.view) c.self.view_is) c.post.ensures.did
 
 pub returns-clause-out : goal.returns-clause-out
 returns-clause-out g c =
     subst (λ view. OnOk c.post.result ((task : Task) × (g.C.Crew.out c.post.new.crew ≡ g.C.Crew.out c.args.crew.now ++ task ∷ [])
-    × (pair_of task ≡ (c.args.position, present (now view) c.args.position)) × TaskStands (view_of (batch_of c.self.inside.plan) c.post.new.parts) task))
+    × (pair_of task ≡ (c.args.position, present (now view) c.args.position)) × TaskStands (view_of (batch_in c.self.inside.plan) c.post.new.parts) task))
     (ap (λ e. e.view) c.self.view_is) c.post.ensures.out
 
 pub returns-clause-posted : goal.returns-clause-posted

@@ -1,6 +1,6 @@
-use Rattle.engine.specs.inner.Kept.{batch_of}
+use Rattle.engine.specs.inner.Kept.{batch_in}
 use Rattle.engine.proofs.Opened.{place_opens}
 use Rattle.engine.proofs.parts.beginning.first_place.Goals as goal
 
 pub returns : goal.returns
-returns c = place_opens (batch_of c.args.plan.now) c.main-task.result c.new.result c.in_ok-ctl.ctl c.main-task.ensures c.new.ensures c.in_ok-ctl.ensures
+returns c = place_opens (batch_in c.args.plan.now) c.main-task.result c.new.result c.in_ok-ctl.ctl c.main-task.ensures c.new.ensures c.in_ok-ctl.ensures

@@ -1,12 +1,12 @@
 use Rattle.std.proofs.Common.{arith, ◌∙◌}
-use Rattle.engine.specs.inner.Kept.{batch_of}
+use Rattle.engine.specs.inner.Kept.{batch_in}
 use Rattle.engine.proofs.Opened.{few_locks, ring_begins}
 use Rattle.engine.proofs.parts.beginning.ring_of.Goals as goal
 
 pub overflow_cast-locks : goal.overflow_cast-locks
-overflow_cast-locks c = let few = few_locks (batch_of c.args.plan.now) c.args.layout.now c.requires in omega arith
+overflow_cast-locks c = let few = few_locks (batch_in c.args.plan.now) c.args.layout.now c.requires in omega arith
 
 pub returns : goal.returns
 returns c =
-    ring_begins (batch_of c.args.plan.now) c.args.layout.now c.requires c.in_ok-ring.ring.table c.len-locks.result c.in_ok-barriers.barriers c.len-locks.ensures
+    ring_begins (batch_in c.args.plan.now) c.args.layout.now c.requires c.in_ok-ring.ring.table c.len-locks.result c.in_ok-barriers.barriers c.len-locks.ensures
     (c.in_ok-barriers.ensures ∙ c.barriers.ensures) c.in_ok-ring.ensures

@@ -1,14 +1,14 @@
 use Rattle.std.proofs.Common.{◌≡◌, ◌∙◌, refl, sym}
 use Rattle.engine.specs.Gives.{struck_now}
-use Rattle.engine.specs.inner.Kept.{batch_of, view_of}
+use Rattle.engine.specs.inner.Kept.{batch_in, view_of}
 use Rattle.engine.proofs.Struck.{struck-same}
 use Rattle.engine.proofs.parts.detecting.detect.Goals as goal
 use Rattle.engine.proofs.parts.detecting.detect.Goals.{After-struck}
 
 -- what is struck as far as the end is known
-told : (c : After-struck) → struck_now (view_of (batch_of c.args.plan.now) c.args.parts.now) ≡ c.struck.result
+told : (c : After-struck) → struck_now (view_of (batch_in c.args.plan.now) c.args.parts.now) ≡ c.struck.result
 told c =
-    sym (struck-same (batch_of c.args.plan.now) c.args.parts.now c.requires.kept c.is_some.result c.is_some.ensures)
+    sym (struck-same (batch_in c.args.plan.now) c.args.parts.now c.requires.kept c.is_some.result c.is_some.ensures)
     ∙ sym (rw c.as_slice-faults.ensures at c.struck.ensures)
 
 pub returns-in_default-clause-gives : goal.returns-in_default-clause-gives

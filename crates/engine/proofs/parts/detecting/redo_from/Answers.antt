@@ -1,32 +1,32 @@
 use Rattle.std.proofs.Common.{arith}
-use Rattle.engine.specs.inner.Kept.{batch_of}
+use Rattle.engine.specs.inner.Kept.{batch_in}
 use Rattle.engine.proofs.Detected.{struck-below, struck-room, struck-there, attempts-few, restarts-few, kept-restarted}
 use Rattle.engine.proofs.parts.detecting.redo_from.Goals as goal
 
 pub restart-requires-clause-there : goal.restart-requires-clause-there
-restart-requires-clause-there c = struck-there (batch_of c.args.plan.now) c.args.parts.now c.requires.kept c.args.struck c.requires.is_struck
+restart-requires-clause-there c = struck-there (batch_in c.args.plan.now) c.args.parts.now c.requires.kept c.args.struck c.requires.is_struck
 
 pub restart-requires-clause-issued : goal.restart-requires-clause-issued
-restart-requires-clause-issued c = struck-below (batch_of c.args.plan.now) c.args.parts.now c.requires.kept c.args.struck c.requires.is_struck
+restart-requires-clause-issued c = struck-below (batch_in c.args.plan.now) c.args.parts.now c.requires.kept c.args.struck c.requires.is_struck
 
 pub restart-requires-clause-attempts : goal.restart-requires-clause-attempts
-restart-requires-clause-attempts c = attempts-few (batch_of c.args.plan.now) c.args.parts.now c.requires.kept c.args.struck c.requires.is_struck c.args.plan.now.faults.few
+restart-requires-clause-attempts c = attempts-few (batch_in c.args.plan.now) c.args.parts.now c.requires.kept c.args.struck c.requires.is_struck c.args.plan.now.faults.few
 
 pub restart-requires-clause-histories : goal.restart-requires-clause-histories
 restart-requires-clause-histories c = c.requires.kept.window.undoable
 
 pub overflow_cast-len : goal.overflow_cast-len
 overflow_cast-len c =
-    let few = restarts-few (batch_of c.args.plan.now) c.args.parts.now c.requires.kept c.args.struck c.requires.is_struck c.args.plan.now.faults.few in
+    let few = restarts-few (batch_in c.args.plan.now) c.args.parts.now c.requires.kept c.args.struck c.requires.is_struck c.args.plan.now.faults.few in
     let is = c.len.ensures in
     omega arith
 
 pub returns-clause-kept : goal.returns-clause-kept
 returns-clause-kept c =
-    kept-restarted (batch_of c.args.plan.now) c.args.parts.now c.requires.kept c.args.struck c.requires.is_struck c.restart.new.rol.entries c.restart.new.store c.push.new.self.items
+    kept-restarted (batch_in c.args.plan.now) c.args.parts.now c.requires.kept c.args.struck c.requires.is_struck c.restart.new.rol.entries c.restart.new.store c.push.new.self.items
     c.push-2.new.self.items c.attempt_of-attempt.result c.restart.new.redo.items c.attempt_of-attempt.ensures c.restart.ensures.redo c.restart.ensures.entries c.restart.ensures.state
     c.restart.ensures.shape (rw c.len.ensures at c.push.ensures.items) (rw c.into_seq.ensures at c.push-2.ensures.items)
 
 pub restart-requires-clause-room : goal.restart-requires-clause-room
 restart-requires-clause-room c =
-    struck-room (batch_of c.args.plan.now) c.args.parts.now c.requires.kept c.args.struck c.requires.is_struck c.args.redo.spare c.requires.rooms.positions
+    struck-room (batch_in c.args.plan.now) c.args.parts.now c.requires.kept c.args.struck c.requires.is_struck c.args.redo.spare c.requires.rooms.positions

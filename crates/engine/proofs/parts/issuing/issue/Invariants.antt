@@ -1,10 +1,10 @@
 use Rattle.task_ast.specs.Turn.{turns_left}
-use Rattle.engine.specs.inner.Kept.{batch_of}
+use Rattle.engine.specs.inner.Kept.{batch_in}
 use Rattle.engine.specs.inner.Prepared.{KeepsView}
 use Rattle.engine.proofs.parts.issuing.issue.Given as goal
 
 abbrev pub invariant-turning : goal.invariant-turning
-invariant-turning l = KeepsView (batch_of l.plan) l.initial.parts l.parts
+invariant-turning l = KeepsView (batch_in l.plan) l.initial.parts l.parts
 
 abbrev pub decreases-turning : goal.decreases-turning
 decreases-turning l = turns_left l.parts.ring.table

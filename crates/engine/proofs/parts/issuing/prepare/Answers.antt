@@ -1,6 +1,6 @@
 use Rattle.std.proofs.Common.{arith, sym, ◌∙◌, ap, length}
 use Rattle.std.specs.Option.{option_copied}
-use Rattle.engine.specs.inner.Kept.{batch_of}
+use Rattle.engine.specs.inner.Kept.{batch_in}
 use Rattle.engine.specs.inner.Prepared.{names_thread}
 use Rattle.engine.proofs.IssuesKept.{ahead_inside, is_numbered, unknown_ahead, not_prepared, prepared_for}
 use Rattle.engine.proofs.parts.issuing.prepare.Goals as goal
@@ -18,15 +18,15 @@ prepare_for-requires-clause-numbered c =
 
 pub returns-in_default-next_of : goal.returns-in_default-next_of
 returns-in_default-next_of c =
-    unknown_ahead (batch_of c.args.plan.now) c.args.parts.now.ring.table c.args.parts.now.places.items c.in-Some.thread c.in-Some.ensures
+    unknown_ahead (batch_in c.args.plan.now) c.args.parts.now.ring.table c.args.parts.now.places.items c.in-Some.thread c.in-Some.ensures
     (sym (ap (λ o. option_copied o) c.in_default-next_of.is) ∙ c.next_of.ensures)
 
 pub returns-then-not-names_thread : goal.returns-then-not-names_thread
 returns-then-not-names_thread c =
-    not_prepared (batch_of c.args.plan.now) c.args.parts.now.ring.table c.args.parts.now.places.items c.in-Some.thread c.in-Some-next_of.begins.now
+    not_prepared (batch_in c.args.plan.now) c.args.parts.now.ring.table c.args.parts.now.places.items c.in-Some.thread c.in-Some-next_of.begins.now
     c.in-Some.ensures c.in-Some-next_of.ensures (ap (names_thread c.in-Some-next_of.begins.now.sync) (sym (c.len.ensures ∙ (c.args.parts.now.places.ok.0 ∙ c.requires.places))) ∙ sym c.if-not-names_thread.ensures)
 
 pub returns : goal.returns
 returns c =
-    prepared_for (batch_of c.args.plan.now) c.args.parts.now.ring.table c.args.parts.now.places.items c.in-Some.thread c.in-Some-next_of.begins.now
+    prepared_for (batch_in c.args.plan.now) c.args.parts.now.ring.table c.args.parts.now.places.items c.in-Some.thread c.in-Some-next_of.begins.now
     c.in-Some.ensures c.in-Some-next_of.ensures c.in_ok-prepared.prepared c.in_ok-prepared.ensures

@@ -1,6 +1,6 @@
 use Rattle.std.proofs.Common.{refl, subst}
 use Rattle.task_ast.proofs.Turns.{turn-IsFalling}
-use Rattle.engine.specs.inner.Kept.{batch_of}
+use Rattle.engine.specs.inner.Kept.{batch_in}
 use Rattle.engine.specs.inner.Prepared.{IsReadyFor}
 use Rattle.engine.proofs.IssuesKept.{kept_passed, kept_ended, ends_so, needs_so, next_is, few_issued, prepared_some, kept_pushed, did_issue}
 use Rattle.engine.proofs.parts.issuing.turn.Goals as goal
@@ -32,7 +32,7 @@ push-pos-requires-clause-few c = few_issued _ _ _ _ _ _ _ _ _ c.requires.kept _ 
 pub returns-in-Issue-clause-kept : goal.returns-in-Issue-clause-kept
 returns-in-Issue-clause-kept c =
     kept_pushed _ _ c.requires.kept _ _ _ _ c.in-Issue.ensures.turned c.requires.none_due c.unwrap.result
-    (subst (IsReadyFor (batch_of c.args._plan.now) c.args.parts.now) c.unwrap.ensures c.requires.ready) c.turn.new.self refl _ c.push-pos.ensures.parts
+    (subst (IsReadyFor (batch_in c.args._plan.now) c.args.parts.now) c.unwrap.ensures c.requires.ready) c.turn.new.self refl _ c.push-pos.ensures.parts
 
 pub returns-in-Issue-clause-gives : goal.returns-in-Issue-clause-gives
 returns-in-Issue-clause-gives c =

@@ -2,48 +2,48 @@ use Rattle.std.proofs.Common.{refl, sym, subst}
 use Rattle.std.specs.Io.KnownBytes.{Appends}
 use Rattle.gp_base.specs.Sinks.{AppendsPrefix}
 use Rattle.restart_log.specs.Lines.{printed}
-use Rattle.engine.specs.inner.Kept.{batch_of, view_of}
+use Rattle.engine.specs.inner.Kept.{batch_in, view_of}
 use Rattle.engine.proofs.Retired.{none-written, err-writes, not-now, allowed, lines-are, made, kept-retired}
 use Rattle.engine.proofs.parts.retiring.retire.Goals as goal
 
 pub returns-then-not-oldest_retires-clause-gives : goal.returns-then-not-oldest_retires-clause-gives
 returns-then-not-oldest_retires-clause-gives g c = (
   refl,
-  not-now (batch_of c.args.plan.now) c.args.parts.now c.requires.kept (rw (c.is_some-known.ensures, c.as_slice-faults.ensures) at (sym c.if-not-oldest_retires.ensures)),
+  not-now (batch_in c.args.plan.now) c.args.parts.now c.requires.kept (rw (c.is_some-known.ensures, c.as_slice-faults.ensures) at (sym c.if-not-oldest_retires.ensures)),
 )
 
 pub returns-in_err-reserve-clause-lines : goal.returns-in_err-reserve-clause-lines
 returns-in_err-reserve-clause-lines g c =
-    err-writes (view_of (batch_of c.args.plan.now) c.args.parts.now) (g.O.Sink.written c.args.out.now) (g.O.Sink.written c.args.out.now) c.from_residual.result c.from_residual.ensures.0
+    err-writes (view_of (batch_in c.args.plan.now) c.args.parts.now) (g.O.Sink.written c.args.out.now) (g.O.Sink.written c.args.out.now) c.from_residual.result c.from_residual.ensures.0
     (none-written (g.O.Sink.written c.args.out.now) _)
 
 pub returns-in_err-write_oldest-clause-lines : goal.returns-in_err-write_oldest-clause-lines
 returns-in_err-write_oldest-clause-lines g c =
-    err-writes (view_of (batch_of c.args.plan.now) c.args.parts.now) (g.O.Sink.written c.args.out.now) (g.O.Sink.written c.write_oldest.new.out) c.from_residual-in_err-write_oldest.result
+    err-writes (view_of (batch_in c.args.plan.now) c.args.parts.now) (g.O.Sink.written c.args.out.now) (g.O.Sink.written c.write_oldest.new.out) c.from_residual-in_err-write_oldest.result
     c.from_residual-in_err-write_oldest.ensures.0
     (subst (λ lines. AppendsPrefix (g.O.Sink.written c.args.out.now) (g.O.Sink.written c.write_oldest.new.out) (printed lines))
-    (lines-are (batch_of c.args.plan.now) c.args.parts.now c.requires.kept (rw (c.is_some-known.ensures, c.as_slice-faults.ensures) at (sym c.if-not-oldest_retires.ensures)))
+    (lines-are (batch_in c.args.plan.now) c.args.parts.now c.requires.kept (rw (c.is_some-known.ensures, c.as_slice-faults.ensures) at (sym c.if-not-oldest_retires.ensures)))
     c.in_err-write_oldest.ensures.prefix)
 
 pub returns-clause-kept : goal.returns-clause-kept
 returns-clause-kept g c =
     let is = rw (c.is_some-known.ensures, c.as_slice-faults.ensures) at (sym c.if-not-oldest_retires.ensures) in
-    kept-retired (batch_of c.args.plan.now) c.args.parts.now c.requires.kept is c.retire_front-entry.result c.retire_front-entry.new.self.entries c.retire_front-entry.ensures.entries c.push.new.self.items
-    (made (batch_of c.args.plan.now) c.args.parts.now c.requires.kept is c.retire_front-entry.result c.retire_front-entry.new.self.entries c.retire_front-entry.ensures.entries
+    kept-retired (batch_in c.args.plan.now) c.args.parts.now c.requires.kept is c.retire_front-entry.result c.retire_front-entry.new.self.entries c.retire_front-entry.ensures.entries c.push.new.self.items
+    (made (batch_in c.args.plan.now) c.args.parts.now c.requires.kept is c.retire_front-entry.result c.retire_front-entry.new.self.entries c.retire_front-entry.ensures.entries
     c.reserve.new.self.items c.push.new.self.items c.reserve.ensures.items c.push.ensures.items)
 
 pub returns-clause-gives : goal.returns-clause-gives
 returns-clause-gives g c =
     let is = rw (c.is_some-known.ensures, c.as_slice-faults.ensures) at (sym c.if-not-oldest_retires.ensures) in
-    let events = made (batch_of c.args.plan.now) c.args.parts.now c.requires.kept is c.retire_front-entry.result c.retire_front-entry.new.self.entries c.retire_front-entry.ensures.entries
+    let events = made (batch_in c.args.plan.now) c.args.parts.now c.requires.kept is c.retire_front-entry.result c.retire_front-entry.new.self.entries c.retire_front-entry.ensures.entries
     c.reserve.new.self.items c.push.new.self.items c.reserve.ensures.items c.push.ensures.items in
     record {
-      allowed = allowed (batch_of c.args.plan.now) c.args.parts.now c.requires.kept is;
-      grown = λ i. record { batch = batch_of c.args.plan.now; events = events i; ended = c.args.parts.now.ended };
+      allowed = allowed (batch_in c.args.plan.now) c.args.parts.now c.requires.kept is;
+      grown = λ i. record { batch = batch_in c.args.plan.now; events = events i; ended = c.args.parts.now.ended };
     }
 
 pub returns-clause-lines : goal.returns-clause-lines
 returns-clause-lines g c =
     subst (λ lines. Appends (g.O.Sink.written c.args.out.now) (g.O.Sink.written c.write_oldest.new.out) (printed lines))
-    (lines-are (batch_of c.args.plan.now) c.args.parts.now c.requires.kept (rw (c.is_some-known.ensures, c.as_slice-faults.ensures) at (sym c.if-not-oldest_retires.ensures)))
+    (lines-are (batch_in c.args.plan.now) c.args.parts.now c.requires.kept (rw (c.is_some-known.ensures, c.as_slice-faults.ensures) at (sym c.if-not-oldest_retires.ensures)))
     c.in_ok-write_oldest.ensures.all

@@ -3,28 +3,28 @@ use Rattle.std.proofs.lemmas.List.{with_items_is}
 use Rattle.gp_base.specs.declared.journal.Event.TheVariants as event
 use Rattle.dependence.specs.Journal.{Allowed}
 use Rattle.engine.specs.View.{dependence_in}
-use Rattle.engine.specs.inner.Kept.{batch_of, stage_of}
+use Rattle.engine.specs.inner.Kept.{batch_in, stage_of}
 use Rattle.engine.proofs.Taken.{allowed, fits, out, kept-taken}
 use Rattle.engine.proofs.parts.taking.accept.Goals as goal
 
 pub apply_where-requires-clause-fits : goal.apply_where-requires-clause-fits
-apply_where-requires-clause-fits c = λ e. fits (batch_of c.args.plan.now) c.args.parts.now c.requires.kept c.args.done c.requires.task c.requires.run
+apply_where-requires-clause-fits c = λ e. fits (batch_in c.args.plan.now) c.args.parts.now c.requires.kept c.args.done c.requires.task c.requires.run
 
 pub apply_where-requires-clause-out : goal.apply_where-requires-clause-out
-apply_where-requires-clause-out c = rw c.is_present-fresh.ensures (out (batch_of c.args.plan.now) c.args.parts.now c.requires.kept c.args.done c.requires.task c.requires.run)
+apply_where-requires-clause-out c = rw c.is_present-fresh.ensures (out (batch_in c.args.plan.now) c.args.parts.now c.requires.kept c.args.done c.requires.task c.requires.run)
 
 pub returns-clause-kept : goal.returns-clause-kept
 returns-clause-kept c =
     rw (with_items_is c.args.parts.now.places c.learn.new.places (search rules))
-    (kept-taken (batch_of c.args.plan.now) c.args.parts.now c.requires.kept c.args.done c.requires.task c.requires.run c.args.done.next
+    (kept-taken (batch_in c.args.plan.now) c.args.parts.now c.requires.kept c.args.done c.requires.task c.requires.run c.args.done.next
     (record { at = c.args.done.at; ctl = c.args.done.ctl }) refl refl refl c.is_present-fresh.result c.is_present-fresh.ensures c.learn.new.ring.table c.learn.new.places c.apply_where.new.rol.entries
     c.apply_where.new.store c.push.new.self.items c.learn.ensures.table (rw c.deref_mut.ensures.value at c.learn.ensures.places) c.apply_where.ensures c.push.ensures.items)
 
 pub returns-clause-did : goal.returns-clause-did
 returns-clause-did c =
     record {
-      allowed = subst (λ b. Allowed (dependence_in (batch_of c.args.plan.now)) (batch_of c.args.plan.now).faults
-          (stage_of (batch_of c.args.plan.now) c.args.parts.now.events.items) (event.Take c.args.done.task.pos c.args.done.task.attempt b))
-          (sym c.is_present-fresh.ensures) (allowed (batch_of c.args.plan.now) c.args.parts.now c.requires.kept c.args.done c.requires.task c.requires.run);
-      grown = λ i. record { batch = batch_of c.args.plan.now; events = c.push.ensures.items i; ended = c.args.parts.now.ended };
+      allowed = subst (λ b. Allowed (dependence_in (batch_in c.args.plan.now)) (batch_in c.args.plan.now).faults
+          (stage_of (batch_in c.args.plan.now) c.args.parts.now.events.items) (event.Take c.args.done.task.pos c.args.done.task.attempt b))
+          (sym c.is_present-fresh.ensures) (allowed (batch_in c.args.plan.now) c.args.parts.now c.requires.kept c.args.done c.requires.task c.requires.run);
+      grown = λ i. record { batch = batch_in c.args.plan.now; events = c.push.ensures.items i; ended = c.args.parts.now.ended };
     }
