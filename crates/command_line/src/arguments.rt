@@ -1,11 +1,11 @@
 // The arguments of a command, one parse by it, and the values that the parse found.
 ghost use Rattle.std.specs.Prelude.{◌≡◌, ◌≤◌, false, true, map, option_map, string_bytes, IfOk, IfSome};
 ghost use Rattle.clap.specs.Words.{app_of, found_of, is_simple_and_free, rows_of, rule_of};
-ghost use Rattle.command_line.specs.Arguments.{IsParsedAs, option_of, positional, number_or, text_of};
+ghost use Rattle.command_line.specs.Arguments.{IsParsedAs, option_of, flag_of, is_on, positional, number_of, number_or, text_of};
 
 use crate::number::number_in;
 use clap::error::ErrorKind;
-use clap::{Arg, ArgMatches, Command};
+use clap::{Arg, ArgAction, ArgMatches, Command};
 use std::alloc::{AllocError, Global};
 
 /// A word that has to stand there.
@@ -22,6 +22,14 @@ pub fn option<'a>(alloc: Global, name: &'a str) -> Arg<'a>
     ensures local { result.global ≡ false }
 {
     Arg::new(alloc, name).long(name)
+}
+
+/// A flag, which has no value and may be left out.
+pub fn flag<'a>(alloc: Global, name: &'a str) -> Arg<'a>
+    ensures rule { rule_of result ≡ flag_of name.entry.now }
+    ensures local { result.global ≡ false }
+{
+    Arg::new(alloc, name).long(name).action(ArgAction::SetTrue)
 }
 
 /// The matches of the words, of which the first is the command's own, or none where the command does not take them.
@@ -66,5 +74,24 @@ pub fn option_number(
     match found_text(matches, name) {
         Some(text) => number_in(low, high, text),
         None => Some(other),
+    }
+}
+
+/// The number of an argument, or none where its text is no number within the limits.
+pub fn found_number(matches: &ArgMatches<'_>, name: &str, low: u64, high: u64) -> Option<u64>
+    ensures value { result ≡ number_of low high (text_of name.now (rows_of (found_of matches.now))) }
+    ensures within { IfSome result (λ n. (low ≤ n) × (n ≤ high)) }
+{
+    let text = found_text(matches, name)?;
+    number_in(low, high, text)
+}
+
+/// Whether a flag is there.
+pub fn is_given(matches: &ArgMatches<'_>, name: &str) -> bool
+    ensures { result ≡ is_on (text_of name.now (rows_of (found_of matches.now))) }
+{
+    match found_text(matches, name) {
+        Some(text) => text == "true",
+        None => false,
     }
 }

@@ -1,40 +1,89 @@
 // The commands, and what words ask for.
-ghost use Rattle.std.specs.Prelude.{◌≡◌, ◌<◌, IfOk, IfSome};
+ghost use Rattle.std.specs.Prelude.{◌≡◌, ◌<◌, ◌≤◌, IfOk, IfSome, option_map};
+ghost use Rattle.gp_base.specs.declared.limits.TheConstants.{MOST_WORKERS, LEAST_MOVES, MOST_MOVES};
 ghost use Rattle.clap.specs.Words.{app_of, found_of, rows_of};
-ghost use Rattle.command_line.specs.Words.{texts, named_command, app_for, on_program, with_limits, asked_by, asked_in, asked_of};
+ghost use Rattle.command_line.specs.Words.{texts, named_verb, named_crew, app_for, on_program, with_limits, with_crew, for_run, for_soak, asked_by, asked_in, asked_of, command_in, crew_in, soak_in, limits_in, program_in, faults_in, IsWithinMoves, IsWithinLimits};
 
-use crate::arguments::{found_text, option, option_number, positional, taken};
+use crate::arguments::{
+    flag, found_number, found_text, is_given, option, option_number, positional, taken,
+};
 use clap::ArgMatches;
-use gp_base::limits::{DEFAULT_SUBTHREADS, DEFAULT_TURNS, MOST_SUBTHREADS, MOST_TURNS};
+use gp_base::limits::{
+    DEFAULT_SUBTHREADS, DEFAULT_TURNS, DEFAULT_WORKERS, LEAST_MOVES, MOST_MOVES, MOST_SUBTHREADS,
+    MOST_TURNS, MOST_WORKERS,
+};
 use gp_base::{Limits, Name};
 use std::alloc::{AllocError, Global};
 
-/// What is to be done with a program: that it is run; that it is run on one thread, without faults; or that it is
-/// checked alone.
+/// A batch of transfers that the program makes itself: how many moves, and the number from which their draws begin.
+#[derive(Clone, Copy, PartialEq, Eq)]
+pub struct Soak {
+    pub moves: u32,
+    pub start: u64,
+}
+
+/// What is to be done: that a program is run; that it is run on one thread, without faults; that it is checked alone; or
+/// that a batch is made and run.
 #[derive(Clone, Copy, PartialEq, Eq)]
 pub enum Command {
     Run,
     One,
     Check,
+    Soak(Soak),
 }
 
-/// What words ask for: a command, on the program of this file, under these limits.
+/// Who carries out the subthreads of a run: the calling thread, one after another, or waves of workers.
+#[derive(Clone, Copy, PartialEq, Eq)]
+pub enum CrewKind {
+    One,
+    Wave,
+}
+
+/// What words ask for: a command, on the program of this file, with the faults of that one, under these limits, by such a
+/// crew of so many workers, and whether the run is traced. A batch that the program makes has these files in itself.
 #[derive(Drop)]
 pub struct Asked {
     pub command: Command,
     pub program: Name,
+    pub faults: Option<Name>,
     pub limits: Limits,
+    pub crew: CrewKind,
+    pub workers: u32,
+    pub trace: bool,
 }
 
-fn named_command(word: &str) -> Option<Command>
-    ensures { result ≡ named_command word.now }
+// The first word of a call.
+#[derive(Clone, Copy, PartialEq, Eq)]
+enum Verb {
+    Run,
+    One,
+    Check,
+    Soak,
+}
+
+fn named_verb(word: &str) -> Option<Verb>
+    ensures { result ≡ named_verb word.now }
 {
     if word == "run" {
-        Some(Command::Run)
+        Some(Verb::Run)
     } else if word == "one" {
-        Some(Command::One)
+        Some(Verb::One)
     } else if word == "check" {
-        Some(Command::Check)
+        Some(Verb::Check)
+    } else if word == "soak" {
+        Some(Verb::Soak)
+    } else {
+        None
+    }
+}
+
+fn named_crew(word: &str) -> Option<CrewKind>
+    ensures { result ≡ named_crew word.now }
+{
+    if word == "one" {
+        Some(CrewKind::One)
+    } else if word == "wave" {
+        Some(CrewKind::Wave)
     } else {
         None
     }
@@ -61,78 +110,199 @@ fn with_limits<'a>(
     parser.arg(turns)?.arg(subthreads)
 }
 
-// What takes the words of a command.
-fn parser_for<'a>(alloc: Global, command: Command) -> Result<clap::Command<'a>, AllocError>
-    ensures { IfOk result (λ parser. app_of parser ≡ app_for command) }
+// The command with the options of a crew.
+fn with_crew<'a>(
+    alloc: Global,
+    parser: clap::Command<'a>,
+) -> Result<clap::Command<'a>, AllocError>
+    ensures { IfOk result (λ manned. app_of manned ≡ with_crew (app_of parser.entry)) }
 {
-    match command {
-        Command::Run => {
-            let parser = on_program(alloc, "run")?;
-            with_limits(alloc, parser)
-        }
-        Command::One => {
+    let workers = option(alloc, "workers");
+    let crew = option(alloc, "crew");
+    parser.arg(workers)?.arg(crew)
+}
+
+// What takes the words of `run`.
+fn for_run<'a>(alloc: Global) -> Result<clap::Command<'a>, AllocError>
+    ensures { IfOk result (λ parser. app_of parser ≡ for_run) }
+{
+    let faults = option(alloc, "faults");
+    let trace = flag(alloc, "trace");
+    let program = on_program(alloc, "run")?;
+    let struck = program.arg(faults)?;
+    let traced = struck.arg(trace)?;
+    let limited = with_limits(alloc, traced)?;
+    with_crew(alloc, limited)
+}
+
+// What takes the words of `soak`.
+fn for_soak<'a>(alloc: Global) -> Result<clap::Command<'a>, AllocError>
+    ensures { IfOk result (λ parser. app_of parser ≡ for_soak) }
+{
+    let moves = positional(alloc, "moves");
+    let start = positional(alloc, "start");
+    let parser = clap::Command::new(alloc, "soak").disable_help_flag(true);
+    let counted = parser.arg(moves)?;
+    let drawn = counted.arg(start)?;
+    with_crew(alloc, drawn)
+}
+
+// What takes the words of a command.
+fn parser_for<'a>(alloc: Global, verb: Verb) -> Result<clap::Command<'a>, AllocError>
+    ensures { IfOk result (λ parser. app_of parser ≡ app_for verb) }
+{
+    match verb {
+        Verb::Run => for_run(alloc),
+        Verb::One => {
             let parser = on_program(alloc, "one")?;
             with_limits(alloc, parser)
         }
-        Command::Check => on_program(alloc, "check"),
+        Verb::Check => on_program(alloc, "check"),
+        Verb::Soak => for_soak(alloc),
     }
+}
+
+// The batch that is to be made, or none where a number is not one, or is outside its range.
+fn soak_in(matches: &ArgMatches<'_>) -> Option<Soak>
+    ensures batch { result ≡ soak_in (rows_of (found_of matches.now)) }
+    ensures within { IfSome result (λ s. (LEAST_MOVES ≤ s.moves) × (s.moves ≤ MOST_MOVES)) }
+{
+    let least = u64::from(LEAST_MOVES);
+    let most = u64::from(MOST_MOVES);
+    let moves = found_number(matches, "moves", least, most)?;
+    let start = found_number(matches, "start", 0, u64::MAX)?;
+    Some(Soak {
+        moves: moves as u32,
+        start,
+    })
+}
+
+// What is to be done, or none where it is a batch whose numbers are none.
+fn command_in(verb: Verb, matches: &ArgMatches<'_>) -> Option<Command>
+    ensures command { result ≡ command_in verb (rows_of (found_of matches.now)) }
+    ensures within { IfSome result IsWithinMoves }
+{
+    match verb {
+        Verb::Run => Some(Command::Run),
+        Verb::One => Some(Command::One),
+        Verb::Check => Some(Command::Check),
+        Verb::Soak => {
+            let soak = soak_in(matches)?;
+            Some(Command::Soak(soak))
+        }
+    }
+}
+
+// The name of the program's file.
+fn program_in<'a>(verb: Verb, matches: &ArgMatches<'a>) -> Option<&'a str>
+    ensures { option_map (λ text. text.now) result ≡ program_in verb (rows_of (found_of matches.now)) }
+{
+    match verb {
+        Verb::Soak => Some("soak.gp"),
+        _ => found_text(matches, "program"),
+    }
+}
+
+// The name of the file of faults, where there is one.
+fn faults_in<'a>(verb: Verb, matches: &ArgMatches<'a>) -> Option<&'a str>
+    ensures { option_map (λ text. text.now) result ≡ faults_in verb (rows_of (found_of matches.now)) }
+{
+    match verb {
+        Verb::Soak => Some("faults.csv"),
+        _ => found_text(matches, "faults"),
+    }
+}
+
+// The crew, or none where the word is that of no crew.
+fn crew_in(matches: &ArgMatches<'_>) -> Option<CrewKind>
+    ensures { result ≡ crew_in (rows_of (found_of matches.now)) }
+{
+    match found_text(matches, "crew") {
+        Some(word) => named_crew(word),
+        None => Some(CrewKind::Wave),
+    }
+}
+
+// The limits, or none where one is no number or is outside its range.
+fn limits_in(matches: &ArgMatches<'_>) -> Option<Limits>
+    ensures limits { result ≡ limits_in (rows_of (found_of matches.now)) }
+    ensures some_subthread { IfSome result (λ limits. 0 < limits.subthreads) }
+{
+    let most = u64::from(MOST_SUBTHREADS);
+    let usual = u64::from(DEFAULT_SUBTHREADS);
+    let turns = option_number(matches, "turns", 1, MOST_TURNS, DEFAULT_TURNS)?;
+    let subthreads = option_number(matches, "subthreads", 1, most, usual)?;
+    Some(Limits {
+        turns,
+        subthreads: subthreads as u32,
+    })
 }
 
 // What the matches of a command ask for, or none where a value is not one of its option.
 fn asked_in(
     alloc: Global,
-    command: Command,
+    verb: Verb,
     matches: &ArgMatches<'_>,
 ) -> Result<Option<Asked>, AllocError>
-    ensures asked { IfOk result (λ asked. asked ≡ asked_in command (rows_of (found_of matches.now))) }
-    ensures some_subthread { IfOk result (λ asked. IfSome asked (λ a. 0 < a.limits.subthreads)) }
+    ensures asked { IfOk result (λ asked. asked ≡ asked_in verb (rows_of (found_of matches.now))) }
+    ensures within { IfOk result (λ asked. IfSome asked IsWithinLimits) }
 {
-    let Some(program) = found_text(matches, "program") else {
+    let Some(command) = command_in(verb, matches) else {
         return Ok(None);
     };
-    let Some(turns) = option_number(matches, "turns", 1, MOST_TURNS, DEFAULT_TURNS) else {
+    let Some(program) = program_in(verb, matches) else {
         return Ok(None);
     };
-    let most = u64::from(MOST_SUBTHREADS);
-    let usual = u64::from(DEFAULT_SUBTHREADS);
-    let Some(subthreads) = option_number(matches, "subthreads", 1, most, usual) else {
+    let Some(limits) = limits_in(matches) else {
         return Ok(None);
     };
-    let program = Name::from_slice(alloc, program.as_bytes())?;
-    let limits = Limits {
-        turns,
-        subthreads: subthreads as u32,
+    let Some(crew) = crew_in(matches) else {
+        return Ok(None);
+    };
+    let most = u64::from(MOST_WORKERS);
+    let usual = u64::from(DEFAULT_WORKERS);
+    let Some(workers) = option_number(matches, "workers", 1, most, usual) else {
+        return Ok(None);
+    };
+    let faults = match faults_in(verb, matches) {
+        Some(name) => Some(Name::from_slice(alloc, name.as_bytes())?),
+        None => None,
     };
     Ok(Some(Asked {
         command,
-        program,
+        program: Name::from_slice(alloc, program.as_bytes())?,
+        faults,
         limits,
+        crew,
+        workers: workers as u32,
+        trace: is_given(matches, "trace"),
     }))
 }
 
 // What the words of a command ask for, or none where it does not take them.
-fn asked_of(alloc: Global, command: Command, words: &[String]) -> Result<Option<Asked>, AllocError>
-    ensures asked { IfOk result (λ asked. asked ≡ asked_of command (texts words.now)) }
-    ensures some_subthread { IfOk result (λ asked. IfSome asked (λ a. 0 < a.limits.subthreads)) }
+fn asked_of(alloc: Global, verb: Verb, words: &[String]) -> Result<Option<Asked>, AllocError>
+    ensures asked { IfOk result (λ asked. asked ≡ asked_of verb (texts words.now)) }
+    ensures within { IfOk result (λ asked. IfSome asked IsWithinLimits) }
 {
-    let parser = parser_for(alloc, command)?;
+    let parser = parser_for(alloc, verb)?;
     match taken(parser, words)? {
-        Some(matches) => asked_in(alloc, command, &matches),
+        Some(matches) => asked_in(alloc, verb, &matches),
         None => Ok(None),
     }
 }
 
 /// What the words ask for, or none where they are those of no command: the first word names none, the command does not
-/// take the others, or a number is outside its range. `words` are those after the program's own name.
+/// take the others, a number is outside its range, or a crew's word names none. `words` are those after the program's own
+/// name.
 pub fn read_words(alloc: Global, words: &[String]) -> Result<Option<Asked>, AllocError>
     ensures asked { IfOk result (λ asked. asked ≡ asked_by (texts words.now)) }
-    ensures some_subthread { IfOk result (λ asked. IfSome asked (λ a. 0 < a.limits.subthreads)) }
+    ensures within { IfOk result (λ asked. IfSome asked IsWithinLimits) }
 {
     let [word, ..] = words else {
         return Ok(None);
     };
-    let Some(command) = named_command(word.as_str()) else {
+    let Some(verb) = named_verb(word.as_str()) else {
         return Ok(None);
     };
-    asked_of(alloc, command, words)
+    asked_of(alloc, verb, words)
 }
