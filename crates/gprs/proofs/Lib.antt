@@ -1,9 +1,10 @@
 pub mod Loads
 pub mod OneCase
 pub mod PlainTexts
+pub mod RanPieces
 pub mod Readable
 pub mod ReadsProgram
 pub mod Refused
 pub mod RunPieces
-pub mod Tail
+pub mod Sizes
 pub mod TopCall

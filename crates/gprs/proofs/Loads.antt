@@ -1,7 +1,6 @@
 -- What the files of heads give, one after another.
-use Rattle.std.proofs.Common.{◌≡◌, ◌⊎◌, ℕ, ◌+◌, ◌-◌, ◌%◌, ◌<◌, ◌≤◌, zero, suc, ℤ, pos, replicate, Bool, true, false, List, [], ◌∷◌, ◌++◌, length, take, drop, get_or, if◌then◌else◌, Result, Ok, Err, IfSome, IsSomeAnd, inl, inr, sym, ap, ap₂, ◌∙◌, subst, add-one, arith, append-nil, append_assoc, nat_lt}
+use Rattle.std.proofs.Common.{◌≡◌, ◌⊎◌, ℕ, ◌+◌, ◌-◌, ◌%◌, ◌<◌, ◌≤◌, zero, suc, ℤ, pos, replicate, Bool, true, false, List, [], ◌∷◌, ◌++◌, length, take, drop, get_or, if◌then◌else◌, Result, Ok, Err, IfSome, IsSomeAnd, inl, inr, sym, ap, ap₂, ◌∙◌, subst, add-one, arith, append-nil, append_assoc, nat_lt, refl}
 use Rattle.std.specs.List.{Contains}
-use Rattle.std.specs.Result.{result_map_both}
 use Rattle.std.specs.declared.option.Option.{Option}
 use Rattle.std.specs.declared.option.Option.TheVariants.{None, Some}
 use Rattle.std.proofs.Props.{props}
@@ -12,6 +11,7 @@ use Rattle.std.proofs.lemmas.List.{at_drop_more, drop_more, drop_all, take_all}
 use Rattle.std.proofs.lemmas.List.Elements.{Contains-append_left, Contains-append_right}
 use Rattle.gp_base.specs.Files.{bytes_of}
 use Rattle.gp_base.specs.declared.feed.Feed.{Feed}
+use Rattle.gp_base.specs.declared.fault.Faults.{Faults}
 use Rattle.gp_base.specs.declared.feed.Inputs.{Inputs}
 use Rattle.gp_base.specs.declared.limits.TheConstants.{MOST_FEED_CELLS, MOST_FILE_BYTES}
 use Rattle.task_ast.specs.declared.tree.Head.{Head}
@@ -23,10 +23,10 @@ use Rattle.batch_files.specs.Records.{records_by}
 use Rattle.batch_files.specs.Feeds.{feed_by}
 use Rattle.gprs.specs.declared.batch.Refusal.{Refusal}
 use Rattle.gprs.specs.declared.batch.Refusal.TheVariants as refused
-use Rattle.gprs.specs.Work.{Files, Supplied, Supplies, Spoils}
+use Rattle.gprs.specs.Work.{Files, Supplied, Supplies, Lacks, Spoils}
 use Rattle.gprs.specs.Lines.{input_line}
-use Rattle.gprs.specs.InputFiles.{nothing, are_rows, feed_where, feed_with, with_cells, with_feed, room_after, record_rows, feed_rows, by_rows, by_file, by_record, named, load_head, then_load, load, names_in, file_names}
-use Rattle.gprs.specs.Loading.{IsReadable, AreReadable, IsRefusedBy, AnswersRows, names_of, StepsTo, AnswersLoad, ReadsAmong}
+use Rattle.gprs.specs.InputFiles.{nothing, are_rows, feed_where, feed_with, with_cells, with_feed, room_after, record_rows, feed_rows, fault_rows, more_cells, more_feed, more_faults, by_rows, by_file, load_faults, by_record, named, load_head, then_load, load, names_in, file_names}
+use Rattle.gprs.specs.Loading.{IsReadable, AreReadable, IsRefusedBy, AnswersRows, names_of, StepsTo, AnswersLoad, AnswersFaults, ReadsAmong}
 
 -- a feed by its parts; the facts that it keeps have one proof each
 feed_by_parts : (fields : ℕ) (cells : List ℤ) (s : 0 < fields) (w : length cells % fields ≡ 0) (f : length cells ≤ MOST_FEED_CELLS) → Feed
@@ -61,47 +61,49 @@ abbrev inputs_of : List ℤ → List Feed → Inputs
 inputs_of records feeds = record { records = records; feeds = feeds }
 
 -- a file whose rows mean something
-pub ok_file : {T : Type 0} (names : List Name) (file : Name) (bytes : Option (List ℕ)) (meant : List ℕ → Result T Broken) (f : T → Inputs) (value : T)
+pub ok_file : {T : Type 0} (names : List Name) (file : Name) (bytes : Option (List ℕ)) (meant : List ℕ → Result T Broken) (next : List Name → T → Supplied) (value : T)
     → IsSomeAnd bytes (λ text. (length text ≤ MOST_FILE_BYTES) × (meant text ≡ Ok value))
-    → by_file names file bytes (λ text. result_map_both f (λ broken. broken) (meant text)) ≡ Supplies (names ++ file ∷ []) (f value) []
-ok_file names file None meant f value is = absurd is
-ok_file names file (Some text) meant f value is =
-    ap (λ b. if b then Spoils (names ++ file ∷ []) (input_line file 6 0) else by_rows names file (result_map_both f (λ broken. broken) (meant text))) (fits text is.0)
-    ∙ ap (λ r. by_rows names file (result_map_both f (λ broken. broken) r)) is.1
+    → by_file names file bytes meant next ≡ next (names ++ file ∷ []) value
+ok_file names file None meant next value is = absurd is
+ok_file names file (Some text) meant next value is =
+    ap (λ b. if b then Spoils (names ++ file ∷ []) (input_line file 6 0) else by_rows names file (meant text) next) (fits text is.0)
+    ∙ ap (λ r. by_rows names file r next) is.1
 
 -- a file that is refused with a line
-spoils : {T : Type 0} (names : List Name) (file : Name) (text line : List ℕ) (f : T → Inputs) (meant : Result T Broken) → IsRefusedBy file line text meant
-    → (if nat_lt MOST_FILE_BYTES (length text) then Spoils (names ++ file ∷ []) (input_line file 6 0) else by_rows names file (result_map_both f (λ broken. broken) meant)) ≡ Spoils (names ++ file ∷ []) line
-spoils names file text line f (Ok value) (told, above) =
-    ap (λ b. if b then Spoils (names ++ file ∷ []) (input_line file 6 0) else by_rows names file (Ok (f value))) (passes text above) ∙ ap (Spoils (names ++ file ∷ [])) (sym told)
-spoils names file text line f (Err broken) (inl (told, above)) =
-    ap (λ b. if b then Spoils (names ++ file ∷ []) (input_line file 6 0) else by_rows names file (Err broken)) (passes text above) ∙ ap (Spoils (names ++ file ∷ [])) (sym told)
-spoils names file text line f (Err broken) (inr (told, within)) =
-    ap (λ b. if b then Spoils (names ++ file ∷ []) (input_line file 6 0) else by_rows names file (Err broken)) (fits text within) ∙ ap (Spoils (names ++ file ∷ [])) (sym told)
+spoils : {T : Type 0} (names : List Name) (file : Name) (text line : List ℕ) (next : List Name → T → Supplied) (meant : Result T Broken) → IsRefusedBy file line text meant
+    → (if nat_lt MOST_FILE_BYTES (length text) then Spoils (names ++ file ∷ []) (input_line file 6 0) else by_rows names file meant next) ≡ Spoils (names ++ file ∷ []) line
+spoils names file text line next (Ok value) (told, above) =
+    ap (λ b. if b then Spoils (names ++ file ∷ []) (input_line file 6 0) else by_rows names file (Ok value) next) (passes text above) ∙ ap (Spoils (names ++ file ∷ [])) (sym told)
+spoils names file text line next (Err broken) (inl (told, above)) =
+    ap (λ b. if b then Spoils (names ++ file ∷ []) (input_line file 6 0) else by_rows names file (Err broken) next) (passes text above) ∙ ap (Spoils (names ++ file ∷ [])) (sym told)
+spoils names file text line next (Err broken) (inr (told, within)) =
+    ap (λ b. if b then Spoils (names ++ file ∷ []) (input_line file 6 0) else by_rows names file (Err broken) next) (fits text within) ∙ ap (Spoils (names ++ file ∷ [])) (sym told)
 
-pub bad_file : {T : Type 0} (names : List Name) (file line : Name) (bytes : Option (List ℕ)) (meant : List ℕ → Result T Broken) (f : T → Inputs)
+pub bad_file : {T : Type 0} (names : List Name) (file line : Name) (bytes : Option (List ℕ)) (meant : List ℕ → Result T Broken) (next : List Name → T → Supplied)
     → IsSomeAnd bytes (λ text. IsRefusedBy file line text (meant text))
-    → by_file names file bytes (λ text. result_map_both f (λ broken. broken) (meant text)) ≡ Spoils (names ++ file ∷ []) line
-bad_file names file line None meant f is = absurd is
-bad_file names file line (Some text) meant f is = spoils names file text line f (meant text) is
+    → by_file names file bytes meant next ≡ Spoils (names ++ file ∷ []) line
+bad_file names file line None meant next is = absurd is
+bad_file names file line (Some text) meant next is = spoils names file text line next (meant text) is
 
 -- the files that are read stay among those that are read
 module _ (name : Name) where
-  keeps_rows : (names : List Name) (file : Name) (rows : Result Inputs Broken) (next : List Name → Inputs → Supplied) → ((n : List Name) (i : Inputs) → Contains n name → Contains (names_of (next n i)) name)
-      → Contains (names ++ file ∷ []) name → Contains (names_of (then_load (by_rows names file rows) next)) name
-  keeps_rows names file (Ok inputs) next keeps is = keeps (names ++ file ∷ []) inputs is
-  keeps_rows names file (Err broken) next keeps is = is
+  keeps_rows : {T : Type 0} (names : List Name) (file : Name) (rows : Result T Broken) (first : List Name → T → Supplied) (next : List Name → Inputs → Supplied)
+      → ((n : List Name) (value : T) → Contains n name → Contains (names_of (then_load (first n value) next)) name)
+      → Contains (names ++ file ∷ []) name → Contains (names_of (then_load (by_rows names file rows first) next)) name
+  keeps_rows names file (Ok value) first next keeps is = keeps (names ++ file ∷ []) value is
+  keeps_rows names file (Err broken) first next keeps is = is
 
-  keeps_long : (names : List Name) (file : Name) (long : Bool) (rows : Result Inputs Broken) (next : List Name → Inputs → Supplied) → ((n : List Name) (i : Inputs) → Contains n name → Contains (names_of (next n i)) name)
-      → Contains (names ++ file ∷ []) name → Contains (names_of (then_load (if long then Spoils (names ++ file ∷ []) (input_line file 6 0) else by_rows names file rows) next)) name
-  keeps_long names file true rows next keeps is = is
-  keeps_long names file false rows next keeps is = keeps_rows names file rows next keeps is
+  keeps_long : {T : Type 0} (names : List Name) (file : Name) (long : Bool) (rows : Result T Broken) (first : List Name → T → Supplied) (next : List Name → Inputs → Supplied)
+      → ((n : List Name) (value : T) → Contains n name → Contains (names_of (then_load (first n value) next)) name)
+      → Contains (names ++ file ∷ []) name → Contains (names_of (then_load (if long then Spoils (names ++ file ∷ []) (input_line file 6 0) else by_rows names file rows first) next)) name
+  keeps_long names file true rows first next keeps is = is
+  keeps_long names file false rows first next keeps is = keeps_rows names file rows first next keeps is
 
-  keeps_file : (names : List Name) (file : Name) (bytes : Option (List ℕ)) (read : List ℕ → Result Inputs Broken) (next : List Name → Inputs → Supplied)
-      → ((n : List Name) (i : Inputs) → Contains n name → Contains (names_of (next n i)) name)
-      → Contains (names ++ file ∷ []) name → Contains (names_of (then_load (by_file names file bytes read) next)) name
-  keeps_file names file None read next keeps is = is
-  keeps_file names file (Some text) read next keeps is = keeps_long names file (nat_lt MOST_FILE_BYTES (length text)) (read text) next keeps is
+  pub keeps_file : {T : Type 0} (names : List Name) (file : Name) (bytes : Option (List ℕ)) (meant : List ℕ → Result T Broken) (first : List Name → T → Supplied) (next : List Name → Inputs → Supplied)
+      → ((n : List Name) (value : T) → Contains n name → Contains (names_of (then_load (first n value) next)) name)
+      → Contains (names ++ file ∷ []) name → Contains (names_of (then_load (by_file names file bytes meant first) next)) name
+  keeps_file names file None meant first next keeps is = is
+  keeps_file names file (Some text) meant first next keeps is = keeps_long names file (nat_lt MOST_FILE_BYTES (length text)) (meant text) first next keeps is
 
   keeps_head : (files : Files) (names : List Name) (inputs : Inputs) (head : Head) (next : List Name → Inputs → Supplied)
       → ((n : List Name) (i : Inputs) → Contains n name → Contains (names_of (next n i)) name)
@@ -109,8 +111,9 @@ module _ (name : Name) where
   keeps_head files names inputs (LockHead x size line) next keeps is = keeps names inputs (subst (λ l. Contains l name) (append-nil names) is)
   keeps_head files names inputs (BarrierHead x number line) next keeps is = keeps names inputs (subst (λ l. Contains l name) (append-nil names) is)
   keeps_head files names inputs (RecHead x size by None line) next keeps is = keeps names _ (subst (λ l. Contains l name) (append-nil names) is)
-  keeps_head files names inputs (RecHead x size by (Some file) line) next keeps is = keeps_file names file (bytes_of files file) _ next keeps is
-  keeps_head files names inputs (FeedHead x fields file line) next keeps is = keeps_file names file (bytes_of files file) _ next keeps is
+  keeps_head files names inputs (RecHead x size by (Some file) line) next keeps is = keeps_file names file (bytes_of files file) (record_rows (natural size)) (more_cells inputs) next (λ n cells. keeps n (with_cells inputs cells)) is
+  keeps_head files names inputs (FeedHead x fields file line) next keeps is =
+      keeps_file names file (bytes_of files file) (feed_rows (natural fields) (room_after inputs.feeds)) (more_feed inputs (natural fields)) next (λ n cells. keeps n (with_feed inputs (feed_with (natural fields) cells))) is
 
   keeps_all : (files : Files) (heads : List Head) (names : List Name) (inputs : Inputs) → Contains names name → Contains (names_of (load files names inputs heads)) name
   keeps_all files [] names inputs is = is
@@ -139,62 +142,62 @@ file_among (h ∷ heads) (suc i) head name below is file = Contains-append_right
 
 -- the steps of a record's file
 pub record_ok : (names : List Name) (file : Name) (size : ℕ) (bytes : Option (List ℕ)) (inputs : Inputs) (cells : List ℤ) → IsSomeAnd bytes (λ text. (length text ≤ MOST_FILE_BYTES) × (records_by size (rows_of text) ≡ Ok cells))
-    → by_file names file bytes (record_rows inputs size) ≡ Supplies (names ++ file ∷ []) (with_cells inputs cells) []
-record_ok names file size bytes inputs cells is = ok_file names file bytes (λ text. records_by size (rows_of text)) (with_cells inputs) cells is
+    → by_file names file bytes (record_rows size) (more_cells inputs) ≡ Supplies (names ++ file ∷ []) (with_cells inputs cells) []
+record_ok names file size bytes inputs cells is = ok_file names file bytes (record_rows size) (more_cells inputs) cells is
 
 pub record_bad : (names : List Name) (file : Name) (size : ℕ) (bytes : Option (List ℕ)) (inputs : Inputs) (refusal : Refusal)
-    → AnswersRows {A = List ℤ} (λ cells. cells) file (λ text. records_by size (rows_of text)) bytes (Err refusal)
-    → StepsTo {T = Unit {0}} names (file ∷ []) (by_file names file bytes (record_rows inputs size)) inputs (Err refusal)
+    → AnswersRows {A = List ℤ} (λ cells. cells) file (record_rows size) bytes (Err refusal)
+    → StepsTo {T = Unit {0}} names (file ∷ []) (by_file names file bytes (record_rows size) (more_cells inputs)) inputs (Err refusal)
 record_bad names file size bytes inputs refused.Usage is = is
 record_bad names file size bytes inputs (refused.BadProgram line) is = is
-record_bad names file size bytes inputs (refused.BadInput line) is = (names ++ file ∷ [], bad_file names file line bytes (λ text. records_by size (rows_of text)) (with_cells inputs) is)
+record_bad names file size bytes inputs (refused.BadInput line) is = (names ++ file ∷ [], bad_file names file line bytes (record_rows size) (more_cells inputs) is)
 record_bad names file size bytes inputs (refused.ReadFault name) is = tt
 record_bad names file size bytes inputs refused.OutOfMemory is = tt
 
 -- the steps of a feed's file
 pub feed_ok : (names : List Name) (file : Name) (bytes : Option (List ℕ)) (inputs : Inputs) (feed : Feed)
     → IsSomeAnd bytes (λ text. (length text ≤ MOST_FILE_BYTES) × (feed_by feed.fields (room_after inputs.feeds) (rows_of text) ≡ Ok feed.cells))
-    → by_file names file bytes (feed_rows inputs feed.fields) ≡ Supplies (names ++ file ∷ []) (with_feed inputs (Some feed)) []
+    → by_file names file bytes (feed_rows feed.fields (room_after inputs.feeds)) (more_feed inputs feed.fields) ≡ Supplies (names ++ file ∷ []) (with_feed inputs (Some feed)) []
 feed_ok names file bytes inputs feed is =
-    ok_file names file bytes (λ text. feed_by feed.fields (room_after inputs.feeds) (rows_of text)) (λ cells. with_feed inputs (feed_with feed.fields cells)) feed.cells is
+    ok_file names file bytes (feed_rows feed.fields (room_after inputs.feeds)) (more_feed inputs feed.fields) feed.cells is
     ∙ ap (λ f. Supplies (names ++ file ∷ []) (with_feed inputs f) []) (feed_with-of feed)
 
 pub feed_bad : (names : List Name) (file : Name) (fields : ℕ) (bytes : Option (List ℕ)) (inputs : Inputs) (refusal : Refusal)
-    → AnswersRows {A = Feed} (λ feed. feed.cells) file (λ text. feed_by fields (room_after inputs.feeds) (rows_of text)) bytes (Err refusal)
-    → StepsTo {T = Unit {0}} names (file ∷ []) (by_file names file bytes (feed_rows inputs fields)) inputs (Err refusal)
+    → AnswersRows {A = Feed} (λ feed. feed.cells) file (feed_rows fields (room_after inputs.feeds)) bytes (Err refusal)
+    → StepsTo {T = Unit {0}} names (file ∷ []) (by_file names file bytes (feed_rows fields (room_after inputs.feeds)) (more_feed inputs fields)) inputs (Err refusal)
 feed_bad names file fields bytes inputs refused.Usage is = is
 feed_bad names file fields bytes inputs (refused.BadProgram line) is = is
 feed_bad names file fields bytes inputs (refused.BadInput line) is =
-    (names ++ file ∷ [], bad_file names file line bytes (λ text. feed_by fields (room_after inputs.feeds) (rows_of text)) (λ cells. with_feed inputs (feed_with fields cells)) is)
+    (names ++ file ∷ [], bad_file names file line bytes (feed_rows fields (room_after inputs.feeds)) (more_feed inputs fields) is)
 feed_bad names file fields bytes inputs (refused.ReadFault name) is = tt
 feed_bad names file fields bytes inputs refused.OutOfMemory is = tt
 
 -- the same where the files are told
 pub records_bad : (told : Option Files) (file : Name) (size : ℕ) (inputs : Inputs) (refusal : Refusal)
-    → IfSome told (λ files. AnswersRows {A = List ℤ} (λ cells. cells) file (λ text. records_by size (rows_of text)) (bytes_of files file) (Err refusal))
-    → IfSome told (λ files. (names : List Name) → StepsTo {T = Unit {0}} names (file ∷ []) (by_file names file (bytes_of files file) (record_rows inputs size)) inputs (Err refusal))
+    → IfSome told (λ files. AnswersRows {A = List ℤ} (λ cells. cells) file (record_rows size) (bytes_of files file) (Err refusal))
+    → IfSome told (λ files. (names : List Name) → StepsTo {T = Unit {0}} names (file ∷ []) (by_file names file (bytes_of files file) (record_rows size) (more_cells inputs)) inputs (Err refusal))
 records_bad None file size inputs refusal is = tt
 records_bad (Some files) file size inputs refusal is = λ names. record_bad names file size (bytes_of files file) inputs refusal is
 
 pub feeds_bad : (told : Option Files) (file : Name) (fields room : ℕ) (inputs : Inputs) (refusal : Refusal) → room ≡ room_after inputs.feeds
-    → IfSome told (λ files. AnswersRows {A = Feed} (λ feed. feed.cells) file (λ text. feed_by fields room (rows_of text)) (bytes_of files file) (Err refusal))
-    → IfSome told (λ files. (names : List Name) → StepsTo {T = Unit {0}} names (file ∷ []) (by_file names file (bytes_of files file) (feed_rows inputs fields)) inputs (Err refusal))
+    → IfSome told (λ files. AnswersRows {A = Feed} (λ feed. feed.cells) file (feed_rows fields room) (bytes_of files file) (Err refusal))
+    → IfSome told (λ files. (names : List Name) → StepsTo {T = Unit {0}} names (file ∷ []) (by_file names file (bytes_of files file) (feed_rows fields (room_after inputs.feeds)) (more_feed inputs fields)) inputs (Err refusal))
 feeds_bad None file fields room inputs refusal same is = tt
 feeds_bad (Some files) file fields room inputs refusal same is =
     λ names. feed_bad names file fields (bytes_of files file) inputs refusal
-    (subst (λ r. AnswersRows {A = Feed} (λ feed. feed.cells) file (λ text. feed_by fields r (rows_of text)) (bytes_of files file) (Err refusal)) same is)
+    (subst (λ r. AnswersRows {A = Feed} (λ feed. feed.cells) file (feed_rows fields r) (bytes_of files file) (Err refusal)) same is)
 
 pub feeds_ok : (told : Option Files) (file : Name) (fields room : ℕ) (inputs after : Inputs) (feed : Feed) → room ≡ room_after inputs.feeds → feed.fields ≡ fields
     → after.records ≡ inputs.records → after.feeds ≡ inputs.feeds ++ feed ∷ []
     → IfSome told (λ files. IsSomeAnd (bytes_of files file) (λ text. (length text ≤ MOST_FILE_BYTES) × (feed_by fields room (rows_of text) ≡ Ok feed.cells)))
-    → IfSome told (λ files. (names : List Name) → by_file names file (bytes_of files file) (feed_rows inputs fields) ≡ Supplies (names ++ file ∷ []) after [])
+    → IfSome told (λ files. (names : List Name) → by_file names file (bytes_of files file) (feed_rows fields (room_after inputs.feeds)) (more_feed inputs fields) ≡ Supplies (names ++ file ∷ []) after [])
 feeds_ok None file fields room inputs after feed same_room same_fields records feeds is = tt
 feeds_ok (Some files) file fields room inputs after feed same_room same_fields records feeds is =
     let meant = subst (λ r. IsSomeAnd (bytes_of files file) (λ text. (length text ≤ MOST_FILE_BYTES) × (feed_by feed.fields r (rows_of text) ≡ Ok feed.cells))) same_room
     (subst (λ f. IsSomeAnd (bytes_of files file) (λ text. (length text ≤ MOST_FILE_BYTES) × (feed_by f room (rows_of text) ≡ Ok feed.cells))) (sym same_fields) is) in
     let grown : with_feed inputs (Some feed) ≡ after = ap₂ (λ r f. inputs_of r f) (sym records) (sym feeds) in
     λ names.
-    ap (λ f. by_file names file (bytes_of files file) (feed_rows inputs f)) (sym same_fields) ∙ feed_ok names file (bytes_of files file) inputs feed meant
+    ap (λ f. by_file names file (bytes_of files file) (feed_rows f (room_after inputs.feeds)) (more_feed inputs f)) (sym same_fields) ∙ feed_ok names file (bytes_of files file) inputs feed meant
     ∙ ap (λ i. Supplies (names ++ file ∷ []) i []) grown
 
 -- one step of the loop, where it goes on
@@ -285,7 +288,7 @@ zeros_step (Some files) from size inputs after is records feeds = λ names.
     ap (by_record files names inputs size) is ∙ ap (λ i. Supplies names i []) grown ∙ ap (λ l. Supplies l after []) (sym (append-nil names)) ∙ ap (λ f. Supplies (names ++ named f) after []) (sym is)
 
 pub cells_step : {T : Type 0} (told : Option Files) (from : Option Name) (file : Name) (size : ℕ) (inputs after : Inputs) (result : Result T Refusal) → from ≡ Some file
-    → IfSome told (λ files. (names : List Name) → StepsTo names (file ∷ []) (by_file names file (bytes_of files file) (record_rows inputs size)) after result)
+    → IfSome told (λ files. (names : List Name) → StepsTo names (file ∷ []) (by_file names file (bytes_of files file) (record_rows size) (more_cells inputs)) after result)
     → IfSome told (λ files. (names : List Name) → StepsTo names (named from) (by_record files names inputs size from) after result)
 cells_step told from file size inputs after result is step =
     subst (λ f. IfSome told (λ files. (names : List Name) → StepsTo names (named f) (by_record files names inputs size f) after result)) (sym is) step
@@ -301,8 +304,47 @@ record_step told head name size by from line n inputs after result is same step 
 
 pub feed_step : {T : Type 0} (told : Option Files) (head : Head) (name : Name) (fields : ℤ) (file : Name) (line : ℕ) (n : ℕ) (inputs after : Inputs) (result : Result T Refusal)
     → head ≡ FeedHead name fields file line → n ≡ natural fields
-    → IfSome told (λ files. (names : List Name) → StepsTo names (file ∷ []) (by_file names file (bytes_of files file) (feed_rows inputs n)) after result)
+    → IfSome told (λ files. (names : List Name) → StepsTo names (file ∷ []) (by_file names file (bytes_of files file) (feed_rows n (room_after inputs.feeds)) (more_feed inputs n)) after result)
     → IfSome told (λ files. (names : List Name) → StepsTo names (names_in head) (load_head files names inputs head) after result)
 feed_step told head name fields file line n inputs after result is same step =
     subst (λ h. IfSome told (λ files. (names : List Name) → StepsTo names (names_in h) (load_head files names inputs h) after result)) (sym is)
-    (subst (λ m. IfSome told (λ files. (names : List Name) → StepsTo names (file ∷ []) (by_file names file (bytes_of files file) (feed_rows inputs m)) after result)) same step)
+    (subst (λ m. IfSome told (λ files. (names : List Name) → StepsTo names (file ∷ []) (by_file names file (bytes_of files file) (feed_rows m (room_after inputs.feeds)) (more_feed inputs m)) after result)) same step)
+
+-- a list of one member holds no other
+pub only_one : (file name : Name) → Contains (file ∷ []) name → file ≡ name
+only_one file name (zero, below, is) = is
+only_one file name (suc k, below, is) = absurd (omega (arith, below))
+
+then_names : (supplied : Supplied) → names_of (then_load supplied (λ n i. Supplies n i [])) ≡ names_of supplied
+then_names (Supplies names inputs faults) = refl
+then_names (Lacks names name) = refl
+then_names (Spoils names line) = refl
+
+-- what was read before the file of faults, and that file, were read
+reads_faults : (name : Name) (files : Files) (names : List Name) (inputs : Inputs) (file : Name) → Contains (names ++ file ∷ []) name → Contains (names_of (load_faults files names inputs (Some file))) name
+reads_faults name files names inputs file is =
+    subst (λ l. Contains l name) (then_names (load_faults files names inputs (Some file)))
+    (keeps_file name names file (bytes_of files file) fault_rows (more_faults inputs) (λ n i. Supplies n i []) (λ n faults keeps. keeps) is)
+
+pub keeps_faults : (name : Name) (files : Files) (names : List Name) (inputs : Inputs) (file : Name) → Contains names name → Contains (names_of (load_faults files names inputs (Some file))) name
+keeps_faults name files names inputs file is = reads_faults name files names inputs file (Contains-append_left names (file ∷ []) name is)
+
+-- the answers to a file of faults
+module _ (files : Files) (names : List Name) (inputs : Inputs) (file : Name) (before now : List Name) where
+  faults_answer : (result : Result Faults Refusal) → AnswersRows (λ (faults : Faults). faults.list) file fault_rows (bytes_of files file) result → ReadsAmong (file ∷ []) before now result
+      → AnswersFaults names inputs (file ∷ []) (load_faults files names inputs (Some file)) result
+  faults_answer (Ok faults) is among = ok_file names file (bytes_of files file) fault_rows (more_faults inputs) faults.list is
+  faults_answer (Err refused.Usage) is among = is
+  faults_answer (Err (refused.BadProgram line)) is among = is
+  faults_answer (Err (refused.BadInput line)) is among = (names ++ file ∷ [], bad_file names file line (bytes_of files file) fault_rows (more_faults inputs) is)
+  faults_answer (Err (refused.ReadFault told)) is among = reads_faults told files names inputs file (Contains-append_right names (file ∷ []) told among.0)
+  faults_answer (Err refused.OutOfMemory) is among = tt
+
+-- the same where the files are told, of the file that is named
+pub faults_told : (told : Option Files) (from : Option Name) (file : Name) (before now : List Name) (result : Result Faults Refusal) → from ≡ Some file
+    → IfSome told (λ files. AnswersRows (λ (faults : Faults). faults.list) file fault_rows (bytes_of files file) result) → ReadsAmong (file ∷ []) before now result
+    → IfSome told (λ files. (names : List Name) (inputs : Inputs) → AnswersFaults names inputs (named from) (load_faults files names inputs from) result)
+faults_told None from file before now result is told among = tt
+faults_told (Some files) from file before now result is told among =
+    subst (λ f. (names : List Name) (inputs : Inputs) → AnswersFaults names inputs (named f) (load_faults files names inputs f) result) (sym is)
+    (λ names inputs. faults_answer files names inputs file before now result told among)

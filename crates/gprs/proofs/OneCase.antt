@@ -7,7 +7,7 @@ use Rattle.task_parser.specs.Spelling.{Meaning, Means}
 use Rattle.task_parser.proofs.OneSpelling.{one_meaning, some_meaning}
 use Rattle.command_line.specs.declared.asked.Asked.{Asked}
 use Rattle.gprs.specs.Work.{Files, Commands}
-use Rattle.gprs.specs.Case.{OneCase, SomeCase, Case, Missing, IsCase, no_command, no_program, of_text, ForCase, meant_case}
+use Rattle.gprs.specs.Case.{OneCase, SomeCase, Case, Missing, IsCaseOf, no_program, of_text, IsCase, no_command, asks, ForCase, meant_case}
 
 value_of : {A : Type 0} → A → Option A → A
 value_of d None = d
@@ -21,42 +21,36 @@ same_some o x y is_x is_y = ap (value_of x) (sym is_x ∙ is_y)
 pub none_some : {A : Type 0} (o : Option A) (x : A) → o ≡ None → o ≡ Some x → ⊥
 none_some o x none some = let e : None ≡ Some x = sym none ∙ some in cc
 
--- no file and a text can't stand under one name
-no_text : (files : Files) (a b : Asked) (text : List ℕ) → a ≡ b → bytes_of files a.program ≡ None → bytes_of files b.program ≡ Some text → ⊥
-no_text files a b text same none some = none_some (bytes_of files b.program) text (ap (λ (x : Asked). bytes_of files x.program) (sym same) ∙ none) some
-
--- what is asked has one meaning
-one_meant : (files : Files) (a b : Asked) (s t : List ℕ) (m n : Meaning) → a ≡ b → bytes_of files a.program ≡ Some s → bytes_of files b.program ≡ Some t → Means s m → Means t n → m ≡ n
-one_meant files a b s t m n same is_s is_t means_s means_t =
-    let texts = same_some (bytes_of files b.program) t s is_t (ap (λ (x : Asked). bytes_of files x.program) (sym same) ∙ is_s) in
-    one_meaning s m n means_s (subst (λ u. Means u n) texts means_t)
+-- what is asked has one case over the same files
+pub one_case_of : (commands : Commands) (asked : Asked) (files : Files) (a b : Case) → IsCaseOf commands asked files a → IsCaseOf commands asked files b → a ≡ b
+one_case_of commands asked files a b (no_program absent) (no_program absent') = refl
+one_case_of commands asked files a b (no_program absent) (of_text {text} meaning there means) = absurd (none_some (bytes_of files asked.program) text absent there)
+one_case_of commands asked files a b (of_text {text} meaning there means) (no_program absent) = absurd (none_some (bytes_of files asked.program) text absent there)
+one_case_of commands asked files a b (of_text {text} meaning there means) (of_text {text = text'} meaning' there' means') =
+    let texts = same_some (bytes_of files asked.program) text' text there' there in
+    ap (meant_case commands files asked) (one_meaning text meaning meaning' means (subst (λ u. Means u meaning') texts means'))
 
 pub one_case : OneCase
 one_case commands words files a b (no_command none) (no_command none') = refl
-one_case commands words files a b (no_command none) (no_program {asked} some absent) = absurd (none_some (commands.reading words) asked none some)
-one_case commands words files a b (no_command none) (of_text {asked} meaning some there means) = absurd (none_some (commands.reading words) asked none some)
-one_case commands words files a b (no_program {asked} some absent) (no_command none) = absurd (none_some (commands.reading words) asked none some)
-one_case commands words files a b (no_program {asked} some absent) (no_program {asked = asked'} some' absent') =
-    ap (λ (x : Asked). Missing [] x.program) (same_some (commands.reading words) asked asked' some some')
-one_case commands words files a b (no_program {asked} some absent) (of_text {asked = asked'} {text} meaning some' there means) =
-    absurd (no_text files asked asked' text (same_some (commands.reading words) asked asked' some some') absent there)
-one_case commands words files a b (of_text {asked} meaning some there means) (no_command none) = absurd (none_some (commands.reading words) asked none some)
-one_case commands words files a b (of_text {asked} {text} meaning some there means) (no_program {asked = asked'} some' absent) =
-    absurd (no_text files asked' asked text (same_some (commands.reading words) asked' asked some' some) absent there)
-one_case commands words files a b (of_text {asked} {text} meaning some there means) (of_text {asked = asked'} {text = text'} meaning' some' there' means') =
-    let same = same_some (commands.reading words) asked asked' some some' in
-    ap₂ (meant_case commands files) same (one_meant files asked asked' text text' meaning meaning' same there there' means means')
+one_case commands words files a b (no_command none) (asks {asked} some is) = absurd (none_some (commands.reading words) asked none some)
+one_case commands words files a b (asks {asked} some is) (no_command none) = absurd (none_some (commands.reading words) asked none some)
+one_case commands words files a b (asks {asked} some is) (asks {asked = asked'} some' is') =
+    let same = same_some (commands.reading words) asked' asked some' some in
+    one_case_of commands asked (commands.files asked files) a b is (subst (λ (x : Asked). IsCaseOf commands x (commands.files x files) b) same is')
+
+pub some_case_of : (commands : Commands) (asked : Asked) (files : Files) → (case : Case) × IsCaseOf commands asked files case
+some_case_of commands asked files = found (bytes_of files asked.program) refl
+  where
+    found : (bytes : Option (List ℕ)) → bytes_of files asked.program ≡ bytes → (case : Case) × IsCaseOf commands asked files case
+    found None absent = (Missing [] asked.program, no_program absent)
+    found (Some text) there = let m = some_meaning text in (meant_case commands files asked m.0, of_text m.0 there m.1)
 
 pub some_case : SomeCase
 some_case commands words files = go (commands.reading words) refl
   where
-    found : (asked : Asked) → commands.reading words ≡ Some asked → (bytes : Option (List ℕ)) → bytes_of files asked.program ≡ bytes → (case : Case) × IsCase commands words files case
-    found asked some None absent = (Missing [] asked.program, no_program some absent)
-    found asked some (Some text) there = let m = some_meaning text in (meant_case commands files asked m.0, of_text m.0 some there m.1)
-
     go : (asked : Option Asked) → commands.reading words ≡ asked → (case : Case) × IsCase commands words files case
     go None none = (_, no_command none)
-    go (Some asked) some = found asked some (bytes_of files asked.program) refl
+    go (Some asked) some = let found = some_case_of commands asked (commands.files asked files) in (found.0, asks some found.1)
 
 -- what holds of a case that is known holds of the case
 pub for_known : (commands : Commands) (words : List (List ℕ)) (files : Option Files) (known : Case) (P : Case → Type 0) → IfSome files (λ told. IsCase commands words told known) → P known →

@@ -9,8 +9,7 @@ use Rattle.task_ast.specs.declared.check_kind.CheckKind.{CheckKind}
 use Rattle.task_parser.specs.Spelling.{Meaning, Stands, LexFails, ParseFails}
 use Rattle.command_line.specs.declared.asked.Asked.{Asked}
 use Rattle.gprs.specs.Work.{Files, Commands, Supplied, Supplies, Lacks, Spoils}
-use Rattle.gprs.specs.Case.{Case, BadProgram, IsCase, no_command, no_program, of_text, supplied_case, program_case, meant_case, names_read}
-use Rattle.gprs.proofs.OneCase.{same_some, none_some}
+use Rattle.gprs.specs.Case.{Case, BadProgram, IsCaseOf, no_program, of_text, supplied_case, program_case, meant_case, names_read}
 
 pub first : (name : Name) (names : List Name) → Contains (name ∷ names) name
 first name names = (0, omega arith, refl)
@@ -30,9 +29,6 @@ module _ (commands : Commands) (files : Files) (asked : Asked) where
   reads_meant (ParseFails fault) = first asked.program []
   reads_meant (Stands program) = reads_checked program (check_fault program)
 
-pub reads_program : (commands : Commands) (words : List (List ℕ)) (files : Files) (asked : Asked) (case : Case) → commands.reading words ≡ Some asked → IsCase commands words files case → Contains (names_read case) asked.program
-reads_program commands words files asked case some (no_command none) = absurd (none_some (commands.reading words) asked none some)
-reads_program commands words files asked case some (no_program {asked = other} some' absent) =
-    subst (λ (a : Asked). Contains (a.program ∷ []) asked.program) (same_some (commands.reading words) asked other some some') (first asked.program [])
-reads_program commands words files asked case some (of_text {asked = other} meaning some' there means) =
-    subst (λ (a : Asked). Contains (names_read (meant_case commands files a meaning)) asked.program) (same_some (commands.reading words) asked other some some') (reads_meant commands files asked meaning)
+pub reads_program : (commands : Commands) (files : Files) (asked : Asked) (case : Case) → IsCaseOf commands asked files case → Contains (names_read case) asked.program
+reads_program commands files asked case (no_program absent) = first asked.program []
+reads_program commands files asked case (of_text meaning there means) = reads_meant commands files asked meaning

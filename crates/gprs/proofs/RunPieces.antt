@@ -4,7 +4,8 @@ use Rattle.std.specs.declared.option.Option.{Option}
 use Rattle.std.specs.Io.KnownBytes.{Appends}
 use Rattle.gp_base.specs.Sinks.{AppendsPrefix}
 use Rattle.gp_base.proofs.Written.{Appends-append, prefix_first, prefix_second, prefix_all}
-use Rattle.gprs.specs.Texts.{Ran, printed, tail_text, run_text}
+use Rattle.restart_log.specs.Lines.{printed}
+use Rattle.gprs.specs.Texts.{Ran, tail_text, run_text}
 
 module _ (ran : Ran) (before first : Option (List ℕ)) where
   pub part_of_first : AppendsPrefix before first (codes "output\n") → AppendsPrefix before first (run_text ran [] 0)

@@ -1,5 +1,5 @@
 -- How the answer of a call, and what it wrote, stand to its case.
-use Rattle.std.specs.Prelude.{◌≡◌, ◌⊎◌, ℕ, ◌<◌, List, Option, length}
+use Rattle.std.specs.Prelude.{◌≡◌, ◌⊎◌, ◌++◌, ℕ, ◌<◌, List, Option, length, take}
 use Rattle.std.specs.Io.KnownBytes.{Appends, Keeps}
 use Rattle.gp_base.specs.Sinks.{Rose, AppendsPrefix}
 use Rattle.gprs.specs.Lines.{out_of_memory_line, write_fault_line}
@@ -43,9 +43,13 @@ pub data Yields (due : ℕ) (shelf_failed sink_failed : Type 0) : ℕ → Type 0
 abbrev pub IsStopLine : List ℕ → Type 0
 IsStopLine line = (line ≡ out_of_memory_line) ⊎ (line ≡ write_fault_line)
 
--- it took a prefix of such a line
-abbrev pub TakesStop : Change → Type 0
-TakesStop err = (line : List ℕ) × IsStopLine line × TakesPart err line
+-- it took a prefix of what comes first, and then a prefix of such a line
+pub record TakesStop (begun : List ℕ) (change : Change) : Type 0 where
+  pub first : ℕ
+  pub stop : List ℕ
+  pub is_stop : IsStopLine stop
+  pub second : ℕ
+  pub taken : TakesAll change (take first begun ++ take second stop)
 
 -- A line was written whole and the due status is answered. A fault of the sink makes it 8, and running out of memory 1; a prefix was then written.
 pub data LineEnds (due : ℕ) (line : List ℕ) (err : Change) : ℕ → Type 0 where
@@ -53,9 +57,10 @@ pub data LineEnds (due : ℕ) (line : List ℕ) (err : Change) : ℕ → Type 0 
   line_failed : TakesPart err line → Fails err → LineEnds due line err 8
   line_no_memory : TakesPart err line → LineEnds due line err 1
 
--- How a work ends whose text and status are these, and which writes nothing to the error stream but the line that tells why it stopped.
-pub data RunEnds (text : List ℕ) (due : ℕ) (out err : Change) : ℕ → Type 0 where
-  finished : TakesAll out text → TakesNothing err → RunEnds text due out err due
-  run_no_memory : TakesPart out text → TakesStop err → RunEnds text due out err 1
-  output_failed : TakesPart out text → Fails out → TakesAll err write_fault_line → RunEnds text due out err 8
-  error_failed : TakesPart out text → Fails err → TakesStop err → RunEnds text due out err 8
+-- How a work ends whose text and status are these, and which writes this trace to the error stream, or a prefix of it and then of the line that tells why
+-- it stopped.
+pub data RunEnds (text trace : List ℕ) (due : ℕ) (out err : Change) : ℕ → Type 0 where
+  finished : TakesAll out text → TakesAll err trace → RunEnds text trace due out err due
+  run_no_memory : TakesPart out text → TakesStop trace err → RunEnds text trace due out err 1
+  output_failed : TakesPart out text → Fails out → TakesAll err write_fault_line → RunEnds text trace due out err 8
+  error_failed : TakesPart out text → Fails err → TakesStop trace err → RunEnds text trace due out err 8

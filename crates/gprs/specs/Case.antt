@@ -1,5 +1,5 @@
 -- The case of a call: what it comes to by its words and the files alone.
-use Rattle.std.specs.Prelude.{◌≡◌, ℕ, List, [], ◌∷◌, ◌++◌, codes, ⊤, if◌then◌else◌}
+use Rattle.std.specs.Prelude.{◌≡◌, ℕ, List, [], ◌∷◌, ◌++◌, codes, length, ⊤, if◌then◌else◌}
 use Rattle.std.specs.declared.option.Option.{Option}
 use Rattle.std.specs.declared.option.Option.TheVariants.{None, Some}
 use Rattle.gp_base.specs.Files.{bytes_of}
@@ -10,11 +10,12 @@ use Rattle.task_ast.specs.Tree.{Name, Program}
 use Rattle.task_ast.specs.Check.{check_fault}
 use Rattle.task_parser.specs.Spelling.{Meaning, Means, Stands, LexFails, ParseFails}
 use Rattle.command_line.specs.declared.asked.Command.{Command}
+use Rattle.command_line.specs.declared.asked.Command.TheVariants.{Run, One, Check, Soak}
 use Rattle.command_line.specs.declared.asked.Asked.{Asked}
 use Rattle.gprs.specs.Work.{Files, Work, Supplied, Supplies, Lacks, Spoils, Commands, runs, is_traced}
 use Rattle.gprs.specs.Lines.{usage_line, read_fault_line, lex_line, parse_line, check_line}
-use Rattle.gprs.specs.Texts.{run_text}
-use Rattle.gprs.specs.PlainText.{plain_ran}
+use Rattle.gprs.specs.Texts.{run_text, soak_text}
+use Rattle.gprs.specs.PlainText.{plain_ran, restarts_in}
 
 pub data Case : Type 0 where
   -- the words are those of no command
@@ -54,12 +55,15 @@ module _ (commands : Commands) (files : Files) (asked : Asked) where
   meant_case (ParseFails fault) = BadProgram asked.program (parse_line fault)
   meant_case (Stands program) = program_case program (check_fault program)
 
--- the case of a call with these words over these files
+-- the case of what is asked, over these files
+pub data IsCaseOf (commands : Commands) (asked : Asked) (files : Files) : Case → Type 0 where
+  no_program : bytes_of files asked.program ≡ None → IsCaseOf commands asked files (Missing [] asked.program)
+  of_text : {text : List ℕ} (meaning : Meaning) → bytes_of files asked.program ≡ Some text → Means text meaning → IsCaseOf commands asked files (meant_case commands files asked meaning)
+
+-- the case of a call with these words, where the shelf has these files
 pub data IsCase (commands : Commands) (words : List (List ℕ)) (files : Files) : Case → Type 0 where
   no_command : commands.reading words ≡ None → IsCase commands words files Usage
-  no_program : {asked : Asked} → commands.reading words ≡ Some asked → bytes_of files asked.program ≡ None → IsCase commands words files (Missing [] asked.program)
-  of_text : {asked : Asked} {text : List ℕ} (meaning : Meaning) → commands.reading words ≡ Some asked → bytes_of files asked.program ≡ Some text → Means text meaning →
-      IsCase commands words files (meant_case commands files asked meaning)
+  asks : {asked : Asked} {case : Case} → commands.reading words ≡ Some asked → IsCaseOf commands asked (commands.files asked files) case → IsCase commands words files case
 
 -- a call has one case at most
 abbrev pub OneCase : Type 0
@@ -86,7 +90,10 @@ work_status command work = if runs command then end_status (plain_ran work).end 
 
 -- what is written of it
 abbrev pub work_text : Command → Work → List ℕ
-work_text command work = if runs command then run_text (plain_ran work) [] 0 else codes "ok\n"
+work_text Run work = run_text (plain_ran work) (restarts_in work) (length work.faults)
+work_text One work = run_text (plain_ran work) [] 0
+work_text Check work = codes "ok\n"
+work_text (Soak soak) work = soak_text soak (plain_ran work) (restarts_in work) (length work.faults)
 
 -- the status that the case calls for
 abbrev pub status_of : Case → ℕ

@@ -1,14 +1,17 @@
 -- What is known of the case of a call once its words and its program were read.
-use Rattle.std.specs.Prelude.{◌≡◌, ◌⊎◌, List, ℕ, [], ◌∷◌, ℤ, true, false, Option, Result, IsSomeAnd, Contains, None, ⊤}
+use Rattle.std.specs.Prelude.{◌≡◌, ◌⊎◌, ◌≤◌, List, ℕ, [], ◌∷◌, ◌++◌, ℤ, true, false, Option, Result, IsSomeAnd, Contains, None, ⊤}
 use Rattle.std.specs.declared.result.Result.TheVariants.{Ok, Err}
 use Rattle.gp_base.specs.Files.{GrowsByOnly}
 use Rattle.task_ast.specs.Tree.{Name, Program}
+use Rattle.gp_base.specs.declared.limits.TheConstants.{MOST_WORKERS}
 use Rattle.task_ast.specs.View.{plain_program}
+use Rattle.task_ast.specs.Inputs.{AreInputsOf}
 use Rattle.task_parser.specs.Spelling.{Meaning, Means, Spells}
 use Rattle.task_parser.specs.declared.fault.LexFault.{LexFault}
 use Rattle.task_parser.specs.declared.fault.LexFault.TheVariants as lex
 use Rattle.task_parser.specs.declared.fault.ParseFault.{ParseFault}
 use Rattle.task_parser.specs.declared.fault.ParseFault.TheVariants as parse
+use Rattle.gp_base.specs.declared.fault.Fault.{Fault}
 use Rattle.gp_base.specs.declared.feed.Inputs.{Inputs}
 use Rattle.lock_checker.specs.Accepted.{program_of}
 use Rattle.lock_checker.specs.declared.checked.Checked.{Checked}
@@ -20,23 +23,23 @@ use Rattle.gprs.specs.declared.work.Batch.{Batch}
 use Rattle.gprs.specs.declared.batch.Refusal.{Refusal}
 use Rattle.gprs.specs.declared.batch.Refusal.TheVariants.{Usage as RefusedUsage, BadProgram as RefusedProgram, BadInput as RefusedInput, ReadFault, OutOfMemory}
 use Rattle.gprs.specs.Work.{Files, Work, runs, is_traced}
-use Rattle.gprs.specs.InputFiles.{names_for}
+use Rattle.gprs.specs.InputFiles.{names_for, named}
 use Rattle.gprs.specs.PlainText.{commands}
 use Rattle.gprs.specs.Case.{Case, Usage, BadProgram, BadInput, Go, program_case, meant_case, names_read}
 use Rattle.gprs.specs.Lines.{usage_line, read_fault_line, lex_line, parse_line, check_line}
 use Rattle.gprs.specs.Answers.{Change, TakesAll, TakesPart, Fails, Grew, IsStopLine}
 use Rattle.gprs.specs.Headline.{MayRead}
 
--- what is to be done for what is asked, on this program, from these inputs
-abbrev pub work_for : Asked → Program → Inputs → Work
-work_for asked program inputs = record {
+-- what is to be done for what is asked, on this program, from these inputs and with these faults
+abbrev pub work_for : Asked → Program → Inputs → List Fault → Work
+work_for asked program inputs faults = record {
   command = asked.command;
   program = program;
   inputs = inputs;
-  faults = [];
+  faults = faults;
   limits = asked.limits;
   trace = is_traced asked;
-  files = asked.program ∷ names_for asked.command program.heads;
+  files = asked.program ∷ (names_for asked.command program.heads ++ named asked.faults);
 }
 
 -- the program of a batch, and what is to be done with it
@@ -44,7 +47,7 @@ abbrev pub program_in : Batch → Program
 program_in batch = plain_program (program_of batch.checked)
 
 abbrev pub work_of : Batch → Work
-work_of batch = work_for batch.asked (program_in batch) batch.inputs
+work_of batch = work_for batch.asked (program_in batch) batch.inputs batch.faults.list
 
 -- the case of what is asked, where the program's file has this text, whatever other files there are
 abbrev pub ComesTo : Asked → List ℕ → Case → Type 0
@@ -69,6 +72,16 @@ AnswersCase Is (Err (RefusedProgram line)) = (name : Name) × Is (BadProgram nam
 AnswersCase Is (Err (RefusedInput line)) = (names : List Name) × Is (BadInput names line)
 AnswersCase Is (Err (ReadFault name)) = (case : Case) × Is case × Contains (names_read case) name
 AnswersCase Is (Err OutOfMemory) = ⊤
+
+-- What may be run: the inputs are those of the program, and there is a worker and no more than there may be.
+pub record IsSound (asked : Asked) (program : Program) (inputs : Inputs) : Type 0 where
+  pub inputs_are : AreInputsOf program inputs
+  pub some_worker : 1 ≤ asked.workers
+  pub few_workers : asked.workers ≤ MOST_WORKERS
+
+-- a batch may be run, where its command runs it
+abbrev pub MayRun : Batch → Type 0
+MayRun batch = runs batch.asked.command ≡ true → IsSound batch.asked (program_in batch) batch.inputs
 
 -- the answers to words of no command
 abbrev pub AnswersNoCommand : Result Batch Refusal → Type 0

@@ -1,5 +1,5 @@
 -- What a call is promised to do: its answer, and what it wrote, by its case.
-use Rattle.std.specs.Prelude.{◌≡◌, ◌⊎◌, ℕ, Bool, true, false, [], List, ◌++◌, take, Option, Some, None, Contains, IfSome, IsSomeAnd, ⊤}
+use Rattle.std.specs.Prelude.{◌≡◌, ◌⊎◌, ℕ, false, [], List, Option, Some, None, Contains, IfSome, IsSomeAnd, ⊤, if◌then◌else◌}
 use Rattle.gp_base.specs.declared.journal.Journal.{Journal}
 use Rattle.gp_base.specs.Files.{GrowsByOnly}
 use Rattle.task_ast.specs.Tree.{Name, Program}
@@ -8,8 +8,9 @@ use Rattle.gprs.specs.Work.{Files, Commands, is_traced, is_journalled}
 use Rattle.gprs.specs.InputFiles.{file_names}
 use Rattle.gprs.specs.Case.{Case, IsCase, ForCase, IsMissing, status_of, text_of, line_of, names_read}
 use Rattle.gprs.specs.Lines.{read_fault_line, write_fault_line}
-use Rattle.gprs.specs.Texts.{trace_text}
-use Rattle.gprs.specs.Answers.{Change, TakesAll, TakesPart, TakesNothing, Fails, Grew, Yields, IsStopLine}
+use Rattle.restart_log.specs.Trace.{trace_text}
+use Rattle.gprs.specs.Journals.{ForRun, IsJournalOf, IsCompleteOf, TakesRetired}
+use Rattle.gprs.specs.Answers.{Change, TakesAll, TakesPart, TakesNothing, Fails, Grew, Yields, TakesStop}
 
 -- a call: what it was given, and what it left
 pub record Call : Type 0 where
@@ -38,15 +39,16 @@ IsRefusal status = HasCaseLine status ⊎ (status ≡ 7)
 abbrev pub TellsCase : ℕ → Type 0
 TellsCase status = IsWhole status ⊎ HasCaseLine status
 
--- the error stream took the trace where one is asked for, and else nothing
-abbrev pub TakesTrace : Bool → Journal → Change → Type 0
-TakesTrace true journal err = TakesAll err (trace_text journal)
-TakesTrace false journal err = TakesNothing err
+-- the trace of the journal, where one is asked for
+abbrev pub trace_for : Option Asked → Journal → List ℕ
+trace_for None journal = []
+trace_for (Some asked) journal = if is_traced asked then trace_text journal else []
 
--- a file that may be read for what the words ask for: the program's, and those that a program can name
+-- a file that may be read for what the words ask for: the program's, those that a program can name, and that of the faults
 pub data MayRead (asked : Asked) : Name → Type 0 where
   the_program : MayRead asked asked.program
   an_input : (program : Program) {name : Name} → Contains (file_names program.heads) name → MayRead asked name
+  the_faults : {name : Name} → asked.faults ≡ Some name → MayRead asked name
 
 -- A file could not be read: its reads alone failed, and the line names it. It is one that the case reads, and one that the words ask for.
 pub record TellsReadFault (commands : Commands) (call : Call) : Type 0 where
@@ -61,19 +63,13 @@ pub record TellsReadFault (commands : Commands) (call : Call) : Type 0 where
 abbrev pub IsStop : ℕ → Type 0
 IsStop status = (status ≡ 1) ⊎ (status ≡ 8)
 
--- a line that the error stream is to take for the case: that of the case, or of a file that it reads
-abbrev pub IsDue : Case → List ℕ → Type 0
-IsDue case line = (line ≡ line_of case) ⊎ (name : Name) × Contains (names_read case) name × (line ≡ read_fault_line name)
+-- what the error stream is to take for the case: the line of the case, or of a file that it reads, or the trace
+abbrev pub IsDue : Case → (trace : List ℕ) → List ℕ → Type 0
+IsDue case trace due = (due ≡ line_of case) ⊎ (due ≡ trace) ⊎ (name : Name) × Contains (names_read case) name × (due ≡ read_fault_line name)
 
--- the error stream took a prefix of a line that is due, and then a prefix of the line that tells the stop
-pub record TakesStopLines (is_due : List ℕ → Type 0) (err : Change) : Type 0 where
-  pub due : List ℕ
-  pub for_case : is_due due
-  pub first : ℕ
-  pub stop : List ℕ
-  pub for_stop : IsStopLine stop
-  pub second : ℕ
-  pub taken : TakesAll err (take first due ++ take second stop)
+-- the error stream took a prefix of what is due, and then a prefix of the line that tells the stop
+abbrev pub TakesStopLines : (is_due : List ℕ → Type 0) → Change → Type 0
+TakesStopLines is_due err = (due : List ℕ) × is_due due × TakesStop due err
 
 -- a write failed: one of the line, or one of the output, and then the line tells it
 abbrev pub TellsWriteFault : Change → Change → Type 0
@@ -102,15 +98,19 @@ pub record Headline (commands : Commands) (call : Call) : Type 0 where
   pub prefix : ForCase commands call.words call.files (λ case. TakesPart call.out (text_of case))
   pub refused : IsRefusal call.status → TakesNothing call.out
   -- The error stream grew by the trace, or by the line that tells the refusal or the fault.
-  pub quiet : IsWhole call.status → IfSome (commands.reading call.words) (λ asked. TakesTrace (is_traced asked) call.journal call.err)
+  pub quiet : IsWhole call.status → TakesAll call.err (trace_for (commands.reading call.words) call.journal)
   pub line : ForCase commands call.words call.files (λ case. HasCaseLine call.status → TakesAll call.err (line_of case))
   pub read_fault : call.status ≡ 7 → TellsReadFault commands call
   pub write_fault : call.status ≡ 8 → TellsWriteFault call.out call.err
-  pub stopped : IsStop call.status → ForCase commands call.words call.files (λ case. TakesStopLines (IsDue case) call.err)
+  pub stopped : IsStop call.status → ForCase commands call.words call.files (λ case. TakesStopLines (IsDue case (trace_for (commands.reading call.words) call.journal)) call.err)
   -- No read failed where the status tells the case, and none was made for words of no command. Where a file that is read is not there, a read of it
   -- failed, or memory ran out before; status 8 then says that the line of that could not be written.
   pub untouched : TellsCase call.status → call.failed' ≡ call.failed
   pub unread : commands.reading call.words ≡ None → call.failed' ≡ call.failed
   pub missing : ForCase commands call.words call.files (λ case. IsMissing case → Grew call.failed call.failed' ⊎ (call.status ≡ 1) ⊎ Fails call.err)
-  -- The journal is empty where no run begins.
+  -- The journal is empty where no run begins. Else it is a journal of the run, and complete where the text is whole.
   pub journal : IsRefusal call.status ⊎ RunsNothing (commands.reading call.words) → IsEmpty call.journal
+  pub lawful : ForCase commands call.words call.files (λ case. ForRun case (λ work. IsJournalOf work call.journal))
+  pub complete : IsWhole call.status → ForCase commands call.words call.files (λ case. ForRun case (λ work. IsCompleteOf work call.journal))
+  -- The output holds all lines of each subthread that has retired; where the journal is not complete, it holds nothing past those of the next one.
+  pub retired : ForCase commands call.words call.files (λ case. ForRun case (λ work. TakesRetired work call.journal call.out))

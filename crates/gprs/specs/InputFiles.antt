@@ -1,10 +1,10 @@
 -- What the files beside a program give: those of its records and feeds, read in declared order.
 use Rattle.std.specs.Prelude.{◌≡◌, ◌⊎◌, ℕ, ◌-◌, ◌%◌, ◌<◌, ◌≤◌, ◌==◌, ◌&&◌, pos, ℤ, Bool, true, false, List, [], ◌∷◌, ◌++◌, length, replicate, sum_by, flat_map, Option, None, Some, Result, Ok, Err, nat_lt, nat_le, if◌then◌else◌}
-use Rattle.std.specs.Result.{result_map_both}
 use Rattle.std.proofs.Common.{inl, inr, arith}
 use Rattle.std.proofs.lemmas.Bool.{cases_Bool}
 use Rattle.std.proofs.lemmas.Bool.Decides.{nat_tests}
 use Rattle.gp_base.specs.Files.{bytes_of}
+use Rattle.gp_base.specs.declared.fault.Fault.{Fault}
 use Rattle.gp_base.specs.declared.feed.Feed.{Feed}
 use Rattle.gp_base.specs.declared.feed.Inputs.{Inputs}
 use Rattle.gp_base.specs.declared.limits.TheConstants.{MOST_FEED_CELLS, MOST_FILE_BYTES}
@@ -15,6 +15,7 @@ use Rattle.task_ast.specs.Names.{natural}
 use Rattle.batch_files.specs.Rows.{Broken, rows_of}
 use Rattle.batch_files.specs.Records.{records_by}
 use Rattle.batch_files.specs.Feeds.{feed_by}
+use Rattle.batch_files.specs.Faults.{faults_by}
 use Rattle.command_line.specs.declared.asked.Asked.{Asked}
 use Rattle.command_line.specs.declared.asked.Command.{Command}
 use Rattle.gprs.specs.Work.{Files, Supplied, Supplies, Lacks, Spoils, runs}
@@ -55,33 +56,47 @@ with_feed inputs (Some feed) = record inputs { feeds = inputs.feeds ++ feed ∷ 
 abbrev pub room_after : List Feed → ℕ
 room_after feeds = MOST_FEED_CELLS - sum_by (λ (feed : Feed). length feed.cells) feeds
 
--- what comes of the rows of a file, after these files
-abbrev pub by_rows : List Name → Name → Result Inputs Broken → Supplied
-by_rows names file (Ok inputs) = Supplies (names ++ file ∷ []) inputs []
-by_rows names file (Err broken) = Spoils (names ++ file ∷ []) (input_line file (kind_number broken.0) broken.1)
+-- what comes of the rows of a file, after these files: the next of what they mean, or the line of the first that breaks a rule
+abbrev pub by_rows : {T : Type 0} → List Name → Name → Result T Broken → (List Name → T → Supplied) → Supplied
+by_rows names file (Ok value) next = next (names ++ file ∷ []) value
+by_rows names file (Err broken) next = Spoils (names ++ file ∷ []) (input_line file (kind_number broken.0) broken.1)
 
 -- what comes of a file with these bytes, or of none, after these files
-abbrev pub by_file : List Name → Name → Option (List ℕ) → (List ℕ → Result Inputs Broken) → Supplied
-by_file names file None read = Lacks names file
-by_file names file (Some bytes) read = if nat_lt MOST_FILE_BYTES (length bytes) then Spoils (names ++ file ∷ []) (input_line file 6 0) else by_rows names file (read bytes)
+abbrev pub by_file : {T : Type 0} → List Name → Name → Option (List ℕ) → (List ℕ → Result T Broken) → (List Name → T → Supplied) → Supplied
+by_file names file None meant next = Lacks names file
+by_file names file (Some bytes) meant next = if nat_lt MOST_FILE_BYTES (length bytes) then Spoils (names ++ file ∷ []) (input_line file 6 0) else by_rows names file (meant bytes) next
 
--- the inputs with the cells of a record of this size, by the bytes of its file
-abbrev pub record_rows : Inputs → (size : ℕ) → List ℕ → Result Inputs Broken
-record_rows inputs size bytes = result_map_both (with_cells inputs) (λ broken. broken) (records_by size (rows_of bytes))
+-- the cells of a record of this size, by the bytes of its file, and the inputs with them
+abbrev pub record_rows : (size : ℕ) → List ℕ → Result (List ℤ) Broken
+record_rows size bytes = records_by size (rows_of bytes)
 
--- the inputs with a feed of so many fields, by the bytes of its file
-abbrev pub feed_rows : Inputs → (fields : ℕ) → List ℕ → Result Inputs Broken
-feed_rows inputs fields bytes = result_map_both (λ cells. with_feed inputs (feed_with fields cells)) (λ broken. broken) (feed_by fields (room_after inputs.feeds) (rows_of bytes))
+abbrev pub more_cells : Inputs → List Name → List ℤ → Supplied
+more_cells inputs names cells = Supplies names (with_cells inputs cells) []
+
+-- the cells of a feed of so many fields, for which there is so much room, by the bytes of its file, and the inputs with it
+abbrev pub feed_rows : (fields room : ℕ) → List ℕ → Result (List ℤ) Broken
+feed_rows fields room bytes = feed_by fields room (rows_of bytes)
+
+abbrev pub more_feed : Inputs → (fields : ℕ) → List Name → List ℤ → Supplied
+more_feed inputs fields names cells = Supplies names (with_feed inputs (feed_with fields cells)) []
+
+-- the faults of a file, by its bytes, and the inputs with them
+abbrev pub fault_rows : List ℕ → Result (List Fault) Broken
+fault_rows bytes = faults_by (rows_of bytes)
+
+abbrev pub more_faults : Inputs → List Name → List Fault → Supplied
+more_faults inputs names faults = Supplies names inputs faults
 
 -- what comes of a record of this size, which has cells of 0 where it names no file
 abbrev pub by_record : Files → List Name → Inputs → (size : ℕ) → Option Name → Supplied
 by_record files names inputs size None = Supplies names (with_cells inputs (replicate size (pos 0))) []
-by_record files names inputs size (Some file) = by_file names file (bytes_of files file) (record_rows inputs size)
+by_record files names inputs size (Some file) = by_file names file (bytes_of files file) (record_rows size) (more_cells inputs)
 
 -- what comes of a head, after these files and inputs
 abbrev pub load_head : Files → List Name → Inputs → Head → Supplied
 load_head files names inputs (RecHead name size by from line) = by_record files names inputs (natural size) from
-load_head files names inputs (FeedHead name fields file line) = by_file names file (bytes_of files file) (feed_rows inputs (natural fields))
+load_head files names inputs (FeedHead name fields file line) =
+    by_file names file (bytes_of files file) (feed_rows (natural fields) (room_after inputs.feeds)) (more_feed inputs (natural fields))
 load_head files names inputs head = Supplies names inputs []
 
 -- what comes after it, where nothing is wrong
@@ -110,7 +125,12 @@ names_in head = []
 abbrev pub file_names : List Head → List Name
 file_names heads = flat_map names_in heads
 
--- the files that are read for a command; one that does not run its program reads none
+-- what comes of the file of faults, after these files and inputs, where one is named
+abbrev pub load_faults : Files → List Name → Inputs → Option Name → Supplied
+load_faults files names inputs None = Supplies names inputs []
+load_faults files names inputs (Some file) = by_file names file (bytes_of files file) fault_rows (more_faults inputs)
+
+-- the files that are read for a command beside that of its faults; one that does not run its program reads none
 abbrev pub names_for : Command → List Head → List Name
 names_for command heads = if runs command then file_names heads else []
 
@@ -118,6 +138,6 @@ names_for command heads = if runs command then file_names heads else []
 abbrev pub supplied_for : Command → List Head → Files → Supplied
 supplied_for command heads files = if runs command then load files [] nothing heads else Supplies [] nothing []
 
--- what the files beside a program give for what is asked
+-- what the files beside a program give for what is asked: those that it names, and then that of the faults
 abbrev pub supplied_by : Asked → Program → Files → Supplied
-supplied_by asked program files = supplied_for asked.command program.heads files
+supplied_by asked program files = then_load (supplied_for asked.command program.heads files) (λ names inputs. load_faults files names inputs asked.faults)

@@ -1,12 +1,14 @@
 -- How the reading of files stands to what the files give.
-use Rattle.std.specs.Prelude.{◌≡◌, ◌⊎◌, ◌<◌, ◌≤◌, ℕ, List, [], ◌∷◌, ◌++◌, length, Contains, Option, Some, Result, Ok, Err, IsSomeAnd, ⊤}
+use Rattle.std.specs.Prelude.{◌≡◌, ◌⊎◌, ◌<◌, ◌≤◌, ◌+◌, ℕ, map, List, [], ◌∷◌, ◌++◌, length, Contains, Option, Some, Result, Ok, Err, IsSomeAnd, ⊤}
 use Rattle.gp_base.specs.Files.{GrowsByOnly}
+use Rattle.gp_base.specs.declared.fault.Faults.{Faults}
 use Rattle.gp_base.specs.declared.feed.Inputs.{Inputs}
 use Rattle.gp_base.specs.declared.limits.TheConstants.{MOST_CELLS, MOST_FIELDS, MOST_FILE_BYTES}
 use Rattle.task_ast.specs.declared.tree.Head.{Head}
 use Rattle.task_ast.specs.declared.tree.Head.TheVariants.{RecHead, FeedHead}
 use Rattle.task_ast.specs.Tree.{Name}
-use Rattle.task_ast.specs.Names.{natural}
+use Rattle.task_ast.specs.Names.{natural, records_of, cells_in}
+use Rattle.task_ast.specs.Inputs.{fields_of, fields_in}
 use Rattle.batch_files.specs.declared.fault.FileFault.{FileFault}
 use Rattle.batch_files.specs.declared.fault.FileFault.TheVariants as file
 use Rattle.batch_files.specs.Rows.{Broken}
@@ -99,3 +101,21 @@ AnswersLoad supplied names (Err (refused.BadInput line)) = (read : List Name) ×
 AnswersLoad supplied names (Err (refused.ReadFault name)) = Contains (names_of supplied) name
 AnswersLoad supplied names (Err refused.OutOfMemory) = ⊤
 AnswersLoad supplied names (Err refusal) = ⊥
+
+-- the answer to the file of faults, after these files and inputs
+abbrev pub AnswersFaults : (names : List Name) → Inputs → (named : List Name) → Supplied → Result Faults Refusal → Type 0
+AnswersFaults names inputs named supplied (Ok faults) = supplied ≡ Supplies (names ++ named) inputs faults.list
+AnswersFaults names inputs named supplied (Err (refused.BadInput line)) = (read : List Name) × (supplied ≡ Spoils read line)
+AnswersFaults names inputs named supplied (Err (refused.ReadFault name)) = Contains (names_of supplied) name
+AnswersFaults names inputs named supplied (Err refused.OutOfMemory) = ⊤
+AnswersFaults names inputs named supplied (Err refusal) = ⊥
+
+-- the inputs have as many record cells and feeds as these heads declare, each feed with its fields
+pub record Counts (heads : List Head) (inputs : Inputs) : Type 0 where
+  pub records : length inputs.records ≡ cells_in (records_of heads)
+  pub feeds : map fields_in inputs.feeds ≡ fields_of heads
+
+-- the inputs grew by what one head declares
+pub record Grows (head : Head) (before after : Inputs) : Type 0 where
+  pub records : length after.records ≡ length before.records + cells_in (records_of (head ∷ []))
+  pub feeds : map fields_in after.feeds ≡ map fields_in before.feeds ++ fields_of (head ∷ [])

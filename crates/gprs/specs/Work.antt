@@ -5,7 +5,7 @@ use Rattle.gp_base.specs.declared.feed.Inputs.{Inputs}
 use Rattle.gp_base.specs.declared.limits.Limits.{Limits}
 use Rattle.task_ast.specs.Tree.{Name, Program}
 use Rattle.command_line.specs.declared.asked.Command.{Command}
-use Rattle.command_line.specs.declared.asked.Command.TheVariants.{Check}
+use Rattle.command_line.specs.declared.asked.Command.TheVariants.{Run, Check, Soak}
 use Rattle.command_line.specs.declared.asked.Asked.{Asked}
 
 -- the files of a shelf, each by its name
@@ -32,9 +32,11 @@ pub data Supplied : Type 0 where
   -- the last of these files is refused with this line
   Spoils : List Name → List ℕ → Supplied
 
--- the commands of a top call: what words ask for, where they are those of a command, and what the files beside the program give
+-- the commands of a top call: what words ask for, where they are those of a command; which files that is done over, where the shelf has these; and
+-- what the files beside the program give
 pub record Commands : Type 0 where
   pub reading : List (List ℕ) → Option Asked
+  pub files : Asked → Files → Files
   pub supplied : Asked → Program → Files → Supplied
 
 -- the command runs its program, and does not only check it
@@ -42,10 +44,12 @@ abbrev pub runs : Command → Bool
 runs Check = false
 runs command = true
 
--- the words ask for a trace; no command takes such a word yet
+-- the words ask for a trace
 abbrev pub is_traced : Asked → Bool
-is_traced asked = false
+is_traced asked = asked.trace
 
--- the command runs its program over a journal; none does yet
+-- the command runs its program over a journal
 abbrev pub is_journalled : Command → Bool
+is_journalled Run = true
+is_journalled (Soak soak) = true
 is_journalled command = false

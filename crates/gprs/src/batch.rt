@@ -1,24 +1,30 @@
 // What a call is to do, from its words and the shelf.
-ghost use Rattle.std.specs.Prelude.{◌≡◌, ◌<◌, ◌≤◌, Some, None, IfSome, length};
+ghost use Rattle.std.specs.Prelude.{◌≡◌, ◌<◌, ◌≤◌, List, Some, None, IfOk, IfSome, length, true};
 ghost use Rattle.gp_base.specs.declared.limits.TheConstants.{MOST_PROGRAM_BYTES};
 ghost use Rattle.task_ast.specs.View.{plain_program};
-ghost use Rattle.command_line.specs.Words.{texts, asked_by};
+ghost use Rattle.task_ast.specs.Tree.{Name};
+ghost use Rattle.task_ast.specs.Inputs.{AreInputsOf};
+ghost use Rattle.soak_batch.specs.Files.{soak_files};
+ghost use Rattle.command_line.specs.Words.{texts, asked_by, IsWithinLimits};
+ghost use Rattle.command_line.specs.declared.asked.Command.TheVariants as command;
+ghost use Rattle.gprs.specs.Work.{runs};
 ghost use Rattle.gprs.specs.PlainText.{commands};
 ghost use Rattle.gprs.specs.Lines.{fault_line, number_of};
-ghost use Rattle.gprs.specs.Case.{IsCase};
+ghost use Rattle.gprs.specs.Case.{IsCaseOf, IsCase};
 ghost use Rattle.lock_checker.specs.Accepted.{program_of};
 ghost use Rattle.gprs.specs.Loading.{ReadsAmong, AnswersLoad};
 ghost use Rattle.gprs.specs.InputFiles.{names_for, supplied_for};
 ghost use Rattle.gprs.specs.declared.batch.Refusal.TheVariants.{OutOfMemory};
-ghost use Rattle.gprs.specs.Decided.{AnswersCase, AnswersNoCommand, IsAcceptedIn, accepted_case, IsRefusedWith, RefusesLexing, RefusesParsing, RefusesChecking, TouchesShelf};
+ghost use Rattle.gprs.specs.Decided.{AnswersCase, AnswersNoCommand, IsAcceptedIn, accepted_case, IsRefusedWith, RefusesLexing, RefusesParsing, RefusesChecking, TouchesShelf, MayRun};
 
-use crate::inputs::read_inputs;
+use crate::inputs::{read_inputs, read_struck};
 use crate::lines::{TOO_LONG, fault_line};
 use crate::work::{Batch, runs};
-use command_line::{Asked, Command, read_words};
+use command_line::{Asked, Command, Soak, read_words};
 use gp_base::limits::MOST_PROGRAM_BYTES;
-use gp_base::{Inputs, Name, Seq, Shelf, ShelfFault, Text};
+use gp_base::{Inputs, Name, NeverShelf, Seq, Shelf, ShelfFault, Text};
 use lock_checker::{CheckFault, Checked, check};
+use soak_batch::soak_files;
 use std::alloc::{AllocError, Global};
 use task_ast::{CheckKind, Program};
 use task_parser::{LexFault, ParseFault, lex, parse};
@@ -137,9 +143,11 @@ fn inputs_for<H: Shelf>(
     checked: &Checked,
     shelf: &mut H,
 ) -> Result<Inputs, Refusal>
+    ensures kept { H.files shelf.new ≡ H.files shelf.old }
     ensures failed { ReadsAmong (names_for command (program_of checked.now).heads) (H.failed shelf.old) (H.failed shelf.new) result }
     ensures told { IfSome (H.files shelf.old) (λ files.
         AnswersLoad (supplied_for command (program_of checked.now).heads files) (names_for command (program_of checked.now).heads) result) }
+    ensures inputs { runs command ≡ true → IfOk result (AreInputsOf (plain_program (program_of checked.now))) }
 {
     if runs(command) {
         return read_inputs(alloc, shelf, checked.program().heads.as_slice());
@@ -157,37 +165,38 @@ fn batch_of<H: Shelf>(
     checked: Checked,
     shelf: &mut H,
 ) -> Result<Batch, Refusal>
+    requires { IsWithinLimits asked }
     ensures shelf { TouchesShelf (Some asked) (H.failed shelf.old) (H.failed shelf.new) result }
     ensures case { IfSome (H.files shelf.old) (λ files.
         AnswersCase (λ case. accepted_case asked (plain_program (program_of checked)) files ≡ case) result) }
+    ensures sound { IfOk result MayRun }
+    ensures asked { IfOk result (λ batch. batch.asked ≡ asked) }
 {
     let inputs = match inputs_for(alloc, asked.command, &checked, shelf) {
         Ok(inputs) => inputs,
+        Err(refusal) => return Err(refusal),
+    };
+    let faults = match read_struck(alloc, shelf, &asked.faults) {
+        Ok(faults) => faults,
         Err(refusal) => return Err(refusal),
     };
     Ok(Batch {
         asked,
         checked,
         inputs,
+        faults,
     })
 }
 
-/// What the words ask for, with the program that they name and the files that the program names. The first refusal met
-/// is the answer.
-pub fn read_batch<H: Shelf>(
-    alloc: Global,
-    words: &[String],
-    shelf: &mut H,
-) -> Result<Batch, Refusal>
-    ensures no_command { asked_by (texts words.now) ≡ None → AnswersNoCommand result × (shelf.new ≡ shelf.old) }
-    ensures shelf { TouchesShelf (asked_by (texts words.now)) (H.failed shelf.old) (H.failed shelf.new) result }
-    ensures case { IfSome (H.files shelf.old) (λ files. AnswersCase (IsCase commands (texts words.now) files) result) }
+// What is asked, on the program that its file has, with the files that the program names, and that of the faults. The first
+// refusal met is the answer.
+fn read_asked<H: Shelf>(alloc: Global, asked: Asked, shelf: &mut H) -> Result<Batch, Refusal>
+    requires { IsWithinLimits asked }
+    ensures shelf { TouchesShelf (Some asked) (H.failed shelf.old) (H.failed shelf.new) result }
+    ensures case { IfSome (H.files shelf.old) (λ files. AnswersCase (IsCaseOf commands asked files) result) }
+    ensures sound { IfOk result MayRun }
+    ensures asked { IfOk result (λ batch. batch.asked ≡ asked) }
 {
-    let asked = match read_words(alloc, words) {
-        Ok(Some(asked)) => asked,
-        Ok(None) => return Err(Refusal::Usage),
-        Err(_) => return Err(Refusal::OutOfMemory),
-    };
     let text = match shelf.read(&asked.program, MOST_PROGRAM_BYTES) {
         Ok(text) => text,
         Err(ShelfFault::TooLong) => return Err(refused(alloc, TOO_LONG)),
@@ -198,4 +207,56 @@ pub fn read_batch<H: Shelf>(
         Ok(checked) => batch_of(alloc, asked, checked, shelf),
         Err(refusal) => Err(refusal),
     }
+}
+
+// The batch that the program makes itself. All files of it are there, so none of them can fail to be read.
+fn read_made(alloc: Global, asked: Asked, soak: Soak) -> Result<Batch, Refusal>
+    requires within { IsWithinLimits asked }
+    requires made { asked.command ≡ command.Soak soak }
+    ensures shelf { (failed : List Name) → TouchesShelf (Some asked) failed failed result }
+    ensures case { AnswersCase (IsCaseOf commands asked (soak_files soak.moves soak.start)) result }
+    ensures sound { IfOk result MayRun }
+    ensures asked { IfOk result (λ batch. batch.asked ≡ asked) }
+{
+    let files = soak_files(alloc, soak.moves, soak.start)?;
+    let mut shelf = NeverShelf::new(alloc, files);
+    match read_asked(alloc, asked, &mut shelf) {
+        Err(Refusal::ReadFault(_)) => Err(Refusal::OutOfMemory),
+        result => result,
+    }
+}
+
+// What is asked, over the files of the shelf, or over those that the program makes itself.
+fn read_for<H: Shelf>(alloc: Global, asked: Asked, shelf: &mut H) -> Result<Batch, Refusal>
+    requires { IsWithinLimits asked }
+    ensures shelf { TouchesShelf (Some asked) (H.failed shelf.old) (H.failed shelf.new) result }
+    ensures case { IfSome (H.files shelf.old) (λ files. AnswersCase (IsCaseOf commands asked (commands.files asked files)) result) }
+    ensures sound { IfOk result MayRun }
+    ensures asked { IfOk result (λ batch. batch.asked ≡ asked) }
+{
+    if let Command::Soak(soak) = asked.command {
+        return read_made(alloc, asked, soak);
+    }
+    read_asked(alloc, asked, shelf)
+}
+
+/// What the words ask for, with the program that they name and the files that the program names, or with the files that the
+/// program makes itself. The first refusal met is the answer.
+pub fn read_batch<H: Shelf>(
+    alloc: Global,
+    words: &[String],
+    shelf: &mut H,
+) -> Result<Batch, Refusal>
+    ensures no_command { asked_by (texts words.now) ≡ None → AnswersNoCommand result × (shelf.new ≡ shelf.old) }
+    ensures shelf { TouchesShelf (asked_by (texts words.now)) (H.failed shelf.old) (H.failed shelf.new) result }
+    ensures case { IfSome (H.files shelf.old) (λ files. AnswersCase (IsCase commands (texts words.now) files) result) }
+    ensures sound { IfOk result MayRun }
+    ensures asked { IfOk result (λ batch. asked_by (texts words.now) ≡ Some batch.asked) }
+{
+    let asked = match read_words(alloc, words) {
+        Ok(Some(asked)) => asked,
+        Ok(None) => return Err(Refusal::Usage),
+        Err(_) => return Err(Refusal::OutOfMemory),
+    };
+    read_for(alloc, asked, shelf)
 }

@@ -1,21 +1,20 @@
 // Reads the files that a program names, in declared order.
-ghost use Rattle.std.specs.Prelude.{◌≡◌, ◌<◌, ◌≤◌, ◌-◌, ◌^◌, [], ◌∷◌, ◌++◌, length, List, replicate, pos, IfOk, IfSome, OnOk};
+ghost use Rattle.std.specs.Prelude.{◌≡◌, ◌<◌, ◌≤◌, ◌+◌, ◌-◌, ◌^◌, [], ◌∷◌, ◌++◌, length, map, List, replicate, pos, IfOk, IfSome, OnOk};
 ghost use Rattle.gp_base.specs.declared.limits.TheConstants.{MOST_FEED_CELLS};
 ghost use Rattle.gp_base.specs.Files.{bytes_of};
+ghost use Rattle.gp_base.specs.declared.feed.Inputs.{Inputs};
 ghost use Rattle.task_ast.specs.Tree.{Name};
 ghost use Rattle.task_ast.specs.Names.{natural};
-ghost use Rattle.batch_files.specs.Rows.{rows_of};
-ghost use Rattle.batch_files.specs.Records.{records_by};
-ghost use Rattle.batch_files.specs.Feeds.{feed_by};
+ghost use Rattle.task_ast.specs.Inputs.{fields_in};
 ghost use Rattle.gprs.specs.Lines.{input_line, kind_number};
-ghost use Rattle.gprs.specs.InputFiles.{nothing, room_after, named, by_file, by_record, record_rows, feed_rows, load_head, load, names_in, file_names};
-ghost use Rattle.gprs.specs.Loading.{IsInputRefused, IsUnread, RefusesFile, ReadsAmong, AnswersFile, AnswersRows, IsReadable, AreReadable, seen, StepsTo, AnswersLoad};
+ghost use Rattle.gprs.specs.InputFiles.{nothing, room_after, named, by_file, by_record, record_rows, feed_rows, fault_rows, more_cells, more_feed, load_head, load_faults, load, names_in, file_names};
+ghost use Rattle.gprs.specs.Loading.{IsInputRefused, IsUnread, RefusesFile, ReadsAmong, AnswersFile, AnswersRows, IsReadable, AreReadable, seen, StepsTo, AnswersLoad, AnswersFaults, Grows, Counts};
 
 use crate::batch::Refusal;
 use crate::lines::input_line;
-use batch_files::{FileFault, FileKind, read_feed, read_records};
+use batch_files::{FileFault, FileKind, read_faults, read_feed, read_records};
 use gp_base::limits::{MOST_FEED_CELLS, MOST_FILE_BYTES};
-use gp_base::{Feed, Inputs, Name, Nums, Seq, Shelf, ShelfFault, Text};
+use gp_base::{Faults, Feed, Inputs, Name, Nums, Seq, Shelf, ShelfFault, Text};
 use std::alloc::{AllocError, Global};
 use task_ast::Head;
 
@@ -86,7 +85,8 @@ fn record_cells<H: Shelf>(
     ensures kept { H.files shelf.new ≡ H.files shelf.old }
     ensures failed { ReadsAmong (name.now ∷ []) (H.failed shelf.old) (H.failed shelf.new) result }
     ensures told { IfSome (H.files shelf.old) (λ files.
-        AnswersRows (λ cells. cells) name.now (λ bytes. records_by size (rows_of bytes)) (bytes_of files name.now) result) }
+        AnswersRows (λ cells. cells) name.now (record_rows size) (bytes_of files name.now) result) }
+    ensures size { IfOk result (λ cells. length cells ≡ size) }
 {
     let text = read_file(alloc, shelf, name)?;
     match read_records(alloc, &text, size) {
@@ -108,7 +108,7 @@ fn feed_of<H: Shelf>(
     ensures kept { H.files shelf.new ≡ H.files shelf.old }
     ensures failed { ReadsAmong (name.now ∷ []) (H.failed shelf.old) (H.failed shelf.new) result }
     ensures told { IfSome (H.files shelf.old) (λ files.
-        AnswersRows (λ feed. feed.cells) name.now (λ bytes. feed_by fields room (rows_of bytes)) (bytes_of files name.now) result) }
+        AnswersRows (λ feed. feed.cells) name.now (feed_rows fields room) (bytes_of files name.now) result) }
     ensures fields { IfOk result (λ feed. feed.fields ≡ fields) }
 {
     let text = read_file(alloc, shelf, name)?;
@@ -179,7 +179,8 @@ fn load_cells<H: Shelf>(
     ensures kept { H.files shelf.new ≡ H.files shelf.old }
     ensures failed { ReadsAmong (file.now ∷ []) (H.failed shelf.old) (H.failed shelf.new) result }
     ensures told { IfSome (H.files shelf.old) (λ files. (names : List Name) →
-        StepsTo names (file.now ∷ []) (by_file names file.now (bytes_of files file.now) (record_rows (seen loading.old) size)) (seen loading.new) result) }
+        StepsTo names (file.now ∷ []) (by_file names file.now (bytes_of files file.now) (record_rows size) (more_cells (seen loading.old))) (seen loading.new) result) }
+    ensures records { OnOk result (length loading.new.records.items ≡ length loading.old.records.items + size) }
     ensures feeds { loading.new.feeds.items ≡ loading.old.feeds.items }
     ensures room { loading.new.room ≡ loading.old.room }
 {
@@ -203,6 +204,7 @@ fn load_record<H: Shelf>(
     ensures failed { ReadsAmong (named from.now) (H.failed shelf.old) (H.failed shelf.new) result }
     ensures told { IfSome (H.files shelf.old) (λ files. (names : List Name) →
         StepsTo names (named from.now) (by_record files names (seen loading.old) size from.now) (seen loading.new) result) }
+    ensures records { OnOk result (length loading.new.records.items ≡ length loading.old.records.items + size) }
     ensures feeds { loading.new.feeds.items ≡ loading.old.feeds.items }
     ensures room { loading.new.room ≡ loading.old.room }
 {
@@ -228,8 +230,10 @@ fn load_feed<H: Shelf>(
     ensures kept { H.files shelf.new ≡ H.files shelf.old }
     ensures failed { ReadsAmong (file.now ∷ []) (H.failed shelf.old) (H.failed shelf.new) result }
     ensures told { IfSome (H.files shelf.old) (λ files. (names : List Name) →
-        StepsTo names (file.now ∷ []) (by_file names file.now (bytes_of files file.now) (feed_rows (seen loading.old) fields)) (seen loading.new) result) }
+        StepsTo names (file.now ∷ []) (by_file names file.now (bytes_of files file.now) (feed_rows fields (room_after loading.old.feeds.items)) (more_feed (seen loading.old) fields)) (seen loading.new) result) }
     ensures room { OnOk result (loading.new.room ≡ room_after loading.new.feeds.items) }
+    ensures records { loading.new.records.items ≡ loading.old.records.items }
+    ensures feeds { OnOk result (map fields_in loading.new.feeds.items ≡ map fields_in loading.old.feeds.items ++ fields ∷ []) }
 {
     let feed = match feed_of(alloc, shelf, file, fields, loading.room) {
         Ok(feed) => feed,
@@ -252,6 +256,7 @@ fn load_head<H: Shelf>(
     ensures failed { ReadsAmong (names_in head.now) (H.failed shelf.old) (H.failed shelf.new) result }
     ensures told { IfSome (H.files shelf.old) (λ files. (names : List Name) →
         StepsTo names (names_in head.now) (load_head files names (seen loading.old) head.now) (seen loading.new) result) }
+    ensures grows { OnOk result (Grows head.now (seen loading.old) (seen loading.new)) }
     ensures room { OnOk result (loading.new.room ≡ room_after loading.new.feeds.items) }
 {
     match head {
@@ -272,8 +277,10 @@ pub fn read_inputs<H: Shelf>(
     heads: &[Head],
 ) -> Result<Inputs, Refusal>
     requires { AreReadable heads.now }
+    ensures kept { H.files shelf.new ≡ H.files shelf.old }
     ensures failed { ReadsAmong (file_names heads.now) (H.failed shelf.old) (H.failed shelf.new) result }
     ensures told { IfSome (H.files shelf.old) (λ files. AnswersLoad (load files [] nothing heads.now) (file_names heads.now) result) }
+    ensures counts { IfOk result (Counts heads.now) }
 {
     let mut loading = Loading {
         records: Vec::new(alloc),
@@ -290,4 +297,33 @@ pub fn read_inputs<H: Shelf>(
         records: Seq::from_vec(loading.records),
         feeds: Seq::from_vec(loading.feeds),
     })
+}
+
+// The faults of a file.
+fn faults_of<H: Shelf>(alloc: Global, shelf: &mut H, name: &Name) -> Result<Faults, Refusal>
+    ensures failed { ReadsAmong (name.now ∷ []) (H.failed shelf.old) (H.failed shelf.new) result }
+    ensures told { IfSome (H.files shelf.old) (λ files.
+        AnswersRows (λ faults. faults.list) name.now fault_rows (bytes_of files name.now) result) }
+{
+    let text = read_file(alloc, shelf, name)?;
+    match read_faults(alloc, &text) {
+        Ok(faults) => Ok(faults),
+        Err(fault) => Err(refused_file(alloc, name, fault)),
+    }
+}
+
+/// Reads the file of faults, where one is named.
+pub fn read_struck<H: Shelf>(
+    alloc: Global,
+    shelf: &mut H,
+    name: &Option<Name>,
+) -> Result<Faults, Refusal>
+    ensures failed { ReadsAmong (named name.now) (H.failed shelf.old) (H.failed shelf.new) result }
+    ensures told { IfSome (H.files shelf.old) (λ files. (names : List Name) (inputs : Inputs) →
+        AnswersFaults names inputs (named name.now) (load_faults files names inputs name.now) result) }
+{
+    match name {
+        Some(file) => faults_of(alloc, shelf, file),
+        None => Ok(Faults::none(alloc)),
+    }
 }

@@ -4,9 +4,13 @@
 mod batch;
 mod file_shelf;
 mod inputs;
+mod journalled;
 mod lines;
+mod plan;
 mod run;
 mod std_sink;
+#[cfg(test)]
+mod struck;
 #[cfg(test)]
 mod tests;
 mod texts;

@@ -3,7 +3,9 @@
 use crate::file_shelf::FileShelf;
 use crate::std_sink::StdSink;
 use crate::top::gprs_run;
-use gp_base::{FreeGate, MemShelf, MemSink, Name, Seq, Shelf, ShelfFault, Text, put_all};
+use gp_base::{
+    FreeGate, Gate, Journal, MemShelf, MemSink, Name, Seq, Shelf, ShelfFault, Text, put_all,
+};
 use std::alloc::{AllocError, Global};
 use std::fs;
 use std::process::Abort;
@@ -14,12 +16,12 @@ const USAGE: &str = "gprs: usage: run | one | check | soak\n";
 
 const TAIL: &str = "records\nrestarts\ncounts\nsubthreads 1\nrestarts 0\nredone 0\nunused 0\n";
 
-const EMPTY: &str = "task main() { }";
+pub const EMPTY: &str = "task main() { }";
 
 const PRINTS: &str = "task main() { print 7; print 0042; }";
 
 // Sums, quotients and remainders at the ends of the numbers.
-const EDGES: &str = "task main() {
+pub const EDGES: &str = "task main() {
   var $a;
   $a = 9223372036854775807;
   print $a + 1;
@@ -28,7 +30,7 @@ const EDGES: &str = "task main() {
 }
 ";
 
-const ADD: &str = "lock tally[1];
+pub const ADD: &str = "lock tally[1];
 record total[1] by tally;
 task add(n) {
   var $t;
@@ -188,28 +190,29 @@ check 2 at line 5: task main() {|x = 1;|}||task main() { }
 check 8 at line 2: lock a[1];|task main() { while 1 {|lock a[0]; } x = 1; }
 check 1 at line 3: lock a[1];|task main() { if 1 {|x = 1; lock a[0]; } }"#;
 
-// How many bytes the sinks take at once, and the calls that fail; at 0 none does.
+/// How many bytes the sinks take at once, and the calls that fail; at 0 none does.
 #[derive(Clone, Copy)]
-struct Devices {
-    most: usize,
-    read: u64,
-    output: u64,
-    error: u64,
+pub struct Devices {
+    pub most: usize,
+    pub read: u64,
+    pub output: u64,
+    pub error: u64,
 }
 
-const SOUND: Devices = Devices {
+pub const SOUND: Devices = Devices {
     most: 1000,
     read: 0,
     output: 0,
     error: 0,
 };
 
-// What a call answered, and what its sinks took.
+/// What a call answered, and what its sinks took.
 #[derive(Drop)]
-struct Answer {
-    status: u8,
-    output: MemSink,
-    error: MemSink,
+pub struct Answer {
+    pub status: u8,
+    pub output: MemSink,
+    pub error: MemSink,
+    pub journal: Journal,
 }
 
 // The words between spaces.
@@ -224,19 +227,22 @@ fn words_of(alloc: Global, text: &str) -> Result<Vec<String>, AllocError> {
     Ok(words)
 }
 
-// The bytes of the three files of a shelf.
+/// The bytes of the four files of a shelf.
 #[derive(Clone, Copy)]
-struct Files<'a> {
-    program: &'a [u8],
-    acct: &'a [u8],
-    moves: &'a [u8],
+pub struct Files<'a> {
+    pub program: &'a [u8],
+    pub acct: &'a [u8],
+    pub moves: &'a [u8],
+    pub faults: &'a [u8],
 }
 
-fn alone(program: &str) -> Files<'_> {
+/// A program, with empty files beside it.
+pub fn alone(program: &str) -> Files<'_> {
     Files {
         program: program.as_bytes(),
         acct: &[],
         moves: &[],
+        faults: &[],
     }
 }
 
@@ -254,7 +260,11 @@ fn shelf_of(alloc: Global, files: Files<'_>, fails: u64) -> Result<MemShelf, All
         Name::from_slice(alloc, b"moves.csv")?,
         Text::from_slice(alloc, files.moves)?,
     );
-    let files = Seq::from_vec(vec![in alloc; program, acct, moves]?);
+    let faults = (
+        Name::from_slice(alloc, b"f.csv")?,
+        Text::from_slice(alloc, files.faults)?,
+    );
+    let files = Seq::from_vec(vec![in alloc; program, acct, moves, faults]?);
     Ok(MemShelf::new(alloc, files, Seq::from_slice(alloc, &[fails])?))
 }
 
@@ -262,27 +272,40 @@ fn sink_of(alloc: Global, most: usize, fails: u64) -> Result<MemSink, AllocError
     Ok(MemSink::new(alloc, most.max(1), Seq::from_slice(alloc, &[fails])?))
 }
 
-fn answer_of<R: Threads + Sync + AllocGlobal>(
+/// What the words come to over these files, where tasks enter this gate.
+pub fn answer_through<R: Threads + Sync + AllocGlobal, G: Gate>(
     rt: &R,
     words: &str,
     files: Files<'_>,
     devices: Devices,
+    gate: &G,
 ) -> Result<Answer, AllocError> {
     let alloc = rt.alloc();
     let words = words_of(alloc, words)?;
     let mut shelf = shelf_of(alloc, files, devices.read)?;
     let mut output = sink_of(alloc, devices.most, devices.output)?;
     let mut error = sink_of(alloc, devices.most, devices.error)?;
-    let outcome = gprs_run(rt, &words, &mut shelf, &mut output, &mut error, &FreeGate);
+    let outcome = gprs_run(rt, &words, &mut shelf, &mut output, &mut error, gate);
     Ok(Answer {
         status: outcome.status,
         output,
         error,
+        journal: outcome.journal,
     })
 }
 
-// The words with these files have this status, output and line on the error stream.
-fn gives<R: Threads + Sync + AllocGlobal>(
+/// What the words come to over these files.
+pub fn answer_of<R: Threads + Sync + AllocGlobal>(
+    rt: &R,
+    words: &str,
+    files: Files<'_>,
+    devices: Devices,
+) -> Result<Answer, AllocError> {
+    answer_through(rt, words, files, devices, &FreeGate)
+}
+
+/// The words with these files have this status, output and line on the error stream.
+pub fn gives<R: Threads + Sync + AllocGlobal>(
     rt: &R,
     words: &str,
     files: Files<'_>,
@@ -377,6 +400,9 @@ fn words_of_no_command(rt: HostRuntime) -> Result<(), Fail> {
         "run p.gp --workers 65",
         "run p.gp --turns 0",
         "run p.gp --crew fast",
+        "one p.gp --faults f.csv",
+        "soak 3 1",
+        "soak 2000",
     ];
     for words in rows {
         assert!(rt; refuses(&rt, words, EMPTY, 2, USAGE)?);
@@ -533,6 +559,7 @@ fn files_beside_the_program(rt: HostRuntime) -> Result<(), Fail> {
         program: FILES.as_bytes(),
         acct: b"0,5\n1,-7\n",
         moves: b"0,1,3\n",
+        ..alone("")
     };
     assert!(rt; ends(&rt, "", files, 0, "records\nacct: 5 -4\n", 3)?);
     let unmoved = Files { acct: b"", ..files };

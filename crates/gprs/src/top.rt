@@ -5,21 +5,14 @@ ghost use Rattle.gprs.specs.PlainText.{commands};
 ghost use Rattle.gprs.specs.Case.{OneCase, SomeCase};
 ghost use Rattle.gprs.specs.Answers.{change_of};
 ghost use Rattle.gprs.specs.Decided.{RefusalEnds};
-ghost use Rattle.gprs.specs.Headline.{Headline, IsEmpty};
+ghost use Rattle.gprs.specs.Headline.{Headline};
 
 use crate::batch::{Refusal, read_batch};
+use crate::journalled::{Outcome, carry_out, empty_journal};
 use crate::lines::{OUT_OF_MEMORY, USAGE, end_with, read_fault_line};
-use crate::run::carry_out;
-use gp_base::{Gate, Journal, Seq, Shelf, Sink};
+use gp_base::{Gate, Shelf, Sink};
 use std::alloc::Global;
 use std::thread::Threads;
-
-/// The answer of a call: its status, and the journal of the run.
-#[derive(Drop)]
-pub struct Outcome {
-    pub status: u8,
-    pub journal: Journal,
-}
 
 // Tells why there is nothing to do, and answers the status.
 fn refuse<E: Sink>(alloc: Global, refusal: Refusal, err: &mut E) -> u8
@@ -47,28 +40,18 @@ pub fn some_case()
     ensures { SomeCase }
 {}
 
-// A journal of no event.
-fn empty_journal(alloc: Global) -> Journal
-    ensures { IsEmpty result }
-{
-    Journal {
-        events: Seq::new(alloc),
-        restarts: Seq::new(alloc),
-    }
-}
-
 /// Does what the words ask for, over what is handed in. The words are those after the program's name. The status is
 /// 0 where the program ran, or where it was checked and is accepted, 1 where memory ran out, 2 where the words are
 /// those of no command, 3 where the program is refused, 4 where a file beside it is refused, 7 where a file could not be read, and 8 where a write failed.
-/// At 1, 2, 3, 4 and 7 one line on `err` tells it, and at 8 where `out` failed. The journal is empty, since no run is
-/// journalled yet.
+/// At 1, 2, 3, 4 and 7 one line on `err` tells it, and at 8 where `out` failed. The journal is that of the run, up to where it
+/// stopped; it is empty where none began.
 pub fn gprs_run<R: Threads + Sync + AllocGlobal, H: Shelf, O: Sink, E: Sink, G: Gate>(
     rt: &R,
     words: &[String],
     shelf: &mut H,
     out: &mut O,
     err: &mut E,
-    _gate: &G,
+    gate: &G,
 ) -> Outcome
     ensures headline { Headline commands (record {
       words = texts words.now;
@@ -86,13 +69,7 @@ pub fn gprs_run<R: Threads + Sync + AllocGlobal, H: Shelf, O: Sink, E: Sink, G: 
 {
     let alloc = rt.alloc();
     match read_batch(alloc, words, shelf) {
-        Ok(batch) => {
-            let status = carry_out(alloc, &batch, out, err);
-            Outcome {
-                status,
-                journal: empty_journal(alloc),
-            }
-        }
+        Ok(batch) => carry_out(rt, alloc, batch, out, err, gate),
         Err(refusal) => {
             let status = refuse(alloc, refusal, err);
             Outcome {

@@ -2,6 +2,7 @@ use Rattle.std.proofs.Common.{◌∙◌, Err, subst}
 use Rattle.gprs.specs.InputFiles.{names_in}
 use Rattle.gprs.specs.Loading.{seen, ReadsAmong}
 use Rattle.gprs.proofs.Loads.{loads_more, loads_stop, among_all, readable_at}
+use Rattle.gprs.proofs.Sizes.{counts_more, counts_all}
 use Rattle.gprs.proofs.inputs.read_inputs.Goals as goal
 
 pub returns-in-Err-clause-failed : goal.returns-in-Err-clause-failed
@@ -23,6 +24,7 @@ loop-head-preserved g c =
       kept = c.in-Ok.ensures.kept ∙ inv.kept;
       failed = c.in-Ok.ensures.failed ∙ inv.failed;
       room = c.in-Ok.ensures.room;
+      counts = counts_more c.args.heads.now c.loop-head.head-index c.head-item.result (seen c.loop-head.loading) (seen c.load_head.new.loading) c.loop-head-test.true c.head-item.is inv.counts c.in-Ok.ensures.grows;
       readable = (readable_at c.args.heads.now c.loop-head.head-index c.head-item.result c.loop-head-test.true c.head-item.is inv.readable).1;
       told = loads_more (g.H.Shelf.files c.loop-head.shelf) (g.H.Shelf.files c.args.shelf.now) c.args.heads.now c.loop-head.head-index c.head-item.result (seen c.loop-head.loading) (seen c.load_head.new.loading)
           inv.kept c.loop-head-test.true c.head-item.is inv.told c.in-Ok.ensures.told;

@@ -1,5 +1,5 @@
 use Rattle.std.proofs.Common.{◌≡◌, take}
-use Rattle.gprs.specs.Texts.{printed}
+use Rattle.restart_log.specs.Lines.{printed}
 use Rattle.gprs.specs.PlainText.{lines_in}
 use Rattle.gprs.proofs.texts.printed.Given as goal
 

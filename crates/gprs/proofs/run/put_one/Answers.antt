@@ -1,13 +1,14 @@
-use Rattle.std.proofs.Common.{[], rules, subst, ap, ◌∙◌}
+use Rattle.std.proofs.Common.{[], rules, subst, ap, ◌∙◌, refl, length}
 use Rattle.std.specs.Io.KnownBytes.{Appends}
 use Rattle.gp_base.specs.Sinks.{AppendsPrefix}
 use Rattle.gprs.specs.Case.{end_status}
 use Rattle.gprs.specs.Decided.{work_of}
 use Rattle.gprs.specs.PlainText.{plain_ran, lines_in, ran_in}
-use Rattle.gprs.proofs.PlainTexts.{plain_ran-run}
-use Rattle.gprs.specs.Texts.{printed, tail_text}
+use Rattle.gprs.proofs.PlainTexts.{plain_ran-run, tail_by}
+use Rattle.restart_log.specs.Lines.{printed}
+use Rattle.gprs.specs.Texts.{tail_text}
 use Rattle.gprs.proofs.RunPieces.{part_of_first, after_first, part_of_second, after_second, part_of_third, whole_text}
-use Rattle.gprs.proofs.run.put_run.Goals as goal
+use Rattle.gprs.proofs.run.put_one.Goals as goal
 
 pub returns-in_err-put_all-clause-prefix : goal.returns-in_err-put_all-clause-prefix
 returns-in_err-put_all-clause-prefix g c =
@@ -61,8 +62,7 @@ returns-in_err-put_all-3-clause-prefix g c =
     let third = g.O.Sink.written c.put_all-3.new.to in
     let is = plain_ran-run (work_of c.args.batch.now) c.in_ok-ran.ran c.in_ok-ran.ensures in
     let lines = c.deref.ensures.value ∙ c.in_ok-text.ensures ∙ ap (λ order. printed (lines_in order)) c.as_slice.ensures ∙ ap (λ r. printed r.lines) is in
-    let heads = c.as_slice-2.ensures ∙ ap (λ p. p.heads) c.program.ensures in
-    let tail = c.deref-2.ensures.value ∙ c.in_ok-tail.ensures ∙ ap (λ h. tail_text (ran_in h c.in_ok-ran.ran) [] 0) heads ∙ ap (λ r. tail_text r [] 0) is in
+    let tail = tail_by (work_of c.args.batch.now) c.in_ok-ran.ran c.len-subthreads.result c.as_slice-3.result.now c.in_ok-tail.tail c.as_slice-2.result.now is c.as_slice-2.ensures c.len-subthreads.ensures c.in_ok-tail.ensures c.as_slice-3.ensures in
     let prefix = part_of_third ran before first second c.in_ok-put_all.ensures.all third (subst (Appends first second) lines c.in_ok-put_all-2.ensures.all)
     (subst (AppendsPrefix second third) tail c.in_err-put_all-3.ensures.prefix) in
     search (rules, prefix)
@@ -76,8 +76,7 @@ returns-clause-all g c =
     let third = g.O.Sink.written c.put_all-3.new.to in
     let is = plain_ran-run (work_of c.args.batch.now) c.in_ok-ran.ran c.in_ok-ran.ensures in
     let lines = c.deref.ensures.value ∙ c.in_ok-text.ensures ∙ ap (λ order. printed (lines_in order)) c.as_slice.ensures ∙ ap (λ r. printed r.lines) is in
-    let heads = c.as_slice-2.ensures ∙ ap (λ p. p.heads) c.program.ensures in
-    let tail = c.deref-2.ensures.value ∙ c.in_ok-tail.ensures ∙ ap (λ h. tail_text (ran_in h c.in_ok-ran.ran) [] 0) heads ∙ ap (λ r. tail_text r [] 0) is in
+    let tail = tail_by (work_of c.args.batch.now) c.in_ok-ran.ran c.len-subthreads.result c.as_slice-3.result.now c.in_ok-tail.tail c.as_slice-2.result.now is c.as_slice-2.ensures c.len-subthreads.ensures c.in_ok-tail.ensures c.as_slice-3.ensures in
     whole_text ran before first second c.in_ok-put_all.ensures.all third (subst (Appends first second) lines c.in_ok-put_all-2.ensures.all)
     (subst (Appends second third) tail c.in_ok-put_all-3.ensures.all)
 

@@ -1,0 +1,21 @@
+use Rattle.std.proofs.Common.{ap, sym, ◌∙◌, ◌≡◌, refl}
+use Rattle.task_ast.specs.View.{plain_program}
+use Rattle.lock_checker.specs.Accepted.{program_of}
+use Rattle.engine.specs.Drive.{batch_of}
+use Rattle.gprs.specs.Decided.{work_for}
+use Rattle.gprs.specs.Answers.{change_of}
+use Rattle.gprs.proofs.RanPieces.{runs_work, unbegun_stop}
+use Rattle.gprs.proofs.journalled.put_lines.Goals as goal
+
+pub returns-in-Err : goal.returns-in-Err
+returns-in-Err g c =
+    let work = work_for c.args.asked.now (plain_program (program_of c.args.checked.now)) c.args.inputs c.args.faults.list in
+    unbegun_stop work (g.O.Sink.written c.args.out.now) (g.O.Sink.faults c.args.out.now) c.stopped.result c.empty_journal.result c.empty_journal.ensures c.stopped.ensures.why c.stopped.ensures.journal
+
+pub returns : goal.returns
+returns g c =
+    let plan = c.in-Ok.plan in
+    let work = work_for c.args.asked.now (plain_program (program_of c.args.checked.now)) c.args.inputs c.args.faults.list in
+    let out = change_of g.O.Sink.written g.O.Sink.faults c.args.out.now c.run_by.new.out in
+    runs_work (batch_of plan.work plan.begins.inputs plan.begins.limits plan.begins.faults) work c.in-Ok.ensures.program c.in-Ok.ensures.inputs c.in-Ok.ensures.limits (ap (λ f. f.list) c.in-Ok.ensures.faults)
+    out c.run_by.result c.run_by.ensures.journal c.run_by.ensures.report c.run_by.ensures.lines c.run_by.ensures.partly c.run_by.ensures.cause
