@@ -111,10 +111,7 @@ fn with_limits<'a>(
 }
 
 // The command with the options of a crew.
-fn with_crew<'a>(
-    alloc: Global,
-    parser: clap::Command<'a>,
-) -> Result<clap::Command<'a>, AllocError>
+fn with_crew<'a>(alloc: Global, parser: clap::Command<'a>) -> Result<clap::Command<'a>, AllocError>
     ensures { IfOk result (λ manned. app_of manned ≡ with_crew (app_of parser.entry)) }
 {
     let workers = option(alloc, "workers");
