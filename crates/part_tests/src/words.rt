@@ -89,7 +89,7 @@ fn words_of_no_command(rt: HostRuntime) -> Result<(), Fail> {
         "one p.gp --subthreads 0",
         "one p.gp --subthreads 200001",
         "check p.gp --turns 5",
-        "run p.gp --workers 2",
+        "one p.gp --workers 2",
         "run p.gp --help",
         "run -h",
         "run p.gp --version",
