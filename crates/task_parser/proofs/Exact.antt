@@ -216,7 +216,7 @@ opened_deep {A = A} depth test P t ts passes full = let c = full (suc depth) in 
     again [] same = absurd same
     again (y ∷ ys) same = rw (← same, passes) refl
 
--- reading behind a token that is the opener or not
+-- reading after a token that is the opener or not
 abbrev opening : {A : Type 0} → Option (Reader A) → Token → List Token → Bool → Result (A × List Token) Stop
 opening inner t ts b = let opened : Result (Token × List Token) Stop = cond b (Ok (t, ts)) (unexpected (t ∷ ts)) in opened >>= λ x. enter inner (t ∷ ts) x.1
 

@@ -90,7 +90,7 @@ reads_perhaps {room = room} {T = T} {P = P} {p = p} {first = first} {goes = goes
   parted = λ before after a c. parted_perhaps (among first) (among before) (among after) P h.starts (apart first before a) (covers before after c);
 }
 
--- a mark that leaves none behind it, or before it
+-- a mark that leaves none after it, or before it
 pub reads_mark : {A : Type 0} {room : ℕ} {T P : Form A} {p : Reader A} {first goes : List ℕ} (n : ℕ) → disjoint (n ∷ []) goes ≡ true → Reads room T P p first goes → Reads room (T ◂ n) (P ◂ n) (p ◃ n) first []
 reads_mark n d h = reads_made first_of (reads_both h (reads_the n) d)
 

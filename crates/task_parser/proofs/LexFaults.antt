@@ -23,7 +23,7 @@ pub no_empty_token : (kind : Kind) → IsToken kind [] → ⊥
 no_empty_token kind token = false≢true (token_begins kind [] token)
 
 module _ (b : ℕ) (dollar : eqb b 36 ≡ true) where
-  -- what a token that begins with `$` has behind it
+  -- what a token that begins with `$` has after it
   dollar_name : (kind : Kind) (more : List ℕ) → IsToken kind (b ∷ more) → begins is_letter more ≡ true
   dollar_name Reg more (name, shape, named) = let e : name ≡ more = cc in subst (λ t. begins is_letter t ≡ true) e named.first
   dollar_name kind more token = absurd (omega (arith, first_class kind b more token, class_dollar b dollar))
@@ -39,7 +39,7 @@ module _ (b : ℕ) (dollar : eqb b 36 ≡ true) where
     cannot_go_on = dollar_stops bs no_letter;
   }
 
--- bytes between quotes, and a quote behind them, have no other byte among them
+-- bytes between quotes, and a quote after them, have no other byte among them
 no_other_byte : (front inside more : List ℕ) (next : ℕ) → front ++ next ∷ more ≡ inside ++ 34 ∷ [] → list_all is_quoted_byte inside ≡ true
     → is_quoted_byte next ≡ false → eqb next 34 ≡ false → ⊥
 no_other_byte [] [] more next same passes bad no_quote =

@@ -31,7 +31,7 @@ put x (Err e) = refl
 pub goes_on : {A : Type 0} (first : Token → Bool) (p : Reader A) (front : List A) (ts : List Token) (x : A) (after : List Token) → Shortens p → begins first ts ≡ true → p ts ≡ Ok (x, after) → also front (repeat first p ts) ≡ also (front ++ x ∷ []) (repeat first p after)
 goes_on first p front ts x after short e h = rw (repeat_more first p short ts e, h) (ap (also front) (put x (repeat first p after)) ∙ regroup front x (repeat first p after))
 
--- one more item is read, and put behind those before it
+-- one more item is read, and put after those before it
 pub pushed_item : {A : Type 0} (first : Token → Bool) (p : Reader A) (items : List A) (item : A) (ts after : List Token) (total : Result (List A × List Token) Stop) → Shortens p → begins first ts ≡ true → p ts ≡ Ok (item, after) → also items (repeat first p ts) ≡ total → also (items ++ item ∷ []) (repeat first p after) ≡ total
 pushed_item first p items item ts after total short e h so_far = sym (goes_on first p items ts item after short e h) ∙ so_far
 

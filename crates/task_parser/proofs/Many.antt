@@ -36,7 +36,7 @@ many_fuel {A = A} first p short (suc n) (suc m) ts h k =
     go (Ok (x, rest)) e same = rw (same rest (short ts x rest e)) refl
     go (Err stop) e same = refl
 
--- one, and as many as there are behind it
+-- one, and as many as there are after it
 abbrev pub one_more : {A : Type 0} → (Token → Bool) → Reader A → Reader (List A)
 one_more first p = read_made put_first (read_both p (repeat first p))
 

@@ -22,7 +22,7 @@ use Rattle.task_parser.proofs.Whole.{read_spelled, spelled_read, exactly_at}
 
 -- ---- what reading answers on tokens of the grammar
 
--- tokens within the limit are read, and the answer is that of the tokens behind them
+-- tokens within the limit are read, and the answer is that of the tokens after them
 verdict_within : {A : Type 0} (limit : ℕ) (placed : List Placed) (rest : List Token) (answer : Result A Stop) → Within limit placed → verdict limit placed rest answer ≡ answer
 verdict_within limit [] rest answer h = refl
 verdict_within limit (p ∷ placed) rest answer h = rw (le-leb p.nesting limit h.0) (verdict_within limit placed rest answer h.1)

@@ -89,7 +89,7 @@ reads_group room T P inner h =
     (inside_with room T P (disjunction T) (disjunction P) read_disjunction inner going_on
     (λ full. inhabited_disjunction T full) (λ r p k. let m = reads_disjunction k in (m.sound, m.complete)) h))
 
--- an operand behind a minus or a `not`
+-- an operand after a minus or a `not`
 reads_inner : (n room : ℕ) (T P : Form Expr) (inner : Option (Reader Expr)) → Lower room T P inner → Reads room (Opened (among (n ∷ [])) T) (Opened (among (n ∷ [])) P) (read_opened (among (n ∷ [])) inner) (n ∷ []) going
 reads_inner n room T P inner h = reads_opened room n inner (same room inner h)
   where

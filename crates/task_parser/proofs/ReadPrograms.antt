@@ -9,7 +9,7 @@ use Rattle.task_parser.specs.inner.Laws.{Sound, Complete}
 use Rattle.task_parser.specs.Expressions.{Text}
 use Rattle.task_parser.specs.Statements.{or_empty, listed_in}
 use Rattle.task_parser.specs.inner.StatementReaders.{statement_starts, read_list}
-use Rattle.task_parser.specs.Programs.{lock_head_of, barrier_head_of, record_head_of, feed_head_of, file_in, ctl_param, reg_param, var_line_of, task_of, program_of, lock_head, barrier_head, from_file, record_head, feed_head, head, param, var_line, task, program}
+use Rattle.task_parser.specs.Programs.{lock_head_of, barrier_head_of, record_head_of, feed_head_of, file_in, ctl_param, reg_param, var_line_of, task_of, program_from, lock_head, barrier_head, from_file, record_head, feed_head, head, param, var_line, task, program}
 use Rattle.task_parser.specs.inner.ProgramReaders.{read_sized, read_lock_head, read_barrier_head, read_from_file, read_record_head, read_feed_head, head_starts, param_starts, read_head, read_param, read_var_line, read_task, read_program}
 use Rattle.task_parser.proofs.Exact.{sound_both, complete_both, sound_made, complete_made, parted_starts}
 use Rattle.task_parser.proofs.ClassLists.{apart}
@@ -82,7 +82,7 @@ sound_program text room =
     let h : MayRead room (many (head text)) (many (head text)) (repeat (among head_starts) (read_head text)) head_starts [] = reads_many (reads_head text) refl in
     let t = reads_tasks text room 0 in
     let T : Form (List TaskText) = some (task text (suc (suc room))) in
-    sound_made room program_of (Both (many (head text)) T) (read_both (repeat (among head_starts) (read_head text)) (read_some (among (TASK ∷ [])) (read_task text room)))
+    sound_made room program_from (Both (many (head text)) T) (read_both (repeat (among head_starts) (read_head text)) (read_some (among (TASK ∷ [])) (read_task text room)))
     (sound_both room (many (head text)) T (repeat (among head_starts) (read_head text)) (read_some (among (TASK ∷ [])) (read_task text room)) h.sound t.sound t.inhabited)
 
 pub complete_program : (text : Text) (room height : ℕ) → Complete room (program text height) (among (TASK ∷ [])) (read_program text room)
@@ -91,7 +91,7 @@ complete_program text room height =
     let h : MayRead room (many (head text)) (many (head text)) (repeat (among head_starts) (read_head text)) head_starts [] = reads_many (reads_head text) refl in
     let t = reads_tasks text room height in
     let T : Form (List TaskText) = some (task text height) in
-    complete_made room program_of (Both (many (head text)) T) (among (TASK ∷ [])) (read_both (repeat (among head_starts) (read_head text)) (read_some (among (TASK ∷ [])) (read_task text room)))
+    complete_made room program_from (Both (many (head text)) T) (among (TASK ∷ [])) (read_both (repeat (among head_starts) (read_head text)) (read_some (among (TASK ∷ [])) (read_task text room)))
     (complete_both room (many (head text)) T (among head_starts) (among (TASK ∷ [])) (repeat (among head_starts) (read_head text)) (read_some (among (TASK ∷ [])) (read_task text room)) (h.complete head_starts refl refl) t.complete
     (parted_starts (among (TASK ∷ [])) (among head_starts) (among (TASK ∷ [])) T t.starts (apart (TASK ∷ []) head_starts refl)))
 

@@ -77,7 +77,7 @@ left {B = B} {G = G} h = both (λ x. (y : B) → G (x, y)) h (any (λ y x g. g y
 right : {A B : Type 0} {P : Form A} {Q : Form B} {G : A × B → Type 0} → Yields Q (λ y. (x : A) → G (x, y)) → Yields (P ▸ Q) G
 right h = both (λ x. Unit {0}) (any (λ x. tt)) (so h (λ y g x u. g x))
 
--- a mark counts for nothing, behind or before
+-- a mark counts for nothing, after or before
 before : {A B : Type 0} {P : Form A} {Q : Form B} {G : A → Type 0} → Yields P G → Yields (Made first_of (P ▸ Q)) G
 before h = made (left (so h (λ x g y. g)))
 

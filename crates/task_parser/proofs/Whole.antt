@@ -50,7 +50,7 @@ verdict_expects {A = A} limit (p ∷ placed) rest other v e = go (leb p.nesting 
         deep_of (Ok v) = false
         deep_of (Err s) = s.deep
 
--- A front behind which reading halts at the next token can't go on with it.
+-- A front after which reading halts at the next token can't go on with it.
 halts_there : (text : Text) (front : List Placed) (next : Token) (rest : List Token) → ((other : List Token) → Same (next ∷ rest) other → read_all text (tokens_of front ++ other) ≡ unexpected other) → CannotGoOn text front (next ∷ rest)
 halts_there text front next rest again other same begun =
     verdict_expects DEEPEST_NESTING (other ++ begun.more) [] (next ∷ tokens_of begun.more) begun.p

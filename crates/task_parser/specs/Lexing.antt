@@ -8,11 +8,11 @@ use Rattle.task_parser.specs.declared.fault.LexFault.TheVariants.{BadByte, Numbe
 use Rattle.task_parser.specs.declared.lexer.Piece.TheVariants.{Skip, Take, TooBig, Bad}
 use Rattle.task_parser.specs.Pieces.{piece_of, least_length}
 
--- the line of what stands behind these bytes: one more than the number of LF among them
+-- the line of what stands after these bytes: one more than the number of LF among them
 abbrev pub line_behind : List ℕ → ℕ
 line_behind before = 1 + count_by (λ b. b == 10) before
 
--- a token of so many bytes behind these
+-- a token of so many bytes after these
 abbrev pub token_behind : List ℕ → Kind → ℕ → Token
 token_behind before kind bytes = record { kind = kind; from = length before; to = length before + bytes; line = line_behind before }
 
@@ -21,7 +21,7 @@ abbrev pub followed_by : Token → Result (List Token) LexFault → Result (List
 followed_by token (Ok tokens) = Ok (token ∷ tokens)
 followed_by token (Err fault) = Err fault
 
--- The lexing of the rest of a text, piece by piece, behind the bytes before it. The first `inside` bytes of the rest
+-- The lexing of the rest of a text, piece by piece, after the bytes before it. The first `inside` bytes of the rest
 -- belong to the piece that began last.
 abbrev pub lexed_behind : List ℕ → ℕ → List ℕ → Result (List Token) LexFault
 lexed_behind before inside [] = Ok []

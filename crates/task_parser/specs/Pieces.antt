@@ -69,13 +69,13 @@ word_kind None = Name
 abbrev pub word_piece : List ℕ → Piece
 word_piece word = Take (word_kind (row_of words word)) (length word)
 
--- behind a `$`
+-- after a `$`
 abbrev pub register_piece : List ℕ → Piece
-register_piece behind = if begins is_letter behind then Take Reg (1 + prefix_len is_name_byte behind) else Bad 1
+register_piece rest = if begins is_letter rest then Take Reg (1 + prefix_len is_name_byte rest) else Bad 1
 
--- behind a `"`, where so many bytes can stand between quotes
+-- after a `"`, where so many bytes can stand between quotes
 abbrev pub quoted_piece : ℕ → List ℕ → Piece
-quoted_piece inside behind = if begins (λ b. b == 34) (drop inside behind) then Take Quoted (inside + 2) else Bad (inside + 1)
+quoted_piece inside rest = if begins (λ b. b == 34) (drop inside rest) then Take Quoted (inside + 2) else Bad (inside + 1)
 
 -- the first two bytes where they are a mark, else the first; a lone `!` is a mark that is begun and not whole
 abbrev pub mark_piece : ℕ → List ℕ → Option ℕ → Option ℕ → Piece

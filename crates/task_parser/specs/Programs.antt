@@ -46,8 +46,8 @@ var_line_of x = record { names = x.1; line = x.0.line }
 abbrev pub task_of : Text → (((Token × Token) × List Param) × List VarLine) × Block → TaskText
 task_of text x = record { name = name_of text x.0.0.0.1; params = x.0.0.1; vars = x.0.1; body = x.1; line = x.0.0.0.0.line }
 
-abbrev pub program_of : List Head × List TaskText → Program
-program_of x = record { heads = x.0; tasks = x.1 }
+abbrev pub program_from : List Head × List TaskText → Program
+program_from x = record { heads = x.0; tasks = x.1 }
 
 -- ---- the forms
 
@@ -82,4 +82,4 @@ task text height =
 
 -- a program in which constructs nest less deep than the height
 abbrev pub program : Text → ℕ → Form Program
-program text height = Made program_of (many (head text) ▸ some (task text height))
+program text height = Made program_from (many (head text) ▸ some (task text height))

@@ -71,7 +71,7 @@ pub record IsPlaced (text : List ℕ) (token : Token) : Type 0 where
   pub longest : IsLongest (token.to - token.from) (drop token.from text)
   pub line_is : token.line ≡ line_behind (take token.from text)
 
--- the tokens stand from a place on, one behind the other
+-- the tokens stand from a place on, one after the other
 abbrev pub AreInOrder : ℕ → List Token → Type 0
 AreInOrder place [] = Unit {0}
 AreInOrder place (first ∷ others) = (place ≤ first.from) × AreInOrder first.to others

@@ -80,7 +80,7 @@ infixl 10 ◌◂◌
 abbrev pub ◌◂◌ : {A : Type 0} → Form A → ℕ → Form A
 P ◂ class = Made first_of (P ▸ the class)
 
--- a P behind a token of the class, which leaves no mark
+-- a P after a token of the class, which leaves no mark
 abbrev pub after : {A : Type 0} → ℕ → Form A → Form A
 after class P = Made second_of (the class ▸ P)
 

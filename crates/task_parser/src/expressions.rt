@@ -8,11 +8,11 @@ ghost use Rattle.task_parser.specs.inner.ExpressionReaders.{read_member, read_le
 ghost use Rattle.task_parser.specs.inner.Gives.{Gives, operators, read_part};
 
 use crate::classes::*;
-use crate::cursor::{discard, expect, is_next, is_of, name, number, register};
-use crate::halt::{Halt, Read};
+use crate::halt::{Halt, Read, discard};
+use crate::next::{expect, is_next, is_of};
+use crate::source::{Source, number};
 use crate::token::Token;
 use gp_base::Seq;
-use std::alloc::Global;
 use task_ast::{Expr, Op};
 
 /// Operators that bind alike, from the loosest. Comparisons don't chain.
@@ -88,7 +88,7 @@ fn goes_on(level: Level, tokens: &[Token]) -> bool
     }
 }
 
-/// The operator of the level that is next, and what is behind it.
+/// The operator of the level that is next, and what is after it.
 fn operator_at(level: Level, tokens: &[Token]) -> Read<'_, Token>
     ensures { Gives (λ x. (x.0, x.1.now)) result (read_one (among (operators level)) tokens.now) }
 {
@@ -101,35 +101,34 @@ fn operator_at(level: Level, tokens: &[Token]) -> Read<'_, Token>
     Ok((*token, rest))
 }
 
-/// An operand behind an opener of the class.
+/// An operand after an opener of the class, a `-` or a `not`.
 #[cycle(descent)]
-fn inner<'a>(
-    alloc: Global,
-    text: &[u8],
+fn operand_after<'a>(
+    source: Source<'_>,
     class: u32,
     room: u32,
     tokens: &'a [Token],
 ) -> Read<'a, Expr>
-    ensures { Gives (λ x. (plain_expr x.0, x.1.now)) result (read_opened (is class) (below text.now room) tokens.now) }
+    ensures { Gives (λ x. (plain_expr x.0, x.1.now)) result (read_opened (is class) (below source.entry.text.now room) tokens.now) }
 {
     let (_, rest) = expect(tokens, class)?;
     if room == 0 {
         return Err(Halt::TooDeep(tokens));
     }
-    operand(alloc, text, room - 1, rest)
+    operand(source, room - 1, rest)
 }
 
 /// An expression in parentheses.
 #[tactic(auto, unfolding(crate::specs::inner::ExpressionReaders::read_group))]
 #[cycle(descent)]
-fn group<'a>(alloc: Global, text: &[u8], room: u32, tokens: &'a [Token]) -> Read<'a, Expr>
-    ensures { Gives (λ x. (plain_expr x.0, x.1.now)) result (read_group (below text.now room) tokens.now) }
+fn group<'a>(source: Source<'_>, room: u32, tokens: &'a [Token]) -> Read<'a, Expr>
+    ensures { Gives (λ x. (plain_expr x.0, x.1.now)) result (read_group (below source.entry.text.now room) tokens.now) }
 {
     let (_, rest) = expect(tokens, OPEN_PAREN)?;
     if room == 0 {
         return Err(Halt::TooDeep(tokens));
     }
-    let (value, rest) = chain(alloc, text, Level::Or, room - 1, rest)?;
+    let (value, rest) = chain(source, Level::Or, room - 1, rest)?;
     let (_, rest) = match expect(rest, CLOSE_PAREN) {
         Ok(next) => next,
         Err(halt) => {
@@ -143,14 +142,14 @@ fn group<'a>(alloc: Global, text: &[u8], room: u32, tokens: &'a [Token]) -> Read
 /// A row and a field in brackets.
 #[tactic(auto, unfolding(crate::specs::inner::ExpressionReaders::read_place))]
 #[cycle(descent)]
-fn place<'a>(alloc: Global, text: &[u8], room: u32, tokens: &'a [Token]) -> Read<'a, (Expr, Expr)>
-    ensures { Gives (λ x. ((plain_expr x.0.0, plain_expr x.0.1), x.1.now)) result (read_place (below text.now room) tokens.now) }
+fn place<'a>(source: Source<'_>, room: u32, tokens: &'a [Token]) -> Read<'a, (Expr, Expr)>
+    ensures { Gives (λ x. ((plain_expr x.0.0, plain_expr x.0.1), x.1.now)) result (read_place (below source.entry.text.now room) tokens.now) }
 {
     let (_, rest) = expect(tokens, OPEN_BRACKET)?;
     if room == 0 {
         return Err(Halt::TooDeep(tokens));
     }
-    let (row, rest) = chain(alloc, text, Level::Or, room - 1, rest)?;
+    let (row, rest) = chain(source, Level::Or, room - 1, rest)?;
     let (_, rest) = match expect(rest, COMMA) {
         Ok(next) => next,
         Err(halt) => {
@@ -158,7 +157,7 @@ fn place<'a>(alloc: Global, text: &[u8], room: u32, tokens: &'a [Token]) -> Read
             return Err(halt);
         }
     };
-    let (field, rest) = match chain(alloc, text, Level::Or, room - 1, rest) {
+    let (field, rest) = match chain(source, Level::Or, room - 1, rest) {
         Ok(next) => next,
         Err(halt) => {
             discard(row);
@@ -178,121 +177,113 @@ fn place<'a>(alloc: Global, text: &[u8], room: u32, tokens: &'a [Token]) -> Read
 /// A control variable or a cell of a feed.
 #[tactic(auto, using(task_ast::proofs::Views::view), unfolding(crate::specs::inner::ExpressionReaders::read_named))]
 #[cycle(descent)]
-fn named<'a>(alloc: Global, text: &[u8], room: u32, tokens: &'a [Token]) -> Read<'a, Expr>
-    ensures { Gives (λ x. (plain_expr x.0, x.1.now)) result (read_named text.now (below text.now room) tokens.now) }
+fn named<'a>(source: Source<'_>, room: u32, tokens: &'a [Token]) -> Read<'a, Expr>
+    ensures { Gives (λ x. (plain_expr x.0, x.1.now)) result (read_named source.entry.text.now (below source.entry.text.now room) tokens.now) }
 {
     let (token, rest) = expect(tokens, NAME)?;
-    let feed = name(alloc, text, token)?;
+    let feed = source.name(token)?;
     if !is_next(rest, OPEN_BRACKET) {
         return Ok((Expr::Ctl(feed), rest));
     }
-    let ((row, field), rest) = place(alloc, text, room, rest)?;
-    let row = match Box::new(alloc, row) {
+    let ((row, field), rest) = place(source, room, rest)?;
+    let row = match Box::new(source.alloc, row) {
         Ok(row) => row,
         Err(failed) => {
             discard(field);
             return Err(Halt::from(failed));
         }
     };
-    let field = Box::new(alloc, field)?;
+    let field = Box::new(source.alloc, field)?;
     Ok((Expr::Cell(feed, row, field), rest))
 }
 
 /// The number of rows of a feed.
 #[tactic(auto, using(task_ast::proofs::Views::view), unfolding(crate::specs::inner::ExpressionReaders::read_rows))]
-fn rows<'a>(alloc: Global, text: &[u8], tokens: &'a [Token]) -> Read<'a, Expr>
-    ensures { Gives (λ x. (plain_expr x.0, x.1.now)) result (read_rows text.now tokens.now) }
+fn rows<'a>(source: Source<'_>, tokens: &'a [Token]) -> Read<'a, Expr>
+    ensures { Gives (λ x. (plain_expr x.0, x.1.now)) result (read_rows source.entry.text.now tokens.now) }
 {
     let (_, rest) = expect(tokens, ROWS)?;
     let (_, rest) = expect(rest, OPEN_PAREN)?;
     let (token, rest) = expect(rest, NAME)?;
     let (_, rest) = expect(rest, CLOSE_PAREN)?;
-    Ok((Expr::Rows(name(alloc, text, token)?), rest))
+    Ok((Expr::Rows(source.name(token)?), rest))
 }
 
 /// An operand.
 #[tactic(auto, using(task_ast::proofs::Views::view), unfolding(crate::specs::inner::ExpressionReaders::read_unary, crate::specs::inner::ExpressionReaders::read_operand))]
 #[cycle(descent)]
-fn operand<'a>(alloc: Global, text: &[u8], room: u32, tokens: &'a [Token]) -> Read<'a, Expr>
-    ensures { Gives (λ x. (plain_expr x.0, x.1.now)) result (read_unary text.now room tokens.now) }
+fn operand<'a>(source: Source<'_>, room: u32, tokens: &'a [Token]) -> Read<'a, Expr>
+    ensures { Gives (λ x. (plain_expr x.0, x.1.now)) result (read_unary source.entry.text.now room tokens.now) }
 {
     if is_next(tokens, SUB) {
-        let (value, rest) = inner(alloc, text, SUB, room, tokens)?;
-        Ok((Expr::Neg(Box::new(alloc, value)?), rest))
+        let (value, rest) = operand_after(source, SUB, room, tokens)?;
+        Ok((Expr::Neg(Box::new(source.alloc, value)?), rest))
     } else if is_next(tokens, NOT) {
-        let (value, rest) = inner(alloc, text, NOT, room, tokens)?;
-        Ok((Expr::Not(Box::new(alloc, value)?), rest))
+        let (value, rest) = operand_after(source, NOT, room, tokens)?;
+        Ok((Expr::Not(Box::new(source.alloc, value)?), rest))
     } else if is_next(tokens, NUM) {
         let (token, rest) = expect(tokens, NUM)?;
         Ok((Expr::Num(number(token)), rest))
     } else if is_next(tokens, NAME) {
-        named(alloc, text, room, tokens)
+        named(source, room, tokens)
     } else if is_next(tokens, REG) {
         let (token, rest) = expect(tokens, REG)?;
-        Ok((Expr::Reg(register(alloc, text, token)?), rest))
+        Ok((Expr::Reg(source.register(token)?), rest))
     } else if is_next(tokens, SELF) {
         let (_, rest) = expect(tokens, SELF)?;
         Ok((Expr::Me, rest))
     } else if is_next(tokens, ROWS) {
-        rows(alloc, text, tokens)
+        rows(source, tokens)
     } else {
-        group(alloc, text, room, tokens)
+        group(source, room, tokens)
     }
 }
 
 /// What stands between the operators of a level.
 #[cycle(descent)]
-fn part<'a>(
-    alloc: Global,
-    text: &[u8],
-    level: Level,
-    room: u32,
-    tokens: &'a [Token],
-) -> Read<'a, Expr>
-    ensures { Gives (λ x. (plain_expr x.0, x.1.now)) result (read_part level text.now room tokens.now) }
+fn part<'a>(source: Source<'_>, level: Level, room: u32, tokens: &'a [Token]) -> Read<'a, Expr>
+    ensures { Gives (λ x. (plain_expr x.0, x.1.now)) result (read_part level source.entry.text.now room tokens.now) }
 {
     match level {
-        Level::Or => chain(alloc, text, Level::And, room, tokens),
-        Level::And => comparison(alloc, text, room, tokens),
-        Level::Comparison => chain(alloc, text, Level::Sum, room, tokens),
-        Level::Sum => chain(alloc, text, Level::Product, room, tokens),
-        Level::Product => operand(alloc, text, room, tokens),
+        Level::Or => chain(source, Level::And, room, tokens),
+        Level::And => comparison(source, room, tokens),
+        Level::Comparison => chain(source, Level::Sum, room, tokens),
+        Level::Sum => chain(source, Level::Product, room, tokens),
+        Level::Product => operand(source, room, tokens),
     }
 }
 
 /// An operator of the level and what stands right of it.
 #[cycle(descent)]
 fn member<'a>(
-    alloc: Global,
-    text: &[u8],
+    source: Source<'_>,
     level: Level,
     room: u32,
     tokens: &'a [Token],
 ) -> Read<'a, (Op, Expr)>
-    ensures { Gives (λ x. ((x.0.0, plain_expr x.0.1), x.1.now)) result (read_member (operators level) (read_part level text.now room) tokens.now) }
+    ensures { Gives (λ x. ((x.0.0, plain_expr x.0.1), x.1.now)) result (read_member (operators level) (read_part level source.entry.text.now room) tokens.now) }
 {
     let (operator, rest) = operator_at(level, tokens)?;
-    let (right, rest) = part(alloc, text, level, room, rest)?;
+    let (right, rest) = part(source, level, room, rest)?;
     Ok(((operator_of(operator), right), rest))
 }
 
 /// The operators of a level, as many as there are, each with what stands right of it.
 #[cycle(descent)]
 fn members<'a>(
-    alloc: Global,
-    text: &[u8],
+    source: Source<'_>,
     level: Level,
     room: u32,
     tokens: &'a [Token],
 ) -> Read<'a, Seq<(Op, Expr)>>
-    ensures { Gives (λ x. (plain_members x.0, x.1.now)) result (repeat (among (operators level)) (read_member (operators level) (read_part level text.now room)) tokens.now) }
+    ensures { Gives (λ x. (plain_members x.0, x.1.now)) result (repeat (among (operators level)) (read_member (operators level) (read_part level source.entry.text.now room)) tokens.now) }
 {
-    let mut members = Seq::new(alloc);
+    let mut members = Seq::new(source.alloc);
     let mut rest = tokens;
     while goes_on(level, rest) {
-        let (next, behind) = member(alloc, text, level, room, rest)?;
+        let (next, after) = member(source, level, room, rest)?;
         members.push(next)?;
-        rest = behind;
+        rest = after;
     }
     Ok((members, rest))
 }
@@ -300,43 +291,37 @@ fn members<'a>(
 /// Parts with operators of the level between them; not of comparisons.
 #[tactic(auto, using(task_ast::proofs::Views::view), unfolding(crate::specs::inner::ExpressionReaders::read_level))]
 #[cycle(descent)]
-pub fn chain<'a>(
-    alloc: Global,
-    text: &[u8],
-    level: Level,
-    room: u32,
-    tokens: &'a [Token],
-) -> Read<'a, Expr>
-    ensures { Gives (λ x. (plain_expr x.0, x.1.now)) result (read_level (operators level) (read_part level text.now room) tokens.now) }
+pub fn chain<'a>(source: Source<'_>, level: Level, room: u32, tokens: &'a [Token]) -> Read<'a, Expr>
+    ensures { Gives (λ x. (plain_expr x.0, x.1.now)) result (read_level (operators level) (read_part level source.entry.text.now room) tokens.now) }
 {
-    let (first, rest) = part(alloc, text, level, room, tokens)?;
-    let (others, rest) = members(alloc, text, level, room, rest)?;
+    let (first, rest) = part(source, level, room, tokens)?;
+    let (others, rest) = members(source, level, room, rest)?;
     if others.is_empty() {
         return Ok((first, rest));
     }
-    Ok((Expr::Chain(Box::new(alloc, first)?, others), rest))
+    Ok((Expr::Chain(Box::new(source.alloc, first)?, others), rest))
 }
 
 /// Two sums with a comparison between them, or one sum.
 #[tactic(auto, using(task_ast::proofs::Views::view), unfolding(crate::specs::inner::ExpressionReaders::read_compared))]
 #[cycle(descent)]
-fn comparison<'a>(alloc: Global, text: &[u8], room: u32, tokens: &'a [Token]) -> Read<'a, Expr>
-    ensures { Gives (λ x. (plain_expr x.0, x.1.now)) result (read_compared (read_part Level.Comparison text.now room) tokens.now) }
+fn comparison<'a>(source: Source<'_>, room: u32, tokens: &'a [Token]) -> Read<'a, Expr>
+    ensures { Gives (λ x. (plain_expr x.0, x.1.now)) result (read_compared (read_part Level.Comparison source.entry.text.now room) tokens.now) }
 {
-    let (first, rest) = part(alloc, text, Level::Comparison, room, tokens)?;
+    let (first, rest) = part(source, Level::Comparison, room, tokens)?;
     if !goes_on(Level::Comparison, rest) {
         return Ok((first, rest));
     }
-    let first = Box::new(alloc, first)?;
-    let (other, rest) = member(alloc, text, Level::Comparison, room, rest)?;
-    let mut others = Seq::new(alloc);
+    let first = Box::new(source.alloc, first)?;
+    let (other, rest) = member(source, Level::Comparison, room, rest)?;
+    let mut others = Seq::new(source.alloc);
     others.push(other)?;
     Ok((Expr::Chain(first, others), rest))
 }
 
 /// An expression, with room for so many constructs that nest.
-pub fn expression<'a>(alloc: Global, text: &[u8], room: u32, tokens: &'a [Token]) -> Read<'a, Expr>
-    ensures { Gives (λ x. (plain_expr x.0, x.1.now)) result (read_expression text.now room tokens.now) }
+pub fn expression<'a>(source: Source<'_>, room: u32, tokens: &'a [Token]) -> Read<'a, Expr>
+    ensures { Gives (λ x. (plain_expr x.0, x.1.now)) result (read_expression source.entry.text.now room tokens.now) }
 {
-    chain(alloc, text, Level::Or, room, tokens)
+    chain(source, Level::Or, room, tokens)
 }

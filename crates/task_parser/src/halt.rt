@@ -1,4 +1,4 @@
-// Why a part could not be read.
+// Why a part could not be read, and what is let go then.
 ghost use Rattle.std.specs.Prelude.{◌≡◌};
 ghost use Rattle.task_parser.specs.declared.halt.Halt.TheVariants.{Memory};
 
@@ -31,3 +31,6 @@ impl<'a, T: Drop> From<AllocFailed<T>> for Halt<'a> {
 
 /// What was read, with the tokens after it, or why it could not be read.
 pub type Read<'a, T> = Result<(T, &'a [Token]), Halt<'a>>;
+
+/// Lets a value go by a call: an enum that goes by itself at an early exit is taken apart there, variant by variant.
+pub fn discard<T: Drop>(_value: T) {}

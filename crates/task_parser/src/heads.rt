@@ -6,11 +6,11 @@ ghost use Rattle.task_parser.specs.inner.ProgramReaders.{read_sized, read_lock_h
 ghost use Rattle.task_parser.specs.inner.Gives.{Gives};
 
 use crate::classes::*;
-use crate::cursor::{expect, file, is_next, is_of, name, number};
 use crate::halt::Read;
+use crate::next::{expect, is_next, is_of};
+use crate::source::{Source, number};
 use crate::token::Token;
 use gp_base::{Name, Seq};
-use std::alloc::Global;
 use task_ast::Head;
 
 /// The word, a name, and a number in brackets.
@@ -28,12 +28,12 @@ fn sized(word: u32, tokens: &[Token]) -> Read<'_, ((Token, Token), Token)>
 
 /// `lock NAME [ NUM ] ;`
 #[tactic(auto, unfolding(crate::specs::inner::ProgramReaders::read_lock_head))]
-fn lock_head<'a>(alloc: Global, text: &[u8], tokens: &'a [Token]) -> Read<'a, Head>
-    ensures { Gives (λ x. (x.0, x.1.now)) result (read_lock_head text.now tokens.now) }
+fn lock_head<'a>(source: Source<'_>, tokens: &'a [Token]) -> Read<'a, Head>
+    ensures { Gives (λ x. (x.0, x.1.now)) result (read_lock_head source.entry.text.now tokens.now) }
 {
     let (((word, title), size), rest) = sized(LOCK, tokens)?;
     let (_, rest) = expect(rest, SEMICOLON)?;
-    let name = name(alloc, text, title)?;
+    let name = source.name(title)?;
     let size = number(size);
     let line = word.line;
     Ok((Head::LockHead { name, size, line }, rest))
@@ -41,8 +41,8 @@ fn lock_head<'a>(alloc: Global, text: &[u8], tokens: &'a [Token]) -> Read<'a, He
 
 /// `barrier NAME ( NUM ) ;`
 #[tactic(auto, unfolding(crate::specs::inner::ProgramReaders::read_barrier_head))]
-fn barrier_head<'a>(alloc: Global, text: &[u8], tokens: &'a [Token]) -> Read<'a, Head>
-    ensures { Gives (λ x. (x.0, x.1.now)) result (read_barrier_head text.now tokens.now) }
+fn barrier_head<'a>(source: Source<'_>, tokens: &'a [Token]) -> Read<'a, Head>
+    ensures { Gives (λ x. (x.0, x.1.now)) result (read_barrier_head source.entry.text.now tokens.now) }
 {
     let (word, rest) = expect(tokens, BARRIER)?;
     let (title, rest) = expect(rest, NAME)?;
@@ -50,37 +50,37 @@ fn barrier_head<'a>(alloc: Global, text: &[u8], tokens: &'a [Token]) -> Read<'a,
     let (count, rest) = expect(rest, NUM)?;
     let (_, rest) = expect(rest, CLOSE_PAREN)?;
     let (_, rest) = expect(rest, SEMICOLON)?;
-    let name = name(alloc, text, title)?;
+    let name = source.name(title)?;
     let number = number(count);
     let line = word.line;
     Ok((Head::BarrierHead { name, number, line }, rest))
 }
 
-/// The name of the file behind a `from`, if there is one.
+/// The name of the file after a `from`, if there is one.
 #[tactic(auto, unfolding(crate::specs::inner::ProgramReaders::read_from_file))]
-fn from_file<'a>(alloc: Global, text: &[u8], tokens: &'a [Token]) -> Read<'a, Option<Name>>
-    ensures { Gives (λ x. (x.0, x.1.now)) result (read_from_file text.now tokens.now) }
+fn from_file<'a>(source: Source<'_>, tokens: &'a [Token]) -> Read<'a, Option<Name>>
+    ensures { Gives (λ x. (x.0, x.1.now)) result (read_from_file source.entry.text.now tokens.now) }
 {
     if !is_next(tokens, FROM) {
         return Ok((None, tokens));
     }
     let (_, rest) = expect(tokens, FROM)?;
     let (token, rest) = expect(rest, QUOTED)?;
-    Ok((Some(file(alloc, text, token)?), rest))
+    Ok((Some(source.file(token)?), rest))
 }
 
 /// `record NAME [ NUM ] by NAME from TEXT ;`, where the `from` may be left out
 #[tactic(auto, unfolding(crate::specs::inner::ProgramReaders::read_record_head))]
-fn record_head<'a>(alloc: Global, text: &[u8], tokens: &'a [Token]) -> Read<'a, Head>
-    ensures { Gives (λ x. (x.0, x.1.now)) result (read_record_head text.now tokens.now) }
+fn record_head<'a>(source: Source<'_>, tokens: &'a [Token]) -> Read<'a, Head>
+    ensures { Gives (λ x. (x.0, x.1.now)) result (read_record_head source.entry.text.now tokens.now) }
 {
     let (((word, title), size), rest) = sized(RECORD, tokens)?;
     let (_, rest) = expect(rest, BY)?;
     let (array, rest) = expect(rest, NAME)?;
-    let (from, rest) = from_file(alloc, text, rest)?;
+    let (from, rest) = from_file(source, rest)?;
     let (_, rest) = expect(rest, SEMICOLON)?;
-    let by = name(alloc, text, array)?;
-    let name = name(alloc, text, title)?;
+    let by = source.name(array)?;
+    let name = source.name(title)?;
     let size = number(size);
     let line = word.line;
     Ok((
@@ -97,16 +97,16 @@ fn record_head<'a>(alloc: Global, text: &[u8], tokens: &'a [Token]) -> Read<'a, 
 
 /// `feed NAME [ NUM ] from TEXT ;`
 #[tactic(auto, unfolding(crate::specs::inner::ProgramReaders::read_feed_head))]
-fn feed_head<'a>(alloc: Global, text: &[u8], tokens: &'a [Token]) -> Read<'a, Head>
-    ensures { Gives (λ x. (x.0, x.1.now)) result (read_feed_head text.now tokens.now) }
+fn feed_head<'a>(source: Source<'_>, tokens: &'a [Token]) -> Read<'a, Head>
+    ensures { Gives (λ x. (x.0, x.1.now)) result (read_feed_head source.entry.text.now tokens.now) }
 {
     let (((word, title), count), rest) = sized(FEED, tokens)?;
     let (_, rest) = expect(rest, FROM)?;
-    let (source, rest) = expect(rest, QUOTED)?;
+    let (quoted, rest) = expect(rest, QUOTED)?;
     let (_, rest) = expect(rest, SEMICOLON)?;
-    let name = name(alloc, text, title)?;
+    let name = source.name(title)?;
     let fields = number(count);
-    let from = file(alloc, text, source)?;
+    let from = source.file(quoted)?;
     let line = word.line;
     Ok((
         Head::FeedHead {
@@ -121,17 +121,17 @@ fn feed_head<'a>(alloc: Global, text: &[u8], tokens: &'a [Token]) -> Read<'a, He
 
 /// A declaration of a lock array, a barrier, a record or a feed.
 #[tactic(auto, unfolding(crate::specs::inner::ProgramReaders::read_head))]
-fn head<'a>(alloc: Global, text: &[u8], tokens: &'a [Token]) -> Read<'a, Head>
-    ensures { Gives (λ x. (x.0, x.1.now)) result (read_head text.now tokens.now) }
+fn head<'a>(source: Source<'_>, tokens: &'a [Token]) -> Read<'a, Head>
+    ensures { Gives (λ x. (x.0, x.1.now)) result (read_head source.entry.text.now tokens.now) }
 {
     if is_next(tokens, LOCK) {
-        lock_head(alloc, text, tokens)
+        lock_head(source, tokens)
     } else if is_next(tokens, BARRIER) {
-        barrier_head(alloc, text, tokens)
+        barrier_head(source, tokens)
     } else if is_next(tokens, RECORD) {
-        record_head(alloc, text, tokens)
+        record_head(source, tokens)
     } else {
-        feed_head(alloc, text, tokens)
+        feed_head(source, tokens)
     }
 }
 
@@ -146,15 +146,15 @@ fn begins_head(tokens: &[Token]) -> bool
 }
 
 /// As many heads as there are.
-pub fn heads<'a>(alloc: Global, text: &[u8], tokens: &'a [Token]) -> Read<'a, Seq<Head>>
-    ensures { Gives (λ x. (x.0, x.1.now)) result (repeat (among head_starts) (read_head text.now) tokens.now) }
+pub fn heads<'a>(source: Source<'_>, tokens: &'a [Token]) -> Read<'a, Seq<Head>>
+    ensures { Gives (λ x. (x.0, x.1.now)) result (repeat (among head_starts) (read_head source.entry.text.now) tokens.now) }
 {
-    let mut heads = Seq::new(alloc);
+    let mut heads = Seq::new(source.alloc);
     let mut rest = tokens;
     while begins_head(rest) {
-        let (next, behind) = head(alloc, text, rest)?;
+        let (next, after) = head(source, rest)?;
         heads.push(next)?;
-        rest = behind;
+        rest = after;
     }
     Ok((heads, rest))
 }

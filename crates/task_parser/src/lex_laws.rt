@@ -19,7 +19,7 @@ pub fn splittings_are_lexed()
     ensures { SplittingsAreLexed }
 {}
 
-/// A fault of a text of at most 1,048,576 bytes is where the text can't split further. A `BadByte` stands behind bytes
+/// A fault of a text of at most 1,048,576 bytes is where the text can't split further. A `BadByte` stands after bytes
 /// that begin a token, or are none, where no token goes on so, and no space or comment begins. A `NumberTooBig` stands
 /// at the first digit of a longest token whose value is beyond the range.
 pub fn faults_stop()

@@ -167,24 +167,24 @@ fn word_piece(word: &[u8]) -> Piece
     Piece::Take(kind, word.len())
 }
 
-/// Behind a `$`.
-fn register_piece(behind: &[u8]) -> Piece
-    requires { length behind.now < 2 ^ 32 }
-    ensures { result ≡ register_piece behind.now }
+/// After a `$`.
+fn register_piece(rest: &[u8]) -> Piece
+    requires { length rest.now < 2 ^ 32 }
+    ensures { result ≡ register_piece rest.now }
 {
-    match behind {
-        [first, ..] if is_letter(*first) => Piece::Take(Kind::Reg, 1 + name_length(behind)),
+    match rest {
+        [first, ..] if is_letter(*first) => Piece::Take(Kind::Reg, 1 + name_length(rest)),
         _ => Piece::Bad(1),
     }
 }
 
-/// Behind the first quote.
-fn quoted_piece(behind: &[u8]) -> Piece
-    requires { length behind.now < 2 ^ 32 }
-    ensures { result ≡ quoted_piece (prefix_len is_quoted_byte behind.now) behind.now }
+/// After the first quote.
+fn quoted_piece(rest: &[u8]) -> Piece
+    requires { length rest.now < 2 ^ 32 }
+    ensures { result ≡ quoted_piece (prefix_len is_quoted_byte rest.now) rest.now }
 {
-    let inside = quoted_length(behind);
-    match &behind[inside..] {
+    let inside = quoted_length(rest);
+    match &rest[inside..] {
         [b'"', ..] => Piece::Take(Kind::Quoted, inside + 2),
         _ => Piece::Bad(inside + 1),
     }
@@ -241,7 +241,7 @@ fn line_ends(bytes: &[u8]) -> usize
 }
 
 /// The tokens of a text in order: the longest token at each place, with the places of its first byte and of the byte
-/// behind it, and its line. The faults are `TooLong` for more than 1,048,576 bytes, then `BadByte` and `NumberTooBig`,
+/// after it, and its line. The faults are `TooLong` for more than 1,048,576 bytes, then `BadByte` and `NumberTooBig`,
 /// whichever stands first in the text, and `OutOfMemory`.
 pub fn lex(alloc: Global, bytes: &[u8]) -> Result<Seq<Token>, LexFault>
     ensures tokens { IfOk result (λ tokens. lexed bytes.now ≡ Ok tokens) }

@@ -3,17 +3,18 @@
 
 mod class_laws;
 mod classes;
-mod cursor;
 mod expressions;
 mod fault;
 mod halt;
 mod heads;
 mod lex_laws;
 mod lexer;
+mod next;
 mod operands;
 mod parse_laws;
 mod programs;
 mod simple_statements;
+mod source;
 mod statements;
 mod tasks;
 mod token;

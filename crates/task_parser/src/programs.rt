@@ -13,6 +13,7 @@ use crate::classes::*;
 use crate::fault::ParseFault;
 use crate::halt::{Halt, Read};
 use crate::heads::heads;
+use crate::source::Source;
 use crate::tasks::tasks;
 use crate::token::Token;
 use gp_base::Seq;
@@ -22,20 +23,20 @@ use task_ast::Program;
 
 /// Heads and tasks.
 #[tactic(auto, unfolding(crate::specs::inner::ProgramReaders::read_program))]
-fn program<'a>(alloc: Global, text: &[u8], room: u32, tokens: &'a [Token]) -> Read<'a, Program>
-    ensures { Gives (λ x. (plain_program x.0, x.1.now)) result (read_program text.now room tokens.now) }
+fn program<'a>(source: Source<'_>, room: u32, tokens: &'a [Token]) -> Read<'a, Program>
+    ensures { Gives (λ x. (plain_program x.0, x.1.now)) result (read_program source.entry.text.now room tokens.now) }
 {
-    let (heads, rest) = heads(alloc, text, tokens)?;
-    let (tasks, rest) = tasks(alloc, text, room, rest)?;
+    let (heads, rest) = heads(source, tokens)?;
+    let (tasks, rest) = tasks(source, room, rest)?;
     Ok((Program { heads, tasks }, rest))
 }
 
 /// All of the tokens.
 #[tactic(auto, unfolding(crate::specs::inner::WholeText::read_all))]
-fn whole<'a>(alloc: Global, text: &[u8], tokens: &'a [Token]) -> Result<Program, Halt<'a>>
-    ensures { Gives plain_program result (read_all text.now tokens.now) }
+fn whole<'a>(source: Source<'_>, tokens: &'a [Token]) -> Result<Program, Halt<'a>>
+    ensures { Gives plain_program result (read_all source.entry.text.now tokens.now) }
 {
-    let (program, rest) = program(alloc, text, DEEPEST_NESTING, tokens)?;
+    let (program, rest) = program(source, DEEPEST_NESTING, tokens)?;
     if !rest.is_empty() {
         return Err(Halt::Unexpected(rest));
     }
@@ -86,7 +87,7 @@ pub fn parse(alloc: Global, text: &[u8], tokens: &Seq<Token>) -> Result<Program,
     // A fault is the first one, at its place.
     ensures fault { IfErr result (λ f. IsFirstFault text.now tokens.now f) }
 {
-    match whole(alloc, text, tokens.as_slice()) {
+    match whole(Source { alloc, text }, tokens.as_slice()) {
         Ok(program) => Ok(program),
         Err(halt) => Err(fault_of(text, halt)),
     }

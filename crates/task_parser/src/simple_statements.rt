@@ -5,23 +5,23 @@ ghost use Rattle.task_parser.specs.inner.StatementReaders.{read_set_ctl, read_lo
 ghost use Rattle.task_parser.specs.inner.Gives.{Gives};
 
 use crate::classes::*;
-use crate::cursor::{discard, expect, name, register};
 use crate::expressions::expression;
-use crate::halt::{Halt, Read};
+use crate::halt::{Halt, Read, discard};
+use crate::next::expect;
 use crate::operands::{arguments, atom, exprs, indexed, into_name, into_register};
+use crate::source::Source;
 use crate::token::Token;
-use std::alloc::Global;
 use task_ast::{Stmt, What};
 
 /// `NAME = expr ;`
 #[tactic(auto, using(task_ast::proofs::Views::view), unfolding(crate::specs::inner::StatementReaders::read_set_ctl))]
-pub fn set_ctl<'a>(alloc: Global, text: &[u8], room: u32, tokens: &'a [Token]) -> Read<'a, Stmt>
-    ensures { Gives (λ x. (plain_stmt x.0, x.1.now)) result (read_set_ctl text.now (read_expression text.now room) tokens.now) }
+pub fn set_ctl<'a>(source: Source<'_>, room: u32, tokens: &'a [Token]) -> Read<'a, Stmt>
+    ensures { Gives (λ x. (plain_stmt x.0, x.1.now)) result (read_set_ctl source.entry.text.now (read_expression source.entry.text.now room) tokens.now) }
 {
     let (variable, rest) = expect(tokens, NAME)?;
     let (_, rest) = expect(rest, ASSIGN)?;
-    let name = name(alloc, text, variable)?;
-    let (value, rest) = expression(alloc, text, room, rest)?;
+    let name = source.name(variable)?;
+    let (value, rest) = expression(source, room, rest)?;
     let (_, rest) = match expect(rest, SEMICOLON) {
         Ok(next) => next,
         Err(halt) => {
@@ -41,18 +41,13 @@ pub fn set_ctl<'a>(alloc: Global, text: &[u8], room: u32, tokens: &'a [Token]) -
 
 /// `DNAME = expr ;`
 #[tactic(auto, using(task_ast::proofs::Views::view), unfolding(crate::specs::inner::StatementReaders::read_set_reg))]
-pub fn set_register<'a>(
-    alloc: Global,
-    text: &[u8],
-    room: u32,
-    tokens: &'a [Token],
-) -> Read<'a, Stmt>
-    ensures { Gives (λ x. (plain_stmt x.0, x.1.now)) result (read_set_reg text.now (read_expression text.now room) tokens.now) }
+pub fn set_register<'a>(source: Source<'_>, room: u32, tokens: &'a [Token]) -> Read<'a, Stmt>
+    ensures { Gives (λ x. (plain_stmt x.0, x.1.now)) result (read_set_reg source.entry.text.now (read_expression source.entry.text.now room) tokens.now) }
 {
     let (variable, rest) = expect(tokens, REG)?;
     let (_, rest) = expect(rest, ASSIGN)?;
-    let register = register(alloc, text, variable)?;
-    let (value, rest) = expression(alloc, text, room, rest)?;
+    let register = source.register(variable)?;
+    let (value, rest) = expression(source, room, rest)?;
     let (_, rest) = match expect(rest, SEMICOLON) {
         Ok(next) => next,
         Err(halt) => {
@@ -72,12 +67,12 @@ pub fn set_register<'a>(
 
 /// `lock NAME [ atom ] ;`
 #[tactic(auto, using(task_ast::proofs::Views::view), unfolding(crate::specs::inner::StatementReaders::read_locking))]
-pub fn locking<'a>(alloc: Global, text: &[u8], tokens: &'a [Token]) -> Read<'a, Stmt>
-    ensures { Gives (λ x. (plain_stmt x.0, x.1.now)) result (read_locking text.now tokens.now) }
+pub fn locking<'a>(source: Source<'_>, tokens: &'a [Token]) -> Read<'a, Stmt>
+    ensures { Gives (λ x. (plain_stmt x.0, x.1.now)) result (read_locking source.entry.text.now tokens.now) }
 {
-    let (((word, array), index), rest) = indexed(alloc, text, LOCK, tokens)?;
+    let (((word, array), index), rest) = indexed(source, LOCK, tokens)?;
     let (_, rest) = expect(rest, SEMICOLON)?;
-    let what = What::Lock(name(alloc, text, array)?, index);
+    let what = What::Lock(source.name(array)?, index);
     Ok((
         Stmt {
             what,
@@ -89,12 +84,12 @@ pub fn locking<'a>(alloc: Global, text: &[u8], tokens: &'a [Token]) -> Read<'a, 
 
 /// `unlock NAME [ atom ] ;`
 #[tactic(auto, using(task_ast::proofs::Views::view), unfolding(crate::specs::inner::StatementReaders::read_unlocking))]
-pub fn unlocking<'a>(alloc: Global, text: &[u8], tokens: &'a [Token]) -> Read<'a, Stmt>
-    ensures { Gives (λ x. (plain_stmt x.0, x.1.now)) result (read_unlocking text.now tokens.now) }
+pub fn unlocking<'a>(source: Source<'_>, tokens: &'a [Token]) -> Read<'a, Stmt>
+    ensures { Gives (λ x. (plain_stmt x.0, x.1.now)) result (read_unlocking source.entry.text.now tokens.now) }
 {
-    let (((word, array), index), rest) = indexed(alloc, text, UNLOCK, tokens)?;
+    let (((word, array), index), rest) = indexed(source, UNLOCK, tokens)?;
     let (_, rest) = expect(rest, SEMICOLON)?;
-    let what = What::Unlock(name(alloc, text, array)?, index);
+    let what = What::Unlock(source.name(array)?, index);
     Ok((
         Stmt {
             what,
@@ -106,17 +101,17 @@ pub fn unlocking<'a>(alloc: Global, text: &[u8], tokens: &'a [Token]) -> Read<'a
 
 /// `fork NAME ( exprs ) into NAME ;`, where the expressions and the `into` may be left out
 #[tactic(auto, using(task_ast::proofs::Views::view), unfolding(crate::specs::inner::StatementReaders::read_forking))]
-pub fn forking<'a>(alloc: Global, text: &[u8], room: u32, tokens: &'a [Token]) -> Read<'a, Stmt>
-    ensures { Gives (λ x. (plain_stmt x.0, x.1.now)) result (read_forking text.now (read_expression text.now room) tokens.now) }
+pub fn forking<'a>(source: Source<'_>, room: u32, tokens: &'a [Token]) -> Read<'a, Stmt>
+    ensures { Gives (λ x. (plain_stmt x.0, x.1.now)) result (read_forking source.entry.text.now (read_expression source.entry.text.now room) tokens.now) }
 {
     let (word, rest) = expect(tokens, FORK)?;
     let (task, rest) = expect(rest, NAME)?;
     let (_, rest) = expect(rest, OPEN_PAREN)?;
-    let (arguments, rest) = arguments(alloc, text, room, rest)?;
+    let (arguments, rest) = arguments(source, room, rest)?;
     let (_, rest) = expect(rest, CLOSE_PAREN)?;
-    let (into, rest) = into_name(alloc, text, rest)?;
+    let (into, rest) = into_name(source, rest)?;
     let (_, rest) = expect(rest, SEMICOLON)?;
-    let what = What::Fork(name(alloc, text, task)?, arguments, into);
+    let what = What::Fork(source.name(task)?, arguments, into);
     Ok((
         Stmt {
             what,
@@ -128,12 +123,12 @@ pub fn forking<'a>(alloc: Global, text: &[u8], room: u32, tokens: &'a [Token]) -
 
 /// `join expr into DNAME ;`, where the `into` may be left out
 #[tactic(auto, using(task_ast::proofs::Views::view), unfolding(crate::specs::inner::StatementReaders::read_joining))]
-pub fn joining<'a>(alloc: Global, text: &[u8], room: u32, tokens: &'a [Token]) -> Read<'a, Stmt>
-    ensures { Gives (λ x. (plain_stmt x.0, x.1.now)) result (read_joining text.now (read_expression text.now room) tokens.now) }
+pub fn joining<'a>(source: Source<'_>, room: u32, tokens: &'a [Token]) -> Read<'a, Stmt>
+    ensures { Gives (λ x. (plain_stmt x.0, x.1.now)) result (read_joining source.entry.text.now (read_expression source.entry.text.now room) tokens.now) }
 {
     let (word, rest) = expect(tokens, JOIN)?;
-    let (thread, rest) = expression(alloc, text, room, rest)?;
-    let (into, rest) = match into_register(alloc, text, rest) {
+    let (thread, rest) = expression(source, room, rest)?;
+    let (into, rest) = match into_register(source, rest) {
         Ok(next) => next,
         Err(halt) => {
             discard(thread);
@@ -159,13 +154,13 @@ pub fn joining<'a>(alloc: Global, text: &[u8], room: u32, tokens: &'a [Token]) -
 
 /// `barrier NAME ;`
 #[tactic(auto, using(task_ast::proofs::Views::view), unfolding(crate::specs::inner::StatementReaders::read_waiting))]
-pub fn waiting<'a>(alloc: Global, text: &[u8], tokens: &'a [Token]) -> Read<'a, Stmt>
-    ensures { Gives (λ x. (plain_stmt x.0, x.1.now)) result (read_waiting text.now tokens.now) }
+pub fn waiting<'a>(source: Source<'_>, tokens: &'a [Token]) -> Read<'a, Stmt>
+    ensures { Gives (λ x. (plain_stmt x.0, x.1.now)) result (read_waiting source.entry.text.now tokens.now) }
 {
     let (word, rest) = expect(tokens, BARRIER)?;
     let (barrier, rest) = expect(rest, NAME)?;
     let (_, rest) = expect(rest, SEMICOLON)?;
-    let what = What::Barrier(name(alloc, text, barrier)?);
+    let what = What::Barrier(source.name(barrier)?);
     Ok((
         Stmt {
             what,
@@ -177,18 +172,14 @@ pub fn waiting<'a>(alloc: Global, text: &[u8], tokens: &'a [Token]) -> Read<'a, 
 
 /// `read NAME [ atom ] into DNAME ;`
 #[tactic(auto, using(task_ast::proofs::Views::view), unfolding(crate::specs::inner::StatementReaders::read_reading))]
-pub fn reading<'a>(alloc: Global, text: &[u8], tokens: &'a [Token]) -> Read<'a, Stmt>
-    ensures { Gives (λ x. (plain_stmt x.0, x.1.now)) result (read_reading text.now tokens.now) }
+pub fn reading<'a>(source: Source<'_>, tokens: &'a [Token]) -> Read<'a, Stmt>
+    ensures { Gives (λ x. (plain_stmt x.0, x.1.now)) result (read_reading source.entry.text.now tokens.now) }
 {
-    let (((word, from), index), rest) = indexed(alloc, text, READ, tokens)?;
+    let (((word, from), index), rest) = indexed(source, READ, tokens)?;
     let (_, rest) = expect(rest, INTO)?;
     let (into, rest) = expect(rest, REG)?;
     let (_, rest) = expect(rest, SEMICOLON)?;
-    let what = What::Read(
-        name(alloc, text, from)?,
-        index,
-        register(alloc, text, into)?,
-    );
+    let what = What::Read(source.name(from)?, index, source.register(into)?);
     Ok((
         Stmt {
             what,
@@ -200,10 +191,10 @@ pub fn reading<'a>(alloc: Global, text: &[u8], tokens: &'a [Token]) -> Read<'a, 
 
 /// `write NAME [ atom ] = expr ;`
 #[tactic(auto, using(task_ast::proofs::Views::view), unfolding(crate::specs::inner::StatementReaders::read_writing))]
-pub fn writing<'a>(alloc: Global, text: &[u8], room: u32, tokens: &'a [Token]) -> Read<'a, Stmt>
-    ensures { Gives (λ x. (plain_stmt x.0, x.1.now)) result (read_writing text.now (read_expression text.now room) tokens.now) }
+pub fn writing<'a>(source: Source<'_>, room: u32, tokens: &'a [Token]) -> Read<'a, Stmt>
+    ensures { Gives (λ x. (plain_stmt x.0, x.1.now)) result (read_writing source.entry.text.now (read_expression source.entry.text.now room) tokens.now) }
 {
-    let (((word, to), index), rest) = indexed(alloc, text, WRITE, tokens)?;
+    let (((word, to), index), rest) = indexed(source, WRITE, tokens)?;
     let (_, rest) = match expect(rest, ASSIGN) {
         Ok(next) => next,
         Err(halt) => {
@@ -211,7 +202,7 @@ pub fn writing<'a>(alloc: Global, text: &[u8], room: u32, tokens: &'a [Token]) -
             return Err(halt);
         }
     };
-    let (value, rest) = match expression(alloc, text, room, rest) {
+    let (value, rest) = match expression(source, room, rest) {
         Ok(next) => next,
         Err(halt) => {
             discard(index);
@@ -225,7 +216,7 @@ pub fn writing<'a>(alloc: Global, text: &[u8], room: u32, tokens: &'a [Token]) -
             return Err(halt);
         }
     };
-    let name = match name(alloc, text, to) {
+    let name = match source.name(to) {
         Ok(next) => next,
         Err(halt) => {
             discard((index, value));
@@ -244,11 +235,11 @@ pub fn writing<'a>(alloc: Global, text: &[u8], room: u32, tokens: &'a [Token]) -
 
 /// `print exprs ;`
 #[tactic(auto, using(task_ast::proofs::Views::view), unfolding(crate::specs::inner::StatementReaders::read_printing))]
-pub fn printing<'a>(alloc: Global, text: &[u8], room: u32, tokens: &'a [Token]) -> Read<'a, Stmt>
-    ensures { Gives (λ x. (plain_stmt x.0, x.1.now)) result (read_printing (read_expression text.now room) tokens.now) }
+pub fn printing<'a>(source: Source<'_>, room: u32, tokens: &'a [Token]) -> Read<'a, Stmt>
+    ensures { Gives (λ x. (plain_stmt x.0, x.1.now)) result (read_printing (read_expression source.entry.text.now room) tokens.now) }
 {
     let (word, rest) = expect(tokens, PRINT)?;
-    let (values, rest) = exprs(alloc, text, room, rest)?;
+    let (values, rest) = exprs(source, room, rest)?;
     let (_, rest) = expect(rest, SEMICOLON)?;
     let what = What::Print(values);
     Ok((

@@ -8,16 +8,16 @@ ghost use Rattle.task_parser.specs.inner.StatementReaders.{control_starts, data_
 ghost use Rattle.task_parser.specs.inner.Gives.{Gives, starts, read_allowed, allowed_below, read_block_at, read_else_at};
 
 use crate::classes::*;
-use crate::cursor::{discard, expect, is_next, is_of};
 use crate::expressions::expression;
-use crate::halt::{Halt, Read};
+use crate::halt::{Halt, Read, discard};
+use crate::next::{expect, is_next, is_of};
 use crate::simple_statements::{
     forking, joining, locking, printing, reading, set_ctl, set_register, unlocking, waiting,
     writing,
 };
+use crate::source::Source;
 use crate::token::Token;
 use gp_base::Seq;
-use std::alloc::Global;
 use task_ast::{Stmt, What};
 
 /// Which statements a block may hold: all, or data statements alone.
@@ -31,51 +31,49 @@ pub enum Allowed {
 #[tactic(auto, unfolding(crate::specs::inner::StatementReaders::read_block))]
 #[cycle(nesting)]
 fn block<'a>(
-    alloc: Global,
-    text: &[u8],
+    source: Source<'_>,
     allowed: Allowed,
     room: u32,
     tokens: &'a [Token],
 ) -> Read<'a, Seq<Stmt>>
-    ensures { Gives (λ x. (plain_block x.0, x.1.now)) result (read_block_at allowed text.now room tokens.now) }
+    ensures { Gives (λ x. (plain_block x.0, x.1.now)) result (read_block_at allowed source.entry.text.now room tokens.now) }
 {
     let (_, rest) = expect(tokens, OPEN_BRACE)?;
     if room == 0 {
         return Err(Halt::TooDeep(tokens));
     }
-    let (statements, rest) = statements(alloc, text, allowed, room - 1, rest)?;
+    let (statements, rest) = statements(source, allowed, room - 1, rest)?;
     let (_, rest) = expect(rest, CLOSE_BRACE)?;
     Ok((statements, rest))
 }
 
-/// The block behind an `else`, which is empty where there is none.
+/// The block after an `else`, which is empty where there is none.
 #[tactic(auto, unfolding(crate::specs::inner::StatementReaders::read_else))]
 #[cycle(nesting)]
 fn else_block<'a>(
-    alloc: Global,
-    text: &[u8],
+    source: Source<'_>,
     allowed: Allowed,
     room: u32,
     tokens: &'a [Token],
 ) -> Read<'a, Seq<Stmt>>
-    ensures { Gives (λ x. (plain_block x.0, x.1.now)) result (read_else_at allowed text.now room tokens.now) }
+    ensures { Gives (λ x. (plain_block x.0, x.1.now)) result (read_else_at allowed source.entry.text.now room tokens.now) }
 {
     if !is_next(tokens, ELSE) {
-        return Ok((Seq::new(alloc), tokens));
+        return Ok((Seq::new(source.alloc), tokens));
     }
     let (_, rest) = expect(tokens, ELSE)?;
-    block(alloc, text, allowed, room, rest)
+    block(source, allowed, room, rest)
 }
 
 /// `while expr { .. }`
 #[tactic(auto, using(task_ast::proofs::Views::view), unfolding(crate::specs::inner::StatementReaders::read_looping))]
 #[cycle(nesting)]
-fn looping<'a>(alloc: Global, text: &[u8], room: u32, tokens: &'a [Token]) -> Read<'a, Stmt>
-    ensures { Gives (λ x. (plain_stmt x.0, x.1.now)) result (read_looping (read_expression text.now room) (allowed_below Allowed.All text.now room) tokens.now) }
+fn looping<'a>(source: Source<'_>, room: u32, tokens: &'a [Token]) -> Read<'a, Stmt>
+    ensures { Gives (λ x. (plain_stmt x.0, x.1.now)) result (read_looping (read_expression source.entry.text.now room) (allowed_below Allowed.All source.entry.text.now room) tokens.now) }
 {
     let (word, rest) = expect(tokens, WHILE)?;
-    let (condition, rest) = expression(alloc, text, room, rest)?;
-    let (body, rest) = match block(alloc, text, Allowed::All, room, rest) {
+    let (condition, rest) = expression(source, room, rest)?;
+    let (body, rest) = match block(source, Allowed::All, room, rest) {
         Ok(next) => next,
         Err(halt) => {
             discard(condition);
@@ -95,19 +93,19 @@ fn looping<'a>(alloc: Global, text: &[u8], room: u32, tokens: &'a [Token]) -> Re
 /// `if expr { .. } else { .. }`, where the `else` may be left out
 #[tactic(auto, using(task_ast::proofs::Views::view), unfolding(crate::specs::inner::StatementReaders::read_branching))]
 #[cycle(nesting)]
-fn branching<'a>(alloc: Global, text: &[u8], room: u32, tokens: &'a [Token]) -> Read<'a, Stmt>
-    ensures { Gives (λ x. (plain_stmt x.0, x.1.now)) result (read_branching (read_expression text.now room) (allowed_below Allowed.All text.now room) tokens.now) }
+fn branching<'a>(source: Source<'_>, room: u32, tokens: &'a [Token]) -> Read<'a, Stmt>
+    ensures { Gives (λ x. (plain_stmt x.0, x.1.now)) result (read_branching (read_expression source.entry.text.now room) (allowed_below Allowed.All source.entry.text.now room) tokens.now) }
 {
     let (word, rest) = expect(tokens, IF)?;
-    let (condition, rest) = expression(alloc, text, room, rest)?;
-    let (first, rest) = match block(alloc, text, Allowed::All, room, rest) {
+    let (condition, rest) = expression(source, room, rest)?;
+    let (first, rest) = match block(source, Allowed::All, room, rest) {
         Ok(next) => next,
         Err(halt) => {
             discard(condition);
             return Err(halt);
         }
     };
-    let (second, rest) = match else_block(alloc, text, Allowed::All, room, rest) {
+    let (second, rest) = match else_block(source, Allowed::All, room, rest) {
         Ok(next) => next,
         Err(halt) => {
             discard(condition);
@@ -127,19 +125,19 @@ fn branching<'a>(alloc: Global, text: &[u8], room: u32, tokens: &'a [Token]) -> 
 /// `when expr { .. } else { .. }` on data statements, where the `else` may be left out
 #[tactic(auto, using(task_ast::proofs::Views::view), unfolding(crate::specs::inner::StatementReaders::read_choosing))]
 #[cycle(nesting)]
-fn choosing<'a>(alloc: Global, text: &[u8], room: u32, tokens: &'a [Token]) -> Read<'a, Stmt>
-    ensures { Gives (λ x. (plain_stmt x.0, x.1.now)) result (read_choosing (read_expression text.now room) (allowed_below Allowed.Data text.now room) tokens.now) }
+fn choosing<'a>(source: Source<'_>, room: u32, tokens: &'a [Token]) -> Read<'a, Stmt>
+    ensures { Gives (λ x. (plain_stmt x.0, x.1.now)) result (read_choosing (read_expression source.entry.text.now room) (allowed_below Allowed.Data source.entry.text.now room) tokens.now) }
 {
     let (word, rest) = expect(tokens, WHEN)?;
-    let (condition, rest) = expression(alloc, text, room, rest)?;
-    let (first, rest) = match block(alloc, text, Allowed::Data, room, rest) {
+    let (condition, rest) = expression(source, room, rest)?;
+    let (first, rest) = match block(source, Allowed::Data, room, rest) {
         Ok(next) => next,
         Err(halt) => {
             discard(condition);
             return Err(halt);
         }
     };
-    let (second, rest) = match else_block(alloc, text, Allowed::Data, room, rest) {
+    let (second, rest) = match else_block(source, Allowed::Data, room, rest) {
         Ok(next) => next,
         Err(halt) => {
             discard(condition);
@@ -159,54 +157,49 @@ fn choosing<'a>(alloc: Global, text: &[u8], room: u32, tokens: &'a [Token]) -> R
 /// A data statement.
 #[tactic(auto, unfolding(crate::specs::inner::StatementReaders::read_data_form, crate::specs::inner::StatementReaders::read_data_statement))]
 #[cycle(nesting)]
-fn data_statement<'a>(alloc: Global, text: &[u8], room: u32, tokens: &'a [Token]) -> Read<'a, Stmt>
-    ensures { Gives (λ x. (plain_stmt x.0, x.1.now)) result (read_data_statement text.now room tokens.now) }
+fn data_statement<'a>(source: Source<'_>, room: u32, tokens: &'a [Token]) -> Read<'a, Stmt>
+    ensures { Gives (λ x. (plain_stmt x.0, x.1.now)) result (read_data_statement source.entry.text.now room tokens.now) }
 {
     if is_next(tokens, REG) {
-        set_register(alloc, text, room, tokens)
+        set_register(source, room, tokens)
     } else if is_next(tokens, READ) {
-        reading(alloc, text, tokens)
+        reading(source, tokens)
     } else if is_next(tokens, WRITE) {
-        writing(alloc, text, room, tokens)
+        writing(source, room, tokens)
     } else if is_next(tokens, PRINT) {
-        printing(alloc, text, room, tokens)
+        printing(source, room, tokens)
     } else {
-        choosing(alloc, text, room, tokens)
+        choosing(source, room, tokens)
     }
 }
 
 /// A statement that is not a data statement.
 #[tactic(auto, unfolding(crate::specs::inner::StatementReaders::read_control_form))]
 #[cycle(nesting)]
-fn control_statement<'a>(
-    alloc: Global,
-    text: &[u8],
-    room: u32,
-    tokens: &'a [Token],
-) -> Read<'a, Stmt>
-    ensures { Gives (λ x. (plain_stmt x.0, x.1.now)) result (read_control_form text.now (read_expression text.now room) (allowed_below Allowed.All text.now room) tokens.now) }
+fn control_statement<'a>(source: Source<'_>, room: u32, tokens: &'a [Token]) -> Read<'a, Stmt>
+    ensures { Gives (λ x. (plain_stmt x.0, x.1.now)) result (read_control_form source.entry.text.now (read_expression source.entry.text.now room) (allowed_below Allowed.All source.entry.text.now room) tokens.now) }
 {
     if is_next(tokens, NAME) {
-        set_ctl(alloc, text, room, tokens)
+        set_ctl(source, room, tokens)
     } else if is_next(tokens, WHILE) {
-        looping(alloc, text, room, tokens)
+        looping(source, room, tokens)
     } else if is_next(tokens, IF) {
-        branching(alloc, text, room, tokens)
+        branching(source, room, tokens)
     } else if is_next(tokens, LOCK) {
-        locking(alloc, text, tokens)
+        locking(source, tokens)
     } else if is_next(tokens, UNLOCK) {
-        unlocking(alloc, text, tokens)
+        unlocking(source, tokens)
     } else if is_next(tokens, FORK) {
-        forking(alloc, text, room, tokens)
+        forking(source, room, tokens)
     } else if is_next(tokens, JOIN) {
-        joining(alloc, text, room, tokens)
+        joining(source, room, tokens)
     } else {
-        waiting(alloc, text, tokens)
+        waiting(source, tokens)
     }
 }
 
 /// Whether a statement that is not a data statement begins with the token.
-fn is_control(token: Token) -> bool
+fn is_control_start(token: Token) -> bool
     ensures { result ≡ among control_starts token }
 {
     is_of(token, NAME)
@@ -220,7 +213,7 @@ fn is_control(token: Token) -> bool
 }
 
 /// Whether a data statement begins with the token.
-fn is_data(token: Token) -> bool
+fn is_data_start(token: Token) -> bool
     ensures { result ≡ among data_starts token }
 {
     is_of(token, REG)
@@ -235,8 +228,8 @@ fn is_start(allowed: Allowed, token: Token) -> bool
     ensures { result ≡ among (starts allowed) token }
 {
     match allowed {
-        Allowed::All => is_control(token) || is_data(token),
-        Allowed::Data => is_data(token),
+        Allowed::All => is_control_start(token) || is_data_start(token),
+        Allowed::Data => is_data_start(token),
     }
 }
 
@@ -256,57 +249,55 @@ fn begins_control(tokens: &[Token]) -> bool
 {
     match tokens {
         [] => false,
-        [token, ..] => is_control(*token),
+        [token, ..] => is_control_start(*token),
     }
 }
 
 /// A statement.
 #[tactic(auto, unfolding(crate::specs::inner::StatementReaders::read_statement))]
 #[cycle(nesting)]
-fn any_statement<'a>(alloc: Global, text: &[u8], room: u32, tokens: &'a [Token]) -> Read<'a, Stmt>
-    ensures { Gives (λ x. (plain_stmt x.0, x.1.now)) result (read_statement text.now room tokens.now) }
+fn any_statement<'a>(source: Source<'_>, room: u32, tokens: &'a [Token]) -> Read<'a, Stmt>
+    ensures { Gives (λ x. (plain_stmt x.0, x.1.now)) result (read_statement source.entry.text.now room tokens.now) }
 {
     if begins_control(tokens) {
-        control_statement(alloc, text, room, tokens)
+        control_statement(source, room, tokens)
     } else {
-        data_statement(alloc, text, room, tokens)
+        data_statement(source, room, tokens)
     }
 }
 
 /// A statement that is allowed.
 #[cycle(nesting)]
 fn statement<'a>(
-    alloc: Global,
-    text: &[u8],
+    source: Source<'_>,
     allowed: Allowed,
     room: u32,
     tokens: &'a [Token],
 ) -> Read<'a, Stmt>
-    ensures { Gives (λ x. (plain_stmt x.0, x.1.now)) result (read_allowed allowed text.now room tokens.now) }
+    ensures { Gives (λ x. (plain_stmt x.0, x.1.now)) result (read_allowed allowed source.entry.text.now room tokens.now) }
 {
     match allowed {
-        Allowed::All => any_statement(alloc, text, room, tokens),
-        Allowed::Data => data_statement(alloc, text, room, tokens),
+        Allowed::All => any_statement(source, room, tokens),
+        Allowed::Data => data_statement(source, room, tokens),
     }
 }
 
 /// As many statements as there are, with room for so many constructs that nest.
 #[cycle(nesting)]
 pub fn statements<'a>(
-    alloc: Global,
-    text: &[u8],
+    source: Source<'_>,
     allowed: Allowed,
     room: u32,
     tokens: &'a [Token],
 ) -> Read<'a, Seq<Stmt>>
-    ensures { Gives (λ x. (plain_stmts x.0, x.1.now)) result (repeat (among (starts allowed)) (read_allowed allowed text.now room) tokens.now) }
+    ensures { Gives (λ x. (plain_stmts x.0, x.1.now)) result (repeat (among (starts allowed)) (read_allowed allowed source.entry.text.now room) tokens.now) }
 {
-    let mut statements = Seq::new(alloc);
+    let mut statements = Seq::new(source.alloc);
     let mut rest = tokens;
     while begins_statement(allowed, rest) {
-        let (next, behind) = statement(alloc, text, allowed, room, rest)?;
+        let (next, after) = statement(source, allowed, room, rest)?;
         statements.push(next)?;
-        rest = behind;
+        rest = after;
     }
     Ok((statements, rest))
 }

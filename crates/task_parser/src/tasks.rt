@@ -8,47 +8,47 @@ ghost use Rattle.task_parser.specs.inner.ProgramReaders.{param_starts, read_para
 ghost use Rattle.task_parser.specs.inner.Gives.{Gives};
 
 use crate::classes::*;
-use crate::cursor::{expect, is_next, is_of, name, register};
 use crate::halt::Read;
+use crate::next::{expect, is_next, is_of};
+use crate::source::Source;
 use crate::statements::{Allowed, statements};
 use crate::token::Token;
 use gp_base::Seq;
-use std::alloc::Global;
 use task_ast::{Param, TaskText, VarLine};
 
 /// A control variable or a data variable.
 #[tactic(auto, unfolding(crate::specs::inner::ProgramReaders::read_param))]
-fn param<'a>(alloc: Global, text: &[u8], tokens: &'a [Token]) -> Read<'a, Param>
-    ensures { Gives (λ x. (x.0, x.1.now)) result (read_param text.now tokens.now) }
+fn param<'a>(source: Source<'_>, tokens: &'a [Token]) -> Read<'a, Param>
+    ensures { Gives (λ x. (x.0, x.1.now)) result (read_param source.entry.text.now tokens.now) }
 {
     if is_next(tokens, NAME) {
         let (token, rest) = expect(tokens, NAME)?;
-        return Ok((Param::Ctl(name(alloc, text, token)?), rest));
+        return Ok((Param::Ctl(source.name(token)?), rest));
     }
     let (token, rest) = expect(tokens, REG)?;
-    Ok((Param::Reg(register(alloc, text, token)?), rest))
+    Ok((Param::Reg(source.register(token)?), rest))
 }
 
 /// A comma and a variable.
-fn next_param<'a>(alloc: Global, text: &[u8], tokens: &'a [Token]) -> Read<'a, Param>
-    ensures { Gives (λ x. (x.0, x.1.now)) result (read_after COMMA (read_param text.now) tokens.now) }
+fn next_param<'a>(source: Source<'_>, tokens: &'a [Token]) -> Read<'a, Param>
+    ensures { Gives (λ x. (x.0, x.1.now)) result (read_after COMMA (read_param source.entry.text.now) tokens.now) }
 {
     let (_, rest) = expect(tokens, COMMA)?;
-    param(alloc, text, rest)
+    param(source, rest)
 }
 
 /// Variables with commas between them.
-fn params<'a>(alloc: Global, text: &[u8], tokens: &'a [Token]) -> Read<'a, Seq<Param>>
-    ensures { Gives (λ x. (x.0, x.1.now)) result (read_separated COMMA (read_param text.now) tokens.now) }
+fn params<'a>(source: Source<'_>, tokens: &'a [Token]) -> Read<'a, Seq<Param>>
+    ensures { Gives (λ x. (x.0, x.1.now)) result (read_separated COMMA (read_param source.entry.text.now) tokens.now) }
 {
-    let (first, behind) = param(alloc, text, tokens)?;
-    let mut params = Seq::new(alloc);
+    let (first, after) = param(source, tokens)?;
+    let mut params = Seq::new(source.alloc);
     params.push(first)?;
-    let mut rest = behind;
+    let mut rest = after;
     while is_next(rest, COMMA) {
-        let (next, behind) = next_param(alloc, text, rest)?;
+        let (next, after) = next_param(source, rest)?;
         params.push(next)?;
-        rest = behind;
+        rest = after;
     }
     Ok((params, rest))
 }
@@ -65,56 +65,56 @@ fn begins_param(tokens: &[Token]) -> bool
 
 /// Variables with commas between them, or none.
 #[tactic(auto, unfolding(crate::specs::inner::StatementReaders::read_list))]
-fn param_list<'a>(alloc: Global, text: &[u8], tokens: &'a [Token]) -> Read<'a, Seq<Param>>
-    ensures { Gives (λ x. (x.0, x.1.now)) result (read_list param_starts (read_param text.now) tokens.now) }
+fn param_list<'a>(source: Source<'_>, tokens: &'a [Token]) -> Read<'a, Seq<Param>>
+    ensures { Gives (λ x. (x.0, x.1.now)) result (read_list param_starts (read_param source.entry.text.now) tokens.now) }
 {
     if begins_param(tokens) {
-        return params(alloc, text, tokens);
+        return params(source, tokens);
     }
-    Ok((Seq::new(alloc), tokens))
+    Ok((Seq::new(source.alloc), tokens))
 }
 
 /// One line of declared variables.
 #[tactic(auto, unfolding(crate::specs::inner::ProgramReaders::read_var_line))]
-fn var_line<'a>(alloc: Global, text: &[u8], tokens: &'a [Token]) -> Read<'a, VarLine>
-    ensures { Gives (λ x. (x.0, x.1.now)) result (read_var_line text.now tokens.now) }
+fn var_line<'a>(source: Source<'_>, tokens: &'a [Token]) -> Read<'a, VarLine>
+    ensures { Gives (λ x. (x.0, x.1.now)) result (read_var_line source.entry.text.now tokens.now) }
 {
     let (word, rest) = expect(tokens, VAR)?;
-    let (names, rest) = params(alloc, text, rest)?;
+    let (names, rest) = params(source, rest)?;
     let (_, rest) = expect(rest, SEMICOLON)?;
     let line = word.line;
     Ok((VarLine { names, line }, rest))
 }
 
 /// As many lines of declared variables as there are.
-fn var_lines<'a>(alloc: Global, text: &[u8], tokens: &'a [Token]) -> Read<'a, Seq<VarLine>>
-    ensures { Gives (λ x. (x.0, x.1.now)) result (repeat (among (VAR ∷ [])) (read_var_line text.now) tokens.now) }
+fn var_lines<'a>(source: Source<'_>, tokens: &'a [Token]) -> Read<'a, Seq<VarLine>>
+    ensures { Gives (λ x. (x.0, x.1.now)) result (repeat (among (VAR ∷ [])) (read_var_line source.entry.text.now) tokens.now) }
 {
-    let mut lines = Seq::new(alloc);
+    let mut lines = Seq::new(source.alloc);
     let mut rest = tokens;
     while is_next(rest, VAR) {
-        let (next, behind) = var_line(alloc, text, rest)?;
+        let (next, after) = var_line(source, rest)?;
         lines.push(next)?;
-        rest = behind;
+        rest = after;
     }
     Ok((lines, rest))
 }
 
 /// A task, with room for so many constructs that nest.
 #[tactic(auto, unfolding(crate::specs::inner::ProgramReaders::read_task))]
-fn task<'a>(alloc: Global, text: &[u8], room: u32, tokens: &'a [Token]) -> Read<'a, TaskText>
-    ensures { Gives (λ x. (plain_task x.0, x.1.now)) result (read_task text.now room tokens.now) }
+fn task<'a>(source: Source<'_>, room: u32, tokens: &'a [Token]) -> Read<'a, TaskText>
+    ensures { Gives (λ x. (plain_task x.0, x.1.now)) result (read_task source.entry.text.now room tokens.now) }
 {
     let (word, rest) = expect(tokens, TASK)?;
     let (title, rest) = expect(rest, NAME)?;
     let (_, rest) = expect(rest, OPEN_PAREN)?;
-    let (params, rest) = param_list(alloc, text, rest)?;
+    let (params, rest) = param_list(source, rest)?;
     let (_, rest) = expect(rest, CLOSE_PAREN)?;
     let (_, rest) = expect(rest, OPEN_BRACE)?;
-    let (vars, rest) = var_lines(alloc, text, rest)?;
-    let (body, rest) = statements(alloc, text, Allowed::All, room, rest)?;
+    let (vars, rest) = var_lines(source, rest)?;
+    let (body, rest) = statements(source, Allowed::All, room, rest)?;
     let (_, rest) = expect(rest, CLOSE_BRACE)?;
-    let name = name(alloc, text, title)?;
+    let name = source.name(title)?;
     let line = word.line;
     Ok((
         TaskText {
@@ -129,22 +129,17 @@ fn task<'a>(alloc: Global, text: &[u8], room: u32, tokens: &'a [Token]) -> Read<
 }
 
 /// One task or more.
-pub fn tasks<'a>(
-    alloc: Global,
-    text: &[u8],
-    room: u32,
-    tokens: &'a [Token],
-) -> Read<'a, Seq<TaskText>>
-    ensures { Gives (λ x. (map plain_task x.0, x.1.now)) result (read_some (among (TASK ∷ [])) (read_task text.now room) tokens.now) }
+pub fn tasks<'a>(source: Source<'_>, room: u32, tokens: &'a [Token]) -> Read<'a, Seq<TaskText>>
+    ensures { Gives (λ x. (map plain_task x.0, x.1.now)) result (read_some (among (TASK ∷ [])) (read_task source.entry.text.now room) tokens.now) }
 {
-    let (first, behind) = task(alloc, text, room, tokens)?;
-    let mut tasks = Seq::new(alloc);
+    let (first, after) = task(source, room, tokens)?;
+    let mut tasks = Seq::new(source.alloc);
     tasks.push(first)?;
-    let mut rest = behind;
+    let mut rest = after;
     while is_next(rest, TASK) {
-        let (next, behind) = task(alloc, text, room, rest)?;
+        let (next, after) = task(source, room, rest)?;
         tasks.push(next)?;
-        rest = behind;
+        rest = after;
     }
     Ok((tasks, rest))
 }

@@ -16,7 +16,7 @@ pub enum Kind {
     Mark(u8),
 }
 
-/// A token: its kind, the places of its first byte and of the byte behind it, and the line of its first byte, from 1.
+/// A token: its kind, the places of its first byte and of the byte after it, and the line of its first byte, from 1.
 #[derive(Clone, Copy, Debug, PartialEq, Eq)]
 pub struct Token {
     pub kind: Kind,

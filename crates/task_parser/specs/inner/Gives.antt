@@ -55,7 +55,7 @@ abbrev pub allowed_below : Allowed → Text → ℕ → Option (Reader Stmt)
 allowed_below allowed text zero = None
 allowed_below allowed text (suc room) = Some (read_allowed allowed text room)
 
--- a block of statements, and the block behind an `else`
+-- a block of statements, and the block after an `else`
 abbrev pub read_block_at : Allowed → Text → ℕ → Reader Block
 read_block_at allowed text room = read_block (starts allowed) (allowed_below allowed text room)
 

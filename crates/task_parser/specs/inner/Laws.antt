@@ -1,5 +1,5 @@
 -- What it means that a reader reads a form exactly.
-use Rattle.std.specs.Prelude.{◌≡◌, ℕ, suc, ◌+◌, ◌≤◌, Bool, true, false, cond, leb, List, [], ◌∷◌, ◌++◌, Result, Ok, Err}
+use Rattle.std.specs.Prelude.{◌≡◌, ℕ, suc, ◌+◌, Bool, true, false, cond, leb, List, [], ◌∷◌, ◌++◌, Result, Ok, Err}
 use Rattle.task_parser.specs.declared.token.Token.{Token}
 use Rattle.task_parser.specs.Words.{Placed, Form, tokens_of}
 use Rattle.task_parser.specs.Promise.{Stop, Within}
@@ -19,7 +19,7 @@ GoesBeyond true limit [] more = ⊥
 GoesBeyond true limit (t ∷ ts) [] = ⊥
 GoesBeyond true limit (t ∷ ts) (p ∷ ps) = (p.token ≡ t) × (p.nesting ≡ suc limit)
 
--- The tokens before the rest stand for the value, whatever other tokens come behind the next.
+-- The tokens before the rest stand for the value, whatever other tokens come after the next.
 pub record Took {A : Type 0} (limit depth : ℕ) (P : Form A) (read : Reader A) (ts : List Token) (value : A) (rest : List Token) : Type 0 where
   pub used : List Placed
   pub parts : ts ≡ tokens_of used ++ rest

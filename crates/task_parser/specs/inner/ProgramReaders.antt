@@ -10,7 +10,7 @@ use Rattle.task_parser.specs.Classes.{among}
 use Rattle.task_parser.specs.inner.Reading.{Reader, ◌▹◌, read_made, read_either, repeat, read_perhaps, read_the, ◌◃◌, read_after, read_some, read_separated}
 use Rattle.task_parser.specs.Expressions.{Text, is}
 use Rattle.task_parser.specs.inner.StatementReaders.{statement_starts, read_inner_block, read_list, read_statement}
-use Rattle.task_parser.specs.Programs.{lock_head_of, barrier_head_of, record_head_of, feed_head_of, file_in, ctl_param, reg_param, var_line_of, task_of, program_of}
+use Rattle.task_parser.specs.Programs.{lock_head_of, barrier_head_of, record_head_of, feed_head_of, file_in, ctl_param, reg_param, var_line_of, task_of, program_from}
 
 unfoldable pub read_sized : ℕ → Reader ((Token × Token) × Token)
 read_sized word = read_the word ▹ read_the NAME ◃ OPEN_BRACKET ▹ read_the NUM ◃ CLOSE_BRACKET
@@ -51,4 +51,4 @@ read_task text room =
     read_made (task_of text) (read_the TASK ▹ read_the NAME ◃ OPEN_PAREN ▹ read_list param_starts (read_param text) ◃ CLOSE_PAREN ◃ OPEN_BRACE ▹ repeat (is VAR) (read_var_line text) ▹ read_inner_block statement_starts (read_statement text room) ◃ CLOSE_BRACE)
 
 unfoldable pub read_program : Text → ℕ → Reader Program
-read_program text room = read_made program_of (repeat (among head_starts) (read_head text) ▹ read_some (is TASK) (read_task text room))
+read_program text room = read_made program_from (repeat (among head_starts) (read_head text) ▹ read_some (is TASK) (read_task text room))

@@ -1,5 +1,5 @@
 -- Reading all of the tokens, and what is answered where reading halts.
-use Rattle.std.specs.Prelude.{ℕ, List, [], ◌∷◌, Result, Ok, Err}
+use Rattle.std.specs.Prelude.{List, [], ◌∷◌, Result, Ok, Err}
 use Rattle.gp_base.specs.declared.limits.TheConstants.{DEEPEST_NESTING}
 use Rattle.task_ast.specs.Tree.{Program}
 use Rattle.task_parser.specs.declared.token.Token.{Token}

@@ -11,8 +11,8 @@ use Rattle.task_parser.proofs.expressions.+descent.Given as goal
 abbrev pub decreases-named : goal.decreases-named
 decreases-named l = l.room * 64 + 1
 
-abbrev pub decreases-inner : goal.decreases-inner
-decreases-inner l = l.room * 64
+abbrev pub decreases-operand_after : goal.decreases-operand_after
+decreases-operand_after l = l.room * 64
 
 abbrev pub decreases-group : goal.decreases-group
 decreases-group l = l.room * 64
@@ -38,10 +38,10 @@ decreases-chain l = l.room * 64 + (6 + 6 * tighter l.level)
 abbrev pub decreases-comparison : goal.decreases-comparison
 decreases-comparison l = l.room * 64 + 18
 
-abbrev pub invariant-members-loop-alloc : goal.invariant-members-loop-alloc
-invariant-members-loop-alloc l =
-    let read = repeat (among (operators l.level)) (read_member (operators l.level) (read_part l.level l.text l.room)) in
+abbrev pub invariant-members-loop-level : goal.invariant-members-loop-level
+invariant-members-loop-level l =
+    let read = repeat (among (operators l.level)) (read_member (operators l.level) (read_part l.level l.source.text.now l.room)) in
     also (plain_members l.members) (read l.rest) ≡ read l.tokens
 
-abbrev pub decreases-members-loop-alloc : goal.decreases-members-loop-alloc
-decreases-members-loop-alloc l = length l.rest
+abbrev pub decreases-members-loop-level : goal.decreases-members-loop-level
+decreases-members-loop-level l = length l.rest

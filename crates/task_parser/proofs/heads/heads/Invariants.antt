@@ -5,8 +5,8 @@ use Rattle.task_parser.specs.inner.ProgramReaders.{head_starts, read_head}
 use Rattle.task_parser.proofs.Loop.{also}
 use Rattle.task_parser.proofs.heads.heads.Given as goal
 
-abbrev pub invariant-loop-alloc : goal.invariant-loop-alloc
-invariant-loop-alloc l = also l.heads (repeat (among head_starts) (read_head l.text) l.rest) ≡ repeat (among head_starts) (read_head l.text) l.tokens
+abbrev pub invariant-loop-source : goal.invariant-loop-source
+invariant-loop-source l = also l.heads (repeat (among head_starts) (read_head l.source.text.now) l.rest) ≡ repeat (among head_starts) (read_head l.source.text.now) l.tokens
 
-abbrev pub decreases-loop-alloc : goal.decreases-loop-alloc
-decreases-loop-alloc l = length l.rest
+abbrev pub decreases-loop-source : goal.decreases-loop-source
+decreases-loop-source l = length l.rest

@@ -7,10 +7,10 @@ use Rattle.task_parser.specs.inner.ExpressionReaders.{read_expression}
 use Rattle.task_parser.proofs.Loop.{also}
 use Rattle.task_parser.proofs.operands.exprs.Given as goal
 
-abbrev pub invariant-loop-alloc : goal.invariant-loop-alloc
-invariant-loop-alloc l =
-    let read = read_expression l.text l.room in
+abbrev pub invariant-loop-source : goal.invariant-loop-source
+invariant-loop-source l =
+    let read = read_expression l.source.text.now l.room in
     also (plain_exprs l.exprs) (repeat (among (COMMA ∷ [])) (read_after COMMA read) l.rest) ≡ read_separated COMMA read l.tokens
 
-abbrev pub decreases-loop-alloc : goal.decreases-loop-alloc
-decreases-loop-alloc l = length l.rest
+abbrev pub decreases-loop-source : goal.decreases-loop-source
+decreases-loop-source l = length l.rest

@@ -36,10 +36,10 @@ decreases-statement l = l.room * 8 + 5
 abbrev pub decreases-statements : goal.decreases-statements
 decreases-statements l = l.room * 8 + 6
 
-abbrev pub invariant-statements-loop-alloc : goal.invariant-statements-loop-alloc
-invariant-statements-loop-alloc l =
-    let read = repeat (among (starts l.allowed)) (read_allowed l.allowed l.text l.room) in
+abbrev pub invariant-statements-loop-allowed : goal.invariant-statements-loop-allowed
+invariant-statements-loop-allowed l =
+    let read = repeat (among (starts l.allowed)) (read_allowed l.allowed l.source.text.now l.room) in
     also (plain_stmts l.statements) (read l.rest) ≡ read l.tokens
 
-abbrev pub decreases-statements-loop-alloc : goal.decreases-statements-loop-alloc
-decreases-statements-loop-alloc l = length l.rest
+abbrev pub decreases-statements-loop-allowed : goal.decreases-statements-loop-allowed
+decreases-statements-loop-allowed l = length l.rest

@@ -7,10 +7,10 @@ use Rattle.task_parser.proofs.ReadPrograms.{task_shortens}
 use Rattle.task_parser.proofs.Loop.{pushed}
 use Rattle.task_parser.proofs.tasks.tasks.Goals as goal
 
-pub loop-alloc-smaller : goal.loop-alloc-smaller
-loop-alloc-smaller c = task_shortens c.args.text.now c.args.room c.loop-alloc.rest.now _ c.in_ok-next.behind.now c.in_ok-next.ensures
+pub loop-source-smaller : goal.loop-source-smaller
+loop-source-smaller c = task_shortens c.args.source.text.now c.args.room c.loop-source.rest.now _ c.in_ok-next.after.now c.in_ok-next.ensures
 
-pub loop-alloc-preserved : goal.loop-alloc-preserved
-loop-alloc-preserved c =
+pub loop-source-preserved : goal.loop-source-preserved
+loop-source-preserved c =
     rw c.in_ok-push-2.ensures.ok
-    (pushed (among (TASK ∷ [])) (read_task c.args.text.now c.args.room) plain_task c.loop-alloc.tasks c.in_ok-next.next c.loop-alloc.rest.now c.in_ok-next.behind.now _ (task_shortens c.args.text.now c.args.room) (sym c.is_next.ensures ∙ c.loop-alloc-test.true) c.in_ok-next.ensures c.loop-alloc.invariant)
+    (pushed (among (TASK ∷ [])) (read_task c.args.source.text.now c.args.room) plain_task c.loop-source.tasks c.in_ok-next.next c.loop-source.rest.now c.in_ok-next.after.now _ (task_shortens c.args.source.text.now c.args.room) (sym c.is_next.ensures ∙ c.loop-source-test.true) c.in_ok-next.ensures c.loop-source.invariant)

@@ -7,8 +7,8 @@ use Rattle.task_parser.specs.inner.ProgramReaders.{read_task}
 use Rattle.task_parser.proofs.Loop.{also}
 use Rattle.task_parser.proofs.tasks.tasks.Given as goal
 
-abbrev pub invariant-loop-alloc : goal.invariant-loop-alloc
-invariant-loop-alloc l = also (map plain_task l.tasks) (repeat (among (TASK ∷ [])) (read_task l.text l.room) l.rest) ≡ read_some (among (TASK ∷ [])) (read_task l.text l.room) l.tokens
+abbrev pub invariant-loop-source : goal.invariant-loop-source
+invariant-loop-source l = also (map plain_task l.tasks) (repeat (among (TASK ∷ [])) (read_task l.source.text.now l.room) l.rest) ≡ read_some (among (TASK ∷ [])) (read_task l.source.text.now l.room) l.tokens
 
-abbrev pub decreases-loop-alloc : goal.decreases-loop-alloc
-decreases-loop-alloc l = length l.rest
+abbrev pub decreases-loop-source : goal.decreases-loop-source
+decreases-loop-source l = length l.rest

@@ -6,8 +6,8 @@ use Rattle.task_parser.specs.inner.ProgramReaders.{read_var_line}
 use Rattle.task_parser.proofs.Loop.{also}
 use Rattle.task_parser.proofs.tasks.var_lines.Given as goal
 
-abbrev pub invariant-loop-alloc : goal.invariant-loop-alloc
-invariant-loop-alloc l = also l.lines (repeat (among (VAR ∷ [])) (read_var_line l.text) l.rest) ≡ repeat (among (VAR ∷ [])) (read_var_line l.text) l.tokens
+abbrev pub invariant-loop-source : goal.invariant-loop-source
+invariant-loop-source l = also l.lines (repeat (among (VAR ∷ [])) (read_var_line l.source.text.now) l.rest) ≡ repeat (among (VAR ∷ [])) (read_var_line l.source.text.now) l.tokens
 
-abbrev pub decreases-loop-alloc : goal.decreases-loop-alloc
-decreases-loop-alloc l = length l.rest
+abbrev pub decreases-loop-source : goal.decreases-loop-source
+decreases-loop-source l = length l.rest
