@@ -11,9 +11,9 @@ use Rattle.task_ast.specs.View.{plain_stmt, plain_what, plain_task}
 use Rattle.task_ast.proofs.Views.{stmt_At}
 use Rattle.one_thread.specs.declared.left.Left.{Left}
 use Rattle.one_thread.specs.declared.walk.Walk.{Walk}
-use Rattle.one_thread.specs.Remaining.{left_of, rest_of}
-use Rattle.one_thread.specs.Working.{all_worked}
-use Rattle.one_thread.specs.Walking.{setting_of, point_of, Keeps, LeadsTo, Begun, Gives}
+use Rattle.one_thread.specs.inner.Remaining.{left_of, rest_of}
+use Rattle.one_thread.specs.inner.Working.{all_worked}
+use Rattle.one_thread.specs.inner.Walking.{setting_of, point_of, Keeps, LeadsTo, Begun, Gives}
 use Rattle.one_thread.proofs.Walks.{with_left}
 
 -- whether a subthread that begins here does nothing first

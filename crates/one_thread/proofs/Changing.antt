@@ -6,7 +6,7 @@ use Rattle.task_ast.specs.Repeat.{More}
 use Rattle.task_ast.specs.Turn.{released_at, passing}
 use Rattle.one_thread.specs.declared.seats.Table.{Table}
 use Rattle.one_thread.specs.declared.seats.Seat.{Seat as SeatHere}
-use Rattle.one_thread.specs.View.{table_of, seat_of, token_of}
+use Rattle.one_thread.specs.inner.View.{table_of, seat_of, token_of}
 
 -- one member is replaced
 pub map-replaced : {A B : Type 0} (v : A → B) (xs : List A) (i : ℕ) (f : B → B) (x y : A) → slice_get xs i ≡ Some x → v y ≡ f (v x) →

@@ -13,7 +13,7 @@ use Rattle.task_ast.specs.Action.{Term, MoreTerms, OneTerm, Action, Say, Choose,
 use Rattle.task_ast.specs.Effect.{term_value, terms_value}
 use Rattle.task_ast.specs.Control.{all_of}
 use Rattle.one_thread.specs.declared.data.Data.{Data}
-use Rattle.one_thread.specs.Working.{first_unless, worked, arm_worked, Works, ArmWorks}
+use Rattle.one_thread.specs.inner.Working.{first_unless, worked, arm_worked, Works, ArmWorks}
 
 map_some : {A B : Type 0} (f : A → B) (o : Option A) → is_some (option_map f o) ≡ is_some o
 map_some f None = refl

@@ -3,7 +3,7 @@ use Rattle.std.proofs.Common.{◌≡◌, ℕ, zero, suc, ◌+◌, ◌<◌, ℤ, 
 use Rattle.std.specs.Prelude.{is_some, slice_get, slice_set, find, replicate, pos}
 use Rattle.task_ast.specs.Effect.{term_value}
 use Rattle.one_thread.specs.declared.data.Data.{Data}
-use Rattle.one_thread.specs.Working.{worked, all_worked}
+use Rattle.one_thread.specs.inner.Working.{worked, all_worked}
 use Rattle.std.proofs.lemmas.Bool.{false≢true, ltb-true, ltb-false}
 use Rattle.task_ast.specs.declared.env.Env.{Env}
 use Rattle.task_ast.specs.declared.sync.SyncOp.TheVariants as sync
@@ -22,8 +22,8 @@ use Rattle.task_ast.specs.View.{plain_expr, plain_exprs, plain_task, plain_progr
 use Rattle.task_ast.proofs.Terms.{position-cons}
 use Rattle.one_thread.specs.declared.walk.Walk.{Walk}
 use Rattle.one_thread.specs.declared.walk.Went.TheVariants as went
-use Rattle.one_thread.specs.Remaining.{rest_of}
-use Rattle.one_thread.specs.Walking.{setting_of, point_of, Stepped, Gives}
+use Rattle.one_thread.specs.inner.Remaining.{rest_of}
+use Rattle.one_thread.specs.inner.Walking.{setting_of, point_of, Stepped, Gives}
 use Rattle.std.proofs.Math.ListN.{drop_of_length-le}
 use Rattle.one_thread.proofs.Fitting.{from-here, and_then_some}
 use Rattle.one_thread.proofs.Steps.{env_is, stays}

@@ -4,7 +4,7 @@ use Rattle.std.specs.Prelude.{◌==◌, slice_get, slice_set, unwrap_or, replica
 use Rattle.std.specs.List.{filter}
 use Rattle.std.proofs.lemmas.Bool.{lt-ltb, le-ltb, eqb-true, eq-eqb, false≢true}
 use Rattle.task_ast.specs.Table.{owned_from}
-use Rattle.one_thread.specs.Holding.{with_lock, held_at, after_change, AreHeld}
+use Rattle.one_thread.specs.inner.Holding.{with_lock, held_at, after_change, AreHeld}
 
 abbrev is_owner : ℕ → Option ℕ → Bool
 is_owner t None = false

@@ -8,7 +8,7 @@ use Rattle.task_ast.specs.Table.{Table, next_of, unpassed, with_nth}
 use Rattle.task_ast.specs.Turn.{Issue, issuing, owners_after, seats_after, child_of}
 use Rattle.one_thread.specs.declared.seats.Table.{Table as Ring}
 use Rattle.one_thread.specs.declared.seats.Seat.{Seat}
-use Rattle.one_thread.specs.View.{table_of, seat_of, token_of, begun}
+use Rattle.one_thread.specs.inner.View.{table_of, seat_of, token_of, begun}
 use Rattle.one_thread.proofs.Looking.{seat-next}
 use Rattle.one_thread.proofs.Changing.{map-replaced}
 

@@ -10,7 +10,7 @@ use Rattle.task_ast.specs.Table.{numbers, ring, next_of, is_end, is_known_end, h
 use Rattle.task_ast.specs.Turn.{Look, To, Unknown, NoThread, look, look_at}
 use Rattle.one_thread.specs.declared.seats.Table.{Table}
 use Rattle.one_thread.specs.declared.seats.Seat.{Seat}
-use Rattle.one_thread.specs.View.{table_of, seat_of, token_of, look_with, look_of}
+use Rattle.one_thread.specs.inner.View.{table_of, seat_of, token_of, look_with, look_of}
 
 -- what is read at an index within the list
 pub get-at : {X : Type 0} (xs : List X) (i : ℕ) (x : X) → i < length xs → x ≡ get_or xs i x → slice_get xs i ≡ Some x

@@ -11,7 +11,7 @@ use Rattle.task_ast.specs.State.{number_at}
 use Rattle.task_ast.specs.Effect.{term_value, Doing, picked, cell_now, done, arm_done, all_done}
 use Rattle.task_ast.specs.laws.Keeps.{NamesOnly, ArmNamesOnly, AllName}
 use Rattle.one_thread.specs.declared.data.Data.{Data}
-use Rattle.one_thread.specs.Working.{first_unless, worked, arm_worked, all_worked}
+use Rattle.one_thread.specs.inner.Working.{first_unless, worked, arm_worked, all_worked}
 
 -- the data at hand are those of a subthread that found these cells
 pub record Mirrors (found : ℕ → ℤ) (count : ℕ) (d : Doing) (w : Data) : Type 0 where

@@ -18,10 +18,10 @@ use Rattle.task_ast.specs.View.{plain_task, plain_program}
 use Rattle.task_ast.proofs.Terms.{position-cons}
 use Rattle.one_thread.specs.declared.walk.Walk.{Walk}
 use Rattle.one_thread.specs.declared.threads.Run.{Run}
-use Rattle.one_thread.specs.Holding.{AreHeld}
-use Rattle.one_thread.specs.View.{table_of}
-use Rattle.one_thread.specs.Walking.{point_of}
-use Rattle.one_thread.specs.Runs.{slots_of, registers_at, IsSound, AreSound, IsNew, Holds}
+use Rattle.one_thread.specs.inner.Holding.{AreHeld}
+use Rattle.one_thread.specs.inner.View.{table_of}
+use Rattle.one_thread.specs.inner.Walking.{point_of}
+use Rattle.one_thread.specs.inner.Runs.{slots_of, registers_at, IsSound, AreSound, IsNew, Holds}
 
 -- ---- cells
 numbers-next : (c n : ℕ) → c < n → numbers c (n - c) ≡ c ∷ numbers (c + 1) (n - (c + 1))

@@ -23,11 +23,12 @@ use Rattle.one_thread.specs.declared.threads.Run.{Run}
 use Rattle.one_thread.specs.declared.run.Step.{Step}
 use Rattle.one_thread.specs.declared.run.PlainRun.{PlainRun}
 use Rattle.one_thread.specs.declared.run.Move.{Move as Found}
-use Rattle.one_thread.specs.Holding.{AreHeld}
-use Rattle.one_thread.specs.View.{table_of, seat_of}
-use Rattle.one_thread.specs.Walking.{point_of}
-use Rattle.one_thread.specs.Runs.{IsSmall, Performed, Holds, grown}
-use Rattle.one_thread.specs.PlainRuns.{shown, IsPlainRun, Stepped, Went, Halted, Follows, Ahead}
+use Rattle.one_thread.specs.inner.Holding.{AreHeld}
+use Rattle.one_thread.specs.inner.View.{table_of, seat_of}
+use Rattle.one_thread.specs.inner.Walking.{point_of}
+use Rattle.one_thread.specs.inner.Runs.{IsSmall, Performed, Holds, grown}
+use Rattle.one_thread.specs.PlainRuns.{shown, IsPlainRun}
+use Rattle.one_thread.specs.inner.Moves.{Stepped, Went, Halted, Follows, Ahead}
 use Rattle.one_thread.proofs.Issues.{Issues, issued-so}
 use Rattle.one_thread.proofs.Performing.{after_it, lines-are, holds-after, threads-after}
 

@@ -18,9 +18,9 @@ use Rattle.task_ast.specs.Shaped.{is_data}
 use Rattle.task_ast.specs.View.{plain_stmts, plain_block}
 use Rattle.one_thread.specs.declared.walk.Walk.{Walk}
 use Rattle.one_thread.specs.declared.walk.Went.TheVariants as went
-use Rattle.one_thread.specs.Remaining.{left_of, rest_of}
-use Rattle.one_thread.specs.Working.{worked, Works}
-use Rattle.one_thread.specs.Walking.{setting_of, point_of, Keeps, LeadsTo, Stepped}
+use Rattle.one_thread.specs.inner.Remaining.{left_of, rest_of}
+use Rattle.one_thread.specs.inner.Working.{worked, Works}
+use Rattle.one_thread.specs.inner.Walking.{setting_of, point_of, Keeps, LeadsTo, Stepped}
 use Rattle.one_thread.proofs.Lefts.{statements-block}
 
 not_zero : int_eq (pos 0) (pos 0) ≡ false → ⊥

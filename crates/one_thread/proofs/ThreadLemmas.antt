@@ -10,9 +10,9 @@ use Rattle.task_ast.specs.Control.{Point}
 use Rattle.task_ast.specs.Plain.{no_task, task_at, given, start_point}
 use Rattle.task_ast.specs.View.{plain_task, plain_program, plain_stmts, plain_block}
 use Rattle.one_thread.specs.declared.walk.Walk.{Walk}
-use Rattle.one_thread.specs.Remaining.{left_of}
-use Rattle.one_thread.specs.Walking.{point_of}
-use Rattle.one_thread.specs.Runs.{slots_of, registers_at, IsSound, IsNew}
+use Rattle.one_thread.specs.inner.Remaining.{left_of}
+use Rattle.one_thread.specs.inner.Walking.{point_of}
+use Rattle.one_thread.specs.inner.Runs.{slots_of, registers_at, IsSound, IsNew}
 use Rattle.one_thread.proofs.Lefts.{statements-block}
 
 some_is : {A : Type 0} {x y : A} → Some x ≡ Some y → x ≡ y

@@ -21,7 +21,7 @@ use Rattle.std.proofs.lemmas.Bool.{false≢true, le-leb, lt-leb}
 use Rattle.task_ast.proofs.Rounds.{keeps_nth, keeps_map}
 use Rattle.one_thread.specs.declared.seats.Table.{Table as Ring}
 use Rattle.one_thread.specs.declared.seats.Seat.{Seat}
-use Rattle.one_thread.specs.View.{table_of, seat_of, stand_view, look_of, look_with, is_free_to_go, gives, gave}
+use Rattle.one_thread.specs.inner.View.{table_of, seat_of, stand_view, look_of, look_with, is_free_to_go, gives, gave}
 use Rattle.one_thread.proofs.Looking.{seat-next}
 use Rattle.one_thread.proofs.Changing.{map-replaced}
 

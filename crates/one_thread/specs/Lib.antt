@@ -1,9 +1,2 @@
-pub mod Holding
-pub mod Places
 pub mod PlainRuns
-pub mod Remaining
-pub mod Runs
-pub mod Subthreads
-pub mod View
-pub mod Walking
-pub mod Working
+pub mod inner

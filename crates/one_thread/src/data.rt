@@ -8,7 +8,7 @@ ghost use Rattle.task_ast.specs.Effect.{term_value, terms_value};
 ghost use Rattle.task_ast.specs.Control.{action, arm, all_of};
 ghost use Rattle.task_ast.specs.View.{plain_expr, plain_exprs, plain_links, plain_what, plain_stmts, plain_block};
 ghost use Rattle.task_ast.specs.Tree.{Name as PlainName};
-ghost use Rattle.one_thread.specs.Working.{setting_in, Works, ArmWorks};
+ghost use Rattle.one_thread.specs.inner.Working.{setting_in, Works, ArmWorks};
 
 use crate::cells::{record_number, same_name};
 use crate::variables::{number_at, register_place, set_number};

@@ -1,7 +1,7 @@
 // The statements that a thread has left.
 ghost use Rattle.std.specs.Prelude.{◌≡◌, [], ◌∷◌, ◌++◌, IfNone, IfSome, OnOk};
 ghost use Rattle.task_ast.specs.View.{plain_stmt, plain_stmts};
-ghost use Rattle.one_thread.specs.Remaining.{left_of, rest_of};
+ghost use Rattle.one_thread.specs.inner.Remaining.{left_of, rest_of};
 
 use std::alloc::{AllocError, Global};
 use task_ast::Stmt;

@@ -3,7 +3,7 @@ ghost use Rattle.std.specs.Prelude.{◌≡◌, ℕ, replicate, IfOk, OnOk, is_no
 ghost use Rattle.std.specs.Option.{option_and_then};
 ghost use Rattle.task_ast.specs.Table.{owned_from};
 ghost use Rattle.task_ast.specs.Turn.{owners_after};
-ghost use Rattle.one_thread.specs.Holding.{with_lock, held_at, after_change, AreHeld};
+ghost use Rattle.one_thread.specs.inner.Holding.{with_lock, held_at, after_change, AreHeld};
 
 use gp_base::Seq;
 use std::alloc::{AllocError, Global};

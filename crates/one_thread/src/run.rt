@@ -5,9 +5,10 @@ ghost use Rattle.gp_base.specs.declared.feed.Inputs.{Inputs as InputsThere};
 ghost use Rattle.task_ast.specs.Plain.{Plain};
 ghost use Rattle.task_ast.specs.View.{plain_program};
 ghost use Rattle.lock_checker.specs.Accepted.{program_of};
-ghost use Rattle.one_thread.specs.Holding.{AreHeld};
-ghost use Rattle.one_thread.specs.Runs.{slots_of, AreSound, Holds, IsSmall};
-ghost use Rattle.one_thread.specs.PlainRuns.{IsPlainRun, Stepped, Follows};
+ghost use Rattle.one_thread.specs.inner.Holding.{AreHeld};
+ghost use Rattle.one_thread.specs.inner.Runs.{slots_of, AreSound, Holds, IsSmall};
+ghost use Rattle.one_thread.specs.PlainRuns.{IsPlainRun};
+ghost use Rattle.one_thread.specs.inner.Moves.{Stepped, Follows};
 
 use crate::footprints::footprint;
 use crate::opening::all_registers;
@@ -103,7 +104,7 @@ fn cells_of(run: Run) -> Nums
 }
 
 /// The plain run of an accepted program: one thread performs its subthreads one after another, in the order of the
-/// token and without faults. The only error is want of memory.
+/// token and without faults. The only error is out of memory.
 pub fn run_plain(
     alloc: Global,
     c: &Checked,

@@ -2,8 +2,8 @@
 ghost use Rattle.std.specs.Prelude.{◌≡◌, ◌<◌, ◌-◌, [], ◌∷◌, length, map, replicate, IfOk, IfSome, None};
 ghost use Rattle.task_ast.specs.Table.{numbers, ring, learning, unpassed};
 ghost use Rattle.task_ast.specs.Turn.{look};
-ghost use Rattle.one_thread.specs.Holding.{AreHeld};
-ghost use Rattle.one_thread.specs.View.{table_of, seat_of, look_of};
+ghost use Rattle.one_thread.specs.inner.Holding.{AreHeld};
+ghost use Rattle.one_thread.specs.inner.View.{table_of, seat_of, look_of};
 
 use crate::owners::Owners;
 use std::alloc::{AllocError, Global};

@@ -2,7 +2,7 @@
 ghost use Rattle.std.specs.Prelude.{◌≡◌, ◌<◌, ◌≤◌, map, length, IfOk, OnOk};
 ghost use Rattle.task_ast.specs.declared.sync.Next.{Next as NextThere};
 ghost use Rattle.task_ast.specs.State;
-ghost use Rattle.one_thread.specs.Runs.{slots_of, registers_at, joined_of, AreSound, IsNew, Forks, Performed, IsSmall};
+ghost use Rattle.one_thread.specs.inner.Runs.{slots_of, registers_at, joined_of, AreSound, IsNew, Forks, Performed, IsSmall};
 
 use crate::data::Data;
 use crate::left::Left;

@@ -5,8 +5,8 @@ ghost use Rattle.task_ast.specs.declared.sync.Next.{Next as NextThere};
 ghost use Rattle.task_ast.specs.declared.sync.SyncOp.TheVariants as sync;
 ghost use Rattle.task_ast.specs.Table.{next_of, waits_at};
 ghost use Rattle.task_ast.specs.Turn.{turn, next_issue, tried, issuing, passing, look, seats_after, child_of, deadlocked, all_threads, met, arrived, released_at};
-ghost use Rattle.one_thread.specs.Holding.{AreHeld};
-ghost use Rattle.one_thread.specs.View.{table_of, seat_of, gives, gave, begun, joined_in, is_free_to_go, Halts};
+ghost use Rattle.one_thread.specs.inner.Holding.{AreHeld};
+ghost use Rattle.one_thread.specs.inner.View.{table_of, seat_of, gives, gave, begun, joined_in, is_free_to_go, Halts};
 
 use crate::seats::{Seat, Stand, Table, clear, is_end, new_seat};
 use gp_base::limits::MOST_THREADS;

@@ -5,7 +5,7 @@ ghost use Rattle.task_ast.specs.State.{number_at};
 ghost use Rattle.task_ast.specs.Control.{with_value};
 ghost use Rattle.task_ast.specs.Plain.{given};
 ghost use Rattle.task_ast.specs.View.{plain_task};
-ghost use Rattle.one_thread.specs.Places.{IsPlaceOf};
+ghost use Rattle.one_thread.specs.inner.Places.{IsPlaceOf};
 
 use crate::cells::same_name;
 use gp_base::{Name, Nums, Seq};

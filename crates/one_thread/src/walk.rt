@@ -8,9 +8,9 @@ ghost use Rattle.task_ast.specs.Control.{step, step_at, tree_body, control_argum
 ghost use Rattle.task_ast.specs.View.{plain_expr, plain_exprs, plain_stmts, plain_block, plain_what, plain_task, plain_program};
 ghost use Rattle.task_ast.specs.Shaped.{is_data};
 ghost use Rattle.task_ast.specs.Action.{Action};
-ghost use Rattle.one_thread.specs.Working.{all_worked};
-ghost use Rattle.one_thread.specs.Remaining.{left_of, rest_of};
-ghost use Rattle.one_thread.specs.Walking.{setting_of, point_of, LeadsTo, Stepped, Came, Halted, Ran, Begun, Gives};
+ghost use Rattle.one_thread.specs.inner.Working.{all_worked};
+ghost use Rattle.one_thread.specs.inner.Remaining.{left_of, rest_of};
+ghost use Rattle.one_thread.specs.inner.Walking.{setting_of, point_of, LeadsTo, Stepped, Came, Halted, Ran, Begun, Gives};
 
 use crate::cells::{barrier_number, lock_number, same_name};
 use crate::data::{Data, data_value, fits, has_value, index_of, is_zero, perform, register_number};

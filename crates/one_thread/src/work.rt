@@ -3,8 +3,8 @@ ghost use Rattle.std.specs.Prelude.{◌≡◌, ◌≤◌, [], IfOk, OnOk};
 ghost use Rattle.task_ast.specs.Names.{locks_of, records_of, cells_in, registers_of};
 ghost use Rattle.task_ast.specs.View.{plain_task};
 ghost use Rattle.task_ast.specs.Control.{first_actions, beginning};
-ghost use Rattle.one_thread.specs.Walking.{setting_of, point_of, Begun};
-ghost use Rattle.one_thread.specs.Subthreads.{at_work, is_start, RanWith};
+ghost use Rattle.one_thread.specs.inner.Walking.{setting_of, point_of, Begun};
+ghost use Rattle.one_thread.specs.inner.Subthreads.{at_work, is_start, RanWith};
 
 use crate::walk::Walk;
 use gp_base::{Feed, Lines, Name, Nums, Seq};

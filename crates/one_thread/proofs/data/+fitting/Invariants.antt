@@ -3,7 +3,7 @@ use Rattle.std.specs.Prelude.{is_some}
 use Rattle.task_ast.specs.Tree.{Name}
 use Rattle.task_ast.specs.Control.{arm}
 use Rattle.task_ast.specs.View.{plain_block}
-use Rattle.one_thread.specs.Working.{setting_in}
+use Rattle.one_thread.specs.inner.Working.{setting_in}
 use Rattle.one_thread.proofs.data.+fitting.Given as goal
 
 abbrev pub invariant-all_fit-loop-stmt : goal.invariant-all_fit-loop-stmt

@@ -10,7 +10,7 @@ use Rattle.task_ast.specs.Effect.{term_value}
 use Rattle.task_ast.specs.Control.{action, arm, all_of}
 use Rattle.task_ast.specs.View.{plain_expr, plain_exprs, plain_what, plain_stmt, plain_block}
 use Rattle.task_ast.proofs.Views.{stmt_At, what_Print, what_When}
-use Rattle.one_thread.specs.Working.{setting_in, Works, ArmWorks}
+use Rattle.one_thread.specs.inner.Working.{setting_in, Works, ArmWorks}
 use Rattle.one_thread.proofs.Fitting.{from-here, Ahead, ahead_on, ahead_end, said, unsaid, first_works, second_works}
 use Rattle.one_thread.proofs.data.+performing.Goals as goal
 

@@ -2,7 +2,7 @@ use Rattle.std.proofs.Common.{drop}
 use Rattle.std.specs.Prelude.{ℤ}
 use Rattle.task_ast.specs.Control.{arm}
 use Rattle.task_ast.specs.View.{plain_block}
-use Rattle.one_thread.specs.Working.{setting_in}
+use Rattle.one_thread.specs.inner.Working.{setting_in}
 use Rattle.one_thread.proofs.Fitting.{Ahead}
 use Rattle.one_thread.proofs.data.+performing.Given as goal
 

@@ -1,7 +1,7 @@
 use Rattle.std.proofs.Common.{◌≡◌, ◌∙◌, sym, ap, refl, arith, rules, length, map, suc, ◌+◌, ◌<◌, slice_index_or}
 use Rattle.std.proofs.lemmas.List.{length-map}
 use Rattle.task_ast.specs.Table.{unpassed, with_nth}
-use Rattle.one_thread.specs.View.{seat_of}
+use Rattle.one_thread.specs.inner.View.{seat_of}
 use Rattle.one_thread.proofs.Looking.{get-or}
 use Rattle.one_thread.proofs.Changing.{map-replaced, first_mapped, first_mapped-more, first_mapped-all}
 use Rattle.one_thread.proofs.seats.clear.Goals as goal

@@ -2,7 +2,7 @@ use Rattle.std.proofs.Common.{◌≡◌, ◌∙◌, sym, ap, refl, arith, rules,
 use Rattle.std.proofs.lemmas.List.{length-map}
 use Rattle.task_ast.specs.Table.{with_nth}
 use Rattle.task_ast.specs.Turn.{released_at}
-use Rattle.one_thread.specs.View.{seat_of}
+use Rattle.one_thread.specs.inner.View.{seat_of}
 use Rattle.one_thread.proofs.Looking.{get-or}
 use Rattle.one_thread.proofs.Changing.{map-replaced, first_mapped, first_mapped-more, first_mapped-all, released-waiting, released-other}
 use Rattle.one_thread.proofs.turns.release.Goals as goal

@@ -1,5 +1,5 @@
 use Rattle.std.proofs.Common.{◌≡◌, length}
-use Rattle.one_thread.specs.Remaining.{left_of}
+use Rattle.one_thread.specs.inner.Remaining.{left_of}
 use Rattle.one_thread.proofs.left.Left.first.Given as goal
 
 abbrev pub invariant-loop-self : goal.invariant-loop-self

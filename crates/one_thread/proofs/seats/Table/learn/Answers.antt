@@ -1,5 +1,5 @@
 use Rattle.std.proofs.Common.{ap, refl, Some}
-use Rattle.one_thread.specs.View.{table_of, seat_of}
+use Rattle.one_thread.specs.inner.View.{table_of, seat_of}
 use Rattle.one_thread.proofs.Looking.{get-at}
 use Rattle.one_thread.proofs.Changing.{map-replaced}
 use Rattle.one_thread.proofs.seats.Table.learn.Goals as goal

@@ -1,5 +1,5 @@
 use Rattle.std.proofs.Common.{◌≡◌, ◌∙◌, sym, ap, refl, arith, rules, length, ◌<◌}
-use Rattle.one_thread.specs.View.{table_of}
+use Rattle.one_thread.specs.inner.View.{table_of}
 use Rattle.one_thread.proofs.Looking.{get-at}
 use Rattle.one_thread.proofs.Turning.{HasCome, come-by, come-not, next-there, meets-goes, meets-waits, goes-on}
 use Rattle.task_ast.specs.declared.sync.SyncOp.TheVariants as sync

@@ -5,7 +5,7 @@ use Rattle.gp_base.specs.declared.ending.End.TheVariants.{Spent}
 use Rattle.task_ast.specs.declared.sync.SyncOp.TheVariants as sync
 use Rattle.task_ast.specs.Repeat.{Done}
 use Rattle.task_ast.specs.Turn.{tried, issuing, Ended}
-use Rattle.one_thread.specs.View.{table_of}
+use Rattle.one_thread.specs.inner.View.{table_of}
 use Rattle.one_thread.proofs.Looking.{at-get}
 use Rattle.one_thread.proofs.Turning.{turn-tries, there, last-is, by-rule, by-line, by-fork, by-end}
 use Rattle.one_thread.proofs.seats.Table.turn.Goals as goal

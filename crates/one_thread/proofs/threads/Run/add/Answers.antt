@@ -1,6 +1,6 @@
 use Rattle.std.proofs.Common.{◌≡◌, ◌∙◌, ap, sym, refl, subst, rules, length}
 use Rattle.task_ast.specs.declared.sync.SyncOp.TheVariants as sync
-use Rattle.one_thread.specs.Runs.{Forks, IsNew}
+use Rattle.one_thread.specs.inner.Runs.{Forks, IsNew}
 use Rattle.one_thread.proofs.threads.Run.add.Goals as goal
 
 pub returns-in-Fork-clause-threads : goal.returns-in-Fork-clause-threads

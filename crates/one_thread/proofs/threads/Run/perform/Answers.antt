@@ -1,9 +1,9 @@
 use Rattle.std.proofs.Common.{◌≡◌, ◌≤◌, ◌∙◌, ap, sym, refl, subst, rules, SFits, w64}
 use Rattle.std.proofs.lemmas.Int.{to_z-of_z}
 use Rattle.task_ast.specs.Names.{locks_of, records_of, cells_in}
-use Rattle.one_thread.specs.Subthreads.{RanWith}
-use Rattle.one_thread.specs.Runs.{joined_of}
-use Rattle.one_thread.specs.View.{table_of}
+use Rattle.one_thread.specs.inner.Subthreads.{RanWith}
+use Rattle.one_thread.specs.inner.Runs.{joined_of}
+use Rattle.one_thread.specs.inner.View.{table_of}
 use Rattle.task_ast.specs.Table.{learning}
 use Rattle.one_thread.proofs.Looking.{get-at}
 use Rattle.one_thread.proofs.threads.Run.perform.Goals as goal

@@ -8,8 +8,8 @@ use Rattle.task_ast.specs.Control.{step, lock_number}
 use Rattle.task_ast.specs.Shaped.{is_data}
 use Rattle.task_ast.specs.View.{plain_expr, plain_exprs, plain_what, plain_block}
 use Rattle.task_ast.proofs.Views.{stmt_At, what_SetCtl, what_While, what_If, what_Lock, what_Unlock, what_Fork, what_Join, what_Barrier, what_SetReg, what_Read, what_Write, what_Print, what_When}
-use Rattle.one_thread.specs.Remaining.{rest_of}
-use Rattle.one_thread.specs.Walking.{setting_of, point_of, Stepped}
+use Rattle.one_thread.specs.inner.Remaining.{rest_of}
+use Rattle.one_thread.specs.inner.Walking.{setting_of, point_of, Stepped}
 use Rattle.one_thread.proofs.Steps.{env_is}
 use Rattle.one_thread.proofs.Walks.{with_left, at_first, at_first_ok, at_fork, stops_with, stops_without}
 use Rattle.one_thread.proofs.walk.Walk.step.Goals as goal

@@ -19,10 +19,10 @@ use Rattle.one_thread.specs.declared.walk.Walk.{Walk}
 use Rattle.one_thread.specs.declared.work.Shared.{Shared}
 use Rattle.one_thread.specs.declared.work.Done.{Done}
 use Rattle.one_thread.specs.declared.threads.Run.{Run}
-use Rattle.one_thread.specs.Holding.{AreHeld}
-use Rattle.one_thread.specs.View.{table_of}
-use Rattle.one_thread.specs.Walking.{point_of}
-use Rattle.one_thread.specs.Subthreads.{RanWith}
+use Rattle.one_thread.specs.inner.Holding.{AreHeld}
+use Rattle.one_thread.specs.inner.View.{table_of}
+use Rattle.one_thread.specs.inner.Walking.{point_of}
+use Rattle.one_thread.specs.inner.Subthreads.{RanWith}
 
 -- the names of a task's registers
 abbrev pub slots_of : CodeTask → List Name

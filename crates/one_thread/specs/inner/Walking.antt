@@ -9,8 +9,8 @@ use Rattle.one_thread.specs.declared.data.Data.{Data}
 use Rattle.one_thread.specs.declared.walk.Walk.{Walk}
 use Rattle.one_thread.specs.declared.walk.Went.{Went}
 use Rattle.one_thread.specs.declared.walk.Went.TheVariants as went
-use Rattle.one_thread.specs.Remaining.{left_of}
-use Rattle.one_thread.specs.Working.{setting_in, worked, all_worked}
+use Rattle.one_thread.specs.inner.Remaining.{left_of}
+use Rattle.one_thread.specs.inner.Working.{setting_in, worked, all_worked}
 
 -- the program and the feeds of a thread at work
 abbrev pub setting_of : Walk → Setting

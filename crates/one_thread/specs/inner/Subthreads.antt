@@ -9,8 +9,8 @@ use Rattle.one_thread.specs.declared.data.Data.{Data}
 use Rattle.one_thread.specs.declared.walk.Walk.{Walk}
 use Rattle.one_thread.specs.declared.work.Shared.{Shared}
 use Rattle.one_thread.specs.declared.work.Done.{Done}
-use Rattle.one_thread.specs.Working.{all_worked}
-use Rattle.one_thread.specs.Walking.{setting_of, point_of}
+use Rattle.one_thread.specs.inner.Working.{all_worked}
+use Rattle.one_thread.specs.inner.Walking.{setting_of, point_of}
 
 -- whether a thread starts
 abbrev pub is_start : SyncOp → Bool
