@@ -1,7 +1,7 @@
 use Rattle.task_ast.specs.View.{plain_program}
 use Rattle.task_parser.specs.Spelling.{Spells}
 use Rattle.task_parser.proofs.ShapedSpelling.{spelled_is_shaped}
-use Rattle.part_tests.proofs.programs.accepted.Goals as goal
+use Rattle.running_tests.proofs.programs.accepted.Goals as goal
 
 pub check-requires : goal.check-requires
 check-requires c =

@@ -1,6 +1,6 @@
 use Rattle.std.proofs.Common.{◌≡◌, length, All, None}
 use Rattle.reorder_list.specs.Entries.{StandFrom}
-use Rattle.part_tests.proofs.restarts.two_adders.Given as goal
+use Rattle.running_tests.proofs.restarts.two_adders.Given as goal
 
 abbrev pub invariant-loop-p : goal.invariant-loop-p
 invariant-loop-p l = record {

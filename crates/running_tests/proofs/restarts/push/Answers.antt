@@ -1,7 +1,7 @@
 use Rattle.std.proofs.Common.{ap, sym, subst, length, arith}
 use Rattle.reorder_list.specs.Entries.{StandFrom}
 use Rattle.reorder_list.proofs.Rows.{comes-next, stands-push}
-use Rattle.part_tests.proofs.restarts.push.Goals as goal
+use Rattle.running_tests.proofs.restarts.push.Goals as goal
 
 pub push_back-requires-clause-next : goal.push_back-requires-clause-next
 push_back-requires-clause-next c =

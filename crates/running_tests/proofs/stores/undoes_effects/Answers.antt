@@ -1,5 +1,5 @@
 use Rattle.record_store.proofs.Fitting.{fitting_law}
-use Rattle.part_tests.proofs.stores.undoes_effects.Goals as goal
+use Rattle.running_tests.proofs.stores.undoes_effects.Goals as goal
 
 pub undo-requires-2 : goal.undo-requires-2
 undo-requires-2 g c =

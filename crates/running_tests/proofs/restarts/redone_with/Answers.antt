@@ -1,6 +1,6 @@
 use Rattle.std.proofs.Common.{ap, is_some, arith}
 use Rattle.reorder_list.proofs.Changes.{is-there}
-use Rattle.part_tests.proofs.restarts.redone_with.Goals as goal
+use Rattle.running_tests.proofs.restarts.redone_with.Goals as goal
 
 pub restart-requires-clause-there : goal.restart-requires-clause-there
 restart-requires-clause-there c =
