@@ -26,7 +26,7 @@ use Rattle.gprs.specs.declared.batch.Refusal.TheVariants as refused
 use Rattle.gprs.specs.Work.{Files, Supplied, Supplies, Lacks, Spoils}
 use Rattle.gprs.specs.Lines.{input_line}
 use Rattle.gprs.specs.InputFiles.{nothing, are_rows, feed_where, feed_with, with_cells, with_feed, room_after, record_rows, feed_rows, fault_rows, more_cells, more_feed, more_faults, by_rows, by_file, load_faults, by_record, named, load_head, then_load, load, names_in, file_names}
-use Rattle.gprs.specs.Loading.{IsReadable, AreReadable, IsRefusedBy, AnswersRows, names_of, StepsTo, AnswersLoad, AnswersFaults, ReadsAmong}
+use Rattle.gprs.specs.inner.Loading.{IsReadable, AreReadable, IsRefusedBy, AnswersRows, names_of, StepsTo, AnswersLoad, AnswersFaults, ReadsAmong}
 
 -- a feed by its parts; the facts that it keeps have one proof each
 feed_by_parts : (fields : ℕ) (cells : List ℤ) (s : 0 < fields) (w : length cells % fields ≡ 0) (f : length cells ≤ MOST_FEED_CELLS) → Feed

@@ -28,7 +28,7 @@ use Rattle.reorder_list.specs.declared.report.EngineStop.{EngineStop}
 use Rattle.reorder_list.specs.declared.report.StopWhy.TheVariants.{WriteFault}
 use Rattle.reorder_list.specs.declared.report.StopWhy.TheVariants as why
 use Rattle.engine.specs.View.{Batch, program_in, run_in, lines_of}
-use Rattle.engine.specs.Drive.{journal_in, JournalStands, ReportsRun, all_lines, WritesRetired, HasRunCause}
+use Rattle.engine.specs.Drive.{JournalStands, ReportsRun, all_lines, WritesRetired}
 use Rattle.command_line.specs.declared.asked.Command.{Command}
 use Rattle.command_line.specs.declared.asked.Command.TheVariants as command
 use Rattle.command_line.specs.declared.asked.Soak.{Soak}
@@ -37,7 +37,7 @@ use Rattle.gprs.specs.PlainText.{plain_ran, restarts_in}
 use Rattle.gprs.specs.Journals.{run_of, dependence_for, retired_in, lines_before, IsJournalOf, IsCompleteOf, TakesRetired, TakesRetiredFor}
 use Rattle.gprs.specs.Answers.{Change, TakesAll, TakesPart, Fails}
 use Rattle.gprs.specs.Headline.{IsEmpty}
-use Rattle.gprs.specs.Ran.{Stops, why_of, bytes_below, bytes_at, IsReportOf, RunsWork, RanFor, told_tail, told_soak}
+use Rattle.gprs.specs.inner.Ran.{Stops, why_of, RunsBatch, bytes_below, bytes_at, IsReportOf, RunsWork, RanFor, told_tail, told_soak}
 use Rattle.gprs.specs.Texts.{tail_text, run_text, soak_text}
 
 -- a batch of the engine that is the run of a work
@@ -89,23 +89,22 @@ module _ (batch : Batch) (work : Work) (program : program_in batch ≡ work.prog
         ++ take writes.part (printed (lines_of (slice_get r (stage (dependence_of r) f journal.events).retired))))) writes.bytes,
   )
 
-  pub runs_work : (out : Change) (result : Result Report EngineStop) → JournalStands batch (journal_in result) → IfOk result (ReportsRun batch) → OnOk result (Appends out.written out.written' (printed (all_lines batch)))
-      → WritesRetired batch out.written out.written' (journal_in result) → HasRunCause out.faults out.faults' result → RunsWork work out result
-  runs_work out (Ok report) journal reports lines partly cause = record {
-    journal = journal_of report.journal journal;
-    report = report_of report reports;
-    lines = subst (λ l. Appends out.written out.written' (printed l)) lines_same lines;
-    partly = partly_of out.written out.written' report.journal partly;
-    later = cause.later;
+  pub runs_work : (out : Change) (result : Result Report EngineStop) → RunsBatch batch out result → RunsWork work out result
+  runs_work out (Ok report) ran = record {
+    journal = journal_of report.journal ran.journal;
+    report = report_of report ran.report;
+    lines = subst (λ l. TakesAll out (printed l)) lines_same ran.lines;
+    partly = partly_of out.written out.written' report.journal ran.partly;
+    later = ran.cause.later;
     cause = tt;
   }
-  runs_work out (Err stop) journal reports lines partly cause = record {
-    journal = journal_of stop.journal journal;
+  runs_work out (Err stop) ran = record {
+    journal = journal_of stop.journal ran.journal;
     report = tt;
     lines = tt;
-    partly = partly_of out.written out.written' stop.journal partly;
-    later = cause.later;
-    cause = cause.failed;
+    partly = partly_of out.written out.written' stop.journal ran.partly;
+    later = ran.cause.later;
+    cause = ran.cause.failed;
   }
 
 -- a run that has not begun has a journal of no event

@@ -11,7 +11,7 @@ use Rattle.task_ast.specs.Names.{natural, is_among, head_name, records_of, cells
 use Rattle.task_ast.specs.Visit.{Visit, fails_if, fault_at, first_fault}
 use Rattle.task_ast.specs.Declarations.{lacks_array, sizes_differ, passes_limit, count_of, head_visit, head_visits, task_visits, main_visit, line_of}
 use Rattle.task_ast.specs.Check.{bodies_visits, check_fault}
-use Rattle.gprs.specs.Loading.{IsReadable, AreReadable}
+use Rattle.gprs.specs.inner.Loading.{IsReadable, AreReadable}
 use Rattle.std.proofs.Common.{map}
 
 -- where no fault is found at a place, no rule fails there, and none is found later

@@ -13,7 +13,7 @@ use Rattle.batch_files.specs.Records.{cells_below, record_rule, value_at}
 use Rattle.batch_files.specs.declared.fault.FileFault.{FileFault}
 use Rattle.batch_files.specs.Answers.{Answers}
 use Rattle.gprs.specs.InputFiles.{record_rows, nothing}
-use Rattle.gprs.specs.Loading.{Counts, Grows}
+use Rattle.gprs.specs.inner.Loading.{Counts, Grows}
 
 below_length : (size n : ℕ) (rows : List Row) → length (cells_below size n rows) ≡ n
 below_length size zero rows = refl

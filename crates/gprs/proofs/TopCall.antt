@@ -29,9 +29,9 @@ use Rattle.gprs.specs.Work.{Files, Work, Commands, runs, is_journalled}
 use Rattle.gprs.specs.PlainText.{plain_ran}
 use Rattle.gprs.specs.Case.{Case, Usage, Missing, BadProgram, BadInput, Go, IsCase, ForCase, IsMissing, end_status, work_status, names_read, status_of, text_of, line_of}
 use Rattle.gprs.specs.Lines.{out_of_memory_line, write_fault_line}
-use Rattle.gprs.specs.Decided.{AnswersCase, AnswersNoCommand, TouchesShelf, TellsRefusal, TakesRefusal, RefusalEnds, usage_told, program_told, input_told, read_told, refusal_no_memory, refusal_failed}
+use Rattle.gprs.specs.inner.Decided.{AnswersCase, AnswersNoCommand, TouchesShelf, TellsRefusal, TakesRefusal, RefusalEnds, usage_told, program_told, input_told, read_told, refusal_no_memory, refusal_failed}
 use Rattle.gprs.specs.Journals.{ForRun, IsJournalOf, IsCompleteOf, TakesRetired, TakesRetiredFor, retired_in, lines_before}
-use Rattle.gprs.specs.Ran.{Journalled, EndsFor, RanFor, PutFor, StopsWith, why_of}
+use Rattle.gprs.specs.inner.Ran.{Journalled, EndsFor, RanFor, PutFor, StopsWith, why_of}
 use Rattle.gprs.specs.Answers.{Change, TakesAll, TakesPart, TakesNothing, Fails, Grew, IsStopLine, TakesStop, Yields, due_status, no_memory, read_fault, write_fault, LineEnds, whole, line_failed, line_no_memory, RunEnds, finished, run_no_memory, output_failed, error_failed}
 use Rattle.gprs.specs.Headline.{IsWhole, TellsCase, IsRefusal, HasCaseLine, trace_for, RunsNothing, TellsReadFault, TellsWriteFault, IsStop, IsDue, TakesStopLines, IsEmpty, Headline}
 use Rattle.gprs.proofs.OneCase.{for_known, for_each, none_some}

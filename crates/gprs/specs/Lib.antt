@@ -1,13 +1,11 @@
 pub mod Answers
 pub mod Case
-pub mod Decided
 pub mod Headline
 pub mod InputFiles
 pub mod Journals
 pub mod Lines
-pub mod Loading
 pub mod PlainText
-pub mod Ran
 pub mod SoakFiles
 pub mod Texts
 pub mod Work
+pub mod inner

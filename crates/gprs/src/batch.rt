@@ -12,10 +12,10 @@ ghost use Rattle.gprs.specs.PlainText.{commands};
 ghost use Rattle.gprs.specs.Lines.{fault_line, number_of};
 ghost use Rattle.gprs.specs.Case.{IsCaseOf, IsCase};
 ghost use Rattle.lock_checker.specs.Accepted.{program_of};
-ghost use Rattle.gprs.specs.Loading.{ReadsAmong, AnswersLoad};
+ghost use Rattle.gprs.specs.inner.Loading.{ReadsAmong, AnswersLoad};
 ghost use Rattle.gprs.specs.InputFiles.{names_for, supplied_for};
 ghost use Rattle.gprs.specs.declared.batch.Refusal.TheVariants.{OutOfMemory};
-ghost use Rattle.gprs.specs.Decided.{AnswersCase, AnswersNoCommand, IsAcceptedIn, accepted_case, IsRefusedWith, RefusesLexing, RefusesParsing, RefusesChecking, TouchesShelf, MayRun};
+ghost use Rattle.gprs.specs.inner.Decided.{AnswersCase, AnswersNoCommand, IsAcceptedIn, accepted_case, IsRefusedWith, RefusesLexing, RefusesParsing, RefusesChecking, TouchesShelf, MayRun};
 
 use crate::inputs::{read_inputs, read_struck};
 use crate::lines::{TOO_LONG, fault_line};

@@ -8,7 +8,7 @@ ghost use Rattle.task_ast.specs.Names.{natural};
 ghost use Rattle.task_ast.specs.Inputs.{fields_in};
 ghost use Rattle.gprs.specs.Lines.{input_line, kind_number};
 ghost use Rattle.gprs.specs.InputFiles.{nothing, room_after, named, by_file, by_record, record_rows, feed_rows, fault_rows, more_cells, more_feed, load_head, load_faults, load, names_in, file_names};
-ghost use Rattle.gprs.specs.Loading.{IsInputRefused, IsUnread, RefusesFile, ReadsAmong, AnswersFile, AnswersRows, IsReadable, AreReadable, seen, StepsTo, AnswersLoad, AnswersFaults, Grows, Counts};
+ghost use Rattle.gprs.specs.inner.Loading.{IsInputRefused, IsUnread, RefusesFile, ReadsAmong, AnswersFile, AnswersRows, IsReadable, AreReadable, seen, StepsTo, AnswersLoad, AnswersFaults, Grows, Counts};
 
 use crate::batch::Refusal;
 use crate::lines::input_line;

@@ -8,10 +8,10 @@ ghost use Rattle.restart_log.specs.Trace.{trace_text};
 ghost use Rattle.command_line.specs.declared.asked.Command.TheVariants as command;
 ghost use Rattle.gprs.specs.Answers.{Change, LineEnds, RunEnds, change_of};
 ghost use Rattle.gprs.specs.Case.{status_of, text_of, Go};
-ghost use Rattle.gprs.specs.Decided.{work_for, work_of, IsSound, MayRun};
+ghost use Rattle.gprs.specs.inner.Decided.{work_for, work_of, IsSound, MayRun};
 ghost use Rattle.gprs.specs.Headline.{IsEmpty, trace_for};
 ghost use Rattle.gprs.specs.PlainText.{plain_ran, restarts_in};
-ghost use Rattle.gprs.specs.Ran.{RunsWork, RanFor, Journalled, EndsFor, PutFor, StopsWith, why_of, told_tail, told_soak};
+ghost use Rattle.gprs.specs.inner.Ran.{RunsWork, RanFor, Journalled, EndsFor, PutFor, StopsWith, why_of, told_tail, told_soak};
 ghost use Rattle.gprs.specs.Texts.{run_text, soak_text};
 ghost use Rattle.gprs.specs.Work.{Work, is_journalled};
 

@@ -8,6 +8,8 @@ mod journalled;
 mod lines;
 mod plan;
 mod run;
+#[cfg(test)]
+mod scripted;
 mod std_sink;
 #[cfg(test)]
 mod struck;

@@ -1,13 +1,12 @@
 // Runs over a journal, by the crew that is asked for.
-ghost use Rattle.std.specs.Prelude.{◌≡◌, All, IfOk, OnOk};
-ghost use Rattle.std.specs.Io.KnownBytes.{Appends};
+ghost use Rattle.std.specs.Prelude.{◌≡◌, All, IfOk};
 ghost use Rattle.task_ast.specs.View.{plain_program};
 ghost use Rattle.task_ast.specs.Inputs.{AreInputsOf};
 ghost use Rattle.lock_checker.specs.Accepted.{program_of};
-ghost use Rattle.restart_log.specs.Lines.{printed};
 ghost use Rattle.subthread.specs.Tasks.{Fits, Suits, program_in};
 ghost use Rattle.crew.specs.Out.{AreRuns};
-ghost use Rattle.engine.specs.Drive.{batch_of, journal_in, JournalStands, ReportsRun, all_lines, WritesRetired, HasRunCause};
+ghost use Rattle.gprs.specs.Answers.{change_of};
+ghost use Rattle.gprs.specs.inner.Ran.{batch_from, RunsBatch};
 
 use command_line::CrewKind;
 use crew::{BatchCrew, InlineCrew, run_wave};
@@ -108,11 +107,7 @@ fn one_over<R: Threads + Sync, O: Sink, G: Gate>(
     gate: &G,
 ) -> Result<Report, EngineStop>
     requires { Suits work.now begins.layout begins.inputs begins.limits }
-    ensures journal { JournalStands (batch_of work.now begins.inputs begins.limits begins.faults) (journal_in result) }
-    ensures report { IfOk result (ReportsRun (batch_of work.now begins.inputs begins.limits begins.faults)) }
-    ensures lines { OnOk result (Appends (O.written out.old) (O.written out.new) (printed (all_lines (batch_of work.now begins.inputs begins.limits begins.faults)))) }
-    ensures partly { WritesRetired (batch_of work.now begins.inputs begins.limits begins.faults) (O.written out.old) (O.written out.new) (journal_in result) }
-    ensures cause { HasRunCause (O.faults out.old) (O.faults out.new) result }
+    ensures { RunsBatch (batch_from work.now begins) (change_of O.written O.faults out.old out.new) result }
 {
     let mut crew = InlineCrew::new(alloc, work, gate);
     let Begins {
@@ -137,11 +132,7 @@ fn waves_over<R: Threads + Sync, O: Sink, G: Gate>(
     gate: &G,
 ) -> Result<Report, EngineStop>
     requires { Suits work.now begins.layout begins.inputs begins.limits }
-    ensures journal { JournalStands (batch_of work.now begins.inputs begins.limits begins.faults) (journal_in result) }
-    ensures report { IfOk result (ReportsRun (batch_of work.now begins.inputs begins.limits begins.faults)) }
-    ensures lines { OnOk result (Appends (O.written out.old) (O.written out.new) (printed (all_lines (batch_of work.now begins.inputs begins.limits begins.faults)))) }
-    ensures partly { WritesRetired (batch_of work.now begins.inputs begins.limits begins.faults) (O.written out.old) (O.written out.new) (journal_in result) }
-    ensures cause { HasRunCause (O.faults out.old) (O.faults out.new) result }
+    ensures { RunsBatch (batch_from work.now begins) (change_of O.written O.faults out.old out.new) result }
 {
     let run_all = |tasks: Seq<Task>| -> Result<Seq<Done>, AllocError>
         requires { All (Fits work.now) tasks }
@@ -169,11 +160,7 @@ pub fn run_by<R: Threads + Sync, O: Sink, G: Gate>(
     gate: &G,
 ) -> Result<Report, EngineStop>
     requires { Suits plan.work plan.begins.layout plan.begins.inputs plan.begins.limits }
-    ensures journal { JournalStands (batch_of plan.work plan.begins.inputs plan.begins.limits plan.begins.faults) (journal_in result) }
-    ensures report { IfOk result (ReportsRun (batch_of plan.work plan.begins.inputs plan.begins.limits plan.begins.faults)) }
-    ensures lines { OnOk result (Appends (O.written out.old) (O.written out.new) (printed (all_lines (batch_of plan.work plan.begins.inputs plan.begins.limits plan.begins.faults)))) }
-    ensures partly { WritesRetired (batch_of plan.work plan.begins.inputs plan.begins.limits plan.begins.faults) (O.written out.old) (O.written out.new) (journal_in result) }
-    ensures cause { HasRunCause (O.faults out.old) (O.faults out.new) result }
+    ensures { RunsBatch (batch_from plan.work plan.begins) (change_of O.written O.faults out.old out.new) result }
 {
     let Plan { work, begins } = plan;
     match workers.crew {

@@ -4,7 +4,7 @@ ghost use Rattle.std.specs.Io.KnownBytes.{Appends};
 ghost use Rattle.std.specs.Prelude.{OnOk, OnErr};
 ghost use Rattle.gp_base.specs.Sinks.{HasCause, AppendsPrefix};
 ghost use Rattle.gprs.specs.Case.{end_status};
-ghost use Rattle.gprs.specs.Decided.{work_of};
+ghost use Rattle.gprs.specs.inner.Decided.{work_of};
 ghost use Rattle.gprs.specs.Texts.{run_text};
 ghost use Rattle.gprs.specs.PlainText.{plain_ran};
 

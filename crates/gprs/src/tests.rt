@@ -215,8 +215,8 @@ pub struct Answer {
     pub journal: Journal,
 }
 
-// The words between spaces.
-fn words_of(alloc: Global, text: &str) -> Result<Vec<String>, AllocError> {
+/// The words between spaces.
+pub fn words_of(alloc: Global, text: &str) -> Result<Vec<String>, AllocError> {
     let mut words = Vec::new(alloc);
     if text.is_empty() {
         return Ok(words);
@@ -246,8 +246,8 @@ pub fn alone(program: &str) -> Files<'_> {
     }
 }
 
-// A shelf of these files, whose read of this number fails.
-fn shelf_of(alloc: Global, files: Files<'_>, fails: u64) -> Result<MemShelf, AllocError> {
+/// A shelf of these files, whose read of this number fails.
+pub fn shelf_of(alloc: Global, files: Files<'_>, fails: u64) -> Result<MemShelf, AllocError> {
     let program = (
         Name::from_slice(alloc, b"p.gp")?,
         Text::from_slice(alloc, files.program)?,
@@ -268,7 +268,8 @@ fn shelf_of(alloc: Global, files: Files<'_>, fails: u64) -> Result<MemShelf, All
     Ok(MemShelf::new(alloc, files, Seq::from_slice(alloc, &[fails])?))
 }
 
-fn sink_of(alloc: Global, most: usize, fails: u64) -> Result<MemSink, AllocError> {
+/// A sink that takes so many bytes at once, whose call of this number fails.
+pub fn sink_of(alloc: Global, most: usize, fails: u64) -> Result<MemSink, AllocError> {
     Ok(MemSink::new(alloc, most.max(1), Seq::from_slice(alloc, &[fails])?))
 }
 

@@ -5,7 +5,7 @@ use Rattle.task_ast.specs.View.{plain_program}
 use Rattle.lock_checker.specs.Accepted.{program_of}
 use Rattle.command_line.specs.declared.asked.Asked.{Asked}
 use Rattle.std.specs.declared.option.Option.TheVariants.{Some}
-use Rattle.gprs.specs.Decided.{TouchesShelf}
+use Rattle.gprs.specs.inner.Decided.{TouchesShelf}
 use Rattle.gprs.proofs.Refused.{loaded_ok, loaded_err, loaded_reads, struck_err, struck_reads}
 use Rattle.gprs.proofs.batch.batch_of.Goals as goal
 

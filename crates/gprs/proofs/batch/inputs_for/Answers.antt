@@ -1,7 +1,7 @@
 use Rattle.std.proofs.Common.{ap, sym, subst, ◌∙◌}
 use Rattle.task_ast.specs.View.{plain_program}
 use Rattle.lock_checker.specs.Accepted.{program_of}
-use Rattle.gprs.specs.Loading.{AreReadable}
+use Rattle.gprs.specs.inner.Loading.{AreReadable}
 use Rattle.gprs.proofs.Readable.{readable}
 use Rattle.gprs.proofs.batch.inputs_for.Goals as goal
 

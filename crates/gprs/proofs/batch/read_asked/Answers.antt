@@ -2,7 +2,7 @@ use Rattle.std.proofs.Common.{ap, Err, subst}
 use Rattle.task_ast.specs.View.{plain_program}
 use Rattle.lock_checker.specs.Accepted.{program_of}
 use Rattle.task_parser.specs.Spelling.{Spells}
-use Rattle.gprs.specs.Decided.{IsAcceptedIn}
+use Rattle.gprs.specs.inner.Decided.{IsAcceptedIn}
 use Rattle.gprs.specs.Headline.{the_program}
 use Rattle.gprs.proofs.Refused.{long_case, unread_answers, refused_answers, accepted_answers}
 use Rattle.gprs.proofs.batch.read_asked.Goals as goal

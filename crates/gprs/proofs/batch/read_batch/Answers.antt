@@ -1,6 +1,6 @@
 use Rattle.std.proofs.Common.{◌≡◌, Some, None, sym, subst}
 use Rattle.command_line.specs.Words.{texts, asked_by}
-use Rattle.gprs.specs.Decided.{TouchesShelf}
+use Rattle.gprs.specs.inner.Decided.{TouchesShelf}
 use Rattle.gprs.proofs.Refused.{usage_case, asked_told}
 use Rattle.gprs.proofs.batch.read_batch.Goals as goal
 

@@ -1,4 +1,4 @@
-use Rattle.gprs.specs.Loading.{seen}
+use Rattle.gprs.specs.inner.Loading.{seen}
 use Rattle.gprs.proofs.Loads.{feeds_bad, feeds_ok}
 use Rattle.gprs.proofs.inputs.load_feed.Goals as goal
 

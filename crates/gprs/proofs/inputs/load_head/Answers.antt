@@ -1,4 +1,4 @@
-use Rattle.gprs.specs.Loading.{seen}
+use Rattle.gprs.specs.inner.Loading.{seen}
 use Rattle.gprs.proofs.Loads.{record_step, feed_step}
 use Rattle.gprs.proofs.inputs.load_head.Goals as goal
 

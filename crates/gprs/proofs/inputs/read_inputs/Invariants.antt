@@ -1,6 +1,6 @@
 use Rattle.std.proofs.Common.{◌≡◌, [], IfSome, take, drop}
 use Rattle.gprs.specs.InputFiles.{nothing, room_after, load, file_names}
-use Rattle.gprs.specs.Loading.{AreReadable, Counts, seen}
+use Rattle.gprs.specs.inner.Loading.{AreReadable, Counts, seen}
 use Rattle.gprs.proofs.inputs.read_inputs.Given as goal
 
 -- the files so far were read, and what the others give is what all give

@@ -3,7 +3,7 @@ use Rattle.command_line.specs.declared.asked.Command.{Command}
 use Rattle.std.specs.declared.option.Option.TheVariants.{Some}
 use Rattle.gprs.specs.Answers.{RunEnds, change_of}
 use Rattle.gprs.specs.Case.{work_text, work_status}
-use Rattle.gprs.specs.Decided.{work_of}
+use Rattle.gprs.specs.inner.Decided.{work_of}
 use Rattle.gprs.specs.Headline.{trace_for}
 use Rattle.gprs.specs.PlainText.{plain_ran, restarts_in}
 use Rattle.gprs.specs.Texts.{run_text, soak_text}

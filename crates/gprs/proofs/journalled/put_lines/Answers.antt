@@ -1,8 +1,8 @@
 use Rattle.std.proofs.Common.{ap, sym, ◌∙◌, ◌≡◌, refl}
 use Rattle.task_ast.specs.View.{plain_program}
 use Rattle.lock_checker.specs.Accepted.{program_of}
-use Rattle.engine.specs.Drive.{batch_of}
-use Rattle.gprs.specs.Decided.{work_for}
+use Rattle.gprs.specs.inner.Decided.{work_for}
+use Rattle.gprs.specs.inner.Ran.{batch_from}
 use Rattle.gprs.specs.Answers.{change_of}
 use Rattle.gprs.proofs.RanPieces.{runs_work, unbegun_stop}
 use Rattle.gprs.proofs.journalled.put_lines.Goals as goal
@@ -17,5 +17,4 @@ returns g c =
     let plan = c.in-Ok.plan in
     let work = work_for c.args.asked.now (plain_program (program_of c.args.checked.now)) c.args.inputs c.args.faults.list in
     let out = change_of g.O.Sink.written g.O.Sink.faults c.args.out.now c.run_by.new.out in
-    runs_work (batch_of plan.work plan.begins.inputs plan.begins.limits plan.begins.faults) work c.in-Ok.ensures.program c.in-Ok.ensures.inputs c.in-Ok.ensures.limits (ap (λ f. f.list) c.in-Ok.ensures.faults)
-    out c.run_by.result c.run_by.ensures.journal c.run_by.ensures.report c.run_by.ensures.lines c.run_by.ensures.partly c.run_by.ensures.cause
+    runs_work (batch_from plan.work plan.begins) work c.in-Ok.ensures.program c.in-Ok.ensures.inputs c.in-Ok.ensures.limits (ap (λ f. f.list) c.in-Ok.ensures.faults) out c.run_by.result c.run_by.ensures

@@ -1,5 +1,5 @@
 use Rattle.std.proofs.Common.{ap, Err}
-use Rattle.gprs.specs.Decided.{work_of}
+use Rattle.gprs.specs.inner.Decided.{work_of}
 use Rattle.gprs.specs.Answers.{change_of}
 use Rattle.gprs.proofs.RanPieces.{stops_by, ran_without_first, ran_without_lines, ran_without_tail, ran_whole}
 use Rattle.gprs.proofs.journalled.put_run.Goals as goal

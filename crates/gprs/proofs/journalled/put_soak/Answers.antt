@@ -1,5 +1,5 @@
 use Rattle.std.proofs.Common.{ap, Err}
-use Rattle.gprs.specs.Decided.{work_of}
+use Rattle.gprs.specs.inner.Decided.{work_of}
 use Rattle.gprs.specs.Answers.{change_of}
 use Rattle.gprs.proofs.RanPieces.{stops_by, soak_without_summary}
 use Rattle.gprs.proofs.journalled.put_soak.Goals as goal

@@ -1,6 +1,6 @@
 use Rattle.std.proofs.Common.{sym, subst}
 use Rattle.gprs.specs.Answers.{change_of}
-use Rattle.gprs.specs.Ran.{StopsWith}
+use Rattle.gprs.specs.inner.Ran.{StopsWith}
 use Rattle.gprs.proofs.journalled.stop_with.Goals as goal
 
 pub returns-in-WriteFault : goal.returns-in-WriteFault

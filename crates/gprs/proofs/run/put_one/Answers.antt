@@ -2,7 +2,7 @@ use Rattle.std.proofs.Common.{[], rules, subst, ap, ◌∙◌, refl, length}
 use Rattle.std.specs.Io.KnownBytes.{Appends}
 use Rattle.gp_base.specs.Sinks.{AppendsPrefix}
 use Rattle.gprs.specs.Case.{end_status}
-use Rattle.gprs.specs.Decided.{work_of}
+use Rattle.gprs.specs.inner.Decided.{work_of}
 use Rattle.gprs.specs.PlainText.{plain_ran, lines_in, ran_in}
 use Rattle.gprs.proofs.PlainTexts.{plain_ran-run, tail_by}
 use Rattle.restart_log.specs.Lines.{printed}

@@ -1,7 +1,7 @@
 use Rattle.std.proofs.Common.{ap, refl}
 use Rattle.command_line.specs.Words.{texts}
 use Rattle.gprs.specs.PlainText.{commands}
-use Rattle.gprs.specs.Decided.{work_of}
+use Rattle.gprs.specs.inner.Decided.{work_of}
 use Rattle.gprs.specs.Answers.{change_of}
 use Rattle.gprs.proofs.TopCall.{run_headline, refused_headline}
 use Rattle.gprs.proofs.top.gprs_run.Goals as goal

@@ -17,8 +17,10 @@ use Rattle.reorder_list.specs.declared.report.StopWhy.{StopWhy}
 use Rattle.reorder_list.specs.declared.report.StopWhy.TheVariants.{WriteFault}
 use Rattle.reorder_list.specs.declared.report.StopWhy.TheVariants as why
 use Rattle.restart_log.specs.Lines.{printed}
-use Rattle.engine.specs.Drive.{journal_in}
-use Rattle.engine.specs.View.{lines_of}
+use Rattle.subthread.specs.declared.task.Work.{Work as Code}
+use Rattle.engine.specs.Drive.{journal_in, batch_of, JournalStands, ReportsRun, all_lines, WritesRetired, HasRunCause}
+use Rattle.engine.specs.View.{Batch, lines_of}
+use Rattle.gprs.specs.declared.plan.Begins.{Begins}
 use Rattle.gprs.specs.Work.{Work}
 use Rattle.gprs.specs.PlainText.{plain_ran, restarts_in}
 use Rattle.gprs.specs.Journals.{run_of, retired_in, IsJournalOf, IsCompleteOf, TakesRetired}
@@ -64,6 +66,18 @@ pub record IsReportOf (work : Work) (report : Report) : Type 0 where
   pub cells : report.records ≡ (plain_ran work).cells
   pub subthreads : report.subthreads ≡ (plain_ran work).subthreads
   pub unused : report.unused ≡ length work.faults - length (restarts_in work)
+
+-- the batch that the engine runs, from its code and from what it begins with
+abbrev pub batch_from : Code → Begins → Batch
+batch_from code begins = batch_of code begins.inputs begins.limits begins.faults
+
+-- what the engine promises of a batch that it ran
+pub record RunsBatch (batch : Batch) (out : Change) (result : Result Report EngineStop) : Type 0 where
+  pub journal : JournalStands batch (journal_in result)
+  pub report : IfOk result (ReportsRun batch)
+  pub lines : OnOk result (TakesAll out (printed (all_lines batch)))
+  pub partly : WritesRetired batch out.written out.written' (journal_in result)
+  pub cause : HasRunCause out.faults out.faults' result
 
 -- The run went, and its lines were written: all of them at its end, and else those of the subthreads that have retired, and a part of those of the next.
 pub record RunsWork (work : Work) (out : Change) (result : Result Report EngineStop) : Type 0 where
