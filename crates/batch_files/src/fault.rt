@@ -33,7 +33,7 @@ impl From<AllocError> for FileFault {
     }
 }
 
-// Why a row is not taken.
+/// Why a row is not taken.
 #[derive(Clone, Copy)]
 pub enum RowFault {
     Breaks(FileKind),
@@ -64,7 +64,7 @@ impl<T: Drop> From<AllocFailed<T>> for RowFault {
     }
 }
 
-// The fault of a file by that of its row, which has this number.
+/// The fault of a file by that of its row, which has this number.
 pub fn at_row(fault: RowFault, row: u32) -> FileFault
     ensures { result ≡ fault_at fault row }
 {

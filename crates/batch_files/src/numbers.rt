@@ -25,14 +25,14 @@ fn starts_with_plus(text: &[u8]) -> bool
     !text.is_empty() && text[0] == b'+'
 }
 
-// The number that a field of a row writes.
+/// The number that a field of a row writes.
 pub fn number_at(row: &ByteRecord, field: usize) -> Option<i64>
     ensures { result ≡ spec.number_at (fields_of row.now) field }
 {
     signed_number(row.get(field)?)
 }
 
-// The number, where it is natural and below the limit.
+/// The number, where it is natural and below the limit.
 pub fn natural_below(limit: u64, number: i64) -> Option<u64>
     ensures { result ≡ spec.natural_below limit number }
 {

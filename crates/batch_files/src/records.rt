@@ -23,7 +23,7 @@ pub fn read_records(alloc: Global, bytes: &Text, size: u32) -> Result<Nums, File
     Ok(Seq::from_vec(cells.values(alloc)?))
 }
 
-// What a row says of a cell.
+/// What a row says of a cell.
 #[derive(Clone, Copy)]
 pub struct Entry {
     pub index: u64,

@@ -8,7 +8,7 @@ use crate::fault::{FileFault, RowFault, at_row};
 use csv::{ByteRecord, ReaderBuilder};
 use std::alloc::Global;
 
-// What the rows of a file are put into.
+/// What the rows of a file are put into.
 pub trait Table {
     // The rules of the rows, by the table that was begun with.
     ghost rule: { Self → Rule };
@@ -22,7 +22,7 @@ pub trait Table {
             PutsRow (rule begun rows (fields_of row.now)) (holds begun self.new (rows ++ fields_of row.now ∷ [])) result };
 }
 
-// The table after all rows of a file.
+/// The table after all rows of a file.
 pub fn put_rows<T: Table + Drop>(alloc: Global, bytes: &[u8], mut table: T) -> Result<T, FileFault>
     requires { T.holds table table [] }
     ensures { PutsAll (first_broken (T.rule table) [] (rows_of bytes.now)) (λ full. T.holds table full (rows_of bytes.now)) result }

@@ -10,7 +10,7 @@ use std::marker::Model;
 use std::mem;
 use subthread::{Done, Task, Work, run_task};
 
-// The tasks that were posted to a crew and wait, oldest first.
+/// The tasks that were posted to a crew and wait, oldest first.
 #[derive(Drop)]
 pub struct Inbox<'a> {
     alloc: Global,
@@ -38,7 +38,7 @@ impl<'a> Model for Inbox<'a> {
 }
 
 impl<'a> Inbox<'a> {
-    // No task was posted. Takes no memory.
+    /// No task was posted. Takes no memory.
     pub fn new(alloc: Global, work: &'a Work) -> Inbox<'a>
         ensures { result ≡ record { work = work.now; out = []; posted = []; failed = false } }
     {
@@ -51,21 +51,21 @@ impl<'a> Inbox<'a> {
         }
     }
 
-    // How many tasks were posted.
+    /// How many tasks were posted.
     pub fn posts(&self) -> usize
         ensures { result ≡ length self.now.posted }
     {
         self.posted.len()
     }
 
-    // How many tasks wait.
+    /// How many tasks wait.
     pub fn len(&self) -> usize
         ensures { result ≡ length self.now.out }
     {
         self.waiting.len()
     }
 
-    // The error is that an earlier call ran out of memory.
+    /// The error is that an earlier call ran out of memory.
     pub fn open(&self) -> Result<(), AllocError>
         ensures { IsErr result ↔ (self.now.failed ≡ true) }
     {
@@ -75,14 +75,14 @@ impl<'a> Inbox<'a> {
         Ok(())
     }
 
-    // Notes that memory ran out.
+    /// Notes that memory ran out.
     pub fn fail(&mut self)
         ensures { self.new ≡ record self.old { failed = true } }
     {
         self.failed = true;
     }
 
-    // Puts a task behind those that wait.
+    /// Puts a task after those that wait.
     pub fn post(&mut self, task: Task) -> Result<(), AllocFailed<Task>>
         requires fits { Fits self.old.work task }
         ensures ok { OnOk result (self.new ≡ record self.old { out = self.old.out ++ task ∷ []; posted = self.old.posted ++ pair_of task ∷ [] }) }
@@ -107,7 +107,7 @@ impl<'a> Inbox<'a> {
         Ok(())
     }
 
-    // Takes the task at a place out, counted from 0 at the oldest, or answers `None` past the end.
+    /// Takes the task at a place out, counted from 0 at the oldest, or answers `None` past the end.
     pub fn take(&mut self, at: usize) -> Option<Task>
         ensures none { IfNone result (length self.old.out ≤ at) }
         ensures kept { IfNone result (self.new ≡ self.old) }
@@ -118,7 +118,7 @@ impl<'a> Inbox<'a> {
         self.waiting.remove(at)
     }
 
-    // Takes all tasks out, in order.
+    /// Takes all tasks out, in order.
     pub fn all(&mut self) -> Seq<Task>
         ensures tasks { result ≡ self.old.out }
         ensures fits { All (Fits self.old.work) result }
@@ -128,7 +128,7 @@ impl<'a> Inbox<'a> {
         Seq::from_vec(Vec::from(waiting))
     }
 
-    // Runs a task in this thread. The error is that memory is out.
+    /// Runs a task in this thread. The error is that memory is out.
     pub fn run(&mut self, task: Task) -> Result<Done, AllocError>
         requires { Fits self.old.work task }
         ensures task { IfOk result (λ done. task_of done ≡ task) }

@@ -5,7 +5,7 @@ ghost use Rattle.dependence.specs.Dependents.{IsReached, MarksDependents};
 
 use gp_base::{Footprint, Loc, Seq};
 
-/// Whether one location stands in both lists.
+// Whether one location stands in both lists.
 fn share(left: &Seq<Loc>, right: &Seq<Loc>) -> bool
     ensures { IsTrue result ↔ Shared left.now right.now }
 {
@@ -26,7 +26,7 @@ pub fn conflict(a: &Footprint, b: &Footprint) -> bool
     share(&a.reads, &b.writes)
 }
 
-/// Whether an earlier position that is marked is in conflict with this one.
+// Whether an earlier position that is marked is in conflict with this one.
 fn is_reached(feet: &[Footprint], marks: &[bool], position: usize) -> bool
     requires in_range { position < length feet.now }
     requires lengths { length marks.now ≡ length feet.now }

@@ -6,35 +6,35 @@ use crate::view::{Slot, View};
 use atomic_table::{Join, Play, Split};
 use gp_base::Job;
 
-// A ticket is taken: 1 is added to the counter.
+/// A ticket is taken: 1 is added to the counter.
 pub(crate) struct Draw;
 
 impl<J: Job> Play<Slot<J, J::Run>, View<J, J::With>> for Draw {
     ghost then = { drew J.fits };
 }
 
-// A run is back: the desk's word becomes 1.
+/// A run is back: the desk's word becomes 1.
 pub(crate) struct Finish;
 
 impl<J, W, R> Play<Slot<J, R>, View<J, W>> for Finish {
     ghost then = { finished };
 }
 
-// The desk's word is read.
+/// The desk's word is read.
 pub(crate) struct Look;
 
 impl<J, W, R> Play<Slot<J, R>, View<J, W>> for Look {
     ghost then = { looked };
 }
 
-// A run is taken: the desk's word becomes 2.
+/// A run is taken: the desk's word becomes 2.
 pub(crate) struct Take;
 
 impl<J: Job> Play<Slot<J, J::Run>, View<J, J::With>> for Take {
     ghost then = { took J.is_run };
 }
 
-// A part of the share goes to a new pass.
+/// A part of the share goes to a new pass.
 pub(crate) struct Cut;
 
 impl<J, W> Split<View<J, W>> for Cut {
@@ -43,7 +43,7 @@ impl<J, W> Split<View<J, W>> for Cut {
     ghost right = { cut_right };
 }
 
-// The pass goes on at a new seat, and the old one keeps the desk's slot alone.
+/// The pass goes on at a new seat, and the old one keeps the desk's slot alone.
 pub(crate) struct Leave;
 
 impl<J, W> Split<View<J, W>> for Leave {
@@ -52,7 +52,7 @@ impl<J, W> Split<View<J, W>> for Leave {
     ghost right = { λ v. v };
 }
 
-// The pass comes to the seat that has the desk's slot.
+/// The pass comes to the seat that has the desk's slot.
 pub(crate) struct Return;
 
 impl<J, W> Join<View<J, W>> for Return {
@@ -61,7 +61,7 @@ impl<J, W> Join<View<J, W>> for Return {
     ghost spent = { blank };
 }
 
-// The first seat becomes that of the first pass and that of the clerk.
+/// The first seat becomes that of the first pass and that of the clerk.
 pub(crate) struct Office;
 
 impl<J, W> Split<View<J, W>> for Office {
@@ -70,7 +70,7 @@ impl<J, W> Split<View<J, W>> for Office {
     ghost right = { clerk_part };
 }
 
-// Two passes become one.
+/// Two passes become one.
 pub(crate) struct Merge;
 
 impl<J, W> Join<View<J, W>> for Merge {
@@ -79,7 +79,7 @@ impl<J, W> Join<View<J, W>> for Merge {
     ghost spent = { blank };
 }
 
-// The clerk takes the last pass in.
+/// The clerk takes the last pass in.
 pub(crate) struct Gather;
 
 impl<J, W> Join<View<J, W>> for Gather {

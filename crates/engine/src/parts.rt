@@ -59,7 +59,7 @@ pub struct Parts {
 }
 
 impl Place {
-    /// The same place. The error is that memory is out.
+    // The same place. The error is that memory is out.
     fn copied(&self, alloc: Global) -> Result<Place, AllocError>
         ensures { IfOk result (λ place. place ≡ self.now) }
     {

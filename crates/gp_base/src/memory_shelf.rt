@@ -88,7 +88,7 @@ impl Shelf for MemShelf {
         ensures size { IsWithin at_most result }
         ensures told { AnswersRead (bytes_of self.old.files name.now) at_most self.old.failed.items self.new.failed.items result }
 
-        // A call that is listed fails, and no other at a name that the shelf has. Want of memory may stand for a failure.
+        // A call that is listed fails, and no other at a name that the shelf has. Running out of memory may stand for a failure.
         ensures listed { IsNextListed self.old.calls.failing self.old.calls.made → IsFailure result }
         ensures unlisted { IsErrOf result ShelfFault.Failed →
             IsNextListed self.old.calls.failing self.old.calls.made ⊎ (bytes_of self.old.files name.now ≡ None) }

@@ -118,7 +118,7 @@ fn feed_of<H: Shelf>(
     }
 }
 
-// What was read so far, and how many cells of feeds there is room for.
+/// What was read so far, and how many cells of feeds there is room for.
 #[derive(Drop)]
 pub struct Loading {
     pub records: Vec<i64>,

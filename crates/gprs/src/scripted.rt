@@ -84,7 +84,9 @@ fn a_scripted_order_posts_each_task_once(rt: HostRuntime) -> Result<(), Fail> {
         noted: Vec::new(alloc),
     };
     let mut out = sink_of(alloc, 1000, 0)?;
-    let ran = drive(&rt, alloc, &work, layout, inputs, faults, limits, &mut crew, &mut out);
+    let ran = drive(
+        &rt, alloc, &work, layout, inputs, faults, limits, &mut crew, &mut out,
+    );
     let Ok(report) = ran else {
         return Err(Fail::from("the run stopped"));
     };

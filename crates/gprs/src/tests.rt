@@ -20,7 +20,7 @@ pub const EMPTY: &str = "task main() { }";
 
 const PRINTS: &str = "task main() { print 7; print 0042; }";
 
-// Sums, quotients and remainders at the ends of the numbers.
+/// Sums, quotients and remainders at the ends of the numbers.
 pub const EDGES: &str = "task main() {
   var $a;
   $a = 9223372036854775807;
@@ -378,7 +378,7 @@ fn prints<R: Threads + Sync + AllocGlobal>(
     ends(rt, "", alone(program), 0, text.as_str(), 1)
 }
 
-// A program that prints 1 behind so many of these marks.
+// A program that prints 1 after so many of these marks.
 fn marked(alloc: Global, open: &str, close: &str, count: usize) -> Result<String, AllocError> {
     let mut text = String::from_str(alloc, "task main() { print ")?;
     for _ in 0..count {

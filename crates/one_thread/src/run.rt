@@ -38,7 +38,7 @@ pub struct PlainRun {
     pub end: End,
 }
 
-// What comes next in a run.
+/// What comes next in a run.
 #[derive(Drop)]
 pub enum Move {
     Goes(Step),

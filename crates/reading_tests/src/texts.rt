@@ -130,7 +130,7 @@ fn unexpected_tokens(rt: HostRuntime) {
     }
 }
 
-/// The front, so many times the part, the middle, as many times the other part, the back.
+// The front, so many times the part, the middle, as many times the other part, the back.
 fn nested(alloc: Global, times: usize, parts: [&[u8]; 5]) -> Result<Vec<u8>, AllocError> {
     let [front, part, middle, other, back] = parts;
     let mut text = Vec::from_slice(alloc, front)?;
@@ -223,7 +223,7 @@ fn worked_rows(rt: HostRuntime) {
     stops(&rt, alloc, b"task main() {", ParseFault::Unexpected(13));
 }
 
-/// The text, with spaces behind it up to 1,048,576 bytes.
+// The text, with spaces after it up to 1,048,576 bytes.
 fn padded(text: Vec<u8>) -> Result<Vec<u8>, AllocError> {
     let mut padded = text;
     for _ in padded.len()..1_048_576 {

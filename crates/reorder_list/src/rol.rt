@@ -39,14 +39,14 @@ impl Model for Rol {
     ghost invariant = { λ r. IsUpheld r.entries.items r.watched.items r.idle };
 }
 
-/// The earlier of two positions.
+// The earlier of two positions.
 fn earlier_of(a: Pos, b: Pos) -> Pos
     ensures { result ≡ min a b }
 {
     Pos(a.0.min(b.0))
 }
 
-/// The next attempt of an entry begins at this front and waits; the history of the last one is handed out.
+// The next attempt of an entry begins at this front and waits; the history of the last one is handed out.
 fn raise_entry(alloc: Global, entry: &mut Entry, front: Pos) -> Option<History>
     requires { entry.old.attempt < 4294967295 }
     ensures entry { entry.new ≡ raised_entry front entry.old }
@@ -59,14 +59,14 @@ fn raise_entry(alloc: Global, entry: &mut Entry, front: Pos) -> Option<History>
     entry.hist.take()
 }
 
-/// The attempt of an entry is out.
+// The attempt of an entry is out.
 fn send_entry(entry: &mut Entry)
     ensures { entry.new ≡ out_entry entry.old }
 {
     entry.state = State::Out;
 }
 
-/// The result of an entry's attempt is applied.
+// The result of an entry's attempt is applied.
 fn apply_entry(entry: &mut Entry, history: History, lines: Lines)
     ensures { entry.new ≡ applied_entry history lines entry.old }
 {

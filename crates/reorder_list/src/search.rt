@@ -30,7 +30,7 @@ pub fn place_of(entries: &VecDeque<Entry>, p: Pos) -> Option<usize>
     }
 }
 
-/// The place of the first entry from a position on, or how many entries there are.
+// The place of the first entry from a position on, or how many entries there are.
 fn place_from(entries: &VecDeque<Entry>, p: Pos) -> usize
     ensures within { result ≤ length entries.now.items }
     ensures before { (result ≡ 0) ⊎ (first_position entries.now.items + result ≤ p) }
@@ -47,7 +47,7 @@ fn place_from(entries: &VecDeque<Entry>, p: Pos) -> usize
     place.min(entries.len())
 }
 
-/// Whether an earlier entry is in conflict with the later one and not applied.
+// Whether an earlier entry is in conflict with the later one and not applied.
 fn blocks(earlier: &Entry, later: &Entry) -> bool
     ensures blocks { IsTrue result → Conflict earlier.now.foot later.now.foot × (is_applied earlier.now.state ≡ false) }
     ensures passes { result ≡ false → LetsPass earlier.now later.now }
@@ -55,7 +55,7 @@ fn blocks(earlier: &Entry, later: &Entry) -> bool
     !earlier.state.is_applied() && conflict(&earlier.foot, &later.foot)
 }
 
-/// The first position before the one at a place that holds it up.
+// The first position before the one at a place that holds it up.
 fn blocker(entries: &VecDeque<Entry>, place: usize) -> Option<Pos>
     requires in_row { IsInRow entries.now.items }
     requires in_range { place < length entries.now.items }
@@ -81,7 +81,7 @@ pub fn is_runnable(entries: &VecDeque<Entry>, place: usize) -> bool
     entries[place].state.is_waiting() && blocker(entries, place).is_none()
 }
 
-/// Whether the entry of the position that is watched is still not applied.
+// Whether the entry of the position that is watched is still not applied.
 fn is_blocked(entries: &VecDeque<Entry>, watch: Option<Pos>) -> bool
     requires { IsInRow entries.now.items }
     ensures { IsTrue result → StillWatched entries.now.items watch }
@@ -95,8 +95,8 @@ fn is_blocked(entries: &VecDeque<Entry>, watch: Option<Pos>) -> bool
     }
 }
 
-/// Whether the entry at a place is runnable. Looks for another position that holds it up only where the one that is
-/// watched does so no longer.
+// Whether the entry at a place is runnable. Looks for another position that holds it up only where the one that is
+// watched does so no longer.
 fn is_ready(entries: &VecDeque<Entry>, watched: &mut VecDeque<Option<Pos>>, place: usize) -> bool
     requires in_row { IsInRow entries.now.items }
     requires in_range { place < length entries.now.items }

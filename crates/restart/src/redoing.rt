@@ -17,7 +17,7 @@ use record_store::Store;
 use reorder_list::Rol;
 use std::alloc::Global;
 
-/// Whether the entries of two positions are in conflict.
+// Whether the entries of two positions are in conflict.
 fn clashes(rol: &Rol, earlier: Pos, later: Pos) -> bool
     ensures { IsTrue result ↔ (clash_of rol.now.entries earlier later ≡ true) }
 {
@@ -30,7 +30,7 @@ fn clashes(rol: &Rol, earlier: Pos, later: Pos) -> bool
     conflict(&before.foot, &after.foot)
 }
 
-/// Whether one of these positions is in conflict with another.
+// Whether one of these positions is in conflict with another.
 fn is_reached(rol: &Rol, redo: &[Pos], p: Pos) -> bool
     ensures { IsTrue result ↔ (list_any (λ q. clash_of rol.now.entries q p) redo.now ≡ true) }
 {
@@ -42,7 +42,7 @@ fn is_reached(rol: &Rol, redo: &[Pos], p: Pos) -> bool
     false
 }
 
-/// Lists the position that is struck and all that depend on it below the front, in order.
+// Lists the position that is struck and all that depend on it below the front, in order.
 fn find_redone(rol: &Rol, struck: Pos, front: Pos, redo: &mut Room<Pos>)
     requires issued { struck < front }
     requires empty { redo.old.items ≡ [] }
@@ -56,7 +56,7 @@ fn find_redone(rol: &Rol, struck: Pos, front: Pos, redo: &mut Room<Pos>)
     }
 }
 
-/// Undoes what was applied at these positions, the newest first, and begins their next attempts.
+// Undoes what was applied at these positions, the newest first, and begins their next attempts.
 fn redo_each(alloc: Global, rol: &mut Rol, store: &mut Store, redo: &[Pos], front: Pos)
     requires rising { IsStrictlyIncreasing redo.now }
     requires attempts { All (λ q. IsSomeAnd (entry_at rol.old.entries q) (λ e. e.attempt < 4294967295)) redo.now }

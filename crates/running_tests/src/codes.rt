@@ -5,7 +5,7 @@ use std::test::Fail;
 use task_code::{Code, lower};
 
 // In text order: task 0 is one instruction. In task 1 an assignment is one, the loop three, the choice four, and each of
-// the ten statements behind them one.
+// the ten statements after them one.
 const EACH: &[u8] =
     b"lock bank[2]; barrier gate(1); record acct[2] by bank; feed moves[2] from \"m\";
 task pay(n, $v) { $ret = $v; }

@@ -15,7 +15,7 @@ use subthread::{Done, Task, Work};
 use task_ast::{Next, SyncOp};
 use task_code::lower;
 
-/// What the tasks of the program run under in which two threads add to one total.
+// What the tasks of the program run under in which two threads add to one total.
 fn adding(alloc: Global) -> Result<Work, Fail> {
     let code = lower(alloc, &accepted(alloc, ADD)?)?;
     Ok(Work {
@@ -25,7 +25,7 @@ fn adding(alloc: Global) -> Result<Work, Fail> {
     })
 }
 
-/// An attempt of the program's first subthread: `main` begins, and runs to its fork in line 3.
+// An attempt of the program's first subthread: `main` begins, and runs to its fork in line 3.
 fn start(alloc: Global, attempt: u32) -> Result<Task, AllocError>
     ensures attempt { IfOk result (λ task. task.attempt ≡ attempt) }
     ensures bundles { IfOk result (λ task. task.given.bundles ≡ []) }
@@ -52,7 +52,7 @@ fn start(alloc: Global, attempt: u32) -> Result<Task, AllocError>
     })
 }
 
-/// The attempt that comes back next and ends at the fork, or `None` where none is out.
+// The attempt that comes back next and ends at the fork, or `None` where none is out.
 fn attempt_back<C: Crew, R: Threads + Sync>(rt: &R, crew: &mut C) -> Result<Option<u32>, AllocError>
     requires ready { C.ready crew.old }
     ensures ready { C.ready crew.new }
@@ -63,7 +63,7 @@ fn attempt_back<C: Crew, R: Threads + Sync>(rt: &R, crew: &mut C) -> Result<Opti
     }
 }
 
-/// Which attempts come back after attempts 0 and 1 were posted, and what comes after these.
+// Which attempts come back after attempts 0 and 1 were posted, and what comes after these.
 fn attempts_back<C: Crew, R: Threads + Sync>(
     rt: &R,
     alloc: Global,
@@ -80,7 +80,7 @@ fn attempts_back<C: Crew, R: Threads + Sync>(
     Ok((first, second, third))
 }
 
-/// Which attempts come back from a crew that runs waves of two workers.
+// Which attempts come back from a crew that runs waves of two workers.
 fn attempts_in_waves<G: Gate, R: Threads + Sync>(
     rt: &R,
     alloc: Global,
@@ -95,7 +95,7 @@ fn attempts_in_waves<G: Gate, R: Threads + Sync>(
     attempts_back(rt, alloc, &mut crew)
 }
 
-/// Holds the first task that enters until a second has entered, for so many looks at most.
+// Holds the first task that enters until a second has entered, for so many looks at most.
 #[derive(Drop)]
 struct Meeting {
     entered: AtomicU64,

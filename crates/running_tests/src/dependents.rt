@@ -19,7 +19,7 @@ fn foot(alloc: Global, reads: &[Loc], writes: &[Loc]) -> Result<Footprint, Alloc
     })
 }
 
-/// Two threads that add to one record, up to the second one's lock.
+// Two threads that add to one record, up to the second one's lock.
 fn two_adders(alloc: Global) -> Result<Seq<Footprint>, AllocError> {
     let mut feet = Seq::new(alloc);
     feet.push(foot(alloc, &[], &[REGS_0])?)?;

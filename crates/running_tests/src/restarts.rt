@@ -18,7 +18,7 @@ const REGS_2: Loc = Loc::Regs(ThreadNo(2));
 
 const TALLY: Loc = Loc::Lock(LockNo(0));
 
-/// The first entry of a position, with the locations that it writes.
+// The first entry of a position, with the locations that it writes.
 fn entry(alloc: Global, p: u32, writes: &[Loc]) -> Result<Entry, AllocError>
     ensures { IfOk result (λ e. (e.pos ≡ p) × (e.attempt ≡ 0) × (e.hist ≡ None) × IsFresh e) }
 {
@@ -45,7 +45,7 @@ fn entry(alloc: Global, p: u32, writes: &[Loc]) -> Result<Entry, AllocError>
     })
 }
 
-/// The next position.
+// The next position.
 fn push(alloc: Global, rol: &mut Rol, p: u32, writes: &[Loc]) -> Result<(), AllocError>
     requires row { StandFrom 0 rol.old.entries }
     requires next { length rol.old.entries ≡ p }
@@ -60,7 +60,7 @@ fn push(alloc: Global, rol: &mut Rol, p: u32, writes: &[Loc]) -> Result<(), Allo
     Ok(())
 }
 
-/// Two threads that add to one record, up to the second one's lock: nothing has run.
+// Two threads that add to one record, up to the second one's lock: nothing has run.
 fn two_adders(alloc: Global) -> Result<Rol, AllocError>
     ensures row { IfOk result (λ rol. StandFrom 0 rol.entries) }
     ensures eight { IfOk result (λ rol. length rol.entries ≡ 8) }
@@ -83,7 +83,7 @@ fn two_adders(alloc: Global) -> Result<Rol, AllocError>
     Ok(rol)
 }
 
-/// The positions that are redone with one of the eight.
+// The positions that are redone with one of the eight.
 fn redone_with(alloc: Global, struck: u32) -> Result<Seq<Pos>, AllocError>
     requires { struck < 8 }
 {

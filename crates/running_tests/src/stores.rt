@@ -8,7 +8,7 @@ use std::alloc::{AllocError, Global};
 use std::test::Fail;
 use task_ast::{Effect, Layout};
 
-/// Cells 5 and 7, each under a lock of its own, and two threads.
+// Cells 5 and 7, each under a lock of its own, and two threads.
 fn two_cells(alloc: Global) -> Result<Store, AllocError>
     ensures { IfOk result (λ store. (length store.threads ≡ 2) × (length store.cells ≡ 2)) }
 {
@@ -21,7 +21,7 @@ fn two_cells(alloc: Global) -> Result<Store, AllocError>
     Ok(store)
 }
 
-/// Thread 0 writes a cell, and leaves its registers as 3.
+// Thread 0 writes a cell, and leaves its registers as 3.
 fn write(alloc: Global, cell: u32, value: i64) -> Result<Effect, AllocError>
     requires { cell < 2 }
     ensures { IfOk result (λ effect. (store : Stored) → (length store.threads ≡ 2) → (length store.cells ≡ 2) → Fits store effect) }
@@ -35,7 +35,7 @@ fn write(alloc: Global, cell: u32, value: i64) -> Result<Effect, AllocError>
     })
 }
 
-/// Thread 0 forks thread 1, leaves its registers as 3 and those of the child as 4 and 2, and prints 1.
+// Thread 0 forks thread 1, leaves its registers as 3 and those of the child as 4 and 2, and prints 1.
 fn fork(alloc: Global) -> Result<Effect, AllocError>
     ensures { IfOk result (λ effect. (store : Stored) → (length store.threads ≡ 2) → Fits store effect) }
 {

@@ -12,7 +12,7 @@ use subthread::{Done, Task, Work, run_task};
 use task_ast::{Next, SyncOp};
 use task_code::lower;
 
-/// A thread adds to a total, under its lock.
+// A thread adds to a total, under its lock.
 const ADD: &[u8] = b"lock tally[1];
 record total[1] by tally;
 task add(n) {
@@ -24,7 +24,7 @@ task add(n) {
 }
 task main() { fork add(3); }";
 
-/// Each kind of statement that needs no lock. The lock of line 12 isn't there.
+// Each kind of statement that needs no lock. The lock of line 12 isn't there.
 const KINDS: &[u8] = b"lock tally[1]; barrier meet(1); feed move[2] from \"moves\";
 task sum(k, $a) { }
 task main() {
@@ -52,7 +52,7 @@ fn run(alloc: Global, work: &Work, task: Task) -> Result<Done, AllocError>
     Ok(run_task(alloc, work, task)?)
 }
 
-/// Thread 1 holds the lock, and the total is 0.
+// Thread 1 holds the lock, and the total is 0.
 fn adding(alloc: Global, mask: i64) -> Result<Task, AllocError>
     ensures { IfOk result (λ task. (work : PlainWork) → Fits work task) }
 {
@@ -99,7 +99,7 @@ fn adds_and_is_damaged(rt: HostRuntime) -> Result<(), Fail> {
     Ok(())
 }
 
-/// Thread 0 holds no lock.
+// Thread 0 holds no lock.
 fn free(
     alloc: Global,
     begins: Next,
@@ -129,7 +129,7 @@ fn free(
     }
 }
 
-/// `main` at its start.
+// `main` at its start.
 fn starting(alloc: Global) -> Result<Task, AllocError>
     ensures { IfOk result (λ task. (work : PlainWork) → Fits work task) }
 {
@@ -142,7 +142,7 @@ fn starting(alloc: Global) -> Result<Task, AllocError>
     Ok(free(alloc, begins, At { task: 1, pc: 0 }, ctl, None, regs, 0))
 }
 
-/// The subthread after another: the first forks thread 1, and one that is joined returns 7.
+// The subthread after another: the first forks thread 1, and one that is joined returns 7.
 fn next(alloc: Global, done: Done, step: usize) -> Task
     ensures { (work : PlainWork) → Fits work result }
 {
@@ -157,7 +157,7 @@ fn next(alloc: Global, done: Done, step: usize) -> Task
     free(alloc, next, at, ctl, child, effect.regs, 7)
 }
 
-/// The work of all kinds of statements, with a feed of two rows of two cells.
+// The work of all kinds of statements, with a feed of two rows of two cells.
 fn kinds(alloc: Global, turns: u64) -> Result<Work, Fail> {
     let mut feeds = Seq::new(alloc);
     feeds.push(Feed::new(2, Seq::from_slice(alloc, &[5, 6, 7, 8])?))?;
@@ -173,7 +173,7 @@ fn is_numbers(numbers: &Nums, want: [i64; 3]) -> bool {
     numbers.as_slice() == want.as_slice()
 }
 
-/// The first subthread stops at the fork of `sum` with 2, on line 9.
+// The first subthread stops at the fork of `sum` with 2, on line 9.
 fn forks(done: &Done) -> bool {
     match &done.next.sync {
         SyncOp::Fork { task: 0, args } => {
@@ -185,7 +185,7 @@ fn forks(done: &Done) -> bool {
     }
 }
 
-/// The next one gave the child its registers, and stops at the join of thread 1.
+// The next one gave the child its registers, and stops at the join of thread 1.
 fn joins(done: &Done) -> bool {
     match (&done.next.sync, &done.effect.child) {
         (SyncOp::Join(1), Some((ThreadNo(1), regs))) => {

@@ -6,7 +6,7 @@ use std::test::Fail;
 use task_ast::{Next, SyncOp};
 use token_order::{Ring, Turn};
 
-/// The start of the first thread, before which there is one lock and no barrier.
+// The start of the first thread, before which there is one lock and no barrier.
 fn one_thread(alloc: Global) -> Result<Ring, AllocError> {
     let main = Next {
         sync: SyncOp::Start,
@@ -17,7 +17,7 @@ fn one_thread(alloc: Global) -> Result<Ring, AllocError> {
     Ok(ring)
 }
 
-/// The fork of line 12, with one argument.
+// The fork of line 12, with one argument.
 fn fork(alloc: Global) -> Result<Next, AllocError> {
     let args = Seq::from_slice(alloc, &[3])?;
     Ok(Next {
@@ -26,7 +26,7 @@ fn fork(alloc: Global) -> Result<Next, AllocError> {
     })
 }
 
-/// Whether the turn needs this thread.
+// Whether the turn needs this thread.
 fn needs(turn: &Turn, thread: u32) -> bool {
     match turn {
         Turn::Needs(needed) => needed.0 == thread,
@@ -34,7 +34,7 @@ fn needs(turn: &Turn, thread: u32) -> bool {
     }
 }
 
-/// Whether the turn begins a subthread of this thread, with this child or none.
+// Whether the turn begins a subthread of this thread, with this child or none.
 fn issues(turn: &Turn, thread: u32, child: u32) -> bool {
     match turn {
         Turn::Issue {

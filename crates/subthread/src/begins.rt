@@ -138,7 +138,7 @@ fn is_start(begins: &SyncOp) -> bool
     matches!(begins, SyncOp::Start)
 }
 
-/// Performs the synchronisation with which a run begins, and stands behind it: the data arguments of a fork go into the
+/// Performs the synchronisation with which a run begins, and stands after it: the data arguments of a fork go into the
 /// registers of its child, whose number goes into the variable that takes it; the value that a joined thread returns goes
 /// into the register that takes it.
 pub fn begin(

@@ -20,7 +20,7 @@ use std::marker::Model;
 use task_ast::Layout;
 
 /// The code of an accepted program, beside its layout. Contracts see the program and the instructions of each task; each
-/// jump leads to an instruction or behind the last one, each variable exists, and a number of 32 bits counts the
+/// jump leads to an instruction or after the last one, each variable exists, and a number of 32 bits counts the
 /// instructions of a task.
 #[derive(Drop)]
 pub struct Code {

@@ -19,7 +19,7 @@ use gp_base::{Name, Seq};
 use std::alloc::{AllocError, Global};
 use task_ast::{Expr, Param, Stmt, What};
 
-/// A number of 32 bits. A greater one counts as want of memory.
+/// A number of 32 bits. A greater one counts as out of memory.
 pub fn small(number: usize) -> Result<u32, AllocError>
     ensures { IfOk result (λ n. n ≡ number) }
 {
@@ -162,7 +162,7 @@ fn lower_fork(
     }
 }
 
-// Ends a loop whose body stands behind the instruction at `start`: that one jumps to the test, which leads back to the
+// Ends a loop whose body stands after the instruction at `start`: that one jumps to the test, which leads back to the
 // body.
 fn end_while(
     alloc: Global,
@@ -182,7 +182,7 @@ fn end_while(
     put(code, line, Does::Again(test, size))
 }
 
-// Ends a choice whose first side stands behind the instruction at `start`, and its second side behind that at `middle`:
+// Ends a choice whose first side stands after the instruction at `start`, and its second side after that at `middle`:
 // the one jumps to the second side where the test is 0, the other over the second side.
 fn end_if(
     alloc: Global,

@@ -14,7 +14,7 @@ pub fn code_laws()
     ensures run { RunLaw }
 {}
 
-/// Each jump of lowered code leads to an instruction of its task, or behind the last one.
+/// Each jump of lowered code leads to an instruction of its task, or after the last one.
 pub fn jumps_law()
     ensures { JumpsLaw }
 {}

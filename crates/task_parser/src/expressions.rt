@@ -25,7 +25,7 @@ pub enum Level {
     Product,
 }
 
-/// The operator of a token.
+// The operator of a token.
 fn operator_of(token: Token) -> Op
     ensures { result ≡ op_of token }
 {
@@ -58,7 +58,7 @@ fn operator_of(token: Token) -> Op
     }
 }
 
-/// Whether the token is an operator of the level.
+// Whether the token is an operator of the level.
 fn is_operator(level: Level, token: Token) -> bool
     ensures { result ≡ among (operators level) token }
 {
@@ -78,7 +78,7 @@ fn is_operator(level: Level, token: Token) -> bool
     }
 }
 
-/// Whether an operator of the level is next.
+// Whether an operator of the level is next.
 fn goes_on(level: Level, tokens: &[Token]) -> bool
     ensures { result ≡ begins (among (operators level)) tokens.now }
 {
@@ -88,7 +88,7 @@ fn goes_on(level: Level, tokens: &[Token]) -> bool
     }
 }
 
-/// The operator of the level that is next, and what is after it.
+// The operator of the level that is next, and what is after it.
 fn operator_at(level: Level, tokens: &[Token]) -> Read<'_, Token>
     ensures { Gives (λ x. (x.0, x.1.now)) result (read_one (among (operators level)) tokens.now) }
 {
@@ -101,7 +101,7 @@ fn operator_at(level: Level, tokens: &[Token]) -> Read<'_, Token>
     Ok((*token, rest))
 }
 
-/// An operand after an opener of the class, a `-` or a `not`.
+// An operand after an opener of the class, a `-` or a `not`.
 #[cycle(descent)]
 fn operand_after<'a>(
     source: Source<'_>,
@@ -118,7 +118,7 @@ fn operand_after<'a>(
     operand(source, room - 1, rest)
 }
 
-/// An expression in parentheses.
+// An expression in parentheses.
 #[tactic(auto, unfolding(crate::specs::inner::ExpressionReaders::read_group))]
 #[cycle(descent)]
 fn group<'a>(source: Source<'_>, room: u32, tokens: &'a [Token]) -> Read<'a, Expr>
@@ -139,7 +139,7 @@ fn group<'a>(source: Source<'_>, room: u32, tokens: &'a [Token]) -> Read<'a, Exp
     Ok((value, rest))
 }
 
-/// A row and a field in brackets.
+// A row and a field in brackets.
 #[tactic(auto, unfolding(crate::specs::inner::ExpressionReaders::read_place))]
 #[cycle(descent)]
 fn place<'a>(source: Source<'_>, room: u32, tokens: &'a [Token]) -> Read<'a, (Expr, Expr)>
@@ -174,7 +174,7 @@ fn place<'a>(source: Source<'_>, room: u32, tokens: &'a [Token]) -> Read<'a, (Ex
     Ok(((row, field), rest))
 }
 
-/// A control variable or a cell of a feed.
+// A control variable or a cell of a feed.
 #[tactic(auto, using(task_ast::proofs::Views::view), unfolding(crate::specs::inner::ExpressionReaders::read_named))]
 #[cycle(descent)]
 fn named<'a>(source: Source<'_>, room: u32, tokens: &'a [Token]) -> Read<'a, Expr>
@@ -197,7 +197,7 @@ fn named<'a>(source: Source<'_>, room: u32, tokens: &'a [Token]) -> Read<'a, Exp
     Ok((Expr::Cell(feed, row, field), rest))
 }
 
-/// The number of rows of a feed.
+// The number of rows of a feed.
 #[tactic(auto, using(task_ast::proofs::Views::view), unfolding(crate::specs::inner::ExpressionReaders::read_rows))]
 fn rows<'a>(source: Source<'_>, tokens: &'a [Token]) -> Read<'a, Expr>
     ensures { Gives (λ x. (plain_expr x.0, x.1.now)) result (read_rows source.entry.text.now tokens.now) }
@@ -209,7 +209,7 @@ fn rows<'a>(source: Source<'_>, tokens: &'a [Token]) -> Read<'a, Expr>
     Ok((Expr::Rows(source.name(token)?), rest))
 }
 
-/// An operand.
+// An operand.
 #[tactic(auto, using(task_ast::proofs::Views::view), unfolding(crate::specs::inner::ExpressionReaders::read_unary, crate::specs::inner::ExpressionReaders::read_operand))]
 #[cycle(descent)]
 fn operand<'a>(source: Source<'_>, room: u32, tokens: &'a [Token]) -> Read<'a, Expr>
@@ -239,7 +239,7 @@ fn operand<'a>(source: Source<'_>, room: u32, tokens: &'a [Token]) -> Read<'a, E
     }
 }
 
-/// What stands between the operators of a level.
+// What stands between the operators of a level.
 #[cycle(descent)]
 fn part<'a>(source: Source<'_>, level: Level, room: u32, tokens: &'a [Token]) -> Read<'a, Expr>
     ensures { Gives (λ x. (plain_expr x.0, x.1.now)) result (read_part level source.entry.text.now room tokens.now) }
@@ -253,7 +253,7 @@ fn part<'a>(source: Source<'_>, level: Level, room: u32, tokens: &'a [Token]) ->
     }
 }
 
-/// An operator of the level and what stands right of it.
+// An operator of the level and what stands right of it.
 #[cycle(descent)]
 fn member<'a>(
     source: Source<'_>,
@@ -268,7 +268,7 @@ fn member<'a>(
     Ok(((operator_of(operator), right), rest))
 }
 
-/// The operators of a level, as many as there are, each with what stands right of it.
+// The operators of a level, as many as there are, each with what stands right of it.
 #[cycle(descent)]
 fn members<'a>(
     source: Source<'_>,
@@ -302,7 +302,7 @@ pub fn chain<'a>(source: Source<'_>, level: Level, room: u32, tokens: &'a [Token
     Ok((Expr::Chain(Box::new(source.alloc, first)?, others), rest))
 }
 
-/// Two sums with a comparison between them, or one sum.
+// Two sums with a comparison between them, or one sum.
 #[tactic(auto, using(task_ast::proofs::Views::view), unfolding(crate::specs::inner::ExpressionReaders::read_compared))]
 #[cycle(descent)]
 fn comparison<'a>(source: Source<'_>, room: u32, tokens: &'a [Token]) -> Read<'a, Expr>

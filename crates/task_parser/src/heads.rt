@@ -13,7 +13,7 @@ use crate::token::Token;
 use gp_base::{Name, Seq};
 use task_ast::Head;
 
-/// The word, a name, and a number in brackets.
+// The word, a name, and a number in brackets.
 #[tactic(auto, unfolding(crate::specs::inner::ProgramReaders::read_sized))]
 fn sized(word: u32, tokens: &[Token]) -> Read<'_, ((Token, Token), Token)>
     ensures { Gives (λ x. (x.0, x.1.now)) result (read_sized word tokens.now) }
@@ -26,7 +26,7 @@ fn sized(word: u32, tokens: &[Token]) -> Read<'_, ((Token, Token), Token)>
     Ok((((first, title), size), rest))
 }
 
-/// `lock NAME [ NUM ] ;`
+// `lock NAME [ NUM ] ;`
 #[tactic(auto, unfolding(crate::specs::inner::ProgramReaders::read_lock_head))]
 fn lock_head<'a>(source: Source<'_>, tokens: &'a [Token]) -> Read<'a, Head>
     ensures { Gives (λ x. (x.0, x.1.now)) result (read_lock_head source.entry.text.now tokens.now) }
@@ -39,7 +39,7 @@ fn lock_head<'a>(source: Source<'_>, tokens: &'a [Token]) -> Read<'a, Head>
     Ok((Head::LockHead { name, size, line }, rest))
 }
 
-/// `barrier NAME ( NUM ) ;`
+// `barrier NAME ( NUM ) ;`
 #[tactic(auto, unfolding(crate::specs::inner::ProgramReaders::read_barrier_head))]
 fn barrier_head<'a>(source: Source<'_>, tokens: &'a [Token]) -> Read<'a, Head>
     ensures { Gives (λ x. (x.0, x.1.now)) result (read_barrier_head source.entry.text.now tokens.now) }
@@ -56,7 +56,7 @@ fn barrier_head<'a>(source: Source<'_>, tokens: &'a [Token]) -> Read<'a, Head>
     Ok((Head::BarrierHead { name, number, line }, rest))
 }
 
-/// The name of the file after a `from`, if there is one.
+// The name of the file after a `from`, if there is one.
 #[tactic(auto, unfolding(crate::specs::inner::ProgramReaders::read_from_file))]
 fn from_file<'a>(source: Source<'_>, tokens: &'a [Token]) -> Read<'a, Option<Name>>
     ensures { Gives (λ x. (x.0, x.1.now)) result (read_from_file source.entry.text.now tokens.now) }
@@ -69,7 +69,7 @@ fn from_file<'a>(source: Source<'_>, tokens: &'a [Token]) -> Read<'a, Option<Nam
     Ok((Some(source.file(token)?), rest))
 }
 
-/// `record NAME [ NUM ] by NAME from TEXT ;`, where the `from` may be left out
+// `record NAME [ NUM ] by NAME from TEXT ;`, where the `from` may be left out
 #[tactic(auto, unfolding(crate::specs::inner::ProgramReaders::read_record_head))]
 fn record_head<'a>(source: Source<'_>, tokens: &'a [Token]) -> Read<'a, Head>
     ensures { Gives (λ x. (x.0, x.1.now)) result (read_record_head source.entry.text.now tokens.now) }
@@ -95,7 +95,7 @@ fn record_head<'a>(source: Source<'_>, tokens: &'a [Token]) -> Read<'a, Head>
     ))
 }
 
-/// `feed NAME [ NUM ] from TEXT ;`
+// `feed NAME [ NUM ] from TEXT ;`
 #[tactic(auto, unfolding(crate::specs::inner::ProgramReaders::read_feed_head))]
 fn feed_head<'a>(source: Source<'_>, tokens: &'a [Token]) -> Read<'a, Head>
     ensures { Gives (λ x. (x.0, x.1.now)) result (read_feed_head source.entry.text.now tokens.now) }
@@ -119,7 +119,7 @@ fn feed_head<'a>(source: Source<'_>, tokens: &'a [Token]) -> Read<'a, Head>
     ))
 }
 
-/// A declaration of a lock array, a barrier, a record or a feed.
+// A declaration of a lock array, a barrier, a record or a feed.
 #[tactic(auto, unfolding(crate::specs::inner::ProgramReaders::read_head))]
 fn head<'a>(source: Source<'_>, tokens: &'a [Token]) -> Read<'a, Head>
     ensures { Gives (λ x. (x.0, x.1.now)) result (read_head source.entry.text.now tokens.now) }
@@ -135,7 +135,7 @@ fn head<'a>(source: Source<'_>, tokens: &'a [Token]) -> Read<'a, Head>
     }
 }
 
-/// Whether a head is next.
+// Whether a head is next.
 fn begins_head(tokens: &[Token]) -> bool
     ensures { result ≡ begins (among head_starts) tokens.now }
 {

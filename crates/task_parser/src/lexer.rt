@@ -29,20 +29,20 @@ use gp_base::Seq;
 use gp_base::limits::MOST_PROGRAM_BYTES;
 use std::alloc::{AllocError, Global};
 
-/// The reserved words, in the order in which they are counted.
+// The reserved words, in the order in which they are counted.
 const WORDS: [&[u8]; 25] = [
     b"lock", b"unlock", b"barrier", b"record", b"by", b"from", b"feed", b"task", b"var", b"while",
     b"if", b"else", b"fork", b"into", b"join", b"read", b"write", b"print", b"when", b"and", b"or",
     b"not", b"self", b"rows", b"settle",
 ];
 
-/// The marks, in the order in which they are counted.
+// The marks, in the order in which they are counted.
 const MARKS: [&[u8]; 20] = [
     b"[", b"]", b"(", b")", b"{", b"}", b",", b";", b"=", b"==", b"!=", b"<", b"<=", b">", b">=",
     b"+", b"-", b"*", b"/", b"%",
 ];
 
-/// The greatest number that a text may have.
+// The greatest number that a text may have.
 const NUMBER_LIMIT: u64 = 9223372036854775807;
 
 /// What stands at the front of a text: a space or a comment of so many bytes; a token of so many bytes; a number that
@@ -79,7 +79,7 @@ fn is_quoted_byte(byte: u8) -> bool
     byte >= 32 && byte <= 126 && byte != b'"'
 }
 
-/// How many bytes of a comment stand at the front.
+// How many bytes of a comment stand at the front.
 fn comment_length(text: &[u8]) -> usize
     ensures length { result ≡ prefix_len is_comment_byte text.now }
     ensures within { result ≤ length text.now }
@@ -87,7 +87,7 @@ fn comment_length(text: &[u8]) -> usize
     text.iter().take_while(|byte| **byte != b'\n').count()
 }
 
-/// How many digits stand at the front.
+// How many digits stand at the front.
 fn digits_length(text: &[u8]) -> usize
     ensures length { result ≡ prefix_len is_ascii_digit text.now }
     ensures within { result ≤ length text.now }
@@ -95,7 +95,7 @@ fn digits_length(text: &[u8]) -> usize
     text.iter().take_while(|byte| byte.is_ascii_digit()).count()
 }
 
-/// How many letters, digits and `_` stand at the front.
+// How many letters, digits and `_` stand at the front.
 fn name_length(text: &[u8]) -> usize
     ensures length { result ≡ prefix_len is_name_byte text.now }
     ensures within { result ≤ length text.now }
@@ -103,7 +103,7 @@ fn name_length(text: &[u8]) -> usize
     text.iter().take_while(|byte| is_name_byte(**byte)).count()
 }
 
-/// How many bytes that may stand between quotes stand at the front.
+// How many bytes that may stand between quotes stand at the front.
 fn quoted_length(text: &[u8]) -> usize
     ensures length { result ≡ prefix_len is_quoted_byte text.now }
     ensures within { result ≤ length text.now }
@@ -113,7 +113,7 @@ fn quoted_length(text: &[u8]) -> usize
         .count()
 }
 
-/// The number of the row that is this text.
+// The number of the row that is this text.
 fn row_of(table: &[&[u8]], text: &[u8]) -> Option<usize>
     ensures { result ≡ position (λ row. bytes_eq row.now text.now) table.now }
 {
@@ -134,7 +134,7 @@ fn mark_number(text: &[u8]) -> Option<usize>
     row_of(&table, text)
 }
 
-/// The number that decimal digits stand for, or the greatest `u64` where that is less.
+// The number that decimal digits stand for, or the greatest `u64` where that is less.
 fn decimal(digits: &[u8]) -> u64
     ensures { result ≡ min u64.MAX (decimal digits.now) }
 {
@@ -167,7 +167,7 @@ fn word_piece(word: &[u8]) -> Piece
     Piece::Take(kind, word.len())
 }
 
-/// After a `$`.
+// After a `$`.
 fn register_piece(rest: &[u8]) -> Piece
     requires { length rest.now < 2 ^ 32 }
     ensures { result ≡ register_piece rest.now }
@@ -178,7 +178,7 @@ fn register_piece(rest: &[u8]) -> Piece
     }
 }
 
-/// After the first quote.
+// After the first quote.
 fn quoted_piece(rest: &[u8]) -> Piece
     requires { length rest.now < 2 ^ 32 }
     ensures { result ≡ quoted_piece (prefix_len is_quoted_byte rest.now) rest.now }
@@ -208,7 +208,7 @@ fn mark_piece(text: &[u8]) -> Piece
     }
 }
 
-/// What stands at the front of a text that isn't empty.
+// What stands at the front of a text that isn't empty.
 fn piece_of(text: &[u8]) -> Piece
     requires some { 0 < length text.now }
     requires few { length text.now < 2 ^ 32 }
@@ -233,7 +233,7 @@ fn piece_of(text: &[u8]) -> Piece
     }
 }
 
-/// How many LF bytes there are.
+// How many LF bytes there are.
 fn line_ends(bytes: &[u8]) -> usize
     ensures { result ≡ count_by (λ b. b == 10) bytes.now }
 {

@@ -7,7 +7,7 @@ ghost use Rattle.task_parser.specs.inner.Reading.{begins, read_one};
 use crate::halt::{Halt, Read};
 use crate::token::{Kind, Token};
 
-/// The number of a kind of token.
+// The number of a kind of token.
 fn class_of(kind: Kind) -> u32
     ensures { result ≡ class kind }
 {

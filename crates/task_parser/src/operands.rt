@@ -46,7 +46,7 @@ pub fn indexed<'a>(
     Ok((((first, array), index), rest))
 }
 
-/// A comma and an expression.
+// A comma and an expression.
 fn next_expr<'a>(source: Source<'_>, room: u32, tokens: &'a [Token]) -> Read<'a, Expr>
     ensures { Gives (λ x. (plain_expr x.0, x.1.now)) result (read_after COMMA (read_expression source.entry.text.now room) tokens.now) }
 {
@@ -70,7 +70,7 @@ pub fn exprs<'a>(source: Source<'_>, room: u32, tokens: &'a [Token]) -> Read<'a,
     Ok((exprs, rest))
 }
 
-/// Whether an expression begins here.
+// Whether an expression begins here.
 fn begins_expr(tokens: &[Token]) -> bool
     ensures { result ≡ begins (among starting) tokens.now }
 {

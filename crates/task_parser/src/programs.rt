@@ -21,7 +21,7 @@ use gp_base::limits::DEEPEST_NESTING;
 use std::alloc::Global;
 use task_ast::Program;
 
-/// Heads and tasks.
+// Heads and tasks.
 #[tactic(auto, unfolding(crate::specs::inner::ProgramReaders::read_program))]
 fn program<'a>(source: Source<'_>, room: u32, tokens: &'a [Token]) -> Read<'a, Program>
     ensures { Gives (λ x. (plain_program x.0, x.1.now)) result (read_program source.entry.text.now room tokens.now) }
@@ -31,7 +31,7 @@ fn program<'a>(source: Source<'_>, room: u32, tokens: &'a [Token]) -> Read<'a, P
     Ok((Program { heads, tasks }, rest))
 }
 
-/// All of the tokens.
+// All of the tokens.
 #[tactic(auto, unfolding(crate::specs::inner::WholeText::read_all))]
 fn whole<'a>(source: Source<'_>, tokens: &'a [Token]) -> Result<Program, Halt<'a>>
     ensures { Gives plain_program result (read_all source.entry.text.now tokens.now) }
@@ -43,7 +43,7 @@ fn whole<'a>(source: Source<'_>, tokens: &'a [Token]) -> Result<Program, Halt<'a
     Ok(program)
 }
 
-/// Where the rest of the tokens begins in the text.
+// Where the rest of the tokens begins in the text.
 fn place_of(text: &[u8], rest: &[Token]) -> u32
     requires { length text.now < 2 ^ 32 }
     ensures { result ≡ place text.now rest.now }
@@ -54,7 +54,7 @@ fn place_of(text: &[u8], rest: &[Token]) -> u32
     }
 }
 
-/// Why reading halted, by its place.
+// Why reading halted, by its place.
 fn fault_of(text: &[u8], halt: Halt<'_>) -> ParseFault
     requires { length text.now < 2 ^ 32 }
     ensures { result ≡ fault_at text.now halt.entry }

@@ -14,7 +14,7 @@ pub struct Source<'t> {
     pub text: &'t [u8],
 }
 
-/// The bytes of the text between two places, as far as the text goes.
+// The bytes of the text between two places, as far as the text goes.
 fn bytes_between(text: &[u8], from: usize, to: usize) -> &[u8]
     ensures { result.now ≡ between text.now from to }
 {

@@ -27,7 +27,7 @@ pub enum Allowed {
     Data,
 }
 
-/// Statements in braces.
+// Statements in braces.
 #[tactic(auto, unfolding(crate::specs::inner::StatementReaders::read_block))]
 #[cycle(nesting)]
 fn block<'a>(
@@ -47,7 +47,7 @@ fn block<'a>(
     Ok((statements, rest))
 }
 
-/// The block after an `else`, which is empty where there is none.
+// The block after an `else`, which is empty where there is none.
 #[tactic(auto, unfolding(crate::specs::inner::StatementReaders::read_else))]
 #[cycle(nesting)]
 fn else_block<'a>(
@@ -65,7 +65,7 @@ fn else_block<'a>(
     block(source, allowed, room, rest)
 }
 
-/// `while expr { .. }`
+// `while expr { .. }`
 #[tactic(auto, using(task_ast::proofs::Views::view), unfolding(crate::specs::inner::StatementReaders::read_looping))]
 #[cycle(nesting)]
 fn looping<'a>(source: Source<'_>, room: u32, tokens: &'a [Token]) -> Read<'a, Stmt>
@@ -90,7 +90,7 @@ fn looping<'a>(source: Source<'_>, room: u32, tokens: &'a [Token]) -> Read<'a, S
     ))
 }
 
-/// `if expr { .. } else { .. }`, where the `else` may be left out
+// `if expr { .. } else { .. }`, where the `else` may be left out
 #[tactic(auto, using(task_ast::proofs::Views::view), unfolding(crate::specs::inner::StatementReaders::read_branching))]
 #[cycle(nesting)]
 fn branching<'a>(source: Source<'_>, room: u32, tokens: &'a [Token]) -> Read<'a, Stmt>
@@ -122,7 +122,7 @@ fn branching<'a>(source: Source<'_>, room: u32, tokens: &'a [Token]) -> Read<'a,
     ))
 }
 
-/// `when expr { .. } else { .. }` on data statements, where the `else` may be left out
+// `when expr { .. } else { .. }` on data statements, where the `else` may be left out
 #[tactic(auto, using(task_ast::proofs::Views::view), unfolding(crate::specs::inner::StatementReaders::read_choosing))]
 #[cycle(nesting)]
 fn choosing<'a>(source: Source<'_>, room: u32, tokens: &'a [Token]) -> Read<'a, Stmt>
@@ -154,7 +154,7 @@ fn choosing<'a>(source: Source<'_>, room: u32, tokens: &'a [Token]) -> Read<'a, 
     ))
 }
 
-/// A data statement.
+// A data statement.
 #[tactic(auto, unfolding(crate::specs::inner::StatementReaders::read_data_form, crate::specs::inner::StatementReaders::read_data_statement))]
 #[cycle(nesting)]
 fn data_statement<'a>(source: Source<'_>, room: u32, tokens: &'a [Token]) -> Read<'a, Stmt>
@@ -173,7 +173,7 @@ fn data_statement<'a>(source: Source<'_>, room: u32, tokens: &'a [Token]) -> Rea
     }
 }
 
-/// A statement that is not a data statement.
+// A statement that is not a data statement.
 #[tactic(auto, unfolding(crate::specs::inner::StatementReaders::read_control_form))]
 #[cycle(nesting)]
 fn control_statement<'a>(source: Source<'_>, room: u32, tokens: &'a [Token]) -> Read<'a, Stmt>
@@ -198,7 +198,7 @@ fn control_statement<'a>(source: Source<'_>, room: u32, tokens: &'a [Token]) -> 
     }
 }
 
-/// Whether a statement that is not a data statement begins with the token.
+// Whether a statement that is not a data statement begins with the token.
 fn is_control_start(token: Token) -> bool
     ensures { result ≡ among control_starts token }
 {
@@ -212,7 +212,7 @@ fn is_control_start(token: Token) -> bool
         || is_of(token, BARRIER)
 }
 
-/// Whether a data statement begins with the token.
+// Whether a data statement begins with the token.
 fn is_data_start(token: Token) -> bool
     ensures { result ≡ among data_starts token }
 {
@@ -223,7 +223,7 @@ fn is_data_start(token: Token) -> bool
         || is_of(token, WHEN)
 }
 
-/// Whether a statement that is allowed begins with the token.
+// Whether a statement that is allowed begins with the token.
 fn is_start(allowed: Allowed, token: Token) -> bool
     ensures { result ≡ among (starts allowed) token }
 {
@@ -233,7 +233,7 @@ fn is_start(allowed: Allowed, token: Token) -> bool
     }
 }
 
-/// Whether a statement that is allowed is next.
+// Whether a statement that is allowed is next.
 fn begins_statement(allowed: Allowed, tokens: &[Token]) -> bool
     ensures { result ≡ begins (among (starts allowed)) tokens.now }
 {
@@ -243,7 +243,7 @@ fn begins_statement(allowed: Allowed, tokens: &[Token]) -> bool
     }
 }
 
-/// Whether a statement that is not a data statement is next.
+// Whether a statement that is not a data statement is next.
 fn begins_control(tokens: &[Token]) -> bool
     ensures { result ≡ begins (among control_starts) tokens.now }
 {
@@ -253,7 +253,7 @@ fn begins_control(tokens: &[Token]) -> bool
     }
 }
 
-/// A statement.
+// A statement.
 #[tactic(auto, unfolding(crate::specs::inner::StatementReaders::read_statement))]
 #[cycle(nesting)]
 fn any_statement<'a>(source: Source<'_>, room: u32, tokens: &'a [Token]) -> Read<'a, Stmt>
@@ -266,7 +266,7 @@ fn any_statement<'a>(source: Source<'_>, room: u32, tokens: &'a [Token]) -> Read
     }
 }
 
-/// A statement that is allowed.
+// A statement that is allowed.
 #[cycle(nesting)]
 fn statement<'a>(
     source: Source<'_>,

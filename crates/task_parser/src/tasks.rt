@@ -16,7 +16,7 @@ use crate::token::Token;
 use gp_base::Seq;
 use task_ast::{Param, TaskText, VarLine};
 
-/// A control variable or a data variable.
+// A control variable or a data variable.
 #[tactic(auto, unfolding(crate::specs::inner::ProgramReaders::read_param))]
 fn param<'a>(source: Source<'_>, tokens: &'a [Token]) -> Read<'a, Param>
     ensures { Gives (λ x. (x.0, x.1.now)) result (read_param source.entry.text.now tokens.now) }
@@ -29,7 +29,7 @@ fn param<'a>(source: Source<'_>, tokens: &'a [Token]) -> Read<'a, Param>
     Ok((Param::Reg(source.register(token)?), rest))
 }
 
-/// A comma and a variable.
+// A comma and a variable.
 fn next_param<'a>(source: Source<'_>, tokens: &'a [Token]) -> Read<'a, Param>
     ensures { Gives (λ x. (x.0, x.1.now)) result (read_after COMMA (read_param source.entry.text.now) tokens.now) }
 {
@@ -37,7 +37,7 @@ fn next_param<'a>(source: Source<'_>, tokens: &'a [Token]) -> Read<'a, Param>
     param(source, rest)
 }
 
-/// Variables with commas between them.
+// Variables with commas between them.
 fn params<'a>(source: Source<'_>, tokens: &'a [Token]) -> Read<'a, Seq<Param>>
     ensures { Gives (λ x. (x.0, x.1.now)) result (read_separated COMMA (read_param source.entry.text.now) tokens.now) }
 {
@@ -53,7 +53,7 @@ fn params<'a>(source: Source<'_>, tokens: &'a [Token]) -> Read<'a, Seq<Param>>
     Ok((params, rest))
 }
 
-/// Whether a variable is next.
+// Whether a variable is next.
 fn begins_param(tokens: &[Token]) -> bool
     ensures { result ≡ begins (among param_starts) tokens.now }
 {
@@ -63,7 +63,7 @@ fn begins_param(tokens: &[Token]) -> bool
     is_of(*token, NAME) || is_of(*token, REG)
 }
 
-/// Variables with commas between them, or none.
+// Variables with commas between them, or none.
 #[tactic(auto, unfolding(crate::specs::inner::StatementReaders::read_list))]
 fn param_list<'a>(source: Source<'_>, tokens: &'a [Token]) -> Read<'a, Seq<Param>>
     ensures { Gives (λ x. (x.0, x.1.now)) result (read_list param_starts (read_param source.entry.text.now) tokens.now) }
@@ -74,7 +74,7 @@ fn param_list<'a>(source: Source<'_>, tokens: &'a [Token]) -> Read<'a, Seq<Param
     Ok((Seq::new(source.alloc), tokens))
 }
 
-/// One line of declared variables.
+// One line of declared variables.
 #[tactic(auto, unfolding(crate::specs::inner::ProgramReaders::read_var_line))]
 fn var_line<'a>(source: Source<'_>, tokens: &'a [Token]) -> Read<'a, VarLine>
     ensures { Gives (λ x. (x.0, x.1.now)) result (read_var_line source.entry.text.now tokens.now) }
@@ -86,7 +86,7 @@ fn var_line<'a>(source: Source<'_>, tokens: &'a [Token]) -> Read<'a, VarLine>
     Ok((VarLine { names, line }, rest))
 }
 
-/// As many lines of declared variables as there are.
+// As many lines of declared variables as there are.
 fn var_lines<'a>(source: Source<'_>, tokens: &'a [Token]) -> Read<'a, Seq<VarLine>>
     ensures { Gives (λ x. (x.0, x.1.now)) result (repeat (among (VAR ∷ [])) (read_var_line source.entry.text.now) tokens.now) }
 {
@@ -100,7 +100,7 @@ fn var_lines<'a>(source: Source<'_>, tokens: &'a [Token]) -> Read<'a, Seq<VarLin
     Ok((lines, rest))
 }
 
-/// A task, with room for so many constructs that nest.
+// A task, with room for so many constructs that nest.
 #[tactic(auto, unfolding(crate::specs::inner::ProgramReaders::read_task))]
 fn task<'a>(source: Source<'_>, room: u32, tokens: &'a [Token]) -> Read<'a, TaskText>
     ensures { Gives (λ x. (plain_task x.0, x.1.now)) result (read_task source.entry.text.now room tokens.now) }

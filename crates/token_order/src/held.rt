@@ -177,7 +177,7 @@ impl Held {
         Ok(())
     }
 
-    // The lists are told the change of the last issue. The error is that memory is out.
+    /// The lists are told the change of the last issue. The error is that memory is out.
     pub fn settle(&mut self) -> Result<(), AllocError>
         requires stands { HeldStands self.old }
         ensures stands { HeldStands self.new }

@@ -31,7 +31,7 @@ pub enum Turn {
     Ended(End),
 }
 
-/// The thread's next subthread begins.
+// The thread's next subthread begins.
 fn begin(seat: &mut Seat, issued: u32) -> Option<Next>
     ensures next { result ≡ seat.old.next }
     ensures seat { seat_of seat.new ≡ begun issued (seat_of seat.old) }
@@ -42,7 +42,7 @@ fn begin(seat: &mut Seat, issued: u32) -> Option<Next>
     seat.next.take()
 }
 
-/// Writes the owner of a lock.
+// Writes the owner of a lock.
 fn set_owner(owners: &mut Vec<Option<u32>>, lock: u32, owner: Option<u32>)
     ensures { owners.new.items ≡ slice_set owners.old.items lock owner }
 {
@@ -51,7 +51,7 @@ fn set_owner(owners: &mut Vec<Option<u32>>, lock: u32, owner: Option<u32>)
     }
 }
 
-/// A lock is taken or given back.
+// A lock is taken or given back.
 fn hand_over(owners: &mut Vec<Option<u32>>, sync: &SyncOp, t: u32)
     ensures { owners.new.items ≡ owners_after sync.now t owners.old.items }
 {
@@ -62,7 +62,7 @@ fn hand_over(owners: &mut Vec<Option<u32>>, sync: &SyncOp, t: u32)
     }
 }
 
-/// A forked thread stands last.
+// A forked thread stands last.
 fn add_child(seats: &mut Vec<Seat>, sync: &SyncOp) -> Option<ThreadNo>
     requires spare { vec_len seats.old < vec_capacity seats.old }
     requires few { length seats.old.items ≤ MOST_THREADS }
@@ -82,7 +82,7 @@ fn add_child(seats: &mut Vec<Seat>, sync: &SyncOp) -> Option<ThreadNo>
     }
 }
 
-/// Whether nobody owns the lock.
+// Whether nobody owns the lock.
 fn is_free(owners: &[Option<u32>], lock: u32) -> bool
     ensures { result ≡ is_none (option_and_then (λ o. o) (slice_get owners.now lock)) }
 {
@@ -92,7 +92,7 @@ fn is_free(owners: &[Option<u32>], lock: u32) -> bool
     }
 }
 
-/// The thread that a join names, where there is one.
+// The thread that a join names, where there is one.
 fn joined(h: i64, threads: usize) -> Option<u32>
     requires few { threads ≤ MOST_THREADS }
     ensures { result ≡ joined_in h threads }
@@ -109,7 +109,7 @@ fn joined(h: i64, threads: usize) -> Option<u32>
 }
 
 impl Threads {
-    /// The thread passes.
+    // The thread passes.
     fn pass(&mut self, t: u32)
         requires exists { t < length self.old.seats.items }
         ensures { passing (table self.old) t ≡ More (table self.new) }
@@ -118,7 +118,7 @@ impl Threads {
         self.token = Some(t);
     }
 
-    /// The thread performs its next synchronisation and begins a subthread, unless the limit is reached.
+    // The thread performs its next synchronisation and begins a subthread, unless the limit is reached.
     fn issue(&mut self, t: u32) -> Turn
         requires exists { t < length self.old.seats.items }
         requires few { length self.old.seats.items ≤ MOST_THREADS }
@@ -143,7 +143,7 @@ impl Threads {
         }
     }
 
-    /// A lock is taken where nobody owns it.
+    // A lock is taken where nobody owns it.
     fn lock(&mut self, t: u32, lock: u32) -> Turn
         requires exists { t < length self.old.seats.items }
         requires few { length self.old.seats.items ≤ MOST_THREADS }
@@ -157,7 +157,7 @@ impl Threads {
         Turn::Pass
     }
 
-    /// A join waits for the end of its thread.
+    // A join waits for the end of its thread.
     fn join(&mut self, t: u32, h: i64, line: u32) -> Turn
         requires exists { t < length self.old.seats.items }
         requires few { length self.old.seats.items ≤ MOST_THREADS }
@@ -179,7 +179,7 @@ impl Threads {
         }
     }
 
-    /// A fork finds a seat while there are fewer threads than may exist.
+    // A fork finds a seat while there are fewer threads than may exist.
     fn fork(&mut self, t: u32, line: u32) -> Turn
         requires exists { t < length self.old.seats.items }
         requires few { length self.old.seats.items ≤ MOST_THREADS }
@@ -192,7 +192,7 @@ impl Threads {
         stuck(Why::Threads, t, line)
     }
 
-    /// The thread arrives at a barrier, which counts as a change.
+    // The thread arrives at a barrier, which counts as a change.
     fn arrive(&mut self, t: u32)
         requires exists { t < length self.old.seats.items }
         ensures table { table self.new ≡ arrived (table self.old) t }
@@ -203,7 +203,7 @@ impl Threads {
         self.seats[t as usize].stand = Stand::Waits;
     }
 
-    /// The last thread arrives at a barrier, and all that wait there are released.
+    // The last thread arrives at a barrier, and all that wait there are released.
     fn open(&mut self, t: u32, barrier: u32)
         requires exists { t < length self.old.seats.items }
         ensures table { table self.new ≡ record (arrived (table self.old) t) { seats = map (released_at barrier) (arrived (table self.old) t).seats } }
@@ -214,7 +214,7 @@ impl Threads {
         release(&mut self.seats, barrier);
     }
 
-    /// A thread comes to a barrier. Where the stated number of threads are there, it goes on and all others may.
+    // A thread comes to a barrier. Where the stated number of threads are there, it goes on and all others may.
     fn come(&mut self, t: u32, barrier: u32) -> Turn
         requires exists { t < length self.old.seats.items }
         requires few { length self.old.seats.items ≤ MOST_THREADS }
@@ -233,7 +233,7 @@ impl Threads {
         Turn::Ended(End::Spent(Pos(self.limit)))
     }
 
-    /// A released thread goes on, and one that has arrived waits.
+    // A released thread goes on, and one that has arrived waits.
     fn meet(&mut self, t: u32, barrier: u32) -> Turn
         requires exists { t < length self.old.seats.items }
         requires few { length self.old.seats.items ≤ MOST_THREADS }
@@ -250,7 +250,7 @@ impl Threads {
         Turn::Pass
     }
 
-    /// Every thread that has not ended has passed.
+    // Every thread that has not ended has passed.
     fn deadlock(&self) -> Turn
         requires few { length self.now.seats.items ≤ MOST_THREADS }
         ensures { Answered (deadlocked (look (table self.now) (all_threads (table self.now)))) (table self.now) result (table self.now) }
@@ -305,7 +305,7 @@ impl Threads {
     }
 }
 
-/// The run ends at this thread, at this line.
+// The run ends at this thread, at this line.
 fn stuck(why: Why, t: u32, line: u32) -> Turn
     ensures { result ≡ here.Ended (ends.Stuck why t line) }
 {
@@ -316,14 +316,14 @@ fn stuck(why: Why, t: u32, line: u32) -> Turn
     })
 }
 
-/// Whether the thread ends with it.
+// Whether the thread ends with it.
 fn is_end(next: &Next) -> bool
     ensures { result ≡ Rattle.task_ast.specs.Table.is_end next.now.sync }
 {
     matches!(next.sync, SyncOp::End)
 }
 
-/// The position of the thread's last subthread; 0 where it has none.
+// The position of the thread's last subthread; 0 where it has none.
 fn last_of(seat: &Seat) -> u32
     ensures { result ≡ unwrap_or seat.now.last 0 }
 {
@@ -333,7 +333,7 @@ fn last_of(seat: &Seat) -> u32
     }
 }
 
-/// The stated number of a barrier.
+// The stated number of a barrier.
 fn stated(barriers: &[u32], barrier: u32) -> u32
     ensures { result ≡ unwrap_or (slice_get barriers.now barrier) 0 }
 {
@@ -343,7 +343,7 @@ fn stated(barriers: &[u32], barrier: u32) -> u32
     }
 }
 
-/// Whether the thread waits at this barrier.
+// Whether the thread waits at this barrier.
 fn is_waiting(seat: &Seat, barrier: u32) -> bool
     ensures { result ≡ waits_at barrier (seat_of seat.now) }
 {
@@ -363,7 +363,7 @@ fn is_waiting(seat: &Seat, barrier: u32) -> bool
     }
 }
 
-/// How many threads wait at this barrier.
+// How many threads wait at this barrier.
 fn waiting(seats: &[Seat], barrier: u32) -> usize
     ensures number { result ≡ count_by (waits_at barrier) (map seat_of seats.now) }
     ensures most { result ≤ length seats.now }
@@ -377,7 +377,7 @@ fn waiting(seats: &[Seat], barrier: u32) -> usize
     number
 }
 
-/// The threads that wait at this barrier are released.
+// The threads that wait at this barrier are released.
 fn release(seats: &mut [Seat], barrier: u32)
     ensures { map seat_of seats.new ≡ map (released_at barrier) (map seat_of seats.old) }
 {
@@ -388,14 +388,14 @@ fn release(seats: &mut [Seat], barrier: u32)
     }
 }
 
-/// Whether the thread has not arrived.
+// Whether the thread has not arrived.
 fn is_away(seat: &Seat) -> bool
     ensures { result ≡ Rattle.task_ast.specs.Turn.is_away (seat_of seat.now).stand }
 {
     matches!(seat.stand, Stand::Away)
 }
 
-/// Whether the thread was released.
+// Whether the thread was released.
 fn is_released(seat: &Seat) -> bool
     ensures { result ≡ is_free_to_go (seat_of seat.now).stand }
 {

@@ -103,7 +103,7 @@ impl Threads {
         None
     }
 
-    /// The first thread after the one whose turn was last.
+    // The first thread after the one whose turn was last.
     fn start(&self) -> usize
         requires inside { StandsInside self.now }
         ensures start { result ≡ start_of self.now.token }
