@@ -1,5 +1,5 @@
 // What every crew keeps: the tasks that wait, the pairs of all that were posted, and whether memory ran out.
-ghost use Rattle.std.specs.Prelude.{◌≡◌, ◌↔◌, ◌≤◌, true, false, [], ◌∷◌, ◌++◌, length, All, IsErr, OnOk, OnErr, IfOk, IfErr, IfSome, IfNone};
+ghost use Rattle.std.specs.Prelude.{◌≡◌, ◌↔◌, ◌≤◌, true, false, [], ◌∷◌, ◌++◌, length, slice_index_or, All, IsErr, OnOk, OnErr, IfOk, IfErr, IfSome, IfNone};
 ghost use Rattle.subthread.specs.Tasks.{Fits, IsRun, task_of};
 ghost use Rattle.crew.specs.Out.{TakesOut, pair_of};
 
@@ -111,6 +111,7 @@ impl<'a> Inbox<'a> {
     pub fn take(&mut self, at: usize) -> Option<Task>
         ensures none { IfNone result (length self.old.out ≤ at) }
         ensures kept { IfNone result (self.new ≡ self.old) }
+        ensures placed { IfSome result (λ task. task ≡ slice_index_or self.old.out at task) }
         ensures taken { IfSome result (λ task. TakesOut self.old.out task self.new.out) }
         ensures fits { IfSome result (Fits self.old.work) }
         ensures others { self.new ≡ record self.old { out = self.new.out } }
