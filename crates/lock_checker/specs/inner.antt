@@ -4,6 +4,7 @@ pub mod Indexes
 pub mod Pairs
 pub mod Positions
 pub mod Scopes
+pub mod Sought
 pub mod Tables
 pub mod TaskNames
 pub mod TaskVariables

@@ -109,7 +109,7 @@ impl Checked {
         Ok(Layout { under })
     }
 
-    /// The program.
+    /// The accepted program.
     pub fn program(&self) -> &Program
         ensures { result.now ≡ program_of self.now }
     {

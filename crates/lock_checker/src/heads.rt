@@ -152,7 +152,6 @@ impl Heads {
         }
     }
 
-    /// Adds a head.
     pub fn add(&mut self, head: &Head) -> Result<(), AllocError>
         requires locks { self.old.lock_cells ≤ MOST_CELLS }
         requires records { self.old.record_cells ≤ MOST_CELLS }

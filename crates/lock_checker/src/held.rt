@@ -9,7 +9,7 @@ use gp_base::Name;
 use std::alloc::{AllocError, Global};
 use std::collections::BTreeSet;
 
-/// A set of pairs.
+/// A set of pairs, in the order of their indexes.
 #[derive(Drop)]
 pub struct Pairs<'a> {
     members: BTreeSet<Pair<'a>>,
@@ -68,7 +68,7 @@ impl<'a> Pairs<'a> {
         Ok(())
     }
 
-    /// Flips a pair, and gives it as the one change.
+    // Flips a pair, and gives it as the one change.
     fn change(&mut self, alloc: Global, p: Pair<'a>) -> Result<Vec<Pair<'a>>, AllocError>
         ensures { IfOk result (λ changes. (changes.items ≡ p.entry ∷ []) × IsFlipped (pairs_in self.old) (pair_of p.entry) (pairs_in self.new)) }
     {

@@ -96,7 +96,6 @@ fn task_table<'a>(
     Ok(table)
 }
 
-/// The index of a program.
 pub fn index_of<'a>(alloc: Global, program: &'a Program) -> Result<Index<'a>, AllocError>
     ensures { IfOk result (λ index. IsIndexOf index program.now) }
 {

@@ -48,7 +48,7 @@ pub fn record_bases(alloc: Global, heads: &[Head]) -> Result<SymbolTable<u32>, A
     Ok(bases)
 }
 
-// So many empty lists.
+// An empty list for each of so many lock cells.
 fn empty_lists(alloc: Global, count: u32) -> Result<Vec<Seq<RecNo>>, AllocError>
     ensures { IfOk result (λ lists. lists.items ≡ map (positions 0 []) (numbers 0 count)) }
 {

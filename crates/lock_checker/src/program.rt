@@ -26,7 +26,7 @@ use crate::walk::check_block;
 use std::alloc::Global;
 use task_ast::{CheckKind, Program, TaskText};
 
-/// Checks the heads, and gives their names.
+// Checks the heads, and gives their names.
 fn check_heads(
     alloc: Global,
     index: &Index,
@@ -49,7 +49,7 @@ fn check_heads(
     Ok(heads.names)
 }
 
-/// Checks that nothing is held at the end of the task of this line.
+// Checks that nothing is held at the end of the task of this line.
 fn check_end(line: u32, held: &Pairs) -> Result<(), CheckFault>
     ensures { (after : List PlainPair) → HaveSame (pairs_in held.now) after → Passes result (visit line (held_fails after) ∷ []) }
 {
@@ -63,7 +63,6 @@ fn check_end(line: u32, held: &Pairs) -> Result<(), CheckFault>
     }
 }
 
-/// Checks the body of a task.
 #[tactic(auto, using(crate::proofs::VisitLemmas::inside_told))]
 fn check_body<'a>(
     alloc: Global,
@@ -88,7 +87,6 @@ fn check_body<'a>(
     }
 }
 
-/// Checks the bodies of the tasks.
 fn check_bodies<'a>(
     alloc: Global,
     index: &Index<'a>,
@@ -106,7 +104,7 @@ fn check_bodies<'a>(
     Ok(())
 }
 
-/// Checks a program under its index: its heads, the heads of its tasks, that there is a task `main`, and the bodies.
+// Checks a program under its index: its heads, the heads of its tasks, that there is a task `main`, and the bodies.
 #[tactic(auto, using(crate::proofs::VisitLemmas::inside_told))]
 fn check_indexed<'a>(
     alloc: Global,
@@ -131,7 +129,6 @@ fn check_indexed<'a>(
     check_bodies(alloc, index, program)
 }
 
-/// Checks a program.
 fn check_program(alloc: Global, program: &Program) -> Result<(), CheckFault>
     ensures { Passes result (program_visits (plain_program program.now)) }
 {

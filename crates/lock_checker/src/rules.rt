@@ -38,7 +38,7 @@ fn set_control_rule<'a>(
     }
 }
 
-/// A condition of `while` or `if`.
+// A condition of `while` or `if`.
 fn condition_rule(scope: &Scope, e: &Expr) -> Option<CheckKind>
     requires { IsScope scope.now }
     ensures { result ≡ lowest (fails_at (scope_of scope.now) (plain.While (plain_expr e.now) plain.Nothing) []) }
@@ -269,7 +269,7 @@ fn print_rule(scope: &Scope, es: &[Expr]) -> Option<CheckKind>
     }
 }
 
-/// The condition of a `when`.
+// The condition of a `when`.
 fn choice_rule(scope: &Scope, e: &Expr) -> Option<CheckKind>
     requires { IsScope scope.now }
     ensures { result ≡ lowest (fails_at (scope_of scope.now) (plain.When (plain_expr e.now) plain.Nothing plain.Nothing) []) }

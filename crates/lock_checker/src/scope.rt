@@ -43,7 +43,6 @@ pub fn array_over<'a>(scope: &Scope<'_, 'a>, r: &Name) -> Option<&'a Name>
     scope.index.arrays.get(r)
 }
 
-/// Whether a barrier has this name.
 pub fn is_barrier(scope: &Scope, x: &Name) -> bool
     requires { IsScope scope.now }
     ensures { result ≡ is_barrier (scope_of scope.now) x.now }
@@ -51,7 +50,6 @@ pub fn is_barrier(scope: &Scope, x: &Name) -> bool
     scope.index.barriers.get(x).is_some()
 }
 
-/// Whether a feed has this name.
 pub fn is_feed(scope: &Scope, x: &Name) -> bool
     requires { IsScope scope.now }
     ensures { result ≡ is_feed (scope_of scope.now) x.now }
@@ -59,7 +57,6 @@ pub fn is_feed(scope: &Scope, x: &Name) -> bool
     scope.index.feeds.get(x).is_some()
 }
 
-/// The task of this name.
 pub fn task_named<'a>(scope: &Scope<'_, 'a>, x: &Name) -> Option<&'a TaskText>
     requires { IsScope scope.now }
     ensures { option_map plain_task (option_copied result) ≡ task_named (plain_program scope.now.program.now) x.now }

@@ -16,7 +16,7 @@ pub struct SymbolTable<T: Copy> {
 }
 
 impl<T: Copy> SymbolTable<T> {
-    /// The table of no name. Takes no memory.
+    /// An empty table. Takes no memory.
     pub fn new(alloc: Global) -> Self
         ensures { (y : plain.Name) → found result y ≡ None }
     {
@@ -33,7 +33,7 @@ impl<T: Copy> SymbolTable<T> {
         self.first.get(x.as_slice()).copied()
     }
 
-    /// Puts a value beside a name, unless one stands there. The error is that memory is out.
+    /// Puts a value beside a name, unless one stands there. The only error is out of memory.
     pub fn put(&mut self, x: &Name, value: T) -> Result<(), AllocError>
         ensures { OnOk result ((y : plain.Name) → found self.new y ≡ or_else (found self.old y) (if is_name y x.now then Some value else None)) }
     {

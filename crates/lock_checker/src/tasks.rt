@@ -23,7 +23,7 @@ fn is_main(x: &Name) -> bool
     x.as_slice() == b"main".as_slice()
 }
 
-/// Checks the var lines of a task after its parameters.
+// Checks the var lines of a task after its parameters.
 fn check_lines(
     mut variables: Variables,
     params: &[Param],
@@ -53,7 +53,7 @@ fn check_lines(
     Ok(())
 }
 
-/// Checks the head of a task and its var lines; whether its name was declared before is told.
+// Checks the head of a task and its var lines; whether its name was declared before is told.
 fn check_task_head(alloc: Global, double: bool, task: &TaskText) -> Result<(), CheckFault>
     ensures { (before : List PlainName) → double ≡ is_among task.now.name before → Passes result (task_visit before (plain_task task.now) ∷ vars_visits task.now.params task.now.vars) }
 {

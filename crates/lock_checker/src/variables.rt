@@ -41,7 +41,7 @@ impl Variables {
         is_ret(name) || self.datas.get(name).is_some()
     }
 
-    /// Adds a variable, and tells whether one of its name was there.
+    // Adds a variable, and tells whether one of its name was there.
     fn add(&mut self, x: &Param) -> Result<bool, AllocError>
         ensures { IfOk result (λ double. (before : List PlainParam) → AreVariables self.old before → Adds self.new before (x.now ∷ []) double) }
     {
@@ -73,7 +73,6 @@ impl Variables {
     }
 }
 
-/// The variables of a task.
 pub fn variables_of(alloc: Global, task: &TaskText) -> Result<Variables, AllocError>
     ensures { IfOk result (λ variables. AreVariables variables (task.now.params ++ declared_in task.now.vars)) }
 {

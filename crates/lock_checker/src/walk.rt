@@ -37,7 +37,7 @@ pub fn check_block<'a>(
     Ok(changes)
 }
 
-/// Checks a statement, from the pairs held before it to those held after it, and gives the changes.
+// Checks a statement, from the pairs held before it to those held after it, and gives the changes.
 #[cycle(walk)]
 #[tactic(auto, using(task_ast::proofs::Views::view, crate::proofs::VisitLemmas::first_told))]
 fn check_statement<'a>(
@@ -55,7 +55,7 @@ fn check_statement<'a>(
     }
 }
 
-/// Checks the blocks of a statement and its end.
+// Checks the blocks of a statement and its end.
 #[cycle(walk)]
 #[tactic(auto, using(task_ast::proofs::Views::view, crate::proofs::VisitLemmas::inside_told))]
 fn check_inside<'a>(
@@ -92,7 +92,7 @@ fn check_inside<'a>(
     }
 }
 
-/// Checks a block, goes back to the pairs held before it, and gives the changes that the block makes.
+// Checks a block, goes back to the pairs held before it, and gives the changes that the block makes.
 #[cycle(walk)]
 fn check_aside<'a>(
     alloc: Global,
