@@ -1,9 +1,9 @@
 -- A call has one case, which its words and the files tell.
-use Rattle.std.proofs.Common.{◌≡◌, ℕ, List, [], IfSome, refl, sym, ◌∙◌, ap, ap₂, subst}
+use Rattle.std.proofs.Common.{◌≡◌, ℕ, List, [], IfSome, refl, sym, ◌∙◌, ap, subst}
 use Rattle.std.specs.declared.option.Option.{Option}
 use Rattle.std.specs.declared.option.Option.TheVariants.{None, Some}
 use Rattle.gp_base.specs.Files.{bytes_of}
-use Rattle.task_parser.specs.Spelling.{Meaning, Means}
+use Rattle.task_parser.specs.Spelling.{Means}
 use Rattle.task_parser.proofs.OneSpelling.{one_meaning, some_meaning}
 use Rattle.command_line.specs.declared.asked.Asked.{Asked}
 use Rattle.gprs.specs.Work.{Files, Commands}

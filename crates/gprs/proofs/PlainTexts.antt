@@ -1,16 +1,11 @@
 -- The run of the code is the plain run, as its text tells it.
-use Rattle.std.proofs.Common.{◌≡◌, ℕ, ◌+◌, ◌<◌, ℤ, List, [], ◌∷◌, ◌++◌, map, length, get_or, take, drop, refl, sym, ap, ap₂, ◌∙◌, append_assoc, flat_map}
-use Rattle.std.proofs.Math.Nat.{add-zero}
-use Rattle.std.proofs.lemmas.List.{length-map, at_drop_more}
-use Rattle.std.proofs.lemmas.Grind.{flat_map-append}
+use Rattle.std.proofs.Common.{◌≡◌, ℕ, ℤ, List, [], ◌∷◌, ◌++◌, map, length, refl, ap, ◌∙◌, flat_map}
+use Rattle.std.proofs.lemmas.List.{length-map}
 use Rattle.gp_base.specs.declared.ending.End.{End}
 use Rattle.task_ast.specs.declared.tree.Head.{Head}
-use Rattle.task_ast.specs.declared.tree.Head.TheVariants.{LockHead, BarrierHead, RecHead, FeedHead}
-use Rattle.task_ast.specs.Tree.{Name}
-use Rattle.task_ast.specs.Names.{natural, records_of, cells_in}
+use Rattle.task_ast.specs.Names.{records_of}
 use Rattle.task_ast.specs.Layout.{cut}
 use Rattle.task_ast.specs.Plain.{Subthread, order, end, final_records}
-use Rattle.one_thread.specs.declared.run.Step.{Step}
 use Rattle.one_thread.specs.declared.run.PlainRun.{PlainRun}
 use Rattle.one_thread.specs.PlainRuns.{IsPlainRun, shown}
 use Rattle.restart_log.specs.Tail as tail

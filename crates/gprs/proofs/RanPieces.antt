@@ -1,12 +1,12 @@
 -- Runs over a journal: from what the engine promises of a batch to what is promised of a work, and from the pieces of a text to the whole.
-use Rattle.std.proofs.Common.{◌≡◌, ◌≢◌, ◌⊎◌, ℕ, ◌-◌, ◌≤◌, zero, suc, ℤ, List, [], ◌∷◌, ◌++◌, length, take, drop, flat_map, slice_get, codes, Result, Ok, Err, OnOk, IfOk, IfErr, inl, inr, refl, sym, ap, subst, ◌∙◌, append_assoc, append-nil, arith}
+use Rattle.std.proofs.Common.{◌≡◌, ◌⊎◌, ℕ, ◌-◌, ◌≤◌, zero, suc, ℤ, List, [], ◌∷◌, ◌++◌, length, take, drop, flat_map, slice_get, codes, Result, Ok, Err, inl, inr, refl, sym, ap, subst, ◌∙◌, append_assoc, append-nil, arith}
 use Rattle.std.specs.declared.option.Option.{Option}
 use Rattle.std.specs.declared.option.Option.TheVariants.{None, Some}
 use Rattle.std.specs.Io.KnownBytes.{Appends, Keeps}
 use Rattle.std.proofs.lemmas.List.{take_all, take-append-drop}
 use Rattle.std.proofs.lemmas.Grind.{flat_map-append}
 use Rattle.std.proofs.Math.Nat.{le_refl}
-use Rattle.gp_base.specs.Sinks.{AppendsPrefix, Rose, HasCause}
+use Rattle.gp_base.specs.Sinks.{AppendsPrefix, Rose}
 use Rattle.gp_base.specs.declared.sink.SinkFault.{SinkFault}
 use Rattle.gp_base.specs.declared.sink.SinkFault.TheVariants.{Failed}
 use Rattle.gp_base.specs.declared.sink.SinkFault.TheVariants as sink
@@ -14,7 +14,7 @@ use Rattle.gp_base.specs.declared.fault.Fault.{Fault}
 use Rattle.gp_base.specs.declared.journal.Event.{Event}
 use Rattle.gp_base.specs.declared.journal.Restart.{Restart}
 use Rattle.gp_base.specs.declared.journal.Journal.{Journal}
-use Rattle.gp_base.proofs.Written.{Appends-append, prefix_first, prefix_second, prefix_all, prefix_none, prefix_of_split, Keeps-same}
+use Rattle.gp_base.proofs.Written.{Appends-append, prefix_first, prefix_second, prefix_none, prefix_of_split, Keeps-same}
 use Rattle.task_ast.specs.Plain.{Subthread, order, end, final_records}
 use Rattle.dependence.specs.Journal.{Lawful, Complete, stage}
 use Rattle.dependence.specs.Runs.{dependence_of, restarts_of}
@@ -29,12 +29,11 @@ use Rattle.reorder_list.specs.declared.report.StopWhy.TheVariants.{WriteFault}
 use Rattle.reorder_list.specs.declared.report.StopWhy.TheVariants as why
 use Rattle.engine.specs.View.{Batch, program_in, run_in, lines_of}
 use Rattle.engine.specs.Drive.{JournalStands, ReportsRun, all_lines, WritesRetired}
-use Rattle.command_line.specs.declared.asked.Command.{Command}
 use Rattle.command_line.specs.declared.asked.Command.TheVariants as command
 use Rattle.command_line.specs.declared.asked.Soak.{Soak}
 use Rattle.gprs.specs.Work.{Work}
 use Rattle.gprs.specs.PlainText.{plain_ran, restarts_in}
-use Rattle.gprs.specs.Journals.{run_of, dependence_for, retired_in, lines_before, IsJournalOf, IsCompleteOf, TakesRetired, TakesRetiredFor}
+use Rattle.gprs.specs.Journals.{run_of, dependence_for, retired_in, lines_before, IsJournalOf, IsCompleteOf, TakesRetiredFor}
 use Rattle.gprs.specs.Answers.{Change, TakesAll, TakesPart, Fails}
 use Rattle.gprs.specs.Headline.{IsEmpty}
 use Rattle.gprs.specs.inner.Ran.{Stops, why_of, RunsBatch, bytes_below, bytes_at, IsReportOf, RunsWork, RanFor, told_tail, told_soak}

@@ -1,5 +1,5 @@
 -- Where words are those of a command, the first file that is read is the program's.
-use Rattle.std.proofs.Common.{◌≡◌, ℕ, Bool, true, false, List, [], ◌∷◌, ◌++◌, if◌then◌else◌, arith, refl, subst}
+use Rattle.std.proofs.Common.{ℕ, List, [], ◌∷◌, ◌++◌, arith, refl}
 use Rattle.std.specs.List.{Contains}
 use Rattle.std.specs.declared.option.Option.{Option}
 use Rattle.std.specs.declared.option.Option.TheVariants.{None, Some}
@@ -9,7 +9,7 @@ use Rattle.task_ast.specs.declared.check_kind.CheckKind.{CheckKind}
 use Rattle.task_parser.specs.Spelling.{Meaning, Stands, LexFails, ParseFails}
 use Rattle.command_line.specs.declared.asked.Asked.{Asked}
 use Rattle.gprs.specs.Work.{Files, Commands, Supplied, Supplies, Lacks, Spoils}
-use Rattle.gprs.specs.Case.{Case, BadProgram, IsCaseOf, no_program, of_text, supplied_case, program_case, meant_case, names_read}
+use Rattle.gprs.specs.Case.{Case, IsCaseOf, no_program, of_text, supplied_case, program_case, meant_case, names_read}
 
 pub first : (name : Name) (names : List Name) → Contains (name ∷ names) name
 first name names = (0, omega arith, refl)

@@ -1,18 +1,14 @@
 -- The inputs that are read have as many cells and feeds as the heads declare.
-use Rattle.std.proofs.Common.{◌≡◌, ◌∙◌, ℕ, ◌+◌, ◌<◌, ◌≤◌, zero, suc, ℤ, pos, List, [], ◌∷◌, ◌++◌, Result, Ok, Err, Option, None, Some, map, length, take, get_or, refl, sym, ap, ap₂, subst, arith, add-one, append-nil, append_assoc, unwrap_or}
+use Rattle.std.proofs.Common.{◌≡◌, ◌∙◌, ℕ, ◌+◌, ◌<◌, ◌≤◌, zero, suc, ℤ, pos, List, [], ◌∷◌, ◌++◌, Ok, Option, None, Some, length, take, get_or, refl, sym, ap, subst, arith, add-one, unwrap_or}
 use Rattle.std.proofs.lemmas.List.{length-append, take_all}
-use Rattle.gp_base.specs.declared.feed.Feed.{Feed}
 use Rattle.gp_base.specs.declared.feed.Inputs.{Inputs}
 use Rattle.task_ast.specs.declared.tree.Head.{Head}
 use Rattle.task_ast.specs.declared.tree.Head.TheVariants.{LockHead, BarrierHead, RecHead, FeedHead}
-use Rattle.task_ast.specs.Tree.{Name}
 use Rattle.task_ast.specs.Names.{natural, records_of, cells_in}
-use Rattle.task_ast.specs.Inputs.{fields_of, fields_in}
+use Rattle.task_ast.specs.Inputs.{fields_of}
 use Rattle.batch_files.specs.Rows.{Broken, Row, rows_of, unless_broken, first_broken}
 use Rattle.batch_files.specs.Records.{cells_below, record_rule, value_at}
-use Rattle.batch_files.specs.declared.fault.FileFault.{FileFault}
-use Rattle.batch_files.specs.Answers.{Answers}
-use Rattle.gprs.specs.InputFiles.{record_rows, nothing}
+use Rattle.gprs.specs.InputFiles.{record_rows}
 use Rattle.gprs.specs.inner.Loading.{Counts, Grows}
 
 below_length : (size n : ℕ) (rows : List Row) → length (cells_below size n rows) ≡ n

@@ -1,5 +1,5 @@
 -- From what the parts of the top call ensure to what is promised of a call.
-use Rattle.std.proofs.Common.{◌≡◌, ◌⊎◌, ℕ, suc, Bool, true, false, if◌then◌else◌, List, [], ◌++◌, take, IfSome, refl, sym, ap, ◌∙◌, flat_map, subst, inl, inr, arith, append-nil}
+use Rattle.std.proofs.Common.{◌≡◌, ◌⊎◌, ℕ, suc, Bool, true, false, if◌then◌else◌, List, [], take, IfSome, refl, sym, ap, ◌∙◌, flat_map, subst, inl, inr, arith, append-nil}
 use Rattle.std.specs.List.{Contains}
 use Rattle.std.specs.declared.option.Option.{Option}
 use Rattle.std.specs.declared.option.Option.TheVariants.{None, Some}
@@ -32,7 +32,7 @@ use Rattle.gprs.specs.Lines.{out_of_memory_line, write_fault_line}
 use Rattle.gprs.specs.inner.Decided.{AnswersCase, AnswersNoCommand, TouchesShelf, TellsRefusal, TakesRefusal, RefusalEnds, usage_told, program_told, input_told, read_told, refusal_no_memory, refusal_failed}
 use Rattle.gprs.specs.Journals.{ForRun, IsJournalOf, IsCompleteOf, TakesRetired, TakesRetiredFor, retired_in, lines_before}
 use Rattle.gprs.specs.inner.Ran.{Journalled, EndsFor, RanFor, PutFor, StopsWith, why_of}
-use Rattle.gprs.specs.Answers.{Change, TakesAll, TakesPart, TakesNothing, Fails, Grew, IsStopLine, TakesStop, Yields, due_status, no_memory, read_fault, write_fault, LineEnds, whole, line_failed, line_no_memory, RunEnds, finished, run_no_memory, output_failed, error_failed}
+use Rattle.gprs.specs.Answers.{Change, TakesAll, TakesPart, Fails, Grew, IsStopLine, TakesStop, Yields, due_status, no_memory, read_fault, write_fault, LineEnds, whole, line_failed, line_no_memory, RunEnds, finished, run_no_memory, output_failed, error_failed}
 use Rattle.gprs.specs.Headline.{IsWhole, TellsCase, IsRefusal, HasCaseLine, trace_for, RunsNothing, TellsReadFault, TellsWriteFault, IsStop, IsDue, TakesStopLines, IsEmpty, Headline}
 use Rattle.gprs.proofs.OneCase.{for_known, for_each, none_some}
 use Rattle.gprs.proofs.RanPieces.{empty_journal_of, none_retired}

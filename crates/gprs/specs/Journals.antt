@@ -1,5 +1,5 @@
 -- What the journal of a call says of the run that the call made.
-use Rattle.std.specs.Prelude.{◌≡◌, ◌⊎◌, ℕ, ℤ, suc, true, List, ◌++◌, length, take, flat_map, codes, count_by, ⊤}
+use Rattle.std.specs.Prelude.{◌≡◌, ◌⊎◌, ℕ, suc, true, List, ◌++◌, length, take, flat_map, codes, count_by, ⊤}
 use Rattle.gp_base.specs.declared.journal.Journal.{Journal}
 use Rattle.gp_base.specs.declared.journal.Restart.{Restart}
 use Rattle.task_ast.specs.Plain.{Subthread, order}

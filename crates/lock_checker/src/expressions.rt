@@ -14,11 +14,11 @@ use task_ast::{Expr, Op};
 // What is looked for in an expression.
 #[derive(Clone, Copy)]
 enum Sought<'w, 's, 'a> {
-    // a name that isn't declared as what its place needs
+    // A name that isn't declared as what its place needs.
     Unknown(&'w Scope<'s, 'a>),
-    // a data variable
+    // A data variable.
     Data,
-    // a data variable in an index of a cell
+    // A data variable in an index of a cell.
     DataIndex,
 }
 
@@ -113,6 +113,7 @@ fn finds_any(sought: &Sought, es: &[Expr]) -> bool
     false
 }
 
+/// Whether a name of the expression isn't declared as what its place needs.
 pub fn has_unknown(scope: &Scope, e: &Expr) -> bool
     requires { IsScope scope.now }
     ensures { result ≡ has_unknown (scope_of scope.now) (plain_expr e.now) }
@@ -120,6 +121,7 @@ pub fn has_unknown(scope: &Scope, e: &Expr) -> bool
     finds(&Sought::Unknown(scope), e)
 }
 
+/// Whether one of the expressions has such a name.
 pub fn any_unknown(scope: &Scope, es: &[Expr]) -> bool
     requires { IsScope scope.now }
     ensures { result ≡ list_any (has_unknown (scope_of scope.now)) (plain_exprs es.now) }
@@ -127,18 +129,21 @@ pub fn any_unknown(scope: &Scope, es: &[Expr]) -> bool
     finds_any(&Sought::Unknown(scope), es)
 }
 
+/// Whether a data variable stands in the expression.
 pub fn has_data(e: &Expr) -> bool
     ensures { result ≡ has_data (plain_expr e.now) }
 {
     finds(&Sought::Data, e)
 }
 
+/// Whether a data variable stands in an index of a cell.
 pub fn has_data_index(e: &Expr) -> bool
     ensures { result ≡ has_data_index (plain_expr e.now) }
 {
     finds(&Sought::DataIndex, e)
 }
 
+/// Whether a data variable stands in an index of a cell of one of the expressions.
 pub fn any_data_index(es: &[Expr]) -> bool
     ensures { result ≡ list_any has_data_index (plain_exprs es.now) }
 {

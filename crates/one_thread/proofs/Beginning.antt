@@ -1,11 +1,10 @@
 -- How a subthread begins.
-use Rattle.std.proofs.Common.{◌≡◌, ℕ, ℤ, Bool, true, false, List, [], ◌∷◌, Option, Some, None, refl, sym, ap, ◌∙◌, subst, option_map, unwrap_or, position}
+use Rattle.std.proofs.Common.{◌≡◌, ℕ, ℤ, Bool, true, false, List, [], ◌∷◌, Option, Some, None, refl, sym, ap, ◌∙◌}
 use Rattle.std.specs.Prelude.{slice_set}
 use Rattle.std.proofs.lemmas.Bool.{false≢true}
 use Rattle.task_ast.specs.declared.tree.Stmt.{Stmt as CodeStmt}
 use Rattle.task_ast.specs.Tree.{Name, Expr, Stmt, At, What, SetCtl, While, If, Lock, Unlock, Fork, Join, Barrier, SetReg, Read, Write, Print, When}
-use Rattle.task_ast.specs.Names.{slot, is_name, registers_of}
-use Rattle.task_ast.specs.Action.{Action}
+use Rattle.task_ast.specs.Names.{slot, registers_of}
 use Rattle.task_ast.specs.Control.{Setting, Point, going, begin_actions, behind, fork_of}
 use Rattle.task_ast.specs.View.{plain_stmt, plain_what, plain_task}
 use Rattle.task_ast.proofs.Views.{stmt_At}
@@ -13,7 +12,7 @@ use Rattle.one_thread.specs.declared.left.Left.{Left}
 use Rattle.one_thread.specs.declared.walk.Walk.{Walk}
 use Rattle.one_thread.specs.inner.Remaining.{left_of, rest_of}
 use Rattle.one_thread.specs.inner.Working.{all_worked}
-use Rattle.one_thread.specs.inner.Walking.{setting_of, point_of, Keeps, LeadsTo, Begun, Gives}
+use Rattle.one_thread.specs.inner.Walking.{setting_of, point_of, LeadsTo, Begun, Gives}
 use Rattle.one_thread.proofs.Walks.{with_left}
 
 -- whether a subthread that begins here does nothing first

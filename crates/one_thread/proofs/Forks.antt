@@ -1,5 +1,5 @@
 -- A fork's task and its arguments.
-use Rattle.std.proofs.Common.{◌≡◌, ℕ, zero, suc, ◌+◌, ◌<◌, ℤ, Bool, true, false, cond, List, [], ◌∷◌, ◌++◌, map, length, get_or, drop, Option, Some, None, refl, sym, ap, ◌∙◌, subst, arith, option_map, option_and_then, position, unwrap_or, append_assoc, append-nil, nat_lt, ◌≤◌, ◌&&◌}
+use Rattle.std.proofs.Common.{◌≡◌, ℕ, suc, ◌+◌, ◌<◌, ℤ, Bool, true, false, cond, List, [], ◌∷◌, ◌++◌, map, length, get_or, drop, Option, Some, None, refl, sym, ap, ◌∙◌, subst, option_map, option_and_then, position, unwrap_or, append-nil, nat_lt, ◌≤◌, ◌&&◌}
 use Rattle.std.specs.Prelude.{is_some, slice_get, slice_set, find, replicate, pos}
 use Rattle.task_ast.specs.Effect.{term_value}
 use Rattle.one_thread.specs.declared.data.Data.{Data}
@@ -12,17 +12,15 @@ use Rattle.task_ast.specs.declared.tree.Param.{Param}
 use Rattle.task_ast.specs.declared.tree.Param.TheVariants as param
 use Rattle.task_ast.specs.declared.tree.TaskText.{TaskText as CodeTask}
 use Rattle.task_ast.specs.declared.tree.Program.{Program as CodeProgram}
-use Rattle.task_ast.specs.Tree.{Name, Expr, Stmt, Fork, TaskText}
+use Rattle.task_ast.specs.Tree.{Name, Expr, TaskText}
 use Rattle.task_ast.specs.Names.{is_name, is_task, task_named, task_number, registers_of}
-use Rattle.task_ast.specs.Value.{value}
 use Rattle.task_ast.specs.Action.{Term, Action, Give, Child, term}
 use Rattle.task_ast.specs.Body.{Step}
-use Rattle.task_ast.specs.Control.{Setting, Point, known, stop, env_at, control_arguments, data_arguments, fork_arguments, fork_of, register_number, step_at}
+use Rattle.task_ast.specs.Control.{Setting, Point, known, stop, control_arguments, data_arguments, fork_arguments, fork_of, register_number}
 use Rattle.task_ast.specs.View.{plain_expr, plain_exprs, plain_task, plain_program}
 use Rattle.task_ast.proofs.Terms.{position-cons}
 use Rattle.one_thread.specs.declared.walk.Walk.{Walk}
 use Rattle.one_thread.specs.declared.walk.Went.TheVariants as went
-use Rattle.one_thread.specs.inner.Remaining.{rest_of}
 use Rattle.one_thread.specs.inner.Walking.{setting_of, point_of, Stepped, Gives}
 use Rattle.std.proofs.Math.ListN.{drop_of_length-le}
 use Rattle.one_thread.proofs.Fitting.{from-here, and_then_some}

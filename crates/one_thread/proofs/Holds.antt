@@ -1,6 +1,6 @@
 -- The locks that threads hold, as an owner changes.
 use Rattle.std.proofs.Common.{◌≡◌, ℕ, zero, suc, ◌+◌, ◌<◌, ◌≤◌, Bool, true, false, cond, List, [], ◌∷◌, ◌++◌, length, Option, Some, None, refl, sym, ap, ◌∙◌, subst, arith, nat_lt}
-use Rattle.std.specs.Prelude.{◌==◌, slice_get, slice_set, unwrap_or, replicate}
+use Rattle.std.specs.Prelude.{◌==◌, slice_get, slice_set, replicate}
 use Rattle.std.specs.List.{filter}
 use Rattle.std.proofs.lemmas.Bool.{lt-ltb, le-ltb, eqb-true, eq-eqb, false≢true}
 use Rattle.task_ast.specs.Table.{owned_from}

@@ -1,5 +1,5 @@
 -- What an issue of a turn leaves.
-use Rattle.std.proofs.Common.{◌≡◌, ℕ, zero, suc, ◌<◌, Bool, true, false, cond, List, [], ◌∷◌, ◌++◌, map, length, Option, Some, None, is_none, nat_lt, nat_le, unwrap_or, refl, sym, ap, ◌∙◌, subst, arith, count_by, option_and_then, add-one}
+use Rattle.std.proofs.Common.{◌≡◌, ℕ, zero, suc, ◌<◌, Bool, true, false, cond, List, map, length, Option, Some, None, is_none, nat_lt, nat_le, unwrap_or, refl, ap, ◌∙◌, subst, arith, count_by, option_and_then, add-one}
 use Rattle.one_thread.specs.inner.Runs.{grown}
 use Rattle.std.specs.Prelude.{slice_get, pos, negsuc}
 use Rattle.std.proofs.lemmas.Bool.{ltb-true}
@@ -13,7 +13,7 @@ use Rattle.task_ast.specs.Repeat.{Again, More, Done, go_on, repeated, until_done
 use Rattle.task_ast.specs.Table.{Stand, Away, Waits, Released, Seat, Table, ring, next_of, unpassed, with_nth, waits_at}
 use Rattle.task_ast.specs.Turn.{Turn, Issue, Needs, Ended, Look, To, Unknown, NoThread, look, at_look, tried, issuing, passing, joining, at_barrier, come_to, met, arrived, stand_of, owner_of, child_of, seats_after, released_at, most_threads, has_passed, deadlocked, all_threads, turn, turns_left, next_issue}
 use Rattle.task_ast.proofs.Counting.{length-with_nth}
-use Rattle.task_ast.proofs.Turns.{Known, known_to, known_unknown, known_none, look_known}
+use Rattle.task_ast.proofs.Turns.{Known, known_to, look_known}
 
 -- a table of so many threads that may still issue, and where a turn leads from it
 pub record Like (limit issued threads : ℕ) (table : Table) : Type 0 where

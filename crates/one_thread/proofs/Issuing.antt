@@ -1,10 +1,10 @@
 -- What an issue leaves.
-use Rattle.std.proofs.Common.{◌≡◌, ℕ, suc, ◌+◌, true, nat_lt, List, map, length, Option, Some, None, refl, sym, ap, ◌∙◌, arith, set}
+use Rattle.std.proofs.Common.{◌≡◌, ℕ, suc, ◌+◌, true, nat_lt, List, map, length, Option, Some, refl, sym, ◌∙◌, arith, set}
 use Rattle.std.specs.Prelude.{slice_get}
 use Rattle.std.proofs.lemmas.List.{length-map}
 use Rattle.task_ast.specs.declared.sync.Next.{Next}
-use Rattle.task_ast.specs.Repeat.{Again, Done}
-use Rattle.task_ast.specs.Table.{Table, next_of, unpassed, with_nth}
+use Rattle.task_ast.specs.Repeat.{Done}
+use Rattle.task_ast.specs.Table.{next_of, unpassed}
 use Rattle.task_ast.specs.Turn.{Issue, issuing, owners_after, seats_after, child_of}
 use Rattle.one_thread.specs.declared.seats.Table.{Table as Ring}
 use Rattle.one_thread.specs.declared.seats.Seat.{Seat}

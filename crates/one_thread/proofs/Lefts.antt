@@ -4,7 +4,7 @@ use Rattle.std.specs.Borrow.{Bor}
 use Rattle.task_ast.specs.declared.tree.Stmt as code
 use Rattle.one_thread.specs.declared.left.Left.{Left}
 use Rattle.task_ast.specs.Tree.{Stmt, block, statements}
-use Rattle.task_ast.specs.View.{plain_stmt, plain_stmts}
+use Rattle.task_ast.specs.View.{plain_stmts}
 use Rattle.one_thread.specs.inner.Remaining.{around_of, left_of}
 
 around-push : (around : List (Bor (List code.Stmt))) (b : Bor (List code.Stmt)) → around_of (around ++ b ∷ []) ≡ plain_stmts b.now ++ around_of around

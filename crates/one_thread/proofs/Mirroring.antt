@@ -1,6 +1,6 @@
 -- The data at hand of the code, and what definitions say of a subthread's data.
-use Rattle.std.proofs.Common.{◌≡◌, ℕ, zero, suc, ◌+◌, ◌<◌, ◌≤◌, map, ℤ, pos, negsuc, Bool, true, false, cond, List, [], ◌∷◌, ◌++◌, length, Option, Some, None, refl, sym, ap, ◌∙◌, subst, arith, option_map, unwrap_or, Ordering, Less, Equal, Greater, nat_lt, ◌==◌}
-use Rattle.std.specs.Prelude.{slice_get, slice_set, IsTrue}
+use Rattle.std.proofs.Common.{◌≡◌, ℕ, zero, suc, ◌<◌, ◌≤◌, map, ℤ, pos, negsuc, Bool, true, false, cond, List, [], ◌∷◌, ◌++◌, length, Some, refl, sym, ap, ◌∙◌, subst, arith, unwrap_or, Ordering, Less, Equal, Greater, nat_lt}
+use Rattle.std.specs.Prelude.{slice_set}
 use Rattle.std.specs.Ordering.{nat_cmp, eq_by_cmp, is_eq}
 use Rattle.std.specs.FinMap.{put, find, nat_cmp-IsAntisymmetric}
 use Rattle.std.specs.FinMap.Entries.{find-put}
@@ -8,7 +8,7 @@ use Rattle.std.proofs.lemmas.Cmp.{nat_cmp_total}
 use Rattle.std.proofs.lemmas.Bool.{false≢true, ltb-true, le-ltb, eq-eqb}
 use Rattle.task_ast.specs.Action.{Term, Action, Set, Load, Store, Say, Choose, Child, Give, Bring, Arm, NoAction, OneAction}
 use Rattle.task_ast.specs.State.{number_at}
-use Rattle.task_ast.specs.Effect.{term_value, Doing, picked, cell_now, done, arm_done, all_done}
+use Rattle.task_ast.specs.Effect.{term_value, Doing, picked, done, arm_done, all_done}
 use Rattle.task_ast.specs.laws.Keeps.{NamesOnly, ArmNamesOnly, AllName}
 use Rattle.one_thread.specs.declared.data.Data.{Data}
 use Rattle.one_thread.specs.inner.Working.{first_unless, worked, arm_worked, all_worked}

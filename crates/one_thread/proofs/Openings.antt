@@ -1,5 +1,5 @@
 -- The start of a run.
-use Rattle.std.proofs.Common.{◌≡◌, ℕ, zero, suc, ◌+◌, ◌-◌, ◌<◌, ◌≤◌, ℤ, pos, Bool, true, false, cond, List, [], ◌∷◌, ◌++◌, map, length, Option, Some, None, refl, sym, ap, ◌∙◌, subst, arith, unwrap_or, option_map, append_assoc, nat_eq, position, zip, add-one}
+use Rattle.std.proofs.Common.{◌≡◌, ℕ, zero, suc, ◌+◌, ◌-◌, ◌<◌, ℤ, pos, Bool, true, false, cond, List, [], ◌∷◌, ◌++◌, map, length, Option, Some, None, refl, sym, ap, ◌∙◌, subst, arith, unwrap_or, option_map, append_assoc, nat_eq, position, zip, add-one}
 use Rattle.std.specs.Prelude.{slice_get, replicate}
 use Rattle.std.proofs.lemmas.Bool.{eqb-true, eq-eqb, false≢true}
 use Rattle.std.proofs.lemmas.List.{length-map}
@@ -11,9 +11,9 @@ use Rattle.task_ast.specs.declared.tree.TaskText.{TaskText as CodeTask}
 use Rattle.task_ast.specs.Tree.{Name}
 use Rattle.task_ast.specs.Names.{is_name, is_task, registers_of, records_of, feeds_of, cells_in}
 use Rattle.task_ast.specs.Declarations.{main}
-use Rattle.task_ast.specs.State.{number_at, cell_value}
+use Rattle.task_ast.specs.State.{number_at}
 use Rattle.task_ast.specs.Table.{numbers}
-use Rattle.task_ast.specs.Plain.{Plain, no_task, task_at, main_number, start_point, opening}
+use Rattle.task_ast.specs.Plain.{no_task, task_at, main_number, start_point, opening}
 use Rattle.task_ast.specs.View.{plain_task, plain_program}
 use Rattle.task_ast.proofs.Terms.{position-cons}
 use Rattle.one_thread.specs.declared.walk.Walk.{Walk}

@@ -1,14 +1,13 @@
 -- A subthread that the code performs is the one that the plain run performs.
-use Rattle.std.proofs.Common.{◌≡◌, ℕ, zero, suc, ◌+◌, ◌<◌, ℤ, pos, negsuc, Bool, true, false, cond, List, [], ◌∷◌, ◌++◌, map, length, set, Option, Some, None, refl, sym, ap, ◌∙◌, subst, arith, option_map, unwrap_or, nat_lt, zip, append_assoc, add-one}
-use Rattle.std.specs.Prelude.{slice_get, slice_set, replicate, nat_eq}
+use Rattle.std.proofs.Common.{◌≡◌, ℕ, zero, suc, ◌<◌, ℤ, pos, negsuc, Bool, true, false, cond, List, [], ◌∷◌, ◌++◌, map, length, Option, Some, None, refl, sym, ap, ◌∙◌, subst, arith, option_map, unwrap_or, nat_lt, add-one}
+use Rattle.std.specs.Prelude.{slice_get, slice_set, nat_eq}
 use Rattle.std.specs.Ordering.{nat_cmp}
 use Rattle.std.specs.FinMap.{find}
-use Rattle.std.proofs.lemmas.Bool.{eqb-true, eq-eqb, false≢true, lt-ltb}
+use Rattle.std.proofs.lemmas.Bool.{eqb-true, eq-eqb, false≢true}
 use Rattle.std.proofs.lemmas.List.{length-map, length-append, map-append}
 use Rattle.std.proofs.lemmas.Option.{slice_get-map, slice_get_within}
 use Rattle.gp_base.specs.declared.limits.Limits.{Limits}
 use Rattle.gp_base.specs.declared.feed.Inputs.{Inputs}
-use Rattle.gp_base.specs.declared.ending.End.{End}
 use Rattle.task_ast.specs.declared.tree.Program.{Program as Code}
 use Rattle.task_ast.specs.declared.sync.SyncOp.{SyncOp}
 use Rattle.task_ast.specs.declared.sync.SyncOp.TheVariants as sync
@@ -17,29 +16,27 @@ use Rattle.task_ast.specs.declared.effect.Effect.{Effect}
 use Rattle.task_ast.specs.Names.{records_of, cells_in, feeds_of}
 use Rattle.task_ast.specs.Action.{Action}
 use Rattle.task_ast.specs.Body.{Body}
-use Rattle.task_ast.specs.Control.{Setting, Point, beginning, first_actions, tree_body}
+use Rattle.task_ast.specs.Control.{Point, beginning, first_actions, tree_body}
 use Rattle.task_ast.specs.State.{State, RegistersOf, CellOf, number_at, cell_value}
 use Rattle.task_ast.specs.Effect.{Doing, all_done, joined_ret, effect, after, left_to, one_number}
 use Rattle.task_ast.specs.laws.Keeps.{AllName}
-use Rattle.task_ast.specs.Repeat.{Move, Goes, Ends}
-use Rattle.task_ast.specs.Table.{Table, learning}
+use Rattle.task_ast.specs.Table.{learning}
 use Rattle.task_ast.specs.Turn.{child_of}
 use Rattle.task_ast.specs.Plain.{Subthread, Plain, Machine, tree_machine, performed_by, points_with, point_by, task_at, start_point}
 use Rattle.task_ast.specs.Plain as plain
 use Rattle.task_ast.specs.View.{plain_program}
 use Rattle.one_thread.specs.declared.data.Data.{Data}
 use Rattle.one_thread.specs.declared.walk.Walk.{Walk}
-use Rattle.one_thread.specs.declared.work.Shared.{Shared}
 use Rattle.one_thread.specs.declared.threads.Run.{Run}
 use Rattle.one_thread.specs.inner.Holding.{AreHeld}
 use Rattle.one_thread.specs.inner.View.{table_of}
 use Rattle.one_thread.specs.inner.Working.{all_worked}
 use Rattle.one_thread.specs.inner.Walking.{setting_of, point_of}
-use Rattle.one_thread.specs.inner.Subthreads.{at_work, body_from, actions_from, data_from, RanWith}
-use Rattle.one_thread.specs.inner.Runs.{registers_at, joined_of, IsSound, AreSound, IsNew, Forks, grown, Performed, Holds}
+use Rattle.one_thread.specs.inner.Subthreads.{at_work, body_from, actions_from, data_from}
+use Rattle.one_thread.specs.inner.Runs.{registers_at, joined_of, IsSound, AreSound, Forks, grown, Performed, Holds}
 use Rattle.one_thread.proofs.Within.{is_cell, body_within, first_within, all-append}
 use Rattle.one_thread.proofs.Mirroring.{Mirrors, all_mirrors}
-use Rattle.one_thread.proofs.ThreadLemmas.{registers-there, registers-missing}
+use Rattle.one_thread.proofs.ThreadLemmas.{registers-there}
 
 some_is : {A : Type 0} {x y : A} → Some x ≡ Some y → x ≡ y
 some_is is = cc

@@ -1,6 +1,6 @@
 -- How the loop of the code follows the plain run.
-use Rattle.std.proofs.Common.{◌≡◌, ℕ, zero, suc, ◌+◌, ◌-◌, ◌<◌, ◌≤◌, ℤ, pos, List, [], ◌∷◌, ◌++◌, map, length, Option, Some, None, refl, sym, ap, ◌∙◌, subst, arith, unwrap_or, append_assoc, append-nil}
-use Rattle.std.proofs.lemmas.List.{length-map, map-append}
+use Rattle.std.proofs.Common.{◌≡◌, ℕ, zero, suc, ◌+◌, ◌-◌, ◌<◌, ◌≤◌, ℤ, List, [], ◌∷◌, ◌++◌, map, length, Option, Some, refl, sym, ap, ◌∙◌, subst, arith, append_assoc, append-nil}
+use Rattle.std.proofs.lemmas.List.{length-map}
 use Rattle.gp_base.specs.declared.limits.Limits.{Limits}
 use Rattle.gp_base.specs.declared.feed.Inputs.{Inputs}
 use Rattle.gp_base.specs.declared.ending.End.{End}
@@ -12,21 +12,19 @@ use Rattle.task_ast.specs.Names.{records_of, cells_in}
 use Rattle.task_ast.specs.State.{number_at, cell_value}
 use Rattle.task_ast.specs.Footprint.{footprint}
 use Rattle.task_ast.specs.Repeat.{Move, Goes, Ends, steps, state_after, steps_from, state_from}
-use Rattle.task_ast.specs.Table.{Table as PlainTable, Seat as PlainSeat, learning, numbers, owned_from}
+use Rattle.task_ast.specs.Table.{Table as PlainTable, numbers, owned_from}
 use Rattle.task_ast.specs.Turn.{Turn as PlainTurn, Issue, next_issue, child_of}
-use Rattle.task_ast.specs.Plain.{Subthread, Plain, PlainOf, on_turn, move, order, end, opening, last_state, final_records, ending_of}
+use Rattle.task_ast.specs.Plain.{Subthread, Plain, on_turn, move, opening, last_state, ending_of}
 use Rattle.task_ast.specs.View.{plain_program}
 use Rattle.task_ast.proofs.Counting.{length-with_nth}
 use Rattle.one_thread.specs.declared.seats.Table.{Table}
-use Rattle.one_thread.specs.declared.walk.Walk.{Walk}
 use Rattle.one_thread.specs.declared.threads.Run.{Run}
 use Rattle.one_thread.specs.declared.run.Step.{Step}
-use Rattle.one_thread.specs.declared.run.PlainRun.{PlainRun}
 use Rattle.one_thread.specs.declared.run.Move.{Move as Found}
 use Rattle.one_thread.specs.inner.Holding.{AreHeld}
 use Rattle.one_thread.specs.inner.View.{table_of, seat_of}
 use Rattle.one_thread.specs.inner.Walking.{point_of}
-use Rattle.one_thread.specs.inner.Runs.{IsSmall, Performed, Holds, grown}
+use Rattle.one_thread.specs.inner.Runs.{Holds, grown}
 use Rattle.one_thread.specs.PlainRuns.{shown, IsPlainRun}
 use Rattle.one_thread.specs.inner.Moves.{Stepped, Went, Halted, Follows, Ahead}
 use Rattle.one_thread.proofs.Issues.{Issues, issued-so}

@@ -1,5 +1,5 @@
 -- Single control steps of the walk.
-use Rattle.std.proofs.Common.{◌≡◌, ℕ, zero, suc, ℤ, pos, negsuc, Bool, true, false, List, [], ◌∷◌, ◌++◌, Option, Some, None, refl, sym, ap, ◌∙◌, subst, arith}
+use Rattle.std.proofs.Common.{◌≡◌, ℕ, zero, suc, ℤ, pos, negsuc, true, false, List, [], ◌∷◌, ◌++◌, Option, Some, None, refl, sym, ap, ◌∙◌, subst, arith}
 use Rattle.std.specs.Prelude.{is_some, IsTrue}
 use Rattle.std.specs.Ordering.{int_eq}
 use Rattle.std.specs.Borrow.{Bor}
@@ -12,15 +12,15 @@ use Rattle.task_ast.specs.Tree.{Stmt, At, What, SetCtl, While, If, Lock, Unlock,
 use Rattle.task_ast.specs.Names.{registers_of}
 use Rattle.task_ast.specs.Value.{value}
 use Rattle.task_ast.specs.Action.{Action}
-use Rattle.task_ast.specs.Body.{Step, Silent, Iteration, Act, Stop}
+use Rattle.task_ast.specs.Body.{Step, Silent, Iteration, Act}
 use Rattle.task_ast.specs.Control.{Setting, Point, known, branch, going, env_at, action, step_at}
 use Rattle.task_ast.specs.Shaped.{is_data}
 use Rattle.task_ast.specs.View.{plain_stmts, plain_block}
 use Rattle.one_thread.specs.declared.walk.Walk.{Walk}
 use Rattle.one_thread.specs.declared.walk.Went.TheVariants as went
 use Rattle.one_thread.specs.inner.Remaining.{left_of, rest_of}
-use Rattle.one_thread.specs.inner.Working.{worked, Works}
-use Rattle.one_thread.specs.inner.Walking.{setting_of, point_of, Keeps, LeadsTo, Stepped}
+use Rattle.one_thread.specs.inner.Working.{Works}
+use Rattle.one_thread.specs.inner.Walking.{setting_of, point_of, LeadsTo, Stepped}
 use Rattle.one_thread.proofs.Lefts.{statements-block}
 
 not_zero : int_eq (pos 0) (pos 0) ≡ false → ⊥

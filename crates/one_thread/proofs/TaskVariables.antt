@@ -1,11 +1,11 @@
 -- Variables of a task, parameter after parameter and line after line.
-use Rattle.std.proofs.Common.{◌≡◌, ℕ, zero, suc, ◌+◌, ◌<◌, ℤ, pos, List, [], ◌∷◌, ◌++◌, length, take, drop, get_or, add-one, refl, ap, sym, ◌∙◌, arith, append_assoc}
+use Rattle.std.proofs.Common.{◌≡◌, ℕ, zero, suc, ◌+◌, ◌<◌, ℤ, pos, List, [], ◌∷◌, ◌++◌, length, drop, get_or, add-one, refl, ap, sym, ◌∙◌, append_assoc}
 use Rattle.std.proofs.lemmas.List.{at_drop_more}
 use Rattle.task_ast.specs.declared.tree.Param.{Param}
 use Rattle.task_ast.specs.declared.tree.Param.TheVariants as param
 use Rattle.task_ast.specs.declared.tree.VarLine.{VarLine}
 use Rattle.task_ast.specs.Tree.{Name}
-use Rattle.task_ast.specs.Names.{is_name, controls, datas, declared_in}
+use Rattle.task_ast.specs.Names.{controls, datas, declared_in}
 use Rattle.task_ast.specs.State.{number_at}
 use Rattle.task_ast.specs.Plain.{given}
 

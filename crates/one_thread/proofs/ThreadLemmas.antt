@@ -1,18 +1,16 @@
 -- Threads of a run.
-use Rattle.std.proofs.Common.{◌≡◌, ℕ, zero, suc, ◌<◌, ℤ, List, [], ◌∷◌, ◌++◌, map, length, Option, Some, None, refl, sym, ap, ◌∙◌, subst, arith, option_map, unwrap_or}
+use Rattle.std.proofs.Common.{◌≡◌, ℕ, zero, suc, ℤ, List, [], ◌∷◌, ◌++◌, map, Some, None, refl, sym, ap, ◌∙◌, option_map, unwrap_or}
 use Rattle.std.specs.Prelude.{slice_get}
 use Rattle.std.proofs.lemmas.Option.{slice_get-map}
 use Rattle.task_ast.specs.declared.tree.Program.{Program as Code}
 use Rattle.task_ast.specs.declared.tree.TaskText.{TaskText as CodeTask}
-use Rattle.task_ast.specs.Tree.{Name, TaskText, statements}
+use Rattle.task_ast.specs.Tree.{Name, statements}
 use Rattle.task_ast.specs.Names.{controls, declared_in}
-use Rattle.task_ast.specs.Control.{Point}
 use Rattle.task_ast.specs.Plain.{no_task, task_at, given, start_point}
 use Rattle.task_ast.specs.View.{plain_task, plain_program, plain_stmts, plain_block}
 use Rattle.one_thread.specs.declared.walk.Walk.{Walk}
 use Rattle.one_thread.specs.inner.Remaining.{left_of}
-use Rattle.one_thread.specs.inner.Walking.{point_of}
-use Rattle.one_thread.specs.inner.Runs.{slots_of, registers_at, IsSound, IsNew}
+use Rattle.one_thread.specs.inner.Runs.{slots_of, registers_at, IsNew}
 use Rattle.one_thread.proofs.Lefts.{statements-block}
 
 some_is : {A : Type 0} {x y : A} → Some x ≡ Some y → x ≡ y

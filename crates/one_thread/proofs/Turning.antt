@@ -1,5 +1,5 @@
 -- One turn, by the thread that the token comes to.
-use Rattle.std.proofs.Common.{Result, Ok, Err, ℤ, IfOk, ◌≡◌, ℕ, suc, ◌+◌, ◌<◌, ◌≤◌, Bool, true, false, cond, nat_le, unwrap_or, count_by, List, map, length, Option, Some, None, refl, sym, ap, ◌∙◌, arith, set}
+use Rattle.std.proofs.Common.{Result, Ok, Err, ℤ, IfOk, ◌≡◌, ℕ, ◌<◌, ◌≤◌, Bool, true, false, cond, nat_le, unwrap_or, count_by, List, map, length, Option, Some, None, refl, sym, ap, ◌∙◌, set}
 use Rattle.std.specs.Prelude.{slice_get}
 use Rattle.std.specs.declared.alloc.AllocError.{AllocError}
 use Rattle.gp_base.specs.declared.ending.End.{End}
@@ -9,19 +9,18 @@ use Rattle.task_ast.specs.Turn.{next_issue, turns_left}
 use Rattle.task_ast.specs.Repeat.{go_on}
 use Rattle.std.specs.Option.{option_map, option_and_then}
 use Rattle.std.proofs.lemmas.Option.{slice_get-map}
-use Rattle.std.proofs.lemmas.List.{length-map}
 use Rattle.task_ast.specs.declared.sync.Next.{Next}
 use Rattle.task_ast.specs.declared.sync.SyncOp.{SyncOp as Sync}
 use Rattle.task_ast.specs.declared.sync.SyncOp.TheVariants as sync_op
-use Rattle.task_ast.specs.Repeat.{Again, More, Done}
+use Rattle.task_ast.specs.Repeat.{Again, Done}
 use Rattle.task_ast.specs.Table.{Seat as SeatThere, Stand, Away, Waits, Released, Table, ring, next_of, unpassed, with_nth, waits_at}
 use Rattle.gp_base.specs.declared.ending.End.TheVariants.{Finished}
-use Rattle.task_ast.specs.Turn.{Turn, Needs, Ended, deadlocked, all_threads, Look, To, Unknown, NoThread, look, turn, tried, at_look, has_passed, stand_of, met, arrived, come_to, at_barrier, released_at, issuing, passing, last_of, is_away}
+use Rattle.task_ast.specs.Turn.{Turn, Needs, Ended, deadlocked, all_threads, look, turn, tried, has_passed, stand_of, met, arrived, come_to, at_barrier, released_at, issuing, passing, last_of, is_away}
 use Rattle.std.proofs.lemmas.Bool.{false≢true, le-leb, lt-leb}
 use Rattle.task_ast.proofs.Rounds.{keeps_nth, keeps_map}
 use Rattle.one_thread.specs.declared.seats.Table.{Table as Ring}
 use Rattle.one_thread.specs.declared.seats.Seat.{Seat}
-use Rattle.one_thread.specs.inner.View.{table_of, seat_of, stand_view, look_of, look_with, is_free_to_go, gives, gave}
+use Rattle.one_thread.specs.inner.View.{table_of, seat_of, stand_view, look_of, is_free_to_go, gives, gave}
 use Rattle.one_thread.proofs.Looking.{seat-next}
 use Rattle.one_thread.proofs.Changing.{map-replaced}
 

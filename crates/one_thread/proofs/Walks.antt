@@ -1,15 +1,13 @@
 -- Walks of many steps.
-use Rattle.std.proofs.Common.{Result, Ok, Err, IfOk, ◌≡◌, ℕ, zero, suc, ◌<◌, ◌≤◌, ℤ, List, [], ◌∷◌, ◌++◌, Option, Some, None, refl, sym, ap, ◌∙◌, subst, arith}
-use Rattle.task_ast.specs.declared.env.Env.{Env}
+use Rattle.std.proofs.Common.{Result, Ok, Err, IfOk, ◌≡◌, ℕ, zero, suc, ◌<◌, ◌≤◌, ℤ, List, [], ◌∷◌, ◌++◌, Option, Some, None, refl, sym, ap, ◌∙◌, subst}
 use Rattle.task_ast.specs.declared.sync.SyncOp.{SyncOp}
 use Rattle.task_ast.specs.declared.sync.SyncOp.TheVariants as sync
 use Rattle.task_ast.specs.declared.sync.Next.{Next}
 use Rattle.task_ast.specs.declared.tree.Stmt.{Stmt as CodeStmt}
 use Rattle.std.specs.declared.alloc.AllocError.{AllocError}
-use Rattle.task_ast.specs.Tree.{Name, Expr, Stmt, At, What, Fork}
-use Rattle.task_ast.specs.Action.{Action}
-use Rattle.task_ast.specs.Body.{Step, Silent, Iteration, Act, Stop, Body, with_action, stopped, spent, follow, after_turn}
-use Rattle.task_ast.specs.Control.{Setting, Point, known, stop, going, step, step_at, step_from, size, tree_body, env_at}
+use Rattle.task_ast.specs.Tree.{Name, Expr, At, What, Fork}
+use Rattle.task_ast.specs.Body.{Step, Silent, Iteration, Act, Stop, Body, stopped, spent, follow, after_turn}
+use Rattle.task_ast.specs.Control.{Setting, Point, known, stop, going, step, step_at, step_from, size, tree_body}
 use Rattle.task_ast.specs.View.{plain_stmt, plain_stmts, plain_what, plain_program, plain_task}
 use Rattle.task_ast.specs.Names.{locks_of, records_of, cells_in, registers_of}
 use Rattle.task_ast.proofs.Views.{stmt_At}
@@ -23,7 +21,7 @@ use Rattle.one_thread.specs.declared.walk.Went.TheVariants as went
 use Rattle.one_thread.specs.inner.Remaining.{left_of, rest_of}
 use Rattle.one_thread.specs.inner.Working.{worked, all_worked}
 use Rattle.one_thread.specs.inner.Walking.{setting_of, point_of, Keeps, LeadsTo, Stepped, GoesOn, Came, Halted, Ran}
-use Rattle.one_thread.proofs.Steps.{env_is, stays}
+use Rattle.one_thread.proofs.Steps.{stays}
 
 -- blocks that are done are left before a step
 abbrev pub with_left : Walk → Left → Walk

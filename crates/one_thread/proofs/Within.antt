@@ -1,7 +1,5 @@
 -- The actions of a body name cells of the records alone.
-use Rattle.std.proofs.Common.{◌≡◌, ℕ, zero, suc, ◌+◌, ◌<◌, ℤ, pos, negsuc, Bool, true, false, cond, List, [], ◌∷◌, ◌++◌, Option, Some, None, refl, sym, ap, ◌∙◌, subst, arith, option_map, option_and_then, nat_lt, unwrap_or, length}
-use Rattle.std.specs.Prelude.{⊤}
-use Rattle.std.specs.Prelude.{IsTrue}
+use Rattle.std.proofs.Common.{◌≡◌, ℕ, zero, suc, ◌+◌, ◌<◌, ℤ, pos, negsuc, Bool, true, false, cond, List, [], ◌∷◌, ◌++◌, Option, Some, None, refl, subst, arith, option_map, option_and_then, nat_lt, unwrap_or, length}
 use Rattle.std.proofs.lemmas.Bool.{lt-ltb, ltb-true}
 use Rattle.task_ast.specs.declared.env.Env.{Env}
 use Rattle.task_ast.specs.declared.tree.Param.{Param}
@@ -11,7 +9,7 @@ use Rattle.task_ast.specs.declared.sync.SyncOp.{SyncOp}
 use Rattle.task_ast.specs.declared.sync.SyncOp.TheVariants as sync
 use Rattle.task_ast.specs.Tree.{Name, Expr, Stmt, At, What, SetCtl, While, If, Lock, Unlock, Fork, Join, Barrier, SetReg, Read, Write, Print, When, Block, Nothing, Then, TaskText}
 use Rattle.task_ast.specs.Names.{is_name, place, cell_number, cells_in, records_of, registers_of, task_named}
-use Rattle.task_ast.specs.Action.{Term, Action, Set, Load, Store, Say, Choose, Child, Give, Arm, NoAction, OneAction, term}
+use Rattle.task_ast.specs.Action.{Term, Action, Store, Say, Choose, Child, Give, Arm, OneAction, term}
 use Rattle.task_ast.specs.Body.{Step, Silent, Iteration, Act, Stop, Body, follow, stretch, body}
 use Rattle.task_ast.specs.Control.{Setting, Point, known, branch, going, env_at, action, arm, action_of, record_number, data_arguments, control_arguments, register_number, fork_arguments, begin_actions, first_actions, step, step_at, step_from, size, tree_body}
 use Rattle.task_ast.specs.laws.Keeps.{NamesOnly, ArmNamesOnly, AllName}

@@ -1,5 +1,5 @@
 -- What is known of the case of a call once its words and its program were read.
-use Rattle.std.specs.Prelude.{◌≡◌, ◌⊎◌, ◌≤◌, List, ℕ, [], ◌∷◌, ◌++◌, ℤ, true, false, Option, Result, IsSomeAnd, Contains, None, ⊤}
+use Rattle.std.specs.Prelude.{◌≡◌, ◌⊎◌, ◌≤◌, List, ℕ, ◌∷◌, ◌++◌, true, Option, Result, IsSomeAnd, Contains, None, ⊤}
 use Rattle.std.specs.declared.result.Result.TheVariants.{Ok, Err}
 use Rattle.gp_base.specs.Files.{GrowsByOnly}
 use Rattle.task_ast.specs.Tree.{Name, Program}
@@ -18,7 +18,6 @@ use Rattle.lock_checker.specs.declared.checked.Checked.{Checked}
 use Rattle.lock_checker.specs.declared.fault.CheckFault.{CheckFault}
 use Rattle.lock_checker.specs.declared.fault.CheckFault.TheVariants as check
 use Rattle.command_line.specs.declared.asked.Asked.{Asked}
-use Rattle.command_line.specs.declared.asked.Command.{Command}
 use Rattle.gprs.specs.declared.work.Batch.{Batch}
 use Rattle.gprs.specs.declared.batch.Refusal.{Refusal}
 use Rattle.gprs.specs.declared.batch.Refusal.TheVariants.{Usage as RefusedUsage, BadProgram as RefusedProgram, BadInput as RefusedInput, ReadFault, OutOfMemory}

@@ -1,5 +1,5 @@
 -- How the parts of a run over a journal stand to its work.
-use Rattle.std.specs.Prelude.{◌≡◌, ◌≤◌, ◌-◌, ℕ, ℤ, List, [], ◌++◌, length, take, flat_map, slice_get, Option, None, Some, Result, OnOk, OnErr, IfOk, IfErr}
+use Rattle.std.specs.Prelude.{◌≡◌, ◌≤◌, ◌-◌, ℕ, List, ◌++◌, length, take, flat_map, slice_get, Result, OnOk, OnErr, IfOk, IfErr}
 use Rattle.gp_base.specs.declared.journal.Journal.{Journal}
 use Rattle.gp_base.specs.declared.sink.SinkFault.{SinkFault}
 use Rattle.gp_base.specs.declared.sink.SinkFault.TheVariants.{Failed}

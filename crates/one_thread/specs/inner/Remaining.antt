@@ -1,5 +1,5 @@
 -- The statements that a thread has left.
-use Rattle.std.specs.Prelude.{◌≡◌, List, [], ◌∷◌, ◌++◌}
+use Rattle.std.specs.Prelude.{List, [], ◌∷◌, ◌++◌}
 use Rattle.std.specs.Borrow.{Bor}
 use Rattle.task_ast.specs.declared.tree.Stmt as code
 use Rattle.task_ast.specs.Tree.{Stmt}

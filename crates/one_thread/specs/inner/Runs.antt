@@ -2,7 +2,6 @@
 use Rattle.std.specs.Prelude.{◌≡◌, ℕ, zero, suc, ◌<◌, ◌≤◌, ℤ, pos, List, [], ◌∷◌, ◌++◌, map, length, zip, Option, Some, slice_get, slice_set}
 use Rattle.gp_base.specs.declared.limits.Limits.{Limits}
 use Rattle.gp_base.specs.declared.feed.Inputs.{Inputs}
-use Rattle.gp_base.specs.declared.ending.End.{End}
 use Rattle.task_ast.specs.declared.tree.Program.{Program as Code}
 use Rattle.task_ast.specs.declared.tree.TaskText.{TaskText as CodeTask}
 use Rattle.task_ast.specs.declared.sync.SyncOp.{SyncOp}
@@ -11,12 +10,10 @@ use Rattle.task_ast.specs.declared.sync.Next.{Next}
 use Rattle.task_ast.specs.Tree.{Name}
 use Rattle.task_ast.specs.Names.{locks_of, records_of, feeds_of, cells_in, registers_of}
 use Rattle.task_ast.specs.State.{RegistersOf, number_at, cell_value}
-use Rattle.task_ast.specs.Repeat.{Move, Goes, Ends}
 use Rattle.task_ast.specs.Table.{learning}
-use Rattle.task_ast.specs.Plain.{Subthread, Plain, task_at, start_point}
+use Rattle.task_ast.specs.Plain.{Plain, task_at, start_point}
 use Rattle.task_ast.specs.View.{plain_task, plain_program}
 use Rattle.one_thread.specs.declared.walk.Walk.{Walk}
-use Rattle.one_thread.specs.declared.work.Shared.{Shared}
 use Rattle.one_thread.specs.declared.work.Done.{Done}
 use Rattle.one_thread.specs.declared.threads.Run.{Run}
 use Rattle.one_thread.specs.inner.Holding.{AreHeld}

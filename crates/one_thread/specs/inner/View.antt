@@ -1,6 +1,5 @@
 -- The table of the code as the thread table that definitions see.
-use Rattle.std.specs.Prelude.{◌≡◌, ℕ, zero, suc, ℤ, pos, negsuc, Bool, true, false, cond, List, length, map, Option, Some, None, nat_lt}
-use Rattle.gp_base.specs.declared.ending.End.{End}
+use Rattle.std.specs.Prelude.{◌≡◌, ℕ, zero, suc, ℤ, pos, negsuc, Bool, true, false, cond, map, Option, Some, None, nat_lt}
 use Rattle.task_ast.specs.declared.sync.Next.{Next}
 use Rattle.task_ast.specs.Repeat.{Again, More, Done}
 use Rattle.task_ast.specs.Table as plain

@@ -1,5 +1,5 @@
 -- What a thread's actions do to the data at hand.
-use Rattle.std.specs.Prelude.{◌≡◌, ℕ, zero, suc, ℤ, pos, negsuc, List, [], ◌∷◌, ◌++◌, map, replicate, slice_set, Option, Some}
+use Rattle.std.specs.Prelude.{◌≡◌, zero, suc, ℤ, pos, negsuc, List, [], ◌∷◌, ◌++◌, map, replicate, slice_set, Option, Some}
 use Rattle.task_ast.specs.declared.env.Env.{Env}
 use Rattle.task_ast.specs.Action.{Action, Set, Load, Store, Say, Choose, Child, Give, Bring, Arm, NoAction, OneAction}
 use Rattle.task_ast.specs.State.{number_at}

@@ -1,12 +1,11 @@
-use Rattle.std.proofs.Common.{Err, sym, subst, ◌∙◌}
+use Rattle.std.proofs.Common.{Err, subst}
 use Rattle.gp_base.specs.declared.fault.Faults.{Faults}
 use Rattle.gp_base.specs.declared.feed.Inputs.{Inputs}
 use Rattle.task_ast.specs.View.{plain_program}
 use Rattle.lock_checker.specs.Accepted.{program_of}
-use Rattle.command_line.specs.declared.asked.Asked.{Asked}
 use Rattle.std.specs.declared.option.Option.TheVariants.{Some}
 use Rattle.gprs.specs.inner.Decided.{TouchesShelf}
-use Rattle.gprs.proofs.Refused.{loaded_ok, loaded_err, loaded_reads, struck_err, struck_reads}
+use Rattle.gprs.proofs.Refused.{loaded_err, loaded_reads, struck_err, struck_reads}
 use Rattle.gprs.proofs.batch.batch_of.Goals as goal
 
 pub returns-in-Err-clause-shelf : goal.returns-in-Err-clause-shelf

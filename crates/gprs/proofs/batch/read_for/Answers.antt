@@ -1,4 +1,4 @@
-use Rattle.gprs.proofs.Refused.{made_case, shelf_case}
+use Rattle.gprs.proofs.Refused.{made_case}
 use Rattle.gprs.proofs.batch.read_for.Goals as goal
 
 pub returns-in-Soak-clause-case : goal.returns-in-Soak-clause-case

@@ -2,7 +2,7 @@ use Rattle.std.proofs.Common.{◌∙◌, Err, subst}
 use Rattle.gprs.specs.InputFiles.{names_in}
 use Rattle.gprs.specs.inner.Loading.{seen, ReadsAmong}
 use Rattle.gprs.proofs.Loads.{loads_more, loads_stop, among_all, readable_at}
-use Rattle.gprs.proofs.Sizes.{counts_more, counts_all}
+use Rattle.gprs.proofs.Sizes.{counts_more}
 use Rattle.gprs.proofs.inputs.read_inputs.Goals as goal
 
 pub returns-in-Err-clause-failed : goal.returns-in-Err-clause-failed

@@ -1,12 +1,11 @@
-use Rattle.std.proofs.Common.{[], rules, subst, ap, ◌∙◌, refl, length}
+use Rattle.std.proofs.Common.{rules, subst, ap, ◌∙◌}
 use Rattle.std.specs.Io.KnownBytes.{Appends}
 use Rattle.gp_base.specs.Sinks.{AppendsPrefix}
 use Rattle.gprs.specs.Case.{end_status}
 use Rattle.gprs.specs.inner.Decided.{work_of}
-use Rattle.gprs.specs.PlainText.{plain_ran, lines_in, ran_in}
+use Rattle.gprs.specs.PlainText.{plain_ran, lines_in}
 use Rattle.gprs.proofs.PlainTexts.{plain_ran-run, tail_by}
 use Rattle.restart_log.specs.Lines.{printed}
-use Rattle.gprs.specs.Texts.{tail_text}
 use Rattle.gprs.proofs.RunPieces.{part_of_first, after_first, part_of_second, after_second, part_of_third, whole_text}
 use Rattle.gprs.proofs.run.put_one.Goals as goal
 

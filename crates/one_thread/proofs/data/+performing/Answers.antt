@@ -1,16 +1,13 @@
-use Rattle.std.proofs.Common.{◌≡◌, ◌+◌, ◌∙◌, drop, map, ap, sym, subst, rules, List, SFits, w64, Some, None, option_map}
-use Rattle.std.specs.Prelude.{ℤ, pos, is_some}
-use Rattle.std.specs.Ordering.{int_eq}
+use Rattle.std.proofs.Common.{◌+◌, ◌∙◌, drop, map, ap, sym, subst, rules, List, SFits, w64}
 use Rattle.std.proofs.lemmas.Int.{to_z-of_z}
 use Rattle.std.proofs.Math.ListN.{drop_of_length-le}
 use Rattle.task_ast.specs.declared.tree.Stmt.{Stmt}
 use Rattle.task_ast.specs.Tree as plain
 use Rattle.task_ast.specs.Action.{term}
-use Rattle.task_ast.specs.Effect.{term_value}
 use Rattle.task_ast.specs.Control.{action, arm, all_of}
-use Rattle.task_ast.specs.View.{plain_expr, plain_exprs, plain_what, plain_stmt, plain_block}
+use Rattle.task_ast.specs.View.{plain_expr, plain_exprs, plain_what, plain_block}
 use Rattle.task_ast.proofs.Views.{stmt_At, what_Print, what_When}
-use Rattle.one_thread.specs.inner.Working.{setting_in, Works, ArmWorks}
+use Rattle.one_thread.specs.inner.Working.{setting_in}
 use Rattle.one_thread.proofs.Fitting.{from-here, Ahead, ahead_on, ahead_end, said, unsaid, first_works, second_works}
 use Rattle.one_thread.proofs.data.+performing.Goals as goal
 

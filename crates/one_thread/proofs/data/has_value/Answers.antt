@@ -1,4 +1,4 @@
-use Rattle.std.proofs.Common.{◌∙◌, rules, ◌≡◌, ap}
+use Rattle.std.proofs.Common.{◌∙◌, rules, ◌≡◌}
 use Rattle.std.specs.Prelude.{is_some}
 use Rattle.task_ast.specs.Value.{value}
 use Rattle.task_ast.specs.View.{plain_expr}

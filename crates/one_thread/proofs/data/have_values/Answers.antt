@@ -1,4 +1,4 @@
-use Rattle.std.proofs.Common.{◌≡◌, ◌+◌, ◌∙◌, drop, map, ap, sym, rules, true, false, List}
+use Rattle.std.proofs.Common.{◌+◌, ◌∙◌, drop, map, ap, sym, List}
 use Rattle.std.specs.Prelude.{is_some}
 use Rattle.task_ast.specs.declared.tree.Expr.{Expr}
 use Rattle.task_ast.specs.Action.{term}

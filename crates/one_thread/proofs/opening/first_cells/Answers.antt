@@ -1,4 +1,4 @@
-use Rattle.std.proofs.Common.{◌≡◌, ◌∙◌, rules, SFits, w64}
+use Rattle.std.proofs.Common.{◌∙◌, rules, SFits, w64}
 use Rattle.std.proofs.lemmas.Int.{to_z-of_z}
 use Rattle.task_ast.specs.State.{number_at}
 use Rattle.one_thread.proofs.Openings.{cell-more}

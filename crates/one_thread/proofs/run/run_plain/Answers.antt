@@ -1,10 +1,9 @@
-use Rattle.std.proofs.Common.{◌≡◌, ◌≤◌, ◌<◌, ◌-◌, ◌∙◌, ap, sym, refl, subst, []}
-use Rattle.task_ast.specs.Names.{locks_of, records_of, cells_in}
+use Rattle.std.proofs.Common.{◌∙◌, ap, sym, subst}
 use Rattle.task_ast.specs.Plain.{opening}
 use Rattle.task_ast.specs.View.{plain_program}
 use Rattle.lock_checker.proofs.BaseLemmas.{accepted_small}
 use Rattle.one_thread.specs.inner.Runs.{IsSmall, Holds}
-use Rattle.one_thread.specs.inner.Moves.{Went, Halted, Follows, Ahead}
+use Rattle.one_thread.specs.inner.Moves.{Follows, Ahead}
 use Rattle.one_thread.proofs.Running.{ahead-start, ahead-more, ahead-smaller, ahead-ends, follows-here}
 use Rattle.one_thread.proofs.run.run_plain.Goals as goal
 

@@ -1,4 +1,4 @@
-use Rattle.std.proofs.Common.{◌-◌, ◌<◌}
+use Rattle.std.proofs.Common.{◌-◌}
 use Rattle.one_thread.specs.inner.Runs.{IsSmall}
 use Rattle.one_thread.specs.inner.Moves.{Ahead}
 use Rattle.one_thread.proofs.run.run_plain.Given as goal

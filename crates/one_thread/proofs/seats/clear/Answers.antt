@@ -1,4 +1,4 @@
-use Rattle.std.proofs.Common.{◌≡◌, ◌∙◌, sym, ap, refl, arith, rules, length, map, suc, ◌+◌, ◌<◌, slice_index_or}
+use Rattle.std.proofs.Common.{◌≡◌, ◌∙◌, ap, refl, arith, map, suc, ◌+◌, slice_index_or}
 use Rattle.std.proofs.lemmas.List.{length-map}
 use Rattle.task_ast.specs.Table.{unpassed, with_nth}
 use Rattle.one_thread.specs.inner.View.{seat_of}

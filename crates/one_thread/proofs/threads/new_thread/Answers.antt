@@ -1,5 +1,4 @@
-use Rattle.std.proofs.Common.{◌≡◌, ◌∙◌, ap, sym, refl, rules, Some}
-use Rattle.std.specs.Prelude.{slice_get}
+use Rattle.std.proofs.Common.{◌∙◌, ap, refl}
 use Rattle.task_ast.specs.View.{plain_stmts}
 use Rattle.one_thread.proofs.Looking.{at-get}
 use Rattle.one_thread.proofs.ThreadLemmas.{new-is}

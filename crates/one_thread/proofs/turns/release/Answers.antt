@@ -1,4 +1,4 @@
-use Rattle.std.proofs.Common.{◌≡◌, ◌∙◌, sym, ap, refl, arith, rules, length, map, suc, ◌+◌, ◌<◌, slice_index_or}
+use Rattle.std.proofs.Common.{◌≡◌, ◌∙◌, sym, ap, arith, map, suc, ◌+◌, slice_index_or}
 use Rattle.std.proofs.lemmas.List.{length-map}
 use Rattle.task_ast.specs.Table.{with_nth}
 use Rattle.task_ast.specs.Turn.{released_at}

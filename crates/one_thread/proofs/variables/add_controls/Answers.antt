@@ -1,4 +1,4 @@
-use Rattle.std.proofs.Common.{◌≡◌, ◌∙◌, ◌++◌, ◌+◌, drop, ap, rules, arith, FitsSigned, w64}
+use Rattle.std.proofs.Common.{◌≡◌, ◌∙◌, ◌++◌, ◌+◌, drop, ap, rules, arith}
 use Rattle.std.specs.Prelude.{[], ◌∷◌}
 use Rattle.task_ast.specs.Names.{controls}
 use Rattle.task_ast.specs.Plain.{given}

@@ -1,5 +1,5 @@
-use Rattle.std.proofs.Common.{◌∙◌, ap, sym, ◌&&◌}
-use Rattle.one_thread.proofs.Forks.{datas_from, datas-end, datas-over, data-argument, data-past}
+use Rattle.std.proofs.Common.{◌∙◌, sym}
+use Rattle.one_thread.proofs.Forks.{datas-end, datas-over, data-argument, data-past}
 use Rattle.one_thread.proofs.walk.data_fits.Goals as goal
 use Rattle.one_thread.proofs.walk.data_fits.Goals.{in-Reg+else-not-has_value, in-Ctl}
 

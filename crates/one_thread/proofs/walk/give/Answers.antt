@@ -1,6 +1,6 @@
-use Rattle.std.proofs.Common.{◌≡◌, ◌∙◌, ◌+◌, ap, sym, subst, rules, SFits, w64}
+use Rattle.std.proofs.Common.{◌∙◌, ◌+◌, ap, sym, subst, rules, SFits, w64}
 use Rattle.std.proofs.lemmas.Int.{to_z-of_z}
-use Rattle.std.specs.Prelude.{ℤ, slice_set}
+use Rattle.std.specs.Prelude.{slice_set}
 use Rattle.task_ast.specs.Control.{data_arguments, register_number}
 use Rattle.task_ast.specs.Action.{term}
 use Rattle.task_ast.specs.View.{plain_expr, plain_exprs}

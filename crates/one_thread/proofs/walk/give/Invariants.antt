@@ -1,4 +1,3 @@
-use Rattle.std.proofs.Common.{List}
 use Rattle.std.specs.Prelude.{ℤ}
 use Rattle.task_ast.specs.Control.{Setting, data_arguments}
 use Rattle.task_ast.specs.View.{plain_exprs}

@@ -1,4 +1,4 @@
-use Rattle.std.proofs.Common.{◌≡◌, sym, ◌∙◌, rules, SFits, w64}
+use Rattle.std.proofs.Common.{sym, ◌∙◌, rules, SFits, w64}
 use Rattle.std.proofs.lemmas.Int.{to_z-of_z}
 use Rattle.one_thread.proofs.SubthreadRuns.{starts, begins_ok}
 use Rattle.one_thread.proofs.work.start.Goals as goal

@@ -1,5 +1,4 @@
-use Rattle.std.proofs.Common.{◌≡◌, ◌∙◌, sym, ap, rules, ◌++◌, [], ◌∷◌}
-use Rattle.one_thread.specs.inner.Remaining.{left_of, around_of}
+use Rattle.std.proofs.Common.{◌∙◌, rules}
 use Rattle.one_thread.proofs.Lefts.{left-popped, none-below}
 use Rattle.one_thread.proofs.left.Left.first.Goals as goal
 

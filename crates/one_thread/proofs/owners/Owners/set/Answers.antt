@@ -1,4 +1,4 @@
-use Rattle.std.proofs.Common.{arith, rules, ◌<◌, length}
+use Rattle.std.proofs.Common.{rules, ◌<◌, length}
 use Rattle.one_thread.proofs.Looking.{get-at}
 use Rattle.one_thread.proofs.Holds.{handed}
 use Rattle.one_thread.proofs.owners.Owners.set.Goals as goal

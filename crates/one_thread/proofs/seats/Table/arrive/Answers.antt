@@ -1,7 +1,6 @@
-use Rattle.std.proofs.Common.{◌≡◌, ◌∙◌, sym, ap, refl, arith, rules, length, map, set, ◌<◌}
+use Rattle.std.proofs.Common.{◌∙◌, ap, refl, arith, rules, map}
 use Rattle.std.specs.Vec.{with_item, with_items}
 use Rattle.std.proofs.lemmas.List.{with_items_is}
-use Rattle.task_ast.specs.Turn.{met, arrived}
 use Rattle.one_thread.specs.inner.View.{table_of, seat_of}
 use Rattle.one_thread.proofs.Looking.{get-at}
 use Rattle.one_thread.proofs.Turning.{arrived-is, met-released, met-not}

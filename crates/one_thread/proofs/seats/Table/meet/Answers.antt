@@ -1,9 +1,6 @@
-use Rattle.std.proofs.Common.{◌≡◌, ◌∙◌, sym, ap, refl, arith, rules, length, ◌<◌}
-use Rattle.one_thread.specs.inner.View.{table_of}
+use Rattle.std.proofs.Common.{◌∙◌, sym, rules, length, ◌<◌}
 use Rattle.one_thread.proofs.Looking.{get-at}
 use Rattle.one_thread.proofs.Turning.{HasCome, come-by, come-not, next-there, meets-goes, meets-waits, goes-on}
-use Rattle.task_ast.specs.declared.sync.SyncOp.TheVariants as sync
-use Rattle.task_ast.specs.Turn.{tried, issuing}
 use Rattle.one_thread.proofs.seats.Table.meet.Goals as goal
 use Rattle.one_thread.proofs.seats.Table.meet.Goals.{then-is_away, else-is_away}
 

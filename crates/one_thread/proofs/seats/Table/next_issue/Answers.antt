@@ -1,9 +1,9 @@
-use Rattle.std.proofs.Common.{◌≡◌, ◌∙◌, sym, ap}
+use Rattle.std.proofs.Common.{◌∙◌, ap}
 use Rattle.gp_base.specs.declared.ending.End.TheVariants.{Finished}
-use Rattle.task_ast.specs.Repeat.{More, go_on}
+use Rattle.task_ast.specs.Repeat.{go_on}
 use Rattle.task_ast.specs.Turn.{Ended, turn, turns_left, next_issue}
 use Rattle.task_ast.proofs.Turns.{turn-IsFalling, next_issue_step}
-use Rattle.one_thread.specs.inner.View.{table_of, gives, gave}
+use Rattle.one_thread.specs.inner.View.{table_of, gives}
 use Rattle.one_thread.proofs.Turning.{last-turn}
 use Rattle.one_thread.proofs.seats.Table.next_issue.Goals as goal
 

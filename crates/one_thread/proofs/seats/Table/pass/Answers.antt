@@ -1,8 +1,4 @@
-use Rattle.std.proofs.Common.{◌≡◌, sym, ap, refl, true, Some, ◌∙◌, set}
-use Rattle.task_ast.specs.Repeat.{More}
-use Rattle.task_ast.specs.Table.{with_nth}
-use Rattle.one_thread.specs.inner.View.{table_of, seat_of}
-use Rattle.one_thread.proofs.Looking.{get-at, token-after}
+use Rattle.one_thread.proofs.Looking.{get-at}
 use Rattle.one_thread.proofs.Changing.{passed-as}
 use Rattle.one_thread.proofs.seats.Table.pass.Goals as goal
 

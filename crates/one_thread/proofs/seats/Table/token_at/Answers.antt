@@ -1,4 +1,4 @@
-use Rattle.std.proofs.Common.{◌≡◌, ◌∙◌, ap, rules}
+use Rattle.std.proofs.Common.{◌∙◌, ap, rules}
 use Rattle.one_thread.specs.inner.View.{table_of, look_of}
 use Rattle.one_thread.proofs.Looking.{look-first, look-second}
 use Rattle.one_thread.proofs.seats.Table.token_at.Goals as goal

@@ -1,5 +1,4 @@
-use Rattle.std.proofs.Common.{◌≡◌, ◌∙◌, sym, ap, refl, arith, rules, Some, w64, SFits}
-use Rattle.std.specs.Prelude.{slice_get}
+use Rattle.std.proofs.Common.{◌∙◌, sym, ap, rules, w64, SFits}
 use Rattle.std.proofs.lemmas.Int.{to_z-of_z}
 use Rattle.gp_base.specs.declared.ending.End.TheVariants.{Spent}
 use Rattle.task_ast.specs.declared.sync.SyncOp.TheVariants as sync

@@ -1,5 +1,4 @@
-use Rattle.std.proofs.Common.{◌≡◌, ◌∙◌, ap, sym, refl, subst, rules, length}
-use Rattle.task_ast.specs.declared.sync.SyncOp.TheVariants as sync
+use Rattle.std.proofs.Common.{◌≡◌, sym, subst, rules, length}
 use Rattle.one_thread.specs.inner.Runs.{Forks, IsNew}
 use Rattle.one_thread.proofs.threads.Run.add.Goals as goal
 

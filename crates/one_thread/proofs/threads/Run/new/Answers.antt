@@ -1,4 +1,4 @@
-use Rattle.std.proofs.Common.{◌≡◌, ◌∙◌, ap, sym, refl, rules, map, length, unwrap_or, replicate, zip, None, pos, [], ◌∷◌, position, ◌++◌}
+use Rattle.std.proofs.Common.{◌≡◌, ◌∙◌, ap, refl, map, length, unwrap_or, replicate, zip, None, pos, [], ◌∷◌, position, ◌++◌}
 use Rattle.task_ast.specs.declared.tree.TaskText.{TaskText}
 use Rattle.task_ast.specs.Names.{records_of, feeds_of, barriers_of, cells_in, locks_of, is_name}
 use Rattle.task_ast.specs.Declarations.{main}

@@ -1,4 +1,4 @@
-use Rattle.std.proofs.Common.{◌≡◌, ◌≤◌, ◌∙◌, ap, sym, refl, subst, rules, SFits, w64}
+use Rattle.std.proofs.Common.{◌≤◌, ◌∙◌, ap, sym, refl, subst, rules, SFits, w64}
 use Rattle.std.proofs.lemmas.Int.{to_z-of_z}
 use Rattle.task_ast.specs.Names.{locks_of, records_of, cells_in}
 use Rattle.one_thread.specs.inner.Subthreads.{RanWith}

@@ -1,12 +1,10 @@
-use Rattle.std.proofs.Common.{◌≡◌, rules, sym, true, false, ◌∙◌, ap, subst}
-use Rattle.std.specs.Prelude.{is_some}
+use Rattle.std.proofs.Common.{rules, sym, ap, subst}
 use Rattle.task_ast.specs.Names.{registers_of}
 use Rattle.task_ast.specs.Control.{action, going, step_at}
 use Rattle.task_ast.specs.View.{plain_what, plain_task}
 use Rattle.one_thread.specs.inner.Remaining.{rest_of}
 use Rattle.one_thread.specs.inner.Working.{setting_in, Works}
-use Rattle.one_thread.specs.inner.Walking.{setting_of, point_of, LeadsTo, Stepped}
-use Rattle.one_thread.specs.declared.walk.Went.TheVariants as went
+use Rattle.one_thread.specs.inner.Walking.{setting_of, point_of, Stepped}
 use Rattle.one_thread.proofs.Steps.{acted, unacted}
 use Rattle.one_thread.proofs.walk.Walk.act.Goals as goal
 

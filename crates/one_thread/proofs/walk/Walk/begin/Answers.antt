@@ -1,10 +1,10 @@
-use Rattle.std.proofs.Common.{◌≡◌, ◌∙◌, ap, sym, refl, rules, Some, None, w64, SFits}
+use Rattle.std.proofs.Common.{◌∙◌, ap, sym, refl, rules, w64, SFits}
 use Rattle.std.proofs.lemmas.Int.{to_z-of_z}
 use Rattle.task_ast.specs.Tree as plain
 use Rattle.task_ast.specs.View.{plain_expr, plain_exprs, plain_what, plain_block}
 use Rattle.task_ast.proofs.Views.{what_SetCtl, what_While, what_If, what_Lock, what_Unlock, what_Fork, what_Join, what_Barrier, what_SetReg, what_Read, what_Write, what_Print, what_When}
 use Rattle.one_thread.proofs.Walks.{with_left}
-use Rattle.one_thread.proofs.Beginning.{plainly_begun, join_begun, fork_begun, begun_first}
+use Rattle.one_thread.proofs.Beginning.{plainly_begun, fork_begun, begun_first}
 use Rattle.one_thread.proofs.walk.Walk.begin.Goals as goal
 
 pub returns-in-SetCtl : goal.returns-in-SetCtl

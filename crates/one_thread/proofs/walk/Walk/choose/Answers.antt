@@ -1,4 +1,4 @@
-use Rattle.std.proofs.Common.{◌≡◌, ◌++◌, rules, sym, refl, SFits, w64, ◌∙◌, ap}
+use Rattle.std.proofs.Common.{◌++◌, rules, sym, refl, SFits, w64, ◌∙◌, ap}
 use Rattle.std.proofs.lemmas.Int.{to_z-of_z}
 use Rattle.task_ast.specs.View.{plain_expr, plain_stmts}
 use Rattle.one_thread.proofs.Steps.{first_taken, second_taken}

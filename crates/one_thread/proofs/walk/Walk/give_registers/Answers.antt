@@ -1,6 +1,5 @@
-use Rattle.std.proofs.Common.{◌≡◌, ◌∙◌, ap, sym, subst, rules, Some, None, ◌<◌, length, get_or, true, false, arith, position, List}
-use Rattle.std.specs.Prelude.{is_some, slice_get, replicate, pos, ℤ}
-use Rattle.task_ast.specs.Tree.{Name}
+use Rattle.std.proofs.Common.{◌≡◌, rules, Some, None, ◌<◌, length, get_or, true, false, position}
+use Rattle.std.specs.Prelude.{is_some, replicate, pos}
 use Rattle.task_ast.specs.Names.{is_name, registers_of}
 use Rattle.task_ast.specs.Control.{control_arguments, data_arguments}
 use Rattle.task_ast.specs.View.{plain_exprs, plain_task}

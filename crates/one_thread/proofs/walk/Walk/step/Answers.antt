@@ -1,4 +1,4 @@
-use Rattle.std.proofs.Common.{◌≡◌, ◌∙◌, ap, sym, subst, refl, rules, Some, None, w64, SFits}
+use Rattle.std.proofs.Common.{◌∙◌, ap, sym, subst, refl, rules, w64, SFits}
 use Rattle.std.specs.Prelude.{IsTrue, ◌∷◌}
 use Rattle.std.proofs.lemmas.Int.{to_z-of_z}
 use Rattle.task_ast.specs.declared.sync.SyncOp.TheVariants as sync

@@ -1,5 +1,3 @@
-use Rattle.std.proofs.Common.{◌≡◌, ◌∙◌, ap, subst, sym}
-use Rattle.one_thread.specs.inner.Walking.{setting_of, point_of, Stepped}
 use Rattle.one_thread.proofs.Walks.{came-step, came-halt, halted, step-less}
 use Rattle.one_thread.proofs.walk.Walk.stretch.Goals as goal
 

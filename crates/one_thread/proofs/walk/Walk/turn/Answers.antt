@@ -1,7 +1,5 @@
-use Rattle.std.proofs.Common.{◌≡◌, Some, rules, sym, SFits, w64, false, pos, ◌∙◌}
-use Rattle.std.specs.Ordering.{int_eq}
+use Rattle.std.proofs.Common.{rules, sym, SFits, w64}
 use Rattle.std.proofs.lemmas.Int.{to_z-of_z}
-use Rattle.task_ast.specs.Value.{value}
 use Rattle.task_ast.specs.View.{plain_expr}
 use Rattle.one_thread.proofs.Steps.{turn_found}
 use Rattle.one_thread.proofs.walk.Walk.turn.Goals as goal
