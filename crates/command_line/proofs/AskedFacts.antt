@@ -5,7 +5,6 @@ use Rattle.clap.specs.Words.{App, Kinds, Text, fault_of, is_simple_and_free, mat
 use Rattle.clap.specs.declared.parser.matches.ArgMatches.{ArgMatches}
 use Rattle.command_line.specs.Arguments.{IsParsedAs, is_faultless}
 use Rattle.command_line.specs.Words.{texts, named_verb, app_for, asked_in, asked_of, asked_by}
-use Rattle.command_line.specs.declared.asked.Asked.{Asked}
 use Rattle.command_line.specs.declared.asked.Verb.{Verb}
 use Rattle.command_line.specs.declared.asked.Verb.TheVariants.{Run, One, Check, Soak}
 

@@ -1,6 +1,6 @@
 -- The places that a footprint lets its subthread write and read, and the members of a fold that keep to them.
-use Rattle.std.specs.Prelude.{◌≡◌, ◌⊎◌, ℕ, ℤ, Bool, true, List, [], Contains, Some, option_map, unwrap_or, position, slice_get, slice_index_or}
-use Rattle.std.specs.List.{list_any, list_all}
+use Rattle.std.specs.Prelude.{◌≡◌, ◌⊎◌, ℕ, ℤ, Bool, true, List, Contains, option_map, unwrap_or, position}
+use Rattle.std.specs.List.{list_all}
 use Rattle.gp_base.specs.declared.footprint.Loc.{Loc}
 use Rattle.gp_base.specs.declared.footprint.Loc.TheVariants as loc
 use Rattle.gp_base.specs.declared.footprint.Footprint.{Footprint}
