@@ -5,7 +5,7 @@ ghost use Rattle.subthread.specs.Tasks.{Suits};
 use crate::batch::read_batch;
 use crate::plan::{Begins, Plan, plan_of};
 use crate::tests::{ADD, alone, shelf_of, sink_of, words_of};
-use crate::work::runs;
+use crate::work::{Batch, runs};
 use crew::{Crew, ScriptCrew};
 use engine::drive;
 use gp_base::{Event, Pos, Seq};
@@ -59,13 +59,17 @@ fn plan_of_adders(alloc: Global) -> Result<Plan, Fail>
 {
     let words = words_of(alloc, "run p.gp")?;
     let mut shelf = shelf_of(alloc, alone(ADD), 0)?;
-    match read_batch(alloc, &words, &mut shelf) {
-        Ok(batch) if runs(batch.asked.command) => {
-            let limits = batch.asked.limits;
-            Ok(plan_of(alloc, &batch.checked, batch.inputs, batch.faults, limits)?)
-        }
-        _ => Err(Fail::from("the program was not read")),
-    }
+    let batch = match read_batch(alloc, &words, &mut shelf) {
+        Ok(batch) if runs(batch.asked.command) => batch,
+        _ => return Err(Fail::from("the program was not read")),
+    };
+    let Batch {
+        asked,
+        checked,
+        inputs,
+        faults,
+    } = batch;
+    Ok(plan_of(alloc, &checked, inputs, faults, asked.limits)?)
 }
 
 #[test]
