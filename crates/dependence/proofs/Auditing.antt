@@ -42,9 +42,9 @@ none-decides (Some p) = (λ e. absurd (false≢true e), λ e. absurd (cc e))
 le-decides : (a b : ℕ) → Decides (nat_le a b) (a ≤ b)
 le-decides a b = (leb-true a b, le-leb a b)
 
-implies-decides : (a b : Bool) → Decides (not a || b) (a ≡ true → b ≡ true)
-implies-decides true b = (λ e _. e, λ h. h refl)
-implies-decides false b = (λ _ e. absurd (false≢true e), λ _. refl)
+implies-decides : {P : Type 0} (a b : Bool) → Decides b P → Decides (not a || b) (a ≡ true → P)
+implies-decides true b h = (λ e _. h.0 e, λ f. h.1 (f refl))
+implies-decides false b h = (λ _ e. absurd (false≢true e), λ _. refl)
 
 true-decides : (b : Bool) → Decides b (b ≡ true)
 true-decides b = (λ e. e, λ e. e)
@@ -67,11 +67,12 @@ module _ (dependence : Dependence) (faults : List Fault) where
   pub allowed-decides : (at : Stage) (event : Event) → Decides (is_allowed dependence faults at event) (Allowed dependence faults at event)
   allowed-decides at (event.Issue p) =
       Decides-like _
-      (λ h. record { next = h.0; left = h.1.0; none_due = h.1.1.0; follows = h.1.1.1 })
-      (λ may. (may.next, (may.left, (may.none_due, may.follows))))
+      (λ h. record { next = h.0; left = h.1.0; none_due = h.1.1.0; follows = h.1.1.1.0; settled = h.1.1.1.1 })
+      (λ may. (may.next, (may.left, (may.none_due, (may.follows, may.settled)))))
       (Decides-and _ _ (Decides-eqb p at.progress.front)
       (Decides-and _ _ (Decides-ltb p dependence.count)
-      (Decides-and _ _ (none-decides (least_struck (is_due at.progress) faults)) (follow-decides at (dependence.before p)))))
+      (Decides-and _ _ (none-decides (least_struck (is_due at.progress) faults))
+      (Decides-and _ _ (follow-decides at (dependence.before p)) (implies-decides (dependence.settles p) (nat_eq at.retired p) (Decides-eqb at.retired p))))))
   allowed-decides at (event.Post p attempt) =
       Decides-like _
       (λ h. record { issued = h.0; unretired = h.1.0; present = h.1.1.0; unposted = h.1.1.1.0; ready = h.1.1.1.1 })
@@ -87,7 +88,7 @@ module _ (dependence : Dependence) (faults : List Fault) where
       ready : Decides (all_below passes p) ((earlier : ℕ) → earlier < p → dependence.clash earlier p ≡ true → at.applied earlier ≡ true)
       ready =
           Decides-below_and passes (λ earlier. dependence.clash earlier p ≡ true → at.applied earlier ≡ true) (all_below passes)
-          (λ earlier. implies-decides (dependence.clash earlier p) (at.applied earlier)) refl (λ _. refl) p
+          (λ earlier. implies-decides (dependence.clash earlier p) (at.applied earlier) (true-decides (at.applied earlier))) refl (λ _. refl) p
   allowed-decides at (event.Take p attempt applies) =
       Decides-like _
       (λ h. record { posted = h.0; untaken = h.1.0; decided = h.1.1 })

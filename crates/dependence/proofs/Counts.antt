@@ -13,15 +13,17 @@ use Rattle.gp_base.specs.declared.journal.Event.{Event}
 use Rattle.gp_base.specs.declared.journal.Event.TheVariants as event
 use Rattle.gp_base.specs.declared.journal.Restart.{Restart}
 use Rattle.task_ast.specs.Table.{numbers}
-use Rattle.dependence.specs.Restarts.{Dependence, RedoesStruck, redoes, attempt_of, struck_next, restarts}
+use Rattle.dependence.specs.Restarts.{Dependence, RedoesStruck, redoes, attempt_of, struck_next, restart_of, restarts}
 use Rattle.dependence.specs.Journal.{Stage, initial_stage, Allowed, happens, restarted, LawfulFrom, Lawful, stage_from, stage, Complete}
 use Rattle.dependence.specs.JournalTests.{same_attempt}
 use Rattle.dependence.specs.Counts.{is_issue, is_restart, retirements, posts, takes, HasAll}
 use Rattle.dependence.proofs.Auditing.{same_attempt-decides, contains-decides}
 use Rattle.task_ast.proofs.Counting.{count-cons}
 use Rattle.dependence.proofs.Counting.{passing-at}
-use Rattle.dependence.proofs.Journals.{restarts-first, restarts-next, restarts-all}
-use Rattle.dependence.proofs.RestartEnds.{few-restarts}
+use Rattle.dependence.specs.Standing.{KeepsClean}
+use Rattle.dependence.specs.Measure.{is_unused}
+use Rattle.dependence.proofs.Journals.{restarts-next, restarts-all}
+use Rattle.dependence.proofs.RestartEnds.{struck-falls-next}
 
 module _ (dependence : Dependence) (faults : List Fault) where
   -- each issue moves the front, each restart is made and each retirement counted
@@ -137,6 +139,28 @@ module _ (dependence : Dependence) (faults : List Fault) where
       passing-at (redoes p) (stage dependence faults events).progress.made attempt (omega arith)
 
   module _ (held : RedoesStruck dependence) where
+    -- each restart used up a fault
+    abbrev Few : Stage → Type 0
+    Few at = length at.progress.made + count_by (is_unused at.progress.made) faults ≤ length faults
+
+    few-restarted : (at : Stage) (o : Option ℕ) → struck_next dependence faults at.progress ≡ o → Few at → Few (restarted dependence at o)
+    few-restarted at None e few = few
+    few-restarted at (Some p) e few =
+        let less = struck-falls-next dependence held faults at.progress p e in
+        let n = length-append at.progress.made (restart_of dependence at.progress p ∷ []) in
+        omega arith
+
+    few-happens : (at : Stage) (e : Event) → Few at → Few (happens dependence faults at e)
+    few-happens at (event.Issue p) few = few
+    few-happens at (event.Post p attempt) few = few
+    few-happens at (event.Take p attempt applies) few = few
+    few-happens at (event.Restart number) few = few-restarted at (struck_next dependence faults at.progress) refl few
+    few-happens at (event.Retire p) few = few
+
+    few-from : (at : Stage) (events : List Event) → LawfulFrom dependence faults at events → Few at → Few (stage_from dependence faults at events)
+    few-from at [] lawful few = few
+    few-from at (e ∷ rest) lawful few = few-from (happens dependence faults at e) rest lawful.1 (few-happens at e few)
+
     pub few-attempts : (events : List Event) → Lawful dependence faults events
         → (length (stage dependence faults events).progress.made ≤ length faults) × ((p : ℕ) → attempt_of (stage dependence faults events).progress.made p ≤ length faults)
     few-attempts events lawful = (few, λ p. let most = count_by-le-length (redoes p) made in omega (arith, few))
@@ -145,12 +169,9 @@ module _ (dependence : Dependence) (faults : List Fault) where
         made = (stage dependence faults events).progress.made
 
         few : length made ≤ length faults
-        few =
-            let first = restarts-first dependence faults held events lawful in
-            let all = few-restarts dependence held faults in
-            let sum = ap length first.1 ∙ length-append made first.0 in
-            omega arith
+        few = let h = few-from initial_stage events lawful (let n = count_by-le-length (is_unused []) faults in omega arith) in omega arith
 
+  module _ (clean : KeepsClean dependence faults) where
     pub complete-has_all : (events : List Event) → Complete dependence faults events ↔ HasAll dependence faults events
     complete-has_all events = (forward, backward)
       where
@@ -162,14 +183,14 @@ module _ (dependence : Dependence) (faults : List Fault) where
             let h = counted initial_stage events complete.lawful in
             let f = h.front_is in let m = h.made_is in let r = h.retired_is in
             let passed = complete.final.passed in let retired = complete.retired in
-            let made = ap length (restarts-all dependence faults held events complete) in
+            let made = ap length (restarts-all dependence faults clean events complete) in
             record { lawful = complete.lawful; issues = omega arith; restarts = omega arith; retirements = omega arith }
 
         none_left : Lawful dependence faults events → length at.progress.made ≡ length (restarts dependence faults) → (o : Option ℕ) → struck_next dependence faults at.progress ≡ o → o ≡ None
         none_left lawful all None e = refl
         none_left lawful all (Some p) e =
             absurd (subst (λ next. IsSomeAnd next (λ (restart : Restart). restart.front ≡ at.progress.front)) (slice_get_past (restarts dependence faults) (length at.progress.made) (omega arith))
-            ((restarts-next dependence faults held events lawful).0 (λ none. cc (sym e ∙ none))))
+            ((restarts-next dependence faults clean events lawful).0 (λ none. cc (sym e ∙ none))))
 
         backward : HasAll dependence faults events → Complete dependence faults events
         backward has =

@@ -7,7 +7,7 @@ use Rattle.gp_base.specs.declared.journal.Event.TheVariants.{Issue, Post, Take, 
 use Rattle.task_ast.specs.Body.{body, stretch}
 use Rattle.task_ast.specs.Repeat.{steps, repeated, until_done}
 use Rattle.task_ast.specs.Plain.{order}
-use Rattle.task_ast.proofs.RowPrograms.{empty_batch, two_adders}
+use Rattle.task_ast.proofs.RowPrograms.{empty_batch, two_adders, settling}
 use Rattle.task_ast.proofs.RunRows.{zeros, limits}
 use Rattle.dependence.specs.Restarts.{Dependence}
 use Rattle.dependence.specs.Journal.{Lawful, Complete}
@@ -67,3 +67,23 @@ posted_early = not_from_Decides _ (lawful-decides adders faults (up_to_fault ++ 
 retired_early : ¬ Lawful adders faults (runs 0 ++ Retire 0 ∷ [])
 unfolding steps body stretch until_done repeated
 retired_early = not_from_Decides _ (lawful-decides adders faults (runs 0 ++ Retire 0 ∷ [])) refl
+
+-- a settle comes when all before it have retired, and none of them damaged
+abbrev settler : Dependence
+settler = dependence_of (order settling (zeros 3) (limits 1000 20))
+
+abbrev early_fault : List Fault
+early_fault = record { pos = 1; attempt = 0; delay = 60; mask = pos 1 } ∷ []
+
+abbrev settled : List Event
+settled =
+    runs 0 ++ runs 1 ++ runs 2 ++ Restart 0 ∷ runs_again 1 ++ runs_again 2 ++ Retire 0 ∷ Retire 1 ∷ Retire 2 ∷ runs 3 ++ runs 4 ++ runs 5
+    ++ Retire 3 ∷ Retire 4 ∷ Retire 5 ∷ []
+
+settled_journal : Complete settler early_fault settled
+unfolding steps body stretch until_done repeated
+settled_journal = (complete-decides settler early_fault settled).0 refl
+
+settled_early : ¬ Lawful settler [] (runs 0 ++ runs 1 ++ runs 2 ++ Issue 3 ∷ [])
+unfolding steps body stretch until_done repeated
+settled_early = not_from_Decides _ (lawful-decides settler [] (runs 0 ++ runs 1 ++ runs 2 ++ Issue 3 ∷ [])) refl

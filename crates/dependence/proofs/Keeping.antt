@@ -62,6 +62,7 @@ joined_same (sync.Lock l) left right agree = refl
 joined_same (sync.Unlock l) left right agree = refl
 joined_same (sync.Fork t es) left right agree = refl
 joined_same (sync.Barrier b) left right agree = refl
+joined_same (sync.Settle register control) left right agree = refl
 joined_same sync.End left right agree = refl
 joined_same sync.BadIndex left right agree = refl
 joined_same sync.Spent left right agree = refl

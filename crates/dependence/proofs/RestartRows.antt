@@ -5,7 +5,7 @@ use Rattle.gp_base.specs.declared.journal.Restart.{Restart}
 use Rattle.task_ast.specs.Body.{body, stretch}
 use Rattle.task_ast.specs.Repeat.{steps, repeated, until_done}
 use Rattle.task_ast.specs.Plain.{Subthread, order}
-use Rattle.task_ast.proofs.RowPrograms.{two_adders, reader_and_adder}
+use Rattle.task_ast.proofs.RowPrograms.{two_adders, reader_and_adder, settling}
 use Rattle.task_ast.proofs.RunRows.{zeros, limits}
 use Rattle.dependence.specs.Runs.{restarts_of}
 
@@ -52,3 +52,8 @@ never_due = refl
 reader_struck : restarts_of (order reader_and_adder (zeros 1) (limits 1000 20)) (fault 4 0 3 1 ∷ []) ≡ restart 8 4 0 (4 ∷ 6 ∷ 7 ∷ []) ∷ []
 unfolding steps body stretch until_done repeated
 reader_struck = refl
+
+-- position 3 is a settle, so a fault is taken at its front whatever its delay
+due_at_the_settle : restarts_of (order settling (zeros 3) (limits 1000 20)) (fault 1 0 60 1 ∷ []) ≡ restart 3 1 0 (1 ∷ 2 ∷ []) ∷ []
+unfolding steps body stretch until_done repeated
+due_at_the_settle = refl

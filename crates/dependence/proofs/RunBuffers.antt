@@ -14,6 +14,7 @@ use Rattle.task_ast.specs.Effect.{effect}
 use Rattle.task_ast.specs.Plain.{Subthread, tree_machine, order, opening, last_state}
 use Rattle.task_ast.specs.Fold.{fold}
 use Rattle.task_ast.specs.Members.{member_of, member_in}
+use Rattle.task_ast.specs.Position.{before}
 use Rattle.task_ast.proofs.Positions.{fold_below, lines_are, last_is}
 use Rattle.task_ast.proofs.WholeFolds.{undamaged}
 use Rattle.dependence.specs.Conflict.{ClashIn, foot_at}
@@ -219,6 +220,16 @@ module _ (run : List Subthread) (faults : List Fault) where
   retired-fold at stands start p l =
       fold_members (members_at run faults at) (member_in run (λ q. pos 0)) start at.applied p (λ q m e. clean at stands q (omega arith))
       ∙ fold_all (member_in run (λ q. pos 0)) start at.applied p (λ q m. stands.retired_applied q (omega arith))
+
+-- where all that was issued has retired, the buffer holds the state of the plain run before the front
+pub drained-state : (program : Program) (inputs : Inputs) (limits : Limits) (faults : List Fault) (at : Stage) (buffer : Buffer)
+    → StageStands (dependence_of (order program inputs limits)) faults at → RunStands (order program inputs limits) faults (opening program inputs limits).state at buffer
+    → at.retired ≡ at.progress.front → buffer.state ≡ (before program inputs limits at.progress.front).state
+drained-state program inputs limits faults at buffer stands holds all =
+    let low = stands.front_low in
+    holds.state_is
+    ∙ (retired-fold (order program inputs limits) faults at stands (opening program inputs limits).state at.progress.front (omega arith)
+    ∙ fold_below (tree_machine program inputs limits) program inputs limits at.progress.front (omega arith))
 
 module _ (program : Program) (inputs : Inputs) (limits : Limits) (faults : List Fault) (short : AreShort faults) where
   abbrev run : List Subthread

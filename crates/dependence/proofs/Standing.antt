@@ -1,6 +1,6 @@
 -- What stands after a lawful journal, from any stage at which it stands.
-use Rattle.std.proofs.Common.{◌≡◌, inl, inr, ℕ, ◌+◌, ◌<◌, ◌≤◌, Bool, true, false, cond, List, [], ◌∷◌, ◌++◌, Contains, Option, Some, None, refl, sym, ap, subst, ◌∙◌, arith, nat_eq, nat_le, ◌&&◌, ◌||◌}
-use Rattle.std.proofs.lemmas.Bool.{false≢true, false_from_ne_true, both_ways, eqb-true, eq-eqb, le-leb, and_parts, and_from, or_right, cases_eq}
+use Rattle.std.proofs.Common.{◌≡◌, inl, inr, ℕ, ◌+◌, ◌<◌, ◌≤◌, Bool, true, false, cond, List, [], ◌∷◌, ◌++◌, Contains, Option, Some, None, refl, sym, ap, subst, ◌∙◌, arith, nat_eq, nat_lt, nat_le, ◌&&◌, ◌||◌}
+use Rattle.std.proofs.lemmas.Bool.{false≢true, false_from_ne_true, both_ways, eqb-true, eq-eqb, ne_eqb, ltb-true, le-leb, and_parts, and_from, or_right, cases_eq}
 use Rattle.std.proofs.lemmas.List.Elements.{All-contains, Contains-push_cases, Contains-push, Contains-append_left}
 use Rattle.gp_base.specs.declared.limits.TheConstants.{LONGEST_DELAY}
 use Rattle.gp_base.specs.declared.fault.Fault.{Fault}
@@ -8,14 +8,14 @@ use Rattle.gp_base.specs.declared.journal.Event.{Event}
 use Rattle.gp_base.specs.declared.journal.Event.TheVariants as event
 use Rattle.task_ast.specs.Plain.{Subthread}
 use Rattle.dependence.specs.Conflict.{clash_in}
-use Rattle.dependence.specs.Dependents.{IsDependent, is_member}
-use Rattle.dependence.specs.Restarts.{Dependence, begun_of, is_live, is_due, struck_next, restart_of}
+use Rattle.dependence.specs.Dependents.{IsDependent, itself, is_member}
+use Rattle.dependence.specs.Restarts.{Dependence, RedoesStruck, NoneLive, attempt_of, begun_of, is_live, is_due, least_struck, struck_next, restart_of}
 use Rattle.dependence.specs.Journal.{Stage, initial_stage, Allowed, happens, restarted, LawfulFrom, Lawful, stage_from, stage}
 use Rattle.dependence.specs.Runs.{feet_of, dependence_of}
-use Rattle.dependence.specs.Standing.{present, NamesAttempt, AreShort, RedoesConflicts, RedoesLater, StageStands, KeepsRetired}
+use Rattle.dependence.specs.Standing.{present, NamesAttempt, AreShort, RedoesConflicts, RedoesLater, StageStands, KeepsRetired, KeepsClean}
 use Rattle.dependence.proofs.DependentSets.{is_member-is, IsDependent-from, IsDependent-front, dependents-are}
 use Rattle.dependence.proofs.RestartEnds.{attempt-push}
-use Rattle.dependence.proofs.Struck.{none-among, struck-live, names-live}
+use Rattle.dependence.proofs.Struck.{none-among, none-left, struck-live, names-live}
 
 module _ (dependence : Dependence) (redoes_all : RedoesConflicts dependence) (faults : List Fault) (short : AreShort faults) where
   issue-stands : (at : Stage) (p : ℕ) → StageStands dependence faults at → Allowed dependence faults at (event.Issue p) → StageStands dependence faults (happens dependence faults at (event.Issue p))
@@ -224,6 +224,29 @@ keeps-retired dependence faults at later stands struck p e l redone =
     let low = later struck at.progress.front p redone in
     stands.retired_clean struck (omega arith) (struck-live dependence faults at.progress struck e).1
 
+-- where all that was issued has retired, no fault is live
+pub none-live : (dependence : Dependence) (faults : List Fault) (at : Stage) → StageStands dependence faults at → at.retired ≡ at.progress.front → NoneLive faults at.progress
+none-live dependence faults at stands all = none-left (is_live at.progress) faults (λ fault member. go fault member (is_live at.progress fault) refl)
+  where
+    go : (fault : Fault) → Contains faults fault → (b : Bool) → is_live at.progress fault ≡ b → b ≡ false
+    go fault member false e = refl
+    go fault member true e =
+        let l = and_parts (nat_lt fault.pos at.progress.front) (nat_eq fault.attempt (attempt_of at.progress.made fault.pos)) e in
+        let below : fault.pos < at.progress.front = ltb-true _ _ l.0 in
+        absurd (stands.retired_clean fault.pos (omega arith) (fault, member, refl, eqb-true _ _ l.1))
+
+-- nothing is struck where an issue is allowed
+pub issue-passes : (dependence : Dependence) (faults : List Fault) (at : Stage) (p : ℕ) → StageStands dependence faults at → Allowed dependence faults at (event.Issue p)
+    → struck_next dependence faults at.progress ≡ None
+issue-passes dependence faults at p stands allowed = rw (allowed.none_due, ne_eqb at.progress.front dependence.count apart) (go (dependence.settles at.progress.front) refl)
+  where
+    apart : at.progress.front ≡ dependence.count → ⊥
+    apart e = let same = allowed.next in let left = allowed.left in omega arith
+
+    go : (b : Bool) → dependence.settles at.progress.front ≡ b → cond (false || b) (least_struck (is_live at.progress) faults) None ≡ None
+    go false e = refl
+    go true e = none-live dependence faults at stands (allowed.settled (ap dependence.settles allowed.next ∙ e) ∙ allowed.next)
+
 module _ (run : List Subthread) where
   abbrev clash : ℕ → ℕ → Bool
   clash = clash_in (feet_of run)
@@ -240,6 +263,14 @@ module _ (run : List Subthread) where
 
   pub run-later : RedoesLater (dependence_of run)
   run-later struck front p h = IsDependent-from Clash struck front ((dependents-are clash struck front p).0 h)
+
+  run-struck : RedoesStruck (dependence_of run)
+  run-struck struck front l = (dependents-are clash struck front struck).1 (itself l)
+
+  -- a run keeps clean what has retired
+  pub run-clean : (faults : List Fault) → AreShort faults → KeepsClean (dependence_of run) faults
+  run-clean faults short =
+      record { struck = run-struck; conflicts = run-redoes; short = short; retired = λ at. keeps-retired (dependence_of run) faults at run-later }
 
   pub run-stands : (faults : List Fault) (events : List Event) → AreShort faults → Lawful (dependence_of run) faults events
       → StageStands (dependence_of run) faults (stage (dependence_of run) faults events)

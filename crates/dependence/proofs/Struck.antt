@@ -1,7 +1,7 @@
 -- Faults that are struck.
 use Rattle.std.proofs.Common.{◌≡◌, inl, inr, ℕ, zero, suc, ◌<◌, min, Bool, true, false, cond, List, [], ◌∷◌, length, Contains, Option, Some, None, refl, sym, ap, ◌∙◌, arith, nat_eq, nat_lt, get_or}
 use Rattle.std.specs.Option.{option_or, option_map_or}
-use Rattle.std.proofs.lemmas.Bool.{eqb-true, eq-eqb, ltb-true, lt-ltb, and_parts, and_from, cases_eq}
+use Rattle.std.proofs.lemmas.Bool.{both_ways, eqb-true, eq-eqb, ltb-true, lt-ltb, and_parts, and_from, cases_eq}
 use Rattle.std.proofs.lemmas.List.Elements.{Contains-append_left, Contains-append_right}
 use Rattle.gp_base.specs.declared.fault.Fault.{Fault}
 use Rattle.dependence.specs.Restarts.{Dependence, Progress, drains, attempt_of, is_live, is_due, least_struck, struck_next}
@@ -57,6 +57,14 @@ none-struck test (x ∷ xs) e (suc j) d l = go (test x) refl e (λ f. none-struc
 
 pub none-among : (test : Fault → Bool) (faults : List Fault) (fault : Fault) → least_struck test faults ≡ None → Contains faults fault → test fault ≡ false
 none-among test faults fault e h = ap test (sym h.2) ∙ none-struck test faults e h.0 fault h.1
+
+-- where no fault passes, no position is struck
+pub none-left : (test : Fault → Bool) (faults : List Fault) → ((fault : Fault) → Contains faults fault → test fault ≡ false) → least_struck test faults ≡ None
+none-left test faults none = go (least_struck test faults) refl
+  where
+    go : (o : Option ℕ) → least_struck test faults ≡ o → o ≡ None
+    go None e = refl
+    go (Some p) e = let s = struck-by test faults p e in absurd (both_ways (test s.0) (none s.0 s.1) s.2)
 
 -- the position that is struck next has a live fault
 pub struck-live : (dependence : Dependence) (faults : List Fault) (at : Progress) (p : ℕ) → struck_next dependence faults at ≡ Some p

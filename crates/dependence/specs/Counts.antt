@@ -9,6 +9,7 @@ use Rattle.task_ast.specs.Table.{numbers}
 use Rattle.dependence.specs.Restarts.{Dependence, RedoesStruck, redoes, attempt_of, restarts}
 use Rattle.dependence.specs.Journal.{Lawful, Complete, stage}
 use Rattle.dependence.specs.JournalTests.{same_attempt}
+use Rattle.dependence.specs.Standing.{KeepsClean}
 
 abbrev pub is_issue : Event → Bool
 is_issue (event.Issue p) = true
@@ -46,7 +47,7 @@ pub record HasAll (dependence : Dependence) (faults : List Fault) (events : List
 -- a journal is complete exactly where it has all
 abbrev pub CompleteLaw : Type 0
 CompleteLaw =
-    (dependence : Dependence) (faults : List Fault) (events : List Event) → RedoesStruck dependence
+    (dependence : Dependence) (faults : List Fault) (events : List Event) → KeepsClean dependence faults
     → Complete dependence faults events ↔ HasAll dependence faults events
 
 -- positions retire in order, from 0

@@ -42,6 +42,8 @@ pub record MayIssue (dependence : Dependence) (faults : List Fault) (at : Stage)
   pub left : p < dependence.count
   pub none_due : NoneDue faults at.progress
   pub follows : MayFollow at (dependence.before p)
+  -- a settle only where all before it have retired
+  pub settled : dependence.settles p ≡ true → at.retired ≡ p
 
 -- an attempt of p may be posted
 pub record MayPost (dependence : Dependence) (at : Stage) (p attempt : ℕ) : Type 0 where

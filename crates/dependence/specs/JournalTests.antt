@@ -30,7 +30,8 @@ may_follow at (Some earlier) = list_any (λ pair. nat_eq earlier pair.0) at.take
 -- `Allowed` as a test
 abbrev pub is_allowed : Dependence → List Fault → Stage → Event → Bool
 is_allowed dependence faults at (event.Issue p) =
-    nat_eq p at.progress.front && (nat_lt p dependence.count && (none_due faults at.progress && may_follow at (dependence.before p)))
+    nat_eq p at.progress.front && (nat_lt p dependence.count && (none_due faults at.progress
+    && (may_follow at (dependence.before p) && (not (dependence.settles p) || nat_eq at.retired p))))
 is_allowed dependence faults at (event.Post p attempt) =
     nat_lt p at.progress.front && (nat_le at.retired p && (nat_eq attempt (attempt_of at.progress.made p)
     && (not (list_any (same_attempt (p, attempt)) at.posted) && all_below (λ earlier. not (dependence.clash earlier p) || at.applied earlier) p)))

@@ -13,6 +13,7 @@ use Rattle.dependence.specs.Dependents.{IsDependent, is_member, dependents, Mark
 use Rattle.dependence.specs.Restarts.{Dependence, RedoesStruck, redoes, attempt_of, begun_of, struck_next, progress, IsFinal, restarts}
 use Rattle.dependence.specs.Journal.{Allowed, happens, Lawful, Complete, stage}
 use Rattle.dependence.specs.JournalTests.{is_lawful, is_complete}
+use Rattle.dependence.specs.Standing.{KeepsClean}
 use Rattle.dependence.specs.Runs.{dependence_of}
 
 -- the test says when two footprints are in conflict
@@ -76,13 +77,13 @@ RestartsEndLaw =
 -- the restarts of a lawful list are the first of all restarts
 abbrev pub RestartsFirstLaw : Type 0
 RestartsFirstLaw =
-    (dependence : Dependence) (faults : List Fault) (events : List Event) → RedoesStruck dependence → Lawful dependence faults events
+    (dependence : Dependence) (faults : List Fault) (events : List Event) → KeepsClean dependence faults → Lawful dependence faults events
     → (rest : List Restart) × (restarts dependence faults ≡ (stage dependence faults events).progress.made ++ rest)
 
 -- a complete list has all restarts
 abbrev pub RestartsAllLaw : Type 0
 RestartsAllLaw =
-    (dependence : Dependence) (faults : List Fault) (events : List Event) → RedoesStruck dependence → Complete dependence faults events
+    (dependence : Dependence) (faults : List Fault) (events : List Event) → KeepsClean dependence faults → Complete dependence faults events
     → (stage dependence faults events).progress.made ≡ restarts dependence faults
 
 -- one more restart raises the attempts of those that it redoes, and they begin at its front
@@ -95,7 +96,7 @@ RaiseLaw =
 -- a restart may come next in a lawful list exactly where the next of all restarts has the present front
 abbrev pub RestartsNextLaw : Type 0
 RestartsNextLaw =
-    (dependence : Dependence) (faults : List Fault) (events : List Event) → RedoesStruck dependence → Lawful dependence faults events
+    (dependence : Dependence) (faults : List Fault) (events : List Event) → KeepsClean dependence faults → Lawful dependence faults events
     → let at = (stage dependence faults events).progress in
     (struck_next dependence faults at ≢ None) ↔ IsSomeAnd (slice_get (restarts dependence faults) (length at.made)) (λ restart. restart.front ≡ at.front)
 

@@ -1,5 +1,5 @@
 -- The restarts that a list of faults makes of a run.
-use Rattle.std.specs.Prelude.{◌≡◌, ℕ, zero, suc, ◌+◌, ◌<◌, min, Bool, ◌&&◌, cond, nat_eq, nat_lt, nat_le, ℤ, pos, List, [], ◌∷◌, ◌++◌, length, count_by, Contains, Option, Some, None}
+use Rattle.std.specs.Prelude.{◌≡◌, ℕ, zero, suc, ◌+◌, ◌<◌, min, Bool, ◌&&◌, ◌||◌, cond, nat_eq, nat_lt, nat_le, ℤ, pos, List, [], ◌∷◌, ◌++◌, length, count_by, Contains, Option, Some, None}
 use Rattle.std.specs.Option.{option_or, option_map_or}
 use Rattle.gp_base.specs.declared.fault.Fault.{Fault}
 use Rattle.gp_base.specs.declared.journal.Restart.{Restart}
@@ -15,14 +15,16 @@ pub record Dependence : Type 0 where
   pub redo : (struck front : ℕ) → List ℕ
   -- the position of the same thread's subthread before
   pub before : (position : ℕ) → Option ℕ
+  -- whether a position begins with a settle
+  pub settles : (position : ℕ) → Bool
 
 -- a position that is struck is redone itself
 abbrev pub RedoesStruck : Dependence → Type 0
 RedoesStruck dependence = (struck front : ℕ) → struck < front → Contains (dependence.redo struck front) struck
 
--- whether the front drains: the run is at its end, so that a fault is taken whatever its delay
+-- whether the front drains: the run is at its end, or a settle comes next, so that a fault is taken whatever its delay
 abbrev pub drains : Dependence → ℕ → Bool
-drains dependence front = nat_eq front dependence.count
+drains dependence front = nat_eq front dependence.count || dependence.settles front
 
 -- whether a restart redoes the position
 abbrev pub redoes : ℕ → Restart → Bool

@@ -8,6 +8,7 @@ use Rattle.gp_base.specs.declared.journal.Event.TheVariants as event
 use Rattle.task_ast.specs.Tree.{Program}
 use Rattle.task_ast.specs.State.{State}
 use Rattle.task_ast.specs.Plain.{Subthread, order, opening, last_state}
+use Rattle.task_ast.specs.Position.{before}
 use Rattle.task_ast.specs.Fold.{Member}
 use Rattle.task_ast.specs.Members.{member_in}
 use Rattle.dependence.specs.Conflict.{ClashIn, foot_at}
@@ -90,6 +91,14 @@ RetiredLinesLaw =
     → let run = order program inputs limits in
     AreShort faults → StageStands (dependence_of run) faults at → RunStands run faults (opening program inputs limits).state at buffer
     → MayRetire (dependence_of run) faults at p → slice_get run p ≡ Some s → buffer.lines p ≡ s.lines
+
+-- where all that was issued has retired, the buffer holds the state of the plain run before the front
+abbrev pub DrainedStateLaw : Type 0
+DrainedStateLaw =
+    (program : Program) (inputs : Inputs) (limits : Limits) (faults : List Fault) (at : Stage) (buffer : Buffer)
+    → let run = order program inputs limits in
+    StageStands (dependence_of run) faults at → RunStands run faults (opening program inputs limits).state at buffer
+    → at.retired ≡ at.progress.front → buffer.state ≡ (before program inputs limits at.progress.front).state
 
 -- a complete journal leaves the state of the plain run
 abbrev pub FinalStateLaw : Type 0

@@ -1,11 +1,12 @@
 -- What stands after the events of a lawful journal.
-use Rattle.std.specs.Prelude.{◌≡◌, ℕ, ◌+◌, ◌≤◌, ◌<◌, true, List, All, Contains, Some}
+use Rattle.std.specs.Prelude.{◌≡◌, ℕ, ◌+◌, ◌≤◌, ◌<◌, true, List, All, Contains, Some, None}
 use Rattle.gp_base.specs.declared.limits.TheConstants.{LONGEST_DELAY}
 use Rattle.gp_base.specs.Faults.{IsInRange}
 use Rattle.gp_base.specs.declared.fault.Fault.{Fault}
 use Rattle.gp_base.specs.declared.journal.Event.{Event}
+use Rattle.gp_base.specs.declared.journal.Event.TheVariants as event
 use Rattle.task_ast.specs.Plain.{Subthread}
-use Rattle.dependence.specs.Restarts.{Dependence, attempt_of, begun_of, struck_next}
+use Rattle.dependence.specs.Restarts.{Dependence, RedoesStruck, NoneLive, attempt_of, begun_of, struck_next}
 use Rattle.dependence.specs.Journal.{Stage, initial_stage, Allowed, happens, LawfulFrom, Lawful, stage_from, stage}
 use Rattle.dependence.specs.Runs.{dependence_of}
 
@@ -57,6 +58,13 @@ abbrev pub KeepsRetired : Dependence → List Fault → Stage → Type 0
 KeepsRetired dependence faults at =
     (struck p : ℕ) → struck_next dependence faults at.progress ≡ Some struck → p < at.retired → ¬ Contains (dependence.redo struck at.progress.front) p
 
+-- what restarts redo, and delays, are such that what has retired stays clean
+pub record KeepsClean (dependence : Dependence) (faults : List Fault) : Type 0 where
+  pub struck : RedoesStruck dependence
+  pub conflicts : RedoesConflicts dependence
+  pub short : AreShort faults
+  pub retired : (at : Stage) → StageStands dependence faults at → KeepsRetired dependence faults at
+
 -- nothing was posted, taken, applied or redone of a position that was not issued
 pub record NamesIssued (at : Stage) : Type 0 where
   pub posted : (p attempt : ℕ) → Contains at.posted (p, attempt) → p < at.progress.front
@@ -87,6 +95,22 @@ StandsLaw =
 abbrev pub RetiredLaw : Type 0
 RetiredLaw =
     (dependence : Dependence) (faults : List Fault) (at : Stage) → RedoesLater dependence → StageStands dependence faults at → KeepsRetired dependence faults at
+
+-- where all that was issued has retired, no fault is live
+abbrev pub NoneLiveLaw : Type 0
+NoneLiveLaw =
+    (dependence : Dependence) (faults : List Fault) (at : Stage) → StageStands dependence faults at → at.retired ≡ at.progress.front
+    → NoneLive faults at.progress
+
+-- so nothing is struck where an issue is allowed, that of a settle too
+abbrev pub PassesLaw : Type 0
+PassesLaw =
+    (dependence : Dependence) (faults : List Fault) (at : Stage) (p : ℕ) → StageStands dependence faults at → Allowed dependence faults at (event.Issue p)
+    → struck_next dependence faults at.progress ≡ None
+
+-- a run keeps clean what has retired
+abbrev pub RunCleanLaw : Type 0
+RunCleanLaw = (run : List Subthread) (faults : List Fault) → AreShort faults → KeepsClean (dependence_of run) faults
 
 -- it stands after each lawful journal of a run
 abbrev pub RunStandsLaw : Type 0

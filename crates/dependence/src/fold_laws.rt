@@ -4,7 +4,7 @@ ghost use Rattle.dependence.specs.Histories.{AfterLaw, HistoryLaw, UndoLaw};
 ghost use Rattle.dependence.specs.Touching.{LocationLaw, KeepsLaw, RunKeepsLaw, LaidLaw};
 ghost use Rattle.dependence.specs.Insertion.{InsertionLaw};
 ghost use Rattle.dependence.specs.Removal.{RemovalLaw};
-ghost use Rattle.dependence.specs.RunBuffer.{RunEventLaw, RunBufferLaw, OutLaw, RetiredLinesLaw, FinalStateLaw};
+ghost use Rattle.dependence.specs.RunBuffer.{RunEventLaw, RunBufferLaw, OutLaw, RetiredLinesLaw, DrainedStateLaw, FinalStateLaw};
 ghost use Rattle.dependence.specs.Buffer.{AppliedLaw, FoundLaw, ApartLaw, UndoneLaw, UntouchedLaw, MembersLaw, OneMoreLaw};
 
 /// What an effect leaves, what its history holds, and that the history gives the state back.
@@ -51,5 +51,6 @@ pub fn run_buffer_laws()
     ensures journal { RunBufferLaw }
     ensures out { OutLaw }
     ensures lines { RetiredLinesLaw }
+    ensures drained { DrainedStateLaw }
     ensures state { FinalStateLaw }
 {}

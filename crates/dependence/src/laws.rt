@@ -3,7 +3,7 @@
 ghost use Rattle.dependence.specs.Laws.{ConflictLaw, SwapLaw, DependentsLaw, LeastLaw, RisingLaw, NextLaw, ShiftLaw, MarksLaw, RunLaw, RaiseLaw, RestartsEndLaw, FewLaw, FrontLaw, GrowLaw, StageLaw, RestartsFirstLaw, RestartsNextLaw, RestartsAllLaw, LawfulTestLaw, CompleteTestLaw};
 ghost use Rattle.dependence.specs.Counts.{CompleteLaw, RetirementsLaw, OnceLaw, RunsAgainLaw, AttemptsLaw};
 ghost use Rattle.dependence.specs.Measure.{LessLaw, LengthLaw};
-ghost use Rattle.dependence.specs.Standing.{ShortLaw, InitialLaw, EventLaw, StandsLaw, RetiredLaw, RunRedoesLaw, RunStandsLaw, IssuedLaw};
+ghost use Rattle.dependence.specs.Standing.{ShortLaw, InitialLaw, EventLaw, StandsLaw, RetiredLaw, NoneLiveLaw, PassesLaw, RunRedoesLaw, RunCleanLaw, RunStandsLaw, IssuedLaw};
 
 /// The test says when two footprints are in conflict, and conflict has no direction.
 pub fn conflict_laws()
@@ -24,13 +24,16 @@ pub fn dependents_laws()
 
 /// What holds between two events of a lawful journal: it holds before the first, each event that is allowed keeps it,
 /// from any stage, where a restart redoes nothing that has retired and delays are short, as faults in range have them.
-/// Nothing names a position that was not issued.
+/// Where all that was issued has retired, no fault is live, so that a settle is issued where nothing is struck. Nothing
+/// names a position that was not issued.
 pub fn standing_laws()
     ensures short { ShortLaw }
     ensures initial { InitialLaw }
     ensures event { EventLaw }
     ensures journal { StandsLaw }
     ensures retired { RetiredLaw }
+    ensures none_live { NoneLiveLaw }
+    ensures passes { PassesLaw }
     ensures issued { IssuedLaw }
 {}
 
@@ -41,8 +44,8 @@ pub fn restarts_laws()
     ensures few { FewLaw }
 {}
 
-/// A beginning of a lawful journal is lawful, and one more event that is allowed keeps it so. Its restarts are the
-/// first of all restarts, one may come next exactly where the next of all has the present front, and a complete
+/// A beginning of a lawful journal is lawful, and one more event that is allowed keeps it so. Where what has retired
+/// stays clean, its restarts are the first of all restarts, one may come next exactly where the next of all has the present front, and a complete
 /// journal has them all.
 pub fn journal_laws()
     ensures front { FrontLaw }
@@ -80,5 +83,6 @@ pub fn journal_tests_laws()
 pub fn run_laws()
     ensures struck { RunLaw }
     ensures conflicts { RunRedoesLaw }
+    ensures clean { RunCleanLaw }
     ensures stands { RunStandsLaw }
 {}

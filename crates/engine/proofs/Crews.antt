@@ -2,7 +2,7 @@
 use Rattle.std.proofs.Common.{◌≡◌, ◌≢◌, append-nil, ℕ, Bool, inl, inr, List, [], ◌∷◌, ◌++◌, Contains, Option, Some, None, refl, sym, ap, subst, ◌∙◌, append_assoc}
 use Rattle.std.proofs.lemmas.List.Elements.{Contains-push_cases}
 use Rattle.gp_base.specs.declared.fault.Fault.{Fault}
-use Rattle.gp_base.specs.declared.ending.End.{End}
+use Rattle.engine.specs.declared.calls.Halt.{Halt}
 use Rattle.gp_base.specs.declared.journal.Event.{Event}
 use Rattle.gp_base.specs.declared.journal.Event.TheVariants as event
 use Rattle.dependence.specs.Restarts.{Dependence, struck_next}
@@ -76,12 +76,12 @@ crew-alone before after e stands did posted_same taken_same posted out crew =
 pub crew-same : (before after : View) → after ≡ before → KeepsCrew before after
 crew-same before after same = subst (KeepsCrew before) (sym same) (λ posted out crew. crew)
 
-pub crew-learnt : (before after : View) (ending : End) → after ≡ learnt ending before → KeepsCrew before after
-crew-learnt before after ending same =
+pub crew-learnt : (before after : View) (halts : Halt) → after ≡ learnt halts before → KeepsCrew before after
+crew-learnt before after halts same =
     subst (KeepsCrew before) (sym same) (λ posted out crew.
     record {
       posted_are = crew.posted_are;
-      tied = stands-kept (TaskStands before) (now before).posted (now before).taken out crew.tied (TaskStands (learnt ending before))
+      tied = stands-kept (TaskStands before) (now before).posted (now before).taken out crew.tied (TaskStands (learnt halts before))
           (λ task is_out t. record { is_task = t.is_task; posted = t.posted; untaken = t.untaken; given = t.given });
     })
 

@@ -3,7 +3,6 @@ use Rattle.std.proofs.Common.{◌≡◌, inl, inr, ℕ, zero, suc, ◌+◌, ◌^
 use Rattle.std.specs.Prelude.{is_some}
 use Rattle.std.specs.Option.{option_or, IsSome}
 use Rattle.std.proofs.lemmas.Bool.{eq-eqb, ne_eqb, cases_lt}
-use Rattle.gp_base.specs.declared.ending.End.{End}
 use Rattle.gp_base.specs.declared.journal.Event.{Event}
 use Rattle.gp_base.specs.declared.journal.Event.TheVariants as event
 use Rattle.gp_base.specs.declared.journal.Restart.{Restart}
@@ -22,11 +21,13 @@ use Rattle.reorder_list.proofs.Changes.{from-first, is-there}
 use Rattle.restart.specs.Redo.{redone}
 use Rattle.restart.proofs.Standing.{same-redo}
 use Rattle.engine.specs.declared.parts.Parts.{Parts}
+use Rattle.engine.specs.declared.calls.Halt.{Halt}
 use Rattle.engine.specs.View.{Batch, run_in, dependence_in}
 use Rattle.engine.specs.Gives.{struck_now}
 use Rattle.engine.specs.inner.Kept.{view_of, stage_of, IsPlaceIn, IsEnd, WindowStands, Keeps, Kept}
 use Rattle.engine.specs.inner.Detected.{attempt_in}
 use Rattle.engine.proofs.Events.{redoes-struck}
+use Rattle.engine.proofs.Progress.{halts-drain}
 use Rattle.engine.proofs.Kepts.{stage_stands, keeps_then}
 use Rattle.engine.proofs.RingTakes.{ring_same}
 use Rattle.engine.proofs.Windows.{window-restart}
@@ -57,11 +58,11 @@ module _ (batch : Batch) (parts : Parts) (kept : Kept batch parts) (p : ℕ) (is
   next : struck_next (dependence_in batch) batch.faults at.progress ≡ Some p
   next = go (least_struck (is_due at.progress) batch.faults) parts.ended kept.journal.ended_is is_struck
     where
-      go : (o : Option ℕ) (known : Option End) → IsEnd batch at.progress.front known → option_or o (cond (is_some known) (least_struck (is_live at.progress) batch.faults) None) ≡ Some p
+      go : (o : Option ℕ) (known : Option Halt) → IsEnd batch at.progress.front known → option_or o (cond (is_some known) (least_struck (is_live at.progress) batch.faults) None) ≡ Some p
           → option_or o (cond (drains (dependence_in batch) at.progress.front) (least_struck (is_live at.progress) batch.faults) None) ≡ Some p
       go (Some q) known end f = f
       go None None end f = absurd (cc f)
-      go None (Some ending) end f = rw end.0 f
+      go None (Some halts) end f = rw (halts-drain batch at.progress.front halts end) f
 
   pub allowed : Allowed (dependence_in batch) batch.faults at (event.Restart (length at.progress.made))
   allowed = record { numbered = refl; some_struck = λ none. absurd (cc (none, next)) }

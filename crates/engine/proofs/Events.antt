@@ -1,11 +1,11 @@
 -- What stands after an event, and how much of the run is left.
-use Rattle.std.proofs.Common.{◌≡◌, inl, inr, ℕ, ◌<◌, ◌≤◌, true, Option, Some, None, refl, sym, ap, subst, ◌∙◌, arith, IfSome}
-use Rattle.gp_base.specs.declared.ending.End.{End}
+use Rattle.std.proofs.Common.{◌≡◌, inl, inr, ℕ, ◌<◌, ◌≤◌, Option, Some, None, refl, sym, ap, subst, ◌∙◌, arith, IfSome}
+use Rattle.engine.specs.declared.calls.Halt.{Halt}
 use Rattle.gp_base.specs.declared.journal.Event.{Event}
 use Rattle.gp_base.specs.declared.journal.Event.TheVariants as event
 use Rattle.dependence.specs.Conflict.{clash_in}
 use Rattle.dependence.specs.Dependents.{itself}
-use Rattle.dependence.specs.Restarts.{RedoesStruck, drains, struck_next}
+use Rattle.dependence.specs.Restarts.{RedoesStruck, struck_next}
 use Rattle.dependence.specs.Journal.{Stage, initial_stage, Allowed, happens, restarted}
 use Rattle.dependence.specs.Runs.{feet_of}
 use Rattle.dependence.specs.Standing.{StageStands}
@@ -13,7 +13,7 @@ use Rattle.dependence.proofs.DependentSets.{dependents-are}
 use Rattle.dependence.proofs.Journals.{LawfulFrom-push, stage_from-push}
 use Rattle.dependence.proofs.Measured.{leaves-less}
 use Rattle.dependence.proofs.Standing.{run-stands}
-use Rattle.engine.specs.View.{Batch, View, run_in, dependence_in, end_in, now, ended_after, grown, learnt, Stands}
+use Rattle.engine.specs.View.{Batch, View, run_in, dependence_in, now, ended_after, grown, learnt, IsHalt, Stands}
 use Rattle.engine.specs.Gives.{Did}
 use Rattle.engine.specs.inner.Rounds.{left, Onward}
 
@@ -27,9 +27,9 @@ stage-stands view stands = run-stands (run_in view.batch) view.batch.faults view
 pub now-grown : (view : View) (e : Event) → now (grown view e) ≡ happens (dependence_in view.batch) view.batch.faults (now view) e
 now-grown view e = stage_from-push (dependence_in view.batch) view.batch.faults initial_stage view.events e
 
--- a known end drains until the next issue
-abbrev Draining : View → Option End → Stage → Type 0
-Draining view ended at = IfSome ended (λ ending. (drains (dependence_in view.batch) at.progress.front ≡ true) × (ending ≡ end_in view.batch))
+-- a known halt is one until the next issue
+abbrev Draining : View → Option Halt → Stage → Type 0
+Draining view ended at = IfSome ended (IsHalt view.batch at.progress.front)
 
 still-drains : (view : View) → Stands view → (e : Event) → Draining view (ended_after e view.ended) (happens (dependence_in view.batch) view.batch.faults (now view) e)
 still-drains view stands (event.Issue p) = tt
@@ -77,14 +77,14 @@ still-onward view stands = record { batch = refl; stands = stands; moved = inr (
 pub same-onward : (before after : View) → Stands before → after ≡ before → Onward before after
 same-onward before after stands same = subst (Onward before) (sym same) (still-onward before stands)
 
--- an end that the plain run comes to became known
-pub learnt-onward : (before after : View) (ending : End) → Stands before → after ≡ learnt ending before
-    → drains (dependence_in before.batch) (now before).progress.front ≡ true → ending ≡ end_in before.batch → Onward before after
-learnt-onward before after ending stands same drained is_end =
+-- a halt became known
+pub learnt-onward : (before after : View) (halts : Halt) → Stands before → after ≡ learnt halts before
+    → IsHalt before.batch (now before).progress.front halts → Onward before after
+learnt-onward before after halts stands same is_halt =
     subst (Onward before) (sym same)
     (record {
       batch = refl;
-      stands = record { accepted = stands.accepted; short = stands.short; lawful = stands.lawful; ended = (drained, is_end) };
+      stands = record { accepted = stands.accepted; short = stands.short; lawful = stands.lawful; ended = is_halt };
       moved = inr (record { events = refl; known = λ known. refl });
     })
 

@@ -1,7 +1,7 @@
 -- What an engine keeps while the next subthread is issued.
-use Rattle.std.proofs.Common.{◌≡◌, inl, inr, ℕ, suc, ◌+◌, ◌<◌, ◌≤◌, true, false, List, [], ◌∷◌, ◌++◌, length, Option, Some, None, is_some, option_map, refl, sym, ap, ◌∙◌, subst, arith}
+use Rattle.std.proofs.Common.{◌≡◌, inl, inr, ℕ, suc, ◌+◌, ◌<◌, ◌≤◌, true, false, List, [], ◌∷◌, ◌++◌, length, Option, Some, None, is_some, option_map, refl, sym, ap, ◌∙◌, subst, arith, ◌⊎◌, Bool, cond, nat_eq}
 use Rattle.std.specs.Prelude.{IsSome, slice_get, pos, negsuc, ℤ}
-use Rattle.std.proofs.lemmas.Bool.{eq-eqb, lt-ltb, ltb-true, false≢true}
+use Rattle.std.proofs.lemmas.Bool.{eqb-true, eq-eqb, lt-ltb, ltb-true, false≢true}
 use Rattle.gp_base.specs.declared.ending.End.{End}
 use Rattle.gp_base.specs.declared.journal.Event.{Event}
 use Rattle.gp_base.specs.declared.journal.Event.TheVariants as event
@@ -10,9 +10,11 @@ use Rattle.task_ast.specs.declared.sync.SyncOp.{SyncOp}
 use Rattle.task_ast.specs.declared.sync.SyncOp.TheVariants as sync
 use Rattle.task_ast.specs.declared.sync.Next.{Next}
 use Rattle.task_ast.specs.Footprint.{footprint}
-use Rattle.task_ast.specs.Repeat.{More, Done}
-use Rattle.task_ast.specs.Table.{Table, next_of, owned_from}
-use Rattle.task_ast.specs.Turn.{Issue, Needs, Ended, child_of, turn}
+use Rattle.task_ast.specs.Repeat.{Again, More, Done}
+use Rattle.task_ast.specs.Table.{Table, next_of, owned_from, is_settle}
+use Rattle.token_order.specs.Turned.{settling_in}
+use Rattle.task_ast.specs.Turn.{Turn, Issue, Needs, Ended, child_of, turn}
+use Rattle.dependence.specs.Runs.{settles_one}
 use Rattle.task_ast.specs.laws.Threads.{MayBegin, HasBegun, with_child, ahead}
 use Rattle.task_ast.specs.laws.Standing.{IsIssuedBy}
 use Rattle.task_ast.specs.Plain.{tree_machine, foot_of, start_point, task_at}
@@ -22,9 +24,9 @@ use Rattle.task_ast.proofs.TurnLaws.{pass_law, ahead_law}
 use Rattle.task_ast.proofs.SeatLimits.{most_threads_law}
 use Rattle.task_ast.proofs.PlainRuns.{count_law}
 use Rattle.task_ast.proofs.IssuedTables.{length_push}
-use Rattle.dependence.specs.Restarts.{NoneDue, drains}
+use Rattle.dependence.specs.Restarts.{NoneDue}
 use Rattle.dependence.specs.Journal.{Stage, Allowed}
-use Rattle.record_store.specs.Stored.{Stored, with_thread}
+use Rattle.record_store.specs.Stored.{Stored, with_thread, state_of}
 use Rattle.record_store.proofs.States.{slot_law}
 use Rattle.record_store.proofs.Fitting.{wider_law}
 use Rattle.reorder_list.specs.declared.entry.Entry.{Entry}
@@ -36,12 +38,16 @@ use Rattle.token_order.specs.View.{Roomy}
 use Rattle.subthread.specs.Footprints.{IsNumbered}
 use Rattle.engine.specs.declared.parts.Parts.{Parts}
 use Rattle.engine.specs.declared.parts.Place.{Place}
+use Rattle.engine.specs.declared.calls.Halt.{Halt}
+use Rattle.engine.specs.declared.calls.Halt.TheVariants as halt
 use Rattle.engine.specs.declared.parts.issuing.Prepared.{Prepared}
 use Rattle.engine.specs.View.{Batch, program_in, run_in, dependence_in, start_in, end_in}
-use Rattle.engine.specs.Gives.{Did, IsAwaited}
-use Rattle.engine.specs.inner.RingStands.{StartIs, places_after, point_before}
+use Rattle.engine.specs.Gives.{Did, IsAwaited, TurnsTo, TurnsToSettle}
+use Rattle.engine.specs.inner.RingStands.{StartIs, places_after, point_before, plain_before, from_before}
+use Rattle.task_ast.specs.State.{State, RegistersOf, number_at}
+use Rattle.dependence.proofs.RunBuffers.{drained-state}
 use Rattle.engine.specs.inner.Kept.{stage_of, view_of, IsPlaceIn, IsPlaced, IsHome, WindowStands, Keeps, Kept}
-use Rattle.engine.specs.inner.Prepared.{PreparedFor, IsPrepared, IsReadyFor, IsPushed, SameParts, IsSlotted, names_thread, new_entry}
+use Rattle.engine.specs.inner.Prepared.{PreparedFor, IsPrepared, IsReadyFor, IsPushed, SameParts, IsSlotted, names_thread, new_entry, settled_place, settled_in}
 use Rattle.engine.proofs.Options.{some_none, none_some, some_same}
 use Rattle.engine.proofs.RingIssues.{same_run, ring_passed, ring_needs, ring_ends, ring_issued, told, begun, below, may_issue}
 use Rattle.engine.proofs.Windows.{histories-fit, window-issue}
@@ -74,13 +80,34 @@ window_slot batch at table entries store window =
       home = record { threads = let l = slotted store in let h = window.home.threads in omega arith; cells = window.home.cells; under = window.home.under };
     }
 
+-- a list that has no entry
+pub none_left : (n : ℕ) (entries : List Entry) → n ≡ length entries → nat_eq n 0 ≡ true → entries ≡ []
+none_left n [] same none = refl
+none_left n (e ∷ entries) same none = absurd (let zero_is = eqb-true n 0 none in omega arith)
+
 -- the position after the last of a row
 comes_next : (p : ℕ) (entries : List Entry) → StandFrom p entries → ComesNext entries (p + length entries)
 comes_next p [] row = tt
 comes_next p (e ∷ []) row = let h = row.0 in omega arith
 comes_next p (a ∷ e ∷ entries) row = subst (ComesNext (e ∷ entries)) (let s : suc p + length (e ∷ entries) ≡ p + length (a ∷ e ∷ entries) = omega arith in s) (comes_next (suc p) (e ∷ entries) row.1)
 
-module _ (batch : Batch) (table : Table) (places : List Place) (entries : List Entry) (store : Stored) (events : List Event) (restarts : List Restart) (issued : ℕ) (known : Option End)
+-- a thread that begins with a settle stands where its variable is set
+placed_so : (batch : Batch) (p t : ℕ) (op : SyncOp) (place : Place) (state : State) → IsPlaceIn batch t op place (point_before batch p t)
+    → (is_settle op ≡ true → state ≡ (plain_before batch p).state) → IsPlaceIn batch t op (settled_place op state t place) (from_before batch p op t)
+placed_so batch p t (sync.Settle register control) place state here same =
+    subst (λ (s : State). IsPlaceIn batch t (sync.Settle register control) (settled_place (sync.Settle register control) s t place) (from_before batch p (sync.Settle register control) t)) (sym (same refl))
+    ((follows (program_in batch) batch.inputs batch.limits).sets register control (number_at ((plain_before batch p).state (RegistersOf t)) register) _ _ here)
+placed_so batch p t sync.Start place state here same = here
+placed_so batch p t (sync.Lock l) place state here same = here
+placed_so batch p t (sync.Unlock l) place state here same = here
+placed_so batch p t (sync.Fork task arguments) place state here same = here
+placed_so batch p t (sync.Join h) place state here same = here
+placed_so batch p t (sync.Barrier b) place state here same = here
+placed_so batch p t sync.End place state here same = here
+placed_so batch p t sync.BadIndex place state here same = here
+placed_so batch p t sync.Spent place state here same = here
+
+module _ (batch : Batch) (table : Table) (places : List Place) (entries : List Entry) (store : Stored) (events : List Event) (restarts : List Restart) (issued : ℕ) (known : Option Halt)
     (keeps : Keeps batch table places entries store events restarts issued known) where
   abbrev at : Stage
   at = stage_of batch events
@@ -97,10 +124,10 @@ module _ (batch : Batch) (table : Table) (places : List Place) (entries : List E
         window = window_at batch at table after entries store (let s = (pass_law table after e).threads in omega arith) keeps.window;
       }
 
-  pub ends_so : (ending : End) → turn table ≡ Done (Ended ending) → (drains (dependence_in batch) at.progress.front ≡ true) × (ending ≡ end_in batch)
-  ends_so ending e = let h = ring_ends batch (IsPlaceIn batch) at table places keeps.ring ending e in (eq-eqb _ _ h.0, sym h.1)
+  pub ends_so : (ending : End) → turn table ≡ Done (Ended ending) → (at.progress.front ≡ (dependence_in batch).count) × (ending ≡ end_in batch)
+  ends_so ending e = let h = ring_ends batch (IsPlaceIn batch) at table places keeps.ring ending e in (h.0, sym h.1)
 
-  pub kept_ended : (ending : End) → turn table ≡ Done (Ended ending) → Keeps batch table places entries store events restarts issued (Some ending)
+  pub kept_ended : (ending : End) → turn table ≡ Done (Ended ending) → Keeps batch table places entries store events restarts issued (Some (halt.Ended ending))
   kept_ended ending e =
       record {
         fit = keeps.fit;
@@ -119,6 +146,69 @@ module _ (batch : Batch) (table : Table) (places : List Place) (entries : List E
       let h = ring_needs batch (IsPlaceIn batch) at table places keeps.ring t e in
       (h.0, (same_run batch (IsPlaceIn batch) at table places keeps.ring).lasts t ∙ h.1, h.3)
 
+  -- what the rules of turns answer
+  pub turns_so : (answer : Turn) → turn table ≡ Done answer → TurnsTo (record { batch = batch; events = events; ended = known }) answer
+  turns_so answer e = record { table = table; stands = keeps.ring.stands; learnt = keeps.ring.learnt; turned = e }
+
+  -- a turn that a settle makes
+  pub settle_turns : (t : ℕ) → settling_in (turn table) ≡ Some t → TurnsToSettle (record { batch = batch; events = events; ended = known }) t
+  settle_turns t e = go (turn table) refl e
+    where
+      same_one : (u : ℕ) (b : Bool) → cond b (Some u) None ≡ Some t → (u ≡ t) × (b ≡ true)
+      same_one u true f = (some_same f, refl)
+      same_one u false f = absurd (none_some f)
+
+      go : (answer : Again Table Turn) → turn table ≡ answer → settling_in answer ≡ Some t → TurnsToSettle (record { batch = batch; events = events; ended = known }) t
+      go (More after) is f = absurd (none_some f)
+      go (Done (Issue u next child after)) is f =
+          let same = same_one u (is_settle next.sync) f in
+          record {
+            begins = next;
+            child = child;
+            later = after;
+            turns = turns_so (Issue t next child after) (is ∙ ap (λ v. Done (Issue v next child after)) same.0);
+            settles = same.1;
+          }
+      go (Done (Needs u)) is f = absurd (none_some f)
+      go (Done (Ended ending)) is f = absurd (none_some f)
+
+  -- the turn is a settle's
+  pub settles_so : (t : ℕ) → settling_in (turn table) ≡ Some t → (dependence_in batch).settles at.progress.front ≡ true
+  settles_so t e = go (turn table) refl e
+    where
+      is_one : (u : ℕ) (b : Bool) → cond b (Some u) None ≡ Some t → b ≡ true
+      is_one u true f = refl
+      is_one u false f = absurd (none_some f)
+
+      go : (answer : Again Table Turn) → turn table ≡ answer → settling_in answer ≡ Some t → (dependence_in batch).settles at.progress.front ≡ true
+      go (More after) is f = absurd (none_some f)
+      go (Done (Issue u next child after)) is f =
+          let there = told batch (IsPlaceIn batch) at table places keeps.ring u next child after is in
+          ap settles_one there.position ∙ (ap (λ (n : Next). is_settle n.sync) there.begins ∙ is_one u (is_settle next.sync) f)
+      go (Done (Needs u)) is f = absurd (none_some f)
+      go (Done (Ended ending)) is f = absurd (none_some f)
+
+  pub kept_settling : (t : ℕ) → settling_in (turn table) ≡ Some t → Keeps batch table places entries store events restarts issued (Some halt.Settling)
+  kept_settling t e =
+      record {
+        fit = keeps.fit;
+        journal = record {
+          lawful = keeps.journal.lawful;
+          restarts_are = keeps.journal.restarts_are;
+          issued_are = keeps.journal.issued_are;
+          ended_is = settles_so t e;
+        };
+        ring = keeps.ring;
+        window = keeps.window;
+      }
+
+  -- some position has not retired where an entry is left
+  pub some_left : (n : ℕ) → n ≡ length entries → nat_eq n 0 ≡ false → at.retired < at.progress.front
+  some_left n same some =
+      let front = keeps.window.entries_are.front in
+      let more : n ≡ 0 → ⊥ = (λ zero_is. false≢true (sym some ∙ eq-eqb n 0 zero_is)) in
+      omega (arith, more)
+
   -- where the next entry goes
   pub next_is : ComesNext entries issued
   next_is =
@@ -134,15 +224,27 @@ module _ (batch : Batch) (table : Table) (places : List Place) (entries : List E
         let same = keeps.journal.issued_are in
         omega arith
 
-    module _ (none_due : NoneDue batch.faults at.progress) (prepared : Prepared) (made : PreparedFor batch table places t next.sync prepared)
+    -- a settle is issued where all before it have retired
+    settles_alone : (alone : Bool) → (alone ≡ true → entries ≡ []) → (alone ≡ true) ⊎ (settling_in (turn table) ≡ None) → is_settle next.sync ≡ true → at.retired ≡ at.progress.front
+    settles_alone alone none (inl so) settles =
+        let front = keeps.window.entries_are.front in
+        let empty = ap length (none so) in
+        omega arith
+    settles_alone alone none (inr not_one) settles =
+        absurd (some_none (ap (λ b. cond b (Some t) None) (sym settles) ∙ (ap settling_in (sym is) ∙ not_one)))
+
+    module _ (alone : Bool) (none : alone ≡ true → entries ≡ []) (lets : (alone ≡ true) ⊎ (settling_in (turn table) ≡ None)) (none_due : NoneDue batch.faults at.progress) (prepared : Prepared) (made : PreparedFor batch table places t next.sync prepared)
         (slot : is_some prepared.start ≡ true → length table.seats < length store.threads) where
+      abbrev ready : Prepared
+      ready = settled_in next.sync (state_of store) t prepared
+
       abbrev entry : Entry
-      entry = new_entry issued t next child prepared
+      entry = new_entry issued t next child ready
 
       allowed : Allowed (dependence_in batch) batch.faults at (event.Issue issued)
       allowed =
           subst (λ p. Allowed (dependence_in batch) batch.faults at (event.Issue p)) (sym keeps.journal.issued_are)
-          (may_issue batch (IsPlaceIn batch) at table places keeps.ring t next child after is none_due)
+          (may_issue batch (IsPlaceIn batch) at table places keeps.ring t next child after is none_due (settles_alone alone none lets))
 
       issued_is : IsIssuedBy (tree_machine (program_in batch) batch.inputs batch.limits) (program_in batch) batch.inputs batch.limits at.progress.front table t next child after
       issued_is = told batch (IsPlaceIn batch) at table places keeps.ring t next child after is
@@ -178,8 +280,10 @@ module _ (batch : Batch) (table : Table) (places : List Place) (entries : List E
 
       placed : IsPlaced batch entry
       placed =
-          subst (λ p. IsPlaceIn batch t next.sync prepared.place (point_before batch p t)) (sym keeps.journal.issued_are)
-          (keeps.ring.place_is t prepared.place next made.place has_begun.known)
+          subst (λ p. IsPlaceIn batch t next.sync ready.place (from_before batch p next.sync t)) (sym keeps.journal.issued_are)
+          (placed_so batch at.progress.front t next.sync prepared.place (state_of store) (keeps.ring.place_is t prepared.place next made.place has_begun.known)
+          (λ settles. drained-state (program_in batch) batch.inputs batch.limits batch.faults at (buffer_of store entries) (stage_stands batch events keeps.fit keeps.journal) keeps.window.buffer_is
+          (settles_alone alone none lets settles)))
 
       home : IsHome batch after store
       home =
@@ -196,7 +300,7 @@ module _ (batch : Batch) (table : Table) (places : List Place) (entries : List E
           grown (sync.Fork task arguments) None s l = absurd s
           grown op start s l = keeps.window.home.threads
 
-      pub kept_issued : Keeps batch after (places_after places prepared.start) (entries ++ new_entry issued t next child prepared ∷ []) store
+      pub kept_issued : Keeps batch after (places_after places prepared.start) (entries ++ new_entry issued t next child (settled_in next.sync (state_of store) t prepared) ∷ []) store
           (events ++ event.Issue issued ∷ []) restarts (issued + 1) None
       kept_issued =
           keeps_then batch events keeps.fit keeps.journal (event.Issue issued) allowed after (places_after places prepared.start) (entries ++ entry ∷ []) store restarts (issued + 1) None
@@ -230,23 +334,24 @@ module _ (batch : Batch) (parts : Parts) (kept : Kept batch parts) (t : ℕ) (ne
   prepared_some None ready = absurd (not_none ready)
   prepared_some (Some prepared) ready = refl
 
-  pub kept_pushed : NoneDue batch.faults (stage_of batch parts.events.items).progress → (prepared : Prepared) → IsReadyFor batch parts (Some prepared)
-      → (ring : Roomy) → ring.table ≡ after → (later : Parts) → IsPushed (record parts { ring = ring }) later (new_entry parts.issued t next child prepared) prepared.start
+  pub kept_pushed : (alone : Bool) → (alone ≡ true → parts.rol.entries ≡ []) → (alone ≡ true) ⊎ (settling_in (turn parts.ring.table) ≡ None) → NoneDue batch.faults (stage_of batch parts.events.items).progress → (prepared : Prepared) → IsReadyFor batch parts (Some prepared)
+      → (ring : Roomy) → ring.table ≡ after → (later : Parts) → IsPushed (record parts { ring = ring }) later (new_entry parts.issued t next child (settled_in next.sync (state_of parts.store) t prepared)) prepared.start
       → Kept batch later
-  kept_pushed none_due prepared ready ring ring_is later pushed =
-      kept_as batch later after (places_after parts.places.items prepared.start) (parts.rol.entries ++ new_entry parts.issued t next child prepared ∷ []) parts.store
+  kept_pushed alone none lets none_due prepared ready ring ring_is later pushed =
+      kept_as batch later after (places_after parts.places.items prepared.start) (parts.rol.entries ++ new_entry parts.issued t next child (settled_in next.sync (state_of parts.store) t prepared) ∷ []) parts.store
       (parts.events.items ++ event.Issue parts.issued ∷ []) parts.restarts.items (parts.issued + 1) None
       (ap (λ (r : Roomy). r.table) pushed.ring ∙ ring_is) pushed.places pushed.entries pushed.store pushed.events (ap (λ (r : Reserved Restart). r.items) pushed.restarts) pushed.issued pushed.ended
       (kept_issued batch parts.ring.table parts.places.items parts.rol.entries parts.store parts.events.items parts.restarts.items parts.issued parts.ended kept
-      t next child after is none_due prepared (ready.prepared_is t next tried) ready.slot)
+      t next child after is alone none lets none_due prepared (ready.prepared_is t next tried) ready.slot)
 
-  pub did_issue : NoneDue batch.faults (stage_of batch parts.events.items).progress → (prepared : Prepared) → (ring : Roomy) → (later : Parts) → (p : ℕ) → p ≡ parts.issued
-      → IsPushed (record parts { ring = ring }) later (new_entry parts.issued t next child prepared) prepared.start
+  pub did_issue : (alone : Bool) → (alone ≡ true → parts.rol.entries ≡ []) → (alone ≡ true) ⊎ (settling_in (turn parts.ring.table) ≡ None) → NoneDue batch.faults (stage_of batch parts.events.items).progress → (prepared : Prepared) → (ring : Roomy) → (later : Parts) → (p : ℕ) → p ≡ parts.issued
+      → IsPushed (record parts { ring = ring }) later (new_entry parts.issued t next child (settled_in next.sync (state_of parts.store) t prepared)) prepared.start
       → Did (view_of batch parts) (event.Issue p) (view_of batch later)
-  did_issue none_due prepared ring later p p_is pushed =
+  did_issue alone none lets none_due prepared ring later p p_is pushed =
       record {
         allowed = subst (λ q. Allowed (dependence_in batch) batch.faults (stage_of batch parts.events.items) (event.Issue q)) (sym (p_is ∙ kept.journal.issued_are))
-            (may_issue batch (IsPlaceIn batch) (stage_of batch parts.events.items) parts.ring.table parts.places.items kept.ring t next child after is none_due);
+            (may_issue batch (IsPlaceIn batch) (stage_of batch parts.events.items) parts.ring.table parts.places.items kept.ring t next child after is none_due
+            (settles_alone batch parts.ring.table parts.places.items parts.rol.entries parts.store parts.events.items parts.restarts.items parts.issued parts.ended kept t next child after is alone none lets));
         grown = λ i. record { batch = batch; events = (pushed.events ∙ ap (λ q. parts.events.items ++ event.Issue q ∷ []) (sym p_is)) i; ended = pushed.ended i };
       }
 

@@ -1,6 +1,5 @@
 -- What an engine keeps, and what follows from it.
 use Rattle.std.proofs.Common.{◌≡◌, ℕ, List, [], ◌∷◌, ◌++◌, Option, sym, ap, ◌∙◌, subst}
-use Rattle.gp_base.specs.declared.ending.End.{End}
 use Rattle.gp_base.specs.declared.journal.Event.{Event}
 use Rattle.gp_base.specs.declared.journal.Restart.{Restart}
 use Rattle.task_ast.specs.Table.{Table}
@@ -13,6 +12,7 @@ use Rattle.record_store.specs.Stored.{Stored}
 use Rattle.reorder_list.specs.declared.entry.Entry.{Entry}
 use Rattle.engine.specs.declared.parts.Parts.{Parts}
 use Rattle.engine.specs.declared.parts.Place.{Place}
+use Rattle.engine.specs.declared.calls.Halt.{Halt}
 use Rattle.engine.specs.View.{Batch, run_in, dependence_in}
 use Rattle.engine.specs.inner.RingStands.{RingStands}
 use Rattle.engine.specs.inner.Kept.{stage_of, IsPlaceIn, IsEnd, IsFit, JournalStands, WindowStands, Keeps, Kept}
@@ -22,7 +22,7 @@ module _ (batch : Batch) (events : List Event) where
   pub stage_then : (e : Event) → stage_of batch (events ++ e ∷ []) ≡ happens (dependence_in batch) batch.faults (stage_of batch events) e
   stage_then e = stage_from-push (dependence_in batch) batch.faults initial_stage events e
 
-  module _ (fit : IsFit batch) {restarts : List Restart} {issued : ℕ} {ended : Option End} (journal : JournalStands batch events restarts issued ended) where
+  module _ (fit : IsFit batch) {restarts : List Restart} {issued : ℕ} {ended : Option Halt} (journal : JournalStands batch events restarts issued ended) where
     -- what stands of the stage
     pub stage_stands : StageStands (dependence_in batch) batch.faults (stage_of batch events)
     stage_stands = run-stands (run_in batch) batch.faults events fit.short journal.lawful
@@ -32,7 +32,7 @@ module _ (batch : Batch) (events : List Event) where
 
     -- after an event that was allowed all is kept, where each part is
     pub keeps_then : (e : Event) → Allowed (dependence_in batch) batch.faults (stage_of batch events) e
-        → (table : Table) (places : List Place) (entries : List Entry) (store : Stored) (made : List Restart) (front : ℕ) (known : Option End)
+        → (table : Table) (places : List Place) (entries : List Entry) (store : Stored) (made : List Restart) (front : ℕ) (known : Option Halt)
         → RingStands batch (IsPlaceIn batch) (happens (dependence_in batch) batch.faults (stage_of batch events) e) table places
         → WindowStands batch (happens (dependence_in batch) batch.faults (stage_of batch events) e) table entries store
         → made ≡ (happens (dependence_in batch) batch.faults (stage_of batch events) e).progress.made
@@ -54,13 +54,13 @@ module _ (batch : Batch) (events : List Event) where
 
 -- the same parts under other names
 pub keeps_as : (batch : Batch) (table table' : Table) (places places' : List Place) (entries entries' : List Entry) (store store' : Stored) (events events' : List Event)
-    (restarts restarts' : List Restart) (issued issued' : ℕ) (ended ended' : Option End)
+    (restarts restarts' : List Restart) (issued issued' : ℕ) (ended ended' : Option Halt)
     → table' ≡ table → places' ≡ places → entries' ≡ entries → store' ≡ store → events' ≡ events → restarts' ≡ restarts → issued' ≡ issued → ended' ≡ ended
     → Keeps batch table places entries store events restarts issued ended → Keeps batch table' places' entries' store' events' restarts' issued' ended'
 keeps_as batch table table' places places' entries entries' store store' events events' restarts restarts' issued issued' ended ended' a b c d e f g h keeps = rw (a, b, c, d, e, f, g, h) keeps
 
 pub kept_as : (batch : Batch) (parts : Parts) (table : Table) (places : List Place) (entries : List Entry) (store : Stored) (events : List Event) (restarts : List Restart) (issued : ℕ)
-    (ended : Option End)
+    (ended : Option Halt)
     → parts.ring.table ≡ table → parts.places.items ≡ places → parts.rol.entries ≡ entries → parts.store ≡ store → parts.events.items ≡ events → parts.restarts.items ≡ restarts
     → parts.issued ≡ issued → parts.ended ≡ ended → Keeps batch table places entries store events restarts issued ended → Kept batch parts
 kept_as batch parts table places entries store events restarts issued ended =

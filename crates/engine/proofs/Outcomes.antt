@@ -24,7 +24,7 @@ use Rattle.engine.specs.Gives.{IsJournalOf, IsReportOf}
 use Rattle.engine.specs.Takes.{CrewStands}
 use Rattle.engine.specs.Drive.{JournalStands, ReportsRun, all_lines, WritesRetired, ArePosts, IsUntaken}
 use Rattle.engine.specs.inner.Rounds.{Wrote, WrotePart}
-use Rattle.engine.proofs.Events.{redoes-struck}
+use Rattle.dependence.proofs.Standing.{run-clean}
 use Rattle.engine.proofs.Tasks.{locks-apart, names-held, both-stand}
 use Rattle.engine.proofs.Crews.{posts-are, takes-are}
 
@@ -34,7 +34,7 @@ journal-stands view journal stands of =
     rw (of.events, of.restarts)
     (record {
       lawful = stands.lawful;
-      first = restarts-first (dependence_in view.batch) view.batch.faults (redoes-struck view.batch) view.events stands.lawful;
+      first = restarts-first (dependence_in view.batch) view.batch.faults (run-clean (run_in view.batch) view.batch.faults stands.short) view.events stands.lawful;
       counted = let made = (counted (dependence_in view.batch) view.batch.faults initial_stage view.events stands.lawful).made_is in omega arith;
     })
 
@@ -52,7 +52,7 @@ pub run-reported : (view : View) (ending : End) (report : Report) → Stands vie
 run-reported view ending report stands complete ended of =
     record {
       complete = rw of.journal.events complete;
-      restarts = of.journal.restarts ∙ restarts-all (dependence_in view.batch) view.batch.faults (redoes-struck view.batch) view.events complete;
+      restarts = of.journal.restarts ∙ restarts-all (dependence_in view.batch) view.batch.faults (run-clean (run_in view.batch) view.batch.faults stands.short) view.events complete;
       end = of.end ∙ ended;
       records = of.records
           ∙ ap (λ (state : State). map (cell_value state) (numbers 0 (cells_in (records_of (program_in view.batch).heads)))) (last-is view stands complete);

@@ -9,7 +9,7 @@ use Rattle.task_ast.specs.declared.sync.SyncOp.{SyncOp}
 use Rattle.task_ast.specs.declared.sync.SyncOp.TheVariants as sync
 use Rattle.task_ast.specs.declared.sync.Next.{Next}
 use Rattle.task_ast.specs.Plain.{Subthread, tree_machine}
-use Rattle.task_ast.specs.Position.{point_in, before}
+use Rattle.task_ast.specs.Position.{from_in, before}
 use Rattle.task_ast.specs.Fold.{fold}
 use Rattle.task_ast.proofs.Positions.{forked_is}
 use Rattle.task_ast.proofs.SeatLimits.{most_threads_law}
@@ -88,6 +88,7 @@ module _ (batch : Batch) (parts : Parts) (kept : Kept batch parts) (p : ℕ) (ma
   numbered-sync (sync.Unlock l) same = tt
   numbered-sync (sync.Fork k es) same = tt
   numbered-sync (sync.Barrier b) same = tt
+  numbered-sync (sync.Settle register control) same = tt
   numbered-sync sync.End same = tt
   numbered-sync sync.BadIndex same = tt
   numbered-sync sync.Spent same = tt
@@ -106,11 +107,11 @@ module _ (batch : Batch) (parts : Parts) (kept : Kept batch parts) (p : ℕ) (ma
       at_entry : IsPlaced batch e
       at_entry = all-there (IsPlaced batch) parts.rol.entries p e kept.window.placed runnable.is_there
 
-      place : Rests (program_in batch) s.begins.sync (point_in (program_in batch) batch.inputs batch.limits (before (program_in batch) batch.inputs batch.limits p) s.thread) (place_of task)
+      place : Rests (program_in batch) s.begins.sync (from_in (program_in batch) batch.inputs batch.limits (before (program_in batch) batch.inputs batch.limits p) s.begins.sync s.thread) (place_of task)
       place =
-          subst (λ (next : Next). Rests (program_in batch) next.sync (point_in (program_in batch) batch.inputs batch.limits (before (program_in batch) batch.inputs batch.limits p) s.thread) (place_of task)) is.is_of.begins
-          (subst (λ t. Rests (program_in batch) e.begins.sync (point_in (program_in batch) batch.inputs batch.limits (before (program_in batch) batch.inputs batch.limits p) t) (place_of task)) is.is_of.thread
-          (subst (λ q. Rests (program_in batch) e.begins.sync (point_in (program_in batch) batch.inputs batch.limits (before (program_in batch) batch.inputs batch.limits q) e.thread) (place_of task))
+          subst (λ (next : Next). Rests (program_in batch) next.sync (from_in (program_in batch) batch.inputs batch.limits (before (program_in batch) batch.inputs batch.limits p) next.sync s.thread) (place_of task)) is.is_of.begins
+          (subst (λ t. Rests (program_in batch) e.begins.sync (from_in (program_in batch) batch.inputs batch.limits (before (program_in batch) batch.inputs batch.limits p) e.begins.sync t) (place_of task)) is.is_of.thread
+          (subst (λ q. Rests (program_in batch) e.begins.sync (from_in (program_in batch) batch.inputs batch.limits (before (program_in batch) batch.inputs batch.limits q) e.begins.sync e.thread) (place_of task))
           (position-of parts.rol.entries p e runnable.is_there) at_entry))
 
   is-given : IsGiven batch.work batch.inputs batch.limits task (state_of parts.store)

@@ -1,9 +1,10 @@
 -- Some event is possible while work is left, so that each round of a run leaves less to do or makes the end known.
-use Rattle.std.proofs.Common.{◌≡◌, ◌⊎◌, inl, inr, ℕ, zero, suc, ◌<◌, ◌≤◌, Bool, true, false, cond, ◌&&◌, nat_eq, List, [], ◌∷◌, Contains, Option, Some, None, is_some, IfSome, refl, sym, ap, subst, ◌∙◌, arith}
+use Rattle.std.proofs.Common.{◌≡◌, ◌⊎◌, inl, inr, ℕ, zero, suc, ◌<◌, ◌≤◌, Bool, true, false, cond, ◌&&◌, nat_eq, List, [], ◌∷◌, Contains, Option, Some, None, is_some, IfSome, refl, sym, ap, subst, ◌∙◌, arith, slice_get}
 use Rattle.std.specs.Bool.{Decides}
 use Rattle.std.specs.List.{list_any}
 use Rattle.std.specs.Option.{option_or}
-use Rattle.std.proofs.lemmas.Bool.{both_ways, false≢true, eqb-true, and_parts, or_cases, cases_lt}
+use Rattle.std.proofs.lemmas.Option.{slice_get_past}
+use Rattle.std.proofs.lemmas.Bool.{true≢false, eq-eqb, or_left, or_right, both_ways, false≢true, eqb-true, and_parts, or_cases, cases_lt}
 use Rattle.std.proofs.lemmas.List.Elements.{Contains-push, Contains-append_left}
 use Rattle.gp_base.specs.declared.fault.Fault.{Fault}
 use Rattle.gp_base.specs.declared.ending.End.{End}
@@ -15,7 +16,10 @@ use Rattle.dependence.specs.Journal.{Stage, initial_stage, WasTaken, happens, re
 use Rattle.dependence.specs.JournalTests.{same_attempt}
 use Rattle.dependence.specs.Standing.{present}
 use Rattle.dependence.proofs.Auditing.{contains-decides}
-use Rattle.engine.specs.View.{View, dependence_in, end_in, now, is_known, Stands}
+use Rattle.dependence.specs.Runs.{settles_one}
+use Rattle.engine.specs.declared.calls.Halt.{Halt}
+use Rattle.engine.specs.declared.calls.Halt.TheVariants as halt
+use Rattle.engine.specs.View.{Batch, View, run_in, dependence_in, end_in, now, is_known, IsHalt, Stands}
 use Rattle.engine.specs.Gives.{struck_now, NoneToPost, HasFinished}
 use Rattle.engine.specs.inner.Rounds.{left, left_to_know, Rests, Onward, IsSettled, IsIssued, AreTaken, TakeGives}
 use Rattle.engine.proofs.Events.{stage-stands, now-same, left-same, onward-most}
@@ -104,18 +108,31 @@ none-due view none =
 none-live : (view : View) → is_known view ≡ true → struck_now view ≡ None → NoneLive view.batch.faults (now view).progress
 none-live view known none = rw (none-due view none, known) at none
 
+-- where the run halts it drains
+pub halts-drain : (batch : Batch) (front : ℕ) (halts : Halt) → IsHalt batch front halts → drains (dependence_in batch) front ≡ true
+halts-drain batch front (halt.Ended ending) h = or_left (nat_eq front (dependence_in batch).count) ((dependence_in batch).settles front) (eq-eqb front (dependence_in batch).count h.0)
+halts-drain batch front halt.Settling h = or_right (nat_eq front (dependence_in batch).count) ((dependence_in batch).settles front) h
+
+-- no settle stands past the end
+none-settles : (batch : Batch) (front : ℕ) → front ≡ (dependence_in batch).count → (dependence_in batch).settles front ≡ true → ⊥
+none-settles batch front passed settles =
+    let past : slice_get (run_in batch) front ≡ None = slice_get_past (run_in batch) front (let e = passed in omega arith) in
+    true≢false (sym settles ∙ ap settles_one past)
+
 known-ends : (view : View) → Stands view → is_known view ≡ true → drains (dependence_in view.batch) (now view).progress.front ≡ true
 known-ends view stands known = go view.ended known stands.ended
   where
-    go : (o : Option End) → is_some o ≡ true → IfSome o (λ ending. (drains (dependence_in view.batch) (now view).progress.front ≡ true) × (ending ≡ end_in view.batch))
-        → drains (dependence_in view.batch) (now view).progress.front ≡ true
+    go : (o : Option Halt) → is_some o ≡ true → IfSome o (IsHalt view.batch (now view).progress.front) → drains (dependence_in view.batch) (now view).progress.front ≡ true
     go None e h = absurd (false≢true e)
-    go (Some ending) e h = h.0
+    go (Some halts) e h = halts-drain view.batch (now view).progress.front halts h
+
+-- what is known of a halt
+known-halt : (view : View) (halts : Halt) → Stands view → view.ended ≡ Some halts → IsHalt view.batch (now view).progress.front halts
+known-halt view halts stands is = subst (λ o. IfSome o (IsHalt view.batch (now view).progress.front)) is stands.ended
 
 -- a run that has ended does so as the plain run
 pub ends-so : (view : View) (ending : End) → Stands view → HasFinished view ending → ending ≡ end_in view.batch
-ends-so view ending stands done =
-    (subst (λ o. IfSome o (λ e. (drains (dependence_in view.batch) (now view).progress.front ≡ true) × (e ≡ end_in view.batch))) done.ended stands.ended).1
+ends-so view ending stands done = (known-halt view (halt.Ended ending) stands done.ended).1
 
 -- and is complete where no position is struck
 pub completed : (view : View) (ending : End) → Stands view → struck_now view ≡ None → HasFinished view ending
@@ -134,35 +151,57 @@ completed view ending stands none done =
     known = ap is_some done.ended
 
     passed : (now view).progress.front ≡ (dependence_in view.batch).count
-    passed = eqb-true (now view).progress.front (dependence_in view.batch).count (known-ends view stands (ap is_some done.ended))
+    passed = (known-halt view (halt.Ended ending) stands done.ended).0
 
-some-end : (o : Option End) → is_some o ≡ true → (ending : End) × (o ≡ Some ending)
-some-end None e = absurd (false≢true e)
-some-end (Some ending) e = (ending, refl)
+some-halt : (o : Option Halt) → is_some o ≡ true → ((ending : End) × (o ≡ Some (halt.Ended ending))) ⊎ (o ≡ Some halt.Settling)
+some-halt None e = absurd (false≢true e)
+some-halt (Some (halt.Ended ending)) e = inl (ending, refl)
+some-halt (Some halt.Settling) e = inr refl
 
 -- at the end of a round with nothing out, nothing to post and no event, a position would have retired or been issued, or the run ended
-stuck : (settled issued posted : View) → Stands settled → Stands posted → IsSettled settled
-    → ((ending : End) → ¬ HasFinished settled ending) → now posted ≡ now settled → now posted ≡ now issued → IsIssued issued
+stuck : (settled issued posted : View) → Stands settled → Stands issued → Stands posted → IsSettled settled
+    → ((ending : End) → ¬ HasFinished settled ending) → issued.batch ≡ settled.batch → now posted ≡ now settled → now posted ≡ now issued → IsIssued issued
     → NoneToPost posted 0 → AreTaken posted → (is_known issued ≡ true → is_known posted ≡ true)
     → (is_known settled ≡ true) ⊎ (is_known posted ≡ false) → ⊥
-stuck settled issued posted stood stands quiet unfinished same same' answer none home kept (inr unknown) =
+stuck settled issued posted stood begun stands quiet unfinished batch same same' answer none home kept known_so =
     elim answer [
-      | inl known ↦ both_ways (is_known posted) unknown (kept known)
-      | inr awaited ↦ awaited.2 (subst (λ at. WasTaken at awaited.0) same' (none-awaited posted stands none home awaited.0 (subst (λ at. awaited.0 < at.progress.front) (sym same') awaited.1)))
+      | inl ended ↦ elim known_so [ inl known ↦ waits known (ended_not ended.0 ended.1) | inr unknown ↦ both_ways (is_known posted) unknown (kept (ap is_some ended.1)) ]
+      | inr (inl waiting) ↦ elim known_so [ inl known ↦ waits known (waiting_not waiting.1) | inr unknown ↦ both_ways (is_known posted) unknown (kept (ap is_some waiting.0)) ]
+      | inr (inr awaited) ↦ awaited.2 (subst (λ at. WasTaken at awaited.0) same' (none-awaited posted stands none home awaited.0 (subst (λ at. awaited.0 < at.progress.front) (sym same') awaited.1)))
     ]
-stuck settled issued posted stood stands quiet unfinished same same' answer none home kept (inl known) =
-    elim (cases_lt (now settled).retired (now settled).progress.front) [
-      | inl more ↦ quiet.none_retires
-          (record {
-            issued = more;
-            applied = subst (λ at. at.applied at.retired ≡ true) same (all-applied posted stands none home (now posted).retired (subst (λ at. at.retired < at.progress.front) (sym same) more));
-            none_due = none-due settled quiet.none_struck;
-            safe = inr (known, none-live settled known quiet.none_struck);
-          })
-      | inr all ↦
-          (let ending = some-end settled.ended known in
-          unfinished ending.0 (record { ended = ending.1; retired = let low = (stage-stands settled stood).retired_low in omega arith }))
-    ]
+  where
+    at_same : now issued ≡ now settled
+    at_same = sym same' ∙ same
+
+    -- the oldest position would retire
+    none_left : is_known settled ≡ true → (now settled).retired < (now settled).progress.front → ⊥
+    none_left known more =
+        quiet.none_retires
+        (record {
+          issued = more;
+          applied = subst (λ at. at.applied at.retired ≡ true) same (all-applied posted stands none home (now posted).retired (subst (λ at. at.retired < at.progress.front) (sym same) more));
+          none_due = none-due settled quiet.none_struck;
+          safe = inr (known, none-live settled known quiet.none_struck);
+        })
+
+    -- or else a settle comes next
+    waits : is_known settled ≡ true → (((now settled).progress.front ≤ (now settled).retired) → (dependence_in settled.batch).settles (now settled).progress.front ≡ true → ⊥) → ⊥
+    waits known settling =
+        elim (cases_lt (now settled).retired (now settled).progress.front) [
+          | inl more ↦ none_left known more
+          | inr all ↦ elim (some-halt settled.ended known) [
+            | inl ending ↦ unfinished ending.0 (record { ended = ending.1; retired = let low = (stage-stands settled stood).retired_low in omega arith })
+            | inr is ↦ settling all (known-halt settled halt.Settling stood is)
+          ]
+        ]
+
+    ended_not : (ending : End) → issued.ended ≡ Some (halt.Ended ending) → (now settled).progress.front ≤ (now settled).retired → (dependence_in settled.batch).settles (now settled).progress.front ≡ true → ⊥
+    ended_not ending is all settles =
+        none-settles settled.batch (now settled).progress.front
+        (ap (λ (at : Stage). at.progress.front) (sym at_same) ∙ (known-halt issued (halt.Ended ending) begun is).0 ∙ ap (λ batch. (dependence_in batch).count) batch) settles
+
+    waiting_not : (now issued).retired < (now issued).progress.front → (now settled).progress.front ≤ (now settled).retired → (dependence_in settled.batch).settles (now settled).progress.front ≡ true → ⊥
+    waiting_not more all settles = let there = subst (λ (at : Stage). at.retired < at.progress.front) at_same more in omega arith
 
 flag-most : (b : Bool) → cond b 0 1 ≤ 1
 flag-most true = omega arith
@@ -189,7 +228,7 @@ idle-round first settled issued posted one quiet unfinished two answer three non
   where
     impossible : Rests first settled → Rests settled issued → Rests issued posted → (is_known settled ≡ true) ⊎ (is_known posted ≡ false) → ⊥
     impossible rests rests' rests'' =
-        stuck settled issued posted one.stands three.stands quiet unfinished
+        stuck settled issued posted one.stands two.stands three.stands quiet unfinished two.batch
         (now-same settled posted (three.batch ∙ two.batch) (rests''.events ∙ rests'.events)) (now-same issued posted three.batch rests''.events) answer none home rests''.known
 
     go : (b c : Bool) → is_known first ≡ b → is_known posted ≡ c → Rests first settled → Rests settled issued → Rests issued posted → left_to_know posted < left_to_know first

@@ -5,7 +5,6 @@ use Rattle.std.specs.Result.{IsErr}
 use Rattle.std.proofs.lemmas.Bool.{eq-eqb, false≢true, and_parts, and_from, or_cases, or_left, or_right, leb-true, le-leb}
 use Rattle.std.proofs.lemmas.List.{append-nil}
 use Rattle.gp_base.specs.declared.limits.TheConstants.{LONGEST_DELAY}
-use Rattle.gp_base.specs.declared.ending.End.{End}
 use Rattle.gp_base.specs.declared.journal.Event.{Event}
 use Rattle.gp_base.specs.declared.journal.Event.TheVariants as event
 use Rattle.gp_base.specs.Sinks.{AppendsPrefix}
@@ -19,12 +18,14 @@ use Rattle.reorder_list.specs.declared.entry.State.TheVariants as entry
 use Rattle.reorder_list.specs.Entries.{entry_at, is_applied}
 use Rattle.reorder_list.specs.Stages.{IsEntry, EntriesStand, buffer_of}
 use Rattle.engine.specs.declared.parts.Parts.{Parts}
+use Rattle.engine.specs.declared.calls.Halt.{Halt}
 use Rattle.engine.specs.View.{Batch, View, now, program_in, run_in, dependence_in, lines_of, lines_at}
 use Rattle.reorder_list.specs.declared.report.StopWhy.{StopWhy}
 use Rattle.restart_log.specs.Lines.{printed}
 use Rattle.engine.specs.Gives.{MayRetireNow, RetireWrites}
 use Rattle.engine.specs.inner.Kept.{view_of, stage_of, IsPlaceIn, IsEnd, WindowStands, Keeps, Kept}
 use Rattle.engine.specs.inner.Retiring.{none_strikes, entry_retires, oldest_retires, lines_of_entry, oldest_lines}
+use Rattle.engine.proofs.Progress.{halts-drain}
 use Rattle.engine.proofs.Kepts.{stage_stands, keeps_then}
 use Rattle.engine.proofs.RingTakes.{ring_same}
 use Rattle.engine.proofs.Struck.{due-is, live-is}
@@ -85,7 +86,7 @@ module _ (batch : Batch) (parts : Parts) (kept : Kept batch parts) where
   live-none : none_strikes true parts.rol.entries parts.issued batch.faults ≡ is_none (least_struck (is_live at.progress) batch.faults)
   live-none = ap is_none (live-is batch parts kept)
 
-  may-now : retires ≡ true → MayRetireNow (view_of batch parts)
+  pub may-now : retires ≡ true → MayRetireNow (view_of batch parts)
   may-now true_is = go (slice_get parts.rol.entries 0) refl true_is
     where
       go : (o : Option Entry) → slice_get parts.rol.entries 0 ≡ o → entry_retires (is_some parts.ended) parts.rol.entries parts.issued batch.faults o ≡ true → MayRetireNow (view_of batch parts)
@@ -133,9 +134,9 @@ module _ (batch : Batch) (parts : Parts) (kept : Kept batch parts) where
           ];
         }
       where
-        drained : (ended : Option End) → IsEnd batch at.progress.front ended → is_some ended ≡ true → NoneLive batch.faults at.progress → Drained (dependence_in batch) batch.faults at.progress
+        drained : (ended : Option Halt) → IsEnd batch at.progress.front ended → is_some ended ≡ true → NoneLive batch.faults at.progress → Drained (dependence_in batch) batch.faults at.progress
         drained None is known none = absurd (false≢true known)
-        drained (Some ending) is known none = (is.0, none)
+        drained (Some halts) is known none = (halts-drain batch at.progress.front halts is, none)
 
     pub lines-are : oldest_lines parts.rol.entries ≡ lines_at batch at.retired
     lines-are =

@@ -1,5 +1,5 @@
 -- The ring and the places after a pass and after an issue.
-use Rattle.std.proofs.Common.{◌≡◌, inl, inr, ℕ, suc, ◌+◌, ◌<◌, ◌≤◌, List, [], ◌∷◌, ◌++◌, length, Option, Some, None, refl, sym, ap, ◌∙◌, subst, arith}
+use Rattle.std.proofs.Common.{◌≡◌, inl, inr, ℕ, suc, ◌+◌, ◌<◌, ◌≤◌, List, [], ◌∷◌, ◌++◌, length, Option, Some, None, refl, sym, ap, ◌∙◌, subst, arith, true}
 use Rattle.std.specs.Prelude.{◌≢◌, ℤ, slice_get}
 use Rattle.std.proofs.lemmas.Bool.{cases_lt, cases_eq}
 use Rattle.std.proofs.lemmas.Option.{slice_get_within}
@@ -10,7 +10,7 @@ use Rattle.task_ast.specs.declared.sync.SyncOp.TheVariants as sync
 use Rattle.task_ast.specs.declared.sync.Next.{Next}
 use Rattle.task_ast.specs.Control.{Point}
 use Rattle.task_ast.specs.Repeat.{Again, More, Done}
-use Rattle.task_ast.specs.Table.{Table, next_of, last_in}
+use Rattle.task_ast.specs.Table.{is_settle, Table, next_of, last_in}
 use Rattle.task_ast.specs.Turn.{Turn, Issue, Needs, Ended, child_of, turn}
 use Rattle.task_ast.specs.laws.Threads.{SameThreads, HasBegun, with_child}
 use Rattle.task_ast.specs.laws.Standing.{Agrees, IsIssuedBy, TurnTells, passes, issues, needs, ends}
@@ -22,7 +22,7 @@ use Rattle.task_ast.proofs.TurnLaws.{pass_law, issue_law}
 use Rattle.task_ast.proofs.IssuedTables.{get_push, get_last, get_past, length_push, last_inside}
 use Rattle.dependence.specs.Restarts.{NoneDue}
 use Rattle.dependence.specs.Journal.{Stage, Allowed, MayFollow, WasTaken, happens}
-use Rattle.dependence.specs.Runs.{before_one}
+use Rattle.dependence.specs.Runs.{settles_one, before_one}
 use Rattle.dependence.specs.Standing.{NamesIssued}
 use Rattle.engine.specs.View.{Batch, program_in, run_in, dependence_in}
 use Rattle.engine.specs.inner.RingStands.{plain_before, point_before, IsLearnt, RingStands, StartIs, places_after}
@@ -109,14 +109,16 @@ module _ (batch : Batch) {Place : Type 0} (IsPlace : (thread : ℕ) → SyncOp �
         go (Some q) e = holds.learnt.known t q e (λ none. some_none (sym begun.known ∙ none))
 
     -- the next position may be issued
-    pub may_issue : NoneDue batch.faults at.progress → Allowed (dependence_in batch) batch.faults at (event.Issue at.progress.front)
-    may_issue none_due =
+    pub may_issue : NoneDue batch.faults at.progress → (is_settle next.sync ≡ true → at.retired ≡ at.progress.front)
+        → Allowed (dependence_in batch) batch.faults at (event.Issue at.progress.front)
+    may_issue none_due alone =
         record {
           next = refl;
           left = below;
           none_due = none_due;
           follows = subst (MayFollow at)
               (sym (ap (before_one (run_in batch) p) told.position ∙ (ap (λ u. last_below (run_in batch) u p) told.thread ∙ same_run.lasts t))) follows;
+          settled = λ settles. alone (ap (λ (n : Next). is_settle n.sync) (sym told.begins) ∙ (ap settles_one (sym told.position) ∙ settles));
         }
 
     -- where the thread stood

@@ -12,8 +12,9 @@ use Rattle.dependence.specs.Restarts.{Dependence, struck_next}
 use Rattle.dependence.specs.Journal.{Stage, restarted, MayPost, happens}
 use Rattle.dependence.specs.Standing.{present}
 use Rattle.engine.specs.declared.calls.Issued.{Issued}
-use Rattle.engine.specs.declared.calls.Issued.TheVariants.{One, Needs, Ended}
-use Rattle.engine.specs.View.{View, run_in, dependence_in, now, is_known, Stands}
+use Rattle.engine.specs.declared.calls.Issued.TheVariants.{One, Needs, Settles, Ended}
+use Rattle.engine.specs.declared.calls.Halt.TheVariants as halt
+use Rattle.engine.specs.View.{View, run_in, dependence_in, now, Stands}
 use Rattle.engine.specs.Gives.{Did, IssueGives, struck_now, DetectGives, MayRetireNow, RetireGives, MayPostNow, IsNextToPost, NoneToPost}
 use Rattle.engine.specs.inner.Rounds.{left, GoesOn, IsSettled, IsIssued}
 use Rattle.engine.proofs.Events.{now-did, did-onward, did-leaves, same-onward, still-onward, learnt-onward, onward-then}
@@ -39,7 +40,8 @@ restarted-keeps dependence at (Some p) = (refl, refl, refl)
 
 -- a detection
 pub detected : (before after : View) (b : Bool) → Stands before → DetectGives before after b → GoesOn before after × ((now after).retired ≡ (now before).retired)
-detected before after true stands did =
+detected before after true stands gives =
+    let did = gives.0 in
     let e = event.Restart (length (now before).progress.made) in
     let at = now-did before after e did in
     let kept = restarted-keeps (dependence_in before.batch) (now before) (struck_next (dependence_in before.batch) before.batch.faults (now before).progress) in (
@@ -52,14 +54,15 @@ detected before after true stands did =
 detected before after false stands gives = (goes-same before after stands gives.0, retired-same before after gives.0)
 
 pub detected-leaves : (before after : View) → Stands before → DetectGives before after true → left after < left before
-detected-leaves before after stands did = did-leaves before after (event.Restart (length (now before).progress.made)) stands did
+detected-leaves before after stands gives = did-leaves before after (event.Restart (length (now before).progress.made)) stands gives.0
 
 pub detected-none : (before after : View) → DetectGives before after false → struck_now after ≡ None
 detected-none before after gives = ap struck_now gives.0 ∙ gives.1
 
 -- a retirement
 pub retired : (before after : View) (b : Bool) → Stands before → RetireGives before after b → GoesOn before after
-retired before after true stands did =
+retired before after true stands gives =
+    let did = gives.0 in
     let e = event.Retire (now before).retired in
     let at = now-did before after e did in
     record {
@@ -69,7 +72,7 @@ retired before after true stands did =
 retired before after false stands gives = goes-same before after stands gives.0
 
 pub retired-leaves : (before after : View) → Stands before → RetireGives before after true → left after < left before
-retired-leaves before after stands did = did-leaves before after (event.Retire (now before).retired) stands did
+retired-leaves before after stands gives = did-leaves before after (event.Retire (now before).retired) stands gives.0
 
 pub retired-settles : (before after : View) → struck_now before ≡ None → RetireGives before after false → IsSettled after
 retired-settles before after none gives = record { none_struck = ap struck_now gives.0 ∙ none; none_retires = subst (λ v. ¬ MayRetireNow v) (sym gives.0) gives.1 }
@@ -85,7 +88,8 @@ last-is_below run t (suc p) q e = go (is_of t (slice_get run p)) e (last-is_belo
 
 -- an issue
 pub issued : (before after : View) (answer : Issued) → Stands before → IssueGives before after answer → GoesOn before after × ((now after).retired ≡ (now before).retired)
-issued before after (One p) stands did =
+issued before after (One p) stands gives =
+    let did = gives.0 in
     let at = now-did before after (event.Issue p) did in (
       record {
         onward = did-onward before after (event.Issue p) stands did;
@@ -94,20 +98,27 @@ issued before after (One p) stands did =
       ap (λ at. at.retired) at,
     )
 issued before after (Needs t) stands gives = (goes-same before after stands gives.0, retired-same before after gives.0)
+issued before after (Settles t) stands gives = (
+  record { onward = learnt-onward before after halt.Settling stands gives.0 gives.1; crew = crew-learnt before after halt.Settling gives.0 },
+  ap (λ v. (now v).retired) gives.0,
+)
 issued before after (Ended ending) stands gives = (
-  record { onward = learnt-onward before after ending stands gives.0 gives.1 gives.2; crew = crew-learnt before after ending gives.0 },
+  record { onward = learnt-onward before after (halt.Ended ending) stands gives.0 (gives.1, gives.2); crew = crew-learnt before after (halt.Ended ending) gives.0 },
   ap (λ v. (now v).retired) gives.0,
 )
 
 pub issued-leaves : (before after : View) (p : ℕ) → Stands before → IssueGives before after (One p) → left after < left before
-issued-leaves before after p stands did = did-leaves before after (event.Issue p) stands did
+issued-leaves before after p stands gives = did-leaves before after (event.Issue p) stands gives.0
 
 pub issued-needs : (before after : View) (t : ℕ) → IssueGives before after (Needs t) → IsIssued after
 issued-needs before after t gives =
-    subst IsIssued (sym gives.0) (inr (gives.1.0, last-is_below (run_in before.batch) t (now before).progress.front gives.1.0 gives.1.1, gives.1.2))
+    subst IsIssued (sym gives.0) (inr (inr (gives.1.0, last-is_below (run_in before.batch) t (now before).progress.front gives.1.0 gives.1.1, gives.1.2)))
 
 pub issued-ends : (before after : View) (ending : End) → IssueGives before after (Ended ending) → IsIssued after
-issued-ends before after ending gives = inl (ap is_known gives.0)
+issued-ends before after ending gives = inl (ending, ap (λ v. v.ended) gives.0)
+
+pub issued-waits : (before after : View) (t : ℕ) → IssueGives before after (Settles t) → IsIssued after
+issued-waits before after t gives = inr (inl (ap (λ v. v.ended) gives.0, subst (λ v. (now v).retired < (now v).progress.front) (sym gives.0) gives.2))
 
 -- a position that may be posted after another was posted might have been before, and is another
 may-before : (before after : View) (p q : ℕ) → Did before (event.Post p (present (now before) p)) after → MayPostNow after q → MayPostNow before q × ¬ (q ≡ p)

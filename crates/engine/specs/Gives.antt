@@ -1,5 +1,5 @@
 -- What the calls of an engine answer.
-use Rattle.std.specs.Prelude.{◌≡◌, ◌⊎◌, ℕ, map, ◌-◌, ◌+◌, ◌≤◌, ◌<◌, Bool, true, false, cond, List, length, Option, Some, None, Result, Ok, Err, IsErrOf}
+use Rattle.std.specs.Prelude.{◌≡◌, ◌≢◌, ◌⊎◌, ℕ, map, ◌-◌, ◌+◌, ◌≤◌, ◌<◌, Bool, true, false, cond, List, length, Option, Some, None, Result, Ok, Err, IsErrOf}
 use Rattle.std.specs.Option.{option_or}
 use Rattle.std.specs.Io.KnownBytes.{Appends}
 use Rattle.gp_base.specs.declared.limits.TheConstants.{LONGEST_DELAY}
@@ -10,17 +10,24 @@ use Rattle.gp_base.specs.declared.journal.Event.TheVariants as event
 use Rattle.gp_base.specs.Sinks.{Rose, AppendsPrefix}
 use Rattle.task_ast.specs.Names.{records_of, cells_in}
 use Rattle.task_ast.specs.State.{cell_value}
-use Rattle.task_ast.specs.Table.{numbers}
+use Rattle.task_ast.specs.declared.sync.Next.{Next}
+use Rattle.task_ast.specs.Repeat.{Done}
+use Rattle.task_ast.specs.Table.{Table, numbers, is_settle}
+use Rattle.task_ast.specs.Turn.{Turn, turn}
+use Rattle.task_ast.specs.Turn as turns
+use Rattle.task_ast.specs.laws.Standing.{Stands as StandsAt}
 use Rattle.task_ast.specs.Position.{last_below}
-use Rattle.dependence.specs.Restarts.{drains, begun_of, is_live, is_due, least_struck, NoneDue, NoneLive}
+use Rattle.dependence.specs.Restarts.{begun_of, is_live, is_due, least_struck, NoneDue, NoneLive}
 use Rattle.dependence.specs.Journal.{Allowed, WasTaken, MayPost}
 use Rattle.dependence.specs.Standing.{present}
 use Rattle.reorder_list.specs.declared.report.Report.{Report}
 use Rattle.reorder_list.specs.declared.report.StopWhy.{StopWhy}
 use Rattle.reorder_list.specs.declared.report.StopWhy.TheVariants.{WriteFault}
 use Rattle.restart_log.specs.Lines.{printed}
+use Rattle.engine.specs.inner.RingStands.{IsLearnt}
 use Rattle.engine.specs.declared.calls.Issued.{Issued}
-use Rattle.engine.specs.declared.calls.Issued.TheVariants.{One, Needs, Ended}
+use Rattle.engine.specs.declared.calls.Issued.TheVariants.{One, Needs, Settles, Ended}
+use Rattle.engine.specs.declared.calls.Halt.TheVariants as halt
 use Rattle.engine.specs.View.{View, program_in, run_in, dependence_in, end_in, lines_at, now, state_in, is_known, grown, learnt}
 
 -- the event was allowed, and was made
@@ -32,12 +39,41 @@ pub record Did (before : View) (event : Event) (after : View) : Type 0 where
 abbrev pub IsAwaited : View → (thread : ℕ) → Type 0
 IsAwaited view t = (q : ℕ) × (last_below (run_in view.batch) t (now view).progress.front ≡ Some q) × ¬ WasTaken (now view) q
 
--- an issue makes the next position, or needs what a thread does next, or finds that the run has ended
+-- the rules of turns answer this of the run's table at this front, after some passes, of which exactly the next synchronisations are unknown
+-- that follow a subthread of which no attempt was taken
+pub record TurnsTo (view : View) (answer : Turn) : Type 0 where
+  pub table : Table
+  pub stands : StandsAt (program_in view.batch) view.batch.inputs view.batch.limits (now view).progress.front table
+  pub learnt : IsLearnt (now view) table
+  pub turned : turn table ≡ Done answer
+
+-- they issue a subthread
+pub record TurnsToIssue (view : View) : Type 0 where
+  pub thread : ℕ
+  pub begins : Next
+  pub child : Option ℕ
+  pub later : Table
+  pub turns : TurnsTo view (turns.Issue thread begins child later)
+
+-- they issue a subthread of this thread, which begins with a settle
+pub record TurnsToSettle (view : View) (thread : ℕ) : Type 0 where
+  pub begins : Next
+  pub child : Option ℕ
+  pub later : Table
+  pub turns : TurnsTo view (turns.Issue thread begins child later)
+  pub settles : is_settle begins.sync ≡ true
+
+-- an issue makes the next position, or needs what a thread does next, or finds that a settle comes next while some position has not retired, or that the run
+-- has ended
 abbrev pub IssueGives : (before after : View) → Issued → Type 0
-IssueGives before after (One p) = Did before (event.Issue p) after
-IssueGives before after (Needs t) = (after ≡ before) × IsAwaited before t
+IssueGives before after (One p) = Did before (event.Issue p) after × TurnsToIssue before
+IssueGives before after (Needs t) = (after ≡ before) × IsAwaited before t × TurnsTo before (turns.Needs t)
+IssueGives before after (Settles t) =
+    (after ≡ learnt halt.Settling before) × ((dependence_in before.batch).settles (now before).progress.front ≡ true) × ((now before).retired < (now before).progress.front)
+    × TurnsToSettle before t
 IssueGives before after (Ended ending) =
-    (after ≡ learnt ending before) × (drains (dependence_in before.batch) (now before).progress.front ≡ true) × (ending ≡ end_in before.batch)
+    (after ≡ learnt (halt.Ended ending) before) × ((now before).progress.front ≡ (dependence_in before.batch).count) × (ending ≡ end_in before.batch)
+    × TurnsTo before (turns.Ended ending)
 
 -- the position that is struck next, as far as the end is known
 abbrev pub struck_now : View → Option ℕ
@@ -47,7 +83,7 @@ struck_now view =
 
 -- a restart was made, or no position is struck
 abbrev pub DetectGives : (before after : View) → Bool → Type 0
-DetectGives before after true = Did before (event.Restart (length (now before).progress.made)) after
+DetectGives before after true = Did before (event.Restart (length (now before).progress.made)) after × (struck_now before ≢ None)
 DetectGives before after false = (after ≡ before) × (struck_now before ≡ None)
 
 -- the oldest position may retire, as far as the end is known
@@ -60,7 +96,7 @@ pub record MayRetireNow (view : View) : Type 0 where
 
 -- the oldest position retired, or may not retire
 abbrev pub RetireGives : (before after : View) → Bool → Type 0
-RetireGives before after true = Did before (event.Retire (now before).retired) after
+RetireGives before after true = Did before (event.Retire (now before).retired) after × MayRetireNow before
 RetireGives before after false = (after ≡ before) × ¬ MayRetireNow before
 
 -- all lines of the oldest position are written where it retires, none where it may not, and a part of them where the call stops
@@ -90,7 +126,7 @@ NoneToPost view from = (p : ℕ) → from ≤ p → ¬ MayPostNow view p
 
 -- the run has ended so, which is known, and all positions have retired
 pub record HasFinished (view : View) (ending : End) : Type 0 where
-  pub ended : view.ended ≡ Some ending
+  pub ended : view.ended ≡ Some (halt.Ended ending)
   pub retired : (now view).retired ≡ (now view).progress.front
 
 -- the events of the run, and the restarts that they made

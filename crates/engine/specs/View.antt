@@ -11,12 +11,14 @@ use Rattle.task_ast.specs.State.{State}
 use Rattle.task_ast.specs.Shaped.{IsAccepted}
 use Rattle.task_ast.specs.Fold.{fold}
 use Rattle.task_ast.specs.Plain.{Subthread, order, opening, end}
-use Rattle.dependence.specs.Restarts.{Dependence, drains}
+use Rattle.dependence.specs.Restarts.{Dependence}
 use Rattle.dependence.specs.Journal.{Stage, Lawful, stage}
 use Rattle.dependence.specs.Runs.{dependence_of}
 use Rattle.dependence.specs.Standing.{AreShort}
 use Rattle.dependence.specs.RunBuffer.{members_at}
 use Rattle.subthread.specs.declared.task.Work.{Work}
+use Rattle.engine.specs.declared.calls.Halt.{Halt}
+use Rattle.engine.specs.declared.calls.Halt.TheVariants as halt
 use Rattle.subthread.specs.Tasks.{program_in as program_of, under_of}
 
 -- what is run: the work that its tasks share, the values at its start, its limits, and the faults that strike it
@@ -26,11 +28,11 @@ pub record Batch : Type 0 where
   pub limits : Limits
   pub faults : List Fault
 
--- an engine: its batch, the events so far, and how the run ends, where it is known that it ends at this front
+-- an engine: its batch, the events so far, and why nothing is issued at this front, where that is known
 pub record View : Type 0 where
   pub batch : Batch
   pub events : List Event
-  pub ended : Option End
+  pub ended : Option Halt
 
 module _ (batch : Batch) where
   abbrev pub program_in : Program
@@ -79,8 +81,8 @@ state_in view = fold (members_at (run_in view.batch) view.batch.faults (now view
 abbrev pub is_known : View → Bool
 is_known view = is_some view.ended
 
--- an end that is known is so until the next issue
-abbrev pub ended_after : Event → Option End → Option End
+-- a halt that is known is so until the next issue
+abbrev pub ended_after : Event → Option Halt → Option Halt
 ended_after (event.Issue p) ended = None
 ended_after _ ended = ended
 
@@ -88,17 +90,22 @@ ended_after _ ended = ended
 abbrev pub grown : View → Event → View
 grown view event = record { batch = view.batch; events = view.events ++ event ∷ []; ended = ended_after event view.ended }
 
--- with its end known
-abbrev pub learnt : End → View → View
-learnt ending view = record { batch = view.batch; events = view.events; ended = Some ending }
+-- with its halt known
+abbrev pub learnt : Halt → View → View
+learnt halts view = record { batch = view.batch; events = view.events; ended = Some halts }
+
+-- the run ends there, as the plain run does, or a settle comes next
+abbrev pub IsHalt : Batch → (front : ℕ) → Halt → Type 0
+IsHalt batch front (halt.Ended ending) = (front ≡ (dependence_in batch).count) × (ending ≡ end_in batch)
+IsHalt batch front halt.Settling = (dependence_in batch).settles front ≡ true
 
 -- no event was made
 abbrev pub begun : Batch → View
 begun batch = record { batch = batch; events = []; ended = None }
 
--- what stands between two calls: the journal is lawful, and an end that is known is that of the plain run, which drains
+-- what stands between two calls: the journal is lawful, and a halt that is known is one
 pub record Stands (view : View) : Type 0 where
   pub accepted : IsAccepted (program_in view.batch)
   pub short : AreShort view.batch.faults
   pub lawful : Lawful (dependence_in view.batch) view.batch.faults view.events
-  pub ended : IfSome view.ended (λ ending. (drains (dependence_in view.batch) (now view).progress.front ≡ true) × (ending ≡ end_in view.batch))
+  pub ended : IfSome view.ended (IsHalt view.batch (now view).progress.front)

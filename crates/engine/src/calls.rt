@@ -19,12 +19,21 @@ use std::alloc::AllocError;
 use std::thread::Threads;
 use subthread::Done;
 
-/// What an issue answers: the position that was issued, a thread whose next synchronisation is needed first, or how the
-/// run ends.
+/// Why nothing is issued at a front: the run ends there, or the next subthread begins with a settle, which waits until all
+/// before it has retired.
+#[derive(Clone, Copy, PartialEq, Eq)]
+pub enum Halt {
+    Ended(End),
+    Settling,
+}
+
+/// What an issue answers: the position that was issued, a thread whose next synchronisation is needed first, one whose
+/// settle waits for positions to retire, or how the run ends.
 #[derive(Clone, Copy, PartialEq, Eq)]
 pub enum Issued {
     One(Pos),
     Needs(ThreadNo),
+    Settles(ThreadNo),
     Ended(End),
 }
 

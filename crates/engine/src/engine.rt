@@ -31,7 +31,9 @@ impl<'a> Model for Engine<'a> {
 
     ghost view = { λ e. record { view = view_of (batch_in e.plan) e.parts; room = e.parts.events.spare } };
 
-    ghost invariant = { λ e. Kept (batch_in e.plan) e.parts };
+    ghost use Rattle.std.specs.Prelude.{◌≡◌, false};
+
+    ghost invariant = { λ e. Kept (batch_in e.plan) e.parts × (e.parts.ring.cleared ≡ false) };
 }
 
 impl<'a> Engine<'a> {

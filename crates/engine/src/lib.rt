@@ -9,7 +9,7 @@ mod engine_calls;
 mod parts;
 mod rounds;
 
-pub use calls::{Calls, Issued};
+pub use calls::{Calls, Halt, Issued};
 pub use driver::drive;
 pub use engine::Engine;
 pub use reorder_list::{EngineStop, Report, StopWhy};

@@ -14,7 +14,8 @@ mod taking;
 pub use beginning::begin;
 pub use closing::{finished, into_journal, into_report, runnable};
 pub use detecting::detect;
-use gp_base::{At, End, Event, Faults, Inputs, Limits, Nums, Restart, Room};
+use crate::Halt;
+use gp_base::{At, Event, Faults, Inputs, Limits, Nums, Restart, Room};
 pub use issuing::issue;
 pub use posting::post;
 use record_store::Store;
@@ -55,7 +56,7 @@ pub struct Parts {
     pub events: Room<Event>,
     pub restarts: Room<Restart>,
     pub issued: u32,
-    pub ended: Option<End>,
+    pub ended: Option<Halt>,
 }
 
 impl Place {

@@ -45,7 +45,7 @@ fn retire_all<E: Calls, O: Sink>(engine: &mut E, out: &mut O) -> Result<(), Stop
     }
 }
 
-// Issues until it is needed what a thread does next, or the end is known.
+// Issues until it is needed what a thread does next, or a settle waits, or the end is known.
 fn issue_all<E: Calls>(engine: &mut E) -> Result<(), AllocError>
     requires stands { Stands (E.view engine.old) }
     ensures goes_on { GoesOn (E.view engine.old) (E.view engine.new) }
@@ -57,6 +57,7 @@ fn issue_all<E: Calls>(engine: &mut E) -> Result<(), AllocError>
         match engine.issue()? {
             Issued::One(_) => {}
             Issued::Needs(_) => return Ok(()),
+            Issued::Settles(_) => return Ok(()),
             Issued::Ended(_) => return Ok(()),
         }
     }

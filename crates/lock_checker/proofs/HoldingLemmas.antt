@@ -5,7 +5,7 @@ use Rattle.std.specs.List.{list_any}
 use Rattle.task_ast.specs.declared.check_kind.CheckKind.{CheckKind}
 use Rattle.task_ast.specs.declared.check_kind.CheckKind.TheVariants.{UnknownName, WrongCount, DataInControl, NotHeld, HeldTwice, BranchesDiffer, IndexChangedWhileHeld}
 use Rattle.task_ast.specs.declared.tree.Atom.{Atom}
-use Rattle.task_ast.specs.Tree.{Name, Stmt, At, What, SetCtl, While, If, Lock, Unlock, Fork, Join, Barrier, SetReg, Read, Write, Print, When, Block, Nothing, Then, statements}
+use Rattle.task_ast.specs.Tree.{Name, Stmt, At, What, SetCtl, While, If, Lock, Unlock, Fork, Join, Barrier, Settle, SetReg, Read, Write, Print, When, Block, Nothing, Then, statements}
 use Rattle.task_ast.specs.Names.{task_named}
 use Rattle.task_ast.specs.Visit.{Visit, visit, fails_if, first_fault}
 use Rattle.task_ast.specs.Declarations.{Scope, is_control, is_register, is_lock, is_atom, has_unknown, has_data, has_data_index, counts_differ, any_misplaced}
@@ -28,6 +28,7 @@ mutual
   held_same_by (Fork t es x) same = same
   held_same_by (Join e x) same = same
   held_same_by (Barrier b) same = same
+  held_same_by (Settle x c) same = same
   held_same_by (SetReg x e) same = same
   held_same_by (Read r i x) same = same
   held_same_by (Write r i e) same = same
@@ -58,6 +59,7 @@ module _ (s : Scope) where
       (into_same x a b same)
   at_same (Join e x) a b same = refl
   at_same (Barrier c) a b same = refl
+  at_same (Settle x c) a b same = ap (λ t. fails_if (not (is_register s x) || not (is_control s c)) UnknownName ++ fails_if t IndexChangedWhileHeld) (any_same (is_index c) a b same)
   at_same (SetReg x e) a b same = refl
   at_same (Read r i x) a b same = ap (λ t. fails_if (is_none (array_over s r) || (not (is_atom s i) || not (is_register s x))) UnknownName ++ fails_if t NotHeld) (lacks_same (array_over s r) i a b same)
   at_same (Write r i e) a b same = ap (λ t. fails_if (is_none (array_over s r) || (not (is_atom s i) || has_unknown s e)) UnknownName ++ fails_if (has_data_index e) DataInControl ++ fails_if t NotHeld) (lacks_same (array_over s r) i a b same)
@@ -73,6 +75,7 @@ module _ (s : Scope) where
   after_same (Fork t es x) a b same = refl
   after_same (Join e x) a b same = refl
   after_same (Barrier c) a b same = refl
+  after_same (Settle x c) a b same = refl
   after_same (SetReg x e) a b same = refl
   after_same (Read r i x) a b same = refl
   after_same (Write r i e) a b same = refl
@@ -95,6 +98,7 @@ module _ (s : Scope) where
     inside_same (Fork t es x) a b same = refl
     inside_same (Join e x) a b same = refl
     inside_same (Barrier c) a b same = refl
+    inside_same (Settle x c) a b same = refl
     inside_same (SetReg x e) a b same = refl
     inside_same (Read r i x) a b same = refl
     inside_same (Write r i e) a b same = refl

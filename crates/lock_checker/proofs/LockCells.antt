@@ -9,7 +9,7 @@ use Rattle.std.proofs.lemmas.List.Folds.{list_any_at}
 use Rattle.task_ast.specs.declared.env.Env.{Env}
 use Rattle.task_ast.specs.declared.tree.Atom.{Atom}
 use Rattle.task_ast.specs.declared.tree.Head.{Head}
-use Rattle.task_ast.specs.Tree.{Name, At, What, SetCtl, While, If, Lock, Unlock, Fork, Join, Barrier, SetReg, Read, Write, Print, When, Block, Nothing, Then}
+use Rattle.task_ast.specs.Tree.{Name, At, What, SetCtl, While, If, Lock, Unlock, Fork, Join, Barrier, Settle, SetReg, Read, Write, Print, When, Block, Nothing, Then}
 use Rattle.task_ast.specs.Names.{is_name, place, locks_of, records_of, cell_number, cells_in}
 use Rattle.task_ast.specs.Action.{Action, Load, Store, Choose, Arm, OneAction, term, Say, Set}
 use Rattle.task_ast.specs.Control.{Setting, action, arm, record_number, register_number, index_of, all_of}
@@ -145,6 +145,7 @@ module _ (heads : List Head) (laid : IsLaidOut heads) (locks : List ℕ) where
       action_names (Fork t es x) a is touches = absurd (cc is)
       action_names (Join e x) a is touches = absurd (cc is)
       action_names (Barrier b) a is touches = absurd (cc is)
+      action_names (Settle x c) a is touches = absurd (cc is)
 
       arm_names : (b : Block) (a : Arm) → arm s registers b env ≡ Some a → TouchesAllHeld heads b (pairs_held held) → ArmNamesOnly test a
       arm_names Nothing a is touches = subst (ArmNamesOnly test) (ap (λ o. unwrap_or o a) is) tt

@@ -18,7 +18,8 @@ use Rattle.task_ast.specs.Declarations.{main, head_visits, task_visits, main_vis
 use Rattle.task_ast.specs.Check.{bodies_visits}
 use Rattle.task_ast.specs.Shaped.{IsAccepted}
 use Rattle.task_ast.specs.Body.{Body, Stop, spent}
-use Rattle.task_ast.specs.Control.{Setting, Point, step, env_at, beginning, first_actions}
+use Rattle.task_ast.specs.State.{RegistersOf, number_at}
+use Rattle.task_ast.specs.Control.{Setting, Point, with_number, step, env_at, beginning, first_actions}
 use Rattle.task_ast.specs.laws.Keeps.{AllName}
 use Rattle.task_ast.specs.Layout.{layout, IsLaidOut}
 use Rattle.task_ast.specs.Under.{is_under, KeepsToLocks}
@@ -26,13 +27,13 @@ use Rattle.task_ast.specs.Repeat.{Move, Goes, Ends, state_from, state_after}
 use Rattle.task_ast.specs.Table.{next_of, is_end, is_known_end, owned_from}
 use Rattle.task_ast.specs.Turn.{owner_in, child_of, owners_after}
 use Rattle.task_ast.specs.laws.Threads.{MayBegin, with_child}
-use Rattle.task_ast.specs.Plain.{Subthread, Plain, Machine, no_task, main_number, setting, tree_machine, move, opening, order}
+use Rattle.task_ast.specs.Plain.{Subthread, Plain, Machine, settled_by, from_by, no_task, main_number, setting, tree_machine, move, opening, order}
 use Rattle.task_ast.specs.Position.{IsStep, body_by, before, point_in}
 use Rattle.task_ast.proofs.Layouts.{laid_out, accepted_sizes}
 use Rattle.task_ast.proofs.LessTurns.{inside_of}
 use Rattle.task_ast.proofs.PlainSteps.{begins_of, is_step, points_kept}
 use Rattle.task_ast.proofs.Repeats.{step_there}
-use Rattle.lock_checker.specs.WalkLaw.{Holding, held_past, Comes, begins, past}
+use Rattle.lock_checker.specs.WalkLaw.{Holding, held_past, Comes, begins, past, by_settle}
 use Rattle.lock_checker.specs.Soundness.{Each, IsOwned, Apart, HasCell, ThreadHolds, IsAhead, at_start, at_stop, at_limit, LocksStand}
 use Rattle.lock_checker.proofs.HoldingLemmas.{none_parts}
 use Rattle.lock_checker.proofs.WalkLemmas.{walk_law}
@@ -75,6 +76,7 @@ new_thread (sync.Lock k) n u l m = absurd (omega arith)
 new_thread (sync.Unlock k) n u l m = absurd (omega arith)
 new_thread (sync.Join h) n u l m = absurd (omega arith)
 new_thread (sync.Barrier b) n u l m = absurd (omega arith)
+new_thread (sync.Settle register control) n u l m = absurd (omega arith)
 new_thread sync.End n u l m = absurd (omega arith)
 new_thread sync.BadIndex n u l m = absurd (omega arith)
 new_thread sync.Spent n u l m = absurd (omega arith)
@@ -96,6 +98,7 @@ known_end (Some next) e = (next, refl, end_is next.sync e)
     end_is (sync.Fork task arguments) e = absurd (true≢false (sym e))
     end_is (sync.Join h) e = absurd (true≢false (sym e))
     end_is (sync.Barrier b) e = absurd (true≢false (sym e))
+    end_is (sync.Settle register control) e = absurd (true≢false (sym e))
     end_is sync.BadIndex e = absurd (true≢false (sym e))
     end_is sync.Spent e = absurd (true≢false (sym e))
 
@@ -153,6 +156,9 @@ module _ (program : Program) (inputs : Inputs) (limits : Limits) (accepted : IsA
     abbrev old : Point
     old = point_in program inputs limits x sub.thread
 
+    abbrev from : Point
+    from = from_by (tree_machine program inputs limits) x sub.begins.sync sub.thread
+
     abbrev b : Body Point
     b = body_by (tree_machine program inputs limits) x sub
 
@@ -165,7 +171,7 @@ module _ (program : Program) (inputs : Inputs) (limits : Limits) (accepted : IsA
     -- the thread after its synchronisation
     record Began (owners : Owners) : Type 0 where
       held : List Holding
-      comes : Comes s was.start (beginning sub.begins.sync sub.child old) held
+      comes : Comes s was.start (beginning sub.begins.sync sub.child from) held
       owned : Each (IsOwned owners sub.thread) held
       all : (l : ℕ) → owner_in owners l ≡ Some sub.thread → HasCell held l
       apart : Apart held
@@ -176,12 +182,35 @@ module _ (program : Program) (inputs : Inputs) (limits : Limits) (accepted : IsA
     began_after : Began (owners_after sub.begins.sync sub.thread x.table.owners)
     began_after = go (stands.ahead sub.thread sub.begins inside go_on.begins)
       where
+        went : step s old ≡ Stop sub.begins → (op : SyncOp) → sub.begins.sync ≡ op → Comes s was.start (beginning op sub.child old) (held_past op old.left (env_at s old) was.held)
+        went e op is =
+            subst (λ op. Comes s was.start (beginning op sub.child old) (held_past op old.left (env_at s old) was.held)) is
+            (past was.comes e (λ bad. subst (MayBegin x.table) bad go_on.may) sub.child)
+
+        Came : SyncOp → Type 0
+        Came op = Comes s was.start (beginning op sub.child (settled_by (tree_machine program inputs limits) op sub.thread x.state old)) (held_past op old.left (env_at s old) was.held)
+
+        -- a settle has set its variable, and nothing else changes the point before the synchronisation
+        comes_from : step s old ≡ Stop sub.begins → (op : SyncOp) → sub.begins.sync ≡ op → Came op
+        comes_from e (sync.Settle register control) is =
+            subst (λ op. Comes s was.start (beginning op sub.child (record old { names = with_number old.names control (number_at (x.state (RegistersOf sub.thread)) register) })) (held_past op old.left (env_at s old) was.held)) is
+            (by_settle was.comes e is (number_at (x.state (RegistersOf sub.thread)) register) sub.child)
+        comes_from e sync.Start is = went e sync.Start is
+        comes_from e (sync.Lock l) is = went e (sync.Lock l) is
+        comes_from e (sync.Unlock l) is = went e (sync.Unlock l) is
+        comes_from e (sync.Fork task arguments) is = went e (sync.Fork task arguments) is
+        comes_from e (sync.Join h) is = went e (sync.Join h) is
+        comes_from e (sync.Barrier b) is = went e (sync.Barrier b) is
+        comes_from e sync.End is = went e sync.End is
+        comes_from e sync.BadIndex is = went e sync.BadIndex is
+        comes_from e sync.Spent is = went e sync.Spent is
+
         go : IsAhead s old sub.begins → Began (owners_after sub.begins.sync sub.thread x.table.owners)
         go (at_limit e) = absurd (subst (λ n. MayBegin x.table n.sync) e go_on.may)
         go (at_start e) =
             record {
               held = was.held;
-              comes = subst (λ o. Comes s was.start (beginning o sub.child old) was.held) (sym e) was.comes;
+              comes = subst (λ o. Comes s was.start (beginning o sub.child (settled_by (tree_machine program inputs limits) o sub.thread x.state old)) was.held) (sym e) was.comes;
               owned = subst (λ o. Each (IsOwned (owners_after o sub.thread x.table.owners) sub.thread) was.held) (sym e) was.owned;
               all = λ l own. was.all l (ap (λ o. owner_in (owners_after o sub.thread x.table.owners) l) (sym e) ∙ own);
               apart = was.apart;
@@ -195,7 +224,7 @@ module _ (program : Program) (inputs : Inputs) (limits : Limits) (accepted : IsA
             let left = after_stop s x.table sub.thread stands.owners (env_at s old) was.held walk.1 was.owned was.all was.apart old.left sub.begins.sync stop go_on.may walk.0 in
             record {
               held = held_past sub.begins.sync old.left (env_at s old) was.held;
-              comes = past was.comes e (λ bad. subst (MayBegin x.table) bad go_on.may) sub.child;
+              comes = comes_from e sub.begins.sync refl;
               owned = left.mine;
               all = left.all;
               apart = left.apart;
@@ -212,14 +241,14 @@ module _ (program : Program) (inputs : Inputs) (limits : Limits) (accepted : IsA
         (λ h own. subst (Contains (owned_from 0 y.table.owners sub.thread)) (omega arith) (owned_has y.table.owners 0 sub.thread h.cell own)) began.held began.owned
 
     goes : BodyGoes s accepted laid was.number was.task was.is_task was.start was.starts began.held (owned_from 0 y.table.owners sub.thread) has b
-    goes = body_goes s accepted laid was.number was.task was.is_task was.start was.starts began.held (owned_from 0 y.table.owners sub.thread) has limits.turns (beginning sub.begins.sync sub.child old) began.comes
+    goes = body_goes s accepted laid was.number was.task was.is_task was.start was.starts began.held (owned_from 0 y.table.owners sub.thread) has limits.turns (beginning sub.begins.sync sub.child from) began.comes
 
     pub keeps : KeepsToLocks (layout program.heads).under sub
     keeps =
         subst (λ locks. AllName (is_under (layout program.heads).under locks) sub.actions) (sym go_on.held)
         (subst (AllName (is_under (layout program.heads).under (owned_from 0 y.table.owners sub.thread))) (sym go_on.actions)
-        (names_append (is_under (layout program.heads).under (owned_from 0 y.table.owners sub.thread)) (first_actions s sub.begins.sync old) b.actions
-        (first_names s (is_under (layout program.heads).under (owned_from 0 y.table.owners sub.thread)) sub.begins.sync old) goes.names))
+        (names_append (is_under (layout program.heads).under (owned_from 0 y.table.owners sub.thread)) (first_actions s sub.begins.sync from) b.actions
+        (first_names s (is_under (layout program.heads).under (owned_from 0 y.table.owners sub.thread)) sub.begins.sync from) goes.names))
 
     threads : (u : ℕ) → u < length y.table.seats → ThreadHolds s y.table.owners u (point_in program inputs limits y u)
     threads u u_in = elim (cases_eq u sub.thread) [

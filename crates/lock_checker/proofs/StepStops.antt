@@ -12,8 +12,8 @@ use Rattle.task_ast.specs.declared.sync.Next.{Next}
 use Rattle.task_ast.specs.declared.tree.Atom.{Atom}
 use Rattle.task_ast.specs.declared.tree.Param.{Param}
 use Rattle.task_ast.specs.declared.tree.Param.TheVariants as param
-use Rattle.task_ast.specs.Tree.{Name, Expr, Stmt, At, What, SetCtl, While, If, Lock, Unlock, Fork, Join, Barrier, SetReg, Read, Write, Print, When, TaskText, Program}
-use Rattle.task_ast.specs.Names.{is_name, locks_of, barriers_of, cells_in, cell_number, registers_of, is_task, task_named, task_number}
+use Rattle.task_ast.specs.Tree.{Name, Expr, Stmt, At, What, SetCtl, While, If, Lock, Unlock, Fork, Join, Barrier, Settle, SetReg, Read, Write, Print, When, TaskText, Program}
+use Rattle.task_ast.specs.Names.{is_name, slot, firsts, locks_of, barriers_of, cells_in, cell_number, registers_of, is_task, task_named, task_number}
 use Rattle.task_ast.specs.Value.{value}
 use Rattle.task_ast.specs.Action.{Action, Child, Give, term, Term}
 use Rattle.task_ast.specs.Body.{Step, Act, Stop, spent}
@@ -47,6 +47,7 @@ other_owners (sync.Unlock l) t owners other = absurd other
 other_owners (sync.Fork task arguments) t owners other = refl
 other_owners (sync.Join h) t owners other = refl
 other_owners (sync.Barrier b) t owners other = refl
+other_owners (sync.Settle register control) t owners other = refl
 other_owners sync.Start t owners other = refl
 other_owners sync.End t owners other = absurd other
 other_owners sync.BadIndex t owners other = refl
@@ -101,6 +102,7 @@ module _ (s : Setting) where
   stops_at line (Join e x) rest p next is = known_stops (env_at s p) _ next line (value e (env_at s p)) _ (λ h known is. stops_so (env_at s p) _ next (sync.Join h) line (otherwise tt (λ held. refl)) is) is
   stops_at line (Barrier b) rest p next is =
       known_stops (env_at s p) _ next line (position (λ other. is_name b other.0) (barriers_of s.program.heads)) _ (λ n known is. stops_so (env_at s p) _ next (sync.Barrier n) line (otherwise tt (λ held. refl)) is) is
+  stops_at line (Settle x c) rest p next is = stops_so (env_at s p) _ next (sync.Settle (register_number s (registers_of p.task) x) (slot (firsts p.names) c)) line (otherwise tt (λ held. refl)) is
   stops_at line (SetReg x e) rest p next is = known_stops (env_at s p) _ next line (action s (registers_of p.task) (SetReg x e) (env_at s p)) _ (λ a known is. never (env_at s p) [] next is) is
   stops_at line (Read r i x) rest p next is = known_stops (env_at s p) _ next line (action s (registers_of p.task) (Read r i x) (env_at s p)) _ (λ a known is. never (env_at s p) [] next is) is
   stops_at line (Write r i e) rest p next is = known_stops (env_at s p) _ next line (action s (registers_of p.task) (Write r i e) (env_at s p)) _ (λ a known is. never (env_at s p) [] next is) is
@@ -148,6 +150,7 @@ module _ (s : Setting) where
   acts_at line (Fork t es x) rest p q a is = never_acts line (fork_of s t es p) _ a q (λ v is. absurd (cc is)) is
   acts_at line (Join e x) rest p q a is = never_acts line (value e (env_at s p)) _ a q (λ v is. absurd (cc is)) is
   acts_at line (Barrier b) rest p q a is = never_acts line (position (λ other. is_name b other.0) (barriers_of s.program.heads)) _ a q (λ v is. absurd (cc is)) is
+  acts_at line (Settle x c) rest p q a is = absurd (cc is)
   acts_at line (SetReg x e) rest p q a is = acts_known line _ a q (going p rest) is
   acts_at line (Read r i x) rest p q a is = acts_known line _ a q (going p rest) is
   acts_at line (Write r i e) rest p q a is = acts_known line _ a q (going p rest) is
@@ -202,6 +205,7 @@ module _ (s : Setting) where
   begin_names test (At line (Lock x i) ∷ rest) p = tt
   begin_names test (At line (Unlock x i) ∷ rest) p = tt
   begin_names test (At line (Barrier b) ∷ rest) p = tt
+  begin_names test (At line (Settle x c) ∷ rest) p = tt
   begin_names test (At line (SetReg x e) ∷ rest) p = tt
   begin_names test (At line (Read r i x) ∷ rest) p = tt
   begin_names test (At line (Write r i e) ∷ rest) p = tt
@@ -215,6 +219,7 @@ module _ (s : Setting) where
   first_names test (sync.Fork task arguments) p = begin_names test p.left p
   first_names test (sync.Join h) p = begin_names test p.left p
   first_names test (sync.Barrier b) p = begin_names test p.left p
+  first_names test (sync.Settle register control) p = begin_names test p.left p
   first_names test sync.End p = begin_names test p.left p
   first_names test sync.BadIndex p = begin_names test p.left p
   first_names test sync.Spent p = begin_names test p.left p

@@ -7,23 +7,25 @@ use Rattle.std.proofs.lemmas.List.{map-append}
 use Rattle.task_ast.specs.declared.check_kind.CheckKind.{CheckKind}
 use Rattle.task_ast.specs.declared.check_kind.CheckKind.TheVariants.{UnknownName, DataInControl, NotHeld, HeldTwice, BranchesDiffer, IndexChangedWhileHeld}
 use Rattle.task_ast.specs.declared.env.Env.{Env}
+use Rattle.task_ast.specs.declared.sync.SyncOp.{SyncOp}
 use Rattle.task_ast.specs.declared.sync.SyncOp.TheVariants as sync
 use Rattle.task_ast.specs.declared.sync.Next.{Next}
 use Rattle.task_ast.specs.declared.tree.Atom.{Atom}
 use Rattle.task_ast.specs.declared.tree.Atom.TheVariants as atom
 use Rattle.task_ast.specs.declared.tree.Head.{Head}
-use Rattle.task_ast.specs.Tree.{Name, Stmt, At, What, SetCtl, While, If, Lock, Unlock, Fork, Join, Barrier, SetReg, Read, Write, Print, When, Block, Nothing, Then, statements, TaskText, Program}
-use Rattle.task_ast.specs.Names.{is_name, head_name, locks_of, cell_number, registers_of, barriers_of}
+use Rattle.task_ast.specs.Tree.{Name, Stmt, At, What, SetCtl, While, If, Lock, Unlock, Fork, Join, Barrier, Settle, SetReg, Read, Write, Print, When, Block, Nothing, Then, statements, TaskText, Program}
+use Rattle.task_ast.specs.Names.{is_name, slot, firsts, head_name, locks_of, cell_number, registers_of, barriers_of}
 use Rattle.task_ast.specs.Value.{value_at, value}
 use Rattle.task_ast.specs.Action.{Action}
 use Rattle.task_ast.specs.Body.{Step, Silent, Iteration, Act, Stop}
-use Rattle.task_ast.specs.Control.{Setting, Point, step_at, step_from, known, branch, action, env_at, lock_number, fork_of, index_of, with_value, going, behind, beginning}
+use Rattle.task_ast.specs.Control.{Setting, Point, step_at, step_from, known, branch, action, env_at, lock_number, fork_of, index_of, with_value, with_number, register_number, going, behind, beginning}
 use Rattle.task_ast.specs.Visit.{Visit, visit, fails_if, first_fault}
 use Rattle.task_ast.specs.Declarations.{Scope, is_lock, is_register, is_atom, has_unknown, has_data_index, head_visits, task_visits, main_visit}
 use Rattle.task_ast.specs.Held.{Pair, same_pair, has, without, same_pairs, is_index, held_by, held_at_end}
 use Rattle.task_ast.specs.Check.{array_over, lacks, fails_at, fails_after, held_fails, visits_of, visits_inside, visits_in, body_visits, bodies_visits}
 use Rattle.task_ast.specs.Shaped.{is_data, all_data, is_shaped_what, is_shaped_stmt, is_shaped_block, is_shaped_head}
-use Rattle.lock_checker.specs.WalkLaw.{Holding, pair_in, pairs_held, released, held_past, Comes, begins, silently, by_turn, acting, past, IsUnderHeld, TouchesHeld, TouchesAllHeld, NextTouchesHeld, StillNamed, none_held, one_held, WalkLaw}
+use Rattle.lock_checker.specs.WalkLaw.{Holding, pair_in, pairs_held, released, held_past, Comes, begins, silently, by_turn, acting, past, by_settle, IsUnderHeld, TouchesHeld, TouchesAllHeld, NextTouchesHeld, StillNamed, none_held, one_held, WalkLaw}
+use Rattle.task_ast.proofs.Slots.{slot_sets}
 use Rattle.lock_checker.proofs.SamePairs.{same_sym, same_from_test, and_parts}
 use Rattle.lock_checker.proofs.TableLemmas.{is_name-is}
 use Rattle.lock_checker.proofs.HoldingLemmas.{Fits, none_left, one_more, fits_same, fits_block, none_parts}
@@ -193,6 +195,9 @@ module _ (s : Setting) (scope : Scope) (held : List Holding) where
       known_keeps s scope p (At line (Barrier b) ∷ rest) held line (position (λ other. is_name b other.0) (barriers_of s.program.heads)) _ (λ n is.
       let waited : Good s scope (going p rest) held = record { fits = fits; names = names } in
       halts s scope p (At line (Barrier b) ∷ rest) held (λ child. refl) waited (λ c. waited))
+  step_keeps line (Settle x c) rest p none shaped fits names =
+      let settled : Good s scope (going p rest) held = record { fits = fits; names = names } in
+      halts s scope p (At line (Settle x c) ∷ rest) held (λ child. refl) settled (λ child. settled)
   step_keeps line (SetReg x e) rest p none shaped fits names = known_keeps s scope p (At line (SetReg x e) ∷ rest) held line (action s (registers_of p.task) (SetReg x e) (env_at s p)) _ (λ v is. doing (record { fits = fits; names = names }))
   step_keeps line (Read r i x) rest p none shaped fits names = known_keeps s scope p (At line (Read r i x) ∷ rest) held line (action s (registers_of p.task) (Read r i x) (env_at s p)) _ (λ v is. doing (record { fits = fits; names = names }))
   step_keeps line (Write r i e) rest p none shaped fits names = known_keeps s scope p (At line (Write r i e) ∷ rest) held line (action s (registers_of p.task) (Write r i e) (env_at s p)) _ (λ v is. doing (record { fits = fits; names = names }))
@@ -217,12 +222,85 @@ module _ {s : Setting} {scope : Scope} {p : Point} {left : List Stmt} {held : Li
   keeps-stop faulting no_fault is child = absurd (no_fault refl)
   keeps-stop {next} (stopping begun good) no_fault is child = subst (λ q. Good s scope q (held_past next.sync left (env_at s p) held)) (ap (behind child p) (sym is) ∙ sym (begun child)) (good child)
 
+abbrev next_in : Step Point → Next
+next_in (Stop next) = next
+next_in _ = record { sync = sync.Start; line = 0 }
+
+-- a synchronisation is no settle where it is another
+other_op : {next : Next} {register control : ℕ} (op : SyncOp) (line : ℕ) → (op ≡ sync.Settle register control → ⊥) → next.sync ≡ sync.Settle register control
+    → ◌≡◌ {A = Step Point} (Stop (record { sync = op; line = line })) (Stop next) → ⊥
+other_op op line apart settles e = apart (ap (λ step. (next_in step).sync) e ∙ settles)
+
+known_other : {A : Type 0} {next : Next} {register control : ℕ} (line : ℕ) (o : Option A) (go : A → Step Point) → next.sync ≡ sync.Settle register control
+    → ((v : A) → go v ≡ Stop next → ⊥) → known line o go ≡ Stop next → ⊥
+known_other line None go settles never e = other_op sync.BadIndex line (λ e. cc e) settles e
+known_other line (Some v) go settles never e = never v e
+
+branch_other : {next : Next} (v : ℤ) (a b : Step Point) → (a ≡ Stop next → ⊥) → (b ≡ Stop next → ⊥) → branch v a b ≡ Stop next → ⊥
+branch_other (pos zero) a b first second e = second e
+branch_other (pos (suc n)) a b first second e = first e
+branch_other (negsuc n) a b first second e = first e
+
+module _ (s : Setting) (scope : Scope) (held : List Holding) where
+  -- behind a settle, whose variable may have any value
+  settled_good : (left : List Stmt) (p : Point) (next : Next) (register control : ℕ) (v : ℤ) (child : Option ℕ) → Fits scope left (pairs_held held) → StillNamed s.program.heads (env_at s p) held
+      → step_from s left p ≡ Stop next → next.sync ≡ sync.Settle register control
+      → Good s scope (behind child (record p { names = with_number p.names control v }) left) (held_past next.sync left (env_at s p) held)
+  settled_good [] p next register control v child fits names e settles = absurd (other_op sync.End 0 (λ e. cc e) settles e)
+  settled_good (At line w ∷ rest) p next register control v child (one_more none shaped fits) names e settles = by w none fits e
+    where
+      Behind : What → Type 0
+      Behind w = Good s scope (behind child (record p { names = with_number p.names control v }) (At line w ∷ rest)) (held_past next.sync (At line w ∷ rest) (env_at s p) held)
+
+      by : (w : What) → first_fault (visits_of scope (At line w) (pairs_held held)) ≡ None → Fits scope rest (held_by w (pairs_held held)) → step_at s line w rest p ≡ Stop next → Behind w
+      by (SetCtl x e) none fits is = absurd (known_other line (value e (env_at s p)) _ settles (λ v e. cc e) is)
+      by (While e b) none fits is = absurd (known_other line (value e (env_at s p)) _ settles (λ v e. branch_other v _ _ (λ e. cc e) (λ e. cc e) e) is)
+      by (If e a b) none fits is = absurd (known_other line (value e (env_at s p)) _ settles (λ v e. branch_other v _ _ (λ e. cc e) (λ e. cc e) e) is)
+      by (Lock a i) none fits is = absurd (known_other line (lock_number s a i (env_at s p)) _ settles (λ l e. other_op (sync.Lock l) line (λ e. cc e) settles e) is)
+      by (Unlock a i) none fits is = absurd (known_other line (lock_number s a i (env_at s p)) _ settles (λ l e. other_op (sync.Unlock l) line (λ e. cc e) settles e) is)
+      by (Fork t es x) none fits is = absurd (known_other line (fork_of s t es p) _ settles (λ arguments e. other_op (sync.Fork _ _) line (λ e. cc e) settles e) is)
+      by (Join e x) none fits is = absurd (known_other line (value e (env_at s p)) _ settles (λ h e. other_op (sync.Join h) line (λ e. cc e) settles e) is)
+      by (Barrier b) none fits is =
+          absurd (known_other line (position (λ other. is_name b other.0) (barriers_of s.program.heads)) _ settles (λ n e. other_op (sync.Barrier n) line (λ e. cc e) settles e) is)
+      by (Settle x c) none fits is = behind_it child
+        where
+          free : list_any (is_index c) (pairs_held held) ≡ false
+          free = last_kind _ (list_any (is_index c) (pairs_held held)) IndexChangedWhileHeld (kinds_none scope line (Settle x c) (pairs_held held) none)
+
+          set_of : SyncOp → ℕ
+          set_of (sync.Settle register control) = control
+          set_of _ = control
+
+          number : control ≡ slot (firsts p.names) c
+          number = sym (ap set_of (ap (λ step. (next_in step).sync) is ∙ settles))
+
+          named : StillNamed s.program.heads (record (env_at s p) { names = with_number p.names control v }) held
+          named =
+              subst (λ names. StillNamed s.program.heads (record (env_at s p) { names = names }) held) (sym (ap (λ k. with_number p.names k v) number ∙ slot_sets p.names c v))
+              (named-set s.program.heads (env_at s p) c v held free names)
+
+          behind_it : (child : Option ℕ) → Good s scope (behind child (record p { names = with_number p.names control v }) (At line (Settle x c) ∷ rest)) held
+          behind_it None = record { fits = fits; names = named }
+          behind_it (Some k) = record { fits = fits; names = named }
+      by (SetReg x e) none fits is = absurd (known_other line (action s (registers_of p.task) (SetReg x e) (env_at s p)) _ settles (λ a e. cc e) is)
+      by (Read r i x) none fits is = absurd (known_other line (action s (registers_of p.task) (Read r i x) (env_at s p)) _ settles (λ a e. cc e) is)
+      by (Write r i e) none fits is = absurd (known_other line (action s (registers_of p.task) (Write r i e) (env_at s p)) _ settles (λ a e. cc e) is)
+      by (Print es) none fits is = absurd (known_other line (action s (registers_of p.task) (Print es) (env_at s p)) _ settles (λ a e. cc e) is)
+      by (When e a b) none fits is = absurd (known_other line (action s (registers_of p.task) (When e a b) (env_at s p)) _ settles (λ a e. cc e) is)
+
+  begun_settle : (next : Next) (register control : ℕ) (child : Option ℕ) (q : Point) → next.sync ≡ sync.Settle register control → behind child q q.left ≡ beginning next.sync child q
+  begun_settle next register control child q settles = ap (λ op. beginning op child q) (sym settles)
+
 comes_good : {s : Setting} {start p : Point} {held : List Holding} (scope : Scope) → Good s scope start [] → Comes s start p held → Good s scope p held
 comes_good scope first begins = first
 comes_good {s} scope first (silently {p} {q} {held} comes is) = let good = comes_good scope first comes in keeps-silent (subst (Keeps s scope p p.left held) is (from_keeps s scope held p.left p refl good.fits good.names))
 comes_good {s} scope first (by_turn {p} {q} {held} comes is) = let good = comes_good scope first comes in keeps-turn (subst (Keeps s scope p p.left held) is (from_keeps s scope held p.left p refl good.fits good.names))
 comes_good {s} scope first (acting {p} {q} {a} {held} comes is) = let good = comes_good scope first comes in keeps-act (subst (Keeps s scope p p.left held) is (from_keeps s scope held p.left p refl good.fits good.names))
 comes_good {s} scope first (past {p} {next} {held} comes is no_fault child) = let good = comes_good scope first comes in keeps-stop (subst (Keeps s scope p p.left held) is (from_keeps s scope held p.left p refl good.fits good.names)) no_fault refl child
+comes_good {s} scope first (by_settle {p} {next} {held} {register} {control} comes is settles v child) =
+    let good = comes_good scope first comes in
+    subst (λ q. Good s scope q (held_past next.sync p.left (env_at s p) held)) (begun_settle s scope held next register control child (record p { names = with_number p.names control v }) settles)
+    (settled_good s scope held p.left p next register control v child good.fits good.names is settles)
 
 -- a data statement changes nothing that is held
 data_holds : (w : What) (held : List Pair) → is_data w ≡ true → held_by w held ≡ held
@@ -234,6 +312,7 @@ data_holds (Unlock a i) held data_statement = cc
 data_holds (Fork t es x) held data_statement = cc
 data_holds (Join e x) held data_statement = cc
 data_holds (Barrier b) held data_statement = cc
+data_holds (Settle x c) held data_statement = cc
 data_holds (SetReg x e) held data_statement = refl
 data_holds (Read r i x) held data_statement = refl
 data_holds (Write r i e) held data_statement = refl
@@ -261,6 +340,7 @@ module _ (scope : Scope) where
     touches line (Fork t es x) held none shaped = tt
     touches line (Join e x) held none shaped = tt
     touches line (Barrier b) held none shaped = tt
+    touches line (Settle x c) held none shaped = tt
     touches line (SetReg x e) held none shaped = tt
     touches line (Read r i x) held none shaped =
         let kinds = kinds_none scope line (Read r i x) held none in

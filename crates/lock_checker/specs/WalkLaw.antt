@@ -10,7 +10,7 @@ use Rattle.task_ast.specs.Tree.{Name, Stmt, At, What, Lock, Unlock, Read, Write,
 use Rattle.task_ast.specs.Names.{locks_of, arrays_over, named, cell_number}
 use Rattle.task_ast.specs.Action.{Action}
 use Rattle.task_ast.specs.Body.{Silent, Iteration, Act, Stop}
-use Rattle.task_ast.specs.Control.{Setting, Point, step, env_at, index_of, beginning}
+use Rattle.task_ast.specs.Control.{Setting, Point, with_number, step, env_at, index_of, beginning}
 use Rattle.task_ast.specs.Held.{Pair, same_pair, has}
 use Rattle.task_ast.specs.Shaped.{IsAccepted}
 
@@ -48,6 +48,8 @@ pub data Comes (s : Setting) (start : Point) : Point → List Holding → Type 0
   by_turn : {p q : Point} {held : List Holding} → Comes s start p held → step s p ≡ Iteration q → Comes s start q held
   acting : {p q : Point} {a : Action} {held : List Holding} → Comes s start p held → step s p ≡ Act a q → Comes s start q held
   past : {p : Point} {next : Next} {held : List Holding} → Comes s start p held → step s p ≡ Stop next → next.sync ≢ sync.BadIndex → (child : Option ℕ) → Comes s start (beginning next.sync child p) (held_past next.sync p.left (env_at s p) held)
+  -- a settle sets its variable to any value
+  by_settle : {p : Point} {next : Next} {held : List Holding} {register control : ℕ} → Comes s start p held → step s p ≡ Stop next → next.sync ≡ sync.Settle register control → (v : ℤ) (child : Option ℕ) → Comes s start (beginning next.sync child (record p { names = with_number p.names control v })) (held_past next.sync p.left (env_at s p) held)
 
 -- a record's cell at this index is touched where the pair of its lock array and the index is held
 abbrev pub IsUnderHeld : List Head → Name → Atom → List Pair → Type 0

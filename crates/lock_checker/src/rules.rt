@@ -191,6 +191,24 @@ fn barrier_rule(scope: &Scope, b: &Name) -> Option<CheckKind>
     }
 }
 
+fn settle_rule<'a>(
+    scope: &Scope<'_, 'a>,
+    from: &Name,
+    into: &'a Name,
+    held: &Pairs<'a>,
+) -> Option<CheckKind>
+    requires { IsScope scope.now }
+    ensures { result ≡ lowest (fails_at (scope_of scope.now) (plain.Settle from.now into.now) (pairs_in held.now)) }
+{
+    if !is_register(scope, from) || !is_control(scope, into) {
+        Some(CheckKind::UnknownName)
+    } else if held.has_index(into) {
+        Some(CheckKind::IndexChangedWhileHeld)
+    } else {
+        None
+    }
+}
+
 fn set_register_rule(scope: &Scope, x: &Name, e: &Expr) -> Option<CheckKind>
     requires { IsScope scope.now }
     ensures { result ≡ lowest (fails_at (scope_of scope.now) (plain.SetReg x.now (plain_expr e.now)) []) }
@@ -298,6 +316,7 @@ pub fn rule_at<'a>(scope: &Scope<'_, 'a>, what: &'a What, held: &Pairs<'a>) -> O
         What::Fork(t, arguments, into) => fork_rule(scope, t, arguments.as_slice(), into, held),
         What::Join(e, into) => join_rule(scope, e, into),
         What::Barrier(b) => barrier_rule(scope, b),
+        What::Settle(from, into) => settle_rule(scope, from, into, held),
         What::SetReg(x, e) => set_register_rule(scope, x, e),
         What::Read(r, index, into) => read_rule(scope, r, index, into, held),
         What::Write(r, index, e) => write_rule(scope, r, index, e, held),

@@ -3,7 +3,7 @@ use Rattle.std.proofs.Common.{◌≡◌, ℕ, ℤ, Bool, true, false, List, [], 
 use Rattle.std.specs.Prelude.{slice_set}
 use Rattle.std.proofs.lemmas.Bool.{false≢true}
 use Rattle.task_ast.specs.declared.tree.Stmt.{Stmt as CodeStmt}
-use Rattle.task_ast.specs.Tree.{Name, Expr, Stmt, At, What, SetCtl, While, If, Lock, Unlock, Fork, Join, Barrier, SetReg, Read, Write, Print, When}
+use Rattle.task_ast.specs.Tree.{Name, Expr, Stmt, At, What, SetCtl, While, If, Lock, Unlock, Fork, Join, Barrier, Settle, SetReg, Read, Write, Print, When}
 use Rattle.task_ast.specs.Names.{slot, registers_of}
 use Rattle.task_ast.specs.Control.{Setting, Point, going, begin_actions, behind, fork_of}
 use Rattle.task_ast.specs.View.{plain_stmt, plain_what, plain_task}
@@ -31,6 +31,7 @@ no_actions s line (If e a b) rest p is = refl
 no_actions s line (Lock a i) rest p is = refl
 no_actions s line (Unlock a i) rest p is = refl
 no_actions s line (Barrier b) rest p is = refl
+no_actions s line (Settle x c) rest p is = refl
 no_actions s line (SetReg x e) rest p is = refl
 no_actions s line (Read r i x) rest p is = refl
 no_actions s line (Write r i e) rest p is = refl
@@ -47,6 +48,7 @@ skips None line (If e a b) rest p is = refl
 skips None line (Lock a i) rest p is = refl
 skips None line (Unlock a i) rest p is = refl
 skips None line (Barrier b) rest p is = refl
+skips None line (Settle x c) rest p is = refl
 skips None line (SetReg x e) rest p is = refl
 skips None line (Read r i x) rest p is = refl
 skips None line (Write r i e) rest p is = refl
@@ -60,6 +62,7 @@ skips (Some c) line (If e a b) rest p is = refl
 skips (Some c) line (Lock a i) rest p is = refl
 skips (Some c) line (Unlock a i) rest p is = refl
 skips (Some c) line (Barrier b) rest p is = refl
+skips (Some k) line (Settle x c) rest p is = refl
 skips (Some c) line (SetReg x e) rest p is = refl
 skips (Some c) line (Read r i x) rest p is = refl
 skips (Some c) line (Write r i e) rest p is = refl

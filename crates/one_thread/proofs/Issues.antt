@@ -42,6 +42,7 @@ grown-seats (sync.Lock l) seats = refl
 grown-seats (sync.Unlock l) seats = refl
 grown-seats (sync.Join h) seats = refl
 grown-seats (sync.Barrier b) seats = refl
+grown-seats (sync.Settle register control) seats = refl
 grown-seats sync.End seats = refl
 grown-seats sync.BadIndex seats = refl
 grown-seats sync.Spent seats = refl
@@ -101,6 +102,7 @@ module _ (limit issued threads : ℕ) where
   tried_leads (sync.Join (negsuc h)) table t next like inside = ends
   tried_leads (sync.Barrier b) table t next like inside =
       let there = come_to (stand_of table t) table t b in barrier_leads (stand_of there t) there t next (come_like (stand_of table t) table t b like) inside
+  tried_leads (sync.Settle register control) table t next like inside = issuing_leads table t next like inside
   tried_leads sync.End table t next like inside = issuing_leads table t next like inside
   tried_leads sync.BadIndex table t next like inside = ends
   tried_leads sync.Spent table t next like inside = ends

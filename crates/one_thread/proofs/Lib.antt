@@ -12,6 +12,7 @@ pub mod Mirroring
 pub mod Openings
 pub mod Performing
 pub mod Running
+pub mod Settling
 pub mod Steps
 pub mod SubthreadRuns
 pub mod TaskVariables

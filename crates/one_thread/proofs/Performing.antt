@@ -16,13 +16,13 @@ use Rattle.task_ast.specs.declared.effect.Effect.{Effect}
 use Rattle.task_ast.specs.Names.{records_of, cells_in, feeds_of}
 use Rattle.task_ast.specs.Action.{Action}
 use Rattle.task_ast.specs.Body.{Body}
-use Rattle.task_ast.specs.Control.{Point, beginning, first_actions, tree_body}
+use Rattle.task_ast.specs.Control.{Point, with_number, beginning, first_actions, tree_body}
 use Rattle.task_ast.specs.State.{State, RegistersOf, CellOf, number_at, cell_value}
 use Rattle.task_ast.specs.Effect.{Doing, all_done, joined_ret, effect, after, left_to, one_number}
 use Rattle.task_ast.specs.laws.Keeps.{AllName}
 use Rattle.task_ast.specs.Table.{learning}
 use Rattle.task_ast.specs.Turn.{child_of}
-use Rattle.task_ast.specs.Plain.{Subthread, Plain, Machine, tree_machine, performed_by, points_with, point_by, task_at, start_point}
+use Rattle.task_ast.specs.Plain.{Subthread, Plain, Machine, tree_machine, performed_by, points_with, point_by, settled_by, from_by, task_at, start_point}
 use Rattle.task_ast.specs.Plain as plain
 use Rattle.task_ast.specs.View.{plain_program}
 use Rattle.one_thread.specs.declared.data.Data.{Data}
@@ -32,7 +32,7 @@ use Rattle.one_thread.specs.inner.Holding.{AreHeld}
 use Rattle.one_thread.specs.inner.View.{table_of}
 use Rattle.one_thread.specs.inner.Working.{all_worked}
 use Rattle.one_thread.specs.inner.Walking.{setting_of, point_of}
-use Rattle.one_thread.specs.inner.Subthreads.{at_work, body_from, actions_from, data_from}
+use Rattle.one_thread.specs.inner.Subthreads.{settled, at_work, body_from, actions_from, data_from}
 use Rattle.one_thread.specs.inner.Runs.{registers_at, joined_of, IsSound, AreSound, Forks, grown, Performed, Holds}
 use Rattle.one_thread.proofs.Within.{is_cell, body_within, first_within, all-append}
 use Rattle.one_thread.proofs.Mirroring.{Mirrors, all_mirrors}
@@ -50,6 +50,7 @@ joined-is (sync.Lock l) walks state same = refl
 joined-is (sync.Unlock l) walks state same = refl
 joined-is (sync.Fork k values) walks state same = refl
 joined-is (sync.Barrier b) walks state same = refl
+joined-is (sync.Settle register control) walks state same = refl
 joined-is sync.End walks state same = refl
 joined-is sync.BadIndex walks state same = refl
 joined-is sync.Spent walks state same = refl
@@ -171,6 +172,7 @@ module _ (code : Code) (inputs : Inputs) (limits : Limits) (walks : List Walk) (
   points-by (sync.Unlock l) registers new points q forks same at = ap (map point_of) forks ∙ map-point walks t is points q same at
   points-by (sync.Join h) registers new points q forks same at = ap (map point_of) forks ∙ map-point walks t is points q same at
   points-by (sync.Barrier b) registers new points q forks same at = ap (map point_of) forks ∙ map-point walks t is points q same at
+  points-by (sync.Settle register control) registers new points q forks same at = ap (map point_of) forks ∙ map-point walks t is points q same at
   points-by sync.End registers new points q forks same at = ap (map point_of) forks ∙ map-point walks t is points q same at
   points-by sync.BadIndex registers new points q forks same at = ap (map point_of) forks ∙ map-point walks t is points q same at
   points-by sync.Spent registers new points q forks same at = ap (map point_of) forks ∙ map-point walks t is points q same at
@@ -182,6 +184,7 @@ module _ (code : Code) (inputs : Inputs) (limits : Limits) (walks : List Walk) (
   sound-by (sync.Unlock l) registers new forks sound all = subst (AreSound code) (sym forks) (sound-set code walks t is sound all)
   sound-by (sync.Join h) registers new forks sound all = subst (AreSound code) (sym forks) (sound-set code walks t is sound all)
   sound-by (sync.Barrier b) registers new forks sound all = subst (AreSound code) (sym forks) (sound-set code walks t is sound all)
+  sound-by (sync.Settle register control) registers new forks sound all = subst (AreSound code) (sym forks) (sound-set code walks t is sound all)
   sound-by sync.End registers new forks sound all = subst (AreSound code) (sym forks) (sound-set code walks t is sound all)
   sound-by sync.BadIndex registers new forks sound all = subst (AreSound code) (sym forks) (sound-set code walks t is sound all)
   sound-by sync.Spent registers new forks sound all = subst (AreSound code) (sym forks) (sound-set code walks t is sound all)
@@ -193,6 +196,7 @@ module _ (code : Code) (inputs : Inputs) (limits : Limits) (walks : List Walk) (
   grown-by (sync.Unlock l) registers new forks = ap length forks ∙ length-set walks t is
   grown-by (sync.Join h) registers new forks = ap length forks ∙ length-set walks t is
   grown-by (sync.Barrier b) registers new forks = ap length forks ∙ length-set walks t is
+  grown-by (sync.Settle register control) registers new forks = ap length forks ∙ length-set walks t is
   grown-by sync.End registers new forks = ap length forks ∙ length-set walks t is
   grown-by sync.BadIndex registers new forks = ap length forks ∙ length-set walks t is
   grown-by sync.Spent registers new forks = ap length forks ∙ length-set walks t is
@@ -210,9 +214,26 @@ module _ (code : Code) (inputs : Inputs) (limits : Limits) (walks : List Walk) (
   registers-by (sync.Unlock l) registers new before u forks same = ap (λ l. registers_at l u) forks ∙ registers-set walks t u is inside ∙ ap (cond (nat_eq u t) is.data.registers) (same u)
   registers-by (sync.Join h) registers new before u forks same = ap (λ l. registers_at l u) forks ∙ registers-set walks t u is inside ∙ ap (cond (nat_eq u t) is.data.registers) (same u)
   registers-by (sync.Barrier b) registers new before u forks same = ap (λ l. registers_at l u) forks ∙ registers-set walks t u is inside ∙ ap (cond (nat_eq u t) is.data.registers) (same u)
+  registers-by (sync.Settle register control) registers new before u forks same = ap (λ l. registers_at l u) forks ∙ registers-set walks t u is inside ∙ ap (cond (nat_eq u t) is.data.registers) (same u)
   registers-by sync.End registers new before u forks same = ap (λ l. registers_at l u) forks ∙ registers-set walks t u is inside ∙ ap (cond (nat_eq u t) is.data.registers) (same u)
   registers-by sync.BadIndex registers new before u forks same = ap (λ l. registers_at l u) forks ∙ registers-set walks t u is inside ∙ ap (cond (nat_eq u t) is.data.registers) (same u)
   registers-by sync.Spent registers new before u forks same = ap (λ l. registers_at l u) forks ∙ registers-set walks t u is inside ∙ ap (cond (nat_eq u t) is.data.registers) (same u)
+
+-- where a thread stands from which a subthread begins
+settled-point : (code : Code) (inputs : Inputs) (limits : Limits) (walk : Walk) (op : SyncOp) (t : ℕ) (state : State) (p : Point) → point_of walk ≡ p → walk.data.registers ≡ state (RegistersOf t)
+    → point_of (settled op walk) ≡ settled_by (tree_machine (plain_program code) inputs limits) op t state p
+settled-point code inputs limits walk (sync.Settle register control) t state p at same =
+    ap {A = List ℤ} {B = Point} (λ r. record (point_of walk) { names = with_number walk.env.names control (number_at r register) }) same
+    ∙ ap {A = Point} {B = Point} (λ q. record q { names = with_number q.names control (number_at (state (RegistersOf t)) register) }) at
+settled-point code inputs limits walk sync.Start t state p at same = at
+settled-point code inputs limits walk (sync.Lock l) t state p at same = at
+settled-point code inputs limits walk (sync.Unlock l) t state p at same = at
+settled-point code inputs limits walk (sync.Fork k values) t state p at same = at
+settled-point code inputs limits walk (sync.Join h) t state p at same = at
+settled-point code inputs limits walk (sync.Barrier b) t state p at same = at
+settled-point code inputs limits walk sync.End t state p at same = at
+settled-point code inputs limits walk sync.BadIndex t state p at same = at
+settled-point code inputs limits walk sync.Spent t state p at same = at
 
 -- ---- the subthread
 module _ (code : Code) (inputs : Inputs) (limits : Limits) (old : Run) (p : Plain) (holds : Holds code inputs limits old p) (t : ℕ) (begins : Next) (child : Option ℕ) (lines : List (List ℤ)) (new : Run) (performed : Performed old t begins child lines new) where
@@ -220,10 +241,10 @@ module _ (code : Code) (inputs : Inputs) (limits : Limits) (old : Run) (p : Plai
   machine = tree_machine (plain_program code) inputs limits
 
   abbrev was : Walk
-  was = at_work performed.was old.shared
+  was = at_work (settled begins.sync performed.was) old.shared
 
   abbrev point : Point
-  point = point_by machine p t
+  point = from_by machine p begins.sync t
 
   abbrev body : Body Point
   body = tree_body (plain.setting_of (plain_program code) inputs) limits.turns (beginning begins.sync child point)
@@ -251,9 +272,12 @@ module _ (code : Code) (inputs : Inputs) (limits : Limits) (old : Run) (p : Plai
       ap (λ c. record { program = plain_program c; feeds = old.shared.feeds }) ((holds.sound.each t performed.was performed.at).program)
       ∙ ap (λ feeds. record { program = plain_program code; feeds = feeds }) holds.feeds
 
-  point-is : point_of was ≡ point
-  point-is =
+  stood : point_of performed.was ≡ point_by machine p t
+  stood =
       sym (ap (λ o. unwrap_or o (machine.starts 0 t [])) (ap (λ l. slice_get l t) (sym holds.points) ∙ slice_get-map point_of old.threads.items t ∙ ap (option_map point_of) performed.at))
+
+  point-is : point_of was ≡ point
+  point-is = settled-point code inputs limits performed.was begins.sync t p.state (point_by machine p t) stood (sym (registers-there old.threads.items t performed.was performed.at) ∙ holds.registers t)
 
   body-is : body_from was begins.sync child old.turns ≡ body
   body-is =

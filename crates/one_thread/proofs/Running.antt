@@ -37,6 +37,7 @@ grown-least (sync.Lock l) n = omega arith
 grown-least (sync.Unlock l) n = omega arith
 grown-least (sync.Join h) n = omega arith
 grown-least (sync.Barrier b) n = omega arith
+grown-least (sync.Settle register control) n = omega arith
 grown-least sync.End n = omega arith
 grown-least sync.BadIndex n = omega arith
 grown-least sync.Spent n = omega arith

@@ -8,7 +8,7 @@ use Rattle.std.proofs.lemmas.Bool.Decides.{Decides-int_eq}
 use Rattle.task_ast.specs.declared.env.Env.{Env}
 use Rattle.task_ast.specs.declared.tree.Stmt as code
 use Rattle.task_ast.specs.declared.sync.SyncOp.TheVariants as sync
-use Rattle.task_ast.specs.Tree.{Stmt, At, What, SetCtl, While, If, Lock, Unlock, Fork, Join, Barrier, SetReg, Read, Write, Print, When, Expr, block, statements}
+use Rattle.task_ast.specs.Tree.{Stmt, At, What, SetCtl, While, If, Lock, Unlock, Fork, Join, Barrier, Settle, SetReg, Read, Write, Print, When, Expr, block, statements}
 use Rattle.task_ast.specs.Names.{registers_of}
 use Rattle.task_ast.specs.Value.{value}
 use Rattle.task_ast.specs.Action.{Action}
@@ -66,6 +66,7 @@ acts_at s line (Unlock a i) rest p is = unlike is
 acts_at s line (Fork t es x) rest p is = unlike is
 acts_at s line (Join e x) rest p is = unlike is
 acts_at s line (Barrier b) rest p is = unlike is
+acts_at s line (Settle x c) rest p is = unlike is
 
 known_acts : (line : ℕ) (o : Option Action) (q : Point) (old new : Walk) → is_some o ≡ true → Works o old.data new.data → LeadsTo q old new → Stepped (known line o (λ a. Act a q)) went.On old new
 known_acts line None q old new is works leads = absurd (false≢true is)

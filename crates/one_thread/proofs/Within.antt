@@ -7,7 +7,7 @@ use Rattle.task_ast.specs.declared.tree.Param.TheVariants as param
 use Rattle.task_ast.specs.declared.sync.Next.{Next}
 use Rattle.task_ast.specs.declared.sync.SyncOp.{SyncOp}
 use Rattle.task_ast.specs.declared.sync.SyncOp.TheVariants as sync
-use Rattle.task_ast.specs.Tree.{Name, Expr, Stmt, At, What, SetCtl, While, If, Lock, Unlock, Fork, Join, Barrier, SetReg, Read, Write, Print, When, Block, Nothing, Then, TaskText}
+use Rattle.task_ast.specs.Tree.{Name, Expr, Stmt, At, What, SetCtl, While, If, Lock, Unlock, Fork, Join, Barrier, Settle, SetReg, Read, Write, Print, When, Block, Nothing, Then, TaskText}
 use Rattle.task_ast.specs.Names.{is_name, place, cell_number, cells_in, records_of, registers_of, task_named}
 use Rattle.task_ast.specs.Action.{Term, Action, Store, Say, Choose, Child, Give, Arm, OneAction, term}
 use Rattle.task_ast.specs.Body.{Step, Silent, Iteration, Act, Stop, Body, follow, stretch, body}
@@ -83,6 +83,7 @@ module _ (s : Setting) where
     action_within registers (Fork t es x) env a is = absurd (cc is)
     action_within registers (Join e x) env a is = absurd (cc is)
     action_within registers (Barrier b) env a is = absurd (cc is)
+    action_within registers (Settle x c) env a is = absurd (cc is)
 
     arm_within : (registers : List Name) (b : Block) (env : Env) (a : Arm) → arm s registers b env ≡ Some a → ArmNamesOnly (is_cell s) a
     arm_within registers Nothing env a is = subst (ArmNamesOnly (is_cell s)) (some_is is) tt
@@ -112,6 +113,7 @@ module _ (s : Setting) where
   step_within line (Fork t es x) rest p = known_within line _ _ (λ v at. stopping)
   step_within line (Join e x) rest p = known_within line _ _ (λ v at. stopping)
   step_within line (Barrier b) rest p = known_within line _ _ (λ v at. stopping)
+  step_within line (Settle x c) rest p = stopping
   step_within line (SetReg x e) rest p = acts line (SetReg x e) rest p
   step_within line (Read r i x) rest p = acts line (Read r i x) rest p
   step_within line (Write r i e) rest p = acts line (Write r i e) rest p
@@ -181,6 +183,7 @@ module _ (s : Setting) where
   begin_within (At line (Lock a i) ∷ rest) p = tt
   begin_within (At line (Unlock a i) ∷ rest) p = tt
   begin_within (At line (Barrier b) ∷ rest) p = tt
+  begin_within (At line (Settle x c) ∷ rest) p = tt
   begin_within (At line (SetReg x e) ∷ rest) p = tt
   begin_within (At line (Read r i x) ∷ rest) p = tt
   begin_within (At line (Write r i e) ∷ rest) p = tt
@@ -195,6 +198,7 @@ module _ (s : Setting) where
   first_within (sync.Fork k values) p = begin_within p.left p
   first_within (sync.Join h) p = begin_within p.left p
   first_within (sync.Barrier b) p = begin_within p.left p
+  first_within (sync.Settle register control) p = begin_within p.left p
   first_within sync.End p = begin_within p.left p
   first_within sync.BadIndex p = begin_within p.left p
   first_within sync.Spent p = begin_within p.left p

@@ -2,17 +2,19 @@
 ghost use Rattle.std.specs.Prelude.{◌≡◌, ◌<◌, ◌≤◌, map, length, IfOk, OnOk};
 ghost use Rattle.task_ast.specs.declared.sync.Next.{Next as NextThere};
 ghost use Rattle.task_ast.specs.State;
+ghost use Rattle.one_thread.specs.inner.Subthreads.{settled};
 ghost use Rattle.one_thread.specs.inner.Runs.{slots_of, registers_at, joined_of, AreSound, IsNew, Forks, Performed, IsSmall};
 
 use crate::data::Data;
 use crate::left::Left;
 use crate::seats::Table;
 use crate::turns::thread_number;
-use crate::variables::{control_variables, number_at};
+use crate::variables::{control_variables, number_at, with_number};
 use crate::walk::Walk;
 use crate::work::{Done, Shared, work};
 use gp_base::{Lines, Name, Nums, Seq};
 use std::alloc::{AllocError, Global};
+use std::mem;
 use task_ast::{Env, Next, Program, SyncOp};
 
 /// A run: its program with the names of each task's registers, the thread table, the threads, and what they share.
@@ -92,9 +94,32 @@ fn joined_value(begins: &SyncOp, threads: &[Walk]) -> i64
         SyncOp::Unlock(_) => 0,
         SyncOp::Fork { .. } => 0,
         SyncOp::Barrier(_) => 0,
+        SyncOp::Settle { .. } => 0,
         SyncOp::End => 0,
         SyncOp::BadIndex => 0,
         SyncOp::Spent => 0,
+    }
+}
+
+// The thread, before anything else, where a settle sets a variable to the value of a register.
+fn settle(alloc: Global, walk: &mut Walk, begins: &SyncOp)
+    ensures { walk.new ≡ settled begins.now walk.old }
+{
+    match begins {
+        SyncOp::Settle { reg, ctl } => {
+            let value = number_at(walk.data.registers.as_slice(), *reg as usize);
+            let names = mem::replace(&mut walk.env.names, Seq::new(alloc));
+            walk.env.names = with_number(names, *ctl as usize, value);
+        }
+        SyncOp::Start => {}
+        SyncOp::Lock(_) => {}
+        SyncOp::Unlock(_) => {}
+        SyncOp::Fork { .. } => {}
+        SyncOp::Join(_) => {}
+        SyncOp::Barrier(_) => {}
+        SyncOp::End => {}
+        SyncOp::BadIndex => {}
+        SyncOp::Spent => {}
     }
 }
 
@@ -142,9 +167,11 @@ impl Run<'_> {
         ensures { IfOk result (λ lines. Performed self.old t begins.now child lines self.new) }
     {
         let joined = joined_value(&begins.sync, &self.threads);
+        let walk = &mut self.threads[t];
+        settle(alloc, walk, &begins.sync);
         let done = work(
             alloc,
-            &mut self.threads[t],
+            walk,
             &mut self.shared,
             &begins.sync,
             child,

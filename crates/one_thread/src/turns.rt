@@ -246,6 +246,7 @@ impl Table {
             SyncOp::Spent => Ok(Turn::Ended(End::Spent(Pos(last)))),
             SyncOp::Start => self.issue(alloc, t),
             SyncOp::Unlock(_) => self.issue(alloc, t),
+            SyncOp::Settle { .. } => self.issue(alloc, t),
             SyncOp::End => self.issue(alloc, t),
         }
     }
@@ -290,6 +291,7 @@ fn is_waiting(seat: &Seat, barrier: u32) -> bool
             SyncOp::Unlock(_) => false,
             SyncOp::Fork { .. } => false,
             SyncOp::Join(_) => false,
+            SyncOp::Settle { .. } => false,
             SyncOp::End => false,
             SyncOp::BadIndex => false,
             SyncOp::Spent => false,

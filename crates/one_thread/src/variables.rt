@@ -1,8 +1,8 @@
 // The variables of tasks and threads.
-ghost use Rattle.std.specs.Prelude.{◌≡◌, ◌++◌, [], replicate, position, slice_set, pos, IfOk, OnOk};
+ghost use Rattle.std.specs.Prelude.{◌≡◌, ◌++◌, [], replicate, position, slice_set, unwrap_or, length, pos, IfOk, OnOk};
 ghost use Rattle.task_ast.specs.Names.{is_name, datas, controls, declared_in, registers_of};
 ghost use Rattle.task_ast.specs.State.{number_at};
-ghost use Rattle.task_ast.specs.Control.{with_value};
+ghost use Rattle.task_ast.specs.Control.{with_value, with_number};
 ghost use Rattle.task_ast.specs.Plain.{given};
 ghost use Rattle.task_ast.specs.View.{plain_task};
 ghost use Rattle.one_thread.specs.inner.Places.{IsPlaceOf};
@@ -128,6 +128,31 @@ pub fn with_value(names: Seq<(Name, i64)>, name: &Name, value: i64) -> Seq<(Name
     let at = place_of(names.as_slice(), name);
     let mut pairs = names.into_vec();
     if let Some(at) = at {
+        pairs[at].1 = value;
+    }
+    Seq::from_vec(pairs)
+}
+
+// The place of the first control variable of this name, or `None` where there is none.
+fn variable_place(names: &[(Name, i64)], x: &Name) -> Option<usize>
+    ensures { result ≡ position (λ n. is_name x.now n.0) names.now }
+{
+    names.iter().position(|pair| same_name(x, &pair.0))
+}
+
+/// The number of a control variable.
+pub fn variable_number(names: &[(Name, i64)], x: &Name) -> usize
+    ensures { result ≡ unwrap_or (position (λ n. is_name x.now n.0) names.now) (length names.now) }
+{
+    variable_place(names, x).unwrap_or(names.len())
+}
+
+/// The control variables with a new value at a place.
+pub fn with_number(names: Seq<(Name, i64)>, at: usize, value: i64) -> Seq<(Name, i64)>
+    ensures { result ≡ with_number names at value }
+{
+    let mut pairs = names.into_vec();
+    if at < pairs.len() {
         pairs[at].1 = value;
     }
     Seq::from_vec(pairs)

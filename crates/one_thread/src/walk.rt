@@ -15,7 +15,7 @@ ghost use Rattle.one_thread.specs.inner.Walking.{setting_of, point_of, LeadsTo, 
 use crate::cells::{barrier_number, lock_number, same_name};
 use crate::data::{Data, data_value, fits, has_value, index_of, is_zero, perform, register_number};
 use crate::left::Left;
-use crate::variables::{register_names, set_number, with_value, zeros};
+use crate::variables::{register_names, set_number, variable_number, with_value, zeros};
 use gp_base::{LockNo, Name, Nums, Seq};
 use std::alloc::{AllocError, Global};
 use std::mem;
@@ -240,6 +240,16 @@ impl<'a> Walk<'a> {
         }
     }
 
+    fn settle(&self, x: &Name, c: &Name, line: u32) -> Result<Went<'a>, AllocError>
+        requires registers { self.now.registers.now ≡ registers_of (plain_task self.now.task.now) }
+        requires clean { self.now.env.regs ≡ [] }
+        ensures { IfOk result (λ went. Stepped (step_at (setting_of self.now) line (plain.Settle x.now c.now) (rest_of self.now.left) (point_of self.now)) went self.now self.now) }
+    {
+        let reg = number(register_number(self.registers, x))?;
+        let ctl = number(variable_number(self.env.names.as_slice(), c))?;
+        Ok(stop(SyncOp::Settle { reg, ctl }, line))
+    }
+
     // A data statement.
     fn act(&mut self, alloc: Global, what: &What, line: u32) -> Result<Went<'a>, AllocError>
         requires clean { self.old.env.regs ≡ [] }
@@ -294,6 +304,7 @@ impl<'a> Walk<'a> {
                 None => Ok(fault(line)),
             },
             What::Barrier(b) => self.barrier(b, line),
+            What::Settle(x, c) => self.settle(x, c, line),
             What::SetReg(_, _) => self.act(alloc, &s.what, line),
             What::Read(_, _, _) => self.act(alloc, &s.what, line),
             What::Write(_, _, _) => self.act(alloc, &s.what, line),
@@ -438,6 +449,7 @@ impl<'a> Walk<'a> {
             What::Lock(_, _) => Ok(self.left.pass()),
             What::Unlock(_, _) => Ok(self.left.pass()),
             What::Barrier(_) => Ok(self.left.pass()),
+            What::Settle(_, _) => Ok(self.left.pass()),
             What::SetReg(_, _) => Ok(self.left.pass()),
             What::Read(_, _, _) => Ok(self.left.pass()),
             What::Write(_, _, _) => Ok(self.left.pass()),

@@ -29,6 +29,7 @@ joined_is (sync.Lock l) state = refl
 joined_is (sync.Unlock l) state = refl
 joined_is (sync.Fork k es) state = refl
 joined_is (sync.Barrier b) state = refl
+joined_is (sync.Settle register control) state = refl
 joined_is sync.End state = refl
 joined_is sync.BadIndex state = refl
 joined_is sync.Spent state = refl

@@ -1,7 +1,7 @@
 // The store: the data of a run, what an effect does to it, and what undoes that.
 
 ghost use Rattle.std.specs.Prelude.{◌≡◌, length, IfOk, OnOk, OnErr};
-ghost use Rattle.task_ast.specs.State.{RegistersOf};
+ghost use Rattle.task_ast.specs.State.{RegistersOf, number_at};
 ghost use Rattle.task_ast.specs.Effect.{after};
 ghost use Rattle.task_ast.specs.History.{old_of};
 ghost use Rattle.record_store.specs.Stored.{state_of, Fits, SameShape, without_threads, with_thread};
@@ -42,6 +42,16 @@ impl Store {
             threads: Vec::new(alloc),
             cells: records,
             layout,
+        }
+    }
+
+    /// A number among the registers of a thread, or 0.
+    pub fn register(&self, thread: ThreadNo, k: usize) -> i64
+        ensures { result ≡ number_at (state_of self.now (RegistersOf thread)) k }
+    {
+        match self.threads.get(thread.0 as usize) {
+            Some(regs) => value_at(regs.as_slice(), k),
+            None => 0,
         }
     }
 

@@ -10,7 +10,7 @@ use Rattle.task_ast.specs.Effect.{effect, effect_on}
 use Rattle.task_ast.specs.Damage.{damaged}
 use Rattle.task_ast.specs.laws.Following.{Agrees, Follows}
 use Rattle.task_ast.specs.Plain.{Subthread, Machine, tree_machine}
-use Rattle.task_ast.specs.Position.{before, body_at, IsStep, point_in}
+use Rattle.task_ast.specs.Position.{before, body_at, IsStep, from_in}
 use Rattle.task_ast.proofs.Positions.{step_is}
 use Rattle.lock_checker.proofs.LocksHeld.{sound}
 use Rattle.record_store.specs.Given.{given_of, joined_by, found_of}
@@ -37,7 +37,7 @@ module _ (work : Work) (cells : Layout) (inputs : Inputs) (limits : Limits) (sui
 
   -- where the thread stands in the plain run, and what the subthread does there
   abbrev point : Point
-  point = point_in (program_in work) inputs limits (before (program_in work) inputs limits p) s.thread
+  point = from_in (program_in work) inputs limits (before (program_in work) inputs limits p) s.begins.sync s.thread
 
   step : IsStep tree (before (program_in work) inputs limits p) s (before (program_in work) inputs limits (suc p))
   step = step_is (tree_machine (program_in work) inputs limits) (program_in work) inputs limits p s is_task.position

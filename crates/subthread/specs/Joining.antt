@@ -7,7 +7,7 @@ use Rattle.task_ast.specs.State.{State}
 use Rattle.task_ast.specs.Effect.{effect, effect_on}
 use Rattle.task_ast.specs.Damage.{damaged}
 use Rattle.task_ast.specs.Plain.{Subthread, order}
-use Rattle.task_ast.specs.Position.{before, point_in, body_at}
+use Rattle.task_ast.specs.Position.{before, from_in, body_at}
 use Rattle.record_store.specs.Given.{given_of, joined_by, found_of}
 use Rattle.task_code.specs.Relation.{Rests}
 use Rattle.subthread.specs.declared.task.Work.{Work}
@@ -17,14 +17,14 @@ use Rattle.subthread.specs.Tasks.{task_of, effect_of, place_of, place_left, prog
 
 module _ (work : Work) (inputs : Inputs) (limits : Limits) where
   -- the task is one of the plain run's subthread at a position: its thread begins so, has these locks, and stands where the
-  -- subthread's thread does
+  -- subthread's thread begins, after what a settle sets
   pub record IsTaskOf (p : ℕ) (s : Subthread) (task : Task) : Type 0 where
     pub position : slice_get (order (program_in work) inputs limits) p ≡ Some s
     pub thread : task.thread ≡ s.thread
     pub begins : task.begins ≡ s.begins
     pub child : task.child ≡ s.child
     pub held : task.held ≡ s.held
-    pub place : Rests (program_in work) s.begins.sync (point_in (program_in work) inputs limits (before (program_in work) inputs limits p) s.thread) (place_of task)
+    pub place : Rests (program_in work) s.begins.sync (from_in (program_in work) inputs limits (before (program_in work) inputs limits p) s.begins.sync s.thread) (place_of task)
 
   -- the task was given what its subthread finds in a state
   abbrev pub IsGiven : Task → State → Type 0

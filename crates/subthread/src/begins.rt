@@ -65,6 +65,7 @@ fn jump_of(does: &Does) -> usize
         Does::Fork(_) => 0,
         Does::Join(_, _) => 0,
         Does::Barrier(_) => 0,
+        Does::Settle(_, _) => 0,
         Does::Do(_) => 0,
     }
 }
@@ -127,6 +128,7 @@ fn begin_at(
         Does::Lock(_, _) => Ok(stand.pc += 1),
         Does::Unlock(_, _) => Ok(stand.pc += 1),
         Does::Barrier(_) => Ok(stand.pc += 1),
+        Does::Settle(_, _) => Ok(stand.pc += 1),
         Does::Do(_) => Ok(stand.pc += 1),
     }
 }

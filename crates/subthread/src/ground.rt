@@ -30,13 +30,14 @@ pub struct Stand {
 }
 
 /// What a run did so far: the registers of its thread and of the child that it forked, the cells that it wrote, each with
-/// its last value, and the lines that it printed.
+/// its last value, the lines that it printed, and how many control steps it made.
 #[derive(Drop)]
 pub struct Doing {
     pub regs: Nums,
     pub child: Nums,
     pub written: BTreeMap<u32, i64>,
     pub lines: Lines,
+    pub steps: u64,
 }
 
 /// What one control step did: it led on, or it found a loop turn, with the number of the instruction at which its body

@@ -16,5 +16,5 @@ mod values;
 mod walk;
 
 pub use footprints::footprint;
-pub use run::run_task;
+pub use run::{run_counted, run_task};
 pub use task::{Done, Task, Work};

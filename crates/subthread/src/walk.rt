@@ -129,6 +129,13 @@ fn step_at(
             Some(thread) => Ok(stop(SyncOp::Join(thread), line)),
         },
         Does::Barrier(b) => Ok(stop(SyncOp::Barrier(*b), line)),
+        Does::Settle(reg, ctl) => Ok(stop(
+            SyncOp::Settle {
+                reg: *reg,
+                ctl: *ctl,
+            },
+            line,
+        )),
         Does::Do(deed) => {
             if fits(deed, ground, stand.ctl.as_slice()) {
                 perform(alloc, deed, ground, stand.ctl.as_slice(), doing)?;
@@ -152,6 +159,7 @@ fn step(
     requires task { IsTask ground.now }
     ensures { IfOk result (λ went. Stepped ground.now (step_instr ground.now.feeds.now (slice_get (plain_instrs ground.now.instrs.now) stand.old.pc) (place_in ground.now stand.old)) went (place_in ground.now stand.old) (place_in ground.now stand.new) (doing_of doing.old) (doing_of doing.new)) }
 {
+    doing.steps = doing.steps.saturating_add(1);
     if stand.pc < ground.instrs.len() {
         let instr = &ground.instrs[stand.pc];
         step_at(alloc, &instr.does, instr.line, ground, stand, doing)

@@ -5,7 +5,7 @@ use Rattle.task_ast.specs.declared.check_kind.CheckKind.TheVariants.{UnknownName
 use Rattle.task_ast.specs.declared.tree.Atom.TheVariants as atom
 use Rattle.task_ast.specs.declared.tree.Head.TheVariants.{LockHead, RecHead}
 use Rattle.task_ast.specs.declared.tree.Param.TheVariants as param
-use Rattle.task_ast.specs.Tree.{Num, Reg, At, SetCtl, If, Lock, Unlock, Write, Nothing, Then, TaskText, Program}
+use Rattle.task_ast.specs.Tree.{Num, Reg, At, SetCtl, If, Lock, Unlock, Settle, Write, Nothing, Then, TaskText, Program}
 use Rattle.task_ast.specs.Check.{check_fault}
 
 abbrev index_changed_main : TaskText
@@ -175,3 +175,21 @@ most_cells = record { heads = ((LockHead (codes "a") (pos 65536) 1) ∷ []); tas
 
 is_most_cells : check_fault most_cells ≡ None
 is_most_cells = refl
+
+abbrev settled_index_main : TaskText
+settled_index_main = record {
+  name = codes "main";
+  params = [];
+  vars = (record { names = ((param.Ctl (codes "i")) ∷ (param.Reg (codes "x")) ∷ []); line = 4 } ∷ []);
+  line = 3;
+  body =
+      (Then (At 9 (Lock (codes "bank") (atom.Var (codes "i"))))
+      (Then (At 10 (Settle (codes "x") (codes "i")))
+      (Then (At 12 (Unlock (codes "bank") (atom.Var (codes "i")))) Nothing)));
+}
+
+abbrev pub settled_index : Program
+settled_index = record { heads = ((LockHead (codes "bank") (pos 3) 1) ∷ []); tasks = (settled_index_main ∷ []) }
+
+is_settled_index : check_fault settled_index ≡ Some (IndexChangedWhileHeld, 10)
+is_settled_index = refl

@@ -176,6 +176,7 @@ joining_goes limit issued h (Some other) table t next whole t_in some =
 
 tried_goes : (limit issued : ℕ) (op : SyncOp) (table : Table) (t : ℕ) (next : Next) → Whole limit issued table → t < length table.seats → Goes limit issued (tried op table t next)
 tried_goes limit issued sync.Start table t next whole t_in = issuing_goes limit issued table t next whole t_in
+tried_goes limit issued (sync.Settle register control) table t next whole t_in = issuing_goes limit issued table t next whole t_in
 tried_goes limit issued (sync.Lock l) table t next whole t_in =
     cond_goes limit issued (is_none (owner_of table l)) _ _ (λ e. issuing_goes limit issued table t next whole t_in) (λ e. passing_goes limit issued table t whole)
 tried_goes limit issued (sync.Unlock l) table t next whole t_in = issuing_goes limit issued table t next whole t_in

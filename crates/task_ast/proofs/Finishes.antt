@@ -37,6 +37,7 @@ joining_not h (Some other) table t next = cond_not (is_end other.sync) _ _ (issu
 
 tried_not : (op : SyncOp) (table : Table) (t : ℕ) (next : Next) → NotFinished (tried op table t next)
 tried_not sync.Start table t next = issuing_not table t next
+tried_not (sync.Settle register control) table t next = issuing_not table t next
 tried_not (sync.Lock l) table t next = cond_not (is_none (owner_of table l)) _ _ (issuing_not table t next) tt
 tried_not (sync.Unlock l) table t next = issuing_not table t next
 tried_not (sync.Fork task arguments) table t next = cond_not (nat_lt (length table.seats) most_threads) _ _ (issuing_not table t next) tt

@@ -158,6 +158,7 @@ joining_alike table seats h (Some other) p t next h_in is same e less =
 tried_alike : (op : SyncOp) (table : Table) (seats : List Seat) (t : ℕ) (next : Next) → next_of table t ≡ Some next → SeatsLess table.seats seats
     → Alike table (tried op table t next) (tried op (seated table seats) t next)
 tried_alike sync.Start table seats t next e h = issuing_alike table table seats t next h
+tried_alike (sync.Settle register control) table seats t next e h = issuing_alike table table seats t next h
 tried_alike (sync.Lock l) table seats t next e h =
     cond_alike table (is_none (owner_of table l)) _ _ _ _ (λ b. issuing_alike table table seats t next h) (λ b. passing_alike table table seats t next e h)
 tried_alike (sync.Unlock l) table seats t next e h = issuing_alike table table seats t next h

@@ -9,7 +9,7 @@ use Rattle.task_ast.specs.Repeat.{Done, Move, Goes, Ends}
 use Rattle.task_ast.specs.Table.{Seat, Table, new_seat, next_of, owned, learning}
 use Rattle.task_ast.specs.Turn.{Turn, owners_after, seats_after, child_of, next_issue}
 use Rattle.task_ast.specs.laws.Threads.{SameThreads, MayBegin, with_child}
-use Rattle.task_ast.specs.Plain.{Subthread, PlainOf, Machine, points_with, point_by, on_turn_by, move_by}
+use Rattle.task_ast.specs.Plain.{Subthread, PlainOf, Machine, points_with, point_by, from_by, on_turn_by, move_by}
 use Rattle.task_ast.specs.Position.{body_by, IsStep}
 use Rattle.task_ast.proofs.TurnForms.{issued_table, Form, issues, needs, ends, next_form}
 use Rattle.task_ast.proofs.IssuedTables.{get_last, length_push, get_set_here, get_set_other, length_set, points_as_seats, points_get, grown_points, changed, changed_length, grown_is, grown_seat, issued_other, learnt_here, learnt_other, learnt_length}
@@ -30,14 +30,14 @@ module _ {P : Type 0} (machine : Machine P) where
   -- the subthread that an issue begins, and the run after it
   abbrev pub subthread_of : ℕ → Next → Option ℕ → Table → PlainOf P → Subthread
   subthread_of t begins child table x =
-      let b = machine.bodies (machine.begins begins.sync child (point_by machine x t)) in
-      let actions = machine.first begins.sync (point_by machine x t) ++ b.actions in
+      let b = machine.bodies (machine.begins begins.sync child (from_by machine x begins.sync t)) in
+      let actions = machine.first begins.sync (from_by machine x begins.sync t) ++ b.actions in
       record { thread = t; begins = begins; child = child; held = owned table t; actions = actions; lines = (effect t begins.sync child actions x.state).prints }
 
   abbrev pub plain_of : ℕ → Next → Option ℕ → Table → PlainOf P → PlainOf P
   plain_of t begins child table x =
-      let b = machine.bodies (machine.begins begins.sync child (point_by machine x t)) in
-      let actions = machine.first begins.sync (point_by machine x t) ++ b.actions in
+      let b = machine.bodies (machine.begins begins.sync child (from_by machine x begins.sync t)) in
+      let actions = machine.first begins.sync (from_by machine x begins.sync t) ++ b.actions in
       record {
         table = learning table t b.next;
         points = slice_set (points_with machine begins.sync (length x.points) x.points) t b.at;

@@ -183,6 +183,7 @@ module _ {P : Type 0} (machine : Machine P) (program : Program) (inputs : Inputs
   child_is (sync.Lock l) n c e = absurd (some_none e)
   child_is (sync.Unlock l) n c e = absurd (some_none e)
   child_is (sync.Join h) n c e = absurd (some_none e)
+  child_is (sync.Settle register control) n c e = absurd (some_none e)
   child_is (sync.Barrier b) n c e = absurd (some_none e)
   child_is sync.End n c e = absurd (some_none e)
   child_is sync.BadIndex n c e = absurd (some_none e)

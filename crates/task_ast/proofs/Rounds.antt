@@ -372,6 +372,7 @@ joining_keeps h (Some other) table t next rounds nearest =
 
 tried_keeps : (op : SyncOp) (table : Table) (t : ℕ) (next : Next) → Rounds table → Nearest table t → Keeps (tried op table t next)
 tried_keeps sync.Start table t next rounds nearest = issuing_keeps table t next nearest.here
+tried_keeps (sync.Settle register control) table t next rounds nearest = issuing_keeps table t next nearest.here
 tried_keeps (sync.Lock l) table t next rounds nearest =
     cond_keeps (is_none (owner_of table l)) _ _ (issuing_keeps table t next nearest.here) (passing_keeps table t rounds nearest)
 tried_keeps (sync.Unlock l) table t next rounds nearest = issuing_keeps table t next nearest.here

@@ -9,7 +9,7 @@ use Rattle.task_ast.specs.declared.tree.Op.TheVariants.{Lt, Add, Sub, Div, Rem}
 use Rattle.task_ast.specs.declared.tree.Param.{Param}
 use Rattle.task_ast.specs.declared.tree.Param.TheVariants as param
 use Rattle.task_ast.specs.declared.tree.VarLine.{VarLine}
-use Rattle.task_ast.specs.Tree.{Name, Expr, Num, Ctl, Reg, Neg, Chain, NoLinks, Link, Stmt, At, SetCtl, While, Lock, Unlock, Fork, Join, Barrier, SetReg, Read, Write, Print, Nothing, block, TaskText, Program}
+use Rattle.task_ast.specs.Tree.{Name, Expr, Num, Ctl, Reg, Neg, Chain, NoLinks, Link, Stmt, At, SetCtl, While, Lock, Unlock, Fork, Join, Barrier, Settle, SetReg, Read, Write, Print, Nothing, block, TaskText, Program}
 
 abbrev task : Name → List Param → List VarLine → (line : ℕ) → List Stmt → TaskText
 task name params vars line stmts = record { name = name; params = params; vars = vars; body = block stmts; line = line }
@@ -186,3 +186,20 @@ doubling = record {
 -- joins the thread of this number, and forks none
 abbrev pub joining : ℕ → Program
 joining n = record { heads = []; tasks = task (codes "main") [] [] 1 (At 1 (Join (number n) None) ∷ []) ∷ [] }
+
+-- three accounts; what the first one holds is the number of another
+abbrev chosen : TaskText
+chosen =
+    task (codes "main") [] (vars 4 (param.Ctl i ∷ param.Reg (codes "x") ∷ [])) 3
+    (At 5 (Lock (codes "bank") (cell 0))
+    ∷ At 6 (Write (codes "acct") (cell 0) (number 2))
+    ∷ At 7 (Read (codes "acct") (cell 0) (codes "x"))
+    ∷ At 8 (Unlock (codes "bank") (cell 0))
+    ∷ At 9 (Settle (codes "x") i)
+    ∷ At 10 (Lock (codes "bank") at_i)
+    ∷ At 11 (Write (codes "acct") at_i (number 9))
+    ∷ At 12 (Unlock (codes "bank") at_i)
+    ∷ [])
+
+abbrev pub settling : Program
+settling = record { heads = LockHead (codes "bank") (pos 3) 1 ∷ RecHead (codes "acct") (pos 3) (codes "bank") None 2 ∷ []; tasks = chosen ∷ [] }

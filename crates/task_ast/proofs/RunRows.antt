@@ -15,7 +15,7 @@ use Rattle.task_ast.specs.Body.{body, stretch}
 use Rattle.task_ast.specs.Repeat.{steps, state_after, repeated, until_done}
 use Rattle.task_ast.specs.Plain.{Subthread, foot_of, order, end, final_records}
 use Rattle.task_ast.specs.Tree.{Program}
-use Rattle.task_ast.proofs.RowPrograms.{empty_batch, arithmetic, two_adders, reader_and_adder, crossed_locks, account, endless_loop, ten_turns, meeting, doubling, joining}
+use Rattle.task_ast.proofs.RowPrograms.{empty_batch, arithmetic, two_adders, reader_and_adder, crossed_locks, account, endless_loop, ten_turns, meeting, doubling, joining, settling}
 
 -- so many record cells of 0
 abbrev pub zeros : ℕ → Inputs
@@ -132,3 +132,13 @@ join_nobody = refl
 join_itself : outcome (joining 0) (zeros 0) (limits 1000 20) ≡ record { count = 1; lines = []; ending = Stuck why.Deadlock 0 1; records = [] }
 unfolding steps state_after body stretch until_done repeated int_wrap
 join_itself = refl
+
+-- the settle sets the index to the value that was read
+settling_order : map turn_of (order settling (zeros 3) (limits 1000 20)) ≡
+    (0, sync.Start) ∷ (0, sync.Lock 0) ∷ (0, sync.Unlock 0) ∷ (0, sync.Settle 1 0) ∷ (0, sync.Lock 2) ∷ (0, sync.Unlock 2) ∷ []
+unfolding steps body stretch until_done repeated
+settling_order = refl
+
+settling_outcome : outcome settling (zeros 3) (limits 1000 20) ≡ record { count = 6; lines = []; ending = Finished; records = pos 2 ∷ pos 0 ∷ pos 9 ∷ [] }
+unfolding steps state_after body stretch until_done repeated int_wrap
+settling_outcome = refl

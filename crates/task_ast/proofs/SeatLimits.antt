@@ -22,6 +22,7 @@ room_for sync.Start table may l = l
 room_for (sync.Lock k) table may l = l
 room_for (sync.Unlock k) table may l = l
 room_for (sync.Join h) table may l = l
+room_for (sync.Settle register control) table may l = l
 room_for (sync.Barrier b) table may l = l
 room_for sync.End table may l = l
 room_for sync.BadIndex table may l = l

@@ -2,7 +2,7 @@
 use Rattle.std.proofs.Common.{◌≡◌, ℕ, zero, suc, ◌+◌, ◌<◌, List, [], ◌∷◌, ◌++◌, Option, Some, None, refl, subst, arith}
 use Rattle.std.specs.Prelude.{ℤ, pos, negsuc}
 use Rattle.task_ast.specs.declared.sync.Next.{Next}
-use Rattle.task_ast.specs.Tree.{Stmt, At, What, SetCtl, While, If, Lock, Unlock, Fork, Join, Barrier, SetReg, Read, Write, Print, When, Block, Nothing, Then, statements}
+use Rattle.task_ast.specs.Tree.{Stmt, At, What, SetCtl, While, If, Lock, Unlock, Fork, Join, Barrier, Settle, SetReg, Read, Write, Print, When, Block, Nothing, Then, statements}
 use Rattle.task_ast.specs.Action.{Action}
 use Rattle.task_ast.specs.Names.{registers_of}
 use Rattle.task_ast.specs.Body.{Step, Silent, Iteration, Act, Stop, IsSized}
@@ -55,6 +55,7 @@ step_falls s line (Lock a i) rest p = known_falls (weights (At line (Lock a i) �
 step_falls s line (Unlock a i) rest p = known_falls (weights (At line (Unlock a i) ∷ rest)) line _ _ (λ v. stopping)
 step_falls s line (Fork t es x) rest p = known_falls (weights (At line (Fork t es x) ∷ rest)) line _ _ (λ v. stopping)
 step_falls s line (Join e x) rest p = known_falls (weights (At line (Join e x) ∷ rest)) line _ _ (λ v. stopping)
+step_falls s line (Settle x c) rest p = stopping
 step_falls s line (Barrier b) rest p = known_falls (weights (At line (Barrier b) ∷ rest)) line _ _ (λ v. stopping)
 step_falls s line (SetReg x e) rest p = act_falls s line (SetReg x e) rest p refl
 step_falls s line (Read r i x) rest p = act_falls s line (Read r i x) rest p refl

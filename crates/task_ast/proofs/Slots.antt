@@ -1,11 +1,12 @@
 -- The place of a name among names, and what is set there.
-use Rattle.std.proofs.Common.{◌≡◌, ℕ, suc, ◌≤◌, Bool, true, false, ◌||◌, cond, List, [], ◌∷◌, length, Option, Some, None, unwrap_or, option_map, refl, sym, ap, ◌∙◌, arith}
+use Rattle.std.proofs.Common.{◌≡◌, ℕ, zero, suc, ◌≤◌, Bool, true, false, ◌||◌, cond, List, [], ◌∷◌, length, Option, Some, None, unwrap_or, option_map, refl, sym, ap, ◌∙◌, arith}
 use Rattle.std.specs.Prelude.{ℤ, position, slice_set}
 use Rattle.std.proofs.lemmas.Bool.{true≢false}
 use Rattle.std.proofs.lemmas.List.{set_past}
 use Rattle.task_ast.specs.Tree.{Name}
 use Rattle.task_ast.specs.Names.{is_name, is_among, slot, firsts, seconds}
-use Rattle.task_ast.specs.Control.{with_value}
+use Rattle.task_ast.specs.Table.{with_nth}
+use Rattle.task_ast.specs.Control.{with_value, with_number}
 use Rattle.task_ast.proofs.Terms.{position-cons}
 
 set_slot : (names : List (Name × ℤ)) (x : Name) (v : ℤ) → seconds (with_value names x v) ≡ slice_set (seconds names) (slot (firsts names) x) v
@@ -32,6 +33,34 @@ same_names (n ∷ names) x v = go (is_name x n.0) (same_names names x v)
 pub sets_first : (names : List (Name × ℤ)) (x : Name) (v : ℤ)
     → (firsts (with_value names x v) ≡ firsts names) × (seconds (with_value names x v) ≡ slice_set (seconds names) (slot (firsts names) x) v)
 sets_first names x v = (same_names names x v, set_slot names x v)
+
+number_names : (names : List (Name × ℤ)) (k : ℕ) (v : ℤ) → firsts (with_number names k v) ≡ firsts names
+number_names [] k v = refl
+number_names (n ∷ names) zero v = refl
+number_names (n ∷ names) (suc k) v = ap (λ xs. n.0 ∷ xs) (number_names names k v)
+
+number_values : (names : List (Name × ℤ)) (k : ℕ) (v : ℤ) → seconds (with_number names k v) ≡ slice_set (seconds names) k v
+number_values [] zero v = refl
+number_values [] (suc k) v = refl
+number_values (n ∷ names) zero v = refl
+number_values (n ∷ names) (suc k) v = ap (λ xs. n.1 ∷ xs) (number_values names k v)
+
+pub sets_number : (names : List (Name × ℤ)) (k : ℕ) (v : ℤ) → (firsts (with_number names k v) ≡ firsts names) × (seconds (with_number names k v) ≡ slice_set (seconds names) k v)
+sets_number names k v = (number_names names k v, number_values names k v)
+
+-- the number of a name is that of its first entry
+pub slot_sets : (names : List (Name × ℤ)) (x : Name) (v : ℤ) → with_number names (slot (firsts names) x) v ≡ with_value names x v
+slot_sets [] x v = refl
+slot_sets (n ∷ names) x v = go (is_name x n.0) refl (slot_sets names x v)
+  where
+    shifted : (o : Option ℕ) → with_number (n ∷ names) (unwrap_or (option_map suc o) (suc (length (firsts names)))) v ≡ n ∷ with_number names (unwrap_or o (length (firsts names))) v
+    shifted None = refl
+    shifted (Some k) = refl
+
+    go : (b : Bool) → is_name x n.0 ≡ b → with_number names (slot (firsts names) x) v ≡ with_value names x v
+        → with_number (n ∷ names) (slot (n.0 ∷ firsts names) x) v ≡ cond (is_name x n.0) ((n.0, v) ∷ names) (n ∷ with_value names x v)
+    go true e later = rw (position-cons (is_name x) n.0 (firsts names), e) refl
+    go false e later = rw (position-cons (is_name x) n.0 (firsts names), e) (shifted (position (is_name x) (firsts names)) ∙ ap (λ xs. n ∷ xs) later)
 
 slot_past : (names : List Name) (x : Name) → is_among x names ≡ false → slot names x ≡ length names
 slot_past [] x h = refl

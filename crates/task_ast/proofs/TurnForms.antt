@@ -43,6 +43,7 @@ may_same same (sync.Join (pos h)) may = (subst (λ n. h < n) same.threads may.0,
 may_same same (sync.Join (negsuc h)) may = may
 may_same same sync.Start may = tt
 may_same same (sync.Unlock l) may = tt
+may_same same (sync.Settle register control) may = tt
 may_same same (sync.Barrier b) may = tt
 may_same same sync.End may = may
 may_same same sync.BadIndex may = may
@@ -130,6 +131,7 @@ none_is (Some x) e = cc e
 
 tried_form : (op : SyncOp) (table : Table) (t : ℕ) (next : Next) → op ≡ next.sync → is_end op ≡ false → next_of table t ≡ Some next → Form table (tried op table t next)
 tried_form sync.Start table t next is live e = issuing_form table table t next (same_threads table) e (subst (MayBegin table) is tt)
+tried_form (sync.Settle register control) table t next is live e = issuing_form table table t next (same_threads table) e (subst (MayBegin table) is tt)
 tried_form (sync.Lock l) table t next is live e =
     cond_form table (is_none (owner_of table l)) _ _ (λ b. issuing_form table table t next (same_threads table) e (subst (MayBegin table) is (none_is (owner_of table l) b)))
     (λ b. passing_form table table t (same_threads table))

@@ -37,6 +37,7 @@ joining_as h (Some other) table t next = cond_as t next (is_end other.sync) _ _ 
 
 tried_as : (op : SyncOp) (table : Table) (t : ℕ) (next : Next) → IssuesAs t next (tried op table t next)
 tried_as sync.Start table t next = issuing_as table t next
+tried_as (sync.Settle register control) table t next = issuing_as table t next
 tried_as (sync.Lock l) table t next = cond_as t next (is_none (owner_of table l)) _ _ (issuing_as table t next) tt
 tried_as (sync.Unlock l) table t next = issuing_as table t next
 tried_as (sync.Fork task arguments) table t next = cond_as t next (nat_lt (length table.seats) most_threads) _ _ (issuing_as table t next) tt

@@ -143,6 +143,7 @@ joining_falls h (Some other) table t next falls = cond_falls _ (is_end other.syn
 -- the rules at a thread that has not passed
 tried_falls : (op : SyncOp) (table : Table) (t : ℕ) (next : Next) (seat : Seat) → slice_get table.seats t ≡ Some seat → seat.passed ≡ false → Falls (turns_left table) (tried op table t next)
 tried_falls sync.Start table t next seat e unpassed_yet = issuing_falls _ table t next
+tried_falls (sync.Settle register control) table t next seat e unpassed_yet = issuing_falls _ table t next
 tried_falls (sync.Lock l) table t next seat e unpassed_yet = cond_falls _ (is_none (owner_of table l)) _ _ (issuing_falls _ table t next) (passing_falls table t seat e unpassed_yet)
 tried_falls (sync.Unlock l) table t next seat e unpassed_yet = issuing_falls _ table t next
 tried_falls (sync.Fork task arguments) table t next seat e unpassed_yet = cond_falls _ (nat_lt (length table.seats) most_threads) _ _ (issuing_falls _ table t next) ends

@@ -12,7 +12,7 @@ use Rattle.task_ast.specs.declared.tree.Expr.TheFolds.{map-Expr, fold-roll-Expr}
 use Rattle.task_ast.specs.declared.tree.Stmt.{Stmt}
 use Rattle.task_ast.specs.declared.tree.What.{What}
 use Rattle.task_ast.specs.declared.tree.What.TheOpen as w
-use Rattle.task_ast.specs.declared.tree.What.TheVariants.{SetCtl, Lock, Unlock, Fork, Join, Barrier, SetReg, Read, Write, Print, rolls-SetCtl, rolls-While, rolls-If, rolls-Lock, rolls-Unlock, rolls-Fork, rolls-Join, rolls-Barrier, rolls-SetReg, rolls-Read, rolls-Write, rolls-Print, rolls-When}
+use Rattle.task_ast.specs.declared.tree.What.TheVariants.{SetCtl, Lock, Unlock, Fork, Join, Barrier, Settle, SetReg, Read, Write, Print, rolls-SetCtl, rolls-While, rolls-If, rolls-Lock, rolls-Unlock, rolls-Fork, rolls-Join, rolls-Barrier, rolls-Settle, rolls-SetReg, rolls-Read, rolls-Write, rolls-Print, rolls-When}
 use Rattle.task_ast.specs.declared.tree.What.TheViews.{roll-What, While, If, When}
 use Rattle.task_ast.specs.declared.tree.What.TheFolds.{map-What, fold-roll-What, fold_out-Stmt}
 
@@ -79,6 +79,9 @@ what_Join e x = ap plain_what (sym (rolls-Join e x)) ∙ what_level (w.Join e x)
 pub what_Barrier : (b : List ℕ) → plain_what (Barrier b) ≡ plain.Barrier b
 what_Barrier b = ap plain_what (sym (rolls-Barrier b)) ∙ what_level (w.Barrier b)
 
+pub what_Settle : (x c : List ℕ) → plain_what (Settle x c) ≡ plain.Settle x c
+what_Settle x c = ap plain_what (sym (rolls-Settle x c)) ∙ what_level (w.Settle x c)
+
 pub what_SetReg : (x : List ℕ) (e : Expr) → plain_what (SetReg x e) ≡ plain.SetReg x (plain_expr e)
 what_SetReg x e = ap plain_what (sym (rolls-SetReg x e)) ∙ what_level (w.SetReg x e)
 
@@ -94,4 +97,4 @@ what_Print es = ap plain_what (sym (rolls-Print es)) ∙ what_level (w.Print es)
 pub what_When : (e : Expr) (first : List Stmt) (second : List Stmt) → plain_what (When e first second) ≡ plain.When (plain_expr e) (plain_block first) (plain_block second)
 what_When e first second = ap plain_what (sym (rolls-When e first second)) ∙ what_level (w.When e first second)
 
-pub ruleset view = (expr_Num, expr_Ctl, expr_Reg, expr_Me, expr_Rows, expr_Cell, expr_Neg, expr_Not, expr_Chain, stmt_At, what_SetCtl, what_While, what_If, what_Lock, what_Unlock, what_Fork, what_Join, what_Barrier, what_SetReg, what_Read, what_Write, what_Print, what_When)
+pub ruleset view = (expr_Num, expr_Ctl, expr_Reg, expr_Me, expr_Rows, expr_Cell, expr_Neg, expr_Not, expr_Chain, stmt_At, what_SetCtl, what_While, what_If, what_Lock, what_Unlock, what_Fork, what_Join, what_Barrier, what_Settle, what_SetReg, what_Read, what_Write, what_Print, what_When)

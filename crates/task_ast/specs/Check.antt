@@ -4,7 +4,7 @@ use Rattle.std.specs.List.{list_any}
 use Rattle.task_ast.specs.declared.check_kind.CheckKind.{CheckKind}
 use Rattle.task_ast.specs.declared.check_kind.CheckKind.TheVariants.{UnknownName, WrongCount, DataInControl, NotHeld, HeldTwice, HeldAtEnd, BranchesDiffer, IndexChangedWhileHeld}
 use Rattle.task_ast.specs.declared.tree.Atom.{Atom}
-use Rattle.task_ast.specs.Tree.{Name, Stmt, At, What, SetCtl, While, If, Lock, Unlock, Fork, Join, Barrier, SetReg, Read, Write, Print, When, Block, Nothing, Then, TaskText, Program}
+use Rattle.task_ast.specs.Tree.{Name, Stmt, At, What, SetCtl, While, If, Lock, Unlock, Fork, Join, Barrier, Settle, SetReg, Read, Write, Print, When, Block, Nothing, Then, TaskText, Program}
 use Rattle.task_ast.specs.Names.{named, arrays_over, barriers_of, head_name, task_named}
 use Rattle.task_ast.specs.Visit.{Visit, visit, fails_if, first_fault}
 use Rattle.task_ast.specs.Declarations.{Scope, is_control, is_register, is_lock, is_atom, has_unknown, has_data, has_data_index, counts_differ, any_misplaced, head_visits, task_visits, main_visit}
@@ -50,6 +50,7 @@ module _ (s : Scope) where
       ++ fails_if (into_index held x) IndexChangedWhileHeld
   fails_at (Join e x) held = fails_if (has_unknown s e || into_unknown (is_register s) x) UnknownName ++ fails_if (has_data e) DataInControl
   fails_at (Barrier b) held = fails_if (not (is_barrier s b)) UnknownName
+  fails_at (Settle x c) held = fails_if (not (is_register s x) || not (is_control s c)) UnknownName ++ fails_if (list_any (is_index c) held) IndexChangedWhileHeld
   fails_at (SetReg x e) held = fails_if (not (is_register s x) || has_unknown s e) UnknownName ++ fails_if (has_data_index e) DataInControl
   fails_at (Read r i x) held =
       fails_if (is_none (array_over s r) || (not (is_atom s i) || not (is_register s x))) UnknownName

@@ -8,10 +8,11 @@ use Rattle.task_ast.specs.declared.tree.Atom.{Atom}
 use Rattle.task_ast.specs.declared.tree.Atom.TheVariants as atom
 use Rattle.task_ast.specs.declared.tree.Param.{Param}
 use Rattle.task_ast.specs.declared.tree.Param.TheVariants as param
-use Rattle.task_ast.specs.Tree.{Name, Expr, Stmt, At, What, SetCtl, While, If, Lock, Unlock, Fork, Join, Barrier, SetReg, Read, Write, Print, When, Block, Nothing, Then, statements, TaskText, Program}
-use Rattle.task_ast.specs.Names.{is_name, slot, locks_of, records_of, barriers_of, cell_number, registers_of, task_named, task_number}
+use Rattle.task_ast.specs.Tree.{Name, Expr, Stmt, At, What, SetCtl, While, If, Lock, Unlock, Fork, Join, Barrier, Settle, SetReg, Read, Write, Print, When, Block, Nothing, Then, statements, TaskText, Program}
+use Rattle.task_ast.specs.Names.{is_name, slot, firsts, locks_of, records_of, barriers_of, cell_number, registers_of, task_named, task_number}
 use Rattle.task_ast.specs.Value.{value_at, value}
 use Rattle.task_ast.specs.Action.{term, Action, Set, Load, Store, Say, Choose, Child, Give, Bring, Arm, NoAction, OneAction}
+use Rattle.task_ast.specs.Table.{with_nth}
 use Rattle.task_ast.specs.Body.{Step, Silent, Iteration, Act, Stop, Body, body}
 
 -- what no thread changes
@@ -30,6 +31,10 @@ pub record Point : Type 0 where
 abbrev pub with_value : List (Name × ℤ) → Name → ℤ → List (Name × ℤ)
 with_value [] x v = []
 with_value (n ∷ names) x v = cond (is_name x n.0) ((n.0, v) ∷ names) (n ∷ with_value names x v)
+
+-- the same names in the same order, and the one at this place with this value
+abbrev pub with_number : List (Name × ℤ) → ℕ → ℤ → List (Name × ℤ)
+with_number names k v = with_nth names k (λ n. (n.0, v))
 
 -- the number that an atom stands for
 abbrev pub index_of : Atom → Env → ℤ
@@ -135,6 +140,7 @@ module _ (s : Setting) where
       known line (fork_of t es p) (λ arguments. stop (sync.Fork (unwrap_or (task_number s.program t) 0) arguments.0) line)
   step_at line (Join e x) rest p = known line (value e (env_at p)) (λ h. stop (sync.Join h) line)
   step_at line (Barrier b) rest p = known line (position (λ other. is_name b other.0) (barriers_of s.program.heads)) (λ n. stop (sync.Barrier n) line)
+  step_at line (Settle x c) rest p = stop (sync.Settle (register_number (registers_of p.task) x) (slot (firsts p.names) c)) line
   step_at line w rest p = known line (action (registers_of p.task) w (env_at p)) (λ a. Act a (going p rest))
 
   -- the step at the first of these statements; after the last one the task ends

@@ -13,8 +13,8 @@ use Rattle.task_ast.specs.declared.sync.SyncOp.{SyncOp}
 use Rattle.task_ast.specs.declared.sync.SyncOp.TheVariants as sync
 use Rattle.task_ast.specs.declared.sync.Next.{Next}
 use Rattle.task_ast.specs.Body.{Body}
-use Rattle.task_ast.specs.Control.{Setting, Point, beginning, first_actions, tree_body}
-use Rattle.task_ast.specs.State.{State, opened, with_registers, cell_value}
+use Rattle.task_ast.specs.Control.{Setting, Point, with_number, beginning, first_actions, tree_body}
+use Rattle.task_ast.specs.State.{State, RegistersOf, number_at, opened, with_registers, cell_value}
 use Rattle.task_ast.specs.Effect.{effect, after}
 use Rattle.task_ast.specs.Footprint.{footprint}
 use Rattle.task_ast.specs.Repeat.{Move, Goes, Ends, steps, state_after}
@@ -40,12 +40,14 @@ pub record PlainOf (P : Type 0) : Type 0 where
   pub points : List P
   pub state : State
 
--- what the plain run asks of a kind of points: bodies, where a subthread begins and with which actions, where a task starts
+-- what the plain run asks of a kind of points: bodies, where a subthread begins and with which actions, where a task starts, and the
+-- point at which a control variable has another value
 pub record Machine (P : Type 0) : Type 0 where
   pub bodies : P → Body P
   pub begins : SyncOp → Option ℕ → P → P
   pub first : SyncOp → P → List Action
   pub starts : (task thread : ℕ) → List ℤ → P
+  pub sets : (control : ℕ) → ℤ → P → P
 
 -- a task with nothing in it
 abbrev pub no_task : TaskText
@@ -93,10 +95,19 @@ module _ {P : Type 0} (machine : Machine P) where
   abbrev pub point_by : PlainOf P → (thread : ℕ) → P
   point_by before t = unwrap_or (slice_get before.points t) (machine.starts 0 t [])
 
+  -- a settle first sets a control variable to the value that the register has in the state
+  abbrev pub settled_by : SyncOp → (thread : ℕ) → State → P → P
+  settled_by (sync.Settle register control) t state p = machine.sets control (number_at (state (RegistersOf t)) register) p
+  settled_by _ t state p = p
+
+  -- the point from which a thread begins so
+  abbrev pub from_by : PlainOf P → SyncOp → (thread : ℕ) → P
+  from_by before op t = settled_by op t before.state (point_by before t)
+
   -- the subthread of thread t, which begins so, in a table that doesn't know what comes after it
   abbrev pub performed_by : ℕ → Next → Option ℕ → Table → PlainOf P → Move (PlainOf P) Subthread End
   performed_by t begins child table before =
-      let p = point_by before t in
+      let p = from_by before begins.sync t in
       let b = machine.bodies (machine.begins begins.sync child p) in
       let actions = machine.first begins.sync p ++ b.actions in
       let e = effect t begins.sync child actions before.state in
@@ -163,6 +174,7 @@ tree_machine program inputs limits =
       begins = beginning;
       first = first_actions (setting_of program inputs);
       starts = λ task thread arguments. start_point (task_at program task) thread arguments;
+      sets = λ control v p. record p { names = with_number p.names control v };
     }
 
 module _ (program : Program) (inputs : Inputs) (limits : Limits) where

@@ -2,6 +2,7 @@
 use Rattle.std.specs.Prelude.{◌≡◌, ℕ, zero, suc, ◌<◌, ℤ, pos, Bool, false, cond, nat_eq, List, [], ◌++◌, map, Option, Some, None, length, slice_get}
 use Rattle.gp_base.specs.declared.limits.Limits.{Limits}
 use Rattle.gp_base.specs.declared.feed.Inputs.{Inputs}
+use Rattle.task_ast.specs.declared.sync.SyncOp.{SyncOp}
 use Rattle.task_ast.specs.declared.sync.SyncOp.TheVariants as sync
 use Rattle.task_ast.specs.declared.sync.Next.{Next}
 use Rattle.task_ast.specs.Tree.{Program}
@@ -11,7 +12,8 @@ use Rattle.task_ast.specs.Effect.{effect, after}
 use Rattle.task_ast.specs.Table.{next_of, owned}
 use Rattle.task_ast.specs.Turn.{owners_after, child_of}
 use Rattle.task_ast.specs.laws.Threads.{MayBegin, with_child}
-use Rattle.task_ast.specs.Plain.{Subthread, PlainOf, Machine, point_by, before_by, order_by, Plain, tree_machine, order, end}
+use Rattle.task_ast.specs.State.{RegistersOf, number_at}
+use Rattle.task_ast.specs.Plain.{Subthread, PlainOf, Machine, point_by, from_by, before_by, order_by, Plain, tree_machine, order, end}
 
 -- whether the thread has the position
 abbrev pub is_of : ℕ → Option Subthread → Bool
@@ -25,7 +27,7 @@ last_below run t (suc p) = cond (is_of t (slice_get run p)) (Some p) (last_below
 
 -- the body with which a subthread goes on, where its thread stands so
 abbrev pub body_by : {P : Type 0} → Machine P → PlainOf P → Subthread → Body P
-body_by machine before s = machine.bodies (machine.begins s.begins.sync s.child (point_by machine before s.thread))
+body_by machine before s = machine.bodies (machine.begins s.begins.sync s.child (from_by machine before s.begins.sync s.thread))
 
 -- in a run over any kind of points: the thread's last subthread is that of position q, and the body of that subthread leads to the
 -- thread's next synchronisation and to its point
@@ -42,7 +44,7 @@ pub record IsStep {P : Type 0} (machine : Machine P) (x : PlainOf P) (s : Subthr
   pub begins : next_of x.table s.thread ≡ Some s.begins
   pub may : MayBegin x.table s.begins.sync
   pub child : s.child ≡ child_of s.begins.sync (length x.table.seats)
-  pub actions : s.actions ≡ machine.first s.begins.sync (point_by machine x s.thread) ++ (body_by machine x s).actions
+  pub actions : s.actions ≡ machine.first s.begins.sync (from_by machine x s.begins.sync s.thread) ++ (body_by machine x s).actions
   pub lines : s.lines ≡ (effect s.thread s.begins.sync s.child s.actions x.state).prints
   pub state : y.state ≡ after (effect s.thread s.begins.sync s.child s.actions x.state) x.state
   pub owners : y.table.owners ≡ owners_after s.begins.sync s.thread x.table.owners
@@ -74,6 +76,10 @@ module _ (program : Program) (inputs : Inputs) (limits : Limits) where
   abbrev pub point_in : Plain → (thread : ℕ) → Point
   point_in x t = point_by (tree_machine program inputs limits) x t
 
+  -- where a thread begins so: a settle has set its control variable
+  abbrev pub from_in : Plain → SyncOp → (thread : ℕ) → Point
+  from_in x op t = from_by (tree_machine program inputs limits) x op t
+
   -- the body of the subthread at a position
   abbrev pub body_at : (position : ℕ) → Subthread → Body Point
   body_at p s = body_by (tree_machine program inputs limits) (before p) s
@@ -81,6 +87,12 @@ module _ (program : Program) (inputs : Inputs) (limits : Limits) where
 -- a subthread but for its lines
 abbrev pub plan_of : Subthread → Subthread
 plan_of s = record s { lines = [] }
+
+-- where a settle begins a subthread of the one run, both find the same value in its register
+abbrev pub SettlesAlike : (program : Program) (inputs other : Inputs) (limits : Limits) → Type 0
+SettlesAlike program inputs other limits =
+    (p : ℕ) (s : Subthread) (register control : ℕ) → slice_get (order program inputs limits) p ≡ Some s → s.begins.sync ≡ sync.Settle register control
+    → number_at ((before program inputs limits p).state (RegistersOf s.thread)) register ≡ number_at ((before program other limits p).state (RegistersOf s.thread)) register
 
 -- two runs of a program differ in the data alone: the same subthreads but for their lines, the same end, and before each position
 -- the same table and the same points

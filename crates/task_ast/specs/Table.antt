@@ -52,6 +52,11 @@ abbrev pub is_end : SyncOp → Bool
 is_end sync.End = true
 is_end _ = false
 
+-- whether this is a settle
+abbrev pub is_settle : SyncOp → Bool
+is_settle (sync.Settle register control) = true
+is_settle _ = false
+
 -- whether a next synchronisation is known to be the end
 abbrev pub is_known_end : Option Next → Bool
 is_known_end None = false

@@ -40,6 +40,7 @@ mutual
     Fork : (task : Name) → List Expr → (into : Option Name) → What
     Join : Expr → (into : Option Name) → What
     Barrier : Name → What
+    Settle : (from into : Name) → What
     SetReg : Name → Expr → What
     Read : (from : Name) → Atom → (into : Name) → What
     Write : (to : Name) → Atom → Expr → What

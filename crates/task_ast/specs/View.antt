@@ -45,6 +45,7 @@ what_of (w.Unlock a i) = plain.Unlock a i
 what_of (w.Fork t es x) = plain.Fork t (plain_exprs es) x
 what_of (w.Join e x) = plain.Join (plain_expr e) x
 what_of (w.Barrier b) = plain.Barrier b
+what_of (w.Settle x c) = plain.Settle x c
 what_of (w.SetReg x e) = plain.SetReg x (plain_expr e)
 what_of (w.Read r i x) = plain.Read r i x
 what_of (w.Write r i e) = plain.Write r i (plain_expr e)

@@ -28,8 +28,9 @@ pub fn last_law()
     ensures { LastLaw }
 {}
 
-/// No value of a record reaches the order: inputs with the same feeds give the same subthreads but for their lines, the
-/// same end, and before each position the same table and the same points.
+/// No value of a record reaches the order but by a settle: inputs with the same feeds, of which the settles find the same
+/// values, give the same subthreads but for their lines, the same end, and before each position the same table and the
+/// same points.
 pub fn control_law()
     ensures { ControlLaw }
 {}

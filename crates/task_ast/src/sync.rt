@@ -15,6 +15,7 @@ pub enum SyncOp {
     Fork { task: u32, args: Nums },
     Join(i64),
     Barrier(u32),
+    Settle { reg: u32, ctl: u32 },
     End,
     BadIndex,
     Spent,
@@ -35,6 +36,10 @@ impl SyncOp {
             },
             SyncOp::Join(thread) => SyncOp::Join(*thread),
             SyncOp::Barrier(barrier) => SyncOp::Barrier(*barrier),
+            SyncOp::Settle { reg, ctl } => SyncOp::Settle {
+                reg: *reg,
+                ctl: *ctl,
+            },
             SyncOp::End => SyncOp::End,
             SyncOp::BadIndex => SyncOp::BadIndex,
             SyncOp::Spent => SyncOp::Spent,

@@ -81,6 +81,7 @@ pub enum What {
     Fork(Name, Seq<Expr>, Option<Name>),
     Join(Expr, Option<Name>),
     Barrier(Name),
+    Settle(Name, Name),
     SetReg(Name, Expr),
     Read(Name, Atom, Name),
     Write(Name, Atom, Expr),

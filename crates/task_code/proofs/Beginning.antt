@@ -34,6 +34,7 @@ unforked (Some c) p line (tree.Unlock a i) rest still = refl
 unforked (Some c) p line (tree.Fork t es x) rest still = absurd still
 unforked (Some c) p line (tree.Join e x) rest still = refl
 unforked (Some c) p line (tree.Barrier b) rest still = refl
+unforked (Some c) p line (tree.Settle x k) rest still = refl
 unforked (Some c) p line (tree.SetReg x e) rest still = refl
 unforked (Some c) p line (tree.Read r i x) rest still = refl
 unforked (Some c) p line (tree.Write r i e) rest still = refl
@@ -101,6 +102,7 @@ module _ (program : Program) (inputs : Inputs) (child : Option ℕ) (p : Point) 
   passed_statement line (tree.Join e x) rest has after still = passed_one line (tree.Join e x) rest _ has.0 tt refl after
   passed_statement line (tree.Barrier b) rest has after still =
       passed_one line (tree.Barrier b) rest _ has.0 tt (passed_barrier line (position (λ other. is_name b other.0) (barriers_of program.heads))) after
+  passed_statement line (tree.Settle x k) rest has after still = passed_one line (tree.Settle x k) rest _ has.0 tt refl after
   passed_statement line (tree.SetReg x e) rest has after still = passed_one line (tree.SetReg x e) rest _ has.0 tt refl after
   passed_statement line (tree.Read a i x) rest has after still = passed_one line (tree.Read a i x) rest _ has.0 tt refl after
   passed_statement line (tree.Write a i e) rest has after still = passed_one line (tree.Write a i e) rest _ has.0 tt refl after
@@ -146,6 +148,7 @@ module _ (program : Program) (inputs : Inputs) (child : Option ℕ) (p : Point) 
       go (tree.Join e None) has = at (tree.Join e None) _ has.0 refl
       go (tree.Join e (Some x)) has = at (tree.Join e (Some x)) _ has.0 refl
       go (tree.Barrier b) has = at (tree.Barrier b) _ has.0 (same_barrier line (position (λ other. is_name b other.0) (barriers_of program.heads)))
+      go (tree.Settle x k) has = at (tree.Settle x k) _ has.0 refl
       go (tree.SetReg x e) has = at (tree.SetReg x e) _ has.0 refl
       go (tree.Read a i x) has = at (tree.Read a i x) _ has.0 refl
       go (tree.Write a i e) has = at (tree.Write a i e) _ has.0 refl
@@ -174,6 +177,7 @@ module _ (program : Program) (inputs : Inputs) (child : Option ℕ) (p : Point) 
   begins_alike (sync.Fork task arguments) stopped = let still = at_rest (sync.Fork task arguments) (λ e. cc e) stopped in (passes still, same_place q.at.pc p.left refl r.left still)
   begins_alike (sync.Join h) stopped = let still = at_rest (sync.Join h) (λ e. cc e) stopped in (passes still, same_place q.at.pc p.left refl r.left still)
   begins_alike (sync.Barrier b) stopped = let still = at_rest (sync.Barrier b) (λ e. cc e) stopped in (passes still, same_place q.at.pc p.left refl r.left still)
+  begins_alike (sync.Settle k c) stopped = let still = at_rest (sync.Settle k c) (λ e. cc e) stopped in (passes still, same_place q.at.pc p.left refl r.left still)
   begins_alike sync.End stopped = let still = at_rest sync.End (λ e. cc e) stopped in (passes still, same_place q.at.pc p.left refl r.left still)
   begins_alike sync.BadIndex stopped = let still = at_rest sync.BadIndex (λ e. cc e) stopped in (passes still, same_place q.at.pc p.left refl r.left still)
   begins_alike sync.Spent stopped = let still = at_rest sync.Spent (λ e. cc e) stopped in (passes still, same_place q.at.pc p.left refl r.left still)

@@ -6,7 +6,7 @@ use Rattle.gp_base.specs.declared.feed.Feed.{Feed}
 use Rattle.task_ast.specs.declared.sync.Next.{Next}
 use Rattle.task_ast.specs.Action.{Action}
 use Rattle.task_ast.specs.Body.{Step, Silent, Iteration, Act, Stop, IsSized}
-use Rattle.task_code.specs.Instructions.{Does, Assign, GoOn, Unless, Again, Lock, Unlock, Fork, Join, Barrier, Do, Instr, At}
+use Rattle.task_code.specs.Instructions.{Does, Assign, GoOn, Unless, Again, Lock, Unlock, Fork, Join, Barrier, Settle, Do, Instr, At}
 use Rattle.task_code.specs.Reading.{Place, given_value, either, step_does, step_instr, instrs_of, instr_at, code_step, code_size}
 
 module _ (tasks : List (List Instr)) (feeds : List Feed) where
@@ -52,6 +52,7 @@ module _ (tasks : List (List Instr)) (feeds : List Feed) where
       go (Fork f) within = given_falls _ line _ _ (λ v. stopping)
       go (Join c into) within = given_falls _ line _ _ (λ v. stopping)
       go (Barrier b) within = stopping
+      go (Settle k c) within = stopping
       go (Do x) within = given_falls _ line _ _ (λ v. acting (next (length (instrs_of tasks q.at.task)) within))
 
   instr_falls : (o : Option Instr) (q : Place) → instr_at tasks q q.at.pc ≡ o → Falls (code_size tasks q) (step_instr feeds o q)

@@ -221,6 +221,7 @@ module _ (program : Program) (task : TaskText) where
     deed_exists (tree.Fork t es x) held fails inside = (omega arith, tt)
     deed_exists (tree.Join e x) held fails inside = (omega arith, tt)
     deed_exists (tree.Barrier b) held fails inside = (omega arith, tt)
+    deed_exists (tree.Settle x c) held fails inside = (omega arith, tt)
 
     arm_exists : (b : Block) (held : List Pair) → Faultless (visits_in s b held) → DeedsExist (shape_of task) (arm sc b)
     arm_exists tree.Nothing held none = tt
@@ -247,6 +248,8 @@ module _ (program : Program) (task : TaskText) where
     what_exists line (tree.Join e x) held fails inside =
         let parts = or_false (has_unknown s e) (into_unknown (is_register s) x) (known _ _ fails) in ((calc_exists e parts.0, register_into x parts.1), tt)
     what_exists line (tree.Barrier b) held fails inside = (barrier_exists (position (λ other. is_name b other.0) (barriers_of program.heads)), tt)
+    what_exists line (tree.Settle x c) held fails inside =
+        let parts = or_false (not (is_register s x)) (not (is_control s c)) (known _ _ fails) in ((register_within x (yes _ parts.0), control_within c (yes _ parts.1)), tt)
     what_exists line (tree.SetReg x e) held fails inside = (deed_exists (tree.SetReg x e) held fails inside, tt)
     what_exists line (tree.Read r i x) held fails inside = (deed_exists (tree.Read r i x) held fails inside, tt)
     what_exists line (tree.Write r i e) held fails inside = (deed_exists (tree.Write r i e) held fails inside, tt)

@@ -13,7 +13,7 @@ use Rattle.task_ast.specs.Control.{Setting, Point, with_value, going, stop, know
 use Rattle.task_ast.specs.Plain.{setting_of}
 use Rattle.task_ast.specs.laws.Following.{Matches, both_silent, both_turn, both_act, both_stop, IsFollowing}
 use Rattle.task_ast.proofs.Slots.{sets_first}
-use Rattle.task_code.specs.Instructions.{Instr, At, Does, Assign, GoOn, Unless, Again, Lock, Unlock, Fork, Join, Do}
+use Rattle.task_code.specs.Instructions.{Instr, At, Does, Assign, GoOn, Unless, Again, Lock, Unlock, Fork, Join, Settle, Do}
 use Rattle.task_code.specs.Reading.{Place, goto, halt, given_value, either, env_of, calc_value, cell_of, index_at, deed_action, fork_arguments, step_does, step_instr, instrs_of, code_step}
 use Rattle.task_code.specs.Lowering.{Scope, cells_of, barrier_code, if_code, while_code, calc, index, deed, forking, what_code, block_code, scope_of, lowered}
 use Rattle.task_code.specs.Relation.{HasAt, Left, ends, stands, jumps, tests, Corresponds}
@@ -165,6 +165,9 @@ module _ (program : Program) (inputs : Inputs) (p : Point) (q : Place) (r : Corr
   at_statement line (tree.Barrier b) rest has after =
       let o = position (λ other. is_name b other.0) (barriers_of program.heads) in
       inr (at_instr line (barrier_code o) _ has.0 (barrier_same line o))
+  at_statement line (tree.Settle x c) rest has after =
+      inr (at_instr line (Settle (slot (registers_of p.task) x) (slot (controls_of p.task) c)) _ has.0
+      (subst (λ names. Matches R (stop (sync.Settle (slot (registers_of p.task) x) (slot names c)) line) (halt (sync.Settle (slot (registers_of p.task) x) (slot (controls_of p.task) c)) line)) (sym r.names) both_stop))
   at_statement line (tree.SetReg x e) rest has after = inr (act_same line (tree.SetReg x e) rest has.0 after)
   at_statement line (tree.Read a i x) rest has after = inr (act_same line (tree.Read a i x) rest has.0 after)
   at_statement line (tree.Write a i e) rest has after = inr (act_same line (tree.Write a i e) rest has.0 after)

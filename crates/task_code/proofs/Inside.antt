@@ -5,7 +5,7 @@ use Rattle.std.proofs.lemmas.Option.{slice_get_within}
 use Rattle.task_ast.specs.Tree as tree
 use Rattle.task_ast.specs.Tree.{Stmt, What, Block, Program}
 use Rattle.task_ast.specs.Names.{is_name, barriers_of}
-use Rattle.task_code.specs.Instructions.{Does, Assign, GoOn, Unless, Again, Lock, Unlock, Fork, Join, Barrier, Do, Instr, At}
+use Rattle.task_code.specs.Instructions.{Does, Assign, GoOn, Unless, Again, Lock, Unlock, Fork, Join, Barrier, Settle, Do, Instr, At}
 use Rattle.task_code.specs.Lowering.{Scope, barrier_code, calc, what_code, block_code, stmt_code}
 use Rattle.task_code.specs.Jumps.{AreInside}
 
@@ -31,6 +31,7 @@ fits_wider b b' a a' (Unlock cells i) le_b le_a fit = tt
 fits_wider b b' a a' (Fork f) le_b le_a fit = tt
 fits_wider b b' a a' (Join c into) le_b le_a fit = tt
 fits_wider b b' a a' (Barrier n) le_b le_a fit = tt
+fits_wider b b' a a' (Settle k c) le_b le_a fit = tt
 fits_wider b b' a a' (Do d) le_b le_a fit = tt
 
 wider : (b b' a a' : ℕ) (is : List Instr) → b ≤ b' → a ≤ a' → AllFit b a is → AllFit b' a' is
@@ -72,6 +73,7 @@ module _ (s : Scope) where
     what_fits line (tree.Fork t es x) = (tt, tt)
     what_fits line (tree.Join e x) = (tt, tt)
     what_fits line (tree.Barrier b) = (barrier_fits 0 (0 + 0) (position (λ other. is_name b other.0) (barriers_of s.program.heads)), tt)
+    what_fits line (tree.Settle x c) = (tt, tt)
     what_fits line (tree.SetReg x e) = (tt, tt)
     what_fits line (tree.Read r i x) = (tt, tt)
     what_fits line (tree.Write r i e) = (tt, tt)

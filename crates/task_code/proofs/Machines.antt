@@ -1,12 +1,16 @@
 -- The machine of a program's code follows that of its tree.
-use Rattle.std.proofs.Common.{List, Option, Some, None, inl, inr, refl}
+use Rattle.std.proofs.Common.{ℕ, List, Option, Some, None, inl, inr, refl, sym, ap, ◌∙◌}
+use Rattle.std.specs.Prelude.{ℤ, slice_set}
 use Rattle.gp_base.specs.declared.feed.Feed.{Feed}
-use Rattle.task_ast.specs.Control.{beginning, size, step}
+use Rattle.task_ast.specs.declared.sync.SyncOp.TheVariants as sync
+use Rattle.task_ast.specs.Tree.{Program}
+use Rattle.task_ast.specs.Control.{Point, with_number, beginning, size, step}
 use Rattle.task_ast.specs.Plain.{setting_of, tree_machine}
 use Rattle.task_ast.proofs.Sizes.{tree_sized}
 use Rattle.task_ast.proofs.Following.{bodies_agree}
 use Rattle.task_ast.proofs.SameRuns.{same_run}
-use Rattle.task_code.specs.Instructions.{Assign, GoOn, Unless, Again, Lock, Unlock, Fork, Join, Barrier, Do, Instr, At}
+use Rattle.task_ast.proofs.Slots.{sets_number}
+use Rattle.task_code.specs.Instructions.{Assign, GoOn, Unless, Again, Lock, Unlock, Fork, Join, Barrier, Settle, Do, Instr, At}
 use Rattle.task_code.specs.Reading.{Place, step_instr, instr_at, code_begins, code_size, code_step, code_body, code_machine}
 use Rattle.task_code.specs.Lowering.{lowered}
 use Rattle.task_code.specs.Relation.{Corresponds, IsNoJump, Rests, BodiesLaw, FollowsLaw, RunLaw}
@@ -27,6 +31,7 @@ no_jump feeds q (Some (At line (Unlock cells i))) h = tt
 no_jump feeds q (Some (At line (Fork f))) h = tt
 no_jump feeds q (Some (At line (Join c into))) h = tt
 no_jump feeds q (Some (At line (Barrier b))) h = tt
+no_jump feeds q (Some (At line (Settle k c))) h = tt
 no_jump feeds q (Some (At line (Do d))) h = tt
 
 pub bodies : BodiesLaw
@@ -44,6 +49,21 @@ bodies program inputs turns p q r =
       };
     }
 
+-- a point and a place stand for each other still where a control variable gets the same value in both
+set_alike : (program : Program) (register control : ℕ) (v : ℤ) (p : Point) (q : Place) → Rests program (sync.Settle register control) p q
+    → Rests program (sync.Settle register control) (record p { names = with_number p.names control v }) (record q { ctl = slice_set q.ctl control v })
+set_alike program register control v p q rests =
+    record {
+      corresponds = record {
+        task = rests.corresponds.task;
+        left = rests.corresponds.left;
+        names = (sets_number p.names control v).0 ∙ rests.corresponds.names;
+        values = ap (λ values. slice_set values control v) rests.corresponds.values ∙ sym (sets_number p.names control v).1;
+        me = rests.corresponds.me;
+      };
+      stopped = rests.stopped;
+    }
+
 pub follows : FollowsLaw
 follows program inputs limits =
     record {
@@ -52,6 +72,7 @@ follows program inputs limits =
           bodies program inputs limits.turns (beginning op child p) (code_begins (lowered program).tasks op child q)
           (begins_alike program inputs child p q rests.corresponds op rests.stopped).0;
       starts = λ task thread arguments. record { corresponds = starts_alike program task thread arguments; stopped = inl refl };
+      sets = λ register control v p q rests. set_alike program register control v p q rests;
     }
 
 pub run : RunLaw

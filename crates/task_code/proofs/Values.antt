@@ -227,6 +227,7 @@ module _ (program : Program) (feeds : List Feed) (controls registers : List Name
     same_action (tree.Fork t es x) = refl
     same_action (tree.Join e x) = refl
     same_action (tree.Barrier b) = refl
+    same_action (tree.Settle x c) = refl
 
     same_arm : (b : Block) → arm s registers b env ≡ deeds_arm (lowering.arm sc b) there
     same_arm tree.Nothing = refl

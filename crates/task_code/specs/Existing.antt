@@ -5,7 +5,7 @@ use Rattle.task_ast.specs.Names.{controls, controls_of, registers_of}
 use Rattle.task_code.specs.declared.instrs.Index.{Index}
 use Rattle.task_code.specs.declared.instrs.Index.TheVariants.{Number, Variable}
 use Rattle.task_code.specs.declared.instrs.Shape.{Shape}
-use Rattle.task_code.specs.Instructions.{Calc, Const, Ctl, Reg, Me, Rows, Cell, Neg, Not, Chain, NoValue, Operands, NoOperands, Operand, Deed, SetReg, Read, Write, Print, When, Deeds, NoDeeds, Also, Does, Assign, GoOn, Unless, Again, Lock, Unlock, Fork, Join, Barrier, Do, Instr, At}
+use Rattle.task_code.specs.Instructions.{Calc, Const, Ctl, Reg, Me, Rows, Cell, Neg, Not, Chain, NoValue, Operands, NoOperands, Operand, Deed, SetReg, Read, Write, Print, When, Deeds, NoDeeds, Also, Does, Assign, GoOn, Unless, Again, Lock, Unlock, Fork, Join, Barrier, Settle, Do, Instr, At}
 
 -- how many control variables and registers a task has
 abbrev pub shape_of : TaskText → Shape
@@ -76,6 +76,7 @@ module _ (shape : Shape) where
   DoesExists (Fork f) = CalcsExist f.controls × GiftsExist f.registers f.gifts × IntoExists shape.ctl f.into
   DoesExists (Join c into) = CalcExists c × IntoExists shape.regs into
   DoesExists (Barrier b) = ⊤
+  DoesExists (Settle k c) = (k < shape.regs) × (c < shape.ctl)
   DoesExists (Do d) = DeedExists d
 
   -- each variable that an instruction names is one of the task's

@@ -57,6 +57,7 @@ pub data Does : Type 0 where
   Fork : Forking → Does
   Join : Calc → (into : Option ℕ) → Does
   Barrier : ℕ → Does
+  Settle : (register control : ℕ) → Does
   Do : Deed → Does
 
 -- an instruction, with the line of its statement

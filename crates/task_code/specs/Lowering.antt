@@ -11,7 +11,7 @@ use Rattle.task_ast.specs.Layout.{base_of}
 use Rattle.task_code.specs.declared.instrs.Cells.{Cells}
 use Rattle.task_code.specs.declared.instrs.Index.{Index}
 use Rattle.task_code.specs.declared.instrs.Index.TheVariants.{Number, Variable}
-use Rattle.task_code.specs.Instructions.{Calc, Const, Ctl, Reg, Me, Rows, Cell, Neg, Not, Chain, NoValue, Operands, NoOperands, Operand, Deed, SetReg, Read, Write, Print, When, Deeds, NoDeeds, Also, Forking, Does, Assign, GoOn, Unless, Again, Lock, Unlock, Fork, Join, Barrier, Do, Instr, At, Lowered}
+use Rattle.task_code.specs.Instructions.{Calc, Const, Ctl, Reg, Me, Rows, Cell, Neg, Not, Chain, NoValue, Operands, NoOperands, Operand, Deed, SetReg, Read, Write, Print, When, Deeds, NoDeeds, Also, Forking, Does, Assign, GoOn, Unless, Again, Lock, Unlock, Fork, Join, Barrier, Settle, Do, Instr, At, Lowered}
 
 -- the cells of the array of a name; where there is none, it has no cells
 abbrev pub cells_of : List (Name × ℕ) → Name → Cells
@@ -133,6 +133,7 @@ module _ (s : Scope) where
         At line (Fork (forking (task_named s.program t) (unwrap_or (task_number s.program t) 0) es (option_map (slot s.controls) x))) ∷ []
     what_code line (tree.Join e x) = At line (Join (calc e) (option_map (slot s.registers) x)) ∷ []
     what_code line (tree.Barrier b) = At line (barrier_code (position (λ other. is_name b other.0) (barriers_of s.program.heads))) ∷ []
+    what_code line (tree.Settle x c) = At line (Settle (slot s.registers x) (slot s.controls c)) ∷ []
     what_code line w = At line (Do (deed w)) ∷ []
 
     pub block_code : Block → List Instr

@@ -17,7 +17,7 @@ use Rattle.task_ast.specs.Plain.{Machine, task_at, start_point}
 use Rattle.task_code.specs.declared.instrs.Cells.{Cells}
 use Rattle.task_code.specs.declared.instrs.Index.{Index}
 use Rattle.task_code.specs.declared.instrs.Index.TheVariants.{Number, Variable}
-use Rattle.task_code.specs.Instructions.{Calc, Const, Ctl, Reg, Me, Rows, Cell, Neg, Not, Chain, NoValue, Operands, NoOperands, Operand, Deed, SetReg, Read, Write, Print, When, Deeds, NoDeeds, Also, Forking, Does, Assign, GoOn, Unless, Again, Lock, Unlock, Fork, Join, Barrier, Do, Instr, At, Lowered}
+use Rattle.task_code.specs.Instructions.{Calc, Const, Ctl, Reg, Me, Rows, Cell, Neg, Not, Chain, NoValue, Operands, NoOperands, Operand, Deed, SetReg, Read, Write, Print, When, Deeds, NoDeeds, Also, Forking, Does, Assign, GoOn, Unless, Again, Lock, Unlock, Fork, Join, Barrier, Settle, Do, Instr, At, Lowered}
 
 -- what a control expression of code is read under: the control variables, the thread's number, the feeds in declared order
 pub record CalcEnv : Type 0 where
@@ -146,6 +146,7 @@ module _ (feeds : List Feed) where
   step_does line (Fork f) q = given_value line (fork_arguments f (env_of q)) (λ arguments. halt (sync.Fork f.task arguments.0) line)
   step_does line (Join c into) q = given_value line (calc_value c (env_of q)) (λ h. halt (sync.Join h) line)
   step_does line (Barrier b) q = halt (sync.Barrier b) line
+  step_does line (Settle k c) q = halt (sync.Settle k c) line
   step_does line (Do d) q = given_value line (deed_action d (env_of q)) (λ a. Act a (next_place q))
 
   -- the step at an instruction that may be there; behind the last one the task ends
@@ -216,4 +217,5 @@ code_machine code feeds turns =
       begins = code_begins code.tasks;
       first = code_first code.tasks feeds;
       starts = start_place code.program;
+      sets = λ control v q. record q { ctl = slice_set q.ctl control v };
     }

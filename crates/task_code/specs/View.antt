@@ -71,6 +71,7 @@ plain_does (o.Unlock cells i) = plain.Unlock cells i
 plain_does (o.Fork f) = plain.Fork (plain_forking f)
 plain_does (o.Join c into) = plain.Join (plain_calc c) into
 plain_does (o.Barrier b) = plain.Barrier b
+plain_does (o.Settle k c) = plain.Settle k c
 plain_does (o.Do x) = plain.Do (plain_deed x)
 
 abbrev pub plain_instr : Instr → plain.Instr

@@ -12,7 +12,7 @@ ghost use Rattle.task_code.specs.inner.Scopes.{scope_here, IsScope};
 
 use crate::expressions::lower_expr;
 use crate::instrs::{Calc, Does, Forking, Instr};
-use crate::scope::{Scope, barrier_place, cell_index, control, lock_array, task_place};
+use crate::scope::{Scope, barrier_place, cell_index, control, lock_array, register, task_place};
 use crate::statements::{lower_deed, no_deed};
 use crate::variables::slot;
 use gp_base::{Name, Seq};
@@ -277,6 +277,11 @@ fn lower_statement(
         What::Barrier(b) => {
             let does = barrier_code(barrier_place(scope, b))?;
             put(code, line, does)
+        }
+        What::Settle(x, c) => {
+            let from = small(register(scope, x))?;
+            let into = small(control(scope, c))?;
+            put(code, line, Does::Settle(from, into))
         }
         What::SetReg(..) | What::Read(..) | What::Write(..) | What::Print(..) | What::When(..) => {
             let does = Does::Do(lower_deed(alloc, scope, &s.what)?);

@@ -69,6 +69,7 @@ pub enum Does {
     Fork(Forking),
     Join(Calc, Option<usize>),
     Barrier(u32),
+    Settle(u32, u32),
     Do(Deed),
 }
 

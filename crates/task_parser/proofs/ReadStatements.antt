@@ -1,15 +1,15 @@
 -- Statements are read exactly.
 use Rattle.std.proofs.Common.{◌≡◌, ℕ, zero, suc, true, List, [], ◌∷◌, Option, Some, None, option_map, refl, inl, inr}
 use Rattle.task_ast.specs.Tree.{Expr, Stmt, block}
-use Rattle.task_parser.specs.declared.classes.TheConstants.{NUM, NAME, REG, LOCK, UNLOCK, BARRIER, WHILE, IF, ELSE, FORK, INTO, JOIN, READ, WRITE, PRINT, WHEN, NOT, SELF, ROWS, OPEN_BRACKET, CLOSE_BRACKET, OPEN_PAREN, CLOSE_PAREN, OPEN_BRACE, CLOSE_BRACE, COMMA, SEMICOLON, ASSIGN}
+use Rattle.task_parser.specs.declared.classes.TheConstants.{NUM, NAME, REG, LOCK, UNLOCK, BARRIER, WHILE, IF, ELSE, FORK, INTO, JOIN, READ, WRITE, PRINT, WHEN, SETTLE, NOT, SELF, ROWS, OPEN_BRACKET, CLOSE_BRACKET, OPEN_PAREN, CLOSE_PAREN, OPEN_BRACE, CLOSE_BRACE, COMMA, SEMICOLON, ASSIGN}
 use Rattle.task_parser.specs.Classes.{among}
 use Rattle.task_parser.specs.Words.{Form, ◌▸◌, ◌∣◌, Made, many, the, ◌◂◌, separated}
 use Rattle.task_parser.specs.inner.Reading.{Reader, read_either, read_after, read_separated}
 use Rattle.task_parser.specs.inner.Laws.{Inhabited}
 use Rattle.task_parser.specs.Expressions.{Text}
 use Rattle.task_parser.specs.inner.ExpressionReaders.{starting, read_expression}
-use Rattle.task_parser.specs.Statements.{number_atom, name_atom, set_ctl_of, while_of, if_of, lock_of, unlock_of, fork_of, join_of, barrier_of, set_reg_of, read_of, write_of, print_of, when_of, or_nothing, or_empty, named_in, reg_in, listed_in, into_name, into_reg, atom, block_of, else_block, set_ctl, looping, branching, locking, unlocking, forking, joining, waiting, set_reg, reading, writing, printing, choosing, data_form, control_form, data_statement, statement}
-use Rattle.task_parser.specs.inner.StatementReaders.{data_starts, control_starts, statement_starts, read_atom, read_indexed, read_inner_block, read_block, read_else, read_set_ctl, read_looping, read_branching, read_locking, read_unlocking, read_list, read_into_name, read_into_reg, read_forking, read_joining, read_waiting, read_set_reg, read_reading, read_writing, read_printing, read_choosing, read_data_form, read_control_form, read_data_statement, read_statement}
+use Rattle.task_parser.specs.Statements.{number_atom, name_atom, set_ctl_of, while_of, if_of, lock_of, unlock_of, fork_of, join_of, barrier_of, settle_of, set_reg_of, read_of, write_of, print_of, when_of, or_nothing, or_empty, named_in, reg_in, listed_in, into_name, into_reg, atom, block_of, else_block, set_ctl, looping, branching, locking, unlocking, forking, joining, waiting, settling, set_reg, reading, writing, printing, choosing, data_form, control_form, data_statement, statement}
+use Rattle.task_parser.specs.inner.StatementReaders.{data_starts, control_starts, statement_starts, read_atom, read_indexed, read_inner_block, read_block, read_else, read_set_ctl, read_looping, read_branching, read_locking, read_unlocking, read_list, read_into_name, read_into_reg, read_forking, read_joining, read_waiting, read_settling, read_set_reg, read_reading, read_writing, read_printing, read_choosing, read_data_form, read_control_form, read_data_statement, read_statement}
 use Rattle.task_parser.proofs.Exact.{inhabited_made}
 use Rattle.task_parser.proofs.Many.{inhabited_many}
 use Rattle.task_parser.proofs.ClassLists.{disjoint, subset}
@@ -160,16 +160,21 @@ reads_waiting : {room : ℕ} (text : Text) → Plain room (waiting text) (read_w
 unfolding read_waiting
 reads_waiting text = reads_made (barrier_of text) (reads_mark SEMICOLON refl (reads_both (reads_the BARRIER) (reads_the NAME) refl))
 
+reads_settling : {room : ℕ} (text : Text) → Plain room (settling text) (read_settling text) (SETTLE ∷ [])
+unfolding read_settling
+reads_settling text = reads_made (settle_of text) (reads_mark SEMICOLON refl (reads_both (reads_mark INTO refl (reads_both (reads_the SETTLE) (reads_the REG) refl)) (reads_the NAME) refl))
+
 reads_control_form : {T P : Form Expr} {p : Reader Expr} (text : Text) (room : ℕ) (U Q : Form Stmt) (inner : Option (Reader Stmt)) → Expressions room T P p → Nested room U Q inner statement_starts → Reads room (control_form text T U) (control_form text P Q) (read_control_form text p inner) control_starts (ELSE ∷ [])
 unfolding read_control_form
 reads_control_form text room U Q inner e h =
     reads_either control_starts (wide (reads_set_ctl text e))
-    (reads_either (WHILE ∷ IF ∷ LOCK ∷ UNLOCK ∷ FORK ∷ JOIN ∷ BARRIER ∷ []) (wide (reads_looping room U Q inner e h))
-    (reads_either (IF ∷ LOCK ∷ UNLOCK ∷ FORK ∷ JOIN ∷ BARRIER ∷ []) (reads_branching room U Q inner e h)
-    (reads_either (LOCK ∷ UNLOCK ∷ FORK ∷ JOIN ∷ BARRIER ∷ []) (wide (reads_locking text))
-    (reads_either (UNLOCK ∷ FORK ∷ JOIN ∷ BARRIER ∷ []) (wide (reads_unlocking text))
-    (reads_either (FORK ∷ JOIN ∷ BARRIER ∷ []) (wide (reads_forking text e))
-    (reads_either (JOIN ∷ BARRIER ∷ []) (wide (reads_joining text e)) (wide (reads_waiting text)) refl refl refl) refl refl refl) refl refl refl) refl refl refl) refl refl refl) refl refl refl) refl refl refl
+    (reads_either (WHILE ∷ IF ∷ LOCK ∷ UNLOCK ∷ FORK ∷ JOIN ∷ BARRIER ∷ SETTLE ∷ []) (wide (reads_looping room U Q inner e h))
+    (reads_either (IF ∷ LOCK ∷ UNLOCK ∷ FORK ∷ JOIN ∷ BARRIER ∷ SETTLE ∷ []) (reads_branching room U Q inner e h)
+    (reads_either (LOCK ∷ UNLOCK ∷ FORK ∷ JOIN ∷ BARRIER ∷ SETTLE ∷ []) (wide (reads_locking text))
+    (reads_either (UNLOCK ∷ FORK ∷ JOIN ∷ BARRIER ∷ SETTLE ∷ []) (wide (reads_unlocking text))
+    (reads_either (FORK ∷ JOIN ∷ BARRIER ∷ SETTLE ∷ []) (wide (reads_forking text e))
+    (reads_either (JOIN ∷ BARRIER ∷ SETTLE ∷ []) (wide (reads_joining text e))
+    (reads_either (BARRIER ∷ SETTLE ∷ []) (wide (reads_waiting text)) (wide (reads_settling text)) refl refl refl) refl refl refl) refl refl refl) refl refl refl) refl refl refl) refl refl refl) refl refl refl) refl refl refl
 
 inhabited_statement : (text : Text) (height : ℕ) → Inhabited (statement text (suc height))
 inhabited_statement text height = λ depth. let a = inhabited_data text height depth in (a.0, a.1, inr a.2)

@@ -176,7 +176,8 @@ statements_yield text (suc height) =
     (either (made (any (λ x. refl)))
     (either (made (any (λ x. refl)))
     (either (made (any (λ x. refl)))
-    (made (any (λ x. refl))))))))))
+    (either (made (any (λ x. refl)))
+    (made (any (λ x. refl)))))))))))
     (so (data_yields text (suc height)) data_shaped)
 
 -- ---- heads, tasks and programs

@@ -1,7 +1,7 @@
 -- The classes of the reserved words and the marks, beside their texts.
 use Rattle.std.specs.Prelude.{◌≡◌, ℕ, List, [], ◌∷◌, Option, Some, option_map, codes}
 use Rattle.task_parser.specs.declared.token.Kind.TheVariants.{Word, Mark}
-use Rattle.task_parser.specs.declared.classes.TheConstants.{LOCK, UNLOCK, BARRIER, RECORD, BY, FROM, FEED, TASK, VAR, WHILE, IF, ELSE, FORK, INTO, JOIN, READ, WRITE, PRINT, WHEN, AND, OR, NOT, SELF, ROWS, OPEN_BRACKET, CLOSE_BRACKET, OPEN_PAREN, CLOSE_PAREN, OPEN_BRACE, CLOSE_BRACE, COMMA, SEMICOLON, ASSIGN, EQ, NE, LT, LE, GT, GE, ADD, SUB, MUL, DIV, REM}
+use Rattle.task_parser.specs.declared.classes.TheConstants.{LOCK, UNLOCK, BARRIER, RECORD, BY, FROM, FEED, TASK, VAR, WHILE, IF, ELSE, FORK, INTO, JOIN, READ, WRITE, PRINT, WHEN, AND, OR, NOT, SELF, ROWS, SETTLE, OPEN_BRACKET, CLOSE_BRACKET, OPEN_PAREN, CLOSE_PAREN, OPEN_BRACE, CLOSE_BRACE, COMMA, SEMICOLON, ASSIGN, EQ, NE, LT, LE, GT, GE, ADD, SUB, MUL, DIV, REM}
 use Rattle.task_parser.specs.Pieces.{words, marks, row_of}
 use Rattle.task_parser.specs.Classes.{class}
 
@@ -23,7 +23,7 @@ WordClasses = Each word_class (
     ∷ (codes "from", FROM) ∷ (codes "feed", FEED) ∷ (codes "task", TASK) ∷ (codes "var", VAR) ∷ (codes "while", WHILE)
     ∷ (codes "if", IF) ∷ (codes "else", ELSE) ∷ (codes "fork", FORK) ∷ (codes "into", INTO) ∷ (codes "join", JOIN)
     ∷ (codes "read", READ) ∷ (codes "write", WRITE) ∷ (codes "print", PRINT) ∷ (codes "when", WHEN) ∷ (codes "and", AND)
-    ∷ (codes "or", OR) ∷ (codes "not", NOT) ∷ (codes "self", SELF) ∷ (codes "rows", ROWS) ∷ [])
+    ∷ (codes "or", OR) ∷ (codes "not", NOT) ∷ (codes "self", SELF) ∷ (codes "rows", ROWS) ∷ (codes "settle", SETTLE) ∷ [])
 
 abbrev pub MarkClasses : Type 0
 MarkClasses = Each mark_class (

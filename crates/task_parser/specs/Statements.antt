@@ -2,9 +2,9 @@
 use Rattle.std.specs.Prelude.{ℕ, zero, suc, List, [], Option, Some, None}
 use Rattle.task_ast.specs.declared.tree.Atom.{Atom}
 use Rattle.task_ast.specs.declared.tree.Atom.TheVariants as atoms
-use Rattle.task_ast.specs.Tree.{Expr, Stmt, At, SetCtl, While, If, Lock, Unlock, Fork, Join, Barrier, SetReg, Read, Write, Print, When, Block, Nothing, block}
+use Rattle.task_ast.specs.Tree.{Expr, Stmt, At, SetCtl, While, If, Lock, Unlock, Fork, Join, Barrier, Settle, SetReg, Read, Write, Print, When, Block, Nothing, block}
 use Rattle.task_parser.specs.declared.token.Token.{Token}
-use Rattle.task_parser.specs.declared.classes.TheConstants.{NUM, NAME, REG, LOCK, UNLOCK, BARRIER, WHILE, IF, ELSE, FORK, INTO, JOIN, READ, WRITE, PRINT, WHEN, OPEN_BRACKET, CLOSE_BRACKET, OPEN_PAREN, CLOSE_PAREN, OPEN_BRACE, CLOSE_BRACE, COMMA, SEMICOLON, ASSIGN}
+use Rattle.task_parser.specs.declared.classes.TheConstants.{NUM, NAME, REG, LOCK, UNLOCK, BARRIER, WHILE, IF, ELSE, FORK, INTO, JOIN, READ, WRITE, PRINT, WHEN, SETTLE, OPEN_BRACKET, CLOSE_BRACKET, OPEN_PAREN, CLOSE_PAREN, OPEN_BRACE, CLOSE_BRACE, COMMA, SEMICOLON, ASSIGN}
 use Rattle.task_parser.specs.Words.{Form, ◌▸◌, Made, ◌∣◌, many, perhaps, Opened, the, ◌◂◌, after, separated, nothing}
 use Rattle.task_parser.specs.Expressions.{Text, name_of, reg_name, number_in, is, expression}
 
@@ -57,6 +57,9 @@ join_of x = At x.0.0.line (Join x.0.1 x.1)
 
 abbrev pub barrier_of : Text → Token × Token → Stmt
 barrier_of text x = At x.0.line (Barrier (name_of text x.1))
+
+abbrev pub settle_of : Text → (Token × Token) × Token → Stmt
+settle_of text x = At x.0.0.line (Settle (reg_name text x.0.1) (name_of text x.1))
 
 abbrev pub set_reg_of : Text → Token × Expr → Stmt
 set_reg_of text x = At x.0.line (SetReg (reg_name text x.0) x.1)
@@ -119,6 +122,9 @@ joining text e = Made join_of (the JOIN ▸ e ▸ into_reg text ◂ SEMICOLON)
 abbrev pub waiting : Text → Form Stmt
 waiting text = Made (barrier_of text) (the BARRIER ▸ the NAME ◂ SEMICOLON)
 
+abbrev pub settling : Text → Form Stmt
+settling text = Made (settle_of text) (the SETTLE ▸ the REG ◂ INTO ▸ the NAME ◂ SEMICOLON)
+
 abbrev pub set_reg : Text → Form Expr → Form Stmt
 set_reg text e = Made (set_reg_of text) (the REG ◂ ASSIGN ▸ e ◂ SEMICOLON)
 
@@ -140,7 +146,7 @@ data_form text e d = set_reg text e ∣ reading text ∣ writing text e ∣ prin
 
 abbrev pub control_form : Text → Form Expr → Form Stmt → Form Stmt
 control_form text e s =
-    set_ctl text e ∣ looping e s ∣ branching e s ∣ locking text ∣ unlocking text ∣ forking text e ∣ joining text e ∣ waiting text
+    set_ctl text e ∣ looping e s ∣ branching e s ∣ locking text ∣ unlocking text ∣ forking text e ∣ joining text e ∣ waiting text ∣ settling text
 
 -- a data statement in which constructs nest less deep than the height
 abbrev pub data_statement : Text → ℕ → Form Stmt

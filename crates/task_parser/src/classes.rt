@@ -56,6 +56,8 @@ pub const SELF: u32 = 26;
 
 pub const ROWS: u32 = 27;
 
+pub const SETTLE: u32 = 28;
+
 pub const OPEN_BRACKET: u32 = 300;
 
 pub const CLOSE_BRACKET: u32 = 301;

@@ -1,7 +1,7 @@
 // Statements without blocks.
 ghost use Rattle.task_ast.specs.View.{plain_stmt};
 ghost use Rattle.task_parser.specs.inner.ExpressionReaders.{read_expression};
-ghost use Rattle.task_parser.specs.inner.StatementReaders.{read_set_ctl, read_locking, read_unlocking, read_forking, read_joining, read_waiting, read_set_reg, read_reading, read_writing, read_printing};
+ghost use Rattle.task_parser.specs.inner.StatementReaders.{read_set_ctl, read_locking, read_unlocking, read_forking, read_joining, read_waiting, read_settling, read_set_reg, read_reading, read_writing, read_printing};
 ghost use Rattle.task_parser.specs.inner.Gives.{Gives};
 
 use crate::classes::*;
@@ -161,6 +161,26 @@ pub fn waiting<'a>(source: Source<'_>, tokens: &'a [Token]) -> Read<'a, Stmt>
     let (barrier, rest) = expect(rest, NAME)?;
     let (_, rest) = expect(rest, SEMICOLON)?;
     let what = What::Barrier(source.name(barrier)?);
+    Ok((
+        Stmt {
+            what,
+            line: word.line,
+        },
+        rest,
+    ))
+}
+
+/// `settle DNAME into NAME ;`
+#[tactic(auto, using(task_ast::proofs::Views::view), unfolding(crate::specs::inner::StatementReaders::read_settling))]
+pub fn settling<'a>(source: Source<'_>, tokens: &'a [Token]) -> Read<'a, Stmt>
+    ensures { Gives (λ x. (plain_stmt x.0, x.1.now)) result (read_settling source.entry.text.now tokens.now) }
+{
+    let (word, rest) = expect(tokens, SETTLE)?;
+    let (from, rest) = expect(rest, REG)?;
+    let (_, rest) = expect(rest, INTO)?;
+    let (into, rest) = expect(rest, NAME)?;
+    let (_, rest) = expect(rest, SEMICOLON)?;
+    let what = What::Settle(source.register(from)?, source.name(into)?);
     Ok((
         Stmt {
             what,

@@ -12,8 +12,8 @@ use crate::expressions::expression;
 use crate::halt::{Halt, Read, discard};
 use crate::next::{expect, is_next, is_of};
 use crate::simple_statements::{
-    forking, joining, locking, printing, reading, set_ctl, set_register, unlocking, waiting,
-    writing,
+    forking, joining, locking, printing, reading, set_ctl, set_register, settling, unlocking,
+    waiting, writing,
 };
 use crate::source::Source;
 use crate::token::Token;
@@ -193,8 +193,10 @@ fn control_statement<'a>(source: Source<'_>, room: u32, tokens: &'a [Token]) -> 
         forking(source, room, tokens)
     } else if is_next(tokens, JOIN) {
         joining(source, room, tokens)
-    } else {
+    } else if is_next(tokens, BARRIER) {
         waiting(source, tokens)
+    } else {
+        settling(source, tokens)
     }
 }
 
@@ -210,6 +212,7 @@ fn is_control_start(token: Token) -> bool
         || is_of(token, FORK)
         || is_of(token, JOIN)
         || is_of(token, BARRIER)
+        || is_of(token, SETTLE)
 }
 
 // Whether a data statement begins with the token.

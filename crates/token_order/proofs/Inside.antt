@@ -21,7 +21,7 @@ use Rattle.token_order.specs.declared.threads.Threads.{Threads}
 use Rattle.token_order.specs.declared.rules.Turn.{Turn as TurnHere}
 use Rattle.token_order.specs.declared.rules.Turn.TheVariants as here
 use Rattle.token_order.specs.View.{IsBelow, StandsInside, table, seat_of}
-use Rattle.token_order.specs.Turned.{Turned}
+use Rattle.token_order.specs.Turned.{Answered}
 
 -- the thread whose turn was last is there
 abbrev HasToken : Table → Type 0
@@ -40,6 +40,7 @@ grows (sync.Lock l) seats = omega arith
 grows (sync.Unlock l) seats = omega arith
 grows (sync.Join h) seats = omega arith
 grows (sync.Barrier b) seats = omega arith
+grows (sync.Settle register control) seats = omega arith
 grows sync.End seats = omega arith
 grows sync.BadIndex seats = omega arith
 grows sync.Spent seats = omega arith
@@ -85,6 +86,7 @@ joining-token h (Some other) table t next l = cond-token (is_end other.sync) _ _
 tried-token : (op : SyncOp) (table : Table) (t : ℕ) (next : Next) → t < length table.seats → TokenAfter (tried op table t next)
 tried-token sync.Start table t next l = issue-token table t next l
 tried-token (sync.Lock k) table t next l = cond-token (is_none (owner_of table k)) _ _ (issue-token table t next l) (pass-token table t l)
+tried-token (sync.Settle register control) table t next l = issue-token table t next l
 tried-token (sync.Unlock k) table t next l = issue-token table t next l
 tried-token (sync.Fork task arguments) table t next l = cond-token (nat_lt (length table.seats) most_threads) _ _ (issue-token table t next l) over
 tried-token (sync.Join (pos h)) table t next l = cond-token (nat_lt h (length table.seats)) _ _ (joining-token h (next_of table h) table t next l) over
@@ -140,13 +142,14 @@ still before after inside same =
     (subst HasToken (sym same) (subst (λ n. IsBelow n before.token) (sym (length-map before.seats.items seat_of)) inside.token))
     (same-locks before after inside (ap (λ there. length there.owners) same))
 
-pub turn-stands : (before after : Threads) (r : TurnHere) → StandsInside before → Turned (table before) r (table after) → StandsInside after
+pub turn-stands : (before after : Threads) (r : TurnHere) → StandsInside before → Answered (turn (table before)) (table before) r (table after) → StandsInside after
 turn-stands before after (here.Issue t next child) inside e =
     stands after (seats_law (table before) (table after) (few-table before inside) (ap table_after e)) (issued (subst TokenAfter e (turn-token (table before))))
     (same-locks before after inside (ap length (issue_law (table before) t next child (table after) e).owners ∙ length-after next.sync t before.owners.items))
 turn-stands before after here.Pass inside e =
     stands after (seats_law (table before) (table after) (few-table before inside) (ap table_after e)) (passed (subst TokenAfter e (turn-token (table before))))
     (same-locks before after inside (ap length (pass_law (table before) (table after) e).owners))
+turn-stands before after (here.Settles t) inside h = absurd h
 turn-stands before after (here.Needs t) inside h = still before after inside (h.1)
 turn-stands before after (here.Ended e) inside h = still before after inside (h.1)
 

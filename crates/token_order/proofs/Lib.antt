@@ -3,7 +3,9 @@ pub mod Changing
 pub mod Holds
 pub mod Inside
 pub mod Issuing
+pub mod Joins
 pub mod Looking
 pub mod Owned
 pub mod Rings
+pub mod Settling
 pub mod Turning

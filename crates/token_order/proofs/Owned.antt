@@ -12,6 +12,7 @@ length-after sync.Start t owners = refl
 length-after (sync.Fork task arguments) t owners = refl
 length-after (sync.Join h) t owners = refl
 length-after (sync.Barrier b) t owners = refl
+length-after (sync.Settle register control) t owners = refl
 length-after sync.End t owners = refl
 length-after sync.BadIndex t owners = refl
 length-after sync.Spent t owners = refl

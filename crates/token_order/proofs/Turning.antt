@@ -26,6 +26,7 @@ by before after r e h = subst (λ x. Answered x before r after) (sym e) h
 moved_at : (t : ℕ) (next : Next) (child : Option ℕ) (new there before after : Table) (r : TurnHere)
     → Answered (Done (Issue t next child new)) there r after → Answered (Done (Issue t next child new)) before r after
 moved_at t next child new there before after (here.Issue u other c) h = h
+moved_at t next child new there before after (here.Settles u) h = absurd h
 moved_at t next child new there before after here.Pass h = absurd (cc h)
 moved_at t next child new there before after (here.Needs u) h = absurd (cc (h.0))
 moved_at t next child new there before after (here.Ended e) h = absurd (cc (h.0))
@@ -47,7 +48,7 @@ LooksAt threads o = look (table threads) (ring threads.token (length (table thre
 pub there : (threads : Threads) (t : ℕ) (seat : Seat) (next : Next) → slice_get threads.seats.items t ≡ Some seat → seat.next ≡ Some next → next_of (table threads) t ≡ Some next
 there threads t seat next at is = seat-next threads t seat at ∙ is
 
-passed-is : (threads : Threads) (t : ℕ) (seat : Seat) → slice_get threads.seats.items t ≡ Some seat → has_passed (table threads) t ≡ seat.passed
+pub passed-is : (threads : Threads) (t : ℕ) (seat : Seat) → slice_get threads.seats.items t ≡ Some seat → has_passed (table threads) t ≡ seat.passed
 passed-is threads t seat at = ap (λ o. unwrap_or (option_map (λ s. s.passed) o) false) (slice_get-map seat_of threads.seats.items t ∙ ap (option_map seat_of) at)
 
 -- the rules of the thread are tried

@@ -1,21 +1,41 @@
 -- What a turn answers, by the rules of turns.
-use Rattle.std.specs.Prelude.{◌≡◌, ℕ, ℤ, pos, negsuc, Bool, true, false, cond, Option, Some, None, nat_lt}
+use Rattle.std.specs.Prelude.{◌≡◌, ◌⊎◌, ⊤, ℕ, ℤ, pos, negsuc, Bool, true, false, cond, Option, Some, None, nat_lt}
 use Rattle.task_ast.specs.Repeat.{Again, More, Done}
-use Rattle.task_ast.specs.Table.{Stand, Released, Away, Seat, Table}
+use Rattle.task_ast.specs.Table.{Stand, Released, Away, Seat, Table, is_settle}
 use Rattle.task_ast.specs.Turn.{Turn, Issue, Needs, Ended, turn}
 use Rattle.token_order.specs.declared.rules.Turn.{Turn as TurnHere}
 use Rattle.token_order.specs.declared.rules.Turn.TheVariants as here
 
+-- the thread that is issued with a settle
+abbrev pub settling_in : Again Table Turn → Option ℕ
+settling_in (Done (Issue t next child after)) = cond (is_settle next.sync) (Some t) None
+settling_in _ = None
+
 -- the answer by the rules is this one, with this table after it; where no thread moves the table is as it was
 abbrev pub Answered : Again Table Turn → Table → TurnHere → Table → Type 0
 Answered answer before (here.Issue t next child) after = answer ≡ Done (Issue t next child after)
+Answered answer before (here.Settles t) after = ⊥
 Answered answer before here.Pass after = answer ≡ More after
 Answered answer before (here.Needs t) after = (answer ≡ Done (Needs t)) × (after ≡ before)
 Answered answer before (here.Ended e) after = (answer ≡ Done (Ended e)) × (after ≡ before)
 
--- one turn of a table answered this, and left that table
-abbrev pub Turned : Table → TurnHere → Table → Type 0
-Turned before result after = Answered (turn before) before result after
+-- one turn of a table answered this, and left that table; a settle is issued only where that is let, and else told
+abbrev pub Turned : (cleared : Bool) → Table → TurnHere → Table → Type 0
+Turned cleared before (here.Settles t) after = (cleared ≡ false) × (settling_in (turn before) ≡ Some t) × (after ≡ before)
+Turned cleared before result after = ((cleared ≡ true) ⊎ (settling_in (turn before) ≡ None)) × Answered (turn before) before result after
+
+-- a settle that is told leaves the room as it was
+abbrev pub LeavesRoom : TurnHere → (before after : ℕ) → Type 0
+LeavesRoom (here.Settles t) before after = after ≡ before
+LeavesRoom _ before after = ⊤
+
+abbrev pub is_issue : TurnHere → Bool
+is_issue (here.Issue t next child) = true
+is_issue _ = false
+
+-- an issue uses up that a settle is let
+abbrev pub cleared_after : TurnHere → Bool → Bool
+cleared_after turn cleared = cond (is_issue turn) false cleared
 
 -- a seat whose thread began a subthread
 abbrev pub begun : ℕ → Seat → Seat

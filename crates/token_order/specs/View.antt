@@ -1,5 +1,5 @@
 -- How the fields stand for the thread table.
-use Rattle.std.specs.Prelude.{ℕ, suc, ◌<◌, ◌≤◌, ⊤, cond, length, map, Option, Some, None, is_none}
+use Rattle.std.specs.Prelude.{ℕ, Bool, suc, ◌<◌, ◌≤◌, ⊤, cond, length, map, Option, Some, None, is_none}
 use Rattle.gp_base.specs.declared.limits.TheConstants.{MOST_THREADS}
 use Rattle.task_ast.specs.declared.sync.Next.{Next}
 use Rattle.task_ast.specs.Table.{Stand, Away, Waits, Released, Seat, Table, next_of, last_in}
@@ -9,10 +9,11 @@ use Rattle.token_order.specs.declared.threads.Stand.TheVariants as stands
 use Rattle.token_order.specs.declared.threads.Seat.{Seat as SeatHere}
 use Rattle.token_order.specs.declared.threads.Threads.{Threads}
 
--- the table of the threads, and room for how many more there is
+-- the table of the threads, room for how many more there is, and whether the next issue may begin with a settle
 pub record Roomy : Type 0 where
   pub table : Table
   pub spare : ℕ
+  pub cleared : Bool
 
 abbrev pub stand_view : StandHere → Stand
 stand_view stands.Away = Away

@@ -1,12 +1,12 @@
 // The ring of threads, as its callers see it.
 
-ghost use Rattle.std.specs.Prelude.{◌≡◌, ◌<◌, ◌≤◌, length, None, IfOk, OnOk, replicate};
+ghost use Rattle.std.specs.Prelude.{◌≡◌, ◌<◌, ◌≤◌, true, false, length, None, IfOk, OnOk, replicate};
 ghost use Rattle.std.specs.Option.{option_map, option_copied};
 ghost use Rattle.task_ast.specs.Reached.{start_table};
 ghost use Rattle.task_ast.specs.Table.{next_of, learning, owned_from};
 ghost use Rattle.task_ast.specs.Turn.{owners_after};
 ghost use Rattle.task_ast.specs.laws.Threads.{ahead};
-ghost use Rattle.token_order.specs.Turned.{Turned};
+ghost use Rattle.token_order.specs.Turned.{Turned, LeavesRoom, cleared_after};
 ghost use Rattle.token_order.specs.View.{awaited};
 
 use crate::held::Held;
@@ -23,6 +23,7 @@ use task_ast::{Next, SyncOp};
 pub struct Ring {
     threads: Threads,
     held: Held,
+    cleared: bool,
 }
 
 impl Model for Ring {
@@ -31,9 +32,19 @@ impl Model for Ring {
 
     ghost Value = { Roomy };
 
-    ghost view = { λ r. record { table = table r.threads; spare = spare_of r.threads r.held } };
+    ghost view = { λ r. record { table = table r.threads; spare = spare_of r.threads r.held; cleared = r.cleared } };
 
     ghost invariant = { λ r. RingStands r.threads r.held };
+}
+
+// Whether a settle is let after the turn.
+fn cleared_after(turn: &Turn, cleared: bool) -> bool
+    ensures { result ≡ cleared_after turn.now cleared }
+{
+    match turn {
+        Turn::Issue { .. } => false,
+        _ => cleared,
+    }
 }
 
 impl Ring {
@@ -46,11 +57,16 @@ impl Ring {
         limit: u32,
         main: Next,
     ) -> Result<Ring, AllocError>
-        ensures { IfOk result (λ ring. ring.table ≡ start_table limit barriers (replicate locks None) main) }
+        ensures table { IfOk result (λ ring. ring.table ≡ start_table limit barriers (replicate locks None) main) }
+        ensures cleared { IfOk result (λ ring. ring.cleared ≡ false) }
     {
         let threads = Threads::new(alloc, locks, barriers.into_vec(), limit, main)?;
         let held = Held::new(alloc, locks as usize)?;
-        Ok(Ring { threads, held })
+        Ok(Ring {
+            threads,
+            held,
+            cleared: false,
+        })
     }
 
     /// How many threads there are.
@@ -65,18 +81,36 @@ impl Ring {
         ensures table { self.new.table ≡ self.old.table }
         ensures room { OnOk result (0 < self.new.spare) }
         ensures kept { self.old.spare ≤ self.new.spare }
+        ensures cleared { self.new.cleared ≡ self.old.cleared }
     {
         self.threads.seats.reserve(1)?;
         self.held.settle()
     }
 
-    /// One turn: a pass, an issue, or what is needed for one, or the end. Takes no memory.
+    /// Lets the next issue begin with a settle. Takes no memory.
+    pub fn clear(&mut self)
+        ensures table { self.new.table ≡ self.old.table }
+        ensures spare { self.new.spare ≡ self.old.spare }
+        ensures cleared { self.new.cleared ≡ true }
+    {
+        self.cleared = true;
+    }
+
+    /// One turn: a pass, an issue, a settle that is not let, or what is needed for one, or the end. Takes no memory.
     pub fn turn(&mut self) -> Turn
         requires { 0 < self.old.spare }
-        ensures turned { Turned self.old.table result self.new.table }
+        ensures turned { Turned self.old.cleared self.old.table result self.new.table }
+        ensures cleared { self.new.cleared ≡ cleared_after result self.old.cleared }
+        ensures spare { LeavesRoom result self.old.spare self.new.spare }
     {
+        if !self.cleared {
+            if let Some(thread) = self.threads.settling() {
+                return Turn::Settles(ThreadNo(thread));
+            }
+        }
         let turn = self.threads.turn();
         self.held.note(&turn);
+        self.cleared = cleared_after(&turn, self.cleared);
         turn
     }
 
@@ -84,6 +118,7 @@ impl Ring {
     pub fn learn(&mut self, thread: ThreadNo, next: Next)
         requires { thread < length self.old.table.seats }
         ensures table { self.new.table ≡ learning self.old.table thread next }
+        ensures cleared { self.new.cleared ≡ self.old.cleared }
     {
         self.threads.learn(thread.0, next);
     }

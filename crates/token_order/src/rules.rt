@@ -10,15 +10,15 @@ ghost use Rattle.task_ast.specs.Table.{Away, next_of, waits_at};
 ghost use Rattle.task_ast.specs.Turn.{tried, issuing, passing, look, owners_after, seats_after, child_of, deadlocked, all_threads, arrived, stand_of, released_at};
 ghost use Rattle.token_order.specs.View.{table, seat_of, StandsInside};
 ghost use Rattle.token_order.specs.declared.rules.Turn.TheVariants as here;
-ghost use Rattle.token_order.specs.Turned.{Answered, Turned, is_free_to_go, begun, joined_in};
+ghost use Rattle.token_order.specs.Turned.{Answered, is_free_to_go, begun, joined_in};
 
 use crate::threads::{Seat, Stand, Threads, clear, new_seat};
 use gp_base::limits::MOST_THREADS;
 use gp_base::{End, Pos, ThreadNo, Why};
 use task_ast::{Next, SyncOp};
 
-/// What a turn answers: a thread begins a subthread, with the child where it forks one; the thread passes; the next
-/// synchronisation of a thread is needed; the run has ended.
+/// What a turn answers: a thread begins a subthread, with the child where it forks one; the thread would begin one with
+/// a settle, which waits to be let; the thread passes; the next synchronisation of a thread is needed; the run has ended.
 #[derive(Drop)]
 pub enum Turn {
     Issue {
@@ -26,6 +26,7 @@ pub enum Turn {
         begins: Next,
         child: Option<ThreadNo>,
     },
+    Settles(ThreadNo),
     Pass,
     Needs(ThreadNo),
     Ended(End),
@@ -264,11 +265,32 @@ impl Threads {
         }
     }
 
+    /// The thread that the next turn would issue with a settle.
+    pub fn settling(&self) -> Option<u32>
+        requires inside { StandsInside self.now }
+        ensures { result ≡ Rattle.token_order.specs.Turned.settling_in (Rattle.task_ast.specs.Turn.turn (table self.now)) }
+    {
+        if self.limit <= self.issued {
+            return None;
+        }
+        let Some(t) = self.token_at() else {
+            return None;
+        };
+        let seat = &self.seats[t as usize];
+        let Some(next) = &seat.next else {
+            return None;
+        };
+        if seat.passed {
+            return None;
+        }
+        if is_settle(next) { Some(t) } else { None }
+    }
+
     /// One turn, by its rules.
     pub fn turn(&mut self) -> Turn
         requires inside { StandsInside self.old }
         requires spare { vec_len self.old.seats < vec_capacity self.old.seats }
-        ensures { Turned (table self.old) result (table self.new) }
+        ensures { Answered (Rattle.task_ast.specs.Turn.turn (table self.old)) (table self.old) result (table self.new) }
     {
         let Some(t) = self.token_at() else {
             return Turn::Ended(End::Finished);
@@ -298,6 +320,7 @@ impl Threads {
                 let barrier = *barrier;
                 self.meet(t, barrier)
             }
+            SyncOp::Settle { reg: _, ctl: _ } => self.issue(t),
             SyncOp::End => self.issue(t),
             SyncOp::BadIndex => stuck(Why::Index, t, line),
             SyncOp::Spent => Turn::Ended(End::Spent(Pos(last))),
@@ -314,6 +337,13 @@ fn stuck(why: Why, t: u32, line: u32) -> Turn
         thread: ThreadNo(t),
         line,
     })
+}
+
+// Whether it is a settle.
+fn is_settle(next: &Next) -> bool
+    ensures { result ≡ Rattle.task_ast.specs.Table.is_settle next.now.sync }
+{
+    matches!(next.sync, SyncOp::Settle { reg: _, ctl: _ })
 }
 
 // Whether the thread ends with it.

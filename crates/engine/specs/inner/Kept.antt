@@ -1,6 +1,5 @@
 -- What an engine keeps between two calls.
-use Rattle.std.specs.Prelude.{◌≡◌, ℕ, ◌≤◌, ◌<◌, ◌^◌, ⊤, true, All, List, length, Option, Some, None}
-use Rattle.gp_base.specs.declared.ending.End.{End}
+use Rattle.std.specs.Prelude.{◌≡◌, ℕ, ◌≤◌, ◌<◌, ◌^◌, ⊤, All, List, length, Option, Some, None}
 use Rattle.gp_base.specs.declared.journal.Event.{Event}
 use Rattle.gp_base.specs.declared.journal.Restart.{Restart}
 use Rattle.task_ast.specs.declared.sync.SyncOp.{SyncOp}
@@ -8,7 +7,6 @@ use Rattle.task_ast.specs.Control.{Point}
 use Rattle.task_ast.specs.Names.{records_of, cells_in}
 use Rattle.task_ast.specs.Layout.{layout}
 use Rattle.task_ast.specs.Table.{Table}
-use Rattle.dependence.specs.Restarts.{drains}
 use Rattle.dependence.specs.Journal.{Stage, Lawful, stage}
 use Rattle.dependence.specs.Standing.{AreShort}
 use Rattle.dependence.specs.RunBuffer.{RunStands}
@@ -20,8 +18,9 @@ use Rattle.subthread.specs.Tasks.{Suits}
 use Rattle.engine.specs.declared.parts.Place.{Place}
 use Rattle.engine.specs.declared.parts.Plan.{Plan}
 use Rattle.engine.specs.declared.parts.Parts.{Parts}
-use Rattle.engine.specs.View.{Batch, View, program_in, run_in, dependence_in, under_in, start_in, end_in}
-use Rattle.engine.specs.inner.RingStands.{point_before, RingStands}
+use Rattle.engine.specs.declared.calls.Halt.{Halt}
+use Rattle.engine.specs.View.{Batch, View, program_in, run_in, dependence_in, under_in, start_in, IsHalt}
+use Rattle.engine.specs.inner.RingStands.{from_before, RingStands}
 
 -- what a plan is to definitions
 abbrev pub batch_in : Plan → Batch
@@ -43,14 +42,14 @@ IsPlaceIn batch t op place point = Rests (program_in batch) op point (record { a
 abbrev pub place_of : Entry → Place
 place_of e = record { at = e.at; ctl = e.ctl }
 
--- an entry stands where the plain run's thread does
+-- an entry stands where the plain run's thread begins, after what a settle sets
 abbrev pub IsPlaced : Batch → Entry → Type 0
-IsPlaced batch e = IsPlaceIn batch e.thread e.begins.sync (place_of e) (point_before batch e.pos e.thread)
+IsPlaced batch e = IsPlaceIn batch e.thread e.begins.sync (place_of e) (from_before batch e.pos e.begins.sync e.thread)
 
--- an end that is known is the run's, which is at its last subthread
-abbrev pub IsEnd : Batch → (front : ℕ) → Option End → Type 0
+-- a halt that is known is one
+abbrev pub IsEnd : Batch → (front : ℕ) → Option Halt → Type 0
 IsEnd batch front None = ⊤
-IsEnd batch front (Some ending) = (drains (dependence_in batch) front ≡ true) × (ending ≡ end_in batch)
+IsEnd batch front (Some halts) = IsHalt batch front halts
 
 -- a batch that can be run: work, inputs and limits suit one another
 pub record IsFit (batch : Batch) : Type 0 where
@@ -65,7 +64,7 @@ pub record IsHome (batch : Batch) (table : Table) (store : Stored) : Type 0 wher
   pub under : store.under ≡ under_in batch
 
 -- the journal with its counts
-pub record JournalStands (batch : Batch) (events : List Event) (restarts : List Restart) (issued : ℕ) (ended : Option End) : Type 0 where
+pub record JournalStands (batch : Batch) (events : List Event) (restarts : List Restart) (issued : ℕ) (ended : Option Halt) : Type 0 where
   pub lawful : Lawful (dependence_in batch) batch.faults events
   pub restarts_are : restarts ≡ (stage_of batch events).progress.made
   pub issued_are : issued ≡ (stage_of batch events).progress.front
@@ -81,7 +80,7 @@ pub record WindowStands (batch : Batch) (at : Stage) (table : Table) (entries : 
 
 -- all that is kept
 pub record Keeps (batch : Batch) (table : Table) (places : List Place) (entries : List Entry) (store : Stored) (events : List Event) (restarts : List Restart) (issued : ℕ)
-    (ended : Option End) : Type 0 where
+    (ended : Option Halt) : Type 0 where
   pub fit : IsFit batch
   pub journal : JournalStands batch events restarts issued ended
   pub ring : RingStands batch (IsPlaceIn batch) (stage_of batch events) table places

@@ -1,6 +1,7 @@
 -- What is made ready before a turn, and what a turn gives.
-use Rattle.std.specs.Prelude.{◌≡◌, ◌⊎◌, ℕ, ◌+◌, ◌<◌, pos, negsuc, nat_lt, Bool, true, false, List, [], ◌∷◌, ◌++◌, length, Option, Some, None, is_some, slice_get, vec_len, vec_capacity}
+use Rattle.std.specs.Prelude.{◌≡◌, ◌⊎◌, ℕ, ◌+◌, ◌<◌, pos, negsuc, nat_lt, Bool, true, false, List, [], ◌∷◌, ◌++◌, length, Option, Some, None, is_some, slice_get, vec_len, vec_capacity, slice_set}
 use Rattle.gp_base.specs.declared.journal.Event.TheVariants as event
+use Rattle.task_ast.specs.State.{State, RegistersOf, number_at}
 use Rattle.task_ast.specs.declared.sync.SyncOp.{SyncOp}
 use Rattle.task_ast.specs.declared.sync.SyncOp.TheVariants as sync
 use Rattle.task_ast.specs.declared.sync.Next.{Next}
@@ -25,6 +26,14 @@ abbrev pub names_thread : SyncOp → (n : ℕ) → Bool
 names_thread (sync.Join (pos h)) n = nat_lt h n
 names_thread (sync.Join (negsuc h)) n = false
 names_thread _ n = true
+
+-- a place in which a settle has set its variable to the value that the state has
+abbrev pub settled_place : SyncOp → State → (thread : ℕ) → Place → Place
+settled_place (sync.Settle register control) state t place = record { at = place.at; ctl = slice_set place.ctl control (number_at (state (RegistersOf t)) register) }
+settled_place _ state t place = place
+
+abbrev pub settled_in : SyncOp → State → (thread : ℕ) → Prepared → Prepared
+settled_in op state t prepared = record prepared { place = settled_place op state t prepared.place }
 
 -- an issue of thread t finds this prepared
 pub record PreparedFor (batch : Batch) (table : Table) (places : List Place) (t : ℕ) (op : SyncOp) (prepared : Prepared) : Type 0 where
@@ -106,4 +115,5 @@ TurnGives batch before after (Some issued) = IssueGives (view_of batch before) (
 -- what the turns of an issue keep
 pub record KeepsView (batch : Batch) (before now : Parts) : Type 0 where
   pub kept : Kept batch now
+  pub closed : now.ring.cleared ≡ false
   pub same : view_of batch now ≡ view_of batch before

@@ -7,7 +7,7 @@ use Rattle.task_ast.specs.Control.{Point}
 use Rattle.task_ast.specs.Table.{Table, next_of, last_in}
 use Rattle.task_ast.specs.laws.Standing.{Stands}
 use Rattle.task_ast.specs.Plain.{Plain, start_point, task_at}
-use Rattle.task_ast.specs.Position.{before, point_in}
+use Rattle.task_ast.specs.Position.{before, point_in, from_in}
 use Rattle.dependence.specs.Journal.{Stage, WasTaken}
 use Rattle.engine.specs.View.{Batch, program_in}
 
@@ -18,6 +18,10 @@ plain_before batch p = before (program_in batch) batch.inputs batch.limits p
 -- where a thread stands before a position
 abbrev pub point_before : Batch → (position thread : ℕ) → Point
 point_before batch p t = point_in (program_in batch) batch.inputs batch.limits (plain_before batch p) t
+
+-- where a thread begins so at a position
+abbrev pub from_before : Batch → (position : ℕ) → SyncOp → (thread : ℕ) → Point
+from_before batch p op t = from_in (program_in batch) batch.inputs batch.limits (plain_before batch p) op t
 
 -- a next synchronisation is unknown exactly where no attempt of its thread's last subthread was taken
 pub record IsLearnt (at : Stage) (table : Table) : Type 0 where

@@ -1,11 +1,13 @@
 -- What the rounds of a run leave.
-use Rattle.std.specs.Prelude.{◌≡◌, ◌⊎◌, ℕ, ◌+◌, ◌*◌, ◌<◌, Bool, true, false, cond, List, ◌++◌, take, Option, None, Contains}
+use Rattle.std.specs.Prelude.{◌≡◌, ◌⊎◌, ℕ, ◌+◌, ◌*◌, ◌<◌, Bool, true, false, cond, List, ◌++◌, take, Option, Some, None, Contains}
+use Rattle.gp_base.specs.declared.ending.End.{End}
 use Rattle.std.specs.Io.KnownBytes.{Appends}
 use Rattle.dependence.specs.Journal.{WasTaken}
 use Rattle.dependence.specs.Measure.{left_after}
 use Rattle.subthread.specs.declared.task.Task.{Task}
 use Rattle.restart_log.specs.Lines.{printed}
 use Rattle.engine.specs.View.{View, dependence_in, lines_at, lines_below, now, is_known, Stands}
+use Rattle.engine.specs.declared.calls.Halt.TheVariants as halt
 use Rattle.engine.specs.Gives.{struck_now, MayRetireNow}
 use Rattle.engine.specs.Takes.{CrewStands}
 
@@ -42,9 +44,11 @@ pub record IsSettled (view : View) : Type 0 where
   pub none_struck : struck_now view ≡ None
   pub none_retires : ¬ MayRetireNow view
 
--- the end is known, or some position below the front was never taken
+-- the run has ended, or a settle waits for some position to retire, or some position below the front was never taken
 abbrev pub IsIssued : View → Type 0
-IsIssued view = (is_known view ≡ true) ⊎ ((q : ℕ) × (q < (now view).progress.front) × ¬ WasTaken (now view) q)
+IsIssued view =
+    ((ending : End) × (view.ended ≡ Some (halt.Ended ending))) ⊎ ((view.ended ≡ Some halt.Settling) × ((now view).retired < (now view).progress.front))
+    ⊎ ((q : ℕ) × (q < (now view).progress.front) × ¬ WasTaken (now view) q)
 
 -- what was written since `start` is the lines of all positions that have retired
 abbrev pub Wrote : (start : Option (List ℕ)) → View → (written : Option (List ℕ)) → Type 0

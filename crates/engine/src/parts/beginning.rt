@@ -1,6 +1,6 @@
 // A run that begins.
 
-ghost use Rattle.std.specs.Prelude.{◌≡◌, ◌<◌, ◌^◌, [], length, IfOk};
+ghost use Rattle.std.specs.Prelude.{◌≡◌, ◌<◌, ◌^◌, false, [], length, IfOk};
 ghost use Rattle.task_ast.specs.declared.sync.SyncOp.TheVariants as sync;
 ghost use Rattle.task_ast.specs.Names.{registers_of};
 ghost use Rattle.task_ast.specs.Plain.{opening, main_task, start_point, task_at};
@@ -32,7 +32,8 @@ fn registers(code: &Code, task: u32) -> u32
 /// The ring with thread 0 at the start of `main`.
 fn ring_of(alloc: Global, plan: &Plan, layout: &Layout) -> Result<Ring, AllocError>
     requires { Suits (batch_in plan.now).work layout.now (batch_in plan.now).inputs (batch_in plan.now).limits }
-    ensures { IfOk result (λ ring. ring.table ≡ (opening (program_in (batch_in plan.now)) (batch_in plan.now).inputs (batch_in plan.now).limits).table) }
+    ensures table { IfOk result (λ ring. ring.table ≡ (opening (program_in (batch_in plan.now)) (batch_in plan.now).inputs (batch_in plan.now).limits).table) }
+    ensures closed { IfOk result (λ ring. ring.cleared ≡ false) }
 {
     let locks = layout.under.len() as u32;
     let barriers = plan.work.code.barriers().copied(alloc)?;
@@ -71,6 +72,7 @@ pub fn begin(alloc: Global, plan: &Plan, layout: Layout, records: Nums) -> Resul
     requires few { (batch_in plan.now).limits.subthreads < 2 ^ 32 }
     requires records { records ≡ (batch_in plan.now).inputs.records }
     ensures kept { IfOk result (Kept (batch_in plan.now)) }
+    ensures closed { IfOk result (λ parts. parts.ring.cleared ≡ false) }
     ensures view { IfOk result (λ parts. view_of (batch_in plan.now) parts ≡ begun (batch_in plan.now)) }
 {
     let ring = ring_of(alloc, plan, &layout)?;

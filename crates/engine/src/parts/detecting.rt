@@ -1,6 +1,6 @@
 // Making the restarts that faults ask for.
 
-ghost use Rattle.std.specs.Prelude.{◌≡◌, ◌+◌, ◌<◌, ◌≤◌, [], ◌∷◌, ◌++◌, Some, IfOk, OnErr, OnOk, length};
+ghost use Rattle.std.specs.Prelude.{◌≡◌, ◌+◌, ◌<◌, ◌≤◌, [], ◌∷◌, ◌++◌, Some, false, IfOk, OnErr, OnOk, length};
 ghost use Rattle.std.specs.Option.{IsSome};
 ghost use Rattle.gp_base.specs.declared.journal.Event.TheVariants as event;
 ghost use Rattle.reorder_list.specs.Entries.{entry_at};
@@ -48,10 +48,12 @@ fn attempt_of(rol: &Rol, p: Pos) -> u32
 // Redoes the position that is struck, and notes it.
 fn redo_from(alloc: Global, plan: &Plan, parts: &mut Parts, struck: Pos, redo: Room<Pos>)
     requires kept { Kept (batch_in plan.now) parts.old }
+    requires closed { parts.old.ring.cleared ≡ false }
     requires is_struck { struck_now (view_of (batch_in plan.now) parts.old) ≡ Some struck }
     requires empty { redo.items ≡ [] }
     requires rooms { HasRooms (length parts.old.rol.entries) parts.old.events parts.old.restarts redo }
     ensures kept { Kept (batch_in plan.now) parts.new }
+    ensures closed { parts.new.ring.cleared ≡ false }
     ensures did { Did (view_of (batch_in plan.now) parts.old) (event.Restart (length (now (view_of (batch_in plan.now) parts.old)).progress.made)) (view_of (batch_in plan.now) parts.new) }
 {
     let mut redo = redo;
@@ -80,7 +82,9 @@ fn redo_from(alloc: Global, plan: &Plan, parts: &mut Parts, struck: Pos, redo: R
 /// that memory is out, and changes nothing.
 pub fn detect(alloc: Global, plan: &Plan, parts: &mut Parts) -> Result<bool, AllocError>
     requires kept { Kept (batch_in plan.now) parts.old }
+    requires closed { parts.old.ring.cleared ≡ false }
     ensures kept { Kept (batch_in plan.now) parts.new }
+    ensures closed { parts.new.ring.cleared ≡ false }
     ensures gives { IfOk result (DetectGives (view_of (batch_in plan.now) parts.old) (view_of (batch_in plan.now) parts.new)) }
     ensures err { OnErr result (view_of (batch_in plan.now) parts.new ≡ view_of (batch_in plan.now) parts.old) }
 {

@@ -1,26 +1,28 @@
 // Issuing the next subthread.
 
-ghost use Rattle.std.specs.Prelude.{◌≡◌, ◌<◌, ◌≤◌, ◌+◌, ◌^◌, true, length, IfOk, OnOk, OnErr};
+ghost use Rattle.std.specs.Prelude.{◌≡◌, ◌<◌, ◌≤◌, ◌+◌, ◌^◌, true, false, length, IfOk, OnOk, OnErr};
 ghost use Rattle.gp_base.specs.declared.limits.TheConstants.{MOST_THREADS};
 ghost use Rattle.task_ast.specs.Turn.{child_of};
 ghost use Rattle.dependence.specs.Restarts.{NoneDue};
 ghost use Rattle.subthread.specs.Footprints.{IsNumbered};
 ghost use Rattle.reorder_list.specs.Entries.{ComesNext};
+ghost use Rattle.token_order.specs.Turned.{Turned};
+ghost use Rattle.record_store.specs.Stored.{state_of};
 ghost use Rattle.engine.specs.View.{now};
 ghost use Rattle.engine.specs.Gives.{IssueGives};
 ghost use Rattle.engine.specs.inner.RingStands.{StartIs};
 ghost use Rattle.engine.specs.inner.Kept.{batch_in, view_of, IsPlaceIn, Kept};
-ghost use Rattle.engine.specs.inner.Prepared.{names_thread, forks, new_entry, PreparedFor, IsPrepared, IsReadyFor, IsPushed, IsSlotted, SameParts, HasRoom, TurnGives};
+ghost use Rattle.engine.specs.inner.Prepared.{settled_in, names_thread, forks, new_entry, PreparedFor, IsPrepared, IsReadyFor, IsPushed, IsSlotted, SameParts, HasRoom, TurnGives};
 
-use crate::Issued;
+use crate::{Halt, Issued};
 use crate::parts::{Parts, Place, Plan};
-use gp_base::{At, Event, Footprint, LockNo, Pos, Seq, ThreadNo};
+use gp_base::{At, End, Event, Footprint, LockNo, Pos, Seq, ThreadNo};
 use record_store::Store;
 use reorder_list::{Entry, State};
 use std::alloc::{AllocError, Global};
 use subthread::footprint;
 use task_ast::{Next, SyncOp};
-use token_order::Turn;
+use token_order::{Ring, Turn};
 
 /// What the entry of the thread ahead needs, and the place at which its child starts.
 #[derive(Drop)]
@@ -154,6 +156,7 @@ fn reserve_slot(
 fn reserve_room(parts: &mut Parts) -> Result<(), AllocError>
     ensures same { SameParts parts.old parts.new }
     ensures store { parts.new.store ≡ parts.old.store }
+    ensures closed { parts.new.ring.cleared ≡ parts.old.ring.cleared }
     ensures thread { OnOk result (0 < parts.new.ring.spare) }
     ensures room { OnOk result (HasRoom parts.new) }
 {
@@ -167,7 +170,9 @@ fn reserve_room(parts: &mut Parts) -> Result<(), AllocError>
 /// Takes all memory that the next turn can need.
 fn make_ready(alloc: Global, plan: &Plan, parts: &mut Parts) -> Result<Option<Prepared>, AllocError>
     requires kept { Kept (batch_in plan.now) parts.old }
+    requires closed { parts.old.ring.cleared ≡ false }
     ensures kept { Kept (batch_in plan.now) parts.new }
+    ensures closed { parts.new.ring.cleared ≡ false }
     ensures same { SameParts parts.old parts.new }
     ensures thread { OnOk result (0 < parts.new.ring.spare) }
     ensures room { OnOk result (HasRoom parts.new) }
@@ -227,6 +232,70 @@ fn push(
     pos
 }
 
+// A turn of the ring, in which a settle is let where no position is left to retire. It is never let between two turns.
+fn ring_turn(ring: &mut Ring, alone: bool) -> Turn
+    requires closed { ring.old.cleared ≡ false }
+    requires spare { 0 < ring.old.spare }
+    ensures turned { Turned alone ring.old.table result ring.new.table }
+    ensures closed { ring.new.cleared ≡ false }
+{
+    let first = ring.turn();
+    if !alone {
+        return first;
+    }
+    match first {
+        Turn::Settles(_) => {
+            ring.clear();
+            ring.turn()
+        }
+        Turn::Pass => Turn::Pass,
+        Turn::Needs(thread) => Turn::Needs(thread),
+        Turn::Ended(end) => Turn::Ended(end),
+        Turn::Issue {
+            thread,
+            begins,
+            child,
+        } => Turn::Issue {
+            thread,
+            begins,
+            child,
+        },
+    }
+}
+
+// What was prepared, where a settle has set its variable to the value of its register.
+fn settled(prepared: Prepared, begins: &SyncOp, thread: ThreadNo, store: &Store) -> Prepared
+    ensures { result ≡ settled_in begins.now (state_of store.now) thread prepared }
+{
+    let mut prepared = prepared;
+    match begins {
+        SyncOp::Settle { reg, ctl } => {
+            let value = store.register(thread, *reg as usize);
+            let at = *ctl as usize;
+            if at < prepared.place.ctl.len() {
+                prepared.place.ctl.set(at, value);
+            }
+        }
+        SyncOp::Start => {}
+        SyncOp::Lock(_) => {}
+        SyncOp::Unlock(_) => {}
+        SyncOp::Fork { .. } => {}
+        SyncOp::Join(_) => {}
+        SyncOp::Barrier(_) => {}
+        SyncOp::End => {}
+        SyncOp::BadIndex => {}
+        SyncOp::Spent => {}
+    }
+    prepared
+}
+
+// The run ends so.
+fn halted(end: End) -> Halt
+    ensures { result ≡ Halt.Ended end }
+{
+    Halt::Ended(end)
+}
+
 /// One turn.
 fn turn(
     alloc: Global,
@@ -239,15 +308,22 @@ fn turn(
     requires thread { 0 < parts.old.ring.spare }
     requires room { HasRoom parts.old }
     requires ready { IsReadyFor (batch_in _plan.now) parts.old prepared }
+    requires closed { parts.old.ring.cleared ≡ false }
+    ensures closed { parts.new.ring.cleared ≡ false }
     ensures kept { Kept (batch_in _plan.now) parts.new }
     ensures gives { TurnGives (batch_in _plan.now) parts.old parts.new result }
 {
-    match parts.ring.turn() {
+    let alone = parts.rol.len() == 0;
+    match ring_turn(&mut parts.ring, alone) {
         Turn::Pass => None,
         Turn::Needs(thread) => Some(Issued::Needs(thread)),
+        Turn::Settles(thread) => {
+            parts.ended = Some(Halt::Settling);
+            Some(Issued::Settles(thread))
+        }
         Turn::Ended(end) => {
             let known = end;
-            parts.ended = Some(known);
+            parts.ended = Some(halted(known));
             Some(Issued::Ended(end))
         }
         Turn::Issue {
@@ -255,7 +331,8 @@ fn turn(
             begins,
             child,
         } => {
-            let pos = push(alloc, parts, thread, begins, child, prepared.unwrap());
+            let ready = settled(prepared.unwrap(), &begins.sync, thread, &parts.store);
+            let pos = push(alloc, parts, thread, begins, child, ready);
             Some(Issued::One(pos))
         }
     }
@@ -264,8 +341,10 @@ fn turn(
 /// Issues the next subthread, or answers which thread's next synchronisation is needed first, or how the run ends.
 pub fn issue(alloc: Global, plan: &Plan, parts: &mut Parts) -> Result<Issued, AllocError>
     requires kept { Kept (batch_in plan.now) parts.old }
+    requires closed { parts.old.ring.cleared ≡ false }
     requires none_due { NoneDue (batch_in plan.now).faults (now (view_of (batch_in plan.now) parts.old)).progress }
     ensures kept { Kept (batch_in plan.now) parts.new }
+    ensures closed { parts.new.ring.cleared ≡ false }
     ensures gives { IfOk result (IssueGives (view_of (batch_in plan.now) parts.old) (view_of (batch_in plan.now) parts.new)) }
     ensures err { OnErr result (view_of (batch_in plan.now) parts.new ≡ view_of (batch_in plan.now) parts.old) }
 {

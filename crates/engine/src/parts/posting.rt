@@ -1,6 +1,6 @@
 // Posting the present attempt of a position.
 
-ghost use Rattle.std.specs.Prelude.{◌≡◌, [], ◌∷◌, ◌++◌, IfOk, OnOk, OnErr};
+ghost use Rattle.std.specs.Prelude.{◌≡◌, false, [], ◌∷◌, ◌++◌, IfOk, OnOk, OnErr};
 ghost use Rattle.std.specs.Option.{IsSomeAnd};
 ghost use Rattle.gp_base.specs.declared.journal.Event.TheVariants as event;
 ghost use Rattle.dependence.specs.Restarts.{mask_of};
@@ -103,11 +103,13 @@ pub fn post<R: Threads + Sync, C: Crew>(
     position: Pos,
 ) -> Result<(), AllocError>
     requires kept { Kept (batch_in plan.now) parts.old }
+    requires closed { parts.old.ring.cleared ≡ false }
     requires may { MayPostNow (view_of (batch_in plan.now) parts.old) position }
     requires ready { C.ready crew.old }
     requires work { C.work crew.old ≡ (batch_in plan.now).work }
     requires posted { C.posted crew.old ≡ (now (view_of (batch_in plan.now) parts.old)).posted }
     ensures kept { Kept (batch_in plan.now) parts.new }
+    ensures closed { parts.new.ring.cleared ≡ false }
     ensures did { OnOk result (Did (view_of (batch_in plan.now) parts.old) (event.Post position (present (now (view_of (batch_in plan.now) parts.old)) position)) (view_of (batch_in plan.now) parts.new)) }
     ensures err { OnErr result (view_of (batch_in plan.now) parts.new ≡ view_of (batch_in plan.now) parts.old) }
     ensures ready { C.ready crew.new }

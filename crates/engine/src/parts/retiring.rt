@@ -1,6 +1,6 @@
 // Retiring the oldest position.
 
-ghost use Rattle.std.specs.Prelude.{◌≡◌, is_some, IfOk, OnErr, OnOk};
+ghost use Rattle.std.specs.Prelude.{◌≡◌, false, is_some, IfOk, OnErr, OnOk};
 ghost use Rattle.std.specs.Io.KnownBytes.{Appends};
 ghost use Rattle.gp_base.specs.Sinks.{AppendsPrefix};
 ghost use Rattle.restart_log.specs.Lines.{printed};
@@ -75,7 +75,9 @@ pub fn retire<O: Sink>(
     out: &mut O,
 ) -> Result<bool, StopWhy>
     requires kept { Kept (batch_in plan.now) parts.old }
+    requires closed { parts.old.ring.cleared ≡ false }
     ensures kept { Kept (batch_in plan.now) parts.new }
+    ensures closed { parts.new.ring.cleared ≡ false }
     ensures gives { IfOk result (RetireGives (view_of (batch_in plan.now) parts.old) (view_of (batch_in plan.now) parts.new)) }
     ensures err { OnErr result (view_of (batch_in plan.now) parts.new ≡ view_of (batch_in plan.now) parts.old) }
     ensures lines { RetireWrites (view_of (batch_in plan.now) parts.old) (O.written out.old) (O.written out.new) result }

@@ -1,6 +1,6 @@
 // Taking the run of a task.
 
-ghost use Rattle.std.specs.Prelude.{◌≡◌, ◌<◌, true, length};
+ghost use Rattle.std.specs.Prelude.{◌≡◌, ◌<◌, true, false, length};
 ghost use Rattle.std.specs.Option.{IsSomeAnd};
 ghost use Rattle.gp_base.specs.declared.journal.Event.TheVariants as event;
 ghost use Rattle.record_store.specs.Stored.{Fits};
@@ -51,6 +51,7 @@ fn learn(
 )
     requires exists { awaits ring.old.table thread pos ≡ true → thread < length ring.old.table.seats }
     requires places { length places.old ≡ length ring.old.table.seats }
+    ensures closed { ring.new.cleared ≡ ring.old.cleared }
     ensures table { ring.new.table ≡ learning_from pos thread next ring.old.table }
     ensures places { places.new ≡ placing_from pos thread place ring.old.table places.old }
 {
@@ -76,10 +77,12 @@ fn apply_where(fresh: bool, store: &mut Store, rol: &mut Rol, pos: Pos, effect: 
 /// its thread does next is learnt in any case, where it is awaited.
 pub fn accept(plan: &Plan, parts: &mut Parts, done: Done) -> bool
     requires kept { Kept (batch_in plan.now) parts.old }
+    requires closed { parts.old.ring.cleared ≡ false }
     requires task { TaskStands (view_of (batch_in plan.now) parts.old) (task_of done) }
     requires run { IsRun (batch_in plan.now).work done }
     requires room { 0 < parts.old.events.spare }
     ensures kept { Kept (batch_in plan.now) parts.new }
+    ensures closed { parts.new.ring.cleared ≡ false }
     ensures did { Did (view_of (batch_in plan.now) parts.old) (event.Take (task_of done).pos (task_of done).attempt result) (view_of (batch_in plan.now) parts.new) }
 {
     let Done {

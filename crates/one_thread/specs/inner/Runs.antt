@@ -19,7 +19,7 @@ use Rattle.one_thread.specs.declared.threads.Run.{Run}
 use Rattle.one_thread.specs.inner.Holding.{AreHeld}
 use Rattle.one_thread.specs.inner.View.{table_of}
 use Rattle.one_thread.specs.inner.Walking.{point_of}
-use Rattle.one_thread.specs.inner.Subthreads.{RanWith}
+use Rattle.one_thread.specs.inner.Subthreads.{settled, RanWith}
 
 -- the names of a task's registers
 abbrev pub slots_of : CodeTask → List Name
@@ -67,7 +67,7 @@ pub record Performed (old : Run) (t : ℕ) (begins : Next) (child : Option ℕ) 
   pub is : Walk
   pub done : Done
   pub at : slice_get old.threads.items t ≡ Some was
-  pub ran : RanWith was old.shared begins.sync child (joined_of begins.sync old.threads.items) old.turns done is new.shared
+  pub ran : RanWith (settled begins.sync was) old.shared begins.sync child (joined_of begins.sync old.threads.items) old.turns done is new.shared
   pub threads : Forks old.program.now begins.sync done.child (slice_set old.threads.items t is) new.threads.items
   pub table : table_of new.table ≡ learning (table_of old.table) t done.next
   pub owners : new.table.owners ≡ old.table.owners

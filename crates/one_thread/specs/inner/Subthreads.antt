@@ -4,7 +4,9 @@ use Rattle.task_ast.specs.declared.sync.SyncOp.{SyncOp}
 use Rattle.task_ast.specs.declared.sync.SyncOp.TheVariants as sync
 use Rattle.task_ast.specs.Action.{Action}
 use Rattle.task_ast.specs.Body.{Body}
-use Rattle.task_ast.specs.Control.{Point, beginning, first_actions, tree_body}
+use Rattle.task_ast.specs.State.{number_at}
+use Rattle.task_ast.specs.Tree.{Name}
+use Rattle.task_ast.specs.Control.{Point, with_number, beginning, first_actions, tree_body}
 use Rattle.one_thread.specs.declared.data.Data.{Data}
 use Rattle.one_thread.specs.declared.walk.Walk.{Walk}
 use Rattle.one_thread.specs.declared.work.Shared.{Shared}
@@ -16,6 +18,14 @@ use Rattle.one_thread.specs.inner.Walking.{setting_of, point_of}
 abbrev pub is_start : SyncOp → Bool
 is_start sync.Start = true
 is_start _ = false
+
+-- its control variables, of which a settle has set one to the value of a register
+abbrev pub settled_names : SyncOp → Walk → List (Name × ℤ)
+settled_names (sync.Settle register control) walk = with_number walk.env.names control (number_at walk.data.registers register)
+settled_names _ walk = walk.env.names
+
+abbrev pub settled : SyncOp → Walk → Walk
+settled begins walk = record walk { env = record walk.env { names = settled_names begins walk } }
 
 -- a thread with what all threads share in its hands, before it does anything
 abbrev pub at_work : Walk → Shared → Walk

@@ -33,12 +33,14 @@ module _ {P Q : Type 0} (Stands : P → Q → Type 0) where
 -- `Rests op p q`: the points of the two kinds stand for each other, at rest before the synchronisation op
 module _ {P Q : Type 0} (Rests : SyncOp → P → Q → Type 0) where
   -- the two machines do the same: from points at rest a subthread has the same actions and comes to the same next synchronisation, at
-  -- rest before it; and tasks start at rest
+  -- rest before it; tasks start at rest; and before a settle a control variable may be set
   pub record Follows (m : Machine P) (n : Machine Q) : Type 0 where
     pub first : (op : SyncOp) (p : P) (q : Q) → Rests op p q → m.first op p ≡ n.first op q
     pub bodies : (op : SyncOp) (child : Option ℕ) (p : P) (q : Q) → Rests op p q
         → Agrees (Rests (m.bodies (m.begins op child p)).next.sync) (m.bodies (m.begins op child p)) (n.bodies (n.begins op child q))
     pub starts : (task thread : ℕ) (arguments : List ℤ) → Rests sync.Start (m.starts task thread arguments) (n.starts task thread arguments)
+    pub sets : (register control : ℕ) (v : ℤ) (p : P) (q : Q) → Rests (sync.Settle register control) p q
+        → Rests (sync.Settle register control) (m.sets control v p) (n.sets control v q)
 
   -- two runs are in step: one table, data that agree as wanted, and each thread at rest before its next synchronisation
   pub record InStep (Data : State → State → Type 0) (m : Machine P) (n : Machine Q) (x : PlainOf P) (y : PlainOf Q) : Type 0 where

@@ -9,7 +9,7 @@ use Rattle.task_ast.specs.Members.{member_in}
 use Rattle.task_ast.specs.Table.{last_in}
 use Rattle.task_ast.specs.Turn.{Ended, next_issue}
 use Rattle.task_ast.specs.Plain.{Subthread, tree_machine, opening, order, last_state, end}
-use Rattle.task_ast.specs.Position.{last_below, LeftBy, IsStep, IsForked, before, threads_before, IsSameControl}
+use Rattle.task_ast.specs.Position.{last_below, LeftBy, IsStep, IsForked, before, threads_before, SettlesAlike, IsSameControl}
 
 -- each subthread of the order leads from the run before its position to the run before the next one
 abbrev pub StepLaw : Type 0
@@ -61,6 +61,8 @@ LastLaw =
     → (before program inputs limits (length (order program inputs limits)) ≡ last_state program inputs limits)
     × (next_issue (last_state program inputs limits).table ≡ Ended (end program inputs limits))
 
--- no value of a record reaches the order: inputs with the same feeds give the same control
+-- no value of a record reaches the order but by a settle: inputs with the same feeds give the same control, where settles find the same
 abbrev pub ControlLaw : Type 0
-ControlLaw = (program : Program) (inputs other : Inputs) (limits : Limits) → inputs.feeds ≡ other.feeds → IsSameControl program inputs other limits
+ControlLaw =
+    (program : Program) (inputs other : Inputs) (limits : Limits) → inputs.feeds ≡ other.feeds → SettlesAlike program inputs other limits
+    → IsSameControl program inputs other limits

@@ -2,20 +2,20 @@
 use Rattle.std.specs.Prelude.{ℕ, zero, suc, List, [], ◌∷◌, Option, Some, None, option_map}
 use Rattle.task_ast.specs.declared.tree.Atom.{Atom}
 use Rattle.task_ast.specs.Tree.{Expr, Stmt, Block, block}
-use Rattle.task_parser.specs.declared.classes.TheConstants.{NUM, NAME, REG, LOCK, UNLOCK, BARRIER, WHILE, IF, ELSE, FORK, INTO, JOIN, READ, WRITE, PRINT, WHEN, OPEN_BRACKET, CLOSE_BRACKET, OPEN_PAREN, CLOSE_PAREN, OPEN_BRACE, CLOSE_BRACE, COMMA, SEMICOLON, ASSIGN}
+use Rattle.task_parser.specs.declared.classes.TheConstants.{NUM, NAME, REG, LOCK, UNLOCK, BARRIER, WHILE, IF, ELSE, FORK, INTO, JOIN, READ, WRITE, PRINT, WHEN, SETTLE, OPEN_BRACKET, CLOSE_BRACKET, OPEN_PAREN, CLOSE_PAREN, OPEN_BRACE, CLOSE_BRACE, COMMA, SEMICOLON, ASSIGN}
 use Rattle.task_parser.specs.declared.token.Token.{Token}
 use Rattle.task_parser.specs.Classes.{among}
 use Rattle.task_parser.specs.inner.Reading.{Reader, ◌▹◌, read_made, read_either, repeat, read_perhaps, read_opened, read_the, ◌◃◌, read_after, read_separated}
 use Rattle.task_parser.specs.Expressions.{Text, is}
 use Rattle.task_parser.specs.inner.ExpressionReaders.{starting, read_expression}
-use Rattle.task_parser.specs.Statements.{number_atom, name_atom, set_ctl_of, while_of, if_of, lock_of, unlock_of, fork_of, join_of, barrier_of, set_reg_of, read_of, write_of, print_of, when_of, or_empty, or_nothing, named_in, reg_in}
+use Rattle.task_parser.specs.Statements.{number_atom, name_atom, set_ctl_of, while_of, if_of, lock_of, unlock_of, fork_of, join_of, barrier_of, settle_of, set_reg_of, read_of, write_of, print_of, when_of, or_empty, or_nothing, named_in, reg_in}
 
 -- what a data statement begins with
 abbrev pub data_starts : List ℕ
 data_starts = REG ∷ READ ∷ WRITE ∷ PRINT ∷ WHEN ∷ []
 
 abbrev pub statement_starts : List ℕ
-statement_starts = NAME ∷ WHILE ∷ IF ∷ LOCK ∷ UNLOCK ∷ FORK ∷ JOIN ∷ BARRIER ∷ REG ∷ READ ∷ WRITE ∷ PRINT ∷ WHEN ∷ []
+statement_starts = NAME ∷ WHILE ∷ IF ∷ LOCK ∷ UNLOCK ∷ FORK ∷ JOIN ∷ BARRIER ∷ SETTLE ∷ REG ∷ READ ∷ WRITE ∷ PRINT ∷ WHEN ∷ []
 
 unfoldable pub read_atom : Text → Reader Atom
 read_atom text = read_either (is NUM) (read_made number_atom (read_the NUM)) (read_made (name_atom text) (read_the NAME))
@@ -65,6 +65,9 @@ read_joining text e = read_made join_of (read_the JOIN ▹ e ▹ read_into_reg t
 unfoldable pub read_waiting : Text → Reader Stmt
 read_waiting text = read_made (barrier_of text) (read_the BARRIER ▹ read_the NAME ◃ SEMICOLON)
 
+unfoldable pub read_settling : Text → Reader Stmt
+read_settling text = read_made (settle_of text) (read_the SETTLE ▹ read_the REG ◃ INTO ▹ read_the NAME ◃ SEMICOLON)
+
 unfoldable pub read_set_reg : Text → Reader Expr → Reader Stmt
 read_set_reg text e = read_made (set_reg_of text) (read_the REG ◃ ASSIGN ▹ e ◃ SEMICOLON)
 
@@ -97,11 +100,12 @@ read_control_form text e inner =
     (read_either (is UNLOCK) (read_unlocking text)
     (read_either (is FORK) (read_forking text e)
     (read_either (is JOIN) (read_joining text e)
-    (read_waiting text)))))))
+    (read_either (is BARRIER) (read_waiting text)
+    (read_settling text))))))))
 
 -- what a statement that is not a data statement begins with
 abbrev pub control_starts : List ℕ
-control_starts = NAME ∷ WHILE ∷ IF ∷ LOCK ∷ UNLOCK ∷ FORK ∷ JOIN ∷ BARRIER ∷ []
+control_starts = NAME ∷ WHILE ∷ IF ∷ LOCK ∷ UNLOCK ∷ FORK ∷ JOIN ∷ BARRIER ∷ SETTLE ∷ []
 
 -- with room for so many constructs that nest
 unfoldable pub read_data_statement : Text → ℕ → Reader Stmt

@@ -1,4 +1,4 @@
-use Rattle.dependence.proofs.RunBuffers.{event-stands, out-finds, after-events, retired-lines, final-state}
+use Rattle.dependence.proofs.RunBuffers.{event-stands, out-finds, after-events, retired-lines, drained-state, final-state}
 use Rattle.dependence.proofs.fold_laws.run_buffer_laws.Goals as goal
 
 pub returns : goal.returns
@@ -8,5 +8,6 @@ returns c = record {
   out = λ under run faults start at e buffer p attempt once held cells stands holds.
       out-finds run faults under once held start cells at buffer stands holds e p attempt;
   lines = λ program inputs limits faults at buffer p s short. retired-lines program inputs limits faults short at buffer p s;
+  drained = drained-state;
   state = λ program inputs limits under faults events once held short. final-state program inputs limits faults short under events once held;
 }

@@ -3,7 +3,7 @@ use Rattle.dependence.proofs.laws.count_laws.Goals as goal
 
 pub returns : goal.returns
 returns c = record {
-  complete = λ dependence faults events held. complete-has_all dependence faults held events;
+  complete = λ dependence faults events clean. complete-has_all dependence faults clean events;
   retirements = retire-in-order;
   once = once;
   runs_again = runs-again;

@@ -7,7 +7,7 @@ returns c = record {
   front = λ dependence faults. LawfulFrom-front dependence faults initial_stage;
   grow = λ dependence faults. LawfulFrom-push dependence faults initial_stage;
   stage = λ dependence faults. stage_from-push dependence faults initial_stage;
-  first = λ dependence faults events held. restarts-first dependence faults held events;
-  next = λ dependence faults events held. restarts-next dependence faults held events;
-  all = λ dependence faults events held. restarts-all dependence faults held events;
+  first = λ dependence faults events clean. restarts-first dependence faults clean events;
+  next = λ dependence faults events clean. restarts-next dependence faults clean events;
+  all = λ dependence faults events clean. restarts-all dependence faults clean events;
 }

@@ -3,7 +3,7 @@ use Rattle.engine.specs.View.{now}
 use Rattle.engine.specs.inner.Rounds.{left, GoesOn}
 use Rattle.engine.proofs.Events.{onward-most}
 use Rattle.engine.proofs.Progress.{none-due}
-use Rattle.engine.proofs.Turns.{goes-then, goes-still, goes-same, issued, issued-leaves, issued-needs, issued-ends, retired-same}
+use Rattle.engine.proofs.Turns.{goes-then, goes-still, goes-same, issued, issued-leaves, issued-needs, issued-waits, issued-ends, retired-same}
 use Rattle.engine.proofs.rounds.issue_all.Goals as goal
 use Rattle.engine.proofs.rounds.issue_all.Goals.{After-detect_all, In_ok-issue}
 
@@ -65,6 +65,15 @@ returns-in-Needs g c =
       goes_on = moved.0;
       retired = moved.1;
       issued = issued-needs (g.E.Calls.view c.detect_all.new.engine) (g.E.Calls.view c.issue.new.self) c.in-Needs.field-0 (rw c.in-Needs.is at c.in_ok-issue.ensures.gives);
+    }
+
+pub returns-in-Settles : goal.returns-in-Settles
+returns-in-Settles g c =
+    let moved = then_issued g (goal.at.returns-in-Settles g c).In_ok-issue in
+    record {
+      goes_on = moved.0;
+      retired = moved.1;
+      issued = issued-waits (g.E.Calls.view c.detect_all.new.engine) (g.E.Calls.view c.issue.new.self) c.in-Settles.field-0 (rw c.in-Settles.is at c.in_ok-issue.ensures.gives);
     }
 
 pub returns-in-Ended : goal.returns-in-Ended

@@ -75,11 +75,12 @@ pub retiring-preserved : goal.retiring-preserved
 retiring-preserved g c =
     let view = g.E.Calls.view in
     let before = (goal.at.retiring-preserved g c).After-detect_all in
+    let gives = rw c.if-not-branch.false at c.in_ok-retire.ensures.gives in
     record {
       goes_on = goes-then (view c.args.engine.now) (view c.detect_all.new.engine) (view c.retire.new.self) (so_far g before)
           (retired (view c.detect_all.new.engine) (view c.retire.new.self) c.in_ok-retire.field-0 c.detect_all.ensures.goes_on.onward.stands c.in_ok-retire.ensures.gives);
       written = λ start wrote.
           wrote-more start (view c.detect_all.new.engine) (view c.retire.new.self) (g.O.Sink.written c.retiring.out) (g.O.Sink.written c.retire.new.out)
-          (rw c.if-not-branch.false at c.in_ok-retire.ensures.gives) (rw c.if-not-branch.false at c.in_ok-retire.ensures.lines) (kept g before start wrote);
+          gives.0 (rw c.if-not-branch.false at c.in_ok-retire.ensures.lines) (kept g before start wrote);
       later = let first = c.retiring.invariant.later in let second = c.retire.ensures.cause.later in omega arith;
     }

@@ -1,6 +1,7 @@
 use Rattle.std.proofs.Common.{◌≡◌, ◌∙◌, refl, sym}
 use Rattle.engine.specs.Gives.{struck_now}
 use Rattle.engine.specs.inner.Kept.{batch_in, view_of}
+use Rattle.engine.proofs.Options.{some_none}
 use Rattle.engine.proofs.Struck.{struck-same}
 use Rattle.engine.proofs.parts.detecting.detect.Goals as goal
 use Rattle.engine.proofs.parts.detecting.detect.Goals.{After-struck}
@@ -17,3 +18,9 @@ returns-in_default-clause-gives c = (refl, told (goal.at.returns-in_default-clau
 pub redo_from-requires-clause-is_struck : goal.redo_from-requires-clause-is_struck
 redo_from-requires-clause-is_struck c =
     rw c.make_room.ensures.events (told (goal.at.redo_from-requires-clause-is_struck c).After-struck ∙ c.in-Some.is)
+
+pub returns-clause-gives : goal.returns-clause-gives
+returns-clause-gives c = (
+  rw c.make_room.ensures.events at c.redo_from.ensures.did,
+  λ none. some_none (sym (told (goal.at.returns-clause-gives c).After-struck ∙ c.in-Some.is) ∙ none),
+)

@@ -3,7 +3,7 @@ use Rattle.std.specs.Io.KnownBytes.{Appends}
 use Rattle.gp_base.specs.Sinks.{AppendsPrefix}
 use Rattle.restart_log.specs.Lines.{printed}
 use Rattle.engine.specs.inner.Kept.{batch_in, view_of}
-use Rattle.engine.proofs.Retired.{none-written, err-writes, not-now, allowed, lines-are, made, kept-retired}
+use Rattle.engine.proofs.Retired.{none-written, err-writes, may-now, not-now, allowed, lines-are, made, kept-retired}
 use Rattle.engine.proofs.parts.retiring.retire.Goals as goal
 
 pub returns-then-not-oldest_retires-clause-gives : goal.returns-then-not-oldest_retires-clause-gives
@@ -36,11 +36,13 @@ pub returns-clause-gives : goal.returns-clause-gives
 returns-clause-gives g c =
     let is = rw (c.is_some-known.ensures, c.as_slice-faults.ensures) at (sym c.if-not-oldest_retires.ensures) in
     let events = made (batch_in c.args.plan.now) c.args.parts.now c.requires.kept is c.retire_front-entry.result c.retire_front-entry.new.self.entries c.retire_front-entry.ensures.entries
-    c.reserve.new.self.items c.push.new.self.items c.reserve.ensures.items c.push.ensures.items in
-    record {
-      allowed = allowed (batch_in c.args.plan.now) c.args.parts.now c.requires.kept is;
-      grown = λ i. record { batch = batch_in c.args.plan.now; events = events i; ended = c.args.parts.now.ended };
-    }
+    c.reserve.new.self.items c.push.new.self.items c.reserve.ensures.items c.push.ensures.items in (
+      record {
+        allowed = allowed (batch_in c.args.plan.now) c.args.parts.now c.requires.kept is;
+        grown = λ i. record { batch = batch_in c.args.plan.now; events = events i; ended = c.args.parts.now.ended };
+      },
+      may-now (batch_in c.args.plan.now) c.args.parts.now c.requires.kept is,
+    )
 
 pub returns-clause-lines : goal.returns-clause-lines
 returns-clause-lines g c =

@@ -30,6 +30,13 @@ returns-in-End-clause-turn c =
     (turn-tries c.args.self.now c.in-Some.t c.in-Some-get.seat.now c.in-Some-next.next sync.End c.in-Some.ensures at c.in-Some-next.is c.if-seat.false c.in-End.is)
     (there c.args.self.now c.in-Some.t c.in-Some-get.seat.now c.in-Some-next.next at c.in-Some-next.is) c.issue-in-End.ensures.turn
 
+pub returns-in-Settle-clause-turn : goal.returns-in-Settle-clause-turn
+returns-in-Settle-clause-turn c =
+    let at = at-get _ c.args.self.now.seats.items c.in-Some.t c.in-Some-get.seat.now c.deref.ensures.value c.in-Some-get.ensures.lookup.0 c.in-Some-get.ensures.lookup.1 in
+    by-rule c.issue-in-Settle.result c.args.self.now c.issue-in-Settle.new.self c.in-Some.t c.in-Some-next.next (λ n. issuing (table_of c.args.self.now) c.in-Some.t n)
+    (turn-tries c.args.self.now c.in-Some.t c.in-Some-get.seat.now c.in-Some-next.next (sync.Settle c.in-Settle.reg c.in-Settle.ctl) c.in-Some.ensures at c.in-Some-next.is c.if-seat.false c.in-Settle.is)
+    (there c.args.self.now c.in-Some.t c.in-Some-get.seat.now c.in-Some-next.next at c.in-Some-next.is) c.issue-in-Settle.ensures.turn
+
 pub returns-in-Barrier-clause-turn : goal.returns-in-Barrier-clause-turn
 returns-in-Barrier-clause-turn c =
     let at = at-get _ c.args.self.now.seats.items c.in-Some.t c.in-Some-get.seat.now c.deref.ensures.value c.in-Some-get.ensures.lookup.0 c.in-Some-get.ensures.lookup.1 in

@@ -2,7 +2,7 @@ use Rattle.std.proofs.Common.{◌∙◌, ap, sym, refl, rules, w64, SFits}
 use Rattle.std.proofs.lemmas.Int.{to_z-of_z}
 use Rattle.task_ast.specs.Tree as plain
 use Rattle.task_ast.specs.View.{plain_expr, plain_exprs, plain_what, plain_block}
-use Rattle.task_ast.proofs.Views.{what_SetCtl, what_While, what_If, what_Lock, what_Unlock, what_Fork, what_Join, what_Barrier, what_SetReg, what_Read, what_Write, what_Print, what_When}
+use Rattle.task_ast.proofs.Views.{what_SetCtl, what_While, what_If, what_Lock, what_Unlock, what_Fork, what_Join, what_Barrier, what_Settle, what_SetReg, what_Read, what_Write, what_Print, what_When}
 use Rattle.one_thread.proofs.Walks.{with_left}
 use Rattle.one_thread.proofs.Beginning.{plainly_begun, fork_begun, begun_first}
 use Rattle.one_thread.proofs.walk.Walk.begin.Goals as goal
@@ -36,6 +36,11 @@ pub returns-in-Barrier : goal.returns-in-Barrier
 returns-in-Barrier c =
     begun_first c.args.self.now c.first.new.self _ c.in-Some.s.now (plain.Barrier c.in-Barrier.field-0) c.args.child c.args.joined c.in-Some.ensures.same c.in-Some.ensures.one (ap plain_what c.in-Barrier.is ∙ what_Barrier c.in-Barrier.field-0)
     (plainly_begun (with_left c.args.self.now c.first.new.self) c.pass-in-Barrier.new.self c.in-Some.s.now.line (plain.Barrier c.in-Barrier.field-0) c.args.child c.args.joined c.requires.clean refl c.pass-in-Barrier.ensures)
+
+pub returns-in-Settle : goal.returns-in-Settle
+returns-in-Settle c =
+    begun_first c.args.self.now c.first.new.self _ c.in-Some.s.now (plain.Settle c.in-Settle.field-0 c.in-Settle.field-1) c.args.child c.args.joined c.in-Some.ensures.same c.in-Some.ensures.one (ap plain_what c.in-Settle.is ∙ what_Settle c.in-Settle.field-0 c.in-Settle.field-1)
+    (plainly_begun (with_left c.args.self.now c.first.new.self) c.pass-in-Settle.new.self c.in-Some.s.now.line (plain.Settle c.in-Settle.field-0 c.in-Settle.field-1) c.args.child c.args.joined c.requires.clean refl c.pass-in-Settle.ensures)
 
 pub returns-in-SetReg : goal.returns-in-SetReg
 returns-in-SetReg c =

@@ -7,7 +7,7 @@ use Rattle.task_ast.specs.Value.{value}
 use Rattle.task_ast.specs.Control.{step, lock_number}
 use Rattle.task_ast.specs.Shaped.{is_data}
 use Rattle.task_ast.specs.View.{plain_expr, plain_exprs, plain_what, plain_block}
-use Rattle.task_ast.proofs.Views.{stmt_At, what_SetCtl, what_While, what_If, what_Lock, what_Unlock, what_Fork, what_Join, what_Barrier, what_SetReg, what_Read, what_Write, what_Print, what_When}
+use Rattle.task_ast.proofs.Views.{stmt_At, what_SetCtl, what_While, what_If, what_Lock, what_Unlock, what_Fork, what_Join, what_Barrier, what_Settle, what_SetReg, what_Read, what_Write, what_Print, what_When}
 use Rattle.one_thread.specs.inner.Remaining.{rest_of}
 use Rattle.one_thread.specs.inner.Walking.{setting_of, point_of, Stepped}
 use Rattle.one_thread.proofs.Steps.{env_is}
@@ -101,6 +101,11 @@ pub returns-in-Barrier : goal.returns-in-Barrier
 returns-in-Barrier c =
     at_first_ok c.args.self.now c.first.new.self (with_left c.args.self.now c.first.new.self) c.in-Some.ensures.same c.in-Some.s.now (plain.Barrier c.in-Barrier.b) c.barrier.result c.in-Some.ensures.one (ap plain_what c.in-Barrier.is ∙ what_Barrier c.in-Barrier.b)
     c.barrier.ensures
+
+pub returns-in-Settle : goal.returns-in-Settle
+returns-in-Settle c =
+    at_first_ok c.args.self.now c.first.new.self (with_left c.args.self.now c.first.new.self) c.in-Some.ensures.same c.in-Some.s.now (plain.Settle c.in-Settle.x c.in-Settle.c) c.settle.result c.in-Some.ensures.one (ap plain_what c.in-Settle.is ∙ what_Settle c.in-Settle.x c.in-Settle.c)
+    c.settle.ensures
 
 pub returns-in-SetReg : goal.returns-in-SetReg
 returns-in-SetReg c =

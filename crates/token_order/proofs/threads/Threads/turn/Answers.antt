@@ -59,6 +59,13 @@ returns-in-Barrier c =
     (turn-tries c.args.self.now c.in-Some.t c.index-seat.result.now c.in-Some-next.next (sync.Barrier c.in-Barrier.barrier) c.in-Some.ensures.found at c.in-Some-next.is c.if-seat.false c.in-Barrier.is)
     (c.meet.ensures c.in-Some-next.next (there c.args.self.now c.in-Some.t c.index-seat.result.now c.in-Some-next.next at c.in-Some-next.is) c.in-Barrier.is)
 
+pub returns-in-Settle : goal.returns-in-Settle
+returns-in-Settle c =
+    let at = get-at c.args.self.now.seats.items c.in-Some.t c.index-seat.result.now c.in-Some.ensures.below c.index-seat.ensures in
+    by (table c.args.self.now) (table c.issue-in-Settle.new.self) c.issue-in-Settle.result
+    (turn-tries c.args.self.now c.in-Some.t c.index-seat.result.now c.in-Some-next.next (sync.Settle c.in-Settle.reg c.in-Settle.ctl) c.in-Some.ensures.found at c.in-Some-next.is c.if-seat.false c.in-Settle.is)
+    (c.issue-in-Settle.ensures c.in-Some-next.next (there c.args.self.now c.in-Some.t c.index-seat.result.now c.in-Some-next.next at c.in-Some-next.is))
+
 pub returns-in-End : goal.returns-in-End
 returns-in-End c =
     let at = get-at c.args.self.now.seats.items c.in-Some.t c.index-seat.result.now c.in-Some.ensures.below c.index-seat.ensures in

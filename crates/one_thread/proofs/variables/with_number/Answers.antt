@@ -1,0 +1,11 @@
+use Rattle.std.proofs.Common.{◌≡◌, ◌∙◌, ap, sym, refl, arith, rules, set}
+use Rattle.task_ast.specs.Control.{with_number}
+use Rattle.one_thread.proofs.Settling.{number_set, number_past}
+use Rattle.one_thread.proofs.variables.with_number.Goals as goal
+use Rattle.one_thread.proofs.variables.with_number.Goals.{then-at-len, else-at-len}
+
+pub returns : goal.returns
+returns c = elim c.if-at-len.branch [
+  | then-at-len w ↦ search (rules, number_set)
+  | else-at-len w ↦ search (rules, number_past)
+]

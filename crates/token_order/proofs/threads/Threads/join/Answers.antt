@@ -1,0 +1,47 @@
+use Rattle.std.proofs.Common.{◌≡◌, sym, ap, ◌∙◌, refl, cond, length, Some, rules, w64, SFits, subst}
+use Rattle.std.specs.Prelude.{ℤ}
+use Rattle.std.proofs.lemmas.Int.{to_z-of_z}
+use Rattle.std.proofs.lemmas.List.{length-map}
+use Rattle.task_ast.specs.Turn.{issuing, passing, joining}
+use Rattle.token_order.specs.View.{table, seat_of}
+use Rattle.token_order.specs.Turned.{joined_in}
+use Rattle.token_order.proofs.Looking.{get-at, seat-next}
+use Rattle.token_order.proofs.Joins.{join_there}
+use Rattle.token_order.proofs.Turning.{by}
+use Rattle.token_order.proofs.threads.Threads.join.Goals as goal
+use Rattle.token_order.proofs.threads.Threads.join.Goals.{In-Some}
+
+-- the thread that is joined
+found : (c : In-Some) → Some c.in-Some.other ≡ joined_in c.args.h c.len.result
+found c = let fits : SFits w64 c.args.h = search rules in simp to_z-of_z at c.in-Some.ensures
+
+many : (c : In-Some) → c.len.result ≡ length (table c.args.self.now).seats
+many c = let all : c.len.result ≡ length c.args.self.now.seats.items = search rules in all ∙ sym (length-map c.args.self.now.seats.items seat_of)
+
+pub returns-in-None : goal.returns-in-None
+returns-in-None c next known line =
+    let some = (goal.at.returns-in-None c).In-Some in
+    let at = get-at c.args.self.now.seats.items c.in-Some.other c.index.result.now (search rules) c.index.ensures in (
+      join_there (table c.args.self.now) c.args.h c.len.result c.in-Some.other c.args.t next (found some) (many some)
+          ∙ ap (λ o. joining c.in-Some.other o (table c.args.self.now) c.args.t next) (seat-next c.args.self.now c.in-Some.other c.index.result.now at ∙ c.in-None.is),
+      refl,
+    )
+
+pub returns-then-is_end : goal.returns-then-is_end
+returns-then-is_end c next known line =
+    let some = (goal.at.returns-then-is_end c).In-Some in
+    let at = get-at c.args.self.now.seats.items c.in-Some.other c.index.result.now (search rules) c.index.ensures in
+    by (table c.args.self.now) (table c.issue.new.self) c.issue.result
+    (join_there (table c.args.self.now) c.args.h c.len.result c.in-Some.other c.args.t next (found some) (many some)
+    ∙ ap (λ o. joining c.in-Some.other o (table c.args.self.now) c.args.t next) (seat-next c.args.self.now c.in-Some.other c.index.result.now at ∙ c.in-Some-next.is)
+    ∙ ap (λ b. cond b (issuing (table c.args.self.now) c.args.t next) (passing (table c.args.self.now) c.args.t)) (sym c.is_end.ensures ∙ c.if-is_end.true))
+    (c.issue.ensures next known)
+
+pub returns-else-is_end : goal.returns-else-is_end
+returns-else-is_end c next known line =
+    let some = (goal.at.returns-else-is_end c).In-Some in
+    let at = get-at c.args.self.now.seats.items c.in-Some.other c.index.result.now (search rules) c.index.ensures in
+    join_there (table c.args.self.now) c.args.h c.len.result c.in-Some.other c.args.t next (found some) (many some)
+    ∙ ap (λ o. joining c.in-Some.other o (table c.args.self.now) c.args.t next) (seat-next c.args.self.now c.in-Some.other c.index.result.now at ∙ c.in-Some-next.is)
+    ∙ ap (λ b. cond b (issuing (table c.args.self.now) c.args.t next) (passing (table c.args.self.now) c.args.t)) (sym c.is_end.ensures ∙ c.if-is_end.false)
+    ∙ c.pass.ensures
