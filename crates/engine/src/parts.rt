@@ -11,10 +11,10 @@ mod retiring;
 mod striking;
 mod taking;
 
+use crate::Halt;
 pub use beginning::begin;
 pub use closing::{finished, into_journal, into_report, runnable};
 pub use detecting::detect;
-use crate::Halt;
 use gp_base::{At, Event, Faults, Inputs, Limits, Nums, Restart, Room};
 pub use issuing::issue;
 pub use posting::post;

@@ -88,9 +88,12 @@ impl Shelf for MemShelf {
         ensures size { IsWithin at_most result }
         ensures told { AnswersRead (bytes_of self.old.files name.now) at_most self.old.failed.items self.new.failed.items result }
 
-        // A call that is listed fails, and no other at a name that the shelf has. Running out of memory may stand for a failure.
+        // A call that is listed fails, and no other at a name that the shelf has; nor does another count as a failure. Running out
+        // of memory may stand for a failure.
         ensures listed { IsNextListed self.old.calls.failing self.old.calls.made → IsFailure result }
         ensures unlisted { IsErrOf result ShelfFault.Failed →
+            IsNextListed self.old.calls.failing self.old.calls.made ⊎ (bytes_of self.old.files name.now ≡ None) }
+        ensures spared { (self.new.failed.items ≡ self.old.failed.items) ⊎
             IsNextListed self.old.calls.failing self.old.calls.made ⊎ (bytes_of self.old.files name.now ≡ None) }
         ensures counted { self.new.calls.made ≡ min (self.old.calls.made + 1) (2 ^ 64 - 1) }
         ensures same { self.new.calls.failing ≡ self.old.calls.failing }
@@ -141,8 +144,9 @@ impl Shelf for NeverShelf {
         ensures size { IsWithin at_most result }
         ensures told { AnswersRead (bytes_of self.old.files name.now) at_most self.old.failed.items self.new.failed.items result }
 
-        // A name that it has is no cause of a failure.
+        // A name that it has is no cause of a failure, and doesn't count as one.
         ensures absent { IsErrOf result ShelfFault.Failed → bytes_of self.old.files name.now ≡ None }
+        ensures spared { (self.new.failed.items ≡ self.old.failed.items) ⊎ (bytes_of self.old.files name.now ≡ None) }
     {
         match find(self.files.as_slice(), name) {
             Some(text) => copy_of(self.alloc, text, at_most),

@@ -289,9 +289,9 @@ issue_at machine program inputs limits p t begins child table is = elim (cases_l
   | inr l ↦
       (let ended = end_law machine program inputs limits in
       let there : before_by machine program inputs limits p ≡ last_by machine program inputs limits =
-          ap (before_by machine program inputs limits) (let e : p ≡ (p - suc limits.subthreads) + suc limits.subthreads = omega arith in e)
-          ∙ stays_after (move_by machine) (suc limits.subthreads) (p - suc limits.subthreads) (opening_by machine program inputs limits) ended.0
-          (ap (on_turn_by machine (last_by machine program inputs limits)) ended.1) in
+      ap (before_by machine program inputs limits) (let e : p ≡ (p - suc limits.subthreads) + suc limits.subthreads = omega arith in e)
+      ∙ stays_after (move_by machine) (suc limits.subthreads) (p - suc limits.subthreads) (opening_by machine program inputs limits) ended.0
+      (ap (on_turn_by machine (last_by machine program inputs limits)) ended.1) in
       absurd (issue_ended (sym is ∙ ap (λ x. next_issue x.table) there ∙ ended.1)))
 ]
   where

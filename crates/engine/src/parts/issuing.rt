@@ -14,8 +14,8 @@ ghost use Rattle.engine.specs.inner.RingStands.{StartIs};
 ghost use Rattle.engine.specs.inner.Kept.{batch_in, view_of, IsPlaceIn, Kept};
 ghost use Rattle.engine.specs.inner.Prepared.{settled_in, names_thread, forks, new_entry, PreparedFor, IsPrepared, IsReadyFor, IsPushed, IsSlotted, SameParts, HasRoom, TurnGives};
 
-use crate::{Halt, Issued};
 use crate::parts::{Parts, Place, Plan};
+use crate::{Halt, Issued};
 use gp_base::{At, End, Event, Footprint, LockNo, Pos, Seq, ThreadNo};
 use record_store::Store;
 use reorder_list::{Entry, State};
