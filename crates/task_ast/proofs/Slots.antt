@@ -5,7 +5,6 @@ use Rattle.std.proofs.lemmas.Bool.{true≢false}
 use Rattle.std.proofs.lemmas.List.{set_past}
 use Rattle.task_ast.specs.Tree.{Name}
 use Rattle.task_ast.specs.Names.{is_name, is_among, slot, firsts, seconds}
-use Rattle.task_ast.specs.Table.{with_nth}
 use Rattle.task_ast.specs.Control.{with_value, with_number}
 use Rattle.task_ast.proofs.Terms.{position-cons}
 
