@@ -18,7 +18,7 @@ use Rattle.task_ast.specs.Names.{is_name, slot, firsts, head_name, locks_of, cel
 use Rattle.task_ast.specs.Value.{value_at, value}
 use Rattle.task_ast.specs.Action.{Action}
 use Rattle.task_ast.specs.Body.{Step, Silent, Iteration, Act, Stop}
-use Rattle.task_ast.specs.Control.{Setting, Point, step_at, step_from, known, branch, action, env_at, lock_number, fork_of, index_of, with_value, with_number, register_number, going, behind, beginning}
+use Rattle.task_ast.specs.Control.{Setting, Point, step_at, step_from, known, branch, action, env_at, lock_number, fork_of, index_of, with_value, with_number, going, behind, beginning}
 use Rattle.task_ast.specs.Visit.{Visit, visit, fails_if, first_fault}
 use Rattle.task_ast.specs.Declarations.{Scope, is_lock, is_register, is_atom, has_unknown, has_data_index, head_visits, task_visits, main_visit}
 use Rattle.task_ast.specs.Held.{Pair, same_pair, has, without, same_pairs, is_index, held_by, held_at_end}
