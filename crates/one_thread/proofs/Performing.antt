@@ -13,7 +13,7 @@ use Rattle.task_ast.specs.declared.sync.SyncOp.{SyncOp}
 use Rattle.task_ast.specs.declared.sync.SyncOp.TheVariants as sync
 use Rattle.task_ast.specs.declared.sync.Next.{Next}
 use Rattle.task_ast.specs.declared.effect.Effect.{Effect}
-use Rattle.task_ast.specs.Names.{records_of, cells_in, feeds_of}
+use Rattle.task_ast.specs.Names.{records_of, cells_in}
 use Rattle.task_ast.specs.Action.{Action}
 use Rattle.task_ast.specs.Body.{Body}
 use Rattle.task_ast.specs.Control.{Point, with_number, beginning, first_actions, tree_body}
@@ -22,7 +22,7 @@ use Rattle.task_ast.specs.Effect.{Doing, all_done, joined_ret, effect, after, le
 use Rattle.task_ast.specs.laws.Keeps.{AllName}
 use Rattle.task_ast.specs.Table.{learning}
 use Rattle.task_ast.specs.Turn.{child_of}
-use Rattle.task_ast.specs.Plain.{Subthread, Plain, Machine, tree_machine, performed_by, points_with, point_by, settled_by, from_by, task_at, start_point}
+use Rattle.task_ast.specs.Plain.{Plain, Machine, tree_machine, points_with, point_by, settled_by, from_by, task_at, start_point}
 use Rattle.task_ast.specs.Plain as plain
 use Rattle.task_ast.specs.View.{plain_program}
 use Rattle.one_thread.specs.declared.data.Data.{Data}

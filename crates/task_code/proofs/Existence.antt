@@ -25,7 +25,7 @@ use Rattle.lock_checker.proofs.VisitLemmas.{or_later, first_fault-append}
 use Rattle.task_code.proofs.VariableLines.{datas-append}
 use Rattle.task_code.specs.Instructions.{Calc, Fork, Instr, At}
 use Rattle.task_code.specs.Lowering as lowering
-use Rattle.task_code.specs.Lowering.{register_calc, rows_calc, cell_calc, barrier_code, if_code, while_code, calc, operands_of, calcs, index, deed, arm, deed_in, control_calcs, gifts, forking, what_code, block_code, stmt_code, scope_of, task_code}
+use Rattle.task_code.specs.Lowering.{register_calc, rows_calc, cell_calc, barrier_code, calc, operands_of, calcs, index, deed, arm, deed_in, control_calcs, gifts, forking, what_code, block_code, stmt_code, scope_of, task_code}
 use Rattle.task_code.specs.Existing.{shape_of, IntoExists, CalcExists, OperandsExist, CalcsExist, GiftsExist, IndexExists, DeedExists, DeedsExist, DoesExists, VariablesExist}
 
 -- ---- what no fault says

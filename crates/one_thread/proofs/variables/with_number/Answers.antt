@@ -1,5 +1,4 @@
-use Rattle.std.proofs.Common.{◌≡◌, ◌∙◌, ap, sym, refl, arith, rules, set}
-use Rattle.task_ast.specs.Control.{with_number}
+use Rattle.std.proofs.Common.{rules}
 use Rattle.one_thread.proofs.Settling.{number_set, number_past}
 use Rattle.one_thread.proofs.variables.with_number.Goals as goal
 use Rattle.one_thread.proofs.variables.with_number.Goals.{then-at-len, else-at-len}
