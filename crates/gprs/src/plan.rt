@@ -9,7 +9,7 @@ ghost use Rattle.gprs.specs.Answers.{change_of};
 ghost use Rattle.gprs.specs.inner.Ran.{batch_from, RunsBatch};
 
 use command_line::CrewKind;
-use crew::{BatchCrew, InlineCrew, Loads, run_wave};
+use crew::{BatchCrew, InlineCrew, MeanSteps, run_wave};
 use engine::{EngineStop, Report, drive};
 use gp_base::{Faults, Feed, Gate, Inputs, Limits, Seq, Sink};
 use lock_checker::Checked;
@@ -134,11 +134,11 @@ fn waves_over<R: Threads + Sync, O: Sink, G: Gate>(
     requires { Suits work.now begins.layout begins.inputs begins.limits }
     ensures { RunsBatch (batch_from work.now begins) (change_of O.written O.faults out.old out.new) result }
 {
-    let loads = Loads::new(alloc, work);
+    let mean_steps = MeanSteps::new(alloc, work);
     let run_all = |tasks: Seq<Task>| -> Result<Seq<Done>, AllocError>
         requires { All (Fits work.now) tasks }
         ensures { IfOk result (AreRuns work.entry.now tasks) }
-    { run_wave(rt, alloc, work, gate, &loads, workers, tasks) };
+    { run_wave(rt, alloc, work, gate, &mean_steps, workers, tasks) };
     let mut crew = BatchCrew::new(alloc, work, run_all);
     let Begins {
         layout,

@@ -4,7 +4,7 @@ ghost use Rattle.subthread.specs.Tasks.{Fits};
 ghost use Rattle.crew.specs.Out.{AreRuns};
 
 use crate::programs::{ADD, accepted};
-use crew::{BatchCrew, Crew, InlineCrew, Loads, ScriptCrew, run_wave};
+use crew::{BatchCrew, Crew, InlineCrew, MeanSteps, ScriptCrew, run_wave};
 use gp_base::{At, FreeGate, Gate, Pos, Seq, ThreadNo};
 use record_store::Given;
 use std::alloc::{AllocError, Global};
@@ -87,11 +87,11 @@ fn attempts_in_waves<G: Gate, R: Threads + Sync>(
     work: &Work,
     gate: &G,
 ) -> Result<(Option<u32>, Option<u32>, Option<u32>), AllocError> {
-    let loads = Loads::new(alloc, work);
+    let mean_steps = MeanSteps::new(alloc, work);
     let run_all = |tasks: Seq<Task>| -> Result<Seq<Done>, AllocError>
         requires { All (Fits work.now) tasks }
         ensures { IfOk result (AreRuns work.entry.now tasks) }
-    { run_wave(rt, alloc, work, gate, &loads, 2, tasks) };
+    { run_wave(rt, alloc, work, gate, &mean_steps, 2, tasks) };
     let mut crew = BatchCrew::new(alloc, work, run_all);
     attempts_back(rt, alloc, &mut crew)
 }
@@ -160,23 +160,32 @@ fn two_tasks_of_a_wave_meet(rt: HostRuntime) -> Result<(), Fail> {
     Ok(())
 }
 
-// Two tasks that go on from where none has are worth two threads; where the last runs were light they are worth one.
+// Three tasks that go on from where none has are worth as many workers as they are, and as may be had; where the last runs
+// were light they are worth one. A heavy run weighs an eighth: 125,000 steps a task, 250,000 beside those of the longest,
+// which are worth eight workers beside the first.
 #[test]
-fn light_tasks_are_worth_one_thread(rt: HostRuntime) -> Result<(), Fail> {
+fn light_tasks_are_worth_one_worker(rt: HostRuntime) -> Result<(), Fail> {
     let alloc = rt.alloc();
     let work = adding(alloc)?;
-    let loads = Loads::new(alloc, &work);
-    let tasks = vec![in alloc; start(alloc, 0)?, start(alloc, 1)?]?;
-    let at = At { task: 1, pc: 0 };
-    assert!(rt; loads.threads(&tasks) > 1);
-    loads.note(at, 5);
-    assert!(rt; loads.threads(&tasks) == 1);
-    loads.note(at, 1_000_000);
-    loads.note(at, 5);
-    assert!(rt; loads.threads(&tasks) > 1);
+    let mean_steps = MeanSteps::new(alloc, &work);
+    let tasks = vec![in alloc; start(alloc, 0)?, start(alloc, 1)?, start(alloc, 2)?]?;
+    let new = (
+        mean_steps.workers(&tasks, 64),
+        mean_steps.workers(&tasks, 2),
+    );
+    let task = start(alloc, 3)?;
+    mean_steps.note(&task, 5);
+    let light = mean_steps.workers(&tasks, 64);
+    mean_steps.note(&task, 1_000_000);
+    let heavy = mean_steps.workers(&tasks, 64);
     for _ in 0..20 {
-        loads.note(at, 5);
+        mean_steps.note(&task, 5);
     }
-    assert!(rt; loads.threads(&tasks) == 1);
+    let again = mean_steps.workers(&tasks, 64);
+    let none = mean_steps.workers(&[], 64);
+    drop(tasks);
+    drop(task);
+    assert!(rt; new == (3, 2));
+    assert!(rt; light == 1 && heavy == 3 && again == 1 && none == 1);
     Ok(())
 }

@@ -17,14 +17,13 @@ use std::alloc::{AllocError, AllocFailed, Global};
 use std::collections::BTreeMap;
 use task_ast::{Effect, Next};
 
-// What a run leaves beside its task, and how many control steps it made.
+// What a run leaves beside its task.
 #[derive(Drop)]
 struct Left {
     effect: Effect,
     next: Next,
     at: At,
     ctl: Nums,
-    steps: u64,
 }
 
 // What the run of a task reads.
@@ -93,8 +92,8 @@ fn walk(
     run_body(alloc, &ground, work.turns, stand, doing)
 }
 
-// Runs a task on copies of what it was given.
-fn run_copy(alloc: Global, work: &Work, task: &Task) -> Result<Left, AllocError>
+// Runs a task on copies of what it was given, and leaves the number of its control steps in `steps`.
+fn run_copy(alloc: Global, work: &Work, task: &Task, steps: &mut u64) -> Result<Left, AllocError>
     requires { Fits work.now task.now }
     ensures { IfOk result (λ left. Leaves work.now task.now left) }
 {
@@ -110,7 +109,7 @@ fn run_copy(alloc: Global, work: &Work, task: &Task) -> Result<Left, AllocError>
         steps: 0,
     };
     let next = walk(alloc, work, task, &mut stand, &mut doing)?;
-    let steps = doing.steps;
+    *steps = doing.steps;
     let effect = effect_of(alloc, task.thread, task.child, doing)?;
     let effect = damage(alloc, task.mask, effect)?;
     Ok(Left {
@@ -121,31 +120,7 @@ fn run_copy(alloc: Global, work: &Work, task: &Task) -> Result<Left, AllocError>
             pc: narrow(stand.pc)?,
         },
         ctl: stand.ctl,
-        steps,
     })
-}
-
-/// Runs a task, as `run_task` does, and tells how many control steps it made: how long it took, by a measure that does not
-/// hang on the machine. No clause speaks of that number.
-pub fn run_counted(alloc: Global, work: &Work, task: Task) -> Result<(Done, u64), AllocFailed<Task>>
-    requires { Fits work.now task }
-    ensures of_task { IfOk result (λ counted. task_of counted.0 ≡ task) }
-    ensures run { IfOk result (λ counted. IsRun work.now counted.0) }
-    ensures back { IfErr result (λ failed. failed.value ≡ task) }
-{
-    match run_copy(alloc, work, &task) {
-        Ok(left) => {
-            let done = Done {
-                task,
-                effect: left.effect,
-                next: left.next,
-                at: left.at,
-                ctl: left.ctl,
-            };
-            Ok((done, left.steps))
-        }
-        Err(_) => Err(AllocFailed { value: task }),
-    }
 }
 
 /// Runs a task. What comes next and where the thread then stands follow from the task's beginning, place, control
@@ -157,8 +132,31 @@ pub fn run_task(alloc: Global, work: &Work, task: Task) -> Result<Done, AllocFai
     ensures run { IfOk result (λ done. IsRun work.now done) }
     ensures back { IfErr result (λ failed. failed.value ≡ task) }
 {
-    match run_counted(alloc, work, task) {
-        Ok(counted) => Ok(counted.0),
-        Err(failed) => Err(failed),
+    let mut steps = 0;
+    run_counted(alloc, work, task, &mut steps)
+}
+
+/// Runs a task, as `run_task` does, and leaves in `steps` how many control steps the run made: how long it took, by a measure
+/// that does not hang on the machine. No clause speaks of that number.
+pub fn run_counted(
+    alloc: Global,
+    work: &Work,
+    task: Task,
+    steps: &mut u64,
+) -> Result<Done, AllocFailed<Task>>
+    requires { Fits work.now task }
+    ensures of_task { IfOk result (λ done. task_of done ≡ task) }
+    ensures run { IfOk result (λ done. IsRun work.now done) }
+    ensures back { IfErr result (λ failed. failed.value ≡ task) }
+{
+    match run_copy(alloc, work, &task, steps) {
+        Ok(left) => Ok(Done {
+            task,
+            effect: left.effect,
+            next: left.next,
+            at: left.at,
+            ctl: left.ctl,
+        }),
+        Err(_) => Err(AllocFailed { value: task }),
     }
 }

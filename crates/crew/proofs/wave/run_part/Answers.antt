@@ -8,14 +8,14 @@ pub loop-task-preserved : goal.loop-task-preserved
 loop-task-preserved g c =
     let w = c.args.work.now in
     let t = c.in-Some.task in
-    let done = c.in_ok-counted.counted.0 in
+    let done = c.in_ok-done.done in
     let before = c.loop-task.runs.items in
     let rest = c.next.new.self.rest.items in
     let front = c.in-Some.ensures.steps.0 in
     let pushed = c.in_ok-push.ensures.items in
     record {
-      tasks = rw pushed (one_more before done t rest c.args.part c.in_ok-counted.ensures.of_task (rw front at c.loop-task.invariant.tasks));
-      runs = rw pushed (All-push (IsRun w) before done c.loop-task.invariant.runs c.in_ok-counted.ensures.run);
+      tasks = rw pushed (one_more before done t rest c.args.part c.in_ok-done.ensures.0 (rw front at c.loop-task.invariant.tasks));
+      runs = rw pushed (All-push (IsRun w) before done c.loop-task.invariant.runs c.in_ok-done.ensures.1);
       fits = All-tail (Fits w) t rest (rw front at c.loop-task.invariant.fits);
     }
 
@@ -30,5 +30,5 @@ loop-task-init g c =
       fits = rw (gives, whole) c.requires;
     }
 
-pub run_counted-requires : goal.run_counted-requires
-run_counted-requires g c = All-head (Fits c.args.work.now) c.in-Some.task c.next.new.self.rest.items (rw c.in-Some.ensures.steps.0 at c.loop-task.invariant.fits)
+pub run_noted-requires : goal.run_noted-requires
+run_noted-requires g c = All-head (Fits c.args.work.now) c.in-Some.task c.next.new.self.rest.items (rw c.in-Some.ensures.steps.0 at c.loop-task.invariant.fits)
