@@ -1,0 +1,59 @@
+#!/usr/bin/env bash
+# measure.sh [BUSY]: how many milliseconds `gprs` takes for batches of light and of heavy subthreads, by each crew: the best of three
+# runs. BUSY, 0 where it is left out, is how many processes that only count stand beside it. The program has to be built.
+set -eu
+cd "$(dirname "$(readlink -f "${BASH_SOURCE[0]}")")/.."
+
+busy="${1:-0}"
+gprs=../crates/gprs/out/gprs
+[ -x "$gprs" ] || { echo "$0: not built: run ./gprs first" >&2; exit 1; }
+
+made="$(mktemp -d)"
+counting=()
+finish() {
+    [ ${#counting[@]} -eq 0 ] || kill "${counting[@]}"
+    rm -rf "$made"
+}
+trap finish EXIT
+for ((process = 0; process < busy; process++)); do
+    while :; do :; done &
+    counting+=($!)
+done
+
+# The milliseconds of the best of three runs of these words.
+best() {
+    local least="" begun took
+    for _ in 1 2 3; do
+        begun="${EPOCHREALTIME/./}"
+        "$gprs" "$@" >"$made/out"
+        took=$((${EPOCHREALTIME/./} - begun))
+        [ -n "$least" ] && [ "$least" -le "$took" ] || least=$took
+    done
+    printf '%d.%d' $((least / 1000)) $((least % 1000 / 100))
+}
+
+# The row of a batch: its name, and the words that run it.
+row() {
+    local name="$1"
+    shift
+    printf '| %s |' "$name"
+    for crew in "--crew one" "--workers 1" "--workers 2" "--workers 4" "--workers 64"; do
+        # The options are words.
+        # shellcheck disable=SC2086
+        printf ' %s |' "$(best "$@" $crew)"
+    done
+    echo
+}
+
+# The batch of soak as files, and the simulation with ten times its turns.
+soak/make.sh 20000 1 "$made"
+sed 's/500000/5000000/' simulation.gp >"$made/long.gp"
+
+printf '| batch | `--crew one` | 1 worker | 2 | 4 | 64 |\n|---|---|---|---|---|---|\n'
+row "soak 20000 1" soak 20000 1
+row "its files, without faults" run "$made/soak.gp"
+row simulation run simulation.gp
+row "simulation, 5,000,000 turns" run "$made/long.gp" --turns 5000000
+row threads run figures/threads.gp
+row loop run figures/loop.gp --subthreads 200000
+row barrier run figures/barrier.gp
