@@ -1,0 +1,240 @@
+"""What `gprs` publishes for a batch that finishes, reckoned without it.
+
+The rules are those of docs/ORDER.md (turns of the token, dependence, restarts) and docs/FORMATS.md (the text). The tasks of a
+batch are written in Python: a task is a generator that does the same work and yields at each synchronisation. It works on
+the data at once, since subthreads come here one after another, in the order of the token and without faults.
+
+Beside each NAME.gp stands a NAME.py that prints what NAME.out holds. Run it in its own folder:
+
+    cd examples/settlement && PYTHONPATH=.. python3 settlement.py
+"""
+
+from dataclasses import dataclass
+
+
+@dataclass(frozen=True)
+class Lock:
+    """Takes a lock."""
+
+    array: str
+    index: int = 0
+
+
+@dataclass(frozen=True)
+class Unlock:
+    """Gives a lock back."""
+
+    array: str
+    index: int = 0
+
+
+@dataclass(frozen=True)
+class Fork:
+    """Starts a thread; the yield answers its number."""
+
+    task: object
+    arguments: tuple = ()
+
+
+@dataclass(frozen=True)
+class Join:
+    """Waits for the end of a thread; the yield answers what it returned."""
+
+    thread: int
+
+
+@dataclass(frozen=True)
+class Barrier:
+    """Waits until so many threads stand here."""
+
+    name: str
+    threads: int
+
+
+START = object()
+
+
+class Thread:
+    """A thread: its work, the synchronisation at which it stands, and what it returned once it has ended."""
+
+    def __init__(self, work):
+        self.work = work
+        self.next = START
+        self.result = 0
+        self.arrived = False
+        self.released = False
+
+    def has_ended(self):
+        return self.next is None
+
+    def run(self, answer):
+        """Does the work up to the next synchronisation."""
+        try:
+            self.next = self.work.send(answer)
+        except StopIteration as end:
+            self.next = None
+            self.result = end.value or 0
+
+
+@dataclass(frozen=True)
+class Subthread:
+    """What a subthread may touch."""
+
+    reads: frozenset
+    writes: frozenset
+
+    def clashes(self, other):
+        return bool(self.writes & (other.reads | other.writes) or self.reads & other.writes)
+
+
+class Order:
+    """The subthreads of a batch, in order."""
+
+    def __init__(self, main):
+        self.threads = [Thread(main())]
+        self.owners = {}
+        self.subthreads = []
+        self.take_turns()
+
+    def take_turns(self):
+        """Lets the token go round until every thread has ended."""
+        passed = set()
+        thread = 0
+        while thread is not None:
+            assert thread not in passed, "the batch is stuck"
+            arrives = self.arrives(thread)
+            if self.can_go_on(thread):
+                self.issue(thread)
+                passed = set()
+            else:
+                passed = {thread} if arrives else passed | {thread}
+            thread = self.after(thread)
+
+    def after(self, thread):
+        """The first thread after this one that has not ended."""
+        count = len(self.threads)
+        ring = [(thread + step) % count for step in range(1, count + 1)]
+        return next((other for other in ring if not self.threads[other].has_ended()), None)
+
+    def arrives(self, thread):
+        """Whether the thread comes to its barrier now. If enough threads wait there then, all of them are released."""
+        this = self.threads[thread]
+        if not isinstance(this.next, Barrier) or this.arrived:
+            return False
+        this.arrived = True
+        waiting = [other for other in self.threads if other.arrived and not other.released and other.next.name == this.next.name]
+        if len(waiting) == this.next.threads:
+            for other in waiting:
+                other.released = True
+        return True
+
+    def can_go_on(self, thread):
+        sync = self.threads[thread].next
+        if isinstance(sync, Lock):
+            return (sync.array, sync.index) not in self.owners
+        if isinstance(sync, Join):
+            return self.threads[sync.thread].has_ended()
+        if isinstance(sync, Barrier):
+            return self.threads[thread].released
+        return True
+
+    def issue(self, thread):
+        """Performs the synchronisation of the thread and runs the subthread that begins with it."""
+        this = self.threads[thread]
+        sync = this.next
+        reads, writes, answer = set(), {("thread", thread)}, None
+        if isinstance(sync, Lock):
+            self.owners[sync.array, sync.index] = thread
+        elif isinstance(sync, Unlock):
+            del self.owners[sync.array, sync.index]
+        elif isinstance(sync, Fork):
+            answer = len(self.threads)
+            self.threads.append(Thread(sync.task(*sync.arguments)))
+            writes.add(("thread", answer))
+        elif isinstance(sync, Join):
+            answer = self.threads[sync.thread].result
+            reads.add(("thread", sync.thread))
+        this.arrived = this.released = False
+        writes |= {("lock", *lock) for lock, owner in self.owners.items() if owner == thread}
+        self.subthreads.append(Subthread(frozenset(reads), frozenset(writes)))
+        this.run(answer)
+
+
+def dependents(subthreads, struck, front):
+    """The struck position and each later one below the front that clashes with one of them."""
+    found = [struck]
+    for later in range(struck + 1, front):
+        if any(subthreads[earlier].clashes(subthreads[later]) for earlier in found):
+            found.append(later)
+    return found
+
+
+def restarts(subthreads, faults):
+    """The restarts that the faults make: rows of front, struck position, its attempt, and what is redone."""
+    attempt, begun, made = {}, {}, []
+    for front in range(1, len(subthreads) + 1):
+        attempt[front - 1], begun[front - 1] = 0, front
+        while True:
+            live = [(p, delay) for p, tried, delay, _ in faults if p < front and attempt[p] == tried]
+            due = [p for p, delay in live if begun[p] + delay <= front]
+            if not due and front == len(subthreads):
+                due = [p for p, _ in live]
+            if not due:
+                break
+            struck = min(due)
+            redo = dependents(subthreads, struck, front)
+            made.append((front, struck, attempt[struck], redo))
+            for p in redo:
+                attempt[p] += 1
+                begun[p] = front
+    return made
+
+
+def rows(name):
+    """The rows of a file of numbers."""
+    with open(name, encoding="ascii") as file:
+        return [[int(field) for field in line.split(",")] for line in file if line.strip()]
+
+
+def cells(name, size):
+    """The first values of a record."""
+    values = [0] * size
+    for index, value in rows(name):
+        values[index] = value
+    return values
+
+
+def wrap(number):
+    """A number as 64 bits hold it."""
+    return (number + 2**63) % 2**64 - 2**63
+
+
+def quotient(number, divisor):
+    """The quotient, rounded towards 0."""
+    return abs(number) // abs(divisor) * (1 if (number < 0) == (divisor < 0) else -1)
+
+
+def remainder(number, divisor):
+    """The remainder, with the sign of the number."""
+    return number - quotient(number, divisor) * divisor
+
+
+def publish(main, printed, records, faults=None):
+    """Runs the batch and prints its text. `printed` and `records` are read after the run: lists of numbers, and lists by name."""
+    subthreads = Order(main).subthreads
+    listed = rows(faults) if faults else []
+    made = restarts(subthreads, listed)
+    print("output")
+    for line in printed:
+        print(*line)
+    print("records")
+    for name, values in records.items():
+        print(f"{name}:", *values)
+    print("restarts")
+    for number, (front, struck, tried, redo) in enumerate(made, 1):
+        print(f"{number}: front {front} struck {struck} try {tried} redo", *redo)
+    print("counts")
+    print("subthreads", len(subthreads))
+    print("restarts", len(made))
+    print("redone", sum(len(redo) for _, _, _, redo in made))
+    print("unused", len(listed) - len(made))
