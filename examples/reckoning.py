@@ -51,6 +51,11 @@ class Barrier:
     threads: int
 
 
+@dataclass(frozen=True)
+class Settle:
+    """Makes a number of the data one of control; the thread has it at hand when the yield answers."""
+
+
 START = object()
 
 
@@ -78,10 +83,11 @@ class Thread:
 
 @dataclass(frozen=True)
 class Subthread:
-    """What a subthread may touch."""
+    """What a subthread may touch, and whether it begins with a settle."""
 
     reads: frozenset
     writes: frozenset
+    settles: bool
 
     def clashes(self, other):
         return bool(self.writes & (other.reads | other.writes) or self.reads & other.writes)
@@ -156,7 +162,7 @@ class Order:
             reads.add(("thread", sync.thread))
         this.arrived = this.released = False
         writes |= {("lock", *lock) for lock, owner in self.owners.items() if owner == thread}
-        self.subthreads.append(Subthread(frozenset(reads), frozenset(writes)))
+        self.subthreads.append(Subthread(frozenset(reads), frozenset(writes), isinstance(sync, Settle)))
         this.run(answer)
 
 
@@ -169,6 +175,11 @@ def dependents(subthreads, struck, front):
     return found
 
 
+def drains(subthreads, front):
+    """Whether faults are taken at this front whatever their delay."""
+    return front == len(subthreads) or subthreads[front].settles
+
+
 def restarts(subthreads, faults):
     """The restarts that the faults make: rows of front, struck position, its attempt, and what is redone."""
     attempt, begun, made = {}, {}, []
@@ -177,7 +188,7 @@ def restarts(subthreads, faults):
         while True:
             live = [(p, delay) for p, tried, delay, _ in faults if p < front and attempt[p] == tried]
             due = [p for p, delay in live if begun[p] + delay <= front]
-            if not due and front == len(subthreads):
+            if not due and drains(subthreads, front):
                 due = [p for p, _ in live]
             if not due:
                 break
