@@ -21,7 +21,7 @@ use Rattle.engine.specs.declared.calls.Halt.{Halt}
 use Rattle.engine.specs.declared.calls.Halt.TheVariants as halt
 use Rattle.engine.specs.View.{Batch, View, run_in, dependence_in, end_in, now, is_known, IsHalt, Stands}
 use Rattle.engine.specs.Gives.{struck_now, NoneToPost, HasFinished}
-use Rattle.engine.specs.inner.Rounds.{left, left_to_know, Rests, Onward, IsSettled, IsIssued, AreTaken, TakeGives}
+use Rattle.engine.specs.inner.Rounds.{left, left_to_know, Rests, Onward, IsQuiet, IsIssued, AreTaken, TakeGives}
 use Rattle.engine.proofs.Events.{stage-stands, now-same, left-same, onward-most}
 
 -- what is applied was taken
@@ -159,48 +159,48 @@ some-halt (Some (halt.Ended ending)) e = inl (ending, refl)
 some-halt (Some halt.Settling) e = inr refl
 
 -- at the end of a round with nothing out, nothing to post and no event, a position would have retired or been issued, or the run ended
-stuck : (settled issued posted : View) → Stands settled → Stands issued → Stands posted → IsSettled settled
-    → ((ending : End) → ¬ HasFinished settled ending) → issued.batch ≡ settled.batch → now posted ≡ now settled → now posted ≡ now issued → IsIssued issued
+stuck : (quieted issued posted : View) → Stands quieted → Stands issued → Stands posted → IsQuiet quieted
+    → ((ending : End) → ¬ HasFinished quieted ending) → issued.batch ≡ quieted.batch → now posted ≡ now quieted → now posted ≡ now issued → IsIssued issued
     → NoneToPost posted 0 → AreTaken posted → (is_known issued ≡ true → is_known posted ≡ true)
-    → (is_known settled ≡ true) ⊎ (is_known posted ≡ false) → ⊥
-stuck settled issued posted stood begun stands quiet unfinished batch same same' answer none home kept known_so =
+    → (is_known quieted ≡ true) ⊎ (is_known posted ≡ false) → ⊥
+stuck quieted issued posted stood begun stands quiet unfinished batch same same' answer none home kept known_so =
     elim answer [
       | inl ended ↦ elim known_so [ inl known ↦ waits known (ended_not ended.0 ended.1) | inr unknown ↦ both_ways (is_known posted) unknown (kept (ap is_some ended.1)) ]
       | inr (inl waiting) ↦ elim known_so [ inl known ↦ waits known (waiting_not waiting.1) | inr unknown ↦ both_ways (is_known posted) unknown (kept (ap is_some waiting.0)) ]
       | inr (inr awaited) ↦ awaited.2 (subst (λ at. WasTaken at awaited.0) same' (none-awaited posted stands none home awaited.0 (subst (λ at. awaited.0 < at.progress.front) (sym same') awaited.1)))
     ]
   where
-    at_same : now issued ≡ now settled
+    at_same : now issued ≡ now quieted
     at_same = sym same' ∙ same
 
     -- the oldest position would retire
-    none_left : is_known settled ≡ true → (now settled).retired < (now settled).progress.front → ⊥
+    none_left : is_known quieted ≡ true → (now quieted).retired < (now quieted).progress.front → ⊥
     none_left known more =
         quiet.none_retires
         (record {
           issued = more;
           applied = subst (λ at. at.applied at.retired ≡ true) same (all-applied posted stands none home (now posted).retired (subst (λ at. at.retired < at.progress.front) (sym same) more));
-          none_due = none-due settled quiet.none_struck;
-          safe = inr (known, none-live settled known quiet.none_struck);
+          none_due = none-due quieted quiet.none_struck;
+          safe = inr (known, none-live quieted known quiet.none_struck);
         })
 
     -- or else a settle comes next
-    waits : is_known settled ≡ true → (((now settled).progress.front ≤ (now settled).retired) → (dependence_in settled.batch).settles (now settled).progress.front ≡ true → ⊥) → ⊥
+    waits : is_known quieted ≡ true → (((now quieted).progress.front ≤ (now quieted).retired) → (dependence_in quieted.batch).settles (now quieted).progress.front ≡ true → ⊥) → ⊥
     waits known settling =
-        elim (cases_lt (now settled).retired (now settled).progress.front) [
+        elim (cases_lt (now quieted).retired (now quieted).progress.front) [
           | inl more ↦ none_left known more
-          | inr all ↦ elim (some-halt settled.ended known) [
-            | inl ending ↦ unfinished ending.0 (record { ended = ending.1; retired = let low = (stage-stands settled stood).retired_low in omega arith })
-            | inr is ↦ settling all (known-halt settled halt.Settling stood is)
+          | inr all ↦ elim (some-halt quieted.ended known) [
+            | inl ending ↦ unfinished ending.0 (record { ended = ending.1; retired = let low = (stage-stands quieted stood).retired_low in omega arith })
+            | inr is ↦ settling all (known-halt quieted halt.Settling stood is)
           ]
         ]
 
-    ended_not : (ending : End) → issued.ended ≡ Some (halt.Ended ending) → (now settled).progress.front ≤ (now settled).retired → (dependence_in settled.batch).settles (now settled).progress.front ≡ true → ⊥
+    ended_not : (ending : End) → issued.ended ≡ Some (halt.Ended ending) → (now quieted).progress.front ≤ (now quieted).retired → (dependence_in quieted.batch).settles (now quieted).progress.front ≡ true → ⊥
     ended_not ending is all settles =
-        none-settles settled.batch (now settled).progress.front
+        none-settles quieted.batch (now quieted).progress.front
         (ap (λ (at : Stage). at.progress.front) (sym at_same) ∙ (known-halt issued (halt.Ended ending) begun is).0 ∙ ap (λ batch. (dependence_in batch).count) batch) settles
 
-    waiting_not : (now issued).retired < (now issued).progress.front → (now settled).progress.front ≤ (now settled).retired → (dependence_in settled.batch).settles (now settled).progress.front ≡ true → ⊥
+    waiting_not : (now issued).retired < (now issued).progress.front → (now quieted).progress.front ≤ (now quieted).retired → (dependence_in quieted.batch).settles (now quieted).progress.front ≡ true → ⊥
     waiting_not more all settles = let there = subst (λ (at : Stage). at.retired < at.progress.front) at_same more in omega arith
 
 flag-most : (b : Bool) → cond b 0 1 ≤ 1
@@ -211,27 +211,27 @@ less-to-know : (first last : View) → left last < left first → left_to_know l
 less-to-know first last less = let flag = flag-most (is_known last) in omega arith
 
 -- a round in which nothing comes back leaves less to do, or makes the end known
-idle-round : (first settled issued posted : View) → Onward first settled → IsSettled settled
-    → ((ending : End) → ¬ HasFinished settled ending) → Onward settled issued → IsIssued issued → Onward issued posted
+idle-round : (first quieted issued posted : View) → Onward first quieted → IsQuiet quieted
+    → ((ending : End) → ¬ HasFinished quieted ending) → Onward quieted issued → IsIssued issued → Onward issued posted
     → NoneToPost posted 0 → AreTaken posted → left_to_know posted < left_to_know first
-idle-round first settled issued posted one quiet unfinished two answer three none home =
+idle-round first quieted issued posted one quiet unfinished two answer three none home =
     elim one.moved [
-      | inl less ↦ less-to-know first posted (let a = onward-most settled issued two in let b = onward-most issued posted three in omega arith)
+      | inl less ↦ less-to-know first posted (let a = onward-most quieted issued two in let b = onward-most issued posted three in omega arith)
       | inr rests ↦ elim two.moved [
-        | inl less ↦ less-to-know first posted (let a = onward-most first settled one in let b = onward-most issued posted three in omega arith)
+        | inl less ↦ less-to-know first posted (let a = onward-most first quieted one in let b = onward-most issued posted three in omega arith)
         | inr rests' ↦ elim three.moved [
-          | inl less ↦ less-to-know first posted (let a = onward-most first settled one in let b = onward-most settled issued two in omega arith)
+          | inl less ↦ less-to-know first posted (let a = onward-most first quieted one in let b = onward-most quieted issued two in omega arith)
           | inr rests'' ↦ go (is_known first) (is_known posted) refl refl rests rests' rests''
         ]
       ]
     ]
   where
-    impossible : Rests first settled → Rests settled issued → Rests issued posted → (is_known settled ≡ true) ⊎ (is_known posted ≡ false) → ⊥
+    impossible : Rests first quieted → Rests quieted issued → Rests issued posted → (is_known quieted ≡ true) ⊎ (is_known posted ≡ false) → ⊥
     impossible rests rests' rests'' =
-        stuck settled issued posted one.stands two.stands three.stands quiet unfinished two.batch
-        (now-same settled posted (three.batch ∙ two.batch) (rests''.events ∙ rests'.events)) (now-same issued posted three.batch rests''.events) answer none home rests''.known
+        stuck quieted issued posted one.stands two.stands three.stands quiet unfinished two.batch
+        (now-same quieted posted (three.batch ∙ two.batch) (rests''.events ∙ rests'.events)) (now-same issued posted three.batch rests''.events) answer none home rests''.known
 
-    go : (b c : Bool) → is_known first ≡ b → is_known posted ≡ c → Rests first settled → Rests settled issued → Rests issued posted → left_to_know posted < left_to_know first
+    go : (b c : Bool) → is_known first ≡ b → is_known posted ≡ c → Rests first quieted → Rests quieted issued → Rests issued posted → left_to_know posted < left_to_know first
     go b false e f rests rests' rests'' = absurd (impossible rests rests' rests'' (inr f))
     go true true e f rests rests' rests'' = absurd (impossible rests rests' rests'' (inl (rests.known e)))
     go false true e f rests rests' rests'' =
@@ -239,11 +239,11 @@ idle-round first settled issued posted one quiet unfinished two answer three non
         rw (e, f) (omega arith)
 
 -- each round leaves less to do, or makes the end known
-pub round-falls : (first settled issued posted taken : View) (b : Bool) → Onward first settled → IsSettled settled
-    → ((ending : End) → ¬ HasFinished settled ending) → Onward settled issued → IsIssued issued → Onward issued posted
+pub round-falls : (first quieted issued posted taken : View) (b : Bool) → Onward first quieted → IsQuiet quieted
+    → ((ending : End) → ¬ HasFinished quieted ending) → Onward quieted issued → IsIssued issued → Onward issued posted
     → NoneToPost posted 0 → TakeGives posted taken b → left_to_know taken < left_to_know first
-round-falls first settled issued posted taken true one quiet unfinished two answer three none less =
+round-falls first quieted issued posted taken true one quiet unfinished two answer three none less =
     less-to-know first taken
-    (let a = onward-most first settled one in let b = onward-most settled issued two in let c = onward-most issued posted three in omega arith)
-round-falls first settled issued posted taken false one quiet unfinished two answer three none nothing =
-    subst (λ v. left_to_know v < left_to_know first) (sym nothing.0) (idle-round first settled issued posted one quiet unfinished two answer three none nothing.1)
+    (let a = onward-most first quieted one in let b = onward-most quieted issued two in let c = onward-most issued posted three in omega arith)
+round-falls first quieted issued posted taken false one quiet unfinished two answer three none nothing =
+    subst (λ v. left_to_know v < left_to_know first) (sym nothing.0) (idle-round first quieted issued posted one quiet unfinished two answer three none nothing.1)

@@ -16,7 +16,7 @@ use Rattle.engine.specs.declared.calls.Issued.TheVariants.{One, Needs, Settles, 
 use Rattle.engine.specs.declared.calls.Halt.TheVariants as halt
 use Rattle.engine.specs.View.{View, run_in, dependence_in, now, Stands}
 use Rattle.engine.specs.Gives.{Did, IssueGives, struck_now, DetectGives, MayRetireNow, RetireGives, MayPostNow, IsNextToPost, NoneToPost}
-use Rattle.engine.specs.inner.Rounds.{left, GoesOn, IsSettled, IsIssued}
+use Rattle.engine.specs.inner.Rounds.{left, GoesOn, IsQuiet, IsIssued}
 use Rattle.engine.proofs.Events.{now-did, did-onward, did-leaves, same-onward, still-onward, learnt-onward, onward-then}
 use Rattle.engine.proofs.Crews.{crew-alone, crew-same, crew-learnt}
 
@@ -74,8 +74,8 @@ retired before after false stands gives = goes-same before after stands gives.0
 pub retired-leaves : (before after : View) → Stands before → RetireGives before after true → left after < left before
 retired-leaves before after stands gives = did-leaves before after (event.Retire (now before).retired) stands gives.0
 
-pub retired-settles : (before after : View) → struck_now before ≡ None → RetireGives before after false → IsSettled after
-retired-settles before after none gives = record { none_struck = ap struck_now gives.0 ∙ none; none_retires = subst (λ v. ¬ MayRetireNow v) (sym gives.0) gives.1 }
+pub retired-quiet : (before after : View) → struck_now before ≡ None → RetireGives before after false → IsQuiet after
+retired-quiet before after none gives = record { none_struck = ap struck_now gives.0 ∙ none; none_retires = subst (λ v. ¬ MayRetireNow v) (sym gives.0) gives.1 }
 
 -- a thread's last position below the front is below it
 last-is_below : (run : List Subthread) (t p q : ℕ) → last_below run t p ≡ Some q → q < p

@@ -5,7 +5,7 @@ ghost use Rattle.reorder_list.specs.declared.report.StopWhy.TheVariants as stop;
 ghost use Rattle.engine.specs.View.{dependence_in, end_in, now, Stands};
 ghost use Rattle.engine.specs.Gives.{struck_now, HasStopCause, NoneToPost};
 ghost use Rattle.engine.specs.Takes.{CrewStands};
-ghost use Rattle.engine.specs.inner.Rounds.{Onward, GoesOn, IsSettled, IsIssued, KeepsWritten, KeepsPart, TakeGives};
+ghost use Rattle.engine.specs.inner.Rounds.{Onward, GoesOn, IsQuiet, IsIssued, KeepsWritten, KeepsPart, TakeGives};
 
 use crate::calls::{Calls, Issued};
 use crew::Crew;
@@ -32,7 +32,7 @@ fn detect_all<E: Calls>(engine: &mut E) -> Result<(), AllocError>
 fn retire_all<E: Calls, O: Sink>(engine: &mut E, out: &mut O) -> Result<(), StopWhy>
     requires stands { Stands (E.view engine.old) }
     ensures goes_on { GoesOn (E.view engine.old) (E.view engine.new) }
-    ensures settled { OnOk result (IsSettled (E.view engine.new)) }
+    ensures quiet { OnOk result (IsQuiet (E.view engine.new)) }
     ensures written { OnOk result (KeepsWritten (E.view engine.old) (E.view engine.new) (O.written out.old) (O.written out.new)) }
     ensures partly { OnErr result (KeepsPart (E.view engine.old) (E.view engine.new) (O.written out.old) (O.written out.new)) }
     ensures cause { HasStopCause (O.faults out.old) (O.faults out.new) result }

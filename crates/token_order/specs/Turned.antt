@@ -24,10 +24,10 @@ abbrev pub Turned : (cleared : Bool) → Table → TurnHere → Table → Type 0
 Turned cleared before (here.Settles t) after = (cleared ≡ false) × (settling_in (turn before) ≡ Some t) × (after ≡ before)
 Turned cleared before result after = ((cleared ≡ true) ⊎ (settling_in (turn before) ≡ None)) × Answered (turn before) before result after
 
--- a settle that is told leaves the room as it was
+-- all but an issue leave the room as it was
 abbrev pub LeavesRoom : TurnHere → (before after : ℕ) → Type 0
-LeavesRoom (here.Settles t) before after = after ≡ before
-LeavesRoom _ before after = ⊤
+LeavesRoom (here.Issue t next child) before after = ⊤
+LeavesRoom _ before after = after ≡ before
 
 abbrev pub is_issue : TurnHere → Bool
 is_issue (here.Issue t next child) = true

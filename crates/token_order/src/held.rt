@@ -1,9 +1,10 @@
 // The locks that each thread holds.
 
-ghost use Rattle.std.specs.Prelude.{◌≡◌, ℕ, ◌<◌, List, Option, Some, None, true, is_none, length, slice_set, slice_get, ◌==◌, if◌then◌else◌, replicate, IfOk, IfSome, OnOk, OnErr};
+ghost use Rattle.std.specs.Prelude.{◌≡◌, ℕ, ◌<◌, List, Option, Some, None, true, false, is_none, length, slice_set, slice_get, ◌==◌, if◌then◌else◌, replicate, IfOk, IfSome, OnOk, OnErr};
 ghost use Rattle.task_ast.specs.Table.{owned_from};
 ghost use Rattle.task_ast.specs.Turn.{owners_after};
 ghost use Rattle.token_order.specs.Owning.{is_owner, with_lock, held_at, owners_with, locks_with, owners_now, HeldStands, noted};
+ghost use Rattle.token_order.specs.Turned.{is_issue};
 
 use crate::rules::Turn;
 use gp_base::{LockNo, Seq};
@@ -178,11 +179,11 @@ impl Held {
     }
 
     /// The lists are told the change of the last issue. The error is that memory is out.
-    pub fn settle(&mut self) -> Result<(), AllocError>
+    pub fn apply_change(&mut self) -> Result<(), AllocError>
         requires stands { HeldStands self.old }
         ensures stands { HeldStands self.new }
         ensures owners { owners_now self.new ≡ owners_now self.old }
-        ensures settled { OnOk result (self.new.change ≡ None) }
+        ensures applied { OnOk result (self.new.change ≡ None) }
         ensures kept { self.old.change ≡ None → self.new.change ≡ None }
     {
         let Some(change) = self.change else {
@@ -199,9 +200,10 @@ impl Held {
     /// What a turn changes. Takes no memory.
     pub fn note(&mut self, turn: &Turn)
         requires stands { HeldStands self.old }
-        requires settled { self.old.change ≡ None }
+        requires applied { self.old.change ≡ None }
         ensures stands { HeldStands self.new }
         ensures owners { owners_now self.new ≡ noted turn.now (owners_now self.old) }
+        ensures kept { is_issue turn.now ≡ false → self.new.change ≡ self.old.change }
     {
         if let Turn::Issue { thread, begins, .. } = turn {
             self.change = change_of(&begins.sync, thread.0, self.owners.len());

@@ -84,7 +84,7 @@ impl Ring {
         ensures cleared { self.new.cleared ≡ self.old.cleared }
     {
         self.threads.seats.reserve(1)?;
-        self.held.settle()
+        self.held.apply_change()
     }
 
     /// Lets the next issue begin with a settle. Takes no memory.
@@ -118,6 +118,7 @@ impl Ring {
     pub fn learn(&mut self, thread: ThreadNo, next: Next)
         requires { thread < length self.old.table.seats }
         ensures table { self.new.table ≡ learning self.old.table thread next }
+        ensures spare { self.new.spare ≡ self.old.spare }
         ensures cleared { self.new.cleared ≡ self.old.cleared }
     {
         self.threads.learn(thread.0, next);

@@ -12,7 +12,7 @@ ghost use Rattle.token_order.specs.View.{table, seat_of, StandsInside};
 ghost use Rattle.token_order.specs.declared.rules.Turn.TheVariants as here;
 ghost use Rattle.token_order.specs.Turned.{Answered, is_free_to_go, begun, joined_in};
 
-use crate::threads::{Seat, Stand, Threads, clear, new_seat};
+use crate::threads::{Seat, Stand, Threads, new_seat, unpass_all};
 use gp_base::limits::MOST_THREADS;
 use gp_base::{End, Pos, ThreadNo, Why};
 use task_ast::{Next, SyncOp};
@@ -69,6 +69,7 @@ fn add_child(seats: &mut Vec<Seat>, sync: &SyncOp) -> Option<ThreadNo>
     requires few { length seats.old.items ≤ MOST_THREADS }
     ensures seats { map seat_of seats.new.items ≡ seats_after sync.now (map seat_of seats.old.items) }
     ensures child { result ≡ child_of sync.now (length seats.old.items) }
+    ensures capacity { vec_capacity seats.new ≡ vec_capacity seats.old }
 {
     let child = seats.len() as u32;
     match sync {
@@ -113,7 +114,8 @@ impl Threads {
     // The thread passes.
     fn pass(&mut self, t: u32)
         requires exists { t < length self.old.seats.items }
-        ensures { passing (table self.old) t ≡ More (table self.new) }
+        ensures passes { passing (table self.old) t ≡ More (table self.new) }
+        ensures capacity { vec_capacity self.new.seats ≡ vec_capacity self.old.seats }
     {
         self.seats[t as usize].passed = true;
         self.token = Some(t);
@@ -124,7 +126,8 @@ impl Threads {
         requires exists { t < length self.old.seats.items }
         requires few { length self.old.seats.items ≤ MOST_THREADS }
         requires spare { vec_len self.old.seats < vec_capacity self.old.seats }
-        ensures { (next : Next) → next_of (table self.old) t ≡ Some next → Answered (issuing (table self.old) t next) (table self.old) result (table self.new) }
+        ensures answer { (next : Next) → next_of (table self.old) t ≡ Some next → Answered (issuing (table self.old) t next) (table self.old) result (table self.new) }
+        ensures capacity { vec_capacity self.new.seats ≡ vec_capacity self.old.seats }
     {
         if self.issued >= self.limit {
             return Turn::Ended(End::Spent(Pos(self.limit)));
@@ -132,7 +135,7 @@ impl Threads {
         let Some(next) = begin(&mut self.seats[t as usize], self.issued) else {
             return Turn::Needs(ThreadNo(t));
         };
-        clear(&mut self.seats);
+        unpass_all(&mut self.seats);
         hand_over(&mut self.owners, &next.sync, t);
         let child = add_child(&mut self.seats, &next.sync);
         self.token = Some(t);
@@ -149,7 +152,8 @@ impl Threads {
         requires exists { t < length self.old.seats.items }
         requires few { length self.old.seats.items ≤ MOST_THREADS }
         requires spare { vec_len self.old.seats < vec_capacity self.old.seats }
-        ensures { (next : Next) → next_of (table self.old) t ≡ Some next → Answered (tried (sync.Lock lock) (table self.old) t next) (table self.old) result (table self.new) }
+        ensures answer { (next : Next) → next_of (table self.old) t ≡ Some next → Answered (tried (sync.Lock lock) (table self.old) t next) (table self.old) result (table self.new) }
+        ensures capacity { vec_capacity self.new.seats ≡ vec_capacity self.old.seats }
     {
         if is_free(&self.owners, lock) {
             return self.issue(t);
@@ -163,7 +167,8 @@ impl Threads {
         requires exists { t < length self.old.seats.items }
         requires few { length self.old.seats.items ≤ MOST_THREADS }
         requires spare { vec_len self.old.seats < vec_capacity self.old.seats }
-        ensures { (next : Next) → next_of (table self.old) t ≡ Some next → next.line ≡ line → Answered (tried (sync.Join h) (table self.old) t next) (table self.old) result (table self.new) }
+        ensures answer { (next : Next) → next_of (table self.old) t ≡ Some next → next.line ≡ line → Answered (tried (sync.Join h) (table self.old) t next) (table self.old) result (table self.new) }
+        ensures capacity { vec_capacity self.new.seats ≡ vec_capacity self.old.seats }
     {
         let Some(other) = joined(h, self.seats.len()) else {
             return stuck(Why::Join, t, line);
@@ -185,7 +190,8 @@ impl Threads {
         requires exists { t < length self.old.seats.items }
         requires few { length self.old.seats.items ≤ MOST_THREADS }
         requires spare { vec_len self.old.seats < vec_capacity self.old.seats }
-        ensures { (next : Next) (task : ℕ) (arguments : List ℤ) → next_of (table self.old) t ≡ Some next → next.line ≡ line → Answered (tried (sync.Fork task arguments) (table self.old) t next) (table self.old) result (table self.new) }
+        ensures answer { (next : Next) (task : ℕ) (arguments : List ℤ) → next_of (table self.old) t ≡ Some next → next.line ≡ line → Answered (tried (sync.Fork task arguments) (table self.old) t next) (table self.old) result (table self.new) }
+        ensures capacity { vec_capacity self.new.seats ≡ vec_capacity self.old.seats }
     {
         if self.seats.len() < MOST_THREADS as usize {
             return self.issue(t);
@@ -200,7 +206,7 @@ impl Threads {
         ensures length { length self.new.seats.items ≡ length self.old.seats.items }
         ensures spare { (vec_len self.new.seats ≡ vec_len self.old.seats) × (vec_capacity self.new.seats ≡ vec_capacity self.old.seats) }
     {
-        clear(&mut self.seats);
+        unpass_all(&mut self.seats);
         self.seats[t as usize].stand = Stand::Waits;
     }
 
@@ -220,7 +226,8 @@ impl Threads {
         requires exists { t < length self.old.seats.items }
         requires few { length self.old.seats.items ≤ MOST_THREADS }
         requires spare { vec_len self.old.seats < vec_capacity self.old.seats }
-        ensures { (next : Next) → next_of (table self.old) t ≡ Some next → next.sync ≡ sync.Barrier barrier → stand_of (table self.old) t ≡ Away → Answered (tried (sync.Barrier barrier) (table self.old) t next) (table self.old) result (table self.new) }
+        ensures answer { (next : Next) → next_of (table self.old) t ≡ Some next → next.sync ≡ sync.Barrier barrier → stand_of (table self.old) t ≡ Away → Answered (tried (sync.Barrier barrier) (table self.old) t next) (table self.old) result (table self.new) }
+        ensures capacity { vec_capacity self.new.seats ≡ vec_capacity self.old.seats }
     {
         if waiting(&self.seats, barrier) + 1 < stated(&self.barriers, barrier) as usize {
             self.arrive(t);
@@ -239,7 +246,8 @@ impl Threads {
         requires exists { t < length self.old.seats.items }
         requires few { length self.old.seats.items ≤ MOST_THREADS }
         requires spare { vec_len self.old.seats < vec_capacity self.old.seats }
-        ensures { (next : Next) → next_of (table self.old) t ≡ Some next → next.sync ≡ sync.Barrier barrier → Answered (tried (sync.Barrier barrier) (table self.old) t next) (table self.old) result (table self.new) }
+        ensures answer { (next : Next) → next_of (table self.old) t ≡ Some next → next.sync ≡ sync.Barrier barrier → Answered (tried (sync.Barrier barrier) (table self.old) t next) (table self.old) result (table self.new) }
+        ensures capacity { vec_capacity self.new.seats ≡ vec_capacity self.old.seats }
     {
         if is_released(&self.seats[t as usize]) {
             return self.issue(t);
@@ -290,7 +298,8 @@ impl Threads {
     pub fn turn(&mut self) -> Turn
         requires inside { StandsInside self.old }
         requires spare { vec_len self.old.seats < vec_capacity self.old.seats }
-        ensures { Answered (Rattle.task_ast.specs.Turn.turn (table self.old)) (table self.old) result (table self.new) }
+        ensures answer { Answered (Rattle.task_ast.specs.Turn.turn (table self.old)) (table self.old) result (table self.new) }
+        ensures capacity { vec_capacity self.new.seats ≡ vec_capacity self.old.seats }
     {
         let Some(t) = self.token_at() else {
             return Turn::Ended(End::Finished);

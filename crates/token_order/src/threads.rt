@@ -1,6 +1,6 @@
 // The threads, and the one that the token comes to.
 
-ghost use Rattle.std.specs.Prelude.{◌≡◌, ◌<◌, ◌≤◌, ◌-◌, length, map, Option, Some, None, IfSome, IfOk, replicate};
+ghost use Rattle.std.specs.Prelude.{◌≡◌, ◌<◌, ◌≤◌, ◌-◌, length, map, Option, Some, None, IfSome, IfOk, replicate, vec_capacity};
 ghost use Rattle.gp_base.specs.declared.limits.TheConstants.{MOST_THREADS};
 ghost use Rattle.task_ast.specs.Reached.{start_table};
 ghost use Rattle.task_ast.specs.Table.{numbers, ring, learning, unpassed};
@@ -132,14 +132,15 @@ impl Threads {
     /// The next synchronisation of a thread becomes known.
     pub fn learn(&mut self, t: u32, next: Next)
         requires exists { t < length self.old.seats.items }
-        ensures { table self.new ≡ learning (table self.old) t next }
+        ensures learnt { table self.new ≡ learning (table self.old) t next }
+        ensures capacity { vec_capacity self.new.seats ≡ vec_capacity self.old.seats }
     {
         self.seats[t as usize].next = Some(next);
     }
 }
 
 /// No thread has passed since the last change.
-pub fn clear(seats: &mut [Seat])
+pub fn unpass_all(seats: &mut [Seat])
     ensures { map seat_of seats.new ≡ map unpassed (map seat_of seats.old) }
 {
     for seat in seats.iter_mut() {

@@ -40,7 +40,7 @@ pub record GoesOn (before after : View) : Type 0 where
   pub crew : KeepsCrew before after
 
 -- no position is struck, and the oldest may not retire
-pub record IsSettled (view : View) : Type 0 where
+pub record IsQuiet (view : View) : Type 0 where
   pub none_struck : struck_now view ≡ None
   pub none_retires : ¬ MayRetireNow view
 

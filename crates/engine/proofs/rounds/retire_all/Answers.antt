@@ -1,7 +1,7 @@
 use Rattle.std.proofs.Common.{◌<◌, ◌≤◌, refl, ap, arith}
 use Rattle.engine.specs.inner.Rounds.{left, GoesOn, KeepsPart, KeepsWritten}
 use Rattle.engine.proofs.Events.{onward-most}
-use Rattle.engine.proofs.Turns.{goes-then, goes-still, goes-same, retired, retired-leaves, retired-settles, retired-same, on-err}
+use Rattle.engine.proofs.Turns.{goes-then, goes-still, goes-same, retired, retired-leaves, retired-quiet, retired-same, on-err}
 use Rattle.engine.proofs.Written.{wrote-same, wrote-more, wrote-part, wrote-whole}
 use Rattle.engine.proofs.rounds.retire_all.Goals as goal
 use Rattle.engine.proofs.rounds.retire_all.Goals.{After-detect_all}
@@ -49,9 +49,9 @@ returns-then-not-branch-clause-goes_on g c =
     goes-then (view c.args.engine.now) (view c.detect_all.new.engine) (view c.retire.new.self) (so_far g (goal.at.returns-then-not-branch-clause-goes_on g c).After-detect_all)
     (retired (view c.detect_all.new.engine) (view c.retire.new.self) c.in_ok-retire.field-0 c.detect_all.ensures.goes_on.onward.stands c.in_ok-retire.ensures.gives)
 
-pub returns-then-not-branch-clause-settled : goal.returns-then-not-branch-clause-settled
-returns-then-not-branch-clause-settled g c =
-    retired-settles (g.E.Calls.view c.detect_all.new.engine) (g.E.Calls.view c.retire.new.self) c.in_ok-detect_all.ensures.none_struck
+pub returns-then-not-branch-clause-quiet : goal.returns-then-not-branch-clause-quiet
+returns-then-not-branch-clause-quiet g c =
+    retired-quiet (g.E.Calls.view c.detect_all.new.engine) (g.E.Calls.view c.retire.new.self) c.in_ok-detect_all.ensures.none_struck
     (rw c.if-not-branch.true at c.in_ok-retire.ensures.gives)
 
 pub returns-then-not-branch-clause-written : goal.returns-then-not-branch-clause-written

@@ -106,7 +106,7 @@ returns-in-Some-clause-onward g c = onward₁ g (goal.at.returns-in-Some-clause-
 
 pub returns-in-Some-clause-complete : goal.returns-in-Some-clause-complete
 returns-in-Some-clause-complete g c =
-    completed (g.E.Calls.view c.retire_all.new.engine) c.in-Some.end c.retire_all.ensures.goes_on.onward.stands c.in_ok-retire_all.ensures.settled.none_struck
+    completed (g.E.Calls.view c.retire_all.new.engine) c.in-Some.end c.retire_all.ensures.goes_on.onward.stands c.in_ok-retire_all.ensures.quiet.none_struck
     (finished g (goal.at.returns-in-Some-clause-complete g c).In-Some)
 
 pub returns-in-Some-clause-end : goal.returns-in-Some-clause-end
@@ -180,7 +180,7 @@ pub rounds-smaller : goal.rounds-smaller
 rounds-smaller g c =
     let view = g.E.Calls.view in
     round-falls (view c.rounds.engine) (view c.retire_all.new.engine) (view c.issue_all.new.engine) (view c.post_all.new.engine) (view c.take_one.new.engine) c.in_ok-take_one.field-0
-    c.retire_all.ensures.goes_on.onward c.in_ok-retire_all.ensures.settled c.in_default.ensures.none
+    c.retire_all.ensures.goes_on.onward c.in_ok-retire_all.ensures.quiet c.in_default.ensures.none
     c.issue_all.ensures.goes_on.onward c.in_ok-issue_all.ensures.issued c.post_all.ensures.onward c.in_ok-post_all.ensures.none c.in_ok-take_one.ensures.took
 
 pub rounds-preserved : goal.rounds-preserved

@@ -7,10 +7,10 @@ use Rattle.token_order.specs.View.{table, seat_of}
 use Rattle.token_order.proofs.Turning.{by}
 use Rattle.token_order.proofs.threads.Threads.fork.Goals as goal
 
-pub returns-then-len : goal.returns-then-len
-returns-then-len c next task arguments known line =
+pub returns-then-len-clause-answer : goal.returns-then-len-clause-answer
+returns-then-len-clause-answer c next task arguments known line =
     let few : length c.args.self.now.seats.items < 4096 = search rules in
     let same = length-map c.args.self.now.seats.items seat_of in
     by (table c.args.self.now) (table c.issue.new.self) c.issue.result
     (ap (λ b. cond b (issuing (table c.args.self.now) c.args.t next) (stuck why.Threads c.args.t next)) (lt-ltb _ _ (omega arith)))
-    (c.issue.ensures next known)
+    (c.issue.ensures.answer next known)

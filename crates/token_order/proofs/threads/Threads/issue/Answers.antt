@@ -6,15 +6,15 @@ use Rattle.token_order.proofs.Looking.{get-at}
 use Rattle.token_order.proofs.Issuing.{issued-as}
 use Rattle.token_order.proofs.threads.Threads.issue.Goals as goal
 
-pub returns : goal.returns
-returns c next e =
-    issued-as c.args.self.now c.args.t c.index_mut.result.now c.begin.new.seat next c.in-Some.next c.clear.new.seats _ _ _ _
+pub returns-clause-answer : goal.returns-clause-answer
+returns-clause-answer c next e =
+    issued-as c.args.self.now c.args.t c.index_mut.result.now c.begin.new.seat next c.in-Some.next c.unpass_all.new.seats _ _ _ _
     (get-at c.args.self.now.seats.items c.args.t c.index_mut.result.now c.requires.exists c.index_mut.ensures.value)
     (sym c.begin.ensures.next ∙ c.in-Some.is)
     c.begin.ensures.seat
     (search rules)
     c.hand_over.ensures
-    (with_items_is (with_item c.args.self.now.seats c.args.t c.begin.new.seat) c.clear.new.seats (search rules))
+    (with_items_is (with_item c.args.self.now.seats c.args.t c.begin.new.seat) c.unpass_all.new.seats (search rules))
     c.add_child-child.ensures.seats
     c.add_child-child.ensures.child
     (search rules)

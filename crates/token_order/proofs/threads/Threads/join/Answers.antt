@@ -18,30 +18,30 @@ found c = let fits : SFits w64 c.args.h = search rules in simp to_z-of_z at c.in
 many : (c : In-Some) → c.len.result ≡ length (table c.args.self.now).seats
 many c = let all : c.len.result ≡ length c.args.self.now.seats.items = search rules in all ∙ sym (length-map c.args.self.now.seats.items seat_of)
 
-pub returns-in-None : goal.returns-in-None
-returns-in-None c next known line =
-    let some = (goal.at.returns-in-None c).In-Some in
+pub returns-in-None-clause-answer : goal.returns-in-None-clause-answer
+returns-in-None-clause-answer c next known line =
+    let some = (goal.at.returns-in-None-clause-answer c).In-Some in
     let at = get-at c.args.self.now.seats.items c.in-Some.other c.index.result.now (search rules) c.index.ensures in (
       join_there (table c.args.self.now) c.args.h c.len.result c.in-Some.other c.args.t next (found some) (many some)
           ∙ ap (λ o. joining c.in-Some.other o (table c.args.self.now) c.args.t next) (seat-next c.args.self.now c.in-Some.other c.index.result.now at ∙ c.in-None.is),
       refl,
     )
 
-pub returns-then-is_end : goal.returns-then-is_end
-returns-then-is_end c next known line =
-    let some = (goal.at.returns-then-is_end c).In-Some in
+pub returns-then-is_end-clause-answer : goal.returns-then-is_end-clause-answer
+returns-then-is_end-clause-answer c next known line =
+    let some = (goal.at.returns-then-is_end-clause-answer c).In-Some in
     let at = get-at c.args.self.now.seats.items c.in-Some.other c.index.result.now (search rules) c.index.ensures in
     by (table c.args.self.now) (table c.issue.new.self) c.issue.result
     (join_there (table c.args.self.now) c.args.h c.len.result c.in-Some.other c.args.t next (found some) (many some)
     ∙ ap (λ o. joining c.in-Some.other o (table c.args.self.now) c.args.t next) (seat-next c.args.self.now c.in-Some.other c.index.result.now at ∙ c.in-Some-next.is)
     ∙ ap (λ b. cond b (issuing (table c.args.self.now) c.args.t next) (passing (table c.args.self.now) c.args.t)) (sym c.is_end.ensures ∙ c.if-is_end.true))
-    (c.issue.ensures next known)
+    (c.issue.ensures.answer next known)
 
-pub returns-else-is_end : goal.returns-else-is_end
-returns-else-is_end c next known line =
-    let some = (goal.at.returns-else-is_end c).In-Some in
+pub returns-else-is_end-clause-answer : goal.returns-else-is_end-clause-answer
+returns-else-is_end-clause-answer c next known line =
+    let some = (goal.at.returns-else-is_end-clause-answer c).In-Some in
     let at = get-at c.args.self.now.seats.items c.in-Some.other c.index.result.now (search rules) c.index.ensures in
     join_there (table c.args.self.now) c.args.h c.len.result c.in-Some.other c.args.t next (found some) (many some)
     ∙ ap (λ o. joining c.in-Some.other o (table c.args.self.now) c.args.t next) (seat-next c.args.self.now c.in-Some.other c.index.result.now at ∙ c.in-Some-next.is)
     ∙ ap (λ b. cond b (issuing (table c.args.self.now) c.args.t next) (passing (table c.args.self.now) c.args.t)) (sym c.is_end.ensures ∙ c.if-is_end.false)
-    ∙ c.pass.ensures
+    ∙ c.pass.ensures.passes

@@ -4,8 +4,8 @@ use Rattle.token_order.proofs.Looking.{get-at}
 use Rattle.token_order.proofs.Changing.{map-replaced}
 use Rattle.token_order.proofs.threads.Threads.learn.Goals as goal
 
-pub returns : goal.returns
-returns c =
+pub returns-clause-learnt : goal.returns-clause-learnt
+returns-clause-learnt c =
     ap (λ ss. record (table c.args.self.now) { seats = ss })
     (map-replaced seat_of c.args.self.now.seats.items c.args.t (λ s. record s { next = Some c.args.next }) c.index_mut.result.now _
     (get-at c.args.self.now.seats.items c.args.t c.index_mut.result.now c.requires.exists c.index_mut.ensures.value) refl)

@@ -6,9 +6,9 @@ use Rattle.token_order.specs.View.{table}
 use Rattle.token_order.proofs.Turning.{by}
 use Rattle.token_order.proofs.threads.Threads.lock.Goals as goal
 
-pub returns-then-is_free : goal.returns-then-is_free
-returns-then-is_free c next known =
+pub returns-then-is_free-clause-answer : goal.returns-then-is_free-clause-answer
+returns-then-is_free-clause-answer c next known =
     by (table c.args.self.now) (table c.issue.new.self) c.issue.result
     (ap (λ b. cond b (issuing (table c.args.self.now) c.args.t next) (passing (table c.args.self.now) c.args.t))
     (ap (λ owners. is_none (option_and_then (λ o. o) (slice_get owners c.args.lock))) (sym c.deref.ensures.value) ∙ sym c.is_free.ensures ∙ c.if-is_free.true))
-    (c.issue.ensures next known)
+    (c.issue.ensures.answer next known)

@@ -6,23 +6,23 @@ use Rattle.token_order.proofs.Turning.{by, stand-is}
 use Rattle.token_order.proofs.Barriers.{free_goes, still_waits, is_away_so}
 use Rattle.token_order.proofs.threads.Threads.meet.Goals as goal
 
-pub returns-then-is_released : goal.returns-then-is_released
-returns-then-is_released c next known is =
+pub returns-then-is_released-clause-answer : goal.returns-then-is_released-clause-answer
+returns-then-is_released-clause-answer c next known is =
     let at = get-at c.args.self.now.seats.items c.args.t c.index.result.now c.requires.exists c.index.ensures in
     by (table c.args.self.now) (table c.issue.new.self) c.issue.result
     (free_goes (table c.args.self.now) c.args.t c.args.barrier next (stand_view c.index.result.now.stand) (stand-is c.args.self.now c.args.t c.index.result.now at) (sym c.is_released.ensures ∙ c.if-is_released.true))
-    (c.issue.ensures next known)
+    (c.issue.ensures.answer next known)
 
-pub returns-then-is_away : goal.returns-then-is_away
-returns-then-is_away c next known is =
+pub returns-then-is_away-clause-answer : goal.returns-then-is_away-clause-answer
+returns-then-is_away-clause-answer c next known is =
     let at = get-at c.args.self.now.seats.items c.args.t c.index-2.result.now c.requires.exists c.index-2.ensures in
-    c.come.ensures next known is
+    c.come.ensures.answer next known is
     (stand-is c.args.self.now c.args.t c.index-2.result.now at ∙ is_away_so (stand_view c.index-2.result.now.stand) (sym c.is_away.ensures ∙ c.if-is_away.true))
 
-pub returns : goal.returns
-returns c next known is =
+pub returns-clause-answer : goal.returns-clause-answer
+returns-clause-answer c next known is =
     let at = get-at c.args.self.now.seats.items c.args.t c.index.result.now c.requires.exists c.index.ensures in
     let again = get-at c.args.self.now.seats.items c.args.t c.index-2.result.now c.requires.exists c.index-2.ensures in
     still_waits (table c.args.self.now) c.args.t c.args.barrier next (stand_view c.index.result.now.stand) (stand-is c.args.self.now c.args.t c.index.result.now at) (sym c.is_released.ensures ∙ c.if-is_released.false)
     (ap is_away (sym (stand-is c.args.self.now c.args.t c.index.result.now at) ∙ stand-is c.args.self.now c.args.t c.index-2.result.now again) ∙ sym c.is_away.ensures ∙ c.if-is_away.false)
-    ∙ c.pass.ensures
+    ∙ c.pass.ensures.passes

@@ -5,8 +5,8 @@ use Rattle.token_order.proofs.Looking.{get-at}
 use Rattle.token_order.proofs.Changing.{map-replaced}
 use Rattle.token_order.proofs.threads.Threads.pass.Goals as goal
 
-pub returns : goal.returns
-returns c =
+pub returns-clause-passes : goal.returns-clause-passes
+returns-clause-passes c =
     ap (λ ss. More (record (table c.args.self.now) { seats = ss; token = Some c.args.t }))
     (sym (map-replaced seat_of c.args.self.now.seats.items c.args.t (λ s. record s { passed = true }) c.index_mut.result.now _
     (get-at c.args.self.now.seats.items c.args.t c.index_mut.result.now c.requires.exists c.index_mut.ensures.value) refl))

@@ -4,7 +4,7 @@ use Rattle.task_ast.specs.Table.{unpassed, with_nth}
 use Rattle.token_order.specs.View.{seat_of}
 use Rattle.token_order.proofs.Looking.{get-or}
 use Rattle.token_order.proofs.Changing.{map-replaced, first_mapped, first_mapped-more, first_mapped-all}
-use Rattle.token_order.proofs.threads.clear.Goals as goal
+use Rattle.token_order.proofs.threads.unpass_all.Goals as goal
 
 pub loop-seat-preserved : goal.loop-seat-preserved
 loop-seat-preserved c =
