@@ -1,31 +1,16 @@
 //! Runs batch programs of several threads, with the output of one thread that runs them in token order.
 #![tactic(auto)]
 
-mod batch;
 mod file_shelf;
-mod inputs;
-mod journalled;
-mod lines;
-mod plan;
-mod run;
-#[cfg(test)]
-mod scripted;
 mod std_sink;
-#[cfg(test)]
-mod struck;
-#[cfg(test)]
-mod tests;
-mod texts;
-mod top;
-mod work;
 
+use batch_calls::gprs_run;
 use file_shelf::FileShelf;
 use gp_base::FreeGate;
 use std::process::ExitCode;
 use std::rt::Env;
 use std::{env, io};
 use std_sink::StdSink;
-use top::gprs_run;
 
 // The words after the program's name. Words that are not text are those of no command.
 fn words_of<R: Env + AllocGlobal>(rt: &R) -> io::Result<Vec<String>> {

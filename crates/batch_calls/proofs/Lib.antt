@@ -1,0 +1,4 @@
+pub mod PlainTexts
+pub mod RanPieces
+pub mod RunPieces
+pub mod TopCall

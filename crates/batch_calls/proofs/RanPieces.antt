@@ -1,0 +1,352 @@
+-- Runs over a journal: from what the engine promises of a batch to what is promised of a work, and from the pieces of a text to the whole.
+use Rattle.std.proofs.Common.{◌≡◌, ◌⊎◌, ℕ, ◌-◌, ◌≤◌, zero, suc, ℤ, List, [], ◌∷◌, ◌++◌, length, take, drop, flat_map, slice_get, codes, Result, Ok, Err, inl, inr, refl, sym, ap, subst, ◌∙◌, append_assoc, append-nil, arith}
+use Rattle.std.specs.declared.option.Option.{Option}
+use Rattle.std.specs.declared.option.Option.TheVariants.{None, Some}
+use Rattle.std.specs.Io.KnownBytes.{Appends, Keeps}
+use Rattle.std.proofs.lemmas.List.{take_all, take-append-drop}
+use Rattle.std.proofs.lemmas.Grind.{flat_map-append}
+use Rattle.std.proofs.Math.Nat.{le_refl}
+use Rattle.gp_base.specs.Sinks.{AppendsPrefix, Rose}
+use Rattle.gp_base.specs.declared.sink.SinkFault.{SinkFault}
+use Rattle.gp_base.specs.declared.sink.SinkFault.TheVariants.{Failed}
+use Rattle.gp_base.specs.declared.sink.SinkFault.TheVariants as sink
+use Rattle.gp_base.specs.declared.fault.Fault.{Fault}
+use Rattle.gp_base.specs.declared.journal.Event.{Event}
+use Rattle.gp_base.specs.declared.journal.Restart.{Restart}
+use Rattle.gp_base.specs.declared.journal.Journal.{Journal}
+use Rattle.gp_base.proofs.Written.{Appends-append, prefix_first, prefix_second, prefix_none, prefix_of_split, Keeps-same}
+use Rattle.task_ast.specs.Plain.{Subthread, order, end, final_records}
+use Rattle.dependence.specs.Journal.{Lawful, Complete, stage}
+use Rattle.dependence.specs.Runs.{dependence_of, restarts_of}
+use Rattle.task_ast.specs.Names.{records_of}
+use Rattle.task_ast.specs.Layout.{cut}
+use Rattle.restart_log.specs.Lines.{printed}
+use Rattle.restart_log.specs.Tail as tail
+use Rattle.restart_log.specs.Soak as soak
+use Rattle.reorder_list.specs.declared.report.Report.{Report}
+use Rattle.reorder_list.specs.declared.report.EngineStop.{EngineStop}
+use Rattle.reorder_list.specs.declared.report.StopWhy.TheVariants.{WriteFault}
+use Rattle.reorder_list.specs.declared.report.StopWhy.TheVariants as why
+use Rattle.engine.specs.View.{Batch, program_in, run_in, lines_of}
+use Rattle.engine.specs.Drive.{JournalStands, ReportsRun, all_lines, WritesRetired}
+use Rattle.command_line.specs.declared.asked.Command.TheVariants as command
+use Rattle.command_line.specs.declared.asked.Soak.{Soak}
+use Rattle.call_cases.specs.Work.{Work}
+use Rattle.call_cases.specs.PlainText.{plain_ran, restarts_in}
+use Rattle.call_cases.specs.Journals.{run_of, dependence_for, retired_in, lines_before, IsJournalOf, IsCompleteOf, TakesRetiredFor}
+use Rattle.call_cases.specs.Answers.{Change, TakesAll, TakesPart, Fails}
+use Rattle.call_cases.specs.Headline.{IsEmpty}
+use Rattle.batch_calls.specs.inner.Ran.{Stops, why_of, RunsBatch, bytes_below, bytes_at, IsReportOf, RunsWork, RanFor, told_tail, told_soak}
+use Rattle.call_cases.specs.Texts.{tail_text, run_text, soak_text}
+
+-- a batch of the engine that is the run of a work
+module _ (batch : Batch) (work : Work) (program : program_in batch ≡ work.program) (inputs : batch.inputs ≡ work.inputs) (limits : batch.limits ≡ work.limits) (faults : batch.faults ≡ work.faults) where
+  same_run : run_in batch ≡ run_of work
+  unfolding run_of
+  same_run = ap (λ p. order p batch.inputs batch.limits) program ∙ ap (λ i. order work.program i batch.limits) inputs ∙ ap (λ l. order work.program work.inputs l) limits
+
+  -- what holds of the batch's run and faults holds of the work's
+  crossed : (P : List Subthread → List Fault → Type 0) → P (run_in batch) batch.faults → P (run_of work) work.faults
+  crossed P is = subst (λ f. P (run_of work) f) faults (subst (λ r. P r batch.faults) same_run is)
+
+  journal_of : (journal : Journal) → JournalStands batch journal → IsJournalOf work journal
+  unfolding dependence_for
+  journal_of journal stands = record {
+    lawful = crossed (λ r f. Lawful (dependence_of r) f journal.events) stands.lawful;
+    first = (stands.first.0, crossed (λ r f. restarts_of r f ≡ journal.restarts ++ stands.first.0) stands.first.1);
+    counted = stands.counted;
+  }
+
+  restarts_same : restarts_of (run_in batch) batch.faults ≡ restarts_in work
+  unfolding run_of restarts_in
+  restarts_same = crossed (λ r f. restarts_of (run_in batch) batch.faults ≡ restarts_of r f) refl
+
+  report_of : (report : Report) → ReportsRun batch report → IsReportOf work report
+  unfolding dependence_for plain_ran run_of
+  report_of report reports =
+      let restarts = reports.restarts ∙ restarts_same in
+      record {
+        complete = crossed (λ r f. Complete (dependence_of r) f report.journal.events) reports.complete;
+        restarts = restarts;
+        end = reports.end ∙ ap (λ p. end p batch.inputs batch.limits) program ∙ ap (λ i. end work.program i batch.limits) inputs ∙ ap (λ l. end work.program work.inputs l) limits;
+        cells = reports.records ∙ ap (λ p. final_records p batch.inputs batch.limits) program ∙ ap (λ i. final_records work.program i batch.limits) inputs ∙ ap (λ l. final_records work.program work.inputs l) limits;
+        subthreads = reports.subthreads ∙ ap length same_run;
+        unused = reports.unused ∙ ap (λ f. length f - length report.journal.restarts) faults ∙ ap (λ l. length work.faults - length l) restarts;
+      }
+
+  lines_same : all_lines batch ≡ (plain_ran work).lines
+  unfolding plain_ran run_of
+  lines_same = ap (flat_map (λ (s : Subthread). s.lines)) same_run
+
+  partly_of : (before after : Option (List ℕ)) (journal : Journal) → WritesRetired batch before after journal
+      → (part : ℕ) × Appends before after (bytes_below work (retired_in work journal) ++ take part (bytes_at work (retired_in work journal)))
+  unfolding dependence_for
+  partly_of before after journal writes = (
+    writes.part,
+    crossed (λ r f. Appends before after
+        (printed (flat_map (λ (s : Subthread). s.lines) (take (stage (dependence_of r) f journal.events).retired r))
+        ++ take writes.part (printed (lines_of (slice_get r (stage (dependence_of r) f journal.events).retired))))) writes.bytes,
+  )
+
+  pub runs_work : (out : Change) (result : Result Report EngineStop) → RunsBatch batch out result → RunsWork work out result
+  runs_work out (Ok report) ran = record {
+    journal = journal_of report.journal ran.journal;
+    report = report_of report ran.report;
+    lines = subst (λ l. TakesAll out (printed l)) lines_same ran.lines;
+    partly = partly_of out.written out.written' report.journal ran.partly;
+    later = ran.cause.later;
+    cause = tt;
+  }
+  runs_work out (Err stop) ran = record {
+    journal = journal_of stop.journal ran.journal;
+    report = tt;
+    lines = tt;
+    partly = partly_of out.written out.written' stop.journal ran.partly;
+    later = ran.cause.later;
+    cause = ran.cause.failed;
+  }
+
+-- a run that has not begun has a journal of no event
+abbrev journal_by : List Event → List Restart → Journal
+journal_by events restarts = record { events = events; restarts = restarts }
+
+empty_by : (journal : Journal) → IsEmpty journal → journal ≡ journal_by [] []
+empty_by journal empty = ap (λ e. journal_by e journal.restarts) empty.0 ∙ ap (λ r. journal_by [] r) empty.1
+
+pub empty_journal_of : (work : Work) (journal : Journal) → IsEmpty journal → IsJournalOf work journal
+empty_journal_of work journal empty = subst (IsJournalOf work) (sym (empty_by journal empty)) (record { lawful = tt; first = (_, refl); counted = refl })
+
+pub none_retired : (work : Work) (journal : Journal) → IsEmpty journal → retired_in work journal ≡ 0
+none_retired work journal empty = ap (λ j. retired_in work j) (empty_by journal empty)
+
+-- a run that stopped before it began, for want of memory, when nothing was written of its lines
+pub unbegun_stop : (work : Work) (written : Option (List ℕ)) (faults : ℕ) (stop : EngineStop) (journal : Journal) → IsEmpty journal → stop.why ≡ why.OutOfMemory → stop.journal ≡ journal
+    → RunsWork work (record { written = written; written' = written; faults = faults; faults' = faults }) (Err stop)
+unbegun_stop work written faults stop journal empty is same =
+    let empty' = subst IsEmpty (sym same) empty in
+    record {
+      journal = empty_journal_of work stop.journal empty';
+      report = tt;
+      lines = tt;
+      partly = (0, subst (λ n. Appends written written (bytes_below work n ++ [])) (sym (none_retired work stop.journal empty')) (nothing written));
+      later = le_refl faults;
+      cause = λ failed. let bad : why.OutOfMemory ≡ WriteFault = sym is ∙ failed in cc;
+    }
+  where
+    nothing : (known : Option (List ℕ)) → Appends known known []
+    nothing None = tt
+    nothing (Some bytes) = sym (append-nil bytes)
+
+-- a stop at a fault of the output
+pub stops_by : (fault : SinkFault) (journal : Journal) (stop : EngineStop) → stop.why ≡ why_of fault → stop.journal ≡ journal → Stops fault journal stop
+stops_by Failed journal stop is same = record { journal_is = same; failed = λ failed. refl }
+stops_by sink.OutOfMemory journal stop is same = record { journal_is = same; failed = λ failed. let bad : why.OutOfMemory ≡ WriteFault = sym is ∙ failed in cc }
+
+-- the lines of all subthreads are those before one, those of that one, and the others
+lines_split : (run : List Subthread) (p : ℕ)
+    → flat_map (λ (s : Subthread). s.lines) run ≡ flat_map (λ (s : Subthread). s.lines) (take p run) ++ (lines_of (slice_get run p) ++ flat_map (λ (s : Subthread). s.lines) (drop (suc p) run))
+lines_split [] zero = refl
+lines_split [] (suc p) = refl
+lines_split (s ∷ run) zero = refl
+lines_split (s ∷ run) (suc p) = ap (λ l. s.lines ++ l) (lines_split run p)
+    ∙ sym (append_assoc s.lines (flat_map (λ (s : Subthread). s.lines) (take p run)) (lines_of (slice_get run p) ++ flat_map (λ (s : Subthread). s.lines) (drop (suc p) run)))
+
+lines_next : (run : List Subthread) (p : ℕ) → flat_map (λ (s : Subthread). s.lines) (take (suc p) run) ≡ flat_map (λ (s : Subthread). s.lines) (take p run) ++ lines_of (slice_get run p)
+lines_next [] zero = refl
+lines_next [] (suc p) = refl
+lines_next (s ∷ run) zero = append-nil s.lines
+lines_next (s ∷ run) (suc p) = ap (λ l. s.lines ++ l) (lines_next run p)
+    ∙ sym (append_assoc s.lines (flat_map (λ (s : Subthread). s.lines) (take p run)) (lines_of (slice_get run p)))
+
+printed-append : (a b : List (List ℤ)) → printed (a ++ b) ≡ printed a ++ printed b
+printed-append a b = flat_map-append _ a b
+
+bytes_next : (work : Work) (p : ℕ) → bytes_below work (suc p) ≡ bytes_below work p ++ bytes_at work p
+bytes_next work p = ap printed (lines_next (run_of work) p) ∙ printed-append (flat_map (λ (s : Subthread). s.lines) (take p (run_of work))) (lines_of (slice_get (run_of work) p))
+
+abbrev bytes_after : Work → ℕ → List ℕ
+bytes_after work p = printed (flat_map (λ (s : Subthread). s.lines) (drop (suc p) (run_of work)))
+
+bytes_split : (work : Work) (p : ℕ) → printed (plain_ran work).lines ≡ bytes_below work p ++ (bytes_at work p ++ bytes_after work p)
+unfolding plain_ran run_of
+bytes_split work p =
+    ap printed (lines_split (run_of work) p)
+    ∙ printed-append (flat_map (λ (s : Subthread). s.lines) (take p (run_of work))) (lines_of (slice_get (run_of work) p) ++ flat_map (λ (s : Subthread). s.lines) (drop (suc p) (run_of work)))
+    ∙ ap (λ l. bytes_below work p ++ l) (printed-append (lines_of (slice_get (run_of work) p)) (flat_map (λ (s : Subthread). s.lines) (drop (suc p) (run_of work))))
+
+bytes_all : (work : Work) → printed (plain_ran work).lines ≡ bytes_below work (length (run_of work))
+unfolding plain_ran run_of
+bytes_all work = ap (λ r. printed (flat_map (λ (s : Subthread). s.lines) r)) (sym (take_all (length (run_of work)) (run_of work) (le_refl (length (run_of work)))))
+
+-- all have retired where the journal is complete
+all_retired : (work : Work) (journal : Journal) → IsCompleteOf work journal → retired_in work journal ≡ length (run_of work)
+unfolding dependence_for
+all_retired work journal complete = complete.retired
+
+-- what follows the lines of the report is what follows those of the work
+told_same : (work : Work) (report : Report) → IsReportOf work report → told_tail work.program report ≡ tail_text (plain_ran work) (restarts_in work) (length work.faults)
+unfolding plain_ran
+told_same work report is =
+    let names = records_of work.program.heads in
+    ap (λ e. tail.tail_text e (cut names report.records) report.subthreads report.journal.restarts report.unused) is.end
+    ∙ ap (λ c. tail.tail_text (plain_ran work).end (cut names c) report.subthreads report.journal.restarts report.unused) is.cells
+    ∙ ap (λ n. tail.tail_text (plain_ran work).end (cut names (plain_ran work).cells) n report.journal.restarts report.unused) is.subthreads
+    ∙ ap (λ r. tail.tail_text (plain_ran work).end (cut names (plain_ran work).cells) (plain_ran work).subthreads r report.unused) is.restarts
+    ∙ ap (λ u. tail.tail_text (plain_ran work).end (cut names (plain_ran work).cells) (plain_ran work).subthreads (restarts_in work) u) is.unused
+
+summary_same : (batch : Soak) (work : Work) (report : Report) → IsReportOf work report → told_soak batch report ≡ soak_text batch (plain_ran work) (restarts_in work) (length work.faults)
+summary_same batch work report is =
+    ap (λ e. soak.soak_text batch.moves batch.start e report.records report.subthreads report.journal.restarts report.unused) is.end
+    ∙ ap (λ c. soak.soak_text batch.moves batch.start (plain_ran work).end c report.subthreads report.journal.restarts report.unused) is.cells
+    ∙ ap (λ n. soak.soak_text batch.moves batch.start (plain_ran work).end (plain_ran work).cells n report.journal.restarts report.unused) is.subthreads
+    ∙ ap (λ r. soak.soak_text batch.moves batch.start (plain_ran work).end (plain_ran work).cells (plain_ran work).subthreads r report.unused) is.restarts
+    ∙ ap (λ u. soak.soak_text batch.moves batch.start (plain_ran work).end (plain_ran work).cells (plain_ran work).subthreads (restarts_in work) u) is.unused
+
+-- all of the first bytes and some of the next
+lines_part : (a b : Option (List ℕ)) (xs ys : List ℕ) (n : ℕ) → Appends a b (xs ++ take n ys) → AppendsPrefix a b (xs ++ ys)
+lines_part a b xs ys n all =
+    prefix_of_split a b (xs ++ ys) (xs ++ take n ys) (drop n ys) (ap (λ l. xs ++ l) (sym (take-append-drop n ys)) ∙ sym (append_assoc xs (take n ys) (drop n ys))) all
+
+rose_later : (a b c : ℕ) → a ≤ b → Rose b c → Rose a c
+rose_later a b c later rose = omega (arith, later, rose)
+
+rose_last : (a b c d : ℕ) → a ≤ b → b ≤ c → Rose c d → Rose a d
+rose_last a b c d first second rose = omega (arith, first, second, rose)
+
+abbrev first_line : List ℕ
+first_line = codes "output\n"
+
+-- the text of a run by the engine
+module _ (work : Work) (run : work.command ≡ command.Run) where
+  abbrev whole : List ℕ
+  whole = run_text (plain_ran work) (restarts_in work) (length work.faults)
+
+  abbrev ending : List ℕ
+  ending = tail_text (plain_ran work) (restarts_in work) (length work.faults)
+
+  -- the first line was not written
+  pub ran_without_first : (out : Change) (stop : EngineStop) (journal : Journal) (fault : SinkFault) → IsEmpty journal → Stops fault journal stop → TakesPart out first_line
+      → (fault ≡ Failed → Fails out) → RanFor work whole out (Err stop)
+  ran_without_first out stop journal fault empty stops part cause =
+      let empty' = subst IsEmpty (sym stops.journal_is) empty in
+      let none = none_retired work stop.journal empty' in
+      record {
+        journal = empty_journal_of work stop.journal empty';
+        report = tt;
+        all = tt;
+        part = prefix_first out.written out.written' first_line (printed (plain_ran work).lines ++ ending) part;
+        retired = subst (λ c. TakesRetiredFor c work stop.journal out) (sym run)
+            (inl none, inr (prefix_first out.written out.written' first_line (bytes_below work (suc (retired_in work stop.journal))) part));
+        cause = λ is. cause (stops.failed is);
+      }
+
+  -- the lines were not all written
+  pub ran_without_lines : (before first second : Option (List ℕ)) (f f' f'' : ℕ) (stop : EngineStop) → Appends before first first_line → f ≤ f'
+      → RunsWork work (record { written = first; written' = second; faults = f'; faults' = f'' }) (Err stop)
+      → RanFor work whole (record { written = before; written' = second; faults = f; faults' = f'' }) (Err stop)
+  ran_without_lines before first second f f' f'' stop output later runs =
+      let r = retired_in work stop.journal in
+      let taken = take runs.partly.0 (bytes_at work r) in
+      let lines : Appends before second (first_line ++ (bytes_below work r ++ taken)) = Appends-append before first second first_line (bytes_below work r ++ taken) output runs.partly.1 in
+      let here : AppendsPrefix first second (bytes_below work r ++ bytes_at work r) = lines_part first second (bytes_below work r) (bytes_at work r) runs.partly.0 runs.partly.1 in
+      record {
+        journal = runs.journal;
+        report = tt;
+        all = tt;
+        part = prefix_second before first second first_line (printed (plain_ran work).lines ++ ending) output
+            (prefix_first first second (printed (plain_ran work).lines) ending
+            (subst (AppendsPrefix first second) (append_assoc (bytes_below work r) (bytes_at work r) (bytes_after work r) ∙ sym (bytes_split work r))
+            (prefix_first first second (bytes_below work r ++ bytes_at work r) (bytes_after work r) here)));
+        retired = subst (λ c. TakesRetiredFor c work stop.journal (record { written = before; written' = second; faults = f; faults' = f'' })) (sym run) (
+          inr (taken, subst (Appends before second) (sym (append_assoc first_line (bytes_below work r) taken)) lines),
+          inr (prefix_second before first second first_line (bytes_below work (suc r)) output (subst (AppendsPrefix first second) (sym (bytes_next work r)) here)),
+        );
+        cause = λ is. rose_later f f' f'' later (runs.cause is);
+      }
+
+  module _ (before first second third : Option (List ℕ)) (f f' f'' f''' : ℕ) (report : Report) (output : Appends before first first_line) (later : f ≤ f')
+      (runs : RunsWork work (record { written = first; written' = second; faults = f'; faults' = f'' }) (Ok report)) where
+    told : told_tail work.program report ≡ ending
+    told = told_same work report runs.report
+
+    lines_taken : Appends before second (first_line ++ printed (plain_ran work).lines)
+    lines_taken = Appends-append before first second first_line (printed (plain_ran work).lines) output runs.lines
+
+    holds : (rest : List ℕ) → Appends second third rest
+        → (retired_in work report.journal ≡ 0) ⊎ (more : List ℕ) × Appends before third (lines_before work (retired_in work report.journal) ++ more)
+    holds rest taken =
+        let all = Appends-append before second third (first_line ++ printed (plain_ran work).lines) rest lines_taken taken in
+        inr (rest, subst (λ l. Appends before third ((first_line ++ l) ++ rest)) (bytes_all work ∙ ap (bytes_below work) (sym (all_retired work report.journal runs.report.complete))) all)
+
+    -- the tail was not written
+    pub ran_without_tail : (stop : EngineStop) (fault : SinkFault) → Stops fault report.journal stop → AppendsPrefix second third (told_tail work.program report) → (fault ≡ Failed → Rose f'' f''')
+        → RanFor work whole (record { written = before; written' = third; faults = f; faults' = f''' }) (Err stop)
+    ran_without_tail stop fault stops part cause =
+        let out : Change = record { written = before; written' = third; faults = f; faults' = f''' } in
+        let complete = subst (IsCompleteOf work) (sym stops.journal_is) runs.report.complete in
+        record {
+          journal = subst (IsJournalOf work) (sym stops.journal_is) runs.journal;
+          report = tt;
+          all = tt;
+          part = prefix_second before first third first_line (printed (plain_ran work).lines ++ ending) output
+              (prefix_second first second third (printed (plain_ran work).lines) ending runs.lines (subst (AppendsPrefix second third) told part));
+          retired = subst (λ c. TakesRetiredFor c work stop.journal out) (sym run)
+              (subst (λ j. (retired_in work j ≡ 0) ⊎ (more : List ℕ) × Appends before third (lines_before work (retired_in work j) ++ more)) (sym stops.journal_is) (holds (take part.0 (told_tail work.program report)) part.1), inl complete);
+          cause = λ is. rose_last f f' f'' f''' later runs.later (cause (stops.failed is));
+        }
+
+    -- all was written
+    pub ran_whole : Appends second third (told_tail work.program report) → RanFor work whole (record { written = before; written' = third; faults = f; faults' = f''' }) (Ok report)
+    ran_whole taken =
+        let out : Change = record { written = before; written' = third; faults = f; faults' = f''' } in
+        record {
+          journal = runs.journal;
+          report = runs.report;
+          all = Appends-append before first third first_line (printed (plain_ran work).lines ++ ending) output
+              (Appends-append first second third (printed (plain_ran work).lines) ending runs.lines (subst (Appends second third) told taken));
+          part = tt;
+          retired = subst (λ c. TakesRetiredFor c work report.journal out) (sym run) (holds (told_tail work.program report) taken, inl runs.report.complete);
+          cause = tt;
+        }
+
+-- the summary of a batch that the program made
+module _ (work : Work) (batch : Soak) (run : work.command ≡ command.Soak batch) where
+  abbrev summary : List ℕ
+  summary = soak_text batch (plain_ran work) (restarts_in work) (length work.faults)
+
+  -- the run stopped, and nothing was written
+  pub soak_without_run : (out nobody : Change) (stop : EngineStop) → out.written' ≡ out.written → nobody.faults ≡ 0 → nobody.faults' ≡ 0 → RunsWork work nobody (Err stop) → RanFor work summary out (Err stop)
+  soak_without_run out nobody stop kept none none' runs = record {
+    journal = runs.journal;
+    report = tt;
+    all = tt;
+    part = subst (λ w. AppendsPrefix out.written w summary) (sym kept) (prefix_none out.written summary);
+    retired = subst (λ c. TakesRetiredFor c work stop.journal out) (sym run) (inr (subst (Keeps out.written) (sym kept) (Keeps-same out.written)));
+    cause = λ is. absurd (never nobody.faults nobody.faults' none none' (runs.cause is));
+  }
+    where
+      never : (a b : ℕ) → a ≡ 0 → b ≡ 0 → Rose a b → ⊥
+      never a b first second rose = omega (arith, first, second, rose)
+
+  module _ (out nobody : Change) (report : Report) (runs : RunsWork work nobody (Ok report)) where
+    -- the summary was not written
+    pub soak_without_summary : (stop : EngineStop) (fault : SinkFault) → Stops fault report.journal stop → TakesPart out (told_soak batch report) → (fault ≡ Failed → Fails out) → RanFor work summary out (Err stop)
+    soak_without_summary stop fault stops part cause = record {
+      journal = subst (IsJournalOf work) (sym stops.journal_is) runs.journal;
+      report = tt;
+      all = tt;
+      part = subst (TakesPart out) (summary_same batch work report runs.report) part;
+      retired = subst (λ c. TakesRetiredFor c work stop.journal out) (sym run) (inl (subst (IsCompleteOf work) (sym stops.journal_is) runs.report.complete));
+      cause = λ is. cause (stops.failed is);
+    }
+
+    -- all was written
+    pub soak_whole : TakesAll out (told_soak batch report) → RanFor work summary out (Ok report)
+    soak_whole all = record {
+      journal = runs.journal;
+      report = runs.report;
+      all = subst (TakesAll out) (summary_same batch work report runs.report) all;
+      part = tt;
+      retired = subst (λ c. TakesRetiredFor c work report.journal out) (sym run) (inl runs.report.complete);
+      cause = tt;
+    }

@@ -1,0 +1,14 @@
+use Rattle.std.proofs.Common.{refl}
+use Rattle.call_cases.specs.Answers.{change_of}
+use Rattle.batch_calls.proofs.TopCall.{put_whole, put_stopped}
+use Rattle.batch_calls.proofs.run.plain_outcome.Goals as goal
+
+pub returns-in-Ok-clause-ends : goal.returns-in-Ok-clause-ends
+returns-in-Ok-clause-ends g c = λ text due out put.
+    let err = change_of g.E.Sink.written g.E.Sink.faults c.args.err.now c.args.err.now in
+    put_whole text due out err c.args.put c.in-Ok.status put c.in-Ok.is refl
+
+pub returns-in-Err-clause-ends : goal.returns-in-Err-clause-ends
+returns-in-Err-clause-ends g c = λ text due out put.
+    let err = change_of g.E.Sink.written g.E.Sink.faults c.args.err.now c.stop_with-status.new.err in
+    put_stopped text due out err c.args.put c.in-Err.fault c.stop_with-status.result put c.in-Err.is (rw c.why_of.ensures at c.stop_with-status.ensures)

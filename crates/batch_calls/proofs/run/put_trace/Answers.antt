@@ -1,0 +1,15 @@
+use Rattle.restart_log.specs.Trace.{trace_text}
+use Rattle.call_cases.specs.Answers.{change_of}
+use Rattle.std.proofs.Common.{refl, [], if◌then◌else◌}
+use Rattle.batch_calls.proofs.TopCall.{untraced, trace_without}
+use Rattle.batch_calls.proofs.run.put_trace.Goals as goal
+
+pub returns-then-not-is_traced : goal.returns-then-not-is_traced
+returns-then-not-is_traced g c =
+    let err = change_of g.E.Sink.written g.E.Sink.faults c.args.err.now c.args.err.now in
+    untraced c.args.due c.args.is_traced (trace_text c.args.journal.now) err c.if-not-is_traced.true refl
+
+pub returns-in-Err : goal.returns-in-Err
+returns-in-Err g c =
+    let err = change_of g.E.Sink.written g.E.Sink.faults c.args.err.now c.args.err.now in
+    trace_without c.args.due (if c.args.is_traced then trace_text c.args.journal.now else []) err refl

@@ -1,0 +1,22 @@
+use Rattle.std.proofs.Common.{ap, refl}
+use Rattle.command_line.specs.Words.{texts}
+use Rattle.call_cases.specs.PlainText.{commands}
+use Rattle.call_cases.specs.Decided.{work_of}
+use Rattle.call_cases.specs.Answers.{change_of}
+use Rattle.batch_calls.proofs.TopCall.{run_headline, refused_headline}
+use Rattle.batch_calls.proofs.top.gprs_run.Goals as goal
+
+pub returns-in-Ok-clause-headline : goal.returns-in-Ok-clause-headline
+returns-in-Ok-clause-headline g c =
+    let out = change_of g.O.Sink.written g.O.Sink.faults c.args.out.now c.carry_out.new.out in
+    let err = change_of g.E.Sink.written g.E.Sink.faults c.args.err.now c.carry_out.new.err in
+    run_headline commands (texts c.args.words.now) (g.H.Shelf.files c.args.shelf.now) (g.H.Shelf.failed c.args.shelf.now) (g.H.Shelf.failed c.read_batch.new.shelf) out err
+    c.carry_out.result.status c.carry_out.result.journal (work_of c.in-Ok.batch) c.in-Ok.batch.asked
+    c.in-Ok.ensures.asked refl c.in-Ok.ensures.case c.in-Ok.ensures.shelf c.carry_out.ensures.unjournalled c.carry_out.ensures.run c.carry_out.ensures.ends
+
+pub returns-in-Err-clause-headline : goal.returns-in-Err-clause-headline
+returns-in-Err-clause-headline g c =
+    let err = change_of g.E.Sink.written g.E.Sink.faults c.args.err.now c.refuse-status.new.err in
+    refused_headline commands (texts c.args.words.now) (g.H.Shelf.files c.args.shelf.now) (g.H.Shelf.failed c.args.shelf.now) (g.H.Shelf.failed c.read_batch.new.shelf)
+    (g.O.Sink.written c.args.out.now) (g.O.Sink.faults c.args.out.now) err c.refuse-status.result c.empty_journal.result c.in-Err.refusal
+    (λ none. let unread = c.in-Err.ensures.no_command none in (unread.0, ap g.H.Shelf.failed unread.1)) c.in-Err.ensures.case c.in-Err.ensures.shelf c.empty_journal.ensures c.refuse-status.ensures

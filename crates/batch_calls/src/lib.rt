@@ -1,0 +1,10 @@
+//! The top calls: all that the program does, over a shelf, two sinks and a gate that are handed in.
+#![tactic(auto)]
+
+mod plain;
+pub mod plan;
+mod run;
+mod texts;
+mod top;
+
+pub use top::gprs_run;

@@ -1,0 +1,64 @@
+-- A call has one case, which its words and the files tell.
+use Rattle.std.proofs.Common.{◌≡◌, ℕ, List, [], IfSome, refl, sym, ◌∙◌, ap, subst}
+use Rattle.std.specs.declared.option.Option.{Option}
+use Rattle.std.specs.declared.option.Option.TheVariants.{None, Some}
+use Rattle.gp_base.specs.Files.{bytes_of}
+use Rattle.task_parser.specs.Spelling.{Means}
+use Rattle.task_parser.proofs.OneSpelling.{one_meaning, some_meaning}
+use Rattle.command_line.specs.declared.asked.Asked.{Asked}
+use Rattle.call_cases.specs.Work.{Files, Commands}
+use Rattle.call_cases.specs.Case.{OneCase, SomeCase, Case, Missing, IsCaseOf, no_program, of_text, IsCase, no_command, asks, ForCase, meant_case}
+
+value_of : {A : Type 0} → A → Option A → A
+value_of d None = d
+value_of d (Some x) = x
+
+-- an option holds one value
+pub same_some : {A : Type 0} (o : Option A) (x y : A) → o ≡ Some x → o ≡ Some y → x ≡ y
+unfolding value_of
+same_some o x y is_x is_y = ap (value_of x) (sym is_x ∙ is_y)
+
+pub none_some : {A : Type 0} (o : Option A) (x : A) → o ≡ None → o ≡ Some x → ⊥
+none_some o x none some = let e : None ≡ Some x = sym none ∙ some in cc
+
+-- what is asked has one case over the same files
+pub one_case_of : (commands : Commands) (asked : Asked) (files : Files) (a b : Case) → IsCaseOf commands asked files a → IsCaseOf commands asked files b → a ≡ b
+one_case_of commands asked files a b (no_program absent) (no_program absent') = refl
+one_case_of commands asked files a b (no_program absent) (of_text {text} meaning there means) = absurd (none_some (bytes_of files asked.program) text absent there)
+one_case_of commands asked files a b (of_text {text} meaning there means) (no_program absent) = absurd (none_some (bytes_of files asked.program) text absent there)
+one_case_of commands asked files a b (of_text {text} meaning there means) (of_text {text = text'} meaning' there' means') =
+    let texts = same_some (bytes_of files asked.program) text' text there' there in
+    ap (meant_case commands files asked) (one_meaning text meaning meaning' means (subst (λ u. Means u meaning') texts means'))
+
+pub one_case : OneCase
+one_case commands words files a b (no_command none) (no_command none') = refl
+one_case commands words files a b (no_command none) (asks {asked} some is) = absurd (none_some (commands.reading words) asked none some)
+one_case commands words files a b (asks {asked} some is) (no_command none) = absurd (none_some (commands.reading words) asked none some)
+one_case commands words files a b (asks {asked} some is) (asks {asked = asked'} some' is') =
+    let same = same_some (commands.reading words) asked' asked some' some in
+    one_case_of commands asked (commands.files asked files) a b is (subst (λ (x : Asked). IsCaseOf commands x (commands.files x files) b) same is')
+
+pub some_case_of : (commands : Commands) (asked : Asked) (files : Files) → (case : Case) × IsCaseOf commands asked files case
+some_case_of commands asked files = found (bytes_of files asked.program) refl
+  where
+    found : (bytes : Option (List ℕ)) → bytes_of files asked.program ≡ bytes → (case : Case) × IsCaseOf commands asked files case
+    found None absent = (Missing [] asked.program, no_program absent)
+    found (Some text) there = let m = some_meaning text in (meant_case commands files asked m.0, of_text m.0 there m.1)
+
+pub some_case : SomeCase
+some_case commands words files = go (commands.reading words) refl
+  where
+    go : (asked : Option Asked) → commands.reading words ≡ asked → (case : Case) × IsCase commands words files case
+    go None none = (_, no_command none)
+    go (Some asked) some = let found = some_case_of commands asked (commands.files asked files) in (found.0, asks some found.1)
+
+-- what holds of a case that is known holds of the case
+pub for_known : (commands : Commands) (words : List (List ℕ)) (files : Option Files) (known : Case) (P : Case → Type 0) → IfSome files (λ told. IsCase commands words told known) → P known →
+    ForCase commands words files P
+for_known commands words None known P is holds = tt
+for_known commands words (Some files) known P is holds = λ case is_case. subst P (one_case commands words files known case is is_case) holds
+
+-- what holds of each case
+pub for_each : (commands : Commands) (words : List (List ℕ)) (files : Option Files) (P : Case → Type 0) → ((case : Case) → P case) → ForCase commands words files P
+for_each commands words None P holds = tt
+for_each commands words (Some files) P holds = λ case is_case. holds case

@@ -1,0 +1,5 @@
+use Rattle.call_cases.proofs.OneCase as lemmas
+use Rattle.call_cases.proofs.cases.some_case.Goals as goal
+
+pub returns : goal.returns
+returns c = lemmas.some_case

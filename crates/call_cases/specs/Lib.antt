@@ -1,0 +1,12 @@
+pub mod Answers
+pub mod Case
+pub mod Decided
+pub mod Headline
+pub mod InputFiles
+pub mod Journals
+pub mod Lines
+pub mod PlainText
+pub mod SoakFiles
+pub mod Texts
+pub mod Work
+pub mod inner

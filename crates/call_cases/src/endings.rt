@@ -1,0 +1,43 @@
+// How a call ends: its answer, and the line that tells why there is nothing to do.
+ghost use Rattle.call_cases.specs.Answers.{change_of};
+ghost use Rattle.call_cases.specs.Decided.{RefusalEnds};
+ghost use Rattle.call_cases.specs.Headline.{IsEmpty};
+
+use crate::lines::{OUT_OF_MEMORY, USAGE, end_with, read_fault_line};
+use crate::reading::Refusal;
+use gp_base::{Journal, Seq, Sink};
+use std::alloc::Global;
+
+/// The answer of a call: its status, and the journal of the run.
+#[derive(Drop)]
+pub struct Outcome {
+    pub status: u8,
+    pub journal: Journal,
+}
+
+/// A journal of no event.
+pub fn empty_journal(alloc: Global) -> Journal
+    ensures { IsEmpty result }
+{
+    Journal {
+        events: Seq::new(alloc),
+        restarts: Seq::new(alloc),
+    }
+}
+
+/// Tells why there is nothing to do, and answers the status. It is 8 where the write of that line fails, and 1 where memory
+/// runs out.
+pub fn refuse<E: Sink>(alloc: Global, refusal: Refusal, err: &mut E) -> u8
+    ensures { RefusalEnds (change_of E.written E.faults err.old err.new) refusal result }
+{
+    match refusal {
+        Refusal::Usage => end_with(err, USAGE, 2),
+        Refusal::BadProgram(line) => end_with(err, line.as_slice(), 3),
+        Refusal::BadInput(line) => end_with(err, line.as_slice(), 4),
+        Refusal::ReadFault(name) => match read_fault_line(alloc, &name) {
+            Ok(line) => end_with(err, &line, 7),
+            Err(_) => end_with(err, OUT_OF_MEMORY, 1),
+        },
+        Refusal::OutOfMemory => end_with(err, OUT_OF_MEMORY, 1),
+    }
+}

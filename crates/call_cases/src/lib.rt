@@ -1,0 +1,16 @@
+//! What every call of the program shares: what its words ask for, the files that are read for that, the case that a call
+//! comes to, the lines that tell how it ended, and the record of what a call is promised to do.
+#![tactic(auto)]
+
+mod cases;
+mod endings;
+mod inputs;
+mod lines;
+mod reading;
+mod work;
+
+pub use cases::{one_case, some_case};
+pub use endings::{Outcome, empty_journal, refuse};
+pub use lines::{OUT_OF_MEMORY, WRITE_FAULT, end_with};
+pub use reading::{Refusal, read_batch};
+pub use work::{Batch, runs};

@@ -1,0 +1,262 @@
+// What a call is to do, from its words and the shelf.
+ghost use Rattle.std.specs.Prelude.{◌≡◌, ◌<◌, ◌≤◌, List, Some, None, IfOk, IfSome, length, true};
+ghost use Rattle.gp_base.specs.declared.limits.TheConstants.{MOST_PROGRAM_BYTES};
+ghost use Rattle.task_ast.specs.View.{plain_program};
+ghost use Rattle.task_ast.specs.Tree.{Name};
+ghost use Rattle.task_ast.specs.Inputs.{AreInputsOf};
+ghost use Rattle.soak_batch.specs.Files.{soak_files};
+ghost use Rattle.command_line.specs.Words.{texts, asked_by, IsWithinLimits};
+ghost use Rattle.command_line.specs.declared.asked.Command.TheVariants as command;
+ghost use Rattle.call_cases.specs.Work.{runs};
+ghost use Rattle.call_cases.specs.PlainText.{commands};
+ghost use Rattle.call_cases.specs.Lines.{fault_line, number_of};
+ghost use Rattle.call_cases.specs.Case.{IsCaseOf, IsCase};
+ghost use Rattle.lock_checker.specs.Accepted.{program_of};
+ghost use Rattle.call_cases.specs.inner.Loading.{ReadsAmong, AnswersLoad};
+ghost use Rattle.call_cases.specs.InputFiles.{names_for, supplied_for};
+ghost use Rattle.call_cases.specs.declared.reading.Refusal.TheVariants.{OutOfMemory};
+ghost use Rattle.call_cases.specs.Decided.{AnswersCase, AnswersNoCommand, IsAcceptedIn, accepted_case, IsRefusedWith, RefusesLexing, RefusesParsing, RefusesChecking, TouchesShelf, MayRun};
+
+use crate::inputs::{read_inputs, read_struck};
+use crate::lines::{TOO_LONG, fault_line};
+use crate::work::{Batch, runs};
+use command_line::{Asked, Command, Soak, read_words};
+use gp_base::limits::MOST_PROGRAM_BYTES;
+use gp_base::{Inputs, Name, NeverShelf, Seq, Shelf, ShelfFault, Text};
+use lock_checker::{CheckFault, Checked, check};
+use soak_batch::soak_files;
+use std::alloc::{AllocError, Global};
+use task_ast::{CheckKind, Program};
+use task_parser::{LexFault, ParseFault, lex, parse};
+
+/// Why there is nothing to do: the words are those of no command; the program, or a file that it names, is refused with
+/// this line; this file could not be read; memory ran out.
+#[derive(Drop)]
+pub enum Refusal {
+    Usage,
+    BadProgram(Text),
+    BadInput(Text),
+    ReadFault(Name),
+    OutOfMemory,
+}
+
+impl From<AllocError> for Refusal {
+    ghost from_gives = { λ _ e. e ≡ OutOfMemory };
+
+    fn from(_: AllocError) -> Self {
+        Refusal::OutOfMemory
+    }
+}
+
+// A refusal of the program with this line.
+fn refused(alloc: Global, line: &[u8]) -> Refusal
+    ensures { IsRefusedWith line.now result }
+{
+    match Text::from_slice(alloc, line) {
+        Ok(line) => Refusal::BadProgram(line),
+        Err(_) => Refusal::OutOfMemory,
+    }
+}
+
+// A refusal of the program by a fault at a place.
+fn refused_at(alloc: Global, stage: &str, kind: u8, place: &str, at: u32) -> Refusal
+    ensures { IsRefusedWith (fault_line stage.now kind place.now at) result }
+{
+    match fault_line(alloc, stage, kind, place, at) {
+        Ok(line) => Refusal::BadProgram(Text::from_vec(line)),
+        Err(_) => Refusal::OutOfMemory,
+    }
+}
+
+fn refused_lexing(alloc: Global, fault: LexFault) -> Refusal
+    ensures { RefusesLexing fault result }
+{
+    match fault {
+        LexFault::BadByte(at) => refused_at(alloc, "lex", 1, "byte", at),
+        LexFault::NumberTooBig(at) => refused_at(alloc, "lex", 2, "byte", at),
+        LexFault::TooLong => refused(alloc, TOO_LONG),
+        LexFault::OutOfMemory => Refusal::OutOfMemory,
+    }
+}
+
+fn refused_parsing(alloc: Global, fault: ParseFault) -> Refusal
+    ensures { RefusesParsing fault result }
+{
+    match fault {
+        ParseFault::Unexpected(at) => refused_at(alloc, "parse", 1, "byte", at),
+        ParseFault::TooDeep(at) => refused_at(alloc, "parse", 2, "byte", at),
+        ParseFault::OutOfMemory => Refusal::OutOfMemory,
+    }
+}
+
+// The number of a rule.
+fn number_of(kind: CheckKind) -> u8
+    ensures { result ≡ number_of kind }
+{
+    match kind {
+        CheckKind::UnknownName => 1,
+        CheckKind::DoubleName => 2,
+        CheckKind::WrongCount => 3,
+        CheckKind::DataInControl => 4,
+        CheckKind::NotHeld => 5,
+        CheckKind::HeldTwice => 6,
+        CheckKind::HeldAtEnd => 7,
+        CheckKind::BranchesDiffer => 8,
+        CheckKind::IndexChangedWhileHeld => 9,
+        CheckKind::SizesDiffer => 10,
+        CheckKind::TooMany => 11,
+    }
+}
+
+fn refused_checking(alloc: Global, fault: CheckFault) -> Refusal
+    ensures { RefusesChecking fault result }
+{
+    match fault {
+        CheckFault::Bad { kind, line } => refused_at(alloc, "check", number_of(kind), "line", line),
+        CheckFault::OutOfMemory => Refusal::OutOfMemory,
+    }
+}
+
+// The program for which these bytes stand, where it is accepted.
+fn program_in(alloc: Global, asked: &Asked, bytes: &[u8]) -> Result<Checked, Refusal>
+    requires { length bytes.now ≤ MOST_PROGRAM_BYTES }
+    ensures { IsAcceptedIn asked.now bytes.now result }
+{
+    let tokens = match lex(alloc, bytes) {
+        Ok(tokens) => tokens,
+        Err(fault) => return Err(refused_lexing(alloc, fault)),
+    };
+    let program = match parse(alloc, bytes, &tokens) {
+        Ok(program) => program,
+        Err(fault) => return Err(refused_parsing(alloc, fault)),
+    };
+    match check(alloc, program) {
+        Ok(checked) => Ok(checked),
+        Err(fault) => Err(refused_checking(alloc, fault)),
+    }
+}
+
+// The inputs of an accepted program. A command that does not run it reads none.
+fn inputs_for<H: Shelf>(
+    alloc: Global,
+    command: Command,
+    checked: &Checked,
+    shelf: &mut H,
+) -> Result<Inputs, Refusal>
+    ensures kept { H.files shelf.new ≡ H.files shelf.old }
+    ensures failed { ReadsAmong (names_for command (program_of checked.now).heads) (H.failed shelf.old) (H.failed shelf.new) result }
+    ensures told { IfSome (H.files shelf.old) (λ files.
+        AnswersLoad (supplied_for command (program_of checked.now).heads files) (names_for command (program_of checked.now).heads) result) }
+    ensures inputs { runs command ≡ true → IfOk result (AreInputsOf (plain_program (program_of checked.now))) }
+{
+    if runs(command) {
+        return read_inputs(alloc, shelf, checked.program().heads.as_slice());
+    }
+    Ok(Inputs {
+        records: Seq::new(alloc),
+        feeds: Seq::new(alloc),
+    })
+}
+
+// What is asked, on an accepted program.
+fn batch_of<H: Shelf>(
+    alloc: Global,
+    asked: Asked,
+    checked: Checked,
+    shelf: &mut H,
+) -> Result<Batch, Refusal>
+    requires { IsWithinLimits asked }
+    ensures shelf { TouchesShelf (Some asked) (H.failed shelf.old) (H.failed shelf.new) result }
+    ensures case { IfSome (H.files shelf.old) (λ files.
+        AnswersCase (λ case. accepted_case asked (plain_program (program_of checked)) files ≡ case) result) }
+    ensures sound { IfOk result MayRun }
+    ensures asked { IfOk result (λ batch. batch.asked ≡ asked) }
+{
+    let inputs = match inputs_for(alloc, asked.command, &checked, shelf) {
+        Ok(inputs) => inputs,
+        Err(refusal) => return Err(refusal),
+    };
+    let faults = match read_struck(alloc, shelf, &asked.faults) {
+        Ok(faults) => faults,
+        Err(refusal) => return Err(refusal),
+    };
+    Ok(Batch {
+        asked,
+        checked,
+        inputs,
+        faults,
+    })
+}
+
+// What is asked, on the program that its file has, with the files that the program names, and that of the faults. The first
+// refusal met is the answer.
+fn read_asked<H: Shelf>(alloc: Global, asked: Asked, shelf: &mut H) -> Result<Batch, Refusal>
+    requires { IsWithinLimits asked }
+    ensures shelf { TouchesShelf (Some asked) (H.failed shelf.old) (H.failed shelf.new) result }
+    ensures case { IfSome (H.files shelf.old) (λ files. AnswersCase (IsCaseOf commands asked files) result) }
+    ensures sound { IfOk result MayRun }
+    ensures asked { IfOk result (λ batch. batch.asked ≡ asked) }
+{
+    let text = match shelf.read(&asked.program, MOST_PROGRAM_BYTES) {
+        Ok(text) => text,
+        Err(ShelfFault::TooLong) => return Err(refused(alloc, TOO_LONG)),
+        Err(ShelfFault::Failed) => return Err(Refusal::ReadFault(asked.program)),
+        Err(ShelfFault::OutOfMemory) => return Err(Refusal::OutOfMemory),
+    };
+    match program_in(alloc, &asked, text.as_slice()) {
+        Ok(checked) => batch_of(alloc, asked, checked, shelf),
+        Err(refusal) => Err(refusal),
+    }
+}
+
+// The batch that the program makes itself. All files of it are there, so none of them can fail to be read.
+fn read_made(alloc: Global, asked: Asked, soak: Soak) -> Result<Batch, Refusal>
+    requires within { IsWithinLimits asked }
+    requires made { asked.command ≡ command.Soak soak }
+    ensures shelf { (failed : List Name) → TouchesShelf (Some asked) failed failed result }
+    ensures case { AnswersCase (IsCaseOf commands asked (soak_files soak.moves soak.start)) result }
+    ensures sound { IfOk result MayRun }
+    ensures asked { IfOk result (λ batch. batch.asked ≡ asked) }
+{
+    let files = soak_files(alloc, soak.moves, soak.start)?;
+    let mut shelf = NeverShelf::new(alloc, files);
+    match read_asked(alloc, asked, &mut shelf) {
+        Err(Refusal::ReadFault(_)) => Err(Refusal::OutOfMemory),
+        result => result,
+    }
+}
+
+// What is asked, over the files of the shelf, or over those that the program makes itself.
+fn read_for<H: Shelf>(alloc: Global, asked: Asked, shelf: &mut H) -> Result<Batch, Refusal>
+    requires { IsWithinLimits asked }
+    ensures shelf { TouchesShelf (Some asked) (H.failed shelf.old) (H.failed shelf.new) result }
+    ensures case { IfSome (H.files shelf.old) (λ files. AnswersCase (IsCaseOf commands asked (commands.files asked files)) result) }
+    ensures sound { IfOk result MayRun }
+    ensures asked { IfOk result (λ batch. batch.asked ≡ asked) }
+{
+    if let Command::Soak(soak) = asked.command {
+        return read_made(alloc, asked, soak);
+    }
+    read_asked(alloc, asked, shelf)
+}
+
+/// What the words ask for, with the program that they name and the files that the program names, or with the files that the
+/// program makes itself. The first refusal met is the answer.
+pub fn read_batch<H: Shelf>(
+    alloc: Global,
+    words: &[String],
+    shelf: &mut H,
+) -> Result<Batch, Refusal>
+    ensures no_command { asked_by (texts words.now) ≡ None → AnswersNoCommand result × (shelf.new ≡ shelf.old) }
+    ensures shelf { TouchesShelf (asked_by (texts words.now)) (H.failed shelf.old) (H.failed shelf.new) result }
+    ensures case { IfSome (H.files shelf.old) (λ files. AnswersCase (IsCase commands (texts words.now) files) result) }
+    ensures sound { IfOk result MayRun }
+    ensures asked { IfOk result (λ batch. asked_by (texts words.now) ≡ Some batch.asked) }
+{
+    let asked = match read_words(alloc, words) {
+        Ok(Some(asked)) => asked,
+        Ok(None) => return Err(Refusal::Usage),
+        Err(_) => return Err(Refusal::OutOfMemory),
+    };
+    read_for(alloc, asked, shelf)
+}

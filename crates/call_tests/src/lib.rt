@@ -1,0 +1,9 @@
+//! Tests of the top calls: the worked examples, devices that fail at each of their calls, and runs that faults strike.
+#![tactic(auto)]
+
+#[cfg(test)]
+mod calls;
+#[cfg(test)]
+mod scripted;
+#[cfg(test)]
+mod struck;

@@ -1,0 +1,264 @@
+// Runs that faults strike, whoever carries them out: the worked examples, and a batch of transfers.
+
+use crate::calls::{ADD, EDGES, EMPTY, Files, SOUND, alone, answer_of, answer_through, gives};
+use gp_base::{Event, Gate, Journal, Pos};
+use std::alloc::{AllocError, Global};
+use std::sync::atomic::{AtomicU64, Ordering};
+use std::test::Fail;
+use std::thread::Threads;
+
+// One thread reads the total before the other adds to it.
+const PEEK: &str = "lock tally[1];
+record total[1] by tally;
+task add(n) {
+  var $t;
+  lock tally[0];
+  read total[0] into $t;
+  write total[0] = $t + n;
+  unlock tally[0];
+}
+task peek() { lock tally[0]; read total[0] into $ret; unlock tally[0]; }
+task main() {
+  var $p;
+  fork peek();
+  fork add(4);
+  join 1 into $p;
+  print $p;
+  join 2;
+}
+";
+
+const CREWS: [&str; 4] = [
+    "--crew one",
+    "--crew wave --workers 1",
+    "--crew wave --workers 2",
+    "--crew wave --workers 64",
+];
+
+// The run of the program with these faults finishes, with these lines and records, restarts and counts, by each crew.
+fn redoes<R: Threads + Sync + AllocGlobal>(
+    rt: &R,
+    program: &str,
+    faults: &str,
+    told: &str,
+    restarts: &str,
+    counts: [u32; 4],
+) -> Result<bool, AllocError> {
+    let alloc = rt.alloc();
+    let files = Files {
+        faults: faults.as_bytes(),
+        ..alone(program)
+    };
+    let [subthreads, made, redone, unused] = counts;
+    let counted = format!(in alloc;
+        "counts\nsubthreads {subthreads}\nrestarts {made}\nredone {redone}\nunused {unused}\n"
+    )?;
+    let text = format!(in alloc; "output\n{told}restarts\n{restarts}{counted}")?;
+    for crew in CREWS {
+        let words = format!(in alloc; "run p.gp --faults f.csv {crew}")?;
+        if !gives(rt, words.as_str(), files, 0, text.as_str(), "")? {
+            return Ok(false);
+        }
+    }
+    Ok(true)
+}
+
+#[test]
+fn faults_redo_their_dependents(rt: HostRuntime) -> Result<(), Fail> {
+    let total = "records\ntotal: 7\n";
+    let struck = "1: front 8 struck 4 try 0 redo 4 6 7\n";
+    let late = "1: front 11 struck 4 try 0 redo 4 6 7 8 9 10\n";
+    let start = "1: front 1 struck 0 try 0 redo 0\n";
+    let thrice =
+        "1: front 6 struck 4 try 0 redo 4\n2: front 7 struck 4 try 1 redo 4 6\n3: front 8 struck 4 try 2 redo 4 6 7\n";
+    let edges = "-9223372036854775808\n-9223372036854775808\n0 0 -3 -1\nrecords\n";
+    let rows = [
+        (ADD, "4,0,3,1\n", total, struck, [11, 1, 3, 0]),
+        (ADD, "4,0,6,1\n", total, late, [11, 1, 6, 0]),
+        (ADD, "0,0,0,5\n", total, start, [11, 1, 1, 0]),
+        (
+            ADD,
+            "4,0,1,9\n4,1,1,9\n4,2,1,9\n",
+            total,
+            thrice,
+            [11, 3, 6, 0],
+        ),
+        (ADD, "4,0,3,1\n7,0,0,1\n", total, struck, [11, 1, 3, 1]),
+        (ADD, "1000,0,0,1\n", total, "", [11, 0, 0, 1]),
+        (
+            PEEK,
+            "4,0,3,1\n",
+            "0\nrecords\ntotal: 4\n",
+            struck,
+            [11, 1, 3, 0],
+        ),
+        (EDGES, "0,0,5,1\n", edges, start, [1, 1, 1, 0]),
+    ];
+    for (program, faults, told, restarts, counts) in rows {
+        assert!(rt; redoes(&rt, program, faults, told, restarts, counts)?);
+    }
+    Ok(())
+}
+
+#[test]
+fn a_file_of_faults_is_refused(rt: HostRuntime) -> Result<(), Fail> {
+    let files = Files {
+        faults: b"4,0,3,0\n",
+        ..alone(ADD)
+    };
+    let line = "gprs: input f.csv kind 3 row 1\n";
+    assert!(rt; gives(&rt, "run p.gp --faults f.csv", files, 4, "", line)?);
+    let gone = "gprs: read fault g.csv\n";
+    assert!(rt; gives(&rt, "run p.gp --faults g.csv", files, 7, "", gone)?);
+    Ok(())
+}
+
+#[test]
+fn runs_are_traced(rt: HostRuntime) -> Result<(), Fail> {
+    let answer = answer_of(&rt, "run p.gp --trace", alone(EMPTY), SOUND)?;
+    assert!(rt; answer.status == 0);
+    assert!(rt;
+        answer.error.written() == b"issue 0\npost 0 0\ntake 0 0 applied\nretire 0\n".as_slice()
+    );
+    let files = Files {
+        faults: b"4,0,3,1\n",
+        ..alone(ADD)
+    };
+    let answer = answer_of(&rt, "run p.gp --faults f.csv --trace", files, SOUND)?;
+    let trace = std::str::from_utf8(answer.error.written()).unwrap_or("");
+    let mut restarts = 0u32;
+    for line in trace.lines() {
+        if line.starts_with("restart") {
+            assert!(rt; line == "restart 8 4 0 redo 4 6 7");
+            restarts = restarts.saturating_add(1);
+        }
+    }
+    assert!(rt; restarts == 1);
+    Ok(())
+}
+
+// The restarts were counted by a reckoning of the order and of the rules of dependence alone.
+#[test]
+fn a_batch_of_transfers_keeps_its_sum(rt: HostRuntime) -> Result<(), Fail> {
+    let text =
+        "soak 2000 1\nend finished\nsum 100000\ncounts\nsubthreads 8025\nrestarts 40\nredone 260\nunused 0\n";
+    for crew in CREWS {
+        let words = format!(in rt.alloc(); "soak 2000 1 {crew}")?;
+        assert!(rt; gives(&rt, words.as_str(), alone(EMPTY), 0, text, "")?);
+    }
+    Ok(())
+}
+
+// A gate that holds the first task of positions 2 and 3 until the second has entered, or until it has looked often enough.
+#[derive(Drop)]
+struct Meeting {
+    entered: AtomicU64,
+    met: AtomicU64,
+}
+
+impl Gate for Meeting {
+    fn enter(&self, pos: Pos) {
+        if pos.0 != 2 && pos.0 != 3 {
+            return;
+        }
+        let _ = self.entered.fetch_add(1, Ordering::SeqCst);
+        for _ in 0..100_000_000u32 {
+            if self.entered.load(Ordering::SeqCst) > 1 {
+                self.met.store(1, Ordering::SeqCst);
+                return;
+            }
+        }
+    }
+}
+
+#[test]
+fn two_tasks_of_a_wave_meet(rt: HostRuntime) -> Result<(), Fail> {
+    let gate = Meeting {
+        entered: AtomicU64::new(0),
+        met: AtomicU64::new(0),
+    };
+    let answer = answer_through(
+        &rt,
+        "run p.gp --crew wave --workers 2",
+        alone(ADD),
+        SOUND,
+        &gate,
+    )?;
+    assert!(rt; answer.status == 0);
+    assert!(rt; gate.met.load(Ordering::SeqCst) == 1);
+    Ok(())
+}
+
+// A gate that lets all tasks pass, and counts those of each position.
+#[derive(Drop)]
+struct Counting {
+    entries: Vec<AtomicU64>,
+}
+
+impl Gate for Counting {
+    fn enter(&self, pos: Pos) {
+        if let Some(count) = self.entries.get(pos.0 as usize) {
+            let _ = count.fetch_add(1, Ordering::SeqCst);
+        }
+    }
+}
+
+// A gate over so many positions, which no task has entered.
+fn gate_over(alloc: Global, positions: usize) -> Result<Counting, AllocError> {
+    let mut entries = Vec::new(alloc);
+    for _ in 0..positions {
+        entries.push(AtomicU64::new(0))?;
+    }
+    Ok(Counting { entries })
+}
+
+// How often the journal posts each of so many positions.
+fn posts_of(alloc: Global, journal: &Journal, positions: usize) -> Result<Vec<u64>, AllocError> {
+    let mut posts = Vec::from_elem(alloc, 0u64, positions)?;
+    for event in journal.events.as_slice() {
+        if let Event::Post(position, _) = event {
+            if let Some(count) = posts.get_mut(position.0 as usize) {
+                *count = count.saturating_add(1);
+            }
+        }
+    }
+    Ok(posts)
+}
+
+// Each position enters the gate as often as the journal posts it.
+fn enters_as_posted<R: Threads + Sync + AllocGlobal>(
+    rt: &R,
+    words: &str,
+    files: Files<'_>,
+    positions: usize,
+) -> Result<bool, AllocError> {
+    let alloc = rt.alloc();
+    let gate = gate_over(alloc, positions)?;
+    let answer = answer_through(rt, words, files, SOUND, &gate)?;
+    let posts = posts_of(alloc, &answer.journal, positions)?;
+    let mut posted = 0u64;
+    for (entries, count) in gate.entries.iter().zip(posts.iter()) {
+        if entries.load(Ordering::SeqCst) != *count {
+            return Ok(false);
+        }
+        posted = posted.saturating_add(*count);
+    }
+    Ok(answer.status == 0 && posted >= positions as u64)
+}
+
+#[test]
+fn tasks_enter_the_gate_as_they_are_posted(rt: HostRuntime) -> Result<(), Fail> {
+    let files = Files {
+        faults: b"4,0,3,1\n",
+        ..alone(ADD)
+    };
+    for crew in ["--crew one", "--crew wave --workers 2"] {
+        let run = format!(in rt.alloc(); "run p.gp {crew}")?;
+        let struck = format!(in rt.alloc(); "run p.gp --faults f.csv {crew}")?;
+        let soak = format!(in rt.alloc(); "soak 2000 1 {crew}")?;
+        assert!(rt; enters_as_posted(&rt, run.as_str(), files, 11)?);
+        assert!(rt; enters_as_posted(&rt, struck.as_str(), files, 11)?);
+        assert!(rt; enters_as_posted(&rt, soak.as_str(), files, 8025)?);
+    }
+    Ok(())
+}

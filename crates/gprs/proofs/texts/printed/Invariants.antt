@@ -1,8 +1,0 @@
-use Rattle.std.proofs.Common.{◌≡◌, take}
-use Rattle.restart_log.specs.Lines.{printed}
-use Rattle.gprs.specs.PlainText.{lines_in}
-use Rattle.gprs.proofs.texts.printed.Given as goal
-
--- the lines of the subthreads so far
-abbrev pub invariant-loop-step : goal.invariant-loop-step
-invariant-loop-step l = l.text.items ≡ printed (lines_in (take l.step-index l.order))
