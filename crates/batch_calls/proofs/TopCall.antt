@@ -27,13 +27,13 @@ use Rattle.call_cases.specs.declared.reading.Refusal.{Refusal}
 use Rattle.call_cases.specs.declared.reading.Refusal.TheVariants.{Usage as RefusedUsage, BadProgram as RefusedProgram, BadInput as RefusedInput, ReadFault, OutOfMemory}
 use Rattle.call_cases.specs.Work.{Files, Work, Commands, runs, is_journalled}
 use Rattle.call_cases.specs.PlainText.{plain_ran}
-use Rattle.call_cases.specs.Case.{Case, Usage, Missing, BadProgram, BadInput, Go, IsCase, ForCase, IsMissing, end_status, work_status, names_read, status_of, text_of, line_of}
+use Rattle.call_cases.specs.Case.{Case, Usage, Missing, BadProgram, BadInput, Go, IsCase, ForCase, HasWork, IsMissing, end_status, work_status, names_read, status_of, text_of, line_of}
 use Rattle.call_cases.specs.Lines.{out_of_memory_line, write_fault_line}
 use Rattle.call_cases.specs.Decided.{AnswersCase, AnswersNoCommand, TouchesShelf, TellsRefusal, TakesRefusal, RefusalEnds, usage_told, program_told, input_told, read_told, refusal_no_memory, refusal_failed}
 use Rattle.call_cases.specs.Journals.{ForRun, IsJournalOf, IsCompleteOf, TakesRetired, TakesRetiredFor, retired_in, lines_before}
 use Rattle.batch_calls.specs.inner.Ran.{Journalled, EndsFor, RanFor, PutFor, StopsWith, why_of}
 use Rattle.call_cases.specs.Answers.{Change, TakesAll, TakesPart, Fails, Grew, IsStopLine, TakesStop, Yields, due_status, no_memory, read_fault, write_fault, LineEnds, whole, line_failed, line_no_memory, RunEnds, finished, run_no_memory, output_failed, error_failed}
-use Rattle.call_cases.specs.Headline.{IsWhole, TellsCase, IsRefusal, HasCaseLine, trace_for, RunsNothing, TellsReadFault, TellsWriteFault, IsStop, IsDue, TakesStopLines, IsEmpty, Headline}
+use Rattle.call_cases.specs.Headline.{IsWhole, TellsCase, IsRefusal, HasCaseLine, trace_for, RunsNothing, TellsReadFault, TellsWriteFault, IsStop, IsDue, TakesStopLines, ReadsNothing, IsEmpty, Headline}
 use Rattle.call_cases.proofs.OneCase.{for_known, for_each, none_some}
 use Rattle.batch_calls.proofs.RanPieces.{empty_journal_of, none_retired}
 
@@ -221,7 +221,7 @@ run_headline commands words files failed failed' out err status journal work ask
       read_fault = λ is. absurd (not_refused (inr is));
       write_fault = run_fault text trace due out err status is_whole ends;
       stopped = λ is. for_known commands words files (Go work) (λ case. TakesStopLines (IsDue case trace) err) known
-          (run_stopped text trace due out err (IsDue (Go work) trace) [] (inl refl) (inr (inl refl)) status is_whole ends is);
+          (run_stopped text trace due out err (IsDue (Go work) trace) [] (inl refl) (inr (inl (tt, refl))) status is_whole ends is);
       untouched = λ tells. same;
       unread = λ none. same;
       missing = for_known commands words files (Go work) (λ case. IsMissing case → Grew failed failed' ⊎ (status ≡ 1) ⊎ Fails err) known (λ missing. absurd missing);
@@ -229,6 +229,7 @@ run_headline commands words files failed failed' out err status journal work ask
         | inl is ↦ absurd (not_refused is)
         | inr nothing ↦ empty (subst (λ c. is_journalled c ≡ false) (sym same_command) (no_run (commands.reading words) asked some nothing))
       ];
+      unbegun = for_known commands words files (Go work) (λ case. HasWork case ⊎ IsEmpty journal) known (inl tt);
       lawful = for_known commands words files (Go work) (λ case. ForRun case (λ w. IsJournalOf w journal)) known (λ is. (run is).lawful);
       complete = λ whole. for_known commands words files (Go work) (λ case. ForRun case (λ w. IsCompleteOf w journal)) known (λ is. (run is).complete whole);
       retired = for_known commands words files (Go work) (λ case. ForRun case (λ w. TakesRetired w journal out)) known (λ is. (run is).retired);
@@ -406,7 +407,7 @@ refused_read commands words files failed failed' out err refusal status journal 
 
 -- a refusal meets the promise
 pub refused_headline : (commands : Commands) (words : List (List ℕ)) (files : Option Files) (failed failed' : List Name) (written : Option (List ℕ)) (faults : ℕ) (err : Change) (status : ℕ) (journal : Journal) (refusal : Refusal)
-    → (commands.reading words ≡ None → AnswersNoCommand (Err refusal) × (failed' ≡ failed))
+    → (commands.reading words ≡ None → AnswersNoCommand (Err refusal)) → (ReadsNothing (commands.reading words) → failed' ≡ failed)
     → IfSome files (λ told. AnswersCase (IsCase commands words told) (Err refusal)) → TouchesShelf (commands.reading words) failed failed' (Err refusal) → IsEmpty journal → RefusalEnds err refusal status
     → Headline commands (record {
       words = words;
@@ -418,7 +419,7 @@ pub refused_headline : (commands : Commands) (words : List (List ℕ)) (files : 
       status = status;
       journal = journal;
     })
-refused_headline commands words files failed failed' written faults err status journal refusal no_command known shelf empty ends =
+refused_headline commands words files failed failed' written faults err status journal refusal no_command unread known shelf empty ends =
     let trace = trace_for (commands.reading words) journal in
     let out : Change = record { written = written; written' = written; faults = faults; faults' = faults } in
     let not_whole : IsWhole status → ⊥ = refused_not_whole err refusal status ends in
@@ -426,7 +427,7 @@ refused_headline commands words files failed failed' written faults err status j
       status = refused_status commands words files failed failed' out err trace refusal status known shelf ends;
       told = refused_told commands words files failed failed' out err trace refusal status known ends;
       usage = refused_usage (commands.reading words) failed failed' err refusal status shelf ends;
-      no_command = λ none. refused_words err refusal status (no_command none).0 ends;
+      no_command = λ none. refused_words err refusal status (no_command none) ends;
       text = for_each commands words files (λ case. IsWhole status → TakesAll out (text_of case)) (λ case is. absurd (not_whole is));
       prefix = for_each commands words files (λ case. TakesPart out (text_of case)) (λ case. prefix_none written (text_of case));
       refused = λ is. Keeps-same written;
@@ -436,9 +437,10 @@ refused_headline commands words files failed failed' written faults err status j
       write_fault = refused_fault out err refusal status ends;
       stopped = refused_stopped commands words files failed failed' out err trace refusal status known ends;
       untouched = refused_untouched (commands.reading words) failed failed' err refusal status shelf ends;
-      unread = λ none. (no_command none).1;
+      unread = unread;
       missing = refused_missing commands words files failed failed' out err trace refusal status known shelf ends;
       journal = λ unbegun. empty;
+      unbegun = for_each commands words files (λ case. HasWork case ⊎ IsEmpty journal) (λ case. inr empty);
       lawful = for_each commands words files (λ case. ForRun case (λ w. IsJournalOf w journal)) (λ case. empty_lawful case journal empty);
       complete = λ is. absurd (not_whole is);
       retired = for_each commands words files (λ case. ForRun case (λ w. TakesRetired w journal out)) (λ case. empty_retired case journal written faults empty);

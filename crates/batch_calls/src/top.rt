@@ -1,9 +1,9 @@
 // The top call: all that the program does.
-ghost use Rattle.std.specs.Prelude.{◌≡◌, None};
+ghost use Rattle.std.specs.Prelude.{◌≡◌};
 ghost use Rattle.command_line.specs.Words.{texts};
 ghost use Rattle.call_cases.specs.PlainText.{commands};
 ghost use Rattle.call_cases.specs.Answers.{change_of};
-ghost use Rattle.call_cases.specs.Headline.{Headline};
+ghost use Rattle.call_cases.specs.Headline.{Headline, ReadsNothing};
 
 use crate::run::carry_out;
 use call_cases::{Outcome, empty_journal, read_batch, refuse};
@@ -38,8 +38,8 @@ pub fn gprs_run<R: Threads + Sync + AllocGlobal, H: Shelf, O: Sink, E: Sink, G: 
       journal = result.journal;
     }) }
 
-    // The shelf is not read for words of no command.
-    ensures unread { commands.reading (texts words.now) ≡ None → shelf.new ≡ shelf.old }
+    // The shelf is not read for words of no command, nor for a batch that the program makes itself.
+    ensures unread { ReadsNothing (commands.reading (texts words.now)) → shelf.new ≡ shelf.old }
 {
     let alloc = rt.alloc();
     match read_batch(alloc, words, shelf) {

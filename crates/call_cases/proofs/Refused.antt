@@ -34,7 +34,7 @@ use Rattle.std.proofs.lemmas.List.Elements.{Contains-append_right}
 use Rattle.gp_base.specs.declared.fault.Fault.{Fault}
 use Rattle.gp_base.specs.declared.fault.Faults.{Faults}
 use Rattle.gp_base.specs.declared.feed.Inputs.{Inputs}
-use Rattle.call_cases.specs.Work.{Files, Supplied, Supplies, Lacks, Spoils, runs}
+use Rattle.call_cases.specs.Work.{Files, Supplied, Supplies, Lacks, Spoils, runs, makes_files}
 use Rattle.call_cases.specs.InputFiles.{names_for, named, supplied_for, file_names, then_load, load_faults}
 use Rattle.call_cases.specs.inner.Loading.{AnswersLoad, AnswersFaults, ReadsAmong, names_of}
 use Rattle.call_cases.proofs.Loads.{keeps_faults, only_one}
@@ -147,15 +147,15 @@ struck_err asked program (Some files) known inputs refusal same is struck =
     go OutOfMemory never = tt
 
 -- the reads of inputs are those that may be made for what is asked
-may_read : (asked : Asked) (program : Program) (name : Name) (b : Bool) → Contains (if b then file_names program.heads else []) name → MayRead asked name
-may_read asked program name true is = an_input program is
-may_read asked program name false (k, below, is) = absurd (omega (arith, below))
+may_read : (asked : Asked) (program : Program) (name : Name) (b : Bool) → runs asked.command ≡ b → Contains (if b then file_names program.heads else []) name → MayRead asked name
+may_read asked program name true run is = an_input run
+may_read asked program name false run (k, below, is) = absurd (omega (arith, below))
 
 pub loaded_reads : (T : Type 0) (asked : Asked) (program : Program) (before now : List Name) (refusal : Refusal) → ReadsAmong {T = T} (names_for asked.command program.heads) before now (Err refusal) → TouchesShelf (Some asked) before now (Err refusal)
 loaded_reads T asked program before now RefusedUsage is = absurd is
 loaded_reads T asked program before now (RefusedProgram line) is = absurd is
 loaded_reads T asked program before now (RefusedInput line) is = is
-loaded_reads T asked program before now (ReadFault name) is = (is.1, is.2, may_read asked program name (runs asked.command) is.0)
+loaded_reads T asked program before now (ReadFault name) is = (is.1, is.2, may_read asked program name (runs asked.command) refl is.0)
 loaded_reads T asked program before now OutOfMemory is = tt
 
 may_strike : (asked : Asked) (name : Name) (faults : Option Name) → asked.faults ≡ faults → Contains (named faults) name → MayRead asked name
@@ -264,3 +264,10 @@ pub shelf_case : (told : Option Files) (asked : Asked) (result : Result Batch Re
     → IfSome told (λ files. AnswersCase (IsCaseOf commands asked files) result) → IfSome told (λ files. AnswersCase (IsCaseOf commands asked (commands.files asked files)) result)
 shelf_case None asked result other known = tt
 shelf_case (Some files) asked result other known = subst (λ l. AnswersCase (IsCaseOf commands asked l) result) (shelf_files asked.command files other) known
+
+-- the shelf of a command that makes its files itself
+pub shelf_makes : (c : Command) → ((batch : Soak) → c ≡ command.Soak batch → ⊥) → makes_files c ≡ true → ⊥
+shelf_makes command.Run other makes = absurd (let never : false ≡ true = makes in cc)
+shelf_makes command.One other makes = absurd (let never : false ≡ true = makes in cc)
+shelf_makes command.Check other makes = absurd (let never : false ≡ true = makes in cc)
+shelf_makes (command.Soak batch) other makes = other batch refl

@@ -127,6 +127,11 @@ names_read (BadProgram name line) = name ∷ []
 names_read (BadInput names line) = names
 names_read (Go work) = work.files
 
+-- there is something to be done
+abbrev pub HasWork : Case → Type 0
+HasWork (Go work) = ⊤
+HasWork case = ⊥
+
 -- a file that is read is not there
 abbrev pub IsMissing : Case → Type 0
 IsMissing (Missing names name) = ⊤

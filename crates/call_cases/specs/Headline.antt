@@ -1,12 +1,11 @@
 -- What a call is promised to do: its answer, and what it wrote, by its case.
-use Rattle.std.specs.Prelude.{◌≡◌, ◌⊎◌, ℕ, false, [], List, Option, Some, None, Contains, IfSome, IsSomeAnd, ⊤, if◌then◌else◌}
+use Rattle.std.specs.Prelude.{◌≡◌, ◌⊎◌, ℕ, true, false, [], List, Option, Some, None, Contains, IfSome, IsSomeAnd, ⊤, if◌then◌else◌}
 use Rattle.gp_base.specs.declared.journal.Journal.{Journal}
 use Rattle.gp_base.specs.Files.{GrowsByOnly}
-use Rattle.task_ast.specs.Tree.{Name, Program}
+use Rattle.task_ast.specs.Tree.{Name}
 use Rattle.command_line.specs.declared.asked.Asked.{Asked}
-use Rattle.call_cases.specs.Work.{Files, Commands, is_traced, is_journalled}
-use Rattle.call_cases.specs.InputFiles.{file_names}
-use Rattle.call_cases.specs.Case.{Case, IsCase, ForCase, IsMissing, status_of, text_of, line_of, names_read}
+use Rattle.call_cases.specs.Work.{Files, Commands, runs, is_traced, makes_files, is_journalled}
+use Rattle.call_cases.specs.Case.{Case, IsCase, ForCase, HasWork, IsMissing, status_of, text_of, line_of, names_read}
 use Rattle.call_cases.specs.Lines.{read_fault_line, write_fault_line}
 use Rattle.restart_log.specs.Trace.{trace_text}
 use Rattle.call_cases.specs.Journals.{ForRun, IsJournalOf, IsCompleteOf, TakesRetired}
@@ -44,11 +43,12 @@ abbrev pub trace_for : Option Asked → Journal → List ℕ
 trace_for None journal = []
 trace_for (Some asked) journal = if is_traced asked then trace_text journal else []
 
--- a file that may be read for what the words ask for: the program's, those that a program can name, and that of the faults
+-- A file that may be read for what the words ask for: the program's, that of the faults, and, where the program is run, those that it names, which a shelf
+-- that does not tell its files leaves open.
 pub data MayRead (asked : Asked) : Name → Type 0 where
   the_program : MayRead asked asked.program
-  an_input : (program : Program) {name : Name} → Contains (file_names program.heads) name → MayRead asked name
   the_faults : {name : Name} → asked.faults ≡ Some name → MayRead asked name
+  an_input : {name : Name} → runs asked.command ≡ true → MayRead asked name
 
 -- A file could not be read: its reads alone failed, and the line names it. It is one that the case reads, and one that the words ask for.
 pub record TellsReadFault (commands : Commands) (call : Call) : Type 0 where
@@ -63,9 +63,9 @@ pub record TellsReadFault (commands : Commands) (call : Call) : Type 0 where
 abbrev pub IsStop : ℕ → Type 0
 IsStop status = (status ≡ 1) ⊎ (status ≡ 8)
 
--- what the error stream is to take for the case: the line of the case, or of a file that it reads, or the trace
+-- what the error stream is to take for the case: the line of the case, or of a file that it reads, or, where there is something to be done, the trace
 abbrev pub IsDue : Case → (trace : List ℕ) → List ℕ → Type 0
-IsDue case trace due = (due ≡ line_of case) ⊎ (due ≡ trace) ⊎ (name : Name) × Contains (names_read case) name × (due ≡ read_fault_line name)
+IsDue case trace due = (due ≡ line_of case) ⊎ HasWork case × (due ≡ trace) ⊎ (name : Name) × Contains (names_read case) name × (due ≡ read_fault_line name)
 
 -- the error stream took a prefix of what is due, and then a prefix of the line that tells the stop
 abbrev pub TakesStopLines : (is_due : List ℕ → Type 0) → Change → Type 0
@@ -79,6 +79,11 @@ TellsWriteFault out err = Fails err ⊎ Fails out × TakesAll err write_fault_li
 abbrev pub RunsNothing : Option Asked → Type 0
 RunsNothing None = ⊤
 RunsNothing (Some asked) = is_journalled asked.command ≡ false
+
+-- no file of the shelf is read for what is asked: the words are those of no command, or of one that makes its files itself
+abbrev pub ReadsNothing : Option Asked → Type 0
+ReadsNothing None = ⊤
+ReadsNothing (Some asked) = makes_files asked.command ≡ true
 
 -- a journal of no event
 abbrev pub IsEmpty : Journal → Type 0
@@ -103,13 +108,14 @@ pub record Headline (commands : Commands) (call : Call) : Type 0 where
   pub read_fault : call.status ≡ 7 → TellsReadFault commands call
   pub write_fault : call.status ≡ 8 → TellsWriteFault call.out call.err
   pub stopped : IsStop call.status → ForCase commands call.words call.files (λ case. TakesStopLines (IsDue case (trace_for (commands.reading call.words) call.journal)) call.err)
-  -- No read failed where the status tells the case, and none was made for words of no command. Where a file that is read is not there, a read of it
+  -- No read failed where the status tells the case, and none was made where nothing is read. Where a file that is read is not there, a read of it
   -- failed, or memory ran out before; status 8 then says that the line of that could not be written.
   pub untouched : TellsCase call.status → call.failed' ≡ call.failed
-  pub unread : commands.reading call.words ≡ None → call.failed' ≡ call.failed
+  pub unread : ReadsNothing (commands.reading call.words) → call.failed' ≡ call.failed
   pub missing : ForCase commands call.words call.files (λ case. IsMissing case → Grew call.failed call.failed' ⊎ (call.status ≡ 1) ⊎ Fails call.err)
   -- The journal is empty where no run begins. Else it is a journal of the run, and complete where the text is whole.
   pub journal : IsRefusal call.status ⊎ RunsNothing (commands.reading call.words) → IsEmpty call.journal
+  pub unbegun : ForCase commands call.words call.files (λ case. HasWork case ⊎ IsEmpty call.journal)
   pub lawful : ForCase commands call.words call.files (λ case. ForRun case (λ work. IsJournalOf work call.journal))
   pub complete : IsWhole call.status → ForCase commands call.words call.files (λ case. ForRun case (λ work. IsCompleteOf work call.journal))
   -- The output holds all lines of each subthread that has retired; where the journal is not complete, it holds nothing past those of the next one.

@@ -48,6 +48,11 @@ runs command = true
 abbrev pub is_traced : Asked → Bool
 is_traced asked = asked.trace
 
+-- the command makes its files itself
+abbrev pub makes_files : Command → Bool
+makes_files (Soak soak) = true
+makes_files command = false
+
 -- the command runs its program over a journal
 abbrev pub is_journalled : Command → Bool
 is_journalled Run = true

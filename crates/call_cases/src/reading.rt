@@ -7,7 +7,8 @@ ghost use Rattle.task_ast.specs.Inputs.{AreInputsOf};
 ghost use Rattle.soak_batch.specs.Files.{soak_files};
 ghost use Rattle.command_line.specs.Words.{texts, asked_by, IsWithinLimits};
 ghost use Rattle.command_line.specs.declared.asked.Command.TheVariants as command;
-ghost use Rattle.call_cases.specs.Work.{runs};
+ghost use Rattle.call_cases.specs.Work.{runs, makes_files};
+ghost use Rattle.call_cases.specs.Headline.{ReadsNothing};
 ghost use Rattle.call_cases.specs.PlainText.{commands};
 ghost use Rattle.call_cases.specs.Lines.{fault_line, number_of};
 ghost use Rattle.call_cases.specs.Case.{IsCaseOf, IsCase};
@@ -229,6 +230,7 @@ fn read_made(alloc: Global, asked: Asked, soak: Soak) -> Result<Batch, Refusal>
 // What is asked, over the files of the shelf, or over those that the program makes itself.
 fn read_for<H: Shelf>(alloc: Global, asked: Asked, shelf: &mut H) -> Result<Batch, Refusal>
     requires { IsWithinLimits asked }
+    ensures unread { makes_files asked.command ≡ true → shelf.new ≡ shelf.old }
     ensures shelf { TouchesShelf (Some asked) (H.failed shelf.old) (H.failed shelf.new) result }
     ensures case { IfSome (H.files shelf.old) (λ files. AnswersCase (IsCaseOf commands asked (commands.files asked files)) result) }
     ensures sound { IfOk result MayRun }
@@ -247,7 +249,8 @@ pub fn read_batch<H: Shelf>(
     words: &[String],
     shelf: &mut H,
 ) -> Result<Batch, Refusal>
-    ensures no_command { asked_by (texts words.now) ≡ None → AnswersNoCommand result × (shelf.new ≡ shelf.old) }
+    ensures no_command { asked_by (texts words.now) ≡ None → AnswersNoCommand result }
+    ensures unread { ReadsNothing (asked_by (texts words.now)) → shelf.new ≡ shelf.old }
     ensures shelf { TouchesShelf (asked_by (texts words.now)) (H.failed shelf.old) (H.failed shelf.new) result }
     ensures case { IfSome (H.files shelf.old) (λ files. AnswersCase (IsCase commands (texts words.now) files) result) }
     ensures sound { IfOk result MayRun }

@@ -268,6 +268,27 @@ pub fn sink_of(alloc: Global, most: usize, fails: u64) -> Result<MemSink, AllocE
     Ok(MemSink::new(alloc, most.max(1), Seq::from_slice(alloc, &[fails])?))
 }
 
+/// What the words come to over this shelf, where tasks enter this gate.
+pub fn answer_over<R: Threads + Sync + AllocGlobal, G: Gate>(
+    rt: &R,
+    words: &str,
+    shelf: &mut MemShelf,
+    devices: Devices,
+    gate: &G,
+) -> Result<Answer, AllocError> {
+    let alloc = rt.alloc();
+    let words = words_of(alloc, words)?;
+    let mut output = sink_of(alloc, devices.most, devices.output)?;
+    let mut error = sink_of(alloc, devices.most, devices.error)?;
+    let outcome = gprs_run(rt, &words, shelf, &mut output, &mut error, gate);
+    Ok(Answer {
+        status: outcome.status,
+        output,
+        error,
+        journal: outcome.journal,
+    })
+}
+
 /// What the words come to over these files, where tasks enter this gate.
 pub fn answer_through<R: Threads + Sync + AllocGlobal, G: Gate>(
     rt: &R,
@@ -276,18 +297,8 @@ pub fn answer_through<R: Threads + Sync + AllocGlobal, G: Gate>(
     devices: Devices,
     gate: &G,
 ) -> Result<Answer, AllocError> {
-    let alloc = rt.alloc();
-    let words = words_of(alloc, words)?;
-    let mut shelf = shelf_of(alloc, files, devices.read)?;
-    let mut output = sink_of(alloc, devices.most, devices.output)?;
-    let mut error = sink_of(alloc, devices.most, devices.error)?;
-    let outcome = gprs_run(rt, &words, &mut shelf, &mut output, &mut error, gate);
-    Ok(Answer {
-        status: outcome.status,
-        output,
-        error,
-        journal: outcome.journal,
-    })
+    let mut shelf = shelf_of(rt.alloc(), files, devices.read)?;
+    answer_over(rt, words, &mut shelf, devices, gate)
 }
 
 /// What the words come to over these files.
@@ -695,6 +706,24 @@ fn an_error_stream_that_fails_has_a_prefix(rt: HostRuntime) -> Result<(), Fail> 
                 took(&rt, &answer.error, line, taken);
             }
         }
+    }
+    Ok(())
+}
+
+// The output takes all that it is offered, and its second call fails: the first piece is one offer.
+#[test]
+fn a_first_piece_is_one_offer(rt: HostRuntime) -> Result<(), Fail> {
+    let rows = [
+        ("check p.gp", 0, "ok\n", ""),
+        ("one p.gp", 8, "output\n", "gprs: write fault\n"),
+        ("run p.gp", 8, "output\n", "gprs: write fault\n"),
+    ];
+    let devices = Devices { output: 2, ..SOUND };
+    for (words, status, output, error) in rows {
+        let answer = answer_of(&rt, words, alone(PRINTS), devices)?;
+        assert_eq!(rt; answer.status, status);
+        took(&rt, &answer.output, output, None);
+        took(&rt, &answer.error, error, None);
     }
     Ok(())
 }

@@ -4,6 +4,8 @@
 #[cfg(test)]
 mod calls;
 #[cfg(test)]
+mod rows;
+#[cfg(test)]
 mod scripted;
 #[cfg(test)]
 mod struck;

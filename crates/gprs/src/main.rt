@@ -5,6 +5,7 @@ mod file_shelf;
 mod std_sink;
 
 use batch_calls::gprs_run;
+use call_cases::{OUT_OF_MEMORY, end_with};
 use file_shelf::FileShelf;
 use gp_base::FreeGate;
 use std::process::ExitCode;
@@ -22,14 +23,16 @@ fn words_of<R: Env + AllocGlobal>(rt: &R) -> io::Result<Vec<String>> {
 }
 
 fn main(rt: HostRuntime) -> ExitCode {
+    let mut err = StdSink::new(rt.stderr());
     let words = match words_of(&rt) {
         Ok(words) => words,
-        Err(fault) if fault.kind() == io::ErrorKind::OutOfMemory => return ExitCode::from(1),
+        Err(fault) if fault.kind() == io::ErrorKind::OutOfMemory => {
+            return ExitCode::from(end_with(&mut err, OUT_OF_MEMORY, 1));
+        }
         Err(_) => Vec::new(rt.alloc()),
     };
     let mut shelf = FileShelf::new(&rt);
     let mut out = StdSink::new(rt.stdout());
-    let mut err = StdSink::new(rt.stderr());
     let outcome = gprs_run(&rt, &words, &mut shelf, &mut out, &mut err, &FreeGate);
     ExitCode::from(outcome.status)
 }

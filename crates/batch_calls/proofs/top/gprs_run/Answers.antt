@@ -19,4 +19,4 @@ returns-in-Err-clause-headline g c =
     let err = change_of g.E.Sink.written g.E.Sink.faults c.args.err.now c.refuse-status.new.err in
     refused_headline commands (texts c.args.words.now) (g.H.Shelf.files c.args.shelf.now) (g.H.Shelf.failed c.args.shelf.now) (g.H.Shelf.failed c.read_batch.new.shelf)
     (g.O.Sink.written c.args.out.now) (g.O.Sink.faults c.args.out.now) err c.refuse-status.result c.empty_journal.result c.in-Err.refusal
-    (λ none. let unread = c.in-Err.ensures.no_command none in (unread.0, ap g.H.Shelf.failed unread.1)) c.in-Err.ensures.case c.in-Err.ensures.shelf c.empty_journal.ensures c.refuse-status.ensures
+    c.in-Err.ensures.no_command (λ nothing. ap g.H.Shelf.failed (c.in-Err.ensures.unread nothing)) c.in-Err.ensures.case c.in-Err.ensures.shelf c.empty_journal.ensures c.refuse-status.ensures

@@ -1,6 +1,7 @@
 use Rattle.std.proofs.Common.{◌≡◌, Some, None, sym, subst}
 use Rattle.command_line.specs.Words.{texts, asked_by}
 use Rattle.call_cases.specs.Decided.{TouchesShelf}
+use Rattle.call_cases.specs.Headline.{ReadsNothing}
 use Rattle.call_cases.proofs.Refused.{usage_case, asked_told}
 use Rattle.call_cases.proofs.reading.read_batch.Goals as goal
 
@@ -18,3 +19,8 @@ pub returns-clause-case : goal.returns-clause-case
 returns-clause-case g c =
     let some : asked_by (texts c.args.words.now) ≡ Some c.in-Ok-Some.asked = sym (rw c.in-Ok-Some.field-0-is at c.in-Ok-Some.ensures.asked) in
     asked_told (texts c.args.words.now) (g.H.Shelf.files c.args.shelf.now) c.in-Ok-Some.asked c.read_for.result some c.read_for.ensures.case
+
+pub returns-clause-unread : goal.returns-clause-unread
+returns-clause-unread g c = λ nothing.
+    let some : asked_by (texts c.args.words.now) ≡ Some c.in-Ok-Some.asked = sym (rw c.in-Ok-Some.field-0-is at c.in-Ok-Some.ensures.asked) in
+    c.read_for.ensures.unread (subst ReadsNothing some nothing)
