@@ -145,7 +145,11 @@ fn keeps_records<R: Threads + Sync + AllocGlobal>(rt: &R, crew: &str) -> Result<
 // The restarts were counted by a reckoning of the order and of the rules of dependence alone.
 #[test]
 fn a_batch_that_faults_strike_keeps_its_records(rt: HostRuntime) -> Result<(), Fail> {
-    for crew in ["--crew one", "--crew wave --workers 1", "--crew wave --workers 64"] {
+    for crew in [
+        "--crew one",
+        "--crew wave --workers 1",
+        "--crew wave --workers 64",
+    ] {
         assert!(rt; keeps_records(&rt, crew)?);
     }
     Ok(())
