@@ -1,5 +1,5 @@
 // What every crew keeps: the tasks that wait, the pairs of all that were posted, and whether memory ran out.
-ghost use Rattle.std.specs.Prelude.{◌≡◌, ◌↔◌, ◌≤◌, true, false, [], ◌∷◌, ◌++◌, length, slice_index_or, All, IsErr, OnOk, OnErr, IfOk, IfErr, IfSome, IfNone};
+ghost use Rattle.std.specs.Prelude.{◌≡◌, ◌↔◌, ◌<◌, ◌≤◌, true, false, [], ◌∷◌, ◌++◌, length, slice_index_or, All, IsErr, OnOk, OnErr, IfOk, IfErr, IfSome, IfNone};
 ghost use Rattle.subthread.specs.Tasks.{Fits, IsRun, task_of};
 ghost use Rattle.crew.specs.Out.{TakesOut, pair_of};
 
@@ -127,6 +127,31 @@ impl<'a> Inbox<'a> {
     {
         let waiting = mem::replace(&mut self.waiting, VecDeque::new(self.alloc));
         Seq::from_vec(Vec::from(waiting))
+    }
+
+    /// Takes the oldest tasks out, in order, and at most so many. The error is that memory is out.
+    pub fn oldest(&mut self, most: usize) -> Result<Seq<Task>, AllocError>
+        requires { 0 < most }
+        ensures tasks { IfOk result (λ tasks. self.old.out ≡ tasks ++ self.new.out) }
+        ensures few { IfOk result (λ tasks. length tasks ≤ most) }
+        ensures some { IfOk result (λ tasks. tasks ≡ [] → self.old.out ≡ []) }
+        ensures fits { IfOk result (All (Fits self.old.work)) }
+        ensures rest { OnOk result (self.new ≡ record self.old { out = self.new.out }) }
+        ensures err { OnErr result (self.new ≡ record self.old { failed = true }) }
+    {
+        if self.waiting.len() <= most {
+            return Ok(self.all());
+        }
+        match self.waiting.split_off(most) {
+            Ok(later) => {
+                let first = mem::replace(&mut self.waiting, later);
+                Ok(Seq::from_vec(Vec::from(first)))
+            }
+            Err(_) => {
+                self.failed = true;
+                Err(AllocError)
+            }
+        }
     }
 
     /// Runs a task in this thread. The error is that memory is out.

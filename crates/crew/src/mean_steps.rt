@@ -61,9 +61,9 @@ fn all_places(alloc: Global, code: &Code) -> Result<Vec<Vec<AtomicU64>>, AllocEr
     Ok(by_place)
 }
 
-// How many workers tasks are worth that make so many steps together, of which the longest makes so many: one, and another
-// for each thread's worth of steps beside those of the longest, which is the most that sharing can save.
-fn worth(sum: u64, longest: u64) -> u64
+/// How many workers tasks are worth that make so many steps together, of which the longest makes so many: one, and another
+/// for each thread's worth of steps beside those of the longest, which is the most that sharing can save.
+pub fn worth(sum: u64, longest: u64) -> u64
     ensures { result ≡ 1 + (sum - longest) / THREAD_STEPS }
 {
     sum.saturating_sub(longest) / THREAD_STEPS + 1
@@ -85,8 +85,8 @@ impl MeanSteps {
         self.by_place.get(at.task as usize)?.get(at.pc as usize)
     }
 
-    // How many steps the run of a task is reckoned to make: 1 at least.
-    fn reckoned(&self, task: &Task) -> u64 {
+    /// How many steps the run of a task is reckoned to make: 1 at least.
+    pub fn reckoned(&self, task: &Task) -> u64 {
         match self.mean(place_of(task)) {
             Some(mean) => match mean.load(Ordering::SeqCst) {
                 UNSEEN => NEW_STEPS,
