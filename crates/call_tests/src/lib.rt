@@ -8,4 +8,6 @@ mod rows;
 #[cfg(test)]
 mod scripted;
 #[cfg(test)]
+mod settles;
+#[cfg(test)]
 mod struck;

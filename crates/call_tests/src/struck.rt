@@ -28,7 +28,8 @@ task main() {
 }
 ";
 
-const CREWS: [&str; 4] = [
+/// The crews, in the words that name them.
+pub const CREWS: [&str; 4] = [
     "--crew one",
     "--crew wave --workers 1",
     "--crew wave --workers 2",

@@ -56,7 +56,7 @@ pub takes-are : (view : View) → (now view).taken ≡ takes view.events
 takes-are view = takes-from (dependence_in view.batch) view.batch.faults initial_stage view.events
 
 -- a task that is out stands until it is taken
-did-task : (before after : View) (e : Event) → Stands before → Did before e after → (task : Task) → TaskStands before task
+pub did-task : (before after : View) (e : Event) → Stands before → Did before e after → (task : Task) → TaskStands before task
     → ¬ Contains (now after).taken (pair_of task) → TaskStands after task
 did-task before after e stands did task t untaken =
     subst (λ v. TaskStands v task) (sym did.grown) (task-kept before stands e did.allowed task t (subst (λ v. ¬ Contains (now v).taken (pair_of task)) did.grown untaken))

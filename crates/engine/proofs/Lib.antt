@@ -15,6 +15,7 @@ pub mod RingIssues
 pub mod RingOpens
 pub mod RingTakes
 pub mod Retired
+pub mod Settling
 pub mod Struck
 pub mod Taken
 pub mod Tasks

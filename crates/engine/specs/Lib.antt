@@ -1,6 +1,7 @@
 pub mod Drive
 pub mod Engaged
 pub mod Gives
+pub mod Laws
 pub mod Takes
 pub mod View
 pub mod inner

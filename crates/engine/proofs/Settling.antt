@@ -1,0 +1,31 @@
+-- A settle finds the number of the plain run.
+use Rattle.std.proofs.Common.{◌≡◌, ℕ, true, Some, refl, sym, ap, subst, ◌∙◌, slice_get}
+use Rattle.gp_base.specs.declared.journal.Event.TheVariants as event
+use Rattle.task_ast.specs.declared.sync.SyncOp.{SyncOp}
+use Rattle.task_ast.specs.declared.sync.SyncOp.TheVariants as sync
+use Rattle.task_ast.specs.State.{State, RegistersOf, number_at}
+use Rattle.task_ast.specs.Table.{is_settle}
+use Rattle.task_ast.specs.Plain.{Subthread}
+use Rattle.task_ast.specs.Position.{before}
+use Rattle.dependence.specs.Journal.{Allowed}
+use Rattle.dependence.specs.Runs.{settles_one}
+use Rattle.dependence.proofs.RunBuffers.{drained-state}
+use Rattle.engine.specs.View.{View, program_in, run_in, dependence_in, now, state_in, Stands}
+use Rattle.engine.specs.Laws.{SettledNumberLaw}
+use Rattle.engine.proofs.Tasks.{buffer_in, both-stand}
+
+-- where a settle may be issued, the state is that of the plain run
+settled-state : (view : View) (p : ℕ) (s : Subthread) → Stands view → Allowed (dependence_in view.batch) view.batch.faults (now view) (event.Issue p)
+    → slice_get (run_in view.batch) p ≡ Some s → is_settle s.begins.sync ≡ true
+    → state_in view ≡ (before (program_in view.batch) view.batch.inputs view.batch.limits p).state
+settled-state view p s stands may at settles =
+    let both = both-stand view stands in
+    sym both.1.state_is
+    ∙ drained-state (program_in view.batch) view.batch.inputs view.batch.limits view.batch.faults (now view) (buffer_in view) both.0 both.1
+        (may.settled (ap settles_one at ∙ settles) ∙ may.next)
+    ∙ ap (λ q. (before (program_in view.batch) view.batch.inputs view.batch.limits q).state) (sym may.next)
+
+pub settled-number : SettledNumberLaw
+settled-number view p register control s stands may at begins =
+    ap (λ (state : State). number_at (state (RegistersOf s.thread)) register)
+    (settled-state view p s stands may at (ap is_settle begins))
