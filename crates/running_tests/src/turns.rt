@@ -52,6 +52,22 @@ fn issues(turn: &Turn, thread: u32, child: u32) -> bool {
     }
 }
 
+// A settle of line 5.
+fn settle() -> Next {
+    Next {
+        sync: SyncOp::Settle { reg: 1, ctl: 0 },
+        line: 5,
+    }
+}
+
+// Whether the turn tells that this thread settles.
+fn settles(turn: &Turn, thread: u32) -> bool {
+    match turn {
+        Turn::Settles(told) => told.0 == thread,
+        _ => false,
+    }
+}
+
 #[test]
 fn a_fork_is_awaited_and_issued(rt: HostRuntime) -> Result<(), Fail> {
     let alloc = rt.alloc();
@@ -73,5 +89,24 @@ fn a_fork_is_awaited_and_issued(rt: HostRuntime) -> Result<(), Fail> {
     assert!(rt; issues(&ring.turn(), 0, 1));
     let held = ring.held_after(alloc, main, &SyncOp::Lock(LockNo(0)))?;
     assert!(rt; ring.len() == 2 && held.len() == 1);
+    Ok(())
+}
+
+#[test]
+fn a_settle_is_told_until_it_is_let(rt: HostRuntime) -> Result<(), Fail> {
+    let alloc = rt.alloc();
+    let main = ThreadNo(0);
+    let mut ring = one_thread(alloc)?;
+    for _ in 0..2u32 {
+        ring.reserve()?;
+        assert!(rt; issues(&ring.turn(), 0, 0));
+        assert!(rt; 0 < ring.len());
+        ring.learn(main, settle());
+        ring.reserve()?;
+        assert!(rt; settles(&ring.turn(), 0));
+        ring.reserve()?;
+        assert!(rt; settles(&ring.turn(), 0));
+        ring.clear();
+    }
     Ok(())
 }
