@@ -160,20 +160,14 @@ fn two_tasks_of_a_wave_meet(rt: HostRuntime) -> Result<(), Fail> {
     Ok(())
 }
 
-// Three tasks that go on from where none has are worth as many workers as they are, and as may be had; where the last runs
-// were light they are worth one. A heavy run weighs an eighth: 125,000 steps a task, 250,000 beside those of the longest,
-// which are worth eight workers beside the first.
-#[test]
-fn light_tasks_are_worth_one_worker(rt: HostRuntime) -> Result<(), Fail> {
-    let alloc = rt.alloc();
-    let work = adding(alloc)?;
-    let mean_steps = MeanSteps::new(alloc, &work);
-    let tasks = vec![in alloc; start(alloc, 0)?, start(alloc, 1)?, start(alloc, 2)?]?;
-    let new = (
-        mean_steps.workers(&tasks, 64),
-        mean_steps.workers(&tasks, 2),
-    );
+// How many workers three tasks from one place are worth: of 64 and of 2 where no run has gone on from there, and of 64 after
+// one light run, after a heavy one beside, and after twenty more light ones.
+fn worths(alloc: Global, work: &Work) -> Result<(u32, u32, u32, u32, u32), AllocError> {
+    let mean_steps = MeanSteps::new(alloc, work);
     let task = start(alloc, 3)?;
+    let tasks = vec![in alloc; start(alloc, 0)?, start(alloc, 1)?, start(alloc, 2)?]?;
+    let new = mean_steps.workers(&tasks, 64);
+    let new_of_two = mean_steps.workers(&tasks, 2);
     mean_steps.note(&task, 5);
     let light = mean_steps.workers(&tasks, 64);
     mean_steps.note(&task, 1_000_000);
@@ -182,10 +176,19 @@ fn light_tasks_are_worth_one_worker(rt: HostRuntime) -> Result<(), Fail> {
         mean_steps.note(&task, 5);
     }
     let again = mean_steps.workers(&tasks, 64);
-    let none = mean_steps.workers(&[], 64);
-    drop(tasks);
-    drop(task);
-    assert!(rt; new == (3, 2));
-    assert!(rt; light == 1 && heavy == 3 && again == 1 && none == 1);
+    Ok((new, new_of_two, light, heavy, again))
+}
+
+// New tasks are worth as many workers as they are, and as may be had; light ones are worth one. A heavy run weighs an eighth: 125,000
+// steps a task, so 250,000 beside those of the longest, which are worth more workers than there are tasks.
+#[test]
+fn light_tasks_are_worth_one_worker(rt: HostRuntime) -> Result<(), Fail> {
+    let alloc = rt.alloc();
+    let work = adding(alloc)?;
+    let told = worths(alloc, &work);
+    drop(work);
+    let (new, new_of_two, light, heavy, again) = told?;
+    assert!(rt; new == 3 && new_of_two == 2);
+    assert!(rt; light == 1 && heavy == 3 && again == 1);
     Ok(())
 }
