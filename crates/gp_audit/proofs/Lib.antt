@@ -1,0 +1,19 @@
+pub mod After
+pub mod Audits
+pub mod Backwards
+pub mod Clashing
+pub mod Digits
+pub mod FirstWords
+pub mod Found
+pub mod Fronts
+pub mod Once
+pub mod Parts
+pub mod Raised
+pub mod RedoLists
+pub mod Restarts
+pub mod Shown
+pub mod Sifted
+pub mod StepOrder
+pub mod ToldEvents
+pub mod Traces
+mod VerdictRows

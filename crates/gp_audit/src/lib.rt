@@ -1,0 +1,18 @@
+//! Reads the trace of one run and says whether the run was lawful. It shares no code with the engine.
+#![tactic(auto)]
+
+mod allowed;
+mod answer;
+pub mod laws;
+mod line;
+mod noted;
+mod numbers;
+mod reading;
+mod redo;
+mod state;
+mod verdict;
+
+pub use answer::{verdict_status, verdict_text};
+pub use line::{TraceFault, TraceLine};
+pub use reading::read_trace;
+pub use verdict::{Verdict, audit};

@@ -1,0 +1,5 @@
+pub mod Narrow
+pub mod Numbered
+pub mod Orders
+pub mod Texts
+pub mod WholeRuns

@@ -1,0 +1,223 @@
+// Traces, as an audit reads and judges them.
+use crate::programs::{ADD, EMPTY, accepted};
+use gp_audit::{TraceFault, TraceLine, Verdict, audit, read_trace};
+use gp_base::{Fault, Faults, Inputs, Limits, Seq, Text};
+use one_thread::{Step, run_plain};
+use std::alloc::{AllocError, Global};
+use std::test::Fail;
+
+// Rows that are no line of a trace: another word, a number that is not canonical or too wide, a part too few or too many,
+// another space or line end.
+const NO_LINES: [&[u8]; 30] = [
+    b"issue x\n",
+    b"issue 00\n",
+    b"issue 01\n",
+    b"issue -1\n",
+    b"issue +1\n",
+    b"issue 4294967296\n",
+    b"issue 99999999999999999999999\n",
+    b"issue 1",
+    b"issue 1\r\n",
+    b"issue 1 \n",
+    b"issue  1\n",
+    b" issue 1\n",
+    b"issue\n",
+    b"issue \n",
+    b"Issue 1\n",
+    b"\n",
+    b"post 1\n",
+    b"post 1 2 3\n",
+    b"take 0 0\n",
+    b"take 0 0 applied",
+    b"take 0 0 applied \n",
+    b"take 0 0 staled\n",
+    b"retire\n",
+    b"retire 1 2\n",
+    b"restart 1 0 0\n",
+    b"restart 1 0 0 redone\n",
+    b"restart 1 0 0 redo x\n",
+    b"restart 1 0 0 redo 0 \n",
+    b"restart 1 0 0 redo 0,1\n",
+    b"restart 1 0 redo 0\n",
+];
+
+// Two rows that are lines of a trace, whatever they say.
+const LINES: &[u8] = b"restart 4294967295 9 1 redo 2 1 1\nrestart 0 0 0 redo\n";
+
+// Two threads that add to one total, up to the front at which a fault on position 4 is due.
+const UP_TO_FAULT: &[u8] = b"issue 0
+post 0 0
+take 0 0 applied
+issue 1
+post 1 0
+take 1 0 applied
+issue 2
+post 2 0
+take 2 0 applied
+issue 3
+post 3 0
+take 3 0 applied
+issue 4
+post 4 0
+take 4 0 applied
+issue 5
+post 5 0
+take 5 0 applied
+issue 6
+post 6 0
+take 6 0 applied
+issue 7
+post 7 0
+";
+
+const AFTER_FAULT: &[u8] = b"restart 8 4 0 redo 4 6 7
+take 7 0 stale
+post 4 1
+take 4 1 applied
+post 6 1
+take 6 1 applied
+post 7 1
+take 7 1 applied
+issue 8
+post 8 0
+take 8 0 applied
+issue 9
+post 9 0
+take 9 0 applied
+issue 10
+post 10 0
+take 10 0 applied
+retire 0
+retire 1
+retire 2
+retire 3
+retire 4
+retire 5
+retire 6
+retire 7
+retire 8
+retire 9
+retire 10
+";
+
+// The order of the plain run of a program whose records hold these cells.
+fn order_of(alloc: Global, text: &[u8], cells: &[i64]) -> Result<Seq<Step>, Fail> {
+    if text.len() > 10000 {
+        return Err(AllocError)?;
+    }
+    let inputs = Inputs {
+        records: Seq::from_slice(alloc, cells)?,
+        feeds: Seq::new(alloc),
+    };
+    let limits = Limits {
+        turns: 1000,
+        subthreads: 20,
+    };
+    let run = run_plain(alloc, &accepted(alloc, text)?, &inputs, limits)?;
+    Ok(run.order)
+}
+
+// Whether a trace is refused at its first row.
+fn is_no_line(alloc: Global, trace: &[u8]) -> Result<bool, AllocError> {
+    if trace.len() > 10000 {
+        return Ok(false);
+    }
+    let text: Text = Seq::from_slice(alloc, trace)?;
+    match read_trace(alloc, &text) {
+        Err(TraceFault::OutOfMemory) => Err(AllocError),
+        Err(TraceFault::Line(row)) => Ok(row == 1),
+        Ok(_) => Ok(false),
+    }
+}
+
+// The lines of a trace that has no broken row.
+fn lines_of(alloc: Global, trace: &[u8]) -> Result<Seq<TraceLine>, AllocError> {
+    if trace.len() > 10000 {
+        return Err(AllocError);
+    }
+    let text: Text = Seq::from_slice(alloc, trace)?;
+    match read_trace(alloc, &text) {
+        Ok(lines) => Ok(lines),
+        Err(_) => Err(AllocError),
+    }
+}
+
+// What an audit says of a trace that has no broken row.
+fn verdict_on(
+    alloc: Global,
+    order: &Seq<Step>,
+    faults: &Faults,
+    trace: &[u8],
+) -> Result<Verdict, AllocError> {
+    let lines = lines_of(alloc, trace)?;
+    if order.len() > 10000 || lines.len() > 10000 {
+        return Err(AllocError);
+    }
+    audit(alloc, order, faults, &lines)
+}
+
+// Whether the trace of a whole run of nothing is lawful, and what is answered where it is cut or a line is left out.
+fn judges_one_subthread(alloc: Global) -> Result<bool, Fail> {
+    let order = order_of(alloc, EMPTY, &[])?;
+    let faults = Faults::none(alloc);
+    let whole: &[u8] = b"issue 0\npost 0 0\ntake 0 0 applied\nretire 0\n";
+    let early: &[u8] = b"issue 0\npost 0 0\nretire 0\n";
+    let cut: &[u8] = b"issue 0\npost 0 0\ntake 0 0 applied\n";
+    Ok(matches!(verdict_on(alloc, &order, &faults, whole)?, Verdict::Lawful)
+        && matches!(verdict_on(alloc, &order, &faults, early)?, Verdict::Unlawful(3))
+        && matches!(verdict_on(alloc, &order, &faults, cut)?, Verdict::Incomplete)
+        && matches!(verdict_on(alloc, &order, &faults, b"")?, Verdict::Incomplete))
+}
+
+// What is answered on a trace of the two adders that goes on so after the fault is due.
+fn after_fault(alloc: Global, more: &[u8]) -> Result<Verdict, Fail> {
+    let order = order_of(alloc, ADD, &[0])?;
+    let mut list = Seq::new(alloc);
+    list.push(Fault {
+        pos: 4,
+        attempt: 0,
+        delay: 3,
+        mask: 1,
+    })?;
+    let mut trace = Vec::new(alloc);
+    trace.extend_from_slice(UP_TO_FAULT)?;
+    trace.extend_from_slice(more)?;
+    Ok(verdict_on(alloc, &order, &Faults::new(list), &trace)?)
+}
+
+#[test]
+fn rows_of_a_trace(rt: HostRuntime) -> Result<(), Fail> {
+    let alloc = rt.alloc();
+    for row in &NO_LINES {
+        assert!(rt; is_no_line(alloc, row)?, "{row:?}");
+    }
+    let count = lines_of(alloc, LINES)?.len();
+    assert!(rt; count == 2);
+    Ok(())
+}
+
+#[test]
+fn a_trace_of_one_subthread(rt: HostRuntime) -> Result<(), Fail> {
+    assert!(rt; judges_one_subthread(rt.alloc())?);
+    Ok(())
+}
+
+#[test]
+fn a_trace_with_a_restart(rt: HostRuntime) -> Result<(), Fail> {
+    let alloc = rt.alloc();
+    let is_lawful = matches!(after_fault(alloc, AFTER_FAULT)?, Verdict::Lawful);
+    assert!(rt; is_lawful);
+    // Each of these is the first line after 23 lawful ones: nothing is issued while a fault is due, a restart redoes the
+    // dependents and nothing else.
+    for line in [
+        b"issue 8\n".as_slice(),
+        b"restart 8 4 0 redo 4 6\n".as_slice(),
+        b"restart 8 4 0 redo 4 5 6 7\n".as_slice(),
+        b"restart 8 4 1 redo 4 6 7\n".as_slice(),
+        b"retire 0\n".as_slice(),
+    ] {
+        let is_first_unlawful = matches!(after_fault(alloc, line)?, Verdict::Unlawful(24));
+        assert!(rt; is_first_unlawful, "{line:?}");
+    }
+    Ok(())
+}
