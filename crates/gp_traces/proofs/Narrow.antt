@@ -17,7 +17,7 @@ use Rattle.dependence.proofs.Counts.{few-attempts}
 use Rattle.dependence.proofs.Journals.{LawfulFrom-front}
 use Rattle.dependence.proofs.Standing.{initial-stands, stands-from}
 use Rattle.dependence.proofs.Struck.{struck-live}
-use Rattle.gp_audit.specs.declared.line.TraceLine.{TraceLine}
+use Rattle.gp_audit.specs.declared.line.TraceLine.TheVariants as line
 use Rattle.gp_audit.specs.Lines.{IsNarrow, IsNarrowRestart, IsNarrowLine}
 use Rattle.gp_traces.specs.Told.{restart_line, line_of}
 
@@ -53,7 +53,7 @@ module _ (dependence : Dependence) (faults : List Fault) (clean : KeepsClean dep
   step-narrow : (at : Progress) (o : Option ℕ) → struck_next dependence faults at ≡ o → Narrow at → Narrow (advance_by dependence at o)
   step-narrow at None e narrow = record { front = omega arith; made = narrow.made }
   step-narrow at (Some p) e narrow =
-      record { front = narrow.front; made = All-push IsNarrowRestart at.made _ narrow.made (one-restart at p narrow.front e) }
+      record { front = narrow.front; made = All-push IsNarrowRestart at.made (restart_of dependence at p) narrow.made (one-restart at p narrow.front e) }
 
   all-narrow : (steps : ℕ) → Narrow (progress dependence faults steps)
   all-narrow zero = record { front = omega arith; made = All-nil IsNarrowRestart }
@@ -76,21 +76,21 @@ module _ (dependence : Dependence) (faults : List Fault) (clean : KeepsClean dep
 
       one-line : (o : Option Restart) → ((r : Restart) → o ≡ Some r → IsNarrowRestart r) → All IsNarrowLine (restart_line o)
       one-line None narrow = All-nil IsNarrowLine
-      one-line (Some r) narrow = All-cons IsNarrowLine _ [] (narrow r refl) (All-nil IsNarrowLine)
+      one-line (Some r) narrow = All-cons IsNarrowLine (line.Restart r) [] (narrow r refl) (All-nil IsNarrowLine)
 
       event-narrow : (e : Event) → Allowed dependence faults at e → All IsNarrowLine (line_of told e)
-      event-narrow (event.Issue p) may = All-cons IsNarrowLine _ [] (let left = may.left in omega arith) (All-nil IsNarrowLine)
+      event-narrow (event.Issue p) may = All-cons IsNarrowLine (line.Issue p) [] (let left = may.left in omega arith) (All-nil IsNarrowLine)
       event-narrow (event.Post p a) may =
           let low = stands.front_low in let issued = may.issued in let few_attempts = attempts p in let present = may.present in
           let most : MOST_FAULTS ≡ 1000 = refl in
-          All-cons IsNarrowLine _ [] (omega arith, omega arith) (All-nil IsNarrowLine)
+          All-cons IsNarrowLine (line.Post p a) [] (omega arith, omega arith) (All-nil IsNarrowLine)
       event-narrow (event.Take p a x) may =
           let low = stands.front_low in let posted = stands.posted_low p a may.posted in let few_attempts = attempts p in
           let most : MOST_FAULTS ≡ 1000 = refl in
-          All-cons IsNarrowLine _ [] (omega arith, omega arith) (All-nil IsNarrowLine)
+          All-cons IsNarrowLine (line.Take p a x) [] (omega arith, omega arith) (All-nil IsNarrowLine)
       event-narrow (event.Restart number) may =
           one-line (slice_get told number) (λ r e. All-contains IsNarrowRestart told r told_narrow (member-there told number r e))
-      event-narrow (event.Retire p) may = All-cons IsNarrowLine _ [] (let low = stands.front_low in let issued = may.issued in omega arith) (All-nil IsNarrowLine)
+      event-narrow (event.Retire p) may = All-cons IsNarrowLine (line.Retire p) [] (let low = stands.front_low in let issued = may.issued in omega arith) (All-nil IsNarrowLine)
 
     -- the lines of events that go on lawfully
     pub lines-narrow : (done more : List Event) → Lawful dependence faults (done ++ more) → All IsNarrowLine (flat_map (line_of told) more)
