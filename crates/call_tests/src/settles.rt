@@ -1,8 +1,8 @@
 // Batches in which data becomes control: each settle is issued once all before it have retired, whoever runs the batch. Orders and restarts were
 // reckoned by hand from the rules of the order and of dependence.
 
-use crate::struck::CREWS;
 use crate::calls::{ADD, Files, SOUND, alone, answer_of, gives};
+use crate::struck::CREWS;
 use std::alloc::AllocError;
 use std::test::Fail;
 use std::thread::Threads;

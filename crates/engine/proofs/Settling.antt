@@ -22,7 +22,7 @@ settled-state view p s stands may at settles =
     let both = both-stand view stands in
     sym both.1.state_is
     ∙ drained-state (program_in view.batch) view.batch.inputs view.batch.limits view.batch.faults (now view) (buffer_in view) both.0 both.1
-        (may.settled (ap settles_one at ∙ settles) ∙ may.next)
+    (may.settled (ap settles_one at ∙ settles) ∙ may.next)
     ∙ ap (λ q. (before (program_in view.batch) view.batch.inputs view.batch.limits q).state) (sym may.next)
 
 pub settled-number : SettledNumberLaw

@@ -163,10 +163,21 @@ fn judges_one_subthread(alloc: Global) -> Result<bool, Fail> {
     let whole: &[u8] = b"issue 0\npost 0 0\ntake 0 0 applied\nretire 0\n";
     let early: &[u8] = b"issue 0\npost 0 0\nretire 0\n";
     let cut: &[u8] = b"issue 0\npost 0 0\ntake 0 0 applied\n";
-    Ok(matches!(verdict_on(alloc, &order, &faults, whole)?, Verdict::Lawful)
-        && matches!(verdict_on(alloc, &order, &faults, early)?, Verdict::Unlawful(3))
-        && matches!(verdict_on(alloc, &order, &faults, cut)?, Verdict::Incomplete)
-        && matches!(verdict_on(alloc, &order, &faults, b"")?, Verdict::Incomplete))
+    Ok(
+        matches!(verdict_on(alloc, &order, &faults, whole)?, Verdict::Lawful)
+            && matches!(
+                verdict_on(alloc, &order, &faults, early)?,
+                Verdict::Unlawful(3)
+            )
+            && matches!(
+                verdict_on(alloc, &order, &faults, cut)?,
+                Verdict::Incomplete
+            )
+            && matches!(
+                verdict_on(alloc, &order, &faults, b"")?,
+                Verdict::Incomplete
+            ),
+    )
 }
 
 // What is answered on a trace of the two adders that goes on so after the fault is due.

@@ -26,7 +26,7 @@ pub same_room : (before after : Threads) (held there : Held) → length (table a
     → there.change ≡ held.change → spare_of after there ≡ spare_of before held
 same_room before after held there seats capacity change =
     let lengths : vec_len after.seats ≡ vec_len before.seats =
-        after.seats.ok.0 ∙ sym (length-map after.seats.items seat_of) ∙ seats ∙ length-map before.seats.items seat_of ∙ sym before.seats.ok.0 in
+    after.seats.ok.0 ∙ sym (length-map after.seats.items seat_of) ∙ seats ∙ length-map before.seats.items seat_of ∙ sym before.seats.ok.0 in
     ap (λ c. cond (is_none c) (vec_capacity after.seats - vec_len after.seats) 0) change
     ∙ ap (λ n. cond (is_none held.change) (n - vec_len after.seats) 0) capacity
     ∙ ap (λ n. cond (is_none held.change) (vec_capacity before.seats - n) 0) lengths
