@@ -49,7 +49,8 @@ row() {
 soak/make.sh 20000 1 "$made"
 sed 's/500000/5000000/' simulation.gp >"$made/long.gp"
 
-printf '| batch | `--crew one` | 1 worker | 2 | 4 | 64 |\n|---|---|---|---|---|---|\n'
+echo '| batch | --crew one | 1 worker | 2 | 4 | 64 |'
+echo '|---|---|---|---|---|---|'
 row "soak 20000 1" soak 20000 1
 row "its files, without faults" run "$made/soak.gp"
 row simulation run simulation.gp

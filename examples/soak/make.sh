@@ -8,7 +8,7 @@ usage() {
     exit 2
 }
 
-# A number without its leading zeros, which has so many digits at most.
+# A number without its leading zeros, which has at most so many digits.
 number() {
     local digits="$1"
     [[ "$digits" =~ ^[0-9]+$ ]] || usage
@@ -21,8 +21,11 @@ number() {
 moves="$(number "$1" 5)" || exit 2
 start="$(number "$2" 20)" || exit 2
 folder="$3"
-[ "$moves" -ge 4 ] && [ "$moves" -le 20000 ] || usage
-[ "${#start}" -lt 20 ] || [[ ! "$start" > 18446744073709551615 ]] || usage
+if [ "$moves" -lt 4 ] || [ "$moves" -gt 20000 ]; then usage; fi
+# Two numbers of 20 digits compare as texts do; as the shell's numbers they would have wrapped round.
+last=18446744073709551615
+# shellcheck disable=SC2071
+if [ "${#start}" -eq 20 ] && [[ "$start" > "$last" ]]; then usage; fi
 
 # Numbers are drawn by a linear congruential generator (Knuth's constants of MMIX). The shell's numbers have 64 bits and wrap round, as its
 # state does; what is drawn are the upper 31 bits.
