@@ -1,7 +1,10 @@
 // Traces, as an audit reads and judges them.
+ghost use Rattle.std.specs.Prelude.{◌<◌, ◌^◌, length};
+
 use crate::programs::{ADD, EMPTY, accepted};
+use batch_files::read_faults;
 use gp_audit::{TraceFault, TraceLine, Verdict, audit, read_trace};
-use gp_base::{Fault, Faults, Inputs, Limits, Seq, Text};
+use gp_base::{Faults, Inputs, Limits, Seq, Text};
 use one_thread::{Step, run_plain};
 use std::alloc::{AllocError, Global};
 use std::test::Fail;
@@ -101,10 +104,9 @@ retire 10
 ";
 
 // The order of the plain run of a program whose records hold these cells.
-fn order_of(alloc: Global, text: &[u8], cells: &[i64]) -> Result<Seq<Step>, Fail> {
-    if text.len() > 10000 {
-        return Err(AllocError)?;
-    }
+fn order_of(alloc: Global, text: &[u8], cells: &[i64]) -> Result<Seq<Step>, Fail>
+    requires { length text.now < 2 ^ 32 }
+{
     let inputs = Inputs {
         records: Seq::from_slice(alloc, cells)?,
         feeds: Seq::new(alloc),
@@ -183,17 +185,11 @@ fn judges_one_subthread(alloc: Global) -> Result<bool, Fail> {
 // What is answered on a trace of the two adders that goes on so after the fault is due.
 fn after_fault(alloc: Global, more: &[u8]) -> Result<Verdict, Fail> {
     let order = order_of(alloc, ADD, &[0])?;
-    let mut list = Seq::new(alloc);
-    list.push(Fault {
-        pos: 4,
-        attempt: 0,
-        delay: 3,
-        mask: 1,
-    })?;
+    let faults = read_faults(alloc, &Text::from_slice(alloc, b"4,0,3,1\n")?)?;
     let mut trace = Vec::new(alloc);
     trace.extend_from_slice(UP_TO_FAULT)?;
     trace.extend_from_slice(more)?;
-    Ok(verdict_on(alloc, &order, &Faults::new(list), &trace)?)
+    Ok(verdict_on(alloc, &order, &faults, &trace)?)
 }
 
 #[test]
@@ -218,15 +214,16 @@ fn a_trace_with_a_restart(rt: HostRuntime) -> Result<(), Fail> {
     let alloc = rt.alloc();
     let is_lawful = matches!(after_fault(alloc, AFTER_FAULT)?, Verdict::Lawful);
     assert!(rt; is_lawful);
-    // Each of these is the first line after 23 lawful ones: nothing is issued while a fault is due, a restart redoes the
-    // dependents and nothing else.
-    for line in [
-        b"issue 8\n".as_slice(),
-        b"restart 8 4 0 redo 4 6\n".as_slice(),
-        b"restart 8 4 0 redo 4 5 6 7\n".as_slice(),
-        b"restart 8 4 1 redo 4 6 7\n".as_slice(),
-        b"retire 0\n".as_slice(),
-    ] {
+    // Each of these comes after 23 lawful lines: nothing is issued and nothing retires while a fault is due, and a restart
+    // redoes the dependents and nothing else.
+    let unlawful: [&[u8]; 5] = [
+        b"issue 8\n",
+        b"restart 8 4 0 redo 4 6\n",
+        b"restart 8 4 0 redo 4 5 6 7\n",
+        b"restart 8 4 1 redo 4 6 7\n",
+        b"retire 0\n",
+    ];
+    for line in unlawful {
         let is_first_unlawful = matches!(after_fault(alloc, line)?, Verdict::Unlawful(24));
         assert!(rt; is_first_unlawful, "{line:?}");
     }
