@@ -119,24 +119,6 @@ empty_journal_of work journal empty = subst (IsJournalOf work) (sym (empty_by jo
 pub none_retired : (work : Work) (journal : Journal) → IsEmpty journal → retired_in work journal ≡ 0
 none_retired work journal empty = ap (λ j. retired_in work j) (empty_by journal empty)
 
--- a run that stopped before it began, for want of memory, when nothing was written of its lines
-pub unbegun_stop : (work : Work) (written : Option (List ℕ)) (faults : ℕ) (stop : EngineStop) (journal : Journal) → IsEmpty journal → stop.why ≡ why.OutOfMemory → stop.journal ≡ journal
-    → RunsWork work (record { written = written; written' = written; faults = faults; faults' = faults }) (Err stop)
-unbegun_stop work written faults stop journal empty is same =
-    let empty' = subst IsEmpty (sym same) empty in
-    record {
-      journal = empty_journal_of work stop.journal empty';
-      report = tt;
-      lines = tt;
-      partly = (0, subst (λ n. Appends written written (bytes_below work n ++ [])) (sym (none_retired work stop.journal empty')) (nothing written));
-      later = le_refl faults;
-      cause = λ failed. let bad : why.OutOfMemory ≡ WriteFault = sym is ∙ failed in cc;
-    }
-  where
-    nothing : (known : Option (List ℕ)) → Appends known known []
-    nothing None = tt
-    nothing (Some bytes) = sym (append-nil bytes)
-
 -- a stop at a fault of the output
 pub stops_by : (fault : SinkFault) (journal : Journal) (stop : EngineStop) → stop.why ≡ why_of fault → stop.journal ≡ journal → Stops fault journal stop
 stops_by Failed journal stop is same = record { journal_is = same; failed = λ failed. refl }

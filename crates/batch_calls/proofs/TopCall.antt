@@ -31,6 +31,7 @@ use Rattle.call_cases.specs.Case.{Case, Usage, Missing, BadProgram, BadInput, Go
 use Rattle.call_cases.specs.Lines.{out_of_memory_line, write_fault_line}
 use Rattle.call_cases.specs.Decided.{AnswersCase, AnswersNoCommand, TouchesShelf, TellsRefusal, TakesRefusal, RefusalEnds, usage_told, program_told, input_told, read_told, refusal_no_memory, refusal_failed}
 use Rattle.call_cases.specs.Journals.{ForRun, IsJournalOf, IsCompleteOf, TakesRetired, TakesRetiredFor, retired_in, lines_before}
+use Rattle.batch_calls.specs.inner.Planned.{Carries}
 use Rattle.batch_calls.specs.inner.Ran.{Journalled, EndsFor, RanFor, PutFor, StopsWith, why_of}
 use Rattle.call_cases.specs.Answers.{Change, TakesAll, TakesPart, Fails, Grew, IsStopLine, TakesStop, Yields, due_status, no_memory, read_fault, write_fault, LineEnds, whole, line_failed, line_no_memory, RunEnds, finished, run_no_memory, output_failed, error_failed}
 use Rattle.call_cases.specs.Headline.{IsWhole, TellsCase, IsRefusal, HasCaseLine, trace_for, RunsNothing, TellsReadFault, TellsWriteFault, IsStop, IsDue, TakesStopLines, ReadsNothing, IsEmpty, Headline}
@@ -252,18 +253,37 @@ empty_lawful (BadProgram name line) journal empty = tt
 empty_lawful (BadInput names line) journal empty = tt
 empty_lawful (Go work) journal empty = λ is. empty_journal_of work journal empty
 
-empty_retired : (case : Case) (journal : Journal) (written : Option (List ℕ)) (faults : ℕ) → IsEmpty journal → ForRun case (λ w. TakesRetired w journal (nothing_taken written faults))
-empty_retired Usage journal written faults empty = tt
-empty_retired (Missing names name) journal written faults empty = tt
-empty_retired (BadProgram name line) journal written faults empty = tt
-empty_retired (BadInput names line) journal written faults empty = tt
-empty_retired (Go work) journal written faults empty = λ is. go work.command
+retired_none : (work : Work) (journal : Journal) (written : Option (List ℕ)) (faults : ℕ) → IsEmpty journal → TakesRetired work journal (nothing_taken written faults)
+retired_none work journal written faults empty = go work.command
   where
     go : (c : Command) → TakesRetiredFor c work journal (nothing_taken written faults)
     go command.Run = (inl (none_retired work journal empty), inr (prefix_none written (lines_before work (suc (retired_in work journal)))))
     go command.One = (inl (none_retired work journal empty), inr (prefix_none written (lines_before work (suc (retired_in work journal)))))
     go command.Check = (inl (none_retired work journal empty), inr (prefix_none written (lines_before work (suc (retired_in work journal)))))
     go (command.Soak batch) = inr (Keeps-same written)
+
+empty_retired : (case : Case) (journal : Journal) (written : Option (List ℕ)) (faults : ℕ) → IsEmpty journal → ForRun case (λ w. TakesRetired w journal (nothing_taken written faults))
+empty_retired Usage journal written faults empty = tt
+empty_retired (Missing names name) journal written faults empty = tt
+empty_retired (BadProgram name line) journal written faults empty = tt
+empty_retired (BadInput names line) journal written faults empty = tt
+empty_retired (Go work) journal written faults empty = λ is. retired_none work journal written faults empty
+
+-- a run that did not begin, since memory was out
+pub unbegun_carries : (asked : Asked) (work : Work) (written : Option (List ℕ)) (faults : ℕ) (err : Change) (status : ℕ) (journal : Journal) → IsEmpty journal → LineEnds 1 out_of_memory_line err status
+    → Carries asked work (nothing_taken written faults) err status journal
+unbegun_carries asked work written faults err status journal empty ends =
+    let out = nothing_taken written faults in
+    let text = text_of (Go work) in
+    record {
+      ends = run_of_memory text (trace_for (Some asked) journal) (status_of (Go work)) out err status (prefix_none written text) ends;
+      unjournalled = λ is. empty;
+      run = λ is. record {
+        lawful = empty_journal_of work journal empty;
+        complete = λ whole. absurd (stopped_whole 1 status out_of_memory_line err (inr refl) ends whole);
+        retired = retired_none work journal written faults empty;
+      };
+    }
 
 -- what holds of a case that is known but for a part
 for_some : (commands : Commands) (words : List (List ℕ)) (files : Option Files) (X : Type 0) (known : X → Case) (P : Case → Type 0) → IfSome files (λ told. (x : X) × IsCase commands words told (known x)) → ((x : X) → P (known x))

@@ -1,6 +1,7 @@
 //! The top calls: all that the program does, over a shelf, two sinks and a gate that are handed in.
 #![tactic(auto)]
 
+mod crews;
 mod plain;
 pub mod plan;
 mod run;

@@ -1,21 +1,22 @@
-// Runs over a journal, by the crew that is asked for.
-ghost use Rattle.std.specs.Prelude.{◌≡◌, All, IfOk};
+// Runs over a journal: the code of a program, and what its run begins with.
+ghost use Rattle.std.specs.Prelude.{◌≡◌, [], IfOk};
 ghost use Rattle.task_ast.specs.View.{plain_program};
-ghost use Rattle.task_ast.specs.Inputs.{AreInputsOf};
 ghost use Rattle.lock_checker.specs.Accepted.{program_of};
-ghost use Rattle.subthread.specs.Tasks.{Fits, Suits, program_in};
-ghost use Rattle.crew.specs.Out.{AreRuns};
 ghost use Rattle.call_cases.specs.Answers.{change_of};
-ghost use Rattle.batch_calls.specs.inner.Ran.{batch_from, RunsBatch};
+ghost use Rattle.call_cases.specs.Decided.{IsSound, work_for, work_of};
+ghost use Rattle.subthread.specs.Tasks.{Suits};
+ghost use Rattle.batch_calls.specs.inner.Planned.{IsPlanOf, IsPlanned, work_planned};
+ghost use Rattle.batch_calls.specs.inner.Ran.{batch_from, RunsBatch, RunsWork};
 
-use command_line::CrewKind;
-use crew::{BatchCrew, InlineCrew, MeanSteps, run_wave};
+use call_cases::Batch;
+use command_line::Asked;
+use crew::Crew;
 use engine::{EngineStop, Report, drive};
-use gp_base::{Faults, Feed, Gate, Inputs, Limits, Seq, Sink};
+use gp_base::{Faults, Feed, Inputs, Limits, Seq, Sink};
 use lock_checker::Checked;
 use std::alloc::{AllocError, Global};
 use std::thread::Threads;
-use subthread::{Done, Task, Work};
+use subthread::Work;
 use task_ast::Layout;
 use task_code::lower;
 
@@ -28,18 +29,12 @@ pub struct Begins {
     pub limits: Limits,
 }
 
-/// A run that may begin: its program as code, and what it begins with.
+/// A run that may begin, beside its program as code: what is asked, the accepted program, and what the run begins with.
 #[derive(Drop)]
 pub struct Plan {
-    pub work: Work,
+    pub asked: Asked,
+    pub checked: Checked,
     pub begins: Begins,
-}
-
-/// Who carries out the subthreads of a run.
-#[derive(Clone, Copy)]
-pub struct Workers {
-    pub crew: CrewKind,
-    pub count: u32,
 }
 
 // The same feed again.
@@ -64,25 +59,23 @@ fn copies_of(alloc: Global, feeds: &[Feed]) -> Result<Seq<Feed>, AllocError>
     Ok(copies)
 }
 
-/// The plan of an accepted program's run, from these inputs, with these faults, under these limits. The error is that memory
-/// is out.
-pub fn plan_of(
-    alloc: Global,
-    checked: &Checked,
-    inputs: Inputs,
-    faults: Faults,
-    limits: Limits,
-) -> Result<Plan, AllocError>
-    requires { AreInputsOf (plain_program (program_of checked.now)) inputs }
-    ensures suits { IfOk result (λ plan. Suits plan.work plan.begins.layout plan.begins.inputs plan.begins.limits) }
-    ensures program { IfOk result (λ plan. program_in plan.work ≡ plain_program (program_of checked.now)) }
-    ensures inputs { IfOk result (λ plan. plan.begins.inputs ≡ inputs) }
-    ensures faults { IfOk result (λ plan. plan.begins.faults ≡ faults) }
-    ensures limits { IfOk result (λ plan. plan.begins.limits ≡ limits) }
+/// The code of a batch's program, and the plan of its run. The error is that memory is out.
+pub fn plan_of(alloc: Global, batch: Batch) -> Result<(Work, Plan), AllocError>
+    requires { IsSound batch.asked (plain_program (program_of batch.checked)) batch.inputs }
+    ensures plan { IfOk result (λ made. IsPlanOf made.0 made.1) }
+    ensures work { IfOk result (λ made. work_planned made.1 ≡ work_of batch) }
+    ensures asked { IfOk result (λ made. made.1.asked ≡ batch.asked) }
 {
-    let code = lower(alloc, checked)?;
+    let Batch {
+        asked,
+        checked,
+        inputs,
+        faults,
+    } = batch;
+    let code = lower(alloc, &checked)?;
     let layout = checked.layout(alloc)?;
     let feeds = copies_of(alloc, inputs.feeds.as_slice())?;
+    let limits = asked.limits;
     let work = Work {
         code,
         feeds,
@@ -94,22 +87,30 @@ pub fn plan_of(
         faults,
         limits,
     };
-    Ok(Plan { work, begins })
+    let plan = Plan {
+        asked,
+        checked,
+        begins,
+    };
+    Ok((work, plan))
 }
 
-// Runs a work in the calling thread.
-fn one_over<R: Threads + Sync, O: Sink, G: Gate>(
+// Runs a code with a crew to which nothing was posted, and writes the printed lines.
+fn drive_by<R: Threads + Sync, C: Crew, O: Sink>(
     rt: &R,
     alloc: Global,
-    work: &Work,
+    code: &Work,
     begins: Begins,
+    crew: &mut C,
     out: &mut O,
-    gate: &G,
 ) -> Result<Report, EngineStop>
-    requires { Suits work.now begins.layout begins.inputs begins.limits }
-    ensures { RunsBatch (batch_from work.now begins) (change_of O.written O.faults out.old out.new) result }
+    requires suits { Suits code.now begins.layout begins.inputs begins.limits }
+    requires ready { C.ready crew.old }
+    requires work { C.work crew.old ≡ code.now }
+    requires none_out { C.out crew.old ≡ [] }
+    requires none_posted { C.posted crew.old ≡ [] }
+    ensures { RunsBatch (batch_from code.now begins) (change_of O.written O.faults out.old out.new) result }
 {
-    let mut crew = InlineCrew::new(alloc, work, gate);
     let Begins {
         layout,
         inputs,
@@ -117,55 +118,28 @@ fn one_over<R: Threads + Sync, O: Sink, G: Gate>(
         limits,
     } = begins;
     drive(
-        rt, alloc, work, layout, inputs, faults, limits, &mut crew, out,
+        rt, alloc, code, layout, inputs, faults, limits, crew, out,
     )
 }
 
-// Runs a work by waves of workers.
-fn waves_over<R: Threads + Sync, O: Sink, G: Gate>(
+/// Runs the program of a batch with a crew to which nothing was posted, and writes the printed lines to `out`. The answer is
+/// how the run went, or how it stopped.
+pub fn put_lines<R: Threads + Sync, C: Crew, O: Sink>(
     rt: &R,
     alloc: Global,
-    work: &Work,
+    asked: &Asked,
+    checked: &Checked,
+    code: &Work,
     begins: Begins,
-    workers: u32,
+    crew: &mut C,
     out: &mut O,
-    gate: &G,
 ) -> Result<Report, EngineStop>
-    requires { Suits work.now begins.layout begins.inputs begins.limits }
-    ensures { RunsBatch (batch_from work.now begins) (change_of O.written O.faults out.old out.new) result }
+    requires planned { IsPlanned asked.now (plain_program (program_of checked.now)) code.now begins }
+    requires ready { C.ready crew.old }
+    requires work { C.work crew.old ≡ code.now }
+    requires none_out { C.out crew.old ≡ [] }
+    requires none_posted { C.posted crew.old ≡ [] }
+    ensures { RunsWork (work_for asked.now (plain_program (program_of checked.now)) begins.inputs begins.faults.list) (change_of O.written O.faults out.old out.new) result }
 {
-    let mean_steps = MeanSteps::new(alloc, work);
-    let run_all = |tasks: Seq<Task>| -> Result<Seq<Done>, AllocError>
-        requires { All (Fits work.now) tasks }
-        ensures { IfOk result (AreRuns work.entry.now tasks) }
-    { run_wave(rt, alloc, work, gate, &mean_steps, workers, tasks) };
-    let mut crew = BatchCrew::new(alloc, work, run_all);
-    let Begins {
-        layout,
-        inputs,
-        faults,
-        limits,
-    } = begins;
-    drive(
-        rt, alloc, work, layout, inputs, faults, limits, &mut crew, out,
-    )
-}
-
-/// Runs the plan, and writes the printed lines to `out`. The answer is how the run went, or how it stopped.
-pub fn run_by<R: Threads + Sync, O: Sink, G: Gate>(
-    rt: &R,
-    alloc: Global,
-    plan: Plan,
-    workers: Workers,
-    out: &mut O,
-    gate: &G,
-) -> Result<Report, EngineStop>
-    requires { Suits plan.work plan.begins.layout plan.begins.inputs plan.begins.limits }
-    ensures { RunsBatch (batch_from plan.work plan.begins) (change_of O.written O.faults out.old out.new) result }
-{
-    let Plan { work, begins } = plan;
-    match workers.crew {
-        CrewKind::One => one_over(rt, alloc, &work, begins, out, gate),
-        CrewKind::Wave => waves_over(rt, alloc, &work, begins, workers.count, out, gate),
-    }
+    drive_by(rt, alloc, code, begins, crew, out)
 }

@@ -1,31 +1,34 @@
 // Runs a batch over a journal, and writes its text and its trace.
-ghost use Rattle.std.specs.Prelude.{◌≡◌, ℕ, List, [], true, false, length, Some, OnOk, OnErr, if◌then◌else◌};
+ghost use Rattle.std.specs.Prelude.{◌≡◌, ℕ, List, [], true, false, length, OnOk, OnErr, Option, if◌then◌else◌};
 ghost use Rattle.std.specs.Io.KnownBytes.{Appends};
 ghost use Rattle.gp_base.specs.Sinks.{AppendsPrefix, HasCause};
 ghost use Rattle.task_ast.specs.View.{plain_program};
 ghost use Rattle.lock_checker.specs.Accepted.{program_of};
 ghost use Rattle.restart_log.specs.Trace.{trace_text};
 ghost use Rattle.command_line.specs.declared.asked.Command.TheVariants as command;
+ghost use Rattle.command_line.specs.declared.asked.Asked.{Asked};
 ghost use Rattle.call_cases.specs.Answers.{Change, LineEnds, RunEnds, change_of};
-ghost use Rattle.call_cases.specs.Case.{status_of, text_of, Go};
-ghost use Rattle.call_cases.specs.Decided.{work_for, work_of, IsSound, MayRun};
-ghost use Rattle.call_cases.specs.Headline.{IsEmpty, trace_for};
+ghost use Rattle.call_cases.specs.Decided.{work_of};
+ghost use Rattle.call_cases.specs.Headline.{IsEmpty};
 ghost use Rattle.call_cases.specs.PlainText.{plain_ran, restarts_in};
-ghost use Rattle.batch_calls.specs.inner.Ran.{RunsWork, RanFor, Journalled, EndsFor, PutFor, StopsWith, why_of, told_tail, told_soak};
 ghost use Rattle.call_cases.specs.Texts.{run_text, soak_text};
 ghost use Rattle.call_cases.specs.Work.{Work, is_journalled};
+ghost use Rattle.batch_calls.specs.inner.Planned.{IsPlanOf, Carries, work_planned};
+ghost use Rattle.batch_calls.specs.inner.Ran.{RanFor, EndsFor, PutFor, StopsWith, why_of, told_tail, told_soak};
 
 use crate::plain::{end_status, put_ok, put_one};
-use crate::plan::{Workers, plan_of, run_by};
+use crate::plan::{Plan, put_lines};
 use crate::texts::OUTPUT;
 use call_cases::{Batch, OUT_OF_MEMORY, Outcome, WRITE_FAULT, empty_journal, end_with};
-use command_line::{Asked, Command, Soak};
+use command_line::{Command, Soak};
+use crew::Crew;
 use engine::{EngineStop, Report, StopWhy};
-use gp_base::{Faults, Gate, Inputs, Journal, NeverSink, Sink, SinkFault, put_all};
+use gp_base::{Journal, NeverSink, Sink, SinkFault, put_all};
 use lock_checker::Checked;
 use restart_log::{soak_text, tail_text, trace_text};
 use std::alloc::Global;
 use std::thread::Threads;
+use subthread::Work as Code;
 
 fn why_of(fault: SinkFault) -> StopWhy
     ensures { result ≡ why_of fault }
@@ -53,31 +56,6 @@ fn stop_with<E: Sink>(err: &mut E, why: StopWhy) -> u8
         StopWhy::WriteFault => end_with(err, WRITE_FAULT, 8),
         StopWhy::OutOfMemory => end_with(err, OUT_OF_MEMORY, 1),
     }
-}
-
-// Runs the program of a batch, and writes the printed lines.
-fn put_lines<R: Threads + Sync, O: Sink, G: Gate>(
-    rt: &R,
-    alloc: Global,
-    asked: &Asked,
-    checked: &Checked,
-    inputs: Inputs,
-    faults: Faults,
-    out: &mut O,
-    gate: &G,
-) -> Result<Report, EngineStop>
-    requires { IsSound asked.now (plain_program (program_of checked.now)) inputs }
-    ensures { RunsWork (work_for asked.now (plain_program (program_of checked.now)) inputs faults.list) (change_of O.written O.faults out.old out.new) result }
-{
-    let plan = match plan_of(alloc, checked, inputs, faults, asked.limits) {
-        Ok(plan) => plan,
-        Err(_) => return Err(stopped(SinkFault::OutOfMemory, empty_journal(alloc))),
-    };
-    let workers = Workers {
-        crew: asked.crew,
-        count: asked.workers,
-    };
-    run_by(rt, alloc, plan, workers, out, gate)
 }
 
 // Writes what follows the printed lines.
@@ -110,29 +88,33 @@ fn put_summary<O: Sink>(
     put_all(out, summary.as_slice())
 }
 
-// Runs the batch, and writes the first line, the printed lines, and the tail.
-fn put_run<R: Threads + Sync, O: Sink, G: Gate>(
+// Runs a batch with a crew, and writes the first line, the printed lines, and the tail.
+fn put_run<R: Threads + Sync, C: Crew, O: Sink>(
     rt: &R,
     alloc: Global,
-    batch: Batch,
+    code: &Code,
+    plan: Plan,
+    crew: &mut C,
     out: &mut O,
-    gate: &G,
 ) -> Result<Report, EngineStop>
-    requires sound { IsSound batch.asked (plain_program (program_of batch.checked)) batch.inputs }
-    requires run { batch.asked.command ≡ command.Run }
-    ensures { RanFor (work_of batch) (run_text (plain_ran (work_of batch)) (restarts_in (work_of batch)) (length batch.faults.list)) (change_of O.written O.faults out.old out.new) result }
+    requires planned { IsPlanOf code.now plan }
+    requires ready { C.ready crew.old }
+    requires work { C.work crew.old ≡ code.now }
+    requires none_out { C.out crew.old ≡ [] }
+    requires none_posted { C.posted crew.old ≡ [] }
+    requires run { plan.asked.command ≡ command.Run }
+    ensures { RanFor (work_planned plan) (run_text (plain_ran (work_planned plan)) (restarts_in (work_planned plan)) (length plan.begins.faults.list)) (change_of O.written O.faults out.old out.new) result }
 {
-    let Batch {
+    let Plan {
         asked,
         checked,
-        inputs,
-        faults,
-    } = batch;
+        begins,
+    } = plan;
     match put_all(out, OUTPUT) {
         Ok(()) => {}
         Err(fault) => return Err(stopped(fault, empty_journal(alloc))),
     }
-    let report = match put_lines(rt, alloc, &asked, &checked, inputs, faults, out, gate) {
+    let report = match put_lines(rt, alloc, &asked, &checked, code, begins, crew, out) {
         Ok(report) => report,
         Err(stop) => return Err(stop),
     };
@@ -143,34 +125,38 @@ fn put_run<R: Threads + Sync, O: Sink, G: Gate>(
 }
 
 // Runs a batch that the program made, whose lines nobody reads, and writes its summary.
-fn put_soak<R: Threads + Sync, O: Sink, G: Gate>(
+fn put_soak<R: Threads + Sync, C: Crew, O: Sink>(
     rt: &R,
     alloc: Global,
-    batch: Batch,
+    code: &Code,
+    plan: Plan,
     soak: Soak,
+    crew: &mut C,
     out: &mut O,
-    gate: &G,
 ) -> Result<Report, EngineStop>
-    requires sound { IsSound batch.asked (plain_program (program_of batch.checked)) batch.inputs }
-    requires run { batch.asked.command ≡ command.Soak soak }
-    ensures { RanFor (work_of batch) (soak_text soak (plain_ran (work_of batch)) (restarts_in (work_of batch)) (length batch.faults.list)) (change_of O.written O.faults out.old out.new) result }
+    requires planned { IsPlanOf code.now plan }
+    requires ready { C.ready crew.old }
+    requires work { C.work crew.old ≡ code.now }
+    requires none_out { C.out crew.old ≡ [] }
+    requires none_posted { C.posted crew.old ≡ [] }
+    requires run { plan.asked.command ≡ command.Soak soak }
+    ensures { RanFor (work_planned plan) (soak_text soak (plain_ran (work_planned plan)) (restarts_in (work_planned plan)) (length plan.begins.faults.list)) (change_of O.written O.faults out.old out.new) result }
 {
-    let Batch {
+    let Plan {
         asked,
         checked,
-        inputs,
-        faults,
-    } = batch;
+        begins,
+    } = plan;
     let mut nobody = NeverSink::new();
     let report = match put_lines(
         rt,
         alloc,
         &asked,
         &checked,
-        inputs,
-        faults,
+        code,
+        begins,
+        crew,
         &mut nobody,
-        gate,
     ) {
         Ok(report) => report,
         Err(stop) => return Err(stop),
@@ -244,39 +230,77 @@ fn plain_outcome<E: Sink>(alloc: Global, put: Result<u8, SinkFault>, err: &mut E
     }
 }
 
-/// Does what the batch asks for, and writes its text, and the trace of its run where one is asked for. Where the output
-/// fails, the line of that is written to `err`.
-pub fn carry_out<R: Threads + Sync, O: Sink, E: Sink, G: Gate>(
+/// Runs a batch over a journal with a crew to which nothing was posted, and writes its text, and the trace of its run where
+/// one is asked for. Where the output fails, the line of that is written to `err`.
+pub fn carry_by<R: Threads + Sync, C: Crew, O: Sink, E: Sink>(
     rt: &R,
     alloc: Global,
-    batch: Batch,
+    code: &Code,
+    plan: Plan,
+    crew: &mut C,
     out: &mut O,
     err: &mut E,
-    gate: &G,
 ) -> Outcome
-    requires { MayRun batch }
-    ensures ends { RunEnds (text_of (Go (work_of batch))) (trace_for (Some batch.asked) result.journal) (status_of (Go (work_of batch)))
-        (change_of O.written O.faults out.old out.new) (change_of E.written E.faults err.old err.new) result.status }
-    ensures unjournalled { is_journalled batch.asked.command ≡ false → IsEmpty result.journal }
-    ensures run { is_journalled batch.asked.command ≡ true → Journalled (work_of batch) result.status result.journal (change_of O.written O.faults out.old out.new) }
+    requires planned { IsPlanOf code.now plan }
+    requires ready { C.ready crew.old }
+    requires work { C.work crew.old ≡ code.now }
+    requires none_out { C.out crew.old ≡ [] }
+    requires none_posted { C.posted crew.old ≡ [] }
+    requires run { is_journalled plan.asked.command ≡ true }
+    ensures { Carries plan.asked (work_planned plan) (change_of O.written O.faults out.old out.new) (change_of E.written E.faults err.old err.new) result.status result.journal }
 {
-    let is_traced = batch.asked.trace;
-    match batch.asked.command {
+    let is_traced = plan.asked.trace;
+    match plan.asked.command {
         Command::Run => {
-            let ran = put_run(rt, alloc, batch, out, gate);
+            let ran = put_run(rt, alloc, code, plan, crew, out);
             outcome_of(alloc, is_traced, ran, err)
         }
         Command::Soak(soak) => {
-            let ran = put_soak(rt, alloc, batch, soak, out, gate);
+            let ran = put_soak(rt, alloc, code, plan, soak, crew, out);
             outcome_of(alloc, is_traced, ran, err)
         }
+        Command::One | Command::Check => unreachable!(),
+    }
+}
+
+/// How a run ended that did not begin, since memory was out.
+pub fn unbegun<E: Sink>(alloc: Global, err: &mut E) -> Outcome
+    ensures { (asked : Asked) (work : Work) (written : Option (List ℕ)) (faults : ℕ) →
+        Carries asked work (record { written = written; written' = written; faults = faults; faults' = faults }) (change_of E.written E.faults err.old err.new) result.status result.journal }
+{
+    let status = end_with(err, OUT_OF_MEMORY, 1);
+    Outcome {
+        status,
+        journal: empty_journal(alloc),
+    }
+}
+
+/// Does what a batch asks for that runs over no journal.
+pub fn carry_plain<O: Sink, E: Sink>(
+    alloc: Global,
+    batch: &Batch,
+    out: &mut O,
+    err: &mut E,
+) -> Outcome
+    requires { is_journalled batch.now.asked.command ≡ false }
+    ensures { Carries batch.now.asked (work_of batch.now) (change_of O.written O.faults out.old out.new) (change_of E.written E.faults err.old err.new) result.status result.journal }
+{
+    match batch.asked.command {
         Command::One => {
-            let put = put_one(alloc, &batch, out);
+            let put = put_one(alloc, batch, out);
             plain_outcome(alloc, put, err)
         }
         Command::Check => {
             let put = put_ok(out);
             plain_outcome(alloc, put, err)
         }
+        Command::Run | Command::Soak(_) => unreachable!(),
     }
+}
+
+/// Whether a command runs its program over a journal.
+pub fn is_journalled(command: Command) -> bool
+    ensures { result ≡ is_journalled command }
+{
+    matches!(command, Command::Run | Command::Soak(_))
 }

@@ -5,7 +5,7 @@ ghost use Rattle.call_cases.specs.PlainText.{commands};
 ghost use Rattle.call_cases.specs.Answers.{change_of};
 ghost use Rattle.call_cases.specs.Headline.{Headline, ReadsNothing};
 
-use crate::run::carry_out;
+use crate::crews::carry_out;
 use call_cases::{Outcome, empty_journal, read_batch, refuse};
 use gp_base::{Gate, Shelf, Sink};
 use std::thread::Threads;

@@ -3,15 +3,15 @@ ghost use Rattle.std.specs.Prelude.{◌≡◌, [], IfOk};
 ghost use Rattle.subthread.specs.Tasks.{Suits};
 
 use crate::calls::{ADD, alone, shelf_of, sink_of, words_of};
-use batch_calls::plan::{Begins, Plan, plan_of};
-use call_cases::{Batch, read_batch, runs};
+use batch_calls::plan::{Begins, plan_of};
+use call_cases::{read_batch, runs};
 use crew::{Crew, ScriptCrew};
 use engine::drive;
 use gp_base::{Event, Pos, Seq};
 use std::alloc::{AllocError, AllocFailed, Global};
 use std::test::Fail;
 use std::thread::Threads;
-use subthread::{Done, Task};
+use subthread::{Done, Task, Work};
 
 // A crew that notes each cell that a task is given, with the task's position.
 #[derive(Drop)]
@@ -52,9 +52,9 @@ impl<C: Crew> Crew for Noting<C> {
     }
 }
 
-// The plan of the two threads that add to one total.
-fn plan_of_adders(alloc: Global) -> Result<Plan, Fail>
-    ensures { IfOk result (λ plan. Suits plan.work plan.begins.layout plan.begins.inputs plan.begins.limits) }
+// The code of the two threads that add to one total, and what their run begins with.
+fn plan_of_adders(alloc: Global) -> Result<(Work, Begins), Fail>
+    ensures { IfOk result (λ made. Suits made.0 made.1.layout made.1.inputs made.1.limits) }
 {
     let words = words_of(alloc, "run p.gp")?;
     let mut shelf = shelf_of(alloc, alone(ADD), 0)?;
@@ -62,19 +62,14 @@ fn plan_of_adders(alloc: Global) -> Result<Plan, Fail>
         Ok(batch) if runs(batch.asked.command) => batch,
         _ => return Err(Fail::from("the program was not read")),
     };
-    let Batch {
-        asked,
-        checked,
-        inputs,
-        faults,
-    } = batch;
-    Ok(plan_of(alloc, &checked, inputs, faults, asked.limits)?)
+    let (work, plan) = plan_of(alloc, batch)?;
+    Ok((work, plan.begins))
 }
 
 #[test]
 fn a_scripted_order_posts_each_task_once(rt: HostRuntime) -> Result<(), Fail> {
     let alloc = rt.alloc();
-    let Plan { work, begins } = plan_of_adders(alloc)?;
+    let (work, begins) = plan_of_adders(alloc)?;
     let Begins {
         layout,
         inputs,

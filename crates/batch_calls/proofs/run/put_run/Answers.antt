@@ -1,5 +1,5 @@
 use Rattle.std.proofs.Common.{ap, Err}
-use Rattle.call_cases.specs.Decided.{work_of}
+use Rattle.batch_calls.specs.inner.Planned.{work_planned}
 use Rattle.call_cases.specs.Answers.{change_of}
 use Rattle.batch_calls.proofs.RanPieces.{stops_by, ran_without_first, ran_without_lines, ran_without_tail, ran_whole}
 use Rattle.batch_calls.proofs.run.put_run.Goals as goal
@@ -7,13 +7,13 @@ use Rattle.batch_calls.proofs.run.put_run.Goals as goal
 pub returns-in-Err : goal.returns-in-Err
 returns-in-Err g c =
     let out = change_of g.O.Sink.written g.O.Sink.faults c.args.out.now c.put_all.new.to in
-    ran_without_first (work_of c.args.batch) c.requires.run out c.stopped.result c.empty_journal.result c.in-Err.fault c.empty_journal.ensures
+    ran_without_first (work_planned c.args.plan) c.requires.run out c.stopped.result c.empty_journal.result c.in-Err.fault c.empty_journal.ensures
     (stops_by c.in-Err.fault c.empty_journal.result c.stopped.result c.stopped.ensures.why c.stopped.ensures.journal) c.in-Err.ensures.prefix
     (λ is. c.in-Err.ensures.cause.failed (ap Err is))
 
 pub returns-in-Err-put_lines : goal.returns-in-Err-put_lines
 returns-in-Err-put_lines g c =
-    let work = work_of c.args.batch in
+    let work = work_planned c.args.plan in
     let written = g.O.Sink.written in
     let faults = g.O.Sink.faults in
     ran_without_lines work c.requires.run (written c.args.out.now) (written c.put_all.new.to) (written c.put_lines.new.out) (faults c.args.out.now) (faults c.put_all.new.to) (faults c.put_lines.new.out)
@@ -21,7 +21,7 @@ returns-in-Err-put_lines g c =
 
 pub returns-in-Ok-put_tail : goal.returns-in-Ok-put_tail
 returns-in-Ok-put_tail g c =
-    let work = work_of c.args.batch in
+    let work = work_planned c.args.plan in
     let written = g.O.Sink.written in
     let faults = g.O.Sink.faults in
     ran_whole work c.requires.run (written c.args.out.now) (written c.put_all.new.to) (written c.put_lines.new.out) (written c.put_tail.new.out)
@@ -30,7 +30,7 @@ returns-in-Ok-put_tail g c =
 
 pub returns : goal.returns
 returns g c =
-    let work = work_of c.args.batch in
+    let work = work_planned c.args.plan in
     let written = g.O.Sink.written in
     let faults = g.O.Sink.faults in
     ran_without_tail work c.requires.run (written c.args.out.now) (written c.put_all.new.to) (written c.put_lines.new.out) (written c.put_tail.new.out)

@@ -1,0 +1,86 @@
+// Batches that run over a journal, each by the crew that is asked for.
+ghost use Rattle.std.specs.Prelude.{◌≡◌, true, All, IfOk};
+ghost use Rattle.subthread.specs.Tasks.{Fits};
+ghost use Rattle.crew.specs.Out.{AreRuns};
+ghost use Rattle.call_cases.specs.Answers.{change_of};
+ghost use Rattle.call_cases.specs.Decided.{MayRun, work_of};
+ghost use Rattle.call_cases.specs.Work.{is_journalled};
+ghost use Rattle.batch_calls.specs.inner.Planned.{IsPlanOf, Carries, work_planned};
+
+use crate::plan::{Plan, plan_of};
+use crate::run::{carry_by, carry_plain, is_journalled, unbegun};
+use call_cases::{Batch, Outcome};
+use command_line::CrewKind;
+use crew::{BatchCrew, InlineCrew, MeanSteps, run_wave};
+use gp_base::{Gate, Seq, Sink};
+use std::alloc::{AllocError, Global};
+use std::thread::Threads;
+use subthread::{Done, Task, Work};
+
+// Runs a batch in the calling thread.
+fn carry_inline<R: Threads + Sync, O: Sink, E: Sink, G: Gate>(
+    rt: &R,
+    alloc: Global,
+    work: &Work,
+    plan: Plan,
+    out: &mut O,
+    err: &mut E,
+    gate: &G,
+) -> Outcome
+    requires planned { IsPlanOf work.now plan }
+    requires run { is_journalled plan.asked.command ≡ true }
+    ensures { Carries plan.asked (work_planned plan) (change_of O.written O.faults out.old out.new) (change_of E.written E.faults err.old err.new) result.status result.journal }
+{
+    let mut crew = InlineCrew::new(alloc, work, gate);
+    carry_by(rt, alloc, work, plan, &mut crew, out, err)
+}
+
+// Runs a batch by waves of workers.
+fn carry_waves<R: Threads + Sync, O: Sink, E: Sink, G: Gate>(
+    rt: &R,
+    alloc: Global,
+    work: &Work,
+    plan: Plan,
+    out: &mut O,
+    err: &mut E,
+    gate: &G,
+) -> Outcome
+    requires planned { IsPlanOf work.now plan }
+    requires run { is_journalled plan.asked.command ≡ true }
+    ensures { Carries plan.asked (work_planned plan) (change_of O.written O.faults out.old out.new) (change_of E.written E.faults err.old err.new) result.status result.journal }
+{
+    let workers = plan.asked.workers;
+    let mean_steps = MeanSteps::new(alloc, work);
+    let run_all = |tasks: Seq<Task>| -> Result<Seq<Done>, AllocError>
+        requires { All (Fits work.now) tasks }
+        ensures { IfOk result (AreRuns work.entry.now tasks) }
+    { run_wave(rt, alloc, work, gate, &mean_steps, workers, tasks) };
+    let mut crew = BatchCrew::new(alloc, work, run_all);
+    carry_by(rt, alloc, work, plan, &mut crew, out, err)
+}
+
+/// Does what the batch asks for, and writes its text, and the trace of its run where one is asked for. Where the output
+/// fails, the line of that is written to `err`.
+pub fn carry_out<R: Threads + Sync, O: Sink, E: Sink, G: Gate>(
+    rt: &R,
+    alloc: Global,
+    batch: Batch,
+    out: &mut O,
+    err: &mut E,
+    gate: &G,
+) -> Outcome
+    requires { MayRun batch }
+    ensures { Carries batch.asked (work_of batch) (change_of O.written O.faults out.old out.new) (change_of E.written E.faults err.old err.new) result.status result.journal }
+{
+    if !is_journalled(batch.asked.command) {
+        return carry_plain(alloc, &batch, out, err);
+    }
+    let (work, plan) = match plan_of(alloc, batch) {
+        Ok(made) => made,
+        Err(_) => return unbegun(alloc, err),
+    };
+    match plan.asked.crew {
+        CrewKind::One => carry_inline(rt, alloc, &work, plan, out, err, gate),
+        CrewKind::Wave => carry_waves(rt, alloc, &work, plan, out, err, gate),
+    }
+}
