@@ -117,9 +117,7 @@ fn drive_by<R: Threads + Sync, C: Crew, O: Sink>(
         faults,
         limits,
     } = begins;
-    drive(
-        rt, alloc, code, layout, inputs, faults, limits, crew, out,
-    )
+    drive(rt, alloc, code, layout, inputs, faults, limits, crew, out)
 }
 
 /// Runs the program of a batch with a crew to which nothing was posted, and writes the printed lines to `out`. The answer is

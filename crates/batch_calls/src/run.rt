@@ -148,16 +148,7 @@ fn put_soak<R: Threads + Sync, C: Crew, O: Sink>(
         begins,
     } = plan;
     let mut nobody = NeverSink::new();
-    let report = match put_lines(
-        rt,
-        alloc,
-        &asked,
-        &checked,
-        code,
-        begins,
-        crew,
-        &mut nobody,
-    ) {
+    let report = match put_lines(rt, alloc, &asked, &checked, code, begins, crew, &mut nobody) {
         Ok(report) => report,
         Err(stop) => return Err(stop),
     };
