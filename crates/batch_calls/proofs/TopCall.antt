@@ -29,7 +29,7 @@ use Rattle.call_cases.specs.Work.{Files, Work, Commands, runs, is_journalled}
 use Rattle.call_cases.specs.PlainText.{plain_ran}
 use Rattle.call_cases.specs.Case.{Case, Usage, Missing, BadProgram, BadInput, Go, IsCase, ForCase, HasWork, IsMissing, end_status, work_status, names_read, status_of, text_of, line_of}
 use Rattle.call_cases.specs.Lines.{out_of_memory_line, write_fault_line}
-use Rattle.call_cases.specs.Decided.{AnswersCase, AnswersNoCommand, TouchesShelf, TellsRefusal, TakesRefusal, RefusalEnds, usage_told, program_told, input_told, read_told, refusal_no_memory, refusal_failed}
+use Rattle.call_cases.specs.Decided.{AnswersCase, AnswersNoCommand, TouchesShelf, TakesRefusal, RefusalEnds, usage_told, program_told, input_told, read_told, refusal_no_memory, refusal_failed}
 use Rattle.call_cases.specs.Journals.{ForRun, IsJournalOf, IsCompleteOf, TakesRetired, TakesRetiredFor, retired_in, lines_before}
 use Rattle.batch_calls.specs.inner.Planned.{Carries}
 use Rattle.batch_calls.specs.inner.Ran.{Journalled, EndsFor, RanFor, PutFor, StopsWith, why_of}

@@ -34,7 +34,7 @@ use Rattle.std.proofs.lemmas.List.Elements.{Contains-append_right}
 use Rattle.gp_base.specs.declared.fault.Fault.{Fault}
 use Rattle.gp_base.specs.declared.fault.Faults.{Faults}
 use Rattle.gp_base.specs.declared.feed.Inputs.{Inputs}
-use Rattle.call_cases.specs.Work.{Files, Supplied, Supplies, Lacks, Spoils, runs, makes_files}
+use Rattle.call_cases.specs.Work.{Files, Supplied, Supplies, Lacks, Spoils, runs}
 use Rattle.call_cases.specs.InputFiles.{names_for, named, supplied_for, file_names, then_load, load_faults}
 use Rattle.call_cases.specs.inner.Loading.{AnswersLoad, AnswersFaults, ReadsAmong, names_of}
 use Rattle.call_cases.proofs.Loads.{keeps_faults, only_one}
@@ -264,10 +264,3 @@ pub shelf_case : (told : Option Files) (asked : Asked) (result : Result Batch Re
     → IfSome told (λ files. AnswersCase (IsCaseOf commands asked files) result) → IfSome told (λ files. AnswersCase (IsCaseOf commands asked (commands.files asked files)) result)
 shelf_case None asked result other known = tt
 shelf_case (Some files) asked result other known = subst (λ l. AnswersCase (IsCaseOf commands asked l) result) (shelf_files asked.command files other) known
-
--- the shelf of a command that makes its files itself
-pub shelf_makes : (c : Command) → ((batch : Soak) → c ≡ command.Soak batch → ⊥) → makes_files c ≡ true → ⊥
-shelf_makes command.Run other makes = absurd (let never : false ≡ true = makes in cc)
-shelf_makes command.One other makes = absurd (let never : false ≡ true = makes in cc)
-shelf_makes command.Check other makes = absurd (let never : false ≡ true = makes in cc)
-shelf_makes (command.Soak batch) other makes = other batch refl

@@ -1,4 +1,4 @@
-use Rattle.call_cases.proofs.Refused.{made_case, shelf_makes}
+use Rattle.call_cases.proofs.Refused.{made_case}
 use Rattle.call_cases.proofs.reading.read_for.Goals as goal
 
 pub returns-in-Soak-clause-case : goal.returns-in-Soak-clause-case
