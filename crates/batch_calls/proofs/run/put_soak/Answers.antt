@@ -1,8 +1,13 @@
-use Rattle.std.proofs.Common.{ap, Err}
+use Rattle.std.proofs.Common.{ap, Err, refl}
 use Rattle.batch_calls.specs.inner.Planned.{work_planned}
 use Rattle.call_cases.specs.Answers.{change_of}
-use Rattle.batch_calls.proofs.RanPieces.{stops_by, soak_without_summary}
+use Rattle.batch_calls.proofs.RanPieces.{stops_by, soak_without_run, soak_without_summary}
 use Rattle.batch_calls.proofs.run.put_soak.Goals as goal
+
+pub returns-in-Err : goal.returns-in-Err
+returns-in-Err g c =
+    let out = change_of g.O.Sink.written g.O.Sink.faults c.args.out.now c.args.out.now in
+    soak_without_run (work_planned c.args.plan) c.args.soak c.requires.run out _ c.in-Err.stop refl refl refl c.in-Err.ensures
 
 pub returns : goal.returns
 returns g c =
