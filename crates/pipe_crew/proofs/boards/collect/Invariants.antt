@@ -1,0 +1,14 @@
+use Rattle.std.proofs.Common.{◌≡◌, ◌<◌, All, map, take}
+use Rattle.desk_board.specs.Held.{about, book, gathered, IsClerkOf}
+use Rattle.desk_board.specs.Told.{IsWhole}
+use Rattle.subthread.specs.Tasks.{IsRun, task_of}
+use Rattle.pipe_crew.proofs.boards.collect.Given as goal
+
+abbrev pub invariant-loop-desk : goal.invariant-loop-desk
+invariant-loop-desk l = record {
+  of : IsClerkOf l.board l.clerk;
+  whole : IsWhole (gathered l.clerk);
+  taken : All (λ d. d < l.desk) (book l.clerk).taken;
+  tasks : map task_of l.runs.items ≡ take l.desk (about l.board).jobs;
+  runs : All (IsRun (about l.board).with) l.runs.items;
+}
