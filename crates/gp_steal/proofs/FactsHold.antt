@@ -1,0 +1,128 @@
+-- The rule gives each fact of a board.
+use Rattle.std.proofs.Common.{◌≡◌, ◌↔◌, ℕ, zero, suc, ◌<◌, ◌≤◌, List, [], ◌∷◌, length, sym, refl, ap, ◌∙◌, subst, arith, lt_of_not-le}
+use Rattle.std.specs.Prelude.{sum_by, Contains}
+use Rattle.std.proofs.lemmas.List.Sums.{sum_by-cons}
+use mathlib.Core.Option.{some, some-injective, some-ne-none}
+use mathlib.Core.Logic.{dite}
+use native.Mathlib.Decide.{dec_le}
+use lib.ListN.{get_elem?}
+use Rattle.atomic_table.specs.Table.{State}
+use Rattle.gp_steal.specs.declared.view.View.{View}
+use Rattle.gp_steal.specs.declared.view.Plan.{Plan}
+use Rattle.gp_steal.specs.declared.view.Slot.{Slot}
+use Rattle.desk_board.specs.Rule.{times}
+use Rattle.gp_steal.specs.Rule.{claims, helds, takens, Stage, waiting, claimed, done, collected, Kept}
+use Rattle.gp_steal.specs.Facts.{word_of, IsView, DeskFacts, ViewFacts, BoardFacts}
+use Rattle.desk_board.proofs.DeskLists.{times_from_Contains, Contains_from_times}
+use Rattle.desk_board.proofs.Tallies.{tally_part, tally_alone, all_from_times}
+use Rattle.desk_board.proofs.Places.{got}
+use Rattle.gp_steal.proofs.Stages.{Stands, past_done, held_from, held_claimed, taken_at_most, taken_three, three_taken}
+use Rattle.gp_steal.proofs.Steps.{claimed_by_all, none_twice}
+
+module _ {A : Type 0} where
+  -- where a sum is at most 1, no two members count
+  counted_once : (f : A → ℕ) (xs : List A) → sum_by f xs ≤ 1 → (i j : ℕ) (x y : A) → get_elem? xs i ≡ some x → get_elem? xs j ≡ some y → 1 ≤ f x → 1 ≤ f y → i ≡ j
+  counted_once f [] low i j x y ex ey hx hy = absurd (some-ne-none x (sym ex))
+  counted_once f (a ∷ zs) low zero zero x y ex ey hx hy = refl
+  counted_once f (a ∷ zs) low zero (suc j) x y ex ey hx hy = let is = ap f (some-injective a x ex) in absurd (omega (arith, is, sum_by-cons f a zs, tally_part f zs j y ey))
+  counted_once f (a ∷ zs) low (suc i) zero x y ex ey hx hy = let is = ap f (some-injective a y ey) in absurd (omega (arith, is, sum_by-cons f a zs, tally_part f zs i x ex))
+  counted_once f (a ∷ zs) low (suc i) (suc j) x y ex ey hx hy = ap suc (counted_once f zs (omega (arith, low, sum_by-cons f a zs)) i j x y ex ey hx hy)
+
+  -- where one count is at most another in each member, and the sums are the same, so are the counts
+  counted_alike : (f g : A → ℕ) (xs : List A) → ((i : ℕ) (x : A) → get_elem? xs i ≡ some x → f x ≤ g x) → sum_by g xs ≤ sum_by f xs → (i : ℕ) (x : A) → get_elem? xs i ≡ some x → g x ≤ f x
+  counted_alike f g [] under same i x e = absurd (some-ne-none x (sym e))
+  counted_alike f g (a ∷ zs) under same zero x e = let here = some-injective a x e in let most = below f g zs (λ j y at. under (suc j) y at) in
+      subst (λ (z : A). g z ≤ f z) here (omega (arith, same, most, sum_by-cons f a zs, sum_by-cons g a zs))
+    where
+      below : (f g : A → ℕ) (ys : List A) → ((i : ℕ) (x : A) → get_elem? ys i ≡ some x → f x ≤ g x) → sum_by f ys ≤ sum_by g ys
+      below f g [] h = omega arith
+      below f g (y ∷ ys) h = omega (arith, h 0 y refl, below f g ys (λ j z at. h (suc j) z at), sum_by-cons f y ys, sum_by-cons g y ys)
+  counted_alike f g (a ∷ zs) under same (suc i) x e = counted_alike f g zs (λ j y at. under (suc j) y at) (omega (arith, same, under 0 a refl, sum_by-cons f a zs, sum_by-cons g a zs)) i x e
+
+module _ {J W R : Type 0} (is_run : W → J → R → Type 0) (with : W) (s : State (Slot J R) (View J W)) (k : ℕ) (job : J) where
+  -- the facts of a desk, stage by stage
+  desk_facts : (stage : Stage) → Stands is_run with job (word_of s k) (get_elem? s.homes k) (claims s.views k) (helds s.views k) (takens s.views k) stage → DeskFacts is_run with s k job
+  desk_facts waiting x = let word = x.0 in record {
+    claimed = ((λ l. absurd (omega arith)), λ _. x.2);
+    word = omega arith;
+    waits = λ _. x.1;
+    done = λ e. absurd (omega arith);
+    out = λ ne _. absurd (ne word);
+  }
+  desk_facts claimed x = let word = x.0 in record {
+    claimed = ((λ _. x.2), λ e. absurd (omega arith));
+    word = omega arith;
+    waits = λ e. absurd (omega arith);
+    done = λ e. absurd (omega arith);
+    out = λ _ _. x.1;
+  }
+  desk_facts done x = let word = x.0 in record {
+    claimed = ((λ _. x.2), λ e. absurd (omega arith));
+    word = omega arith;
+    waits = λ e. absurd (omega arith);
+    done = λ _. x.1;
+    out = λ _ ne. absurd (ne word);
+  }
+  desk_facts collected x = let word = x.0 in record {
+    claimed = ((λ _. x.2), λ e. absurd (omega arith));
+    word = omega arith;
+    waits = λ e. absurd (omega arith);
+    done = λ e. absurd (omega arith);
+    out = λ _ _. x.1;
+  }
+
+module _ {J W R : Type 0} (fits : W → J → Type 0) (is_run : W → J → R → Type 0) (plan : Plan J W) (s : State (Slot J R) (View J W)) (r : Kept fits is_run plan s) where
+  abbrev m : ℕ
+  m = length plan.jobs.value.items
+
+  -- a view that has the whole share holds all desks that are held
+  alone_held : (i : ℕ) (v : View J W) → IsView s i v → v.hand.share ≡ 64 → (k : ℕ) → helds s.views k ≡ times k v.hand.held
+  alone_held i v at all k = tally_alone (λ x. x.hand.share) (λ x. times k x.hand.held) s.views i v at (r.shares ∙ sym all) (λ j y there z. ap (times k) ((r.each_view j y there).idle z).1)
+
+  claimed_within : (i : ℕ) (v : View J W) → IsView s i v → (k : ℕ) → 1 ≤ times k v.hand.claimed → k < m
+  claimed_within i v at k h = dite (dec_le m k) (λ l. absurd (let p = tally_part (λ (x : View J W). times k x.hand.claimed) s.views i v at in let z = r.beyond k l in omega (arith, p, z, h))) (λ n. lt_of_not-le n)
+
+  held_is : (i : ℕ) (v : View J W) → IsView s i v → (k : ℕ) → Contains v.hand.held k → Contains v.hand.claimed k × (word_of s k ≡ 1)
+  held_is i v at k c = let h = times_from_Contains k v.hand.held c in let own = (r.each_view i v at).own k in
+      let d : 1 ≤ times k v.hand.claimed = omega (arith, h, own) in let g = got plan.jobs.value.items k (claimed_within i v at k d) in let was = r.each_desk k g.0 g.1 in
+      (Contains_from_times k v.hand.claimed d, held_claimed is_run plan.with.value g.0 _ _ _ _ _ was.0 was.1 (let p = tally_part (λ (x : View J W). times k x.hand.held) s.views i v at in omega (arith, p, h)))
+
+  is_held : (i : ℕ) (v : View J W) → IsView s i v → (k : ℕ) → Contains v.hand.claimed k → word_of s k ≡ 1 → Contains v.hand.held k
+  is_held i v at k c e = let d = times_from_Contains k v.hand.claimed c in let g = got plan.jobs.value.items k (claimed_within i v at k d) in let was = r.each_desk k g.0 g.1 in
+      let more = held_from is_run plan.with.value g.0 _ _ _ _ _ was.0 was.1 e in
+      let same = counted_alike (λ (x : View J W). times k x.hand.held) (λ x. times k x.hand.claimed) s.views (λ j y there. (r.each_view j y there).own k) more i v at in
+      Contains_from_times k v.hand.held (omega (arith, d, same))
+
+  view_facts : (i : ℕ) (v : View J W) → IsView s i v → ViewFacts m s v
+  view_facts i v at = let ok = r.each_view i v at in record {
+    claimed = (none_twice fits is_run plan s r i v at, all_from_times (λ d. d < m) v.hand.claimed (λ d h. claimed_within i v at d h));
+    held = λ k. ((λ c. held_is i v at k c), λ x. is_held i v at k x.0 x.1);
+    swept = (ok.within, ok.swept);
+    tried = ok.tried;
+    seen = λ k c. ok.seen k (times_from_Contains k v.book.seen c);
+    gathered = λ whole k l. (let g = got plan.jobs.value.items k l in let was = r.each_desk k g.0 g.1 in let all = whole.1 in
+        past_done is_run plan.with.value g.0 _ _ _ _ _ (ok.swept k (omega arith)) (alone_held i v at whole.0 k ∙ ap (times k) whole.2) was.0 was.1);
+  }
+
+  taken_is : (i : ℕ) (v : View J W) → IsView s i v → v.book.clerk ≡ 1 → (k : ℕ) → k < m → (times k v.book.taken ≤ 1) × (Contains v.book.taken k ↔ (word_of s k ≡ 3))
+  taken_is i v at clerk k l =
+      let g = got plan.jobs.value.items k l in let was = r.each_desk k g.0 g.1 in
+      let alone : takens s.views k ≡ times k v.book.taken =
+      tally_alone (λ x. x.book.clerk) (λ x. times k x.book.taken) s.views i v at (r.clerks ∙ sym clerk) (λ j y there z. ap (times k) ((r.each_view j y there).others z)) in
+      let most = taken_at_most is_run plan.with.value g.0 _ _ _ _ _ was.0 was.1 in (
+        omega (arith, alone, most),
+        (
+          (λ c. let h = times_from_Contains k v.book.taken c in taken_three is_run plan.with.value g.0 _ _ _ _ _ was.0 was.1 (omega (arith, alone, h))),
+          λ e. let h = three_taken is_run plan.with.value g.0 _ _ _ _ _ was.0 was.1 e in Contains_from_times k v.book.taken (omega (arith, alone, h)),
+        ),
+      )
+
+  pub facts_hold : BoardFacts fits is_run plan s
+  facts_hold = record {
+    jobs = (r.all_fit, λ i v at. (r.each_view i v at).same);
+    shares = r.shares;
+    claimed_once = λ k i j v u at there c d. counted_once (λ (x : View J W). times k x.hand.claimed) s.views (claimed_by_all fits is_run plan s r k) i j v u at there (times_from_Contains k v.hand.claimed c) (times_from_Contains k u.hand.claimed d);
+    taken = λ i v at clerk k l. taken_is i v at clerk k l;
+    desks = λ k job has. (let was = r.each_desk k job has in desk_facts is_run plan.with.value s k job was.0 was.1);
+    views = λ i v at. view_facts i v at;
+  }

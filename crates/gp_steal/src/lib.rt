@@ -1,0 +1,16 @@
+//! A board of jobs that threads share without a lock, each of them claimed by its number. Each job lies on a desk of its
+//! own. Whoever has a *pass* claims desks and puts the runs back on them; the one *clerk* looks at desks, collects the
+//! runs, and in the end gathers the passes, joined into one.
+#![tactic(auto)]
+
+mod clerk;
+mod laws;
+mod made;
+mod passes;
+mod plays;
+mod rule;
+mod types;
+mod view;
+
+pub use laws::rule_law;
+pub use types::{StealBoard, StealClerk, StealDesk, StealPass};

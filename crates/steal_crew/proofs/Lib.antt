@@ -1,0 +1,3 @@
+pub mod Claimed
+pub mod Counted
+pub mod Holding

@@ -1,0 +1,14 @@
+use Rattle.std.proofs.Common.{◌≡◌, ◌<◌, ◌≤◌, All, map, take, length}
+use Rattle.gp_steal.specs.Held.{about, book, gathered, IsClerkOf}
+use Rattle.subthread.specs.Tasks.{IsRun, task_of}
+use Rattle.steal_crew.proofs.boards.collect.Given as goal
+
+abbrev pub invariant-loop-desk : goal.invariant-loop-desk
+invariant-loop-desk l = record {
+  of : IsClerkOf l.board l.clerk;
+  same : gathered l.clerk ≡ gathered l.initial.clerk;
+  taken : All (λ d. d < l.desk) (book l.clerk).taken;
+  tasks : map task_of l.runs.items ≡ take l.desk (about l.board).jobs;
+  runs : All (IsRun (about l.board).with) l.runs.items;
+  once : 1 ≤ l.desk → length (gathered l.initial.clerk).claimed ≡ length (about l.board).jobs;
+}

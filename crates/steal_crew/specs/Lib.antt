@@ -1,0 +1,3 @@
+pub mod Batches
+pub mod Counts
+pub mod Working
