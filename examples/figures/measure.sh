@@ -5,7 +5,7 @@ set -eu
 cd "$(dirname "$(readlink -f "${BASH_SOURCE[0]}")")/.."
 
 busy="${1:-0}"
-gprs=../crates/gprs/out/gprs
+gprs="$PWD/../crates/gprs/out/gprs"
 [ -x "$gprs" ] || { echo "$0: not built: run ./gprs first" >&2; exit 1; }
 
 made="$(mktemp -d)"
@@ -32,10 +32,11 @@ best() {
     printf '%d.%d' $((least / 1000)) $((least % 1000 / 100))
 }
 
-# The row of a batch: its name, and the words that run it.
-row() {
-    local name="$1"
-    shift
+# The row of a batch: its name, the folder in which its files lie, and the words that run it.
+row() (
+    cd "$2"
+    name="$1"
+    shift 2
     printf '| %s |' "$name"
     for crew in "--crew one" "--workers 1" "--workers 2" "--workers 4" "--workers 64"; do
         # The options are words.
@@ -43,7 +44,7 @@ row() {
         printf ' %s |' "$(best "$@" $crew)"
     done
     echo
-}
+)
 
 # The batch of soak as files, and the simulation with ten times its turns.
 soak/make.sh 20000 1 "$made"
@@ -51,10 +52,10 @@ sed 's/500000/5000000/' simulation.gp >"$made/long.gp"
 
 echo '| batch | --crew one | 1 worker | 2 | 4 | 64 |'
 echo '|---|---|---|---|---|---|'
-row "soak 20000 1" soak 20000 1
-row "its files, without faults" run "$made/soak.gp"
-row simulation run simulation.gp
-row "simulation, 5,000,000 turns" run "$made/long.gp" --turns 5000000
-row threads run figures/threads.gp
-row loop run figures/loop.gp --subthreads 200000
-row barrier run figures/barrier.gp
+row "soak 20000 1" . soak 20000 1
+row "its files, without faults" "$made" run soak.gp
+row simulation . run simulation.gp
+row "simulation, 5,000,000 turns" "$made" run long.gp --turns 5000000
+row threads . run figures/threads.gp
+row loop . run figures/loop.gp --subthreads 200000
+row barrier . run figures/barrier.gp
