@@ -21,6 +21,14 @@ impl<'a> Calls for Engine<'a> {
         issue(self.alloc, &self.plan, &mut self.parts)
     }
 
+    fn due(&self) -> bool {
+        false
+    }
+
+    fn all_home(&self) -> bool {
+        false
+    }
+
     fn detect(&mut self) -> Result<bool, AllocError> {
         detect(self.alloc, &self.plan, &mut self.parts)
     }
