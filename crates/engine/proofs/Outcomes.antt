@@ -50,10 +50,10 @@ last-is view stands complete =
 
 -- where all have retired nothing is out, so each lock is at home
 pub complete-home : (view : View) → Stands view → Complete (dependence_in view.batch) view.batch.faults view.events → NoneLent view
-complete-home view stands complete p s there posted untaken =
+complete-home view stands complete p s there posted out =
     let stood = stage-stands view stands in
     let below : p < (now view).retired = subst (λ n. p < n) (sym complete.retired) (slice_get_within (run_in view.batch) p s there) in
-    absurd (untaken (stood.applied_taken p (stood.retired_applied p below)))
+    absurd (out (stood.applied_taken p (stood.retired_applied p below) posted))
 
 -- the report of a complete run
 pub run-reported : (view : View) (ending : End) (report : Report) → Stands view → Complete (dependence_in view.batch) view.batch.faults view.events

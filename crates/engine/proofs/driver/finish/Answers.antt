@@ -9,16 +9,14 @@ use Rattle.engine.proofs.Written.{wrote-whole}
 use Rattle.engine.proofs.driver.finish.Goals as goal
 use Rattle.engine.proofs.driver.finish.Goals.{In-Ok}
 
-pub run_rounds-requires : goal.run_rounds-requires
-run_rounds-requires g c lifetimes within =
+pub run_rounds-requires-clause-agrees : goal.run_rounds-requires-clause-agrees
+run_rounds-requires-clause-agrees g c lifetimes within =
     record {
-      agrees = record {
-        stands = c.requires.stands;
-        is_ready = c.requires.ready;
-        work_is = c.requires.work;
-        crew = rw c.requires.begun
-            (crew-begun (g.E.Calls.view c.args.engine).batch (g.C.Crew.posted c.args.crew.now) (g.C.Crew.out c.args.crew.now) c.requires.none_posted c.requires.none_out);
-      };
+      stands = c.requires.stands;
+      is_ready = c.requires.ready;
+      work_is = c.requires.work;
+      crew = rw c.requires.begun
+          (crew-begun (g.E.Calls.view c.args.engine).batch (g.C.Crew.posted c.args.crew.now) (g.C.Crew.out c.args.crew.now) c.requires.none_posted c.requires.none_out);
     }
 
 pub into_report-requires : goal.into_report-requires

@@ -63,7 +63,7 @@ posting-preserved g c =
     (crew-posted before (view c.post.new.self) p (present (now before) p) (g.C.Crew.posted c.posting.crew) (g.C.Crew.out c.posting.crew) made.out.0 stood made.did made.out.2 made.out.3
     (rw c.runnable.ensures.same held.crew)) in
     record {
-      leaves = leaves-on (leaves-same held.leaves c.runnable.ensures.same) (did-onward before (view c.post.new.self) e stood made.did) c.post.ensures.ready c.post.ensures.work crew.posted_are;
+      leaves = leaves-on {later = g.C.Crew.ready c.post.new.crew} (leaves-same held.leaves c.runnable.ensures.same) (did-onward before (view c.post.new.self) e stood made.did) c.post.ensures.ready c.post.ensures.work crew.posted_are;
       crew = crew;
       retired = ap (λ at. at.retired) (now-did before (view c.post.new.self) e made.did)
           ∙ (retired-same (view c.posting.engine) before c.runnable.ensures.same ∙ held.retired);

@@ -92,10 +92,10 @@ returns-in-Some-clause-crew g c other = crew₁ g (goal.at.returns-in-Some-claus
 pub returns-in-Some-clause-written : goal.returns-in-Some-clause-written
 returns-in-Some-clause-written g c = written₁ g (goal.at.returns-in-Some-clause-written g c).In_ok-retire_all
 
-pub issue_all-requires : goal.issue_all-requires
-issue_all-requires g c =
-    let there = goal.at.issue_all-requires g c in
-    record { agrees = agrees-then (leaves₁ g there.After-retire_all) (crew₁ g there.In_ok-retire_all) }
+pub issue_all-requires-clause-agrees : goal.issue_all-requires-clause-agrees
+issue_all-requires-clause-agrees g c lifetimes within =
+    let there = goal.at.issue_all-requires-clause-agrees g c in
+    agrees-then (leaves₁ g there.After-retire_all) (crew₁ g there.In_ok-retire_all)
 
 pub returns-in_err-issue_all-clause-leaves : goal.returns-in_err-issue_all-clause-leaves
 returns-in_err-issue_all-clause-leaves g c = leaves₂ g (goal.at.returns-in_err-issue_all-clause-leaves g c).After-issue_all
@@ -107,10 +107,6 @@ returns-in_err-issue_all-clause-partly g c =
     (written-whole (g.E.Calls.view c.args.engine.now) (g.E.Calls.view c.issue_all.new.engine) (g.O.Sink.written c.args.out.now) (g.O.Sink.written c.retire_all.new.out)
     (written₂ g (goal.at.returns-in_err-issue_all-clause-partly g c).After-issue_all))
 
-pub post_all-requires : goal.post_all-requires
-post_all-requires g c =
-    record { agrees = agrees-then (leaves₂ g (goal.at.post_all-requires g c).After-issue_all) c.in_ok-issue_all.ensures.crew }
-
 pub returns-in_err-post_all-clause-leaves : goal.returns-in_err-post_all-clause-leaves
 returns-in_err-post_all-clause-leaves g c = leaves₃ g (goal.at.returns-in_err-post_all-clause-leaves g c).After-post_all
 
@@ -120,10 +116,6 @@ returns-in_err-post_all-clause-partly g c =
     (KeepsPart (g.E.Calls.view c.args.engine.now) (g.E.Calls.view c.post_all.new.engine) (g.O.Sink.written c.args.out.now) (g.O.Sink.written c.retire_all.new.out))
     (written-whole (g.E.Calls.view c.args.engine.now) (g.E.Calls.view c.post_all.new.engine) (g.O.Sink.written c.args.out.now) (g.O.Sink.written c.retire_all.new.out)
     (written₃ g (goal.at.returns-in_err-post_all-clause-partly g c).After-post_all))
-
-pub take_one-requires : goal.take_one-requires
-take_one-requires g c =
-    record { agrees = agrees-then (leaves₃ g (goal.at.take_one-requires g c).After-post_all) c.in_ok-post_all.ensures.crew }
 
 pub returns-in_err-take_one-clause-leaves : goal.returns-in_err-take_one-clause-leaves
 returns-in_err-take_one-clause-leaves g c = leaves₄ g (goal.at.returns-in_err-take_one-clause-leaves g c).After-take_one
