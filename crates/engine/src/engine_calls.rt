@@ -3,11 +3,11 @@
 use crate::calls::{Calls, Issued};
 use crate::engine::Engine;
 use crate::parts::{
-    accept, detect, finished, into_journal, into_report, issue, post, retire, runnable,
+    accept, all_home, detect, due, finished, into_journal, into_report, issue, post, retire, runnable,
 };
 use crew::Crew;
 use gp_base::{End, Journal, Pos, Sink};
-use reorder_list::{Report, StopWhy};
+use reorder_list::{EngineStop, Report, StopWhy};
 use std::alloc::AllocError;
 use std::thread::Threads;
 use subthread::Done;
@@ -19,6 +19,14 @@ impl<'a> Calls for Engine<'a> {
 
     fn issue(&mut self) -> Result<Issued, AllocError> {
         issue(self.alloc, &self.plan, &mut self.parts)
+    }
+
+    fn due(&self) -> bool {
+        due(&self.plan, &self.parts)
+    }
+
+    fn all_home(&self) -> bool {
+        all_home(&self.plan, &self.parts)
     }
 
     fn detect(&mut self) -> Result<bool, AllocError> {
@@ -59,8 +67,8 @@ impl<'a> Calls for Engine<'a> {
         into_journal(&plan, parts)
     }
 
-    fn into_report(self, end: End) -> Report {
-        let Engine { plan, parts, .. } = self;
-        into_report(&plan, parts, end)
+    fn into_report(self, end: End) -> Result<Report, EngineStop> {
+        let Engine { alloc, plan, parts } = self;
+        into_report(alloc, &plan, parts, end)
     }
 }
