@@ -1,9 +1,8 @@
 // The calls of an engine that its loop makes.
-ghost use Rattle.std.specs.Prelude.{◌≡◌, ◌↔◌, ◌<◌, ℕ, List, [], ◌∷◌, ◌++◌, OnOk, OnErr, IfOk, IfErr, IfSome, IfNone, IsSome, IsTrue, is_some};
+ghost use Rattle.std.specs.Prelude.{◌≡◌, ◌↔◌, ◌<◌, ℕ, List, [], ◌∷◌, ◌++◌, OnOk, OnErr, IfOk, IfSome, IfNone, IsSome, IsTrue, is_some};
 ghost use Rattle.std.specs.Thread.{IsSync};
 ghost use Rattle.gp_base.specs.declared.ending.End.{End as EndThere};
 ghost use Rattle.gp_base.specs.declared.journal.Event.TheVariants as event;
-ghost use Rattle.reorder_list.specs.declared.report.StopWhy.TheVariants as stop;
 ghost use Rattle.dependence.specs.Restarts.{NoneDue};
 ghost use Rattle.dependence.specs.Standing.{present};
 ghost use Rattle.subthread.specs.declared.task.Task.{Task};
@@ -15,7 +14,7 @@ ghost use Rattle.engine.specs.Takes.{TaskStands};
 
 use crew::Crew;
 use gp_base::{End, Journal, Pos, Sink, ThreadNo};
-use reorder_list::{EngineStop, Report, StopWhy};
+use reorder_list::{Report, StopWhy};
 use std::alloc::AllocError;
 use std::thread::Threads;
 use subthread::Done;
@@ -125,11 +124,8 @@ pub trait Calls {
     fn into_journal(self) -> Journal
         ensures { IsJournalOf (view self) result };
 
-    /// The report of the run, which has ended so, when each lock is at home. The error is that memory is out; it tells what
-    /// the run did.
-    fn into_report(self, end: End) -> Result<Report, EngineStop>
+    /// The report of the run, which has ended so, when each lock is at home. Takes no memory.
+    fn into_report(self, end: End) -> Report
         requires home { NoneLent (view self) }
-        ensures report { IfOk result (IsReportOf (view self) end) }
-        ensures why { IfErr result (λ stopped. stopped.why ≡ stop.OutOfMemory) }
-        ensures journal { IfErr result (λ stopped. IsJournalOf (view self) stopped.journal) };
+        ensures { IsReportOf (view self) end result };
 }

@@ -7,7 +7,7 @@ use crate::parts::{
 };
 use crew::Crew;
 use gp_base::{End, Journal, Pos, Sink};
-use reorder_list::{EngineStop, Report, StopWhy};
+use reorder_list::{Report, StopWhy};
 use std::alloc::AllocError;
 use std::thread::Threads;
 use subthread::Done;
@@ -67,8 +67,8 @@ impl<'a> Calls for Engine<'a> {
         into_journal(&plan, parts)
     }
 
-    fn into_report(self, end: End) -> Result<Report, EngineStop> {
-        let Engine { alloc, plan, parts } = self;
-        into_report(alloc, &plan, parts, end)
+    fn into_report(self, end: End) -> Report {
+        let Engine { plan, parts, .. } = self;
+        into_report(&plan, parts, end)
     }
 }

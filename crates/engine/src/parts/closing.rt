@@ -1,8 +1,7 @@
 // How far a run has come, and what it leaves.
 
-ghost use Rattle.std.specs.Prelude.{◌≡◌, false, Some, IfOk, IfErr, IfSome, IfNone};
+ghost use Rattle.std.specs.Prelude.{◌≡◌, false, Some, IfSome, IfNone};
 ghost use Rattle.gp_base.specs.declared.ending.End.{End as EndThere};
-ghost use Rattle.reorder_list.specs.declared.report.StopWhy.TheVariants as stop;
 ghost use Rattle.engine.specs.declared.calls.Halt.TheVariants as halt;
 ghost use Rattle.engine.specs.Gives.{NoneLent, IsNextToPost, NoneToPost, HasFinished, IsJournalOf, IsReportOf};
 ghost use Rattle.engine.specs.inner.Kept.{batch_in, view_of, Kept};
@@ -10,8 +9,7 @@ ghost use Rattle.engine.specs.inner.Kept.{batch_in, view_of, Kept};
 use crate::Halt;
 use crate::parts::{Parts, Plan};
 use gp_base::{End, Journal, Pos};
-use reorder_list::{EngineStop, Report, StopWhy};
-use std::alloc::Global;
+use reorder_list::Report;
 
 /// The first position from this one on whose present attempt may be posted.
 pub fn runnable(plan: &Plan, parts: &mut Parts, from: Pos) -> Option<Pos>
@@ -68,19 +66,11 @@ pub fn into_journal(plan: &Plan, parts: Parts) -> Journal
     }
 }
 
-/// The report of the run, which has ended so, when each lock is at home. The error is that memory is out; it tells what the
-/// run did.
-pub fn into_report(
-    alloc: Global,
-    plan: &Plan,
-    parts: Parts,
-    end: End,
-) -> Result<Report, EngineStop>
+/// The report of the run, which has ended so, when each lock is at home. Takes no memory.
+pub fn into_report(plan: &Plan, parts: Parts, end: End) -> Report
     requires kept { Kept (batch_in plan.now) parts }
     requires home { NoneLent (view_of (batch_in plan.now) parts) }
-    ensures report { IfOk result (IsReportOf (view_of (batch_in plan.now) parts) end) }
-    ensures why { IfErr result (λ stopped. stopped.why ≡ stop.OutOfMemory) }
-    ensures journal { IfErr result (λ stopped. IsJournalOf (view_of (batch_in plan.now) parts) stopped.journal) }
+    ensures { IsReportOf (view_of (batch_in plan.now) parts) end result }
 {
     let unused = (plan.faults.as_slice().len() - parts.restarts.len()) as u32;
     let Parts {
@@ -90,21 +80,14 @@ pub fn into_report(
         issued,
         ..
     } = parts;
-    let journal = Journal {
-        events: events.into_seq(),
-        restarts: restarts.into_seq(),
-    };
-    match store.into_records(alloc) {
-        Ok(records) => Ok(Report {
-            end,
-            records,
-            subthreads: issued,
-            unused,
-            journal,
-        }),
-        Err(_) => Err(EngineStop {
-            why: StopWhy::OutOfMemory,
-            journal,
-        }),
+    Report {
+        end,
+        records: store.into_records(),
+        subthreads: issued,
+        unused,
+        journal: Journal {
+            events: events.into_seq(),
+            restarts: restarts.into_seq(),
+        },
     }
 }

@@ -12,15 +12,12 @@ overflow_sub-unused c =
 pub into_records-requires : goal.into_records-requires
 into_records-requires c = all-home (batch_in c.args.plan.now) c.args.parts c.requires.kept c.requires.home
 
-pub returns-in-Ok-clause-report : goal.returns-in-Ok-clause-report
-returns-in-Ok-clause-report c =
+pub returns : goal.returns
+returns c =
     record {
       end = refl;
-      records = c.in-Ok.ensures ∙ records-are (batch_in c.args.plan.now) c.args.parts c.requires.kept;
+      records = c.into_records.ensures ∙ records-are (batch_in c.args.plan.now) c.args.parts c.requires.kept;
       subthreads = c.requires.kept.journal.issued_are;
       unused = rw (c.as_slice.ensures, c.len.ensures) (ap (λ restarts. length c.args.plan.now.faults.list - length restarts) c.requires.kept.journal.restarts_are);
       journal = record { events = c.into_seq.ensures; restarts = c.into_seq-2.ensures ∙ c.requires.kept.journal.restarts_are };
     }
-
-pub returns-in-Err-clause-journal : goal.returns-in-Err-clause-journal
-returns-in-Err-clause-journal c = record { events = c.into_seq.ensures; restarts = c.into_seq-2.ensures ∙ c.requires.kept.journal.restarts_are }
