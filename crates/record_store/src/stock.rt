@@ -40,11 +40,7 @@ pub fn shelves_of(
 }
 
 // Notes the places of the cells under a lock cell.
-fn note(
-    places: &mut [(LockNo, u32)],
-    lock: LockNo,
-    numbers: &[RecNo],
-) -> Result<(), AllocError>
+fn note(places: &mut [(LockNo, u32)], lock: LockNo, numbers: &[RecNo]) -> Result<(), AllocError>
     requires within { All (λ c. c < length places.old) numbers.now }
     requires rising { IsStrictlyIncreasing numbers.now }
     ensures count { length places.new ≡ length places.old }

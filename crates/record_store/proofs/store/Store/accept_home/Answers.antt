@@ -49,7 +49,7 @@ returns-clause-back c =
     let threads = ap (λ s. length s.threads) c.bring_home.ensures.rest in
     let exchanged : c.exchange_threads.new.threads ≡ threads_after s.threads c.args.effect.thread c.args.effect.regs c.args.effect.child = search rules in
     let many : length c.bring_home.new.self.threads ≡ length s.threads = threads ∙ ap length (with_items_is c.self.inside.threads c.exchange_threads.new.threads (search rules) ∙ exchanged)
-        ∙ length_after s.threads c.args.effect.thread c.args.effect.regs c.args.effect.child in
+    ∙ length_after s.threads c.args.effect.thread c.args.effect.regs c.args.effect.child in
     let placed = length-map c.self.inside.places.items (value_on (map seen c.self.inside.shelves.items)) in
     let within : All (λ w. is_under c.self.inside.layout.under (map lock_in c.args.bundles) w.0 ≡ true) c.args.old = rw (← c.self.view_is) at c.requires.comes.within in
     let inside = in_places c.self.inside.layout.under c.self.inside.places.items (map lock_in c.args.bundles) c.args.old c.self.invariant.stocked.cells within in

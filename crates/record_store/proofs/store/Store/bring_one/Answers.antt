@@ -1,4 +1,4 @@
-use Rattle.std.proofs.Common.{rules, ◌≡◌, ◌<◌, length, map, ap, sym, ◌∙◌, subst, arith, refl, set}
+use Rattle.std.proofs.Common.{◌≡◌, ◌<◌, length, map, ap, ◌∙◌, arith, set}
 use Rattle.std.proofs.lemmas.List.{length-map, map-set}
 use Rattle.task_ast.specs.Under.{under_lock}
 use Rattle.record_store.specs.inner.Shelves.{seen, is_away, cells_on}

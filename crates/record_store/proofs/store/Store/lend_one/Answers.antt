@@ -1,5 +1,5 @@
-use Rattle.std.proofs.Common.{◌<◌, length, map, ap, sym, ◌∙◌, subst, Some, true, false, slice_get}
-use Rattle.record_store.specs.inner.Shelves.{seen, is_away, cells_on}
+use Rattle.std.proofs.Common.{◌<◌, length, ◌∙◌, true, false}
+use Rattle.record_store.specs.inner.Shelves.{cells_on}
 use Rattle.record_store.proofs.Replaced.{lock_within, shelf_seen, seen_same, stocked_same, away_set}
 use Rattle.record_store.proofs.store.Store.lend_one.Goals as goal
 use Rattle.record_store.proofs.store.Store.lend_one.Goals.{After-self-1}

@@ -1,5 +1,5 @@
-use Rattle.std.proofs.Common.{◌≡◌, map, length, ap, sym, ◌∙◌, subst, rules}
-use Rattle.record_store.specs.inner.Shelves.{seen, is_away, cells_on, new_shelf, ArePlaced, AreStocked}
+use Rattle.std.proofs.Common.{◌≡◌, map, length, ap, sym, ◌∙◌, rules}
+use Rattle.record_store.specs.inner.Shelves.{seen, is_away, cells_on, new_shelf, ArePlaced}
 use Rattle.record_store.proofs.Stocked.{new_sizes, new_home, new_cells}
 use Rattle.record_store.proofs.store.Store.new.Goals as goal
 

@@ -1,9 +1,8 @@
-use Rattle.std.proofs.Common.{◌≡◌, ◌<◌, ℕ, length, map, get_or, ap, sym, ◌∙◌, subst, arith, set, false, rules, SFits, w64}
+use Rattle.std.proofs.Common.{◌≡◌, ◌<◌, length, map, get_or, ap, sym, ◌∙◌, arith, set, false, rules, SFits, w64}
 use Rattle.std.specs.Prelude.{slice_set}
 use Rattle.std.proofs.lemmas.Int.{to_z-of_z}
-use Rattle.std.proofs.lemmas.List.{length-map, map-set}
+use Rattle.std.proofs.lemmas.List.{length-map}
 use Rattle.std.proofs.Math.Seq.{map-set_same}
-use Rattle.record_store.specs.declared.shelf.Shelf.{Shelf}
 use Rattle.record_store.specs.inner.Shelves.{seen, is_away, value_on, cells_on}
 use Rattle.record_store.proofs.Replaced.{lock_home, lock_less, stands_there, inside, value_set, stocked_value}
 use Rattle.record_store.proofs.store.Store.restore_one.Goals as goal
@@ -27,7 +26,7 @@ shelf_is c = c.index_mut.ensures.value ∙ ap (λ l. get_or c.self.inside.shelve
 home : (c : After-index_mut) → c.cell.inside.0 < length c.self.inside.places.items → is_away c.index_mut.result.now ≡ false
 home c within_places =
     let stands = stands_there c.self.inside.layout.under c.self.inside.places.items c.self.inside.shelves.items c.self.invariant.stocked c.cell.inside.0 c.index.result.now c.index.ensures
-        within_places in
+    within_places in
     let at_home = rw (← c.self.view_is, ← c.cell.view_is) at c.requires.home in
     lock_home c.self.inside.layout.under c.self.inside.places.items c.self.inside.shelves.items c.self.invariant.stocked c.index.result.now.0 c.index_mut.result.now
     (lock_less c.self.inside.layout.under c.self.inside.places.items c.self.inside.shelves.items c.self.invariant.stocked c.cell.inside.0 c.index.result.now c.index.ensures within_places)
@@ -46,8 +45,8 @@ invariant_of-self c =
     let fits : SFits w64 c.args.value = search rules in
     record {
       stocked = rw c.lock.view_is
-    (stocked_value c.self.inside.layout.under c.self.inside.places.items c.self.inside.shelves.items c.self.invariant.stocked c.cell.inside.0 c.index.result.now c.index.ensures
-    (within (goal.at.invariant_of-self c).After-struct_known-2-1) c.index_mut.result.now (shelf_is (goal.at.invariant_of-self c).After-index_mut) c.args.value c.set_at.new.shelf (ap seen c.set_at.ensures ∙ ap (λ v. slice_set (seen c.index_mut.result.now) c.index.result.now.1 v) (to_z-of_z w64 c.args.value fits)));
+          (stocked_value c.self.inside.layout.under c.self.inside.places.items c.self.inside.shelves.items c.self.invariant.stocked c.cell.inside.0 c.index.result.now c.index.ensures
+          (within (goal.at.invariant_of-self c).After-struct_known-2-1) c.index_mut.result.now (shelf_is (goal.at.invariant_of-self c).After-index_mut) c.args.value c.set_at.new.shelf (ap seen c.set_at.ensures ∙ ap (λ v. slice_set (seen c.index_mut.result.now) c.index.result.now.1 v) (to_z-of_z w64 c.args.value fits)));
       room_is = c.self.invariant.room_is;
     }
 
