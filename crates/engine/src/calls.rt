@@ -115,7 +115,7 @@ pub trait Calls {
     /// Takes the run of a task of this engine that is out, and applies it where its attempt is the present one, which is
     /// the answer: the cells of its locks then come home. Takes no memory.
     fn accept(&mut self, done: Done) -> bool
-        requires task { TaskStands (view self.old) (task_of done) }
+        requires task { TaskStands (view self.old) (task_of (view self.old).batch.work done) }
         requires run { IsRun (view self.old).batch.work done }
         requires room { 0 < room self.old }
         ensures { Did (view self.old) (event.Take done.task.pos done.task.attempt result) (view self.new) };

@@ -3,7 +3,7 @@
 use crate::calls::{Calls, Issued};
 use crate::engine::Engine;
 use crate::parts::{
-    accept, detect, finished, into_journal, into_report, issue, post, retire, runnable,
+    accept, all_home, detect, due, finished, into_journal, into_report, issue, post, retire, runnable,
 };
 use crew::Crew;
 use gp_base::{End, Journal, Pos, Sink};
@@ -22,11 +22,11 @@ impl<'a> Calls for Engine<'a> {
     }
 
     fn due(&self) -> bool {
-        false
+        due(&self.plan, &self.parts)
     }
 
     fn all_home(&self) -> bool {
-        false
+        all_home(&self.plan, &self.parts)
     }
 
     fn detect(&mut self) -> Result<bool, AllocError> {

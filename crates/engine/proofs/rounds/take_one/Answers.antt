@@ -27,14 +27,20 @@ answered g c =
       posted_are = c.requires.agrees.crew.posted_are;
     })) c.reserve.ensures.same
 
-takes : (g : _) (c : In-Some g) → TakesOut (g.C.Crew.out c.args.crew.now) (task_of c.in-Some.done) (g.C.Crew.out c.next.new.self)
-takes g c = rw c.in-Some.is at c.in_ok-next.ensures.taken
+-- what it took out
+takes : (g : _) (c : In-Some g)
+    → TakesOut (g.C.Crew.out c.args.crew.now) (task_of (g.E.Calls.view c.reserve.new.self).batch.work c.in-Some.done) (g.C.Crew.out c.next.new.self)
+takes g c =
+    subst (λ work. TakesOut (g.C.Crew.out c.args.crew.now) (task_of work c.in-Some.done) (g.C.Crew.out c.next.new.self))
+    (c.requires.agrees.work_is ∙ sym (ap (λ v. v.batch.work) c.reserve.ensures.same)) (rw c.in-Some.is at c.in_ok-next.ensures.taken)
 
 -- after the run was accepted
 taken : (g : _) (c : After-accept g) → CrewStands (g.E.Calls.view c.accept.new.self) (g.C.Crew.posted c.args.crew.now) (g.C.Crew.out c.next.new.self)
 taken g c =
     crew-taken (g.E.Calls.view c.reserve.new.self) (g.E.Calls.view c.accept.new.self) (g.C.Crew.posted c.args.crew.now) (g.C.Crew.out c.args.crew.now) (g.C.Crew.out c.next.new.self)
-    (task_of c.in-Some.done) c.accept.result (rw c.reserve.ensures.same c.requires.agrees.stands) c.accept.ensures (rw c.in-Some.is at c.in_ok-next.ensures.taken)
+    (task_of (g.E.Calls.view c.reserve.new.self).batch.work c.in-Some.done) c.accept.result (rw c.reserve.ensures.same c.requires.agrees.stands) c.accept.ensures
+    (subst (λ work. TakesOut (g.C.Crew.out c.args.crew.now) (task_of work c.in-Some.done) (g.C.Crew.out c.next.new.self))
+    (c.requires.agrees.work_is ∙ sym (ap (λ v. v.batch.work) c.reserve.ensures.same)) (rw c.in-Some.is at c.in_ok-next.ensures.taken))
     (rw c.reserve.ensures.same c.requires.agrees.crew)
 
 pub returns-in_err-reserve-clause-leaves : goal.returns-in_err-reserve-clause-leaves
@@ -79,7 +85,8 @@ returns-in-None-clause-took g c =
 
 pub accept-requires-clause-task : goal.accept-requires-clause-task
 accept-requires-clause-task g c =
-    taken-stands (g.E.Calls.view c.reserve.new.self) (g.C.Crew.posted c.args.crew.now) (g.C.Crew.out c.args.crew.now) (g.C.Crew.out c.next.new.self) (task_of c.in-Some.done)
+    taken-stands (g.E.Calls.view c.reserve.new.self) (g.C.Crew.posted c.args.crew.now) (g.C.Crew.out c.args.crew.now) (g.C.Crew.out c.next.new.self)
+    (task_of (g.E.Calls.view c.reserve.new.self).batch.work c.in-Some.done)
     (takes g (goal.at.accept-requires-clause-task g c).In-Some) (reserved g (goal.at.accept-requires-clause-task g c).After-reserve).crew
 
 pub accept-requires-clause-run : goal.accept-requires-clause-run
