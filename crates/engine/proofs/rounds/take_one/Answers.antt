@@ -35,13 +35,13 @@ takes g c =
     (c.requires.agrees.work_is ∙ sym (ap (λ v. v.batch.work) c.reserve.ensures.same)) (rw c.in-Some.is at c.in_ok-next.ensures.taken)
 
 -- after the run was accepted
-taken : (g : _) (c : After-accept g) → CrewStands (g.E.Calls.view c.accept.new.self) (g.C.Crew.posted c.args.crew.now) (g.C.Crew.out c.next.new.self)
-taken g c =
+taken : (g : _) (c : After-accept g)
+    → Agrees (g.E.Calls.view c.reserve.new.self) (g.C.Crew.ready c.args.crew.now) (g.C.Crew.work c.args.crew.now) (g.C.Crew.posted c.args.crew.now) (g.C.Crew.out c.args.crew.now)
+    → TakesOut (g.C.Crew.out c.args.crew.now) (task_of (g.E.Calls.view c.reserve.new.self).batch.work c.in-Some.done) (g.C.Crew.out c.next.new.self)
+    → CrewStands (g.E.Calls.view c.accept.new.self) (g.C.Crew.posted c.args.crew.now) (g.C.Crew.out c.next.new.self)
+taken g c agrees takes =
     crew-taken (g.E.Calls.view c.reserve.new.self) (g.E.Calls.view c.accept.new.self) (g.C.Crew.posted c.args.crew.now) (g.C.Crew.out c.args.crew.now) (g.C.Crew.out c.next.new.self)
-    (task_of (g.E.Calls.view c.reserve.new.self).batch.work c.in-Some.done) c.accept.result (rw c.reserve.ensures.same c.requires.agrees.stands) c.accept.ensures
-    (subst (λ work. TakesOut (g.C.Crew.out c.args.crew.now) (task_of work c.in-Some.done) (g.C.Crew.out c.next.new.self))
-    (c.requires.agrees.work_is ∙ sym (ap (λ v. v.batch.work) c.reserve.ensures.same)) (rw c.in-Some.is at c.in_ok-next.ensures.taken))
-    (rw c.reserve.ensures.same c.requires.agrees.crew)
+    (task_of (g.E.Calls.view c.reserve.new.self).batch.work c.in-Some.done) c.accept.result agrees.stands c.accept.ensures takes agrees.crew
 
 pub returns-in_err-reserve-clause-leaves : goal.returns-in_err-reserve-clause-leaves
 returns-in_err-reserve-clause-leaves g c = leaves-same (leaves-still c.requires.agrees) c.reserve.ensures.same
@@ -100,10 +100,12 @@ returns-in-Some-clause-leaves g c =
     leaves-on {later = g.C.Crew.ready c.next.new.self} (leaves-same (leaves-still c.requires.agrees) c.reserve.ensures.same)
     (did-onward (g.E.Calls.view c.reserve.new.self) (g.E.Calls.view c.accept.new.self) (event.Take c.in-Some.done.task.pos c.in-Some.done.task.attempt c.accept.result)
     (reserved g there.After-reserve).stands c.accept.ensures)
-    c.next.ensures.ready c.next.ensures.work (c.next.ensures.posted ∙ (taken g there.After-accept).posted_are)
+    c.next.ensures.ready c.next.ensures.work (c.next.ensures.posted ∙ (taken g there.After-accept (reserved g there.After-reserve) (takes g there.In-Some)).posted_are)
 
 pub returns-in-Some-clause-crew : goal.returns-in-Some-clause-crew
-returns-in-Some-clause-crew g c = rw c.next.ensures.posted (taken g (goal.at.returns-in-Some-clause-crew g c).After-accept)
+returns-in-Some-clause-crew g c =
+    let there = goal.at.returns-in-Some-clause-crew g c in
+    rw c.next.ensures.posted (taken g there.After-accept (reserved g there.After-reserve) (takes g there.In-Some))
 
 pub returns-in-Some-clause-retired : goal.returns-in-Some-clause-retired
 returns-in-Some-clause-retired g c =
