@@ -1,10 +1,10 @@
-use Rattle.std.proofs.Common.{◌≡◌, ◌<◌, ◌≤◌, ◌∙◌, refl, arith}
+use Rattle.std.proofs.Common.{◌≡◌, ◌<◌, ◌≤◌, ◌∙◌, arith}
 use Rattle.engine.specs.View.{now}
 use Rattle.engine.specs.Takes.{CrewStands}
 use Rattle.engine.specs.inner.Rounds.{left, Leaves}
 use Rattle.engine.proofs.Events.{onward-most}
 use Rattle.engine.proofs.Progress.{none-due}
-use Rattle.engine.proofs.Turns.{agrees-then, leaves-still, leaves-then, leaves-alone, leaves-same, issued, issued-leaves, issued-needs, issued-waits, issued-ends, retired-same}
+use Rattle.engine.proofs.Turns.{leaves-then, leaves-alone, leaves-same, issued, issued-leaves, issued-needs, issued-waits, issued-ends, retired-same}
 use Rattle.engine.proofs.rounds.issue_all.Goals as goal
 use Rattle.engine.proofs.rounds.issue_all.Goals.{In_ok-issue}
 

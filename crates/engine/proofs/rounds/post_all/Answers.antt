@@ -1,4 +1,4 @@
-use Rattle.std.proofs.Common.{◌≡◌, ◌<◌, ◌∙◌, refl, sym, ap, arith, subst}
+use Rattle.std.proofs.Common.{◌<◌, ◌∙◌, refl, sym, ap, arith, subst}
 use Rattle.gp_base.specs.declared.journal.Event.TheVariants as event
 use Rattle.dependence.specs.Standing.{present}
 use Rattle.engine.specs.View.{now, Stands}

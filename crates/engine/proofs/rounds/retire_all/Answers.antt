@@ -1,7 +1,7 @@
 use Rattle.std.proofs.Common.{◌<◌, ◌≤◌, refl, ap, arith}
 use Rattle.engine.specs.inner.Rounds.{left, KeepsPart, KeepsWritten}
 use Rattle.engine.proofs.Events.{onward-most}
-use Rattle.engine.proofs.Turns.{GoesOn, agrees-then, leaves-still, leaves-then, leaves-alone, leaves-same, retired, retired-leaves, retired-quiet, retired-same, on-err}
+use Rattle.engine.proofs.Turns.{GoesOn, leaves-still, leaves-then, leaves-alone, leaves-same, retired, retired-leaves, retired-quiet, retired-same, on-err}
 use Rattle.engine.proofs.Written.{wrote-same, wrote-more, wrote-part, wrote-whole}
 use Rattle.engine.proofs.rounds.retire_all.Goals as goal
 use Rattle.engine.proofs.rounds.retire_all.Goals.{After-detect_all, In_ok-retire}

@@ -1,30 +1,18 @@
 use Rattle.std.proofs.Common.{◌∙◌, refl, arith}
 use Rattle.engine.specs.Gives.{HasFinished}
-use Rattle.engine.specs.Takes.{CrewStands}
-use Rattle.engine.specs.inner.Rounds.{Leaves, KeepsPart, KeepsWritten}
+use Rattle.engine.specs.inner.Rounds.{KeepsPart, KeepsWritten}
 use Rattle.engine.proofs.Progress.{completed, ends-so, round-falls}
 use Rattle.engine.proofs.Turns.{agrees-then, leaves-still, leaves-then, on-err}
 use Rattle.engine.proofs.Written.{wrote-same, written-whole}
 use Rattle.engine.proofs.rounds.run_rounds.Goals as goal
-use Rattle.engine.proofs.rounds.run_rounds.Goals.{After-retire_all, In_ok-retire_all, In-Some, After-issue_all, After-post_all, After-take_one}
+use Rattle.engine.proofs.rounds.run_rounds.Goals.{In_ok-retire_all, In-Some, After-issue_all, After-post_all, After-take_one}
 
--- after the retirements of a round
-leaves₁ : (g : _) (c : After-retire_all g)
-    → Leaves (g.E.Calls.view c.args.engine.now) (g.E.Calls.view c.retire_all.new.engine) (g.C.Crew.ready c.retire_all.new.crew) (g.C.Crew.work c.retire_all.new.crew) (g.C.Crew.posted c.retire_all.new.crew)
-leaves₁ g c = leaves-then c.rounds.invariant.leaves c.retire_all.ensures.leaves
-
-crew₁ : (g : _) (c : In_ok-retire_all g) → CrewStands (g.E.Calls.view c.retire_all.new.engine) (g.C.Crew.posted c.retire_all.new.crew) (g.C.Crew.out c.retire_all.new.crew)
-crew₁ g c = c.in_ok-retire_all.ensures.crew (λ e. absurd (cc e))
-
+-- what was written after the retirements of a round
 written₁ : (g : _) (c : In_ok-retire_all g)
     → KeepsWritten (g.E.Calls.view c.args.engine.now) (g.E.Calls.view c.retire_all.new.engine) (g.O.Sink.written c.args.out.now) (g.O.Sink.written c.retire_all.new.out)
 written₁ g c start wrote = c.in_ok-retire_all.ensures.written start (c.rounds.invariant.written start wrote)
 
 -- after its issues
-leaves₂ : (g : _) (c : After-issue_all g)
-    → Leaves (g.E.Calls.view c.args.engine.now) (g.E.Calls.view c.issue_all.new.engine) (g.C.Crew.ready c.issue_all.new.crew) (g.C.Crew.work c.issue_all.new.crew) (g.C.Crew.posted c.issue_all.new.crew)
-leaves₂ g c = leaves-then (leaves-then c.rounds.invariant.leaves c.retire_all.ensures.leaves) c.issue_all.ensures.leaves
-
 written₂ : (g : _) (c : After-issue_all g)
     → KeepsWritten (g.E.Calls.view c.args.engine.now) (g.E.Calls.view c.issue_all.new.engine) (g.O.Sink.written c.args.out.now) (g.O.Sink.written c.retire_all.new.out)
 written₂ g c start wrote =
@@ -32,10 +20,6 @@ written₂ g c start wrote =
     c.issue_all.ensures.leaves.onward.batch c.issue_all.ensures.retired refl (c.in_ok-retire_all.ensures.written start (c.rounds.invariant.written start wrote))
 
 -- after its posts
-leaves₃ : (g : _) (c : After-post_all g)
-    → Leaves (g.E.Calls.view c.args.engine.now) (g.E.Calls.view c.post_all.new.engine) (g.C.Crew.ready c.post_all.new.crew) (g.C.Crew.work c.post_all.new.crew) (g.C.Crew.posted c.post_all.new.crew)
-leaves₃ g c = leaves-then (leaves-then (leaves-then c.rounds.invariant.leaves c.retire_all.ensures.leaves) c.issue_all.ensures.leaves) c.post_all.ensures.leaves
-
 written₃ : (g : _) (c : After-post_all g)
     → KeepsWritten (g.E.Calls.view c.args.engine.now) (g.E.Calls.view c.post_all.new.engine) (g.O.Sink.written c.args.out.now) (g.O.Sink.written c.retire_all.new.out)
 written₃ g c start wrote =
@@ -44,12 +28,6 @@ written₃ g c start wrote =
     (c.in_ok-retire_all.ensures.written start (c.rounds.invariant.written start wrote))
 
 -- after its result
-leaves₄ : (g : _) (c : After-take_one g)
-    → Leaves (g.E.Calls.view c.args.engine.now) (g.E.Calls.view c.take_one.new.engine) (g.C.Crew.ready c.take_one.new.crew) (g.C.Crew.work c.take_one.new.crew) (g.C.Crew.posted c.take_one.new.crew)
-leaves₄ g c =
-    leaves-then (leaves-then (leaves-then (leaves-then c.rounds.invariant.leaves c.retire_all.ensures.leaves) c.issue_all.ensures.leaves) c.post_all.ensures.leaves)
-    c.take_one.ensures.leaves
-
 written₄ : (g : _) (c : After-take_one g)
     → KeepsWritten (g.E.Calls.view c.args.engine.now) (g.E.Calls.view c.take_one.new.engine) (g.O.Sink.written c.args.out.now) (g.O.Sink.written c.retire_all.new.out)
 written₄ g c start wrote =
@@ -62,7 +40,7 @@ pub rounds-init : goal.rounds-init
 rounds-init g c = record { leaves = leaves-still c.requires.agrees; crew = c.requires.agrees.crew; written = λ start wrote. wrote; later = omega arith }
 
 pub returns-in_err-retire_all-clause-leaves : goal.returns-in_err-retire_all-clause-leaves
-returns-in_err-retire_all-clause-leaves g c = leaves₁ g (goal.at.returns-in_err-retire_all-clause-leaves g c).After-retire_all
+returns-in_err-retire_all-clause-leaves g c = leaves-then c.rounds.invariant.leaves c.retire_all.ensures.leaves
 
 pub returns-in_err-retire_all-clause-partly : goal.returns-in_err-retire_all-clause-partly
 returns-in_err-retire_all-clause-partly g c =
@@ -75,7 +53,7 @@ finished : (g : _) (c : In-Some g) → HasFinished (g.E.Calls.view c.retire_all.
 finished g c = rw c.in-Some.is at c.finished.ensures.found
 
 pub returns-in-Some-clause-leaves : goal.returns-in-Some-clause-leaves
-returns-in-Some-clause-leaves g c = leaves₁ g (goal.at.returns-in-Some-clause-leaves g c).After-retire_all
+returns-in-Some-clause-leaves g c = leaves-then c.rounds.invariant.leaves c.retire_all.ensures.leaves
 
 pub returns-in-Some-clause-complete : goal.returns-in-Some-clause-complete
 returns-in-Some-clause-complete g c =
@@ -87,18 +65,17 @@ returns-in-Some-clause-end g c =
     ends-so (g.E.Calls.view c.retire_all.new.engine) c.in-Some.end c.retire_all.ensures.leaves.onward.stands (finished g (goal.at.returns-in-Some-clause-end g c).In-Some)
 
 pub returns-in-Some-clause-crew : goal.returns-in-Some-clause-crew
-returns-in-Some-clause-crew g c other = crew₁ g (goal.at.returns-in-Some-clause-crew g c).In_ok-retire_all
+returns-in-Some-clause-crew g c other = c.in_ok-retire_all.ensures.crew (λ e. absurd (cc e))
 
 pub returns-in-Some-clause-written : goal.returns-in-Some-clause-written
 returns-in-Some-clause-written g c = written₁ g (goal.at.returns-in-Some-clause-written g c).In_ok-retire_all
 
 pub issue_all-requires-clause-agrees : goal.issue_all-requires-clause-agrees
 issue_all-requires-clause-agrees g c lifetimes within =
-    let there = goal.at.issue_all-requires-clause-agrees g c in
-    agrees-then (leaves₁ g there.After-retire_all) (crew₁ g there.In_ok-retire_all)
+    agrees-then (leaves-then c.rounds.invariant.leaves c.retire_all.ensures.leaves) (c.in_ok-retire_all.ensures.crew (λ e. absurd (cc e)))
 
 pub returns-in_err-issue_all-clause-leaves : goal.returns-in_err-issue_all-clause-leaves
-returns-in_err-issue_all-clause-leaves g c = leaves₂ g (goal.at.returns-in_err-issue_all-clause-leaves g c).After-issue_all
+returns-in_err-issue_all-clause-leaves g c = leaves-then (leaves-then c.rounds.invariant.leaves c.retire_all.ensures.leaves) c.issue_all.ensures.leaves
 
 pub returns-in_err-issue_all-clause-partly : goal.returns-in_err-issue_all-clause-partly
 returns-in_err-issue_all-clause-partly g c =
@@ -108,7 +85,8 @@ returns-in_err-issue_all-clause-partly g c =
     (written₂ g (goal.at.returns-in_err-issue_all-clause-partly g c).After-issue_all))
 
 pub returns-in_err-post_all-clause-leaves : goal.returns-in_err-post_all-clause-leaves
-returns-in_err-post_all-clause-leaves g c = leaves₃ g (goal.at.returns-in_err-post_all-clause-leaves g c).After-post_all
+returns-in_err-post_all-clause-leaves g c =
+    leaves-then (leaves-then (leaves-then c.rounds.invariant.leaves c.retire_all.ensures.leaves) c.issue_all.ensures.leaves) c.post_all.ensures.leaves
 
 pub returns-in_err-post_all-clause-partly : goal.returns-in_err-post_all-clause-partly
 returns-in_err-post_all-clause-partly g c =
@@ -118,7 +96,9 @@ returns-in_err-post_all-clause-partly g c =
     (written₃ g (goal.at.returns-in_err-post_all-clause-partly g c).After-post_all))
 
 pub returns-in_err-take_one-clause-leaves : goal.returns-in_err-take_one-clause-leaves
-returns-in_err-take_one-clause-leaves g c = leaves₄ g (goal.at.returns-in_err-take_one-clause-leaves g c).After-take_one
+returns-in_err-take_one-clause-leaves g c =
+    leaves-then (leaves-then (leaves-then (leaves-then c.rounds.invariant.leaves c.retire_all.ensures.leaves) c.issue_all.ensures.leaves) c.post_all.ensures.leaves)
+    c.take_one.ensures.leaves
 
 pub returns-in_err-take_one-clause-partly : goal.returns-in_err-take_one-clause-partly
 returns-in_err-take_one-clause-partly g c =
@@ -138,7 +118,8 @@ pub rounds-preserved : goal.rounds-preserved
 rounds-preserved g c =
     let there = (goal.at.rounds-preserved g c).After-take_one in
     record {
-      leaves = leaves₄ g there;
+      leaves = leaves-then (leaves-then (leaves-then (leaves-then c.rounds.invariant.leaves c.retire_all.ensures.leaves) c.issue_all.ensures.leaves) c.post_all.ensures.leaves)
+          c.take_one.ensures.leaves;
       crew = c.in_ok-take_one.ensures.crew;
       written = written₄ g there;
       later = let first = c.rounds.invariant.later in let second = c.retire_all.ensures.cause.later in omega arith;
