@@ -90,8 +90,8 @@ module _ (batch : Batch) (parts : Parts) (kept : Kept batch parts) where
   home-is lends_some same = (to lends_some same, from lends_some same)
     where
       to : (b : Bool) → b ≡ list_any lends parts.rol.entries → IsTrue (not b) → NoneLent (view_of batch parts)
-      to true same is = absurd is
-      to false same is p s there posted untaken =
+      to true same is = absurd (false≢true is)
+      to false same is = λ p s there posted untaken.
           let low : at.retired ≤ p = elim (cases_lt p at.retired) [
             | inl less ↦ absurd (untaken (stage.applied_taken p (stage.retired_applied p less) posted))
             | inr most ↦ most
@@ -105,7 +105,7 @@ module _ (batch : Batch) (parts : Parts) (kept : Kept batch parts) where
           ∙ (sym each.is_of.held ∙ holds-none found.0.state found.0.held (none-lends parts.rol.entries p found.0 (sym same) found.1) out)
 
       from : (b : Bool) → b ≡ list_any lends parts.rol.entries → NoneLent (view_of batch parts) → IsTrue (not b)
-      from false same none = tt
+      from false same none = refl
       from true same none =
           let some = some-lends at.retired parts.rol.entries kept.window.entries_are.row (sym same) in
           let holds = holds-some some.1.state some.1.held some.3 in

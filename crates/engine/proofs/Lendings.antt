@@ -10,7 +10,9 @@ use Rattle.record_store.specs.Given.{bundle_of}
 use Rattle.record_store.specs.Lent.{marked, lock_in, put_back, AreAsLent}
 use Rattle.record_store.specs.Stored.{Stored, state_of, IsAtHome, IsAway}
 use Rattle.record_store.proofs.Comings.{locks_lent}
+use Rattle.subthread.specs.declared.task.Task.{Task}
 use Rattle.subthread.proofs.HeldLocks.{bundle_locks}
+use Rattle.engine.specs.inner.Posted.{lent_by}
 use Rattle.engine.proofs.Marks.{marked-in, marked-back}
 
 -- what all locks of bundles meet
@@ -46,3 +48,15 @@ module _ (store : Stored) (held : List ℕ) (home : All (IsAtHome store) held) w
   pub sent-back : record lender { away = marked (map lock_in (map (bundle_of store.under (state_of store)) held)) false lender.away } ≡ store
   sent-back =
       λ i. record store { away = (ap (λ locks. marked locks false (marked held true store.away)) (bundle_locks store.under (state_of store) held) ∙ marked-back held store.away home) i }
+
+-- a task that comes back with what was lent to it
+module _ (store later : Stored) (task back : Task) (home : All (IsAtHome store) task.held) (back_is : back ≡ lent_by store task)
+    (later_is : later ≡ record store { away = marked task.held true store.away }) where
+  pub back-away : All (λ b. IsAway later (lock_in b)) back.given.bundles
+  back-away = rw (back_is, later_is) (lent-away store task.held home)
+
+  pub back-as-lent : AreAsLent later back.given.bundles
+  back-as-lent = rw (back_is, later_is) (lent-as store task.held home)
+
+  pub back-home : record later { away = marked (map lock_in back.given.bundles) false later.away } ≡ store
+  back-home = rw (back_is, later_is) (sent-back store task.held home)

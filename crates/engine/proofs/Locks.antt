@@ -180,7 +180,7 @@ module _ (test : ℕ → Bool) (change : Entry → Entry) (entries : List Entry)
       }
 
   -- what is lent after it was lent before, or by an entry that was changed
-  Lends : ℕ → Entry → Type 0
+  abbrev Lends : ℕ → Entry → Type 0
   Lends p e =
       ((y : Entry) × (entry_at entries p ≡ Some y) × (test p ≡ true) × (e ≡ change y)) ⊎ ((old : IsLent entries l) × (old.position ≡ p) × (test p ≡ false))
 

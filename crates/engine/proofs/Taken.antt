@@ -173,7 +173,7 @@ module _ (batch : Batch) (parts : Parts) (kept : Kept batch parts) (done : Done)
     came = ap (λ (g : Given). g.bundles) given
 
     -- they have the locks of the entry
-    pub locks-held : locks ≡ here.held
+    locks-held : locks ≡ here.held
     locks-held =
         sym (locks-back under done.old done.task.given.bundles) ∙ (ap (map lock_in) came
         ∙ (bundle_locks under (state_of parts.store) done.task.held ∙ (task.is_task.is_of.held ∙ sym entry-held)))
@@ -253,7 +253,7 @@ module _ (batch : Batch) (parts : Parts) (kept : Kept batch parts) (done : Done)
         (window-stale batch kept.fit at stage parts.ring.table parts.store parts.rol.entries kept.window p attempt may (learning_from p t next parts.ring.table) home))
       where
         home : IsHome batch (learning_from p t next parts.ring.table) parts.store
-        home = record { threads = (let many = kept.window.home.threads in let same = seats-then in omega arith); cells = kept.window.home.cells; under = kept.window.home.under }
+        home = record { threads = (let many = kept.window.home.threads in let same = seats-then in omega arith); cells = kept.window.home.cells; under = kept.window.home.under; locks = kept.window.home.locks }
     window-then store entries true may is applied =
         subst (λ others. WindowStands batch (happens (dependence_in batch) batch.faults at (event.Take p attempt true)) (learning_from p t next parts.ring.table) others store) (sym applied.entries_are)
         (window-take batch kept.fit at stage parts.ring.table parts.store parts.rol.entries kept.window p attempt may (here (is refl)) (here-is (is refl)) (is-out (is refl)) (effect_of batch.work done) effect_is

@@ -3,13 +3,13 @@ ghost use Rattle.std.specs.Prelude.{◌≡◌, ◌<◌, [], length, map, unwrap_
 ghost use Rattle.std.specs.Int.{int_bit_xor, w64};
 ghost use Rattle.std.specs.FinMap.{put, find, is_sorted};
 ghost use Rattle.std.specs.Ordering.{nat_cmp};
-ghost use Rattle.task_ast.specs.Value.{is_zero};
 ghost use Rattle.record_store.specs.Given.{value_in};
 ghost use Rattle.task_ast.specs.Under.{is_under};
 ghost use Rattle.record_store.specs.Lent.{lock_in, put_back, new_write};
 ghost use Rattle.subthread.specs.inner.Places.{AreSearchable, AreHandy, HasPlace, with_value, value_at};
 ghost use Rattle.subthread.specs.inner.Hand.{with_old, damaged_write, turned_write};
 
+use crate::numbers::is_zero;
 use crate::places::find_cell;
 use gp_base::{LockNo, RecNo, Seq};
 use record_store::Bundle;
@@ -128,13 +128,6 @@ fn strike(
         };
         turn_there(bundles, bundle, place, mask);
     }
-}
-
-// Whether a value is 0.
-fn is_zero(value: i64) -> bool
-    ensures { result ≡ is_zero value }
-{
-    value == 0
 }
 
 // A mask falls on each of these cells; mask 0 changes nothing.

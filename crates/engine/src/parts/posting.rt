@@ -7,8 +7,8 @@ ghost use Rattle.gp_base.specs.declared.journal.Event.TheVariants as event;
 ghost use Rattle.dependence.specs.Restarts.{mask_of};
 ghost use Rattle.dependence.specs.Standing.{present};
 ghost use Rattle.record_store.specs.Given.{joined_by};
-ghost use Rattle.record_store.specs.Lent.{marked};
-ghost use Rattle.record_store.specs.Stored.{IsAtHome};
+ghost use Rattle.record_store.specs.Lent.{lock_in, marked, AreAsLent};
+ghost use Rattle.record_store.specs.Stored.{IsAtHome, IsAway};
 ghost use Rattle.reorder_list.specs.Entries.{entry_at};
 ghost use Rattle.subthread.specs.declared.task.Task.{Task};
 ghost use Rattle.subthread.specs.Footprints.{IsNumbered};
@@ -148,6 +148,16 @@ fn hand<R: Threads + Sync, C: Crew>(
     crew.post(rt, task)
 }
 
+/// Takes home the cells that were lent to a task, which are as they were.
+fn take_back(store: &mut Store, task: Task)
+    requires away { All (λ b. IsAway store.old (lock_in b)) task.given.bundles }
+    requires as_lent { AreAsLent store.old task.given.bundles }
+    ensures { store.new ≡ record store.old { away = marked (map lock_in task.given.bundles) false store.old.away } }
+{
+    let Task { given, .. } = task;
+    store.send_back(given.bundles);
+}
+
 /// Lends a task the cells of its locks and hands it to a crew. The error is that memory is out; the cells are home again.
 fn send<R: Threads + Sync, C: Crew>(
     rt: &R,
@@ -176,7 +186,7 @@ fn send<R: Threads + Sync, C: Crew>(
     match hand(rt, crew, task) {
         Ok(()) => Ok(()),
         Err(refused) => {
-            store.send_back(refused.value.given.bundles);
+            take_back(store, refused.value);
             Err(AllocError)
         }
     }
