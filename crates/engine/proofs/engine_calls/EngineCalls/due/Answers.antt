@@ -1,0 +1,7 @@
+use Rattle.std.proofs.Common.{◌≡◌, ap, subst}
+use Rattle.std.specs.Prelude.{is_some}
+use Rattle.engine.specs.Gives.{struck_now}
+use Rattle.engine.proofs.engine_calls.EngineCalls.due.Goals as goal
+
+pub returns : goal.returns
+returns c = subst (λ view. c.due.result ≡ is_some (struck_now view)) (ap (λ e. e.view) c.self.view_is) c.due.ensures
