@@ -334,8 +334,8 @@ module _ (batch : Batch) (parts : Parts) (kept : Kept batch parts) (t : ℕ) (ne
       false≢true (sym (ready.prepared_is t next tried) ∙ names_below next.sync parts.ring.table b.may)
 
   pub prepared_some : (o : Option Prepared) → IsReadyFor batch parts o → IsSome o
-  prepared_some None ready = absurd (not_none ready)
-  prepared_some (Some prepared) ready = refl
+  prepared_some None there = absurd (not_none there)
+  prepared_some (Some prepared) there = refl
 
   pub kept_pushed : (alone : Bool) → (alone ≡ true → parts.rol.entries ≡ []) → (alone ≡ true) ⊎ (settling_in (turn parts.ring.table) ≡ None) → NoneDue batch.faults (stage_of batch parts.events.items).progress → (prepared : Prepared) → IsReadyFor batch parts (Some prepared)
       → (ring : Roomy) → ring.table ≡ after → (later : Parts) → IsPushed (record parts { ring = ring }) later (new_entry parts.issued t next child (settled_in next.sync (state_of parts.store) t prepared)) prepared.start
