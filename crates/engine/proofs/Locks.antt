@@ -1,5 +1,5 @@
 -- A lock is away exactly where an entry that is out holds it.
-use Rattle.std.proofs.Common.{◌≡◌, ◌↔◌, ◌⊎◌, inl, inr, ℕ, ℤ, zero, suc, ◌+◌, ◌<◌, ◌≤◌, Bool, true, false, cond, not, ◌&&◌, ◌||◌, nat_eq, List, [], ◌∷◌, ◌++◌, length, map, get_or, Contains, Option, Some, None, refl, sym, ap, subst, ◌∙◌, arith, slice_get, ◌==◌}
+use Rattle.std.proofs.Common.{◌≡◌, ◌⊎◌, inl, inr, ℕ, ℤ, suc, ◌+◌, ◌<◌, Bool, true, false, cond, not, nat_eq, List, [], ◌∷◌, ◌++◌, length, map, get_or, Contains, Option, Some, None, refl, sym, ap, subst, ◌∙◌, arith, slice_get, ◌==◌}
 use Rattle.std.specs.Prelude.{All, option_map}
 use Rattle.std.specs.List.{list_any}
 use Rattle.std.specs.List.Sorted.{IsStrictlyIncreasing}
@@ -33,10 +33,10 @@ use Rattle.record_store.specs.Lent.{marked}
 use Rattle.reorder_list.specs.declared.entry.Entry.{Entry}
 use Rattle.reorder_list.specs.declared.entry.State.{State}
 use Rattle.reorder_list.specs.declared.entry.State.TheVariants.{Out, Applied, Waiting}
-use Rattle.reorder_list.specs.Entries.{IsFresh, StandFrom, entry_at, with_change, with_change_at, out_entry, applied_entry, raised_entry}
+use Rattle.reorder_list.specs.Entries.{IsFresh, entry_at, with_change, with_change_at, out_entry, applied_entry, raised_entry}
 use Rattle.reorder_list.specs.Runnable.{IsRunnable}
 use Rattle.reorder_list.specs.Stages.{EntriesStand}
-use Rattle.reorder_list.proofs.Changes.{KeepsPosition, changed_where, changed, pushed, from-first, is-there}
+use Rattle.reorder_list.proofs.Changes.{KeepsPosition, changed_where, changed, pushed, from-first}
 use Rattle.reorder_list.proofs.Staged.{changed-there, foot-is}
 use Rattle.subthread.proofs.HeldLocks.{owned_increasing}
 use Rattle.engine.specs.View.{Batch, program_in, run_in}
@@ -192,13 +192,17 @@ module _ (test : ℕ → Bool) (change : Entry → Entry) (entries : List Entry)
       go y true is = inl (y.0, y.1, is, y.2 ∙ ap (λ b. changed_where b change y.0) is)
       go y false is =
           let same : lent.entry ≡ y.0 = y.2 ∙ ap (λ b. changed_where b change y.0) is in
-          inr (record {
-            position = lent.position;
-            entry = y.0;
-            there = y.1;
-            out = ap (λ (x : Entry). x.state) (sym same) ∙ lent.out;
-            holds = subst (λ (x : Entry). Contains x.held l) same lent.holds;
-          }, refl, is)
+          inr (
+            record {
+              position = lent.position;
+              entry = y.0;
+              there = y.1;
+              out = ap (λ (x : Entry). x.state) (sym same) ∙ lent.out;
+              holds = subst (λ (x : Entry). Contains x.held l) same lent.holds;
+            },
+            refl,
+            is,
+          )
 
 -- ---- each event
 

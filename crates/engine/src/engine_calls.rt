@@ -3,7 +3,8 @@
 use crate::calls::{Calls, Issued};
 use crate::engine::Engine;
 use crate::parts::{
-    accept, all_home, detect, due, finished, into_journal, into_report, issue, post, retire, runnable,
+    accept, all_home, detect, due, finished, into_journal, into_report, issue, post, retire,
+    runnable,
 };
 use crew::Crew;
 use gp_base::{End, Journal, Pos, Sink};

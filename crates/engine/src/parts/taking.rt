@@ -114,14 +114,7 @@ pub fn accept(plan: &Plan, parts: &mut Parts, done: Done) -> bool
     let Given { bundles, .. } = given;
     let fresh = is_present(&parts.rol, pos, attempt);
     let place = Place { at, ctl };
-    learn(
-        &mut parts.ring,
-        &mut parts.places,
-        thread,
-        pos,
-        next,
-        place,
-    );
+    learn(&mut parts.ring, &mut parts.places, thread, pos, next, place);
     apply_where(
         fresh,
         &mut parts.store,

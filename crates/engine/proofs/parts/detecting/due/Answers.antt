@@ -1,4 +1,4 @@
-use Rattle.std.proofs.Common.{◌∙◌, ap, sym, is_some}
+use Rattle.std.proofs.Common.{◌∙◌, ap, is_some}
 use Rattle.engine.specs.inner.Kept.{batch_in}
 use Rattle.engine.proofs.Struck.{struck-same}
 use Rattle.engine.proofs.parts.detecting.due.Goals as goal

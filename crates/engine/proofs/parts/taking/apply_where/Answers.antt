@@ -1,6 +1,6 @@
 use Rattle.record_store.specs.Stored.{Fits}
 use Rattle.reorder_list.specs.Entries.{with_change_at, applied_entry}
-use Rattle.std.proofs.Common.{refl, subst, ◌∙◌}
+use Rattle.std.proofs.Common.{subst, ◌∙◌}
 use Rattle.engine.proofs.parts.taking.apply_where.Goals as goal
 
 pub accept_home-history-requires : goal.accept_home-history-requires
