@@ -36,8 +36,8 @@ alone_rises (suc zero) k less = absurd (omega (arith, less))
 alone_rises (suc (suc l)) k less = absurd (omega (arith, less))
 
 alone_lock : (c : ℕ) → c < 2 → (l : ℕ) × Contains (under_lock each_alone l) c
-alone_lock zero less = (0, 0, omega arith, refl)
-alone_lock (suc zero) less = (1, 0, omega arith, refl)
+alone_lock zero less = (0, (0, (omega arith, refl)))
+alone_lock (suc zero) less = (1, (0, (omega arith, refl)))
 alone_lock (suc (suc c)) less = absurd (omega (arith, less))
 
 pub alone_shared : IsSharedOut 2 each_alone
@@ -48,89 +48,18 @@ alone_shared = record {
   rising = alone_rises;
 }
 
-pub none_shared : IsSharedOut 0 []
-none_shared = record {
-  one_lock = λ c less. absurd (omega (arith, less));
-  apart = λ l m c left right. absurd (omega (arith, left.1));
-  within = λ l c there. absurd (omega (arith, there.1));
-  rising = λ l k less. absurd (omega (arith, less));
-}
-
--- ---- what is at home
-
-all_home : (l : ℕ) → slice_get (false ∷ false ∷ []) l ≡ Some true → ⊥
-all_home zero is = cc is
-all_home (suc zero) is = cc is
-all_home (suc (suc l)) is = cc is
-
-pub pair_home : (s : Stored) (e : Effect) → IsPair s → CellsAtHome s e
-pair_home s e pair k d less l j there away = all_home l (subst (λ marks. slice_get marks l ≡ Some true) pair.away away)
-
-pub pair_shape : (s t : Stored) → IsPair s → IsPair t → SameShape s t
-pair_shape s t before later = record {
-  threads = later.threads ∙ sym before.threads;
-  cells = later.cells ∙ sym before.cells;
-  under = later.under ∙ sym before.under;
-}
-
-pub pair_after : (s t : Stored) → IsPair s → SameShape s t → t.away ≡ s.away → IsPair t
-pair_after s t pair shape away = record {
-  threads = shape.threads ∙ pair.threads;
-  cells = shape.cells ∙ pair.cells;
-  under = shape.under ∙ pair.under;
-  away = away ∙ pair.away;
-}
-
--- ---- what is lent and comes home
-
-one_of : {A : Type 0} (P : A → Type 0) (x : A) → P x → All P (x ∷ [])
-one_of P x holds = All-cons P x [] holds (All-nil P)
-
-pub one_home : (s : Stored) (cell : ℕ) → IsPair s → cell < 2 → All (IsAtHome s) (cell ∷ [])
-one_home s cell pair less = one_of (IsAtHome s) cell (ap (λ marks. slice_get marks cell) pair.away ∙ go cell less)
-  where
-    go : (n : ℕ) → n < 2 → slice_get (false ∷ false ∷ []) n ≡ Some false
-    go zero below = refl
-    go (suc zero) below = refl
-    go (suc (suc n)) below = absurd (omega (arith, below))
+-- ---- what comes home
 
 -- the bundle of the lock over a cell, with this value
 abbrev pub one_bundle : (cell : ℕ) → ℤ → List Bundle
 one_bundle cell value = record { lock = cell; cells = value ∷ [] } ∷ []
 
-module _ (threads : List (List ℤ)) (cells : List ℤ) (before value : ℤ) where
-  abbrev lent : ℕ → Stored
-  lent cell = record { threads = threads; cells = cells; under = each_alone; away = marked (cell ∷ []) true (false ∷ false ∷ []) }
-
-  comes : (cell : ℕ) → cell < 2 → number_at cells cell ≡ before → MayComeHome (lent cell) (one_bundle cell value) ((cell, before) ∷ [])
-  comes zero less is = record {
-    away = one_of (λ b. IsAway (lent 0) (lock_in b)) (record { lock = 0; cells = value ∷ [] }) refl;
-    as_lent = λ i. record { lock = 0; cells = sym is i ∷ [] } ∷ [];
-    rising = refl;
-    within = one_of (λ w. is_under each_alone (0 ∷ []) w.0 ≡ true) (0, before) refl;
-  }
-  comes (suc zero) less is = record {
-    away = one_of (λ b. IsAway (lent 1) (lock_in b)) (record { lock = 1; cells = value ∷ [] }) refl;
-    as_lent = λ i. record { lock = 1; cells = sym is i ∷ [] } ∷ [];
-    rising = refl;
-    within = one_of (λ w. is_under each_alone (1 ∷ []) w.0 ≡ true) (1, before) refl;
-  }
-  comes (suc (suc cell)) less is = absurd (omega (arith, less))
-
--- a cell that was lent comes home with another value
-pub comes_home : (s t : Stored) (cell : ℕ) (before value : ℤ) → IsPair s → t ≡ record s { away = marked (cell ∷ []) true s.away } → cell < 2 → number_at s.cells cell ≡ before
-    → MayComeHome t (one_bundle cell value) ((cell, before) ∷ [])
-comes_home s t cell before value pair is less was =
-    subst (λ store. MayComeHome store (one_bundle cell value) ((cell, before) ∷ []))
-    (sym (is ∙ (λ i. record { threads = s.threads; cells = s.cells; under = pair.under i; away = marked (cell ∷ []) true (pair.away i) })))
-    (comes s.threads s.cells before value cell less was)
-
--- and then has that value, and the other has its own
+-- a cell that comes home with a value has that, and the other has its own
 pub written : (t new : Stored) (cell : ℕ) (before value : ℤ) (e : left.Effect) → t.under ≡ each_alone → cell < 2
     → state_of new ≡ after (whole_effect t.under (one_bundle cell value) ((cell, before) ∷ []) e) (state_of t)
     → (c : ℕ) → number_at new.cells c ≡ cond (nat_eq c cell) value (number_at t.cells c)
 written t new cell before value e under less state c =
-    ap (λ (data : State). number_at (data (CellOf c)) 0) state
+    ap (λ (s : State). number_at (s (CellOf c)) 0) state
     ∙ ap (λ v. now (find nat_cmp c ((cell, v) ∷ []))) (ap (λ u. value_in u (one_bundle cell value) cell) under ∙ there cell less)
     ∙ ap (λ b. now (cond b (Some value) None)) (unsigned_tied c cell)
     ∙ go (nat_eq c cell)
@@ -146,17 +75,3 @@ written t new cell before value e under less state c =
     go : (b : Bool) → now (cond b (Some value) None) ≡ cond b value (number_at t.cells c)
     go true = refl
     go false = refl
-
-pub home_again : (s t new : Stored) (cell : ℕ) (value : ℤ) → IsPair s → t ≡ record s { away = marked (cell ∷ []) true s.away } → cell < 2 → SameShape t new
-    → new.away ≡ marked (map lock_in (one_bundle cell value)) false t.away → IsPair new
-home_again s t new cell value pair is less shape away = record {
-  threads = shape.threads ∙ ap (λ (x : Stored). length x.threads) is ∙ pair.threads;
-  cells = shape.cells ∙ ap (λ (x : Stored). length x.cells) is ∙ pair.cells;
-  under = shape.under ∙ ap (λ (x : Stored). x.under) is ∙ pair.under;
-  away = away ∙ ap (λ (x : Stored). marked (cell ∷ []) false x.away) is ∙ ap (λ marks. marked (cell ∷ []) false (marked (cell ∷ []) true marks)) pair.away ∙ go cell less;
-}
-  where
-    go : (n : ℕ) → n < 2 → marked (n ∷ []) false (marked (n ∷ []) true (false ∷ false ∷ [])) ≡ false ∷ false ∷ []
-    go zero below = refl
-    go (suc zero) below = refl
-    go (suc (suc n)) below = absurd (omega (arith, below))

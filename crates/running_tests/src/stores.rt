@@ -1,5 +1,5 @@
 // What a store lends and takes home, and what undoing some of it leaves.
-ghost use Rattle.std.specs.Prelude.{◌≡◌, ◌<◌, [], ◌∷◌, cond, nat_eq, IfOk, OnOk};
+ghost use Rattle.std.specs.Prelude.{◌≡◌, ◌<◌, ℕ, pos, [], ◌∷◌, cond, nat_eq, IfOk, OnOk};
 ghost use Rattle.task_ast.specs.State.{number_at};
 ghost use Rattle.record_store.specs.Stored.{Fits, FitsChild};
 ghost use Rattle.running_tests.specs.Pairs.{IsPair, each_alone};
@@ -23,7 +23,7 @@ fn alone(alloc: Global) -> Result<Layout, AllocError>
 // Cells 5 and 7, each under a lock of its own, and two threads.
 fn two_cells(alloc: Global) -> Result<Store, AllocError>
     ensures pair { IfOk result (λ store. IsPair store) }
-    ensures cells { IfOk result (λ store. store.cells ≡ 5 ∷ 7 ∷ []) }
+    ensures cells { IfOk result (λ store. store.cells ≡ pos 5 ∷ pos 7 ∷ []) }
 {
     let mut store = Store::new(alloc, Seq::from_slice(alloc, &[5, 7])?, alone(alloc)?)?;
     store.reserve_thread(alloc, 1)?;
