@@ -157,7 +157,7 @@ impl<'a> Inbox<'a> {
     /// Runs a task in this thread. The error is that memory is out.
     pub fn run(&mut self, task: Task) -> Result<Done, AllocError>
         requires { Fits self.old.work task }
-        ensures task { IfOk result (λ done. task_of done ≡ task) }
+        ensures task { IfOk result (λ done. task_of self.old.work done ≡ task) }
         ensures run { IfOk result (IsRun self.old.work) }
         ensures ok { OnOk result (self.new ≡ self.old) }
         ensures err { OnErr result (self.new ≡ record self.old { failed = true }) }

@@ -15,7 +15,7 @@ use Rattle.crew.proofs.Standing.{stands-first, stands-kept, stands-posted, stand
 use Rattle.engine.specs.View.{Batch, View, dependence_in, now, learnt, begun, Stands}
 use Rattle.engine.specs.Gives.{Did}
 use Rattle.engine.specs.Takes.{TaskStands, CrewStands}
-use Rattle.engine.specs.inner.Rounds.{KeepsCrew, AreTaken}
+use Rattle.engine.specs.inner.Rounds.{AreTaken}
 use Rattle.engine.proofs.Events.{now-did}
 use Rattle.engine.proofs.Tasks.{task-kept}
 
@@ -60,6 +60,10 @@ pub did-task : (before after : View) (e : Event) → Stands before → Did befor
     → ¬ Contains (now after).taken (pair_of task) → TaskStands after task
 did-task before after e stands did task t untaken =
     subst (λ v. TaskStands v task) (sym did.grown) (task-kept before stands e did.allowed task t (subst (λ v. ¬ Contains (now v).taken (pair_of task)) did.grown untaken))
+
+-- a crew that agreed with the engine does so still
+abbrev pub KeepsCrew : (before after : View) → Type 0
+KeepsCrew before after = (posted : List (ℕ × ℕ)) (out : List Task) → CrewStands before posted out → CrewStands after posted out
 
 -- where nothing is posted or taken
 pub crew-alone : (before after : View) (e : Event) → Stands before → Did before e after → (now after).posted ≡ (now before).posted

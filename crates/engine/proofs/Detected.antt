@@ -14,7 +14,7 @@ use Rattle.dependence.specs.Standing.{StageStands}
 use Rattle.dependence.specs.Removal.{undone_part}
 use Rattle.dependence.proofs.Counts.{few-attempts}
 use Rattle.dependence.proofs.Struck.{struck-live}
-use Rattle.record_store.specs.Stored.{Stored, state_of, SameShape}
+use Rattle.record_store.specs.Stored.{Stored, state_of, SameShape, IsAllHome}
 use Rattle.reorder_list.specs.declared.entry.Entry.{Entry}
 use Rattle.reorder_list.specs.Entries.{StandFrom, entry_at, with_change, raised_entry, histories_of}
 use Rattle.reorder_list.proofs.Changes.{from-first, is-there}
@@ -122,14 +122,14 @@ module _ (batch : Batch) (parts : Parts) (kept : Kept batch parts) (p : ℕ) (is
   after-is = ap (restarted (dependence_in batch) at) next
 
   -- all is kept
-  pub kept-restarted : (entries : List Entry) (store : Stored) (events : List Event) (restarts : List Restart) (attempt : ℕ) (redo : List ℕ)
+  pub kept-restarted : IsAllHome parts.store → (entries : List Entry) (store : Stored) (events : List Event) (restarts : List Restart) (attempt : ℕ) (redo : List ℕ)
       → attempt ≡ attempt_in (entry_at parts.rol.entries p) → redo ≡ redone parts.rol.entries p parts.issued
       → entries ≡ with_change (λ q. is_member q redo) (raised_entry parts.issued) parts.rol.entries
-      → state_of store ≡ undone_part (histories_of parts.rol.entries) (λ q. is_member q redo) parts.issued (state_of parts.store) → SameShape parts.store store
+      → state_of store ≡ undone_part (histories_of parts.rol.entries) (λ q. is_member q redo) parts.issued (state_of parts.store) → SameShape parts.store store → store.away ≡ parts.store.away
       → events ≡ parts.events.items ++ event.Restart (length parts.restarts.items) ∷ []
       → restarts ≡ parts.restarts.items ++ record { front = parts.issued; struck = p; attempt = attempt; redo = redo } ∷ []
       → Keeps batch parts.ring.table parts.places.items entries store events restarts parts.issued parts.ended
-  kept-restarted entries store events restarts attempt redo attempt_is redo_is entries_are state shape events_are restarts_are =
+  kept-restarted all_home entries store events restarts attempt redo attempt_is redo_is entries_are state shape away events_are restarts_are =
       subst (λ es. Keeps batch parts.ring.table parts.places.items entries store es restarts parts.issued parts.ended)
       (ap (λ n. parts.events.items ++ event.Restart n ∷ []) (sym (ap length kept.journal.restarts_are)) ∙ sym events_are)
       (keeps_then batch parts.events.items kept.fit kept.journal (event.Restart (length at.progress.made)) allowed parts.ring.table parts.places.items entries store restarts parts.issued parts.ended
@@ -146,5 +146,5 @@ module _ (batch : Batch) (parts : Parts) (kept : Kept batch parts) (p : ℕ) (is
       window =
           subst (λ es. WindowStands batch after_it parts.ring.table es store)
           (sym (entries_are ∙ (λ i. with_change (λ q. is_member q (part-is i)) (raised_entry (kept.journal.issued_are i)) parts.rol.entries)))
-          (window-restart batch kept.fit at stage parts.ring.table parts.store parts.rol.entries kept.window (length at.progress.made) p allowed next store shape
+          (window-restart batch kept.fit at stage parts.ring.table parts.store parts.rol.entries kept.window (length at.progress.made) p allowed next all_home store shape away
           (state ∙ (λ i. undone_part (histories_of parts.rol.entries) (λ q. is_member q (part-is i)) (kept.journal.issued_are i) (state_of parts.store))))

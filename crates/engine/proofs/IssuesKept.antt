@@ -62,7 +62,8 @@ window_at batch at table next entries store l window =
       buffer_is = window.buffer_is;
       placed = window.placed;
       undoable = window.undoable;
-      home = record { threads = let h = window.home.threads in omega arith; cells = window.home.cells; under = window.home.under };
+      locks = window.locks;
+      home = record { threads = let h = window.home.threads in omega arith; cells = window.home.cells; under = window.home.under; locks = window.home.locks };
     }
 
 -- a store with one more empty slot
@@ -77,7 +78,8 @@ window_slot batch at table entries store window =
       buffer_is = subst (λ state. RunStands (run_in batch) batch.faults (start_in batch) at (record (buffer_of store entries) { state = state })) (sym (slot_law store)) window.buffer_is;
       placed = window.placed;
       undoable = histories-fit store (with_thread 0 store) entries (λ e. wider_law store (with_thread 0 store) e (let l = slotted store in omega arith) refl) window.undoable;
-      home = record { threads = let l = slotted store in let h = window.home.threads in omega arith; cells = window.home.cells; under = window.home.under };
+      locks = window.locks;
+      home = record { threads = let l = slotted store in let h = window.home.threads in omega arith; cells = window.home.cells; under = window.home.under; locks = window.home.locks };
     }
 
 -- a list that has no entry
@@ -292,6 +294,7 @@ module _ (batch : Batch) (table : Table) (places : List Place) (entries : List E
                 (grown next.sync prepared.start made.start slot);
             cells = keeps.window.home.cells;
             under = keeps.window.home.under;
+            locks = keeps.window.home.locks;
           }
         where
           grown : (op : SyncOp) (start : Option Place) → StartIs batch (IsPlaceIn batch) (length table.seats) op start
@@ -306,7 +309,7 @@ module _ (batch : Batch) (table : Table) (places : List Place) (entries : List E
           keeps_then batch events keeps.fit keeps.journal (event.Issue issued) allowed after (places_after places prepared.start) (entries ++ entry ∷ []) store restarts (issued + 1) None
           (ring_issued batch (IsPlaceIn batch) at table places keeps.ring t next child after is prepared.start made.start (names_issued batch events keeps.fit keeps.journal))
           (window-issue batch keeps.fit at (stage_stands batch events keeps.fit keeps.journal) table store entries keeps.window issued entry
-          (names_issued batch events keeps.fit keeps.journal) allowed first placed after store home refl (omega arith))
+          (names_issued batch events keeps.fit keeps.journal) allowed first placed after store home refl (omega arith) refl)
           keeps.journal.restarts_are (ap (λ n. n + 1) keeps.journal.issued_are) tt
 
 -- a thread that is issued names a thread that is there, where it joins one
@@ -331,8 +334,8 @@ module _ (batch : Batch) (parts : Parts) (kept : Kept batch parts) (t : ℕ) (ne
       false≢true (sym (ready.prepared_is t next tried) ∙ names_below next.sync parts.ring.table b.may)
 
   pub prepared_some : (o : Option Prepared) → IsReadyFor batch parts o → IsSome o
-  prepared_some None ready = absurd (not_none ready)
-  prepared_some (Some prepared) ready = refl
+  prepared_some None there = absurd (not_none there)
+  prepared_some (Some prepared) there = refl
 
   pub kept_pushed : (alone : Bool) → (alone ≡ true → parts.rol.entries ≡ []) → (alone ≡ true) ⊎ (settling_in (turn parts.ring.table) ≡ None) → NoneDue batch.faults (stage_of batch parts.events.items).progress → (prepared : Prepared) → IsReadyFor batch parts (Some prepared)
       → (ring : Roomy) → ring.table ≡ after → (later : Parts) → IsPushed (record parts { ring = ring }) later (new_entry parts.issued t next child (settled_in next.sync (state_of parts.store) t prepared)) prepared.start

@@ -1,3 +1,4 @@
+pub mod AllHome
 pub mod Beginning
 pub mod Closed
 pub mod Crews
@@ -6,6 +7,9 @@ pub mod Events
 pub mod Found
 pub mod IssuesKept
 pub mod Kepts
+pub mod Lendings
+pub mod Locks
+pub mod Marks
 pub mod Opened
 pub mod Options
 pub mod Outcomes

@@ -1,5 +1,5 @@
 -- What an engine keeps before its first event.
-use Rattle.std.proofs.Common.{◌≡◌, ℕ, ◌<◌, ◌≤◌, List, [], ◌∷◌, length, map, replicate, None, refl, sym, ap, ◌∙◌, subst, arith}
+use Rattle.std.proofs.Common.{◌≡◌, ℕ, zero, suc, true, false, ◌<◌, ◌≤◌, List, [], ◌∷◌, length, map, replicate, None, Some, slice_get, refl, sym, ap, ◌∙◌, subst, arith}
 use Rattle.std.specs.Prelude.{All, ℤ}
 use Rattle.std.proofs.Math.ListN.{length-map}
 use Rattle.gp_base.specs.Faults.{IsInRange}
@@ -7,19 +7,21 @@ use Rattle.gp_base.specs.declared.journal.Event.{Event}
 use Rattle.gp_base.specs.declared.journal.Restart.{Restart}
 use Rattle.task_ast.specs.declared.layout.Layout.{Layout}
 use Rattle.task_ast.specs.declared.sync.SyncOp.TheVariants as sync
-use Rattle.task_ast.specs.Names.{locks_of, barriers_of, registers_of, cells_in}
+use Rattle.task_ast.specs.Names.{locks_of, records_of, barriers_of, registers_of, cells_in}
 use Rattle.task_ast.specs.Layout.{cells_under}
 use Rattle.task_ast.specs.Reached.{start_table}
 use Rattle.task_ast.specs.Table.{Table, numbers}
 use Rattle.task_ast.specs.Plain.{opening, main_task, main_number, start_point}
-use Rattle.task_ast.proofs.Layouts.{length-numbers}
+use Rattle.task_ast.proofs.Layouts.{length-numbers, accepted_sizes}
 use Rattle.lock_checker.proofs.BaseLemmas.{accepted_small}
 use Rattle.dependence.specs.Journal.{initial_stage}
 use Rattle.dependence.specs.RunBuffer.{RunStands, initial_buffer}
 use Rattle.dependence.proofs.RunBuffers.{after-events}
 use Rattle.task_code.specs.Reading.{start_place}
 use Rattle.task_code.proofs.Machines.{follows}
+use Rattle.record_store.specs.Lent.{IsSharedOut}
 use Rattle.record_store.specs.Stored.{Stored, with_thread, without_threads}
+use Rattle.record_store.proofs.SharedOut.{shared_law}
 use Rattle.record_store.proofs.States.{opening_law}
 use Rattle.reorder_list.specs.declared.entry.Entry.{Entry}
 use Rattle.reorder_list.specs.Stages.{buffer_of}
@@ -27,6 +29,7 @@ use Rattle.subthread.specs.Tasks.{Suits}
 use Rattle.engine.specs.declared.parts.Place.{Place}
 use Rattle.engine.specs.View.{Batch, program_in, run_in, under_in, start_in}
 use Rattle.engine.specs.inner.Kept.{IsPlaceIn, IsFit, Keeps}
+use Rattle.engine.specs.inner.Locks.{LocksStand}
 use Rattle.engine.proofs.Options.{none_some}
 use Rattle.engine.proofs.RingOpens.{ring_opens}
 use Rattle.engine.proofs.Windows.{apart, names-held, start-cells}
@@ -48,6 +51,14 @@ module _ (batch : Batch) (cells : Layout) (suits : Suits batch.work cells batch.
 
   pub few_locks : length cells.under ≤ 65536
   few_locks = let few = (accepted_small (program_in batch) suits.code.accepted.faultless).0 in let same = locks in omega arith
+
+  -- the record cells stand under the lock cells, each under one
+  pub shared-out : (records : List ℤ) → records ≡ batch.inputs.records → IsSharedOut (length records) cells.under
+  shared-out records same =
+      let count = ap length same ∙ suits.inputs_are.records in
+      subst (λ n. IsSharedOut n cells.under) (sym count)
+      (subst (λ (l : Layout). IsSharedOut (cells_in (records_of (program_in batch).heads)) l.under) (sym suits.layout_is)
+      (shared_law (program_in batch).heads (accepted_sizes (program_in batch) suits.code.accepted)))
 
   -- the ring begins as the plain run's table
   pub ring_begins : (table : Table) (n : ℕ) (barriers : List ℕ) → n ≡ length cells.under → barriers ≡ map (λ b. b.1) (barriers_of (program_in batch).heads)
@@ -78,6 +89,15 @@ module _ (batch : Batch) (cells : Layout) (suits : Suits batch.work cells batch.
       opened : Stored
       opened = with_thread (length (registers_of (main_task (program_in batch)))) (without_threads batch.inputs.records cells.under)
 
+      -- each lock is at home, and no entry is out
+      none-lent : LocksStand opened.away []
+      none-lent l = (λ is. absurd (no_true cells.under l is), λ lent. absurd (none_some lent.there))
+        where
+          no_true : (under : List (List ℕ)) (k : ℕ) → slice_get (map (λ _. false) under) k ≡ Some true → ⊥
+          no_true [] k is = cc is
+          no_true (x ∷ under) zero is = cc is
+          no_true (x ∷ under) (suc k) is = no_true under k is
+
       opens : initial_buffer (start_in batch) ≡ buffer_of opened []
       opens = λ i. record (initial_buffer (start_in batch)) { state = sym (opening_law (program_in batch) batch.inputs batch.limits cells.under) i }
 
@@ -94,6 +114,12 @@ module _ (batch : Batch) (cells : Layout) (suits : Suits batch.work cells batch.
                   (start-cells batch (fit ranges few)) (fit ranges few).short [] tt).1;
               placed = λ k d l. absurd (omega arith);
               undoable = λ k d l. absurd (omega arith);
-              home = record { threads = omega arith; cells = suits.inputs_are.records; under = ap (λ (l : Layout). l.under) suits.layout_is };
+              locks = none-lent;
+              home = record {
+                threads = omega arith;
+                cells = suits.inputs_are.records;
+                under = ap (λ (l : Layout). l.under) suits.layout_is;
+                locks = length-map cells.under (λ _. false) ∙ locks;
+              };
             };
           }

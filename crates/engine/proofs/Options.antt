@@ -1,5 +1,6 @@
 -- Values that are there, and values that are not.
-use Rattle.std.proofs.Common.{◌≡◌, Some, None, unwrap_or, ap}
+use Rattle.std.proofs.Common.{◌≡◌, Option, Some, None, unwrap_or, ap, sym, subst, refl}
+use Rattle.std.specs.Option.{IsSome}
 
 pub some_none : {A : Type 0} {x : A} → Some x ≡ None → ⊥
 some_none e = cc e
@@ -9,3 +10,6 @@ none_some e = cc e
 
 pub some_same : {A : Type 0} {a b : A} → Some a ≡ Some b → a ≡ b
 some_same {a = a} e = ap (λ o. unwrap_or o a) e
+
+pub some_is : {A : Type 0} {o : Option A} {x : A} → o ≡ Some x → IsSome o
+some_is e = subst IsSome (sym e) refl

@@ -1,9 +1,10 @@
 -- What a whole run leaves, from what its rounds leave.
-use Rattle.std.proofs.Common.{◌≡◌, ℕ, ◌-◌, List, length, take, map, Option, sym, ap, subst, ◌∙◌, arith}
+use Rattle.std.proofs.Common.{◌≡◌, ℕ, ◌-◌, ◌<◌, List, length, take, map, Option, sym, ap, subst, ◌∙◌, arith}
 use Rattle.std.specs.List.{flat_map}
 use Rattle.std.specs.Io.KnownBytes.{Appends}
 use Rattle.std.proofs.Math.Seq.{take-length}
 use Rattle.std.proofs.KnownBytes.{Appends-nil}
+use Rattle.std.proofs.lemmas.Option.{slice_get_within}
 use Rattle.gp_base.specs.declared.ending.End.{End}
 use Rattle.gp_base.specs.declared.journal.Journal.{Journal}
 use Rattle.task_ast.specs.Names.{records_of, cells_in}
@@ -20,11 +21,12 @@ use Rattle.crew.specs.Standing.{untaken}
 use Rattle.reorder_list.specs.declared.report.Report.{Report}
 use Rattle.restart_log.specs.Lines.{printed}
 use Rattle.engine.specs.View.{View, program_in, run_in, dependence_in, end_in, under_in, now, state_in, begun, Stands}
-use Rattle.engine.specs.Gives.{IsJournalOf, IsReportOf}
+use Rattle.engine.specs.Gives.{NoneLent, IsJournalOf, IsReportOf}
 use Rattle.engine.specs.Takes.{CrewStands}
 use Rattle.engine.specs.Drive.{JournalStands, ReportsRun, all_lines, WritesRetired, ArePosts, IsUntaken}
 use Rattle.engine.specs.inner.Rounds.{Wrote, WrotePart}
 use Rattle.dependence.proofs.Standing.{run-clean}
+use Rattle.engine.proofs.Events.{stage-stands}
 use Rattle.engine.proofs.Tasks.{locks-apart, names-held, both-stand}
 use Rattle.engine.proofs.Crews.{posts-are, takes-are}
 
@@ -45,6 +47,13 @@ last-is view stands complete =
     sym (both-stand view stands).1.state_is
     ∙ final-state (program_in view.batch) view.batch.inputs view.batch.limits view.batch.faults stands.short (under_in view.batch) view.events
     (locks-apart view stands) (names-held view stands) complete
+
+-- where all have retired nothing is out, so each lock is at home
+pub complete-home : (view : View) → Stands view → Complete (dependence_in view.batch) view.batch.faults view.events → NoneLent view
+complete-home view stands complete p s there posted out =
+    let stood = stage-stands view stands in
+    let below : p < (now view).retired = subst (λ n. p < n) (sym complete.retired) (slice_get_within (run_in view.batch) p s there) in
+    absurd (out (stood.applied_taken p (stood.retired_applied p below) posted))
 
 -- the report of a complete run
 pub run-reported : (view : View) (ending : End) (report : Report) → Stands view → Complete (dependence_in view.batch) view.batch.faults view.events

@@ -1,8 +1,9 @@
 -- All is kept where an attempt was posted, and its task stands.
 use Rattle.std.proofs.Common.{◌≡◌, ℕ, nat_eq, Bool, true, false, cond, List, [], ◌∷◌, ◌++◌, Some, refl, sym, ap, ◌∙◌, subst, arith}
-use Rattle.std.specs.Prelude.{All, Contains, pos, negsuc}
+use Rattle.std.specs.Prelude.{All, Contains, get_or, pos, negsuc}
+use Rattle.std.specs.List.Sorted.{IsStrictlyIncreasing}
 use Rattle.std.specs.Option.{IsSomeAnd}
-use Rattle.std.proofs.lemmas.List.Elements.{All-head, All-tail, Contains-push}
+use Rattle.std.proofs.lemmas.List.Elements.{All-head, All-tail, Contains-push, Contains-get_or}
 use Rattle.gp_base.specs.declared.journal.Event.{Event}
 use Rattle.gp_base.specs.declared.journal.Event.TheVariants as event
 use Rattle.task_ast.specs.declared.sync.SyncOp.{SyncOp}
@@ -19,7 +20,8 @@ use Rattle.dependence.specs.Journal.{Stage, Allowed, happens}
 use Rattle.dependence.specs.Standing.{present, StageStands}
 use Rattle.dependence.specs.RunBuffer.{members_at}
 use Rattle.record_store.specs.Given.{given_of, joined_by}
-use Rattle.record_store.specs.Stored.{state_of}
+use Rattle.record_store.specs.Lent.{marked}
+use Rattle.record_store.specs.Stored.{Stored, state_of, IsAtHome}
 use Rattle.reorder_list.specs.declared.entry.Entry.{Entry}
 use Rattle.reorder_list.specs.Entries.{entry_at, with_change_at, out_entry}
 use Rattle.reorder_list.specs.Runnable.{IsRunnable}
@@ -37,8 +39,10 @@ use Rattle.engine.specs.View.{Batch, program_in, run_in, dependence_in, start_in
 use Rattle.engine.specs.Gives.{MayPostNow}
 use Rattle.engine.specs.Takes.{TaskStands}
 use Rattle.engine.specs.inner.Kept.{view_of, stage_of, IsPlaceIn, IsPlaced, Keeps, Kept}
-use Rattle.engine.specs.inner.Posted.{task_in}
+use Rattle.engine.specs.inner.Locks.{HasLocks}
+use Rattle.engine.specs.inner.Posted.{bare_in, lent_by, task_in}
 use Rattle.engine.proofs.Kepts.{stage_then, stage_stands, keeps_then}
+use Rattle.engine.proofs.Locks.{held-exist, held-rises, home-there}
 use Rattle.engine.proofs.RingTakes.{ring_same}
 use Rattle.engine.proofs.Windows.{threads-below, window-post}
 
@@ -98,6 +102,19 @@ module _ (batch : Batch) (parts : Parts) (kept : Kept batch parts) (p : ℕ) (ma
       subst (λ o. IsSomeAnd o (λ (x : Entry). IsNumbered x.begins.sync)) (sym runnable.is_there)
       (subst (λ next. IsNumbered next.sync) (sym is.is_of.begins) (numbered-sync s.begins.sync refl))
 
+  -- its locks exist, are at home, and rise
+  exist : HasLocks parts.store.away e
+  exist l holds =
+      let below = held-exist batch kept.fit p s is.is_there l (subst (λ held. Contains held l) is.is_of.held holds) in
+      let all = kept.window.home.locks in omega arith
+
+  home : All (IsAtHome parts.store) e.held
+  home k d less =
+      home-there (run_in batch) at parts.rol.entries kept.window.entries_are batch.faults stage parts.store.away kept.window.locks p runnable exist (get_or e.held k d) (Contains-get_or e.held k d less)
+
+  rising : IsStrictlyIncreasing e.held
+  rising = subst IsStrictlyIncreasing (sym is.is_of.held) (held-rises batch p s is.is_there)
+
   abbrev task : Task
   task = task_in batch.faults parts.store p e
 
@@ -140,19 +157,32 @@ module _ (batch : Batch) (parts : Parts) (kept : Kept batch parts) (p : ℕ) (ma
             ∙ ap (λ (x : Stage). fold (members_at (run_in batch) batch.faults x) (start_in batch) x.applied x.progress.front) (sym then)) is-given;
       }
 
-  kept-posted : Keeps batch parts.ring.table parts.places.items (with_change_at p out_entry parts.rol.entries) parts.store (parts.events.items ++ post ∷ []) parts.restarts.items parts.issued parts.ended
+  -- the store without the cells of the locks
+  abbrev lender : Stored
+  lender = record parts.store { away = marked e.held true parts.store.away }
+
+  kept-posted : Keeps batch parts.ring.table parts.places.items (with_change_at p out_entry parts.rol.entries) lender (parts.events.items ++ post ∷ []) parts.restarts.items parts.issued parts.ended
   kept-posted =
-      keeps_then batch parts.events.items kept.fit kept.journal post allowed parts.ring.table parts.places.items (with_change_at p out_entry parts.rol.entries) parts.store parts.restarts.items parts.issued
+      keeps_then batch parts.events.items kept.fit kept.journal post allowed parts.ring.table parts.places.items (with_change_at p out_entry parts.rol.entries) lender parts.restarts.items parts.issued
       parts.ended (ring_same batch (IsPlaceIn batch) at (happens (dependence_in batch) batch.faults at post) parts.ring.table parts.places.items refl refl kept.ring)
-      (window-post batch kept.fit at stage parts.ring.table parts.store parts.rol.entries kept.window p (present at p) allowed) kept.journal.restarts_are kept.journal.issued_are kept.journal.ended_is
+      (window-post batch kept.fit at stage parts.ring.table parts.store parts.rol.entries kept.window p (present at p) allowed e runnable.is_there runnable.waits exist) kept.journal.restarts_are kept.journal.issued_are kept.journal.ended_is
 
   -- the same of the task that was found, and of the events that were made
-  module _ (found : Task) (some : IsSomeAnd (entry_at parts.rol.entries p) (λ x. found ≡ task_in batch.faults parts.store p x)) where
-    same : found ≡ task
-    same = subst (λ o. IsSomeAnd o (λ (x : Entry). found ≡ task_in batch.faults parts.store p x)) runnable.is_there some
+  module _ (found : Task) (some : IsSomeAnd (entry_at parts.rol.entries p) (λ x. found ≡ bare_in batch.faults parts.store p x)) where
+    same : found ≡ bare_in batch.faults parts.store p e
+    same = subst (λ o. IsSomeAnd o (λ (x : Entry). found ≡ bare_in batch.faults parts.store p x)) runnable.is_there some
 
-    pub fits : Fits batch.work found
-    fits = subst (Fits batch.work) (sym same) fits-it
+    same-task : lent_by parts.store found ≡ task
+    same-task = ap (lent_by parts.store) same
+
+    pub found-home : All (IsAtHome parts.store) found.held
+    found-home = subst (λ (t : Task). All (IsAtHome parts.store) t.held) (sym same) home
+
+    pub found-rising : IsStrictlyIncreasing found.held
+    found-rising = subst (λ (t : Task). IsStrictlyIncreasing t.held) (sym same) rising
+
+    pub fits : Fits batch.work (lent_by parts.store found)
+    fits = subst (Fits batch.work) (sym same-task) fits-it
 
     pub pair : pair_of found ≡ (p, present at p)
     pair = ap pair_of same ∙ ap (λ a. (p, a)) is.attempt
@@ -164,9 +194,12 @@ module _ (batch : Batch) (parts : Parts) (kept : Kept batch parts) (p : ℕ) (ma
       pub view-made : record { batch = batch; events = events; ended = parts.ended } ≡ grown (view_of batch parts) post
       view-made = λ i. record { batch = batch; events = made i; ended = parts.ended }
 
-      pub stands : TaskStands (record { batch = batch; events = events; ended = parts.ended }) found
-      stands = rw (view-made, same) task-stands
+      pub stands : TaskStands (record { batch = batch; events = events; ended = parts.ended }) (lent_by parts.store found)
+      stands = rw (view-made, same-task) task-stands
 
-      pub kept-then : (entries : List Entry) → entries ≡ with_change_at p out_entry parts.rol.entries
-          → Keeps batch parts.ring.table parts.places.items entries parts.store events parts.restarts.items parts.issued parts.ended
-      kept-then entries entries_are = rw (entries_are, made) kept-posted
+      pub kept-then : (entries : List Entry) (store : Stored) → entries ≡ with_change_at p out_entry parts.rol.entries
+          → store ≡ record parts.store { away = marked found.held true parts.store.away }
+          → Keeps batch parts.ring.table parts.places.items entries store events parts.restarts.items parts.issued parts.ended
+      kept-then entries store entries_are store_is =
+          let lent : store ≡ lender = store_is ∙ ap (λ (t : Task). record parts.store { away = marked t.held true parts.store.away }) same in
+          rw (entries_are, lent, made) kept-posted

@@ -155,6 +155,10 @@ module _ (batch : Batch) (parts : Parts) (kept : Kept batch parts) where
       window : WindowStands batch at parts.ring.table (e ∷ others) parts.store
       window = subst (λ entries. WindowStands batch at parts.ring.table entries parts.store) entries_are kept.window
 
+      oldest_applied : e.state ≡ entry.Applied
+      oldest_applied =
+          (oldest-is batch at (e ∷ others) e window.entries_are refl).0.applied.1 (may-now true_is).applied
+
       pub made : (before events : List Event) → before ≡ parts.events.items → events ≡ before ++ event.Retire e.pos ∷ [] → events ≡ parts.events.items ++ event.Retire at.retired ∷ []
       made before events before_are events_are = events_are ∙ (λ i. before_are i ++ event.Retire (position i) ∷ [])
 
@@ -164,4 +168,4 @@ module _ (batch : Batch) (parts : Parts) (kept : Kept batch parts) where
           rw events_are
           (keeps_then batch parts.events.items kept.fit kept.journal (event.Retire at.retired) allowed parts.ring.table parts.places.items others parts.store parts.restarts.items parts.issued parts.ended
           (ring_same batch (IsPlaceIn batch) at (happens (dependence_in batch) batch.faults at (event.Retire at.retired)) parts.ring.table parts.places.items refl refl kept.ring)
-          (window-retire batch kept.fit at stage parts.ring.table parts.store e others window) kept.journal.restarts_are kept.journal.issued_are kept.journal.ended_is)
+          (window-retire batch kept.fit at stage parts.ring.table parts.store e others window oldest_applied) kept.journal.restarts_are kept.journal.issued_are kept.journal.ended_is)

@@ -1,6 +1,6 @@
 -- All is kept where the run of a task was taken.
 use Rattle.std.proofs.Common.{◌≡◌, inl, inr, ℕ, nat_eq, Bool, true, false, cond, ◌<◌, ◌≤◌, List, [], ◌∷◌, ◌++◌, length, Option, Some, None, refl, sym, ap, ◌∙◌, subst, arith, slice_get, slice_set}
-use Rattle.std.specs.Prelude.{Contains}
+use Rattle.std.specs.Prelude.{Contains, All, map}
 use Rattle.std.specs.Option.{IsSomeAnd}
 use Rattle.std.proofs.lemmas.Bool.{eqb-true, eq-eqb, false≢true, false_from_ne_true, cases_lt}
 use Rattle.gp_base.specs.declared.journal.Event.{Event}
@@ -17,16 +17,22 @@ use Rattle.dependence.specs.Standing.{present, StageStands}
 use Rattle.dependence.specs.Touching.{done_by}
 use Rattle.dependence.specs.RunBuffer.{members_at}
 use Rattle.token_order.specs.View.{awaited}
-use Rattle.record_store.specs.Given.{given_of, joined_by}
-use Rattle.record_store.specs.Stored.{Stored, state_of, Fits}
+use Rattle.task_ast.specs.Under.{is_under}
+use Rattle.record_store.specs.declared.given.Bundle.{Bundle}
+use Rattle.record_store.specs.declared.given.Given.{Given}
+use Rattle.record_store.specs.Given.{bundle_of}
+use Rattle.record_store.specs.Lent.{marked, lock_in, put_back, whole_effect, MayComeHome}
+use Rattle.record_store.specs.Stored.{Stored, state_of, Fits, IsAway}
 use Rattle.reorder_list.specs.declared.entry.Entry.{Entry}
 use Rattle.reorder_list.specs.declared.entry.State.{State}
 use Rattle.reorder_list.specs.declared.entry.State.TheVariants as entry
 use Rattle.reorder_list.specs.Entries.{entry_at}
+use Rattle.reorder_list.specs.Stages.{IsEntry}
 use Rattle.reorder_list.proofs.Changes.{is-there}
 use Rattle.subthread.specs.declared.task.Done.{Done}
 use Rattle.subthread.specs.Tasks.{task_of, effect_of, IsRun}
-use Rattle.subthread.specs.Joining.{Runs}
+use Rattle.subthread.specs.Joining.{Runs, IsGiven}
+use Rattle.subthread.proofs.HeldLocks.{bundle_locks}
 use Rattle.subthread.proofs.Joined.{runs_law}
 use Rattle.task_ast.specs.Layout.{layout}
 use Rattle.engine.specs.declared.parts.Parts.{Parts}
@@ -37,6 +43,9 @@ use Rattle.engine.specs.inner.RingStands.{RingStands}
 use Rattle.engine.specs.inner.Kept.{view_of, stage_of, IsPlaceIn, IsHome, WindowStands, Keeps, Kept}
 use Rattle.engine.specs.inner.Taken.{is_number, awaits, learning_from, placing_from, has_attempt, IsAppliedWhere}
 use Rattle.engine.proofs.Kepts.{stage_stands, keeps_then}
+use Rattle.engine.proofs.Lendings.{all-locks, locks-back, as-lent}
+use Rattle.engine.proofs.Locks.{away-there}
+use Rattle.engine.proofs.Marks.{length-marked}
 use Rattle.engine.proofs.RingTakes.{ring_stale, ring_learnt}
 use Rattle.engine.proofs.Windows.{window-stale, window-take, effect-fits, effect-fresh}
 
@@ -49,23 +58,23 @@ number-not p None e same = absurd (cc same)
 number-not p (Some q) e same = absurd (let is : q ≡ p = cc same in let yes = eq-eqb q p is in cc (e, yes))
 
 -- an attempt that was posted and is not applied is out
-state-out : (state : State) → (state ≡ entry.Waiting → ⊥) → (state ≡ entry.Applied → ⊥) → state ≡ entry.Out
+pub state-out : (state : State) → (state ≡ entry.Waiting → ⊥) → (state ≡ entry.Applied → ⊥) → state ≡ entry.Out
 state-out entry.Waiting waits applied = absurd (waits refl)
 state-out entry.Out waits applied = refl
 state-out entry.Applied waits applied = absurd (applied refl)
 
-module _ (batch : Batch) (parts : Parts) (kept : Kept batch parts) (done : Done) (task : TaskStands (view_of batch parts) (task_of done)) (run : IsRun batch.work done) where
+module _ (batch : Batch) (parts : Parts) (kept : Kept batch parts) (done : Done) (task : TaskStands (view_of batch parts) (task_of batch.work done)) (run : IsRun batch.work done) where
   abbrev at : Stage
   at = stage_of batch parts.events.items
 
   abbrev p : ℕ
-  p = (task_of done).pos
+  p = done.task.pos
 
   abbrev attempt : ℕ
-  attempt = (task_of done).attempt
+  attempt = done.task.attempt
 
   abbrev t : ℕ
-  t = (task_of done).thread
+  t = done.task.thread
 
   abbrev s : Subthread
   s = task.is_task.subthread
@@ -114,17 +123,91 @@ module _ (batch : Batch) (parts : Parts) (kept : Kept batch parts) (done : Done)
   pub allowed : Allowed (dependence_in batch) batch.faults at (event.Take p attempt fresh)
   allowed = record { posted = task.posted; untaken = task.untaken; decided = fresh-is }
 
-  pub fits : Fits parts.store (effect_of done)
-  fits = effect-fits batch kept.fit at stage parts.ring.table parts.store parts.rol.entries kept.window p s done there below task.is_task.is_of runs kept.ring.stands
+  fits-it : Fits parts.store (effect_of batch.work done)
+  fits-it = effect-fits batch kept.fit at stage parts.ring.table parts.store parts.rol.entries kept.window p s done there below task.is_task.is_of runs kept.ring.stands
 
-  pub out : fresh ≡ true → IsSomeAnd (entry_at parts.rol.entries p) (λ e. e.state ≡ entry.Out)
-  out e =
-      let same = is-present e in
-      let posted = subst (λ a. Contains at.posted (p, a)) same task.posted in
-      let f = found same in
-      let is = kept.window.entries_are.each p f.0 f.1 in
-      subst (λ o. IsSomeAnd o (λ (x : Entry). x.state ≡ entry.Out)) (sym f.1)
-      (state-out f.0.state (λ w. is.waits.0 w posted) (λ a. task.untaken (subst (λ b. Contains at.taken (p, b)) (sym same) (stage.applied_taken p (is.applied.0 a) posted))))
+  -- the bundles have the locks of the task, which are those of its entry
+  abbrev locks : List ℕ
+  locks = map lock_in done.task.given.bundles
+
+  -- the store's layout is the batch's
+  abbrev under : List (List ℕ)
+  under = under_in batch
+
+  under-is : parts.store.under ≡ under
+  under-is = kept.window.home.under
+
+  -- the effect fits the store
+  pub fits : Fits parts.store (whole_effect parts.store.under done.task.given.bundles done.old done.effect)
+  fits = subst (λ u. Fits parts.store (whole_effect u done.task.given.bundles done.old done.effect)) (sym under-is) fits-it
+
+  -- what stands where the attempt is the present one
+  module _ (is_fresh : fresh ≡ true) where
+    now_present : attempt ≡ present at p
+    now_present = is-present is_fresh
+
+    abbrev here : Entry
+    here = (found (is-present is_fresh)).0
+
+    here-is : entry_at parts.rol.entries p ≡ Some here
+    here-is = (found (is-present is_fresh)).1
+
+    stands : IsEntry (run_in batch) at p here
+    stands = kept.window.entries_are.each p here here-is
+
+    is-out : here.state ≡ entry.Out
+    is-out =
+        let posted = subst (λ a. Contains at.posted (p, a)) now_present task.posted in
+        state-out here.state (λ w. stands.waits.0 w posted)
+        (λ a. task.untaken (subst (λ b. Contains at.taken (p, b)) (sym now_present) (stage.applied_taken p (stands.applied.0 a) posted)))
+
+    pub out : IsSomeAnd (entry_at parts.rol.entries p) (λ e. e.state ≡ entry.Out)
+    out = subst (λ o. IsSomeAnd o (λ (x : Entry). x.state ≡ entry.Out)) (sym here-is) is-out
+
+    -- the task was given what the store gives
+    given : IsGiven batch.work batch.inputs batch.limits (task_of batch.work done) (state_of parts.store)
+    given = subst (IsGiven batch.work batch.inputs batch.limits (task_of batch.work done)) (sym kept.window.buffer_is.state_is) (task.given now_present)
+
+    -- with the old values put back the bundles are as they were lent
+    came : put_back under done.old done.task.given.bundles ≡ map (bundle_of under (state_of parts.store)) done.task.held
+    came = ap (λ (g : Given). g.bundles) given
+
+    -- they have the locks of the entry
+    locks-held : locks ≡ here.held
+    locks-held =
+        sym (locks-back under done.old done.task.given.bundles) ∙ (ap (map lock_in) came
+        ∙ (bundle_locks under (state_of parts.store) done.task.held ∙ (task.is_task.is_of.held ∙ sym entry-held)))
+      where
+        same : stands.subthread ≡ s
+        same = let both = sym stands.is_there ∙ task.is_task.is_of.position in cc both
+
+        entry-held : here.held ≡ s.held
+        entry-held = stands.is_of.held ∙ ap (λ (x : Subthread). x.held) same
+
+    came-away : All (λ b. IsAway parts.store (lock_in b)) done.task.given.bundles
+    came-away =
+        all-locks (IsAway parts.store) done.task.given.bundles
+        (λ l among. away-there (run_in batch) at parts.rol.entries kept.window.entries_are batch.faults stage parts.store.away kept.window.locks p here here-is is-out l
+        (subst (λ ls. Contains ls l) locks-held among))
+
+    came-as-lent : put_back under done.old done.task.given.bundles
+        ≡ map (λ (b : Bundle). bundle_of under (state_of parts.store) b.lock) (put_back under done.old done.task.given.bundles)
+    came-as-lent =
+        subst (λ bundles. bundles ≡ map (λ (b : Bundle). bundle_of under (state_of parts.store) b.lock) bundles) (sym came) (as-lent under (state_of parts.store) done.task.held)
+
+    came-within : All (λ w. is_under under locks w.0 ≡ true) done.old
+    came-within = subst (λ ls. All (λ w. is_under under ls w.0 ≡ true) done.old) (locks-back under done.old done.task.given.bundles) run.within
+
+    -- so they may come home
+    pub comes : MayComeHome parts.store done.task.given.bundles done.old
+    comes =
+        record {
+          away = came-away;
+          as_lent = subst (λ u. put_back u done.old done.task.given.bundles
+              ≡ map (λ (b : Bundle). bundle_of u (state_of parts.store) b.lock) (put_back u done.old done.task.given.bundles)) (sym under-is) came-as-lent;
+          rising = run.rising;
+          within = subst (λ u. All (λ w. is_under u locks w.0 ≡ true) done.old) (sym under-is) came-within;
+        }
 
   module _ (next : Next) (place : Place) (next_is : done.next ≡ next) (at_is : done.at ≡ place.at) (ctl_is : done.ctl ≡ place.ctl) where
     ring-then : (applies : Bool)
@@ -162,7 +245,7 @@ module _ (batch : Batch) (parts : Parts) (kept : Kept batch parts) (done : Done)
         go false = refl
 
     window-then : (store : Stored) (entries : List Entry) (applies : Bool) → Allowed (dependence_in batch) batch.faults at (event.Take p attempt applies)
-        → (applies ≡ true → fresh ≡ true) → IsAppliedWhere applies p (effect_of done) parts.store store parts.rol.entries entries
+        → (applies ≡ true → fresh ≡ true) → IsAppliedWhere applies p locks (effect_of batch.work done) parts.store store parts.rol.entries entries
         → WindowStands batch (happens (dependence_in batch) batch.faults at (event.Take p attempt applies)) (learning_from p t next parts.ring.table) entries store
     window-then store entries false may is applied =
         subst (λ later. WindowStands batch (happens (dependence_in batch) batch.faults at (event.Take p attempt false)) (learning_from p t next parts.ring.table) entries later) (sym applied.0)
@@ -170,21 +253,20 @@ module _ (batch : Batch) (parts : Parts) (kept : Kept batch parts) (done : Done)
         (window-stale batch kept.fit at stage parts.ring.table parts.store parts.rol.entries kept.window p attempt may (learning_from p t next parts.ring.table) home))
       where
         home : IsHome batch (learning_from p t next parts.ring.table) parts.store
-        home = record { threads = (let many = kept.window.home.threads in let same = seats-then in omega arith); cells = kept.window.home.cells; under = kept.window.home.under }
+        home = record { threads = (let many = kept.window.home.threads in let same = seats-then in omega arith); cells = kept.window.home.cells; under = kept.window.home.under; locks = kept.window.home.locks }
     window-then store entries true may is applied =
         subst (λ others. WindowStands batch (happens (dependence_in batch) batch.faults at (event.Take p attempt true)) (learning_from p t next parts.ring.table) others store) (sym applied.entries_are)
-        (window-take batch kept.fit at stage parts.ring.table parts.store parts.rol.entries kept.window p attempt may (found present_is).0 (found present_is).1 (effect_of done) effect_is
-        (learning_from p t next parts.ring.table) store home applied.state applied.shape applied.back)
+        (window-take batch kept.fit at stage parts.ring.table parts.store parts.rol.entries kept.window p attempt may (here (is refl)) (here-is (is refl)) (is-out (is refl)) (effect_of batch.work done) effect_is
+        (learning_from p t next parts.ring.table) store home applied.state applied.shape (applied.away ∙ ap (λ ls. marked ls false parts.store.away) (locks-held (is refl))) applied.back)
       where
         present_is : attempt ≡ present at p
         present_is = is-present (is refl)
 
-        effect_is : effect_of done ≡ done_by (members_at (run_in batch) batch.faults at p) (state_of parts.store)
+        effect_is : effect_of batch.work done ≡ done_by (members_at (run_in batch) batch.faults at p) (state_of parts.store)
         effect_is =
             effect-fresh batch kept.fit at stage parts.ring.table parts.store parts.rol.entries kept.window p s done there below task.is_task.is_of runs kept.ring.stands
             (task.is_task.mask ∙ ap (mask_of batch.faults p) present_is)
-            (subst (λ state. (task_of done).given ≡ given_of (under_in batch) state (task_of done).thread (joined_by (task_of done).begins.sync) (task_of done).held)
-            (sym kept.window.buffer_is.state_is) (task.given present_is))
+            (given (is refl))
 
         home : IsHome batch (learning_from p t next parts.ring.table) store
         home =
@@ -192,16 +274,19 @@ module _ (batch : Batch) (parts : Parts) (kept : Kept batch parts) (done : Done)
               threads = (let many = kept.window.home.threads in let same = seats-then in let shape = applied.shape.threads in omega arith);
               cells = applied.shape.cells ∙ kept.window.home.cells;
               under = applied.shape.under ∙ kept.window.home.under;
+              locks = ap length applied.away ∙ (length-marked locks false parts.store.away ∙ kept.window.home.locks);
             }
 
     -- all is kept
     pub kept-taken : (answer : Bool) → answer ≡ fresh → (table : Table) (places : List Place) (entries : List Entry) (store : Stored) (events : List Event)
         → table ≡ learning_from p t next parts.ring.table → places ≡ placing_from p t place parts.ring.table parts.places.items
-        → IsAppliedWhere answer p (effect_of done) parts.store store parts.rol.entries entries → events ≡ parts.events.items ++ event.Take p attempt answer ∷ []
+        → IsAppliedWhere answer p locks (whole_effect parts.store.under done.task.given.bundles done.old done.effect) parts.store store parts.rol.entries entries → events ≡ parts.events.items ++ event.Take p attempt answer ∷ []
         → Keeps batch table places entries store events parts.restarts.items parts.issued parts.ended
     kept-taken answer is table places entries store events table_is places_is applied events_is =
         rw (table_is, places_is, events_is, is)
         (keeps_then batch parts.events.items kept.fit kept.journal (event.Take p attempt fresh) allowed (learning_from p t next parts.ring.table)
         (placing_from p t place parts.ring.table parts.places.items) entries store parts.restarts.items parts.issued parts.ended (ring-then fresh)
-        (window-then store entries fresh allowed (λ e. e) (subst (λ b. IsAppliedWhere b p (effect_of done) parts.store store parts.rol.entries entries) is applied))
+        (window-then store entries fresh allowed (λ e. e)
+        (subst (λ u. IsAppliedWhere fresh p locks (whole_effect u done.task.given.bundles done.old done.effect) parts.store store parts.rol.entries entries) under-is
+        (subst (λ b. IsAppliedWhere b p locks (whole_effect parts.store.under done.task.given.bundles done.old done.effect) parts.store store parts.rol.entries entries) is applied)))
         kept.journal.restarts_are kept.journal.issued_are kept.journal.ended_is)

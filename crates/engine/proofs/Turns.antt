@@ -1,34 +1,73 @@
 -- What each call leaves of the run, and several calls one after another.
-use Rattle.std.proofs.Common.{◌≡◌, inl, inr, ℕ, zero, suc, cond, length, slice_get, Contains, ◌<◌, ◌≤◌, Bool, true, false, List, [], ◌∷◌, ◌++◌, Option, Some, None, refl, sym, ap, subst, ◌∙◌, arith, Result, Ok, Err}
+use Rattle.std.proofs.Common.{◌≡◌, inl, inr, ℕ, zero, suc, cond, length, slice_get, Contains, ◌<◌, ◌≤◌, Bool, true, false, List, [], ◌∷◌, ◌++◌, Option, Some, None, IsSome, is_some, refl, sym, ap, subst, ◌∙◌, arith, Result, Ok, Err}
+use Rattle.std.specs.Option.{option_or}
 use Rattle.std.specs.Result.{OnOk, OnErr}
-use Rattle.std.proofs.lemmas.Bool.{cases_lt}
+use Rattle.std.proofs.lemmas.Bool.{cases_lt, false≢true}
 use Rattle.std.proofs.lemmas.List.Elements.{Contains-push, Contains-append_left}
 use Rattle.gp_base.specs.declared.ending.End.{End}
 use Rattle.gp_base.specs.declared.journal.Event.TheVariants as event
 use Rattle.gp_base.specs.Sinks.{Rose}
 use Rattle.task_ast.specs.Position.{last_below, is_of}
 use Rattle.task_ast.specs.Plain.{Subthread}
-use Rattle.dependence.specs.Restarts.{Dependence, struck_next}
+use Rattle.dependence.specs.Restarts.{Dependence, is_due, is_live, least_struck, struck_next}
 use Rattle.dependence.specs.Journal.{Stage, restarted, MayPost, happens}
 use Rattle.dependence.specs.Standing.{present}
+use Rattle.subthread.specs.declared.task.Task.{Task}
+use Rattle.subthread.specs.declared.task.Work.{Work}
 use Rattle.engine.specs.declared.calls.Issued.{Issued}
 use Rattle.engine.specs.declared.calls.Issued.TheVariants.{One, Needs, Settles, Ended}
 use Rattle.engine.specs.declared.calls.Halt.TheVariants as halt
-use Rattle.engine.specs.View.{View, run_in, dependence_in, now, Stands}
-use Rattle.engine.specs.Gives.{Did, IssueGives, struck_now, DetectGives, MayRetireNow, RetireGives, MayPostNow, IsNextToPost, NoneToPost}
-use Rattle.engine.specs.inner.Rounds.{left, GoesOn, IsQuiet, IsIssued}
-use Rattle.engine.proofs.Events.{now-did, did-onward, did-leaves, same-onward, still-onward, learnt-onward, onward-then}
-use Rattle.engine.proofs.Crews.{crew-alone, crew-same, crew-learnt}
+use Rattle.engine.specs.View.{View, run_in, dependence_in, now, is_known, Stands}
+use Rattle.engine.specs.Gives.{Did, IssueGives, struck_now, NoneLent, DetectGives, MayRetireNow, RetireGives, MayPostNow, IsNextToPost, NoneToPost}
+use Rattle.engine.specs.Takes.{CrewStands}
+use Rattle.engine.specs.inner.Rounds.{left, Onward, Agrees, Leaves, IsQuiet, IsIssued, TakeGives}
+use Rattle.engine.proofs.Events.{now-grown, now-did, did-onward, did-leaves, same-onward, still-onward, learnt-onward, onward-then}
+use Rattle.engine.proofs.Crews.{KeepsCrew, crew-alone, crew-same, crew-learnt}
 
-pub goes-then : (first second third : View) → GoesOn first second → GoesOn second third → GoesOn first third
-goes-then first second third one two =
-    record { onward = onward-then first second third one.onward two.onward; crew = λ posted out crew. two.crew posted out (one.crew posted out crew) }
+-- the run went on, or rests, and nothing was posted or taken
+pub record GoesOn (before after : View) : Type 0 where
+  pub onward : Onward before after
+  pub crew : KeepsCrew before after
 
-pub goes-still : (view : View) → Stands view → GoesOn view view
-goes-still view stands = record { onward = still-onward view stands; crew = λ posted out crew. crew }
-
-pub goes-same : (before after : View) → Stands before → after ≡ before → GoesOn before after
+goes-same : (before after : View) → Stands before → after ≡ before → GoesOn before after
 goes-same before after stands same = record { onward = same-onward before after stands same; crew = crew-same before after same }
+
+-- nothing was done yet
+pub leaves-still : {view : View} {ready : Type 0} {work : Work} {posted : List (ℕ × ℕ)} {out : List Task} → Agrees view ready work posted out → Leaves view view ready work posted
+leaves-still {view = view} agrees =
+    record { onward = still-onward view agrees.stands; is_ready = agrees.is_ready; work_is = agrees.work_is; posted_are = agrees.crew.posted_are }
+
+-- the next part may begin
+pub agrees-then : {before after : View} {ready : Type 0} {work : Work} {posted : List (ℕ × ℕ)} {out : List Task} → Leaves before after ready work posted
+    → CrewStands after posted out → Agrees after ready work posted out
+agrees-then leaves crew = record { stands = leaves.onward.stands; is_ready = leaves.is_ready; work_is = leaves.work_is; crew = crew }
+
+-- several parts of a round, one after another
+pub leaves-then : {first second third : View} {ready later : Type 0} {work after : Work} {posted posts : List (ℕ × ℕ)} → Leaves first second ready work posted
+    → Leaves second third later after posts → Leaves first third later after posts
+leaves-then {first = first} {second = second} {third = third} one two =
+    record { onward = onward-then first second third one.onward two.onward; is_ready = two.is_ready; work_is = two.work_is; posted_are = two.posted_are }
+
+-- one call more
+pub leaves-on : {first before after : View} {ready later : Type 0} {work works : Work} {posted posts : List (ℕ × ℕ)} → Leaves first before ready work posted
+    → Onward before after → later → works ≡ work → posts ≡ (now after).posted → Leaves first after later works posts
+leaves-on {first = first} {before = before} {after = after} leaves onward ready works posts =
+    record {
+      onward = onward-then first before after leaves.onward onward;
+      is_ready = ready;
+      work_is = works ∙ (leaves.work_is ∙ ap (λ batch. batch.work) (sym onward.batch));
+      posted_are = posts;
+    }
+
+-- one that the crew has no part in
+pub leaves-alone : {first before after : View} {ready : Type 0} {work : Work} {posted : List (ℕ × ℕ)} {out : List Task} → Leaves first before ready work posted
+    → CrewStands before posted out → GoesOn before after → Leaves first after ready work posted
+leaves-alone {posted = posted} {out = out} leaves crew goes = leaves-on leaves goes.onward leaves.is_ready refl (goes.crew posted out crew).posted_are
+
+-- one that changed nothing
+pub leaves-same : {first before after : View} {ready : Type 0} {work : Work} {posted : List (ℕ × ℕ)} → Leaves first before ready work posted → after ≡ before
+    → Leaves first after ready work posted
+leaves-same {first = first} {ready = ready} {work = work} {posted = posted} leaves same = subst (λ v. Leaves first v ready work posted) (sym same) leaves
 
 pub retired-same : (before after : View) → after ≡ before → (now after).retired ≡ (now before).retired
 retired-same before after same = ap (λ v. (now v).retired) same
@@ -53,11 +92,26 @@ detected before after true stands gives =
     )
 detected before after false stands gives = (goes-same before after stands gives.0, retired-same before after gives.0)
 
-pub detected-leaves : (before after : View) → Stands before → DetectGives before after true → left after < left before
+detected-leaves : (before after : View) → Stands before → DetectGives before after true → left after < left before
 detected-leaves before after stands gives = did-leaves before after (event.Restart (length (now before).progress.made)) stands gives.0
 
-pub detected-none : (before after : View) → DetectGives before after false → struck_now after ≡ None
-detected-none before after gives = ap struck_now gives.0 ∙ gives.1
+-- where a restart is due, one is made
+pub due-leaves : (before after : View) (b : Bool) → Stands before → IsSome (struck_now before) → DetectGives before after b → left after < left before
+due-leaves before after true stands due gives = detected-leaves before after stands gives
+due-leaves before after false stands due gives = absurd (false≢true (sym (ap is_some gives.1) ∙ due))
+
+-- where a lock is away, a result comes home
+pub lent-leaves : (before after : View) (b : Bool) → ¬ NoneLent before → TakeGives before after b → left after < left before
+lent-leaves before after true lent less = less
+lent-leaves before after false lent idle = absurd (lent (λ p s there posted untaken. absurd (untaken (idle.1 (p, present (now before) p) posted))))
+
+-- a take makes nothing due, and nothing undue
+pub taken-struck : (before after : View) (p attempt : ℕ) (applies : Bool) → Did before (event.Take p attempt applies) after → struck_now after ≡ struck_now before
+taken-struck before after p attempt applies did =
+    subst (λ v. struck_now v ≡ struck_now before) (sym did.grown)
+    (ap
+    (λ (at : Stage). option_or (least_struck (is_due at.progress) before.batch.faults) (cond (is_known before) (least_struck (is_live at.progress) before.batch.faults) None))
+    (now-grown before (event.Take p attempt applies)))
 
 -- a retirement
 pub retired : (before after : View) (b : Bool) → Stands before → RetireGives before after b → GoesOn before after

@@ -33,10 +33,12 @@ use Rattle.dependence.proofs.Keeping.{laid_law}
 use Rattle.dependence.proofs.RunBuffers.{event-stands}
 use Rattle.lock_checker.proofs.LocksHeld.{sound}
 use Rattle.record_store.specs.Given.{given_of, joined_by, found_of}
-use Rattle.record_store.specs.Stored.{Stored, state_of, Fits, SameShape}
+use Rattle.record_store.specs.Lent.{marked}
+use Rattle.record_store.specs.Stored.{Stored, state_of, Fits, SameShape, IsAllHome}
 use Rattle.record_store.specs.Laws.{IsWithin}
 use Rattle.record_store.proofs.Fitting.{within_law, effect_fits_law, wider_law, fitting_law}
 use Rattle.reorder_list.specs.declared.entry.Entry.{Entry}
+use Rattle.reorder_list.specs.declared.entry.State.TheVariants.{Waiting, Out, Applied}
 use Rattle.reorder_list.specs.Entries.{entry_at, with_change, with_change_at, out_entry, applied_entry, raised_entry, histories_of}
 use Rattle.reorder_list.specs.Stages.{IsFirst, HistoriesFit, buffer_of}
 use Rattle.reorder_list.proofs.Changes.{all-changed}
@@ -47,6 +49,9 @@ use Rattle.subthread.specs.Tasks.{task_of, effect_of}
 use Rattle.subthread.specs.Joining.{IsTaskOf, Runs}
 use Rattle.engine.specs.View.{Batch, program_in, run_in, dependence_in, under_in, start_in}
 use Rattle.engine.specs.inner.Kept.{IsPlaced, IsFit, IsHome, WindowStands}
+use Rattle.engine.specs.inner.Locks.{LocksStand, HasLocks}
+use Rattle.engine.proofs.Locks.{locks-sent, locks-home, locks-raised, locks-retired, locks-pushed}
+use Rattle.engine.proofs.Marks.{length-marked}
 
 -- what fits a store goes on to fit
 pub histories-fit : (store later : Stored) (entries : List Entry) → ((e : Effect) → Fits store e → Fits later e) → HistoriesFit store entries → HistoriesFit later entries
@@ -113,7 +118,7 @@ module _ (batch : Batch) (fit : IsFit batch) where
       -- after an issue, where the store may have one thread more
       module _ (p : ℕ) (e : Entry) (names : NamesIssued at) (allowed : Allowed (dependence_in batch) batch.faults at (event.Issue p)) (first : IsFirst (run_in batch) p e)
           (placed : IsPlaced batch e) (next : Table) (later : Stored) (home : IsHome batch next later) (state : state_of later ≡ state_of store)
-          (wider : length store.threads ≤ length later.threads) where
+          (wider : length store.threads ≤ length later.threads) (away : later.away ≡ store.away) where
         pub window-issue : WindowStands batch (after_event (event.Issue p)) next (entries ++ e ∷ []) later
         window-issue =
             record {
@@ -124,21 +129,28 @@ module _ (batch : Batch) (fit : IsFit batch) where
               undoable = All-push (λ (x : Entry). IfSome x.hist (Fits later)) entries e
                   (histories-fit store later entries (λ x. wider_law store later x wider (home.cells ∙ sym window.home.cells)) window.undoable)
                   (subst (λ (o : Option Effect). IfSome o (Fits later)) (sym first.fresh.no_history) tt);
+              locks = subst (λ away. LocksStand away (entries ++ e ∷ [])) (sym away) (locks-pushed entries store.away e window.locks first.fresh);
               home = home;
             }
 
-      -- after a post
-      pub window-post : (p attempt : ℕ) → Allowed (dependence_in batch) batch.faults at (event.Post p attempt)
-          → WindowStands batch (after_event (event.Post p attempt)) table (with_change_at p out_entry entries) store
-      window-post p attempt allowed =
-          record {
-            entries_are = post-stand (run_in batch) at entries window.entries_are batch.faults p attempt allowed;
-            buffer_is = subst (λ b. RunStands (run_in batch) batch.faults (start_in batch) (after_event (event.Post p attempt)) b)
-                (sym (sent-holds store entries p)) (event-buffer (event.Post p attempt) allowed);
-            placed = all-changed (IsPlaced batch) (IsPlaced batch) (λ q. nat_eq q p) out_entry entries (λ e h. h) (λ e h. h) window.placed;
-            undoable = all-changed (λ (x : Entry). IfSome x.hist (Fits store)) (λ (x : Entry). IfSome x.hist (Fits store)) (λ q. nat_eq q p) out_entry entries (λ e h. h) (λ e h. h) window.undoable;
-            home = window.home;
-          }
+      -- after a post, where the locks of the entry go out
+      module _ (p attempt : ℕ) (allowed : Allowed (dependence_in batch) batch.faults at (event.Post p attempt)) (e : Entry) (there : entry_at entries p ≡ Some e) (waits : e.state ≡ Waiting)
+          (exist : HasLocks store.away e) where
+        abbrev lent : Stored
+        lent = record store { away = marked e.held true store.away }
+
+        pub window-post : WindowStands batch (after_event (event.Post p attempt)) table (with_change_at p out_entry entries) (record store { away = marked e.held true store.away })
+        window-post =
+            record {
+              entries_are = post-stand (run_in batch) at entries window.entries_are batch.faults p attempt allowed;
+              buffer_is = subst (λ b. RunStands (run_in batch) batch.faults (start_in batch) (after_event (event.Post p attempt)) b)
+                  (sym (sent-holds store entries p)) (event-buffer (event.Post p attempt) allowed);
+              placed = all-changed (IsPlaced batch) (IsPlaced batch) (λ q. nat_eq q p) out_entry entries (λ x h. h) (λ x h. h) window.placed;
+              undoable = all-changed (λ (x : Entry). IfSome x.hist (Fits lent)) (λ (x : Entry). IfSome x.hist (Fits lent)) (λ q. nat_eq q p) out_entry entries (λ x h. h) (λ x h. h)
+                  (histories-fit store lent entries (λ x. fitting_law store lent x (record { threads = refl; cells = refl; under = refl })) window.undoable);
+              locks = locks-sent entries store.away p e window.locks there waits exist;
+              home = record { threads = window.home.threads; cells = window.home.cells; under = window.home.under; locks = length-marked e.held true store.away ∙ window.home.locks };
+            }
 
       -- after a result of another attempt
       pub window-stale : (p attempt : ℕ) → Allowed (dependence_in batch) batch.faults at (event.Take p attempt false) → (next : Table) → IsHome batch next store
@@ -149,11 +161,12 @@ module _ (batch : Batch) (fit : IsFit batch) where
             buffer_is = event-buffer (event.Take p attempt false) allowed;
             placed = window.placed;
             undoable = window.undoable;
+            locks = window.locks;
             home = home;
           }
 
       -- what a subthread of a position that was issued did fits the store
-      module _ (p : ℕ) (s : Subthread) (done : Done) (there : slice_get (run_in batch) p ≡ Some s) (below : p < at.progress.front) (task : IsTaskOf batch.work batch.inputs batch.limits p s (task_of done))
+      module _ (p : ℕ) (s : Subthread) (done : Done) (there : slice_get (run_in batch) p ≡ Some s) (below : p < at.progress.front) (task : IsTaskOf batch.work batch.inputs batch.limits p s (task_of batch.work done))
           (runs : Runs batch.work batch.inputs batch.limits p s done) (ring : Stands (program_in batch) batch.inputs batch.limits at.progress.front table) where
         within-threads : threads batch (suc p) ≤ length store.threads
         within-threads =
@@ -163,14 +176,14 @@ module _ (batch : Batch) (fit : IsFit batch) where
             let home = window.home.threads in
             omega arith
 
-        pub effect-fits : Fits store (effect_of done)
+        pub effect-fits : Fits store (effect_of batch.work done)
         effect-fits =
             let forked = forked_is (tree_machine (program_in batch) batch.inputs batch.limits) (program_in batch) batch.inputs batch.limits p s there in
             let step = step_is (tree_machine (program_in batch) batch.inputs batch.limits) (program_in batch) batch.inputs batch.limits p s there in
             let grown = with-child s.child (threads batch p) in
             let under = window.home.under in
             subst (Fits store) (sym runs.given)
-            (effect_fits_law store s.held s.thread s.child s.actions (found_of (under_in batch) (task_of done).given) (task_of done).mask
+            (effect_fits_law store s.held s.thread s.child s.actions (found_of (under_in batch) (task_of batch.work done).given) (task_of batch.work done).mask
             (subst (λ u. IsWithin u (length store.cells)) (sym under) (subst (IsWithin (under_in batch)) (sym window.home.cells) (within_law (program_in batch).heads (accepted_sizes (program_in batch) accepted))))
             (subst (λ u. AllName (is_under u s.held) s.actions) (sym under) (names-held p s there))
             (let low = forked.thread in let all = within-threads in let count = step.threads in omega arith)
@@ -179,18 +192,19 @@ module _ (batch : Batch) (fit : IsFit batch) where
             ((omega arith), λ same. (omega arith))))
 
         -- with what it was given of the store, it did what its position does there
-        pub effect-fresh : (task_of done).mask ≡ mask_of batch.faults p (present at p)
-            → (task_of done).given ≡ given_of (under_in batch) (state_of store) (task_of done).thread (joined_by (task_of done).begins.sync) (task_of done).held
-            → effect_of done ≡ done_by (members_at (run_in batch) batch.faults at p) (state_of store)
+        pub effect-fresh : (task_of batch.work done).mask ≡ mask_of batch.faults p (present at p)
+            → (task_of batch.work done).given ≡ given_of (under_in batch) (state_of store) (task_of batch.work done).thread (joined_by (task_of batch.work done).begins.sync) (task_of batch.work done).held
+            → effect_of batch.work done ≡ done_by (members_at (run_in batch) batch.faults at p) (state_of store)
         effect-fresh mask given =
             runs.on (state_of store) given
             ∙ ap (λ v. damaged v (effect s.thread s.begins.sync s.child s.actions (state_of store))) mask
             ∙ ap (λ o. done_by (member_of (mask_of batch.faults p (present at p)) o) (state_of store)) (sym there)
 
       -- after a result of the present attempt
-      module _ (p attempt : ℕ) (allowed : Allowed (dependence_in batch) batch.faults at (event.Take p attempt true)) (e : Entry) (there : entry_at entries p ≡ Some e) (done : Effect)
+      module _ (p attempt : ℕ) (allowed : Allowed (dependence_in batch) batch.faults at (event.Take p attempt true)) (e : Entry) (there : entry_at entries p ≡ Some e) (out : e.state ≡ Out) (done : Effect)
           (fresh : done ≡ done_by (members_at (run_in batch) batch.faults at p) (state_of store)) (next : Table) (later : Stored) (home : IsHome batch next later)
-          (state : state_of later ≡ after done (state_of store)) (shape : SameShape store later) (back : Fits later (old_of done (state_of store))) where
+          (state : state_of later ≡ after done (state_of store)) (shape : SameShape store later) (away : later.away ≡ marked e.held false store.away)
+          (back : Fits later (old_of done (state_of store))) where
         abbrev taken : Entry → Entry
         taken = applied_entry (old_of done (state_of store)) done.prints
 
@@ -205,16 +219,18 @@ module _ (batch : Batch) (fit : IsFit batch) where
               placed = all-changed (IsPlaced batch) (IsPlaced batch) (λ q. nat_eq q p) taken entries (λ x h. h) (λ x h. h) window.placed;
               undoable = all-changed (λ (x : Entry). IfSome x.hist (Fits later)) (λ (x : Entry). IfSome x.hist (Fits later)) (λ q. nat_eq q p) taken entries (λ x h. h) (λ x h. back)
                   (histories-fit store later entries (λ x. fitting_law store later x shape) window.undoable);
+              locks = subst (λ away. LocksStand away (with_change_at p taken entries)) (sym away)
+                  (locks-home (run_in batch) batch.faults at entries store.away p e (old_of done (state_of store)) done.prints stage window.entries_are window.locks there out);
               home = home;
             }
 
-      -- after a restart
+      -- after a restart, which finds each lock at home
       pub window-restart : (number struck : ℕ) → Allowed (dependence_in batch) batch.faults at (event.Restart number) → struck_next (dependence_in batch) batch.faults at.progress ≡ Some struck
-          → (later : Stored) → SameShape store later
+          → IsAllHome store → (later : Stored) → SameShape store later → later.away ≡ store.away
           → state_of later ≡ undone_part (histories_of entries) (λ q. is_member q ((dependence_in batch).redo struck at.progress.front)) at.progress.front (state_of store)
           → WindowStands batch (after_event (event.Restart number)) table
           (with_change (λ q. is_member q ((dependence_in batch).redo struck at.progress.front)) (raised_entry at.progress.front) entries) later
-      window-restart number struck allowed next later shape state =
+      window-restart number struck allowed next all_home later shape away state =
           record {
             entries_are = restart-event (run_in batch) at entries window.entries_are batch.faults struck stage number next;
             buffer_is = subst (λ b. RunStands (run_in batch) batch.faults (start_in batch) (after_event (event.Restart number)) b)
@@ -224,20 +240,28 @@ module _ (batch : Batch) (fit : IsFit batch) where
             placed = all-changed (IsPlaced batch) (IsPlaced batch) part (raised_entry at.progress.front) entries (λ x h. h) (λ x h. h) window.placed;
             undoable = all-changed (λ (x : Entry). IfSome x.hist (Fits later)) (λ (x : Entry). IfSome x.hist (Fits later)) part (raised_entry at.progress.front) entries (λ x h. h) (λ x h. tt)
                 (histories-fit store later entries (λ x. fitting_law store later x shape) window.undoable);
-            home = record { threads = (let many = window.home.threads in let same = shape.threads in omega arith); cells = shape.cells ∙ window.home.cells; under = shape.under ∙ window.home.under };
+            locks = subst (λ away. LocksStand away (with_change part (raised_entry at.progress.front) entries)) (sym away)
+                (locks-raised entries store.away part at.progress.front window.locks all_home);
+            home = record {
+              threads = (let many = window.home.threads in let same = shape.threads in omega arith);
+              cells = shape.cells ∙ window.home.cells;
+              under = shape.under ∙ window.home.under;
+              locks = ap length away ∙ window.home.locks;
+            };
           }
         where
           part : ℕ → Bool
           part q = is_member q ((dependence_in batch).redo struck at.progress.front)
 
     -- after a retirement
-    pub window-retire : (e : Entry) (entries : List Entry) → WindowStands batch at table (e ∷ entries) store
+    pub window-retire : (e : Entry) (entries : List Entry) → WindowStands batch at table (e ∷ entries) store → e.state ≡ Applied
         → WindowStands batch (happens (dependence_in batch) batch.faults at (event.Retire at.retired)) table entries store
-    window-retire e entries window =
+    window-retire e entries window applied =
         record {
           entries_are = retire-stand (run_in batch) batch.faults at e entries window.entries_are;
           buffer_is = dropped-holds (run_in batch) batch.faults (start_in batch) at store e entries window.entries_are window.buffer_is;
           placed = All-tail (IsPlaced batch) e entries window.placed;
           undoable = All-tail (λ (x : Entry). IfSome x.hist (Fits store)) e entries window.undoable;
+          locks = locks-retired (run_in batch) at e entries store.away window.entries_are window.locks applied;
           home = window.home;
         }

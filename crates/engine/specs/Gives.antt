@@ -1,5 +1,5 @@
 -- What the calls of an engine answer.
-use Rattle.std.specs.Prelude.{◌≡◌, ◌≢◌, ◌⊎◌, ℕ, map, ◌-◌, ◌+◌, ◌≤◌, ◌<◌, Bool, true, false, cond, List, length, Option, Some, None, Result, Ok, Err, IsErrOf}
+use Rattle.std.specs.Prelude.{◌≡◌, ◌≢◌, ◌⊎◌, ℕ, map, ◌-◌, ◌+◌, ◌≤◌, ◌<◌, Bool, true, false, cond, List, [], length, Contains, Option, Some, None, Result, Ok, Err, IsErrOf, slice_get}
 use Rattle.std.specs.Option.{option_or}
 use Rattle.std.specs.Io.KnownBytes.{Appends}
 use Rattle.gp_base.specs.declared.limits.TheConstants.{LONGEST_DELAY}
@@ -12,6 +12,7 @@ use Rattle.task_ast.specs.Names.{records_of, cells_in}
 use Rattle.task_ast.specs.State.{cell_value}
 use Rattle.task_ast.specs.declared.sync.Next.{Next}
 use Rattle.task_ast.specs.Repeat.{Done}
+use Rattle.task_ast.specs.Plain.{Subthread}
 use Rattle.task_ast.specs.Table.{Table, numbers, is_settle}
 use Rattle.task_ast.specs.Turn.{Turn, turn}
 use Rattle.task_ast.specs.Turn as turns
@@ -80,6 +81,12 @@ abbrev pub struck_now : View → Option ℕ
 struck_now view =
     option_or (least_struck (is_due (now view).progress) view.batch.faults)
     (cond (is_known view) (least_struck (is_live (now view).progress) view.batch.faults) None)
+
+-- each lock is at home: no present attempt of a position that was posted and not taken holds one
+abbrev pub NoneLent : View → Type 0
+NoneLent view =
+    (p : ℕ) (s : Subthread) → slice_get (run_in view.batch) p ≡ Some s → Contains (now view).posted (p, present (now view) p)
+    → ¬ Contains (now view).taken (p, present (now view) p) → s.held ≡ []
 
 -- a restart was made, or no position is struck
 abbrev pub DetectGives : (before after : View) → Bool → Type 0

@@ -1,5 +1,6 @@
 pub mod Detected
 pub mod Kept
+pub mod Locks
 pub mod Posted
 pub mod Prepared
 pub mod Retiring

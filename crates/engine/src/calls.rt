@@ -1,5 +1,5 @@
 // The calls of an engine that its loop makes.
-ghost use Rattle.std.specs.Prelude.{◌≡◌, ◌↔◌, ◌<◌, ℕ, List, [], ◌∷◌, ◌++◌, OnOk, OnErr, IfOk, IfSome, IfNone};
+ghost use Rattle.std.specs.Prelude.{◌≡◌, ◌↔◌, ◌<◌, ℕ, List, [], ◌∷◌, ◌++◌, OnOk, OnErr, IfOk, IfSome, IfNone, IsSome, IsTrue, is_some};
 ghost use Rattle.std.specs.Thread.{IsSync};
 ghost use Rattle.gp_base.specs.declared.ending.End.{End as EndThere};
 ghost use Rattle.gp_base.specs.declared.journal.Event.TheVariants as event;
@@ -9,7 +9,7 @@ ghost use Rattle.subthread.specs.declared.task.Task.{Task};
 ghost use Rattle.subthread.specs.Tasks.{task_of, IsRun};
 ghost use Rattle.crew.specs.Out.{pair_of};
 ghost use Rattle.engine.specs.View.{View, now};
-ghost use Rattle.engine.specs.Gives.{Did, IssueGives, DetectGives, RetireGives, RetireWrites, HasStopCause, MayPostNow, IsNextToPost, NoneToPost, HasFinished, IsJournalOf, IsReportOf};
+ghost use Rattle.engine.specs.Gives.{Did, IssueGives, struck_now, NoneLent, DetectGives, RetireGives, RetireWrites, HasStopCause, MayPostNow, IsNextToPost, NoneToPost, HasFinished, IsJournalOf, IsReportOf};
 ghost use Rattle.engine.specs.Takes.{TaskStands};
 
 use crew::Crew;
@@ -51,9 +51,18 @@ pub trait Calls {
         ensures gives { IfOk result (IssueGives (view self.old) (view self.new)) }
         ensures err { OnErr result (view self.new ≡ view self.old) };
 
-    /// Makes one restart and answers `true`, or answers `false` where none is due. The error is that memory is out, and
-    /// changes nothing.
+    /// Whether a restart is due, as far as the end is known. Takes no memory.
+    fn due(&self) -> bool
+        ensures { result ≡ is_some (struck_now (view self.now)) };
+
+    /// Whether no task that is out holds a lock, so that each lock is at home. Takes no memory.
+    fn all_home(&self) -> bool
+        ensures { IsTrue result ↔ NoneLent (view self.now) };
+
+    /// Makes one restart, before which each lock has to be at home, and answers `true`, or answers `false` where none is due.
+    /// The error is that memory is out, and changes nothing.
     fn detect(&mut self) -> Result<bool, AllocError>
+        requires home { IsSome (struck_now (view self.old)) → NoneLent (view self.old) }
         ensures gives { IfOk result (DetectGives (view self.old) (view self.new)) }
         ensures err { OnErr result (view self.new ≡ view self.old) };
 
@@ -76,8 +85,8 @@ pub trait Calls {
         ensures found { IfSome result (IsNextToPost (view self.old) from) }
         ensures none { IfNone result (NoneToPost (view self.old) from) };
 
-    /// Posts the present attempt of a position to a crew of this engine's work. The error is that memory is out; nothing
-    /// was posted then.
+    /// Posts the present attempt of a position to a crew of this engine's work; the cells of its locks go out with it. The
+    /// error is that memory is out; nothing was posted then, and each cell is where it was.
     fn post<R: Threads + Sync, C: Crew>(
         &mut self,
         rt: &R,
@@ -104,18 +113,19 @@ pub trait Calls {
         ensures room { OnOk result (0 < room self.new) };
 
     /// Takes the run of a task of this engine that is out, and applies it where its attempt is the present one, which is
-    /// the answer. Takes no memory.
+    /// the answer: the cells of its locks then come home. Takes no memory.
     fn accept(&mut self, done: Done) -> bool
-        requires task { TaskStands (view self.old) (task_of done) }
+        requires task { TaskStands (view self.old) (task_of (view self.old).batch.work done) }
         requires run { IsRun (view self.old).batch.work done }
         requires room { 0 < room self.old }
-        ensures { Did (view self.old) (event.Take (task_of done).pos (task_of done).attempt result) (view self.new) };
+        ensures { Did (view self.old) (event.Take done.task.pos done.task.attempt result) (view self.new) };
 
     /// What the run did. Takes no memory.
     fn into_journal(self) -> Journal
         ensures { IsJournalOf (view self) result };
 
-    /// The report of the run, which has ended so. Takes no memory.
+    /// The report of the run, which has ended so, when each lock is at home. Takes no memory.
     fn into_report(self, end: End) -> Report
+        requires home { NoneLent (view self) }
         ensures { IsReportOf (view self) end result };
 }

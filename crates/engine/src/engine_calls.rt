@@ -3,7 +3,8 @@
 use crate::calls::{Calls, Issued};
 use crate::engine::Engine;
 use crate::parts::{
-    accept, detect, finished, into_journal, into_report, issue, post, retire, runnable,
+    accept, all_home, detect, due, finished, into_journal, into_report, issue, post, retire,
+    runnable,
 };
 use crew::Crew;
 use gp_base::{End, Journal, Pos, Sink};
@@ -19,6 +20,14 @@ impl<'a> Calls for Engine<'a> {
 
     fn issue(&mut self) -> Result<Issued, AllocError> {
         issue(self.alloc, &self.plan, &mut self.parts)
+    }
+
+    fn due(&self) -> bool {
+        due(&self.plan, &self.parts)
+    }
+
+    fn all_home(&self) -> bool {
+        all_home(&self.plan, &self.parts)
     }
 
     fn detect(&mut self) -> Result<bool, AllocError> {

@@ -2,10 +2,10 @@
 ghost use Rattle.std.specs.Prelude.{◌≡◌, None, OnOk, OnErr, IfOk, IsErrOf};
 ghost use Rattle.dependence.specs.Journal.{Complete};
 ghost use Rattle.reorder_list.specs.declared.report.StopWhy.TheVariants as stop;
-ghost use Rattle.engine.specs.View.{dependence_in, end_in, now, Stands};
-ghost use Rattle.engine.specs.Gives.{struck_now, HasStopCause, NoneToPost};
+ghost use Rattle.engine.specs.View.{dependence_in, end_in, now};
+ghost use Rattle.engine.specs.Gives.{struck_now, NoneLent, HasStopCause, NoneToPost};
 ghost use Rattle.engine.specs.Takes.{CrewStands};
-ghost use Rattle.engine.specs.inner.Rounds.{Onward, GoesOn, IsQuiet, IsIssued, KeepsWritten, KeepsPart, TakeGives};
+ghost use Rattle.engine.specs.inner.Rounds.{Agrees, Leaves, IsQuiet, IsIssued, KeepsWritten, KeepsPart, TakeGives};
 
 use crate::calls::{Calls, Issued};
 use crew::Crew;
@@ -14,31 +14,84 @@ use reorder_list::StopWhy;
 use std::alloc::AllocError;
 use std::thread::Threads;
 
-// Makes all restarts that are due.
-fn detect_all<E: Calls>(engine: &mut E) -> Result<(), AllocError>
-    requires stands { Stands (E.view engine.old) }
-    ensures goes_on { GoesOn (E.view engine.old) (E.view engine.new) }
+// Takes one run of a task, where one is out.
+fn take_one<R: Threads + Sync, E: Calls, C: Crew>(
+    rt: &R,
+    engine: &mut E,
+    crew: &mut C,
+) -> Result<bool, AllocError>
+    requires agrees { Agrees (E.view engine.old) (C.ready crew.old) (C.work crew.old) (C.posted crew.old) (C.out crew.old) }
+    ensures leaves { Leaves (E.view engine.old) (E.view engine.new) (C.ready crew.new) (C.work crew.new) (C.posted crew.new) }
+    ensures crew { OnOk result (CrewStands (E.view engine.new) (C.posted crew.new) (C.out crew.new)) }
     ensures retired { (now (E.view engine.new)).retired ≡ (now (E.view engine.old)).retired }
-    ensures none_struck { OnOk result (struck_now (E.view engine.new) ≡ None) }
+    ensures struck { struck_now (E.view engine.new) ≡ struck_now (E.view engine.old) }
+    ensures took { IfOk result (TakeGives (E.view engine.old) (E.view engine.new)) }
 {
-    'detecting: loop {
-        if !engine.detect()? {
-            return Ok(());
+    engine.reserve()?;
+    match crew.next(rt)? {
+        None => Ok(false),
+        Some(done) => {
+            engine.accept(done);
+            Ok(true)
         }
     }
 }
 
+// Takes runs of tasks until no lock is away.
+fn bring_home<R: Threads + Sync, E: Calls, C: Crew>(
+    rt: &R,
+    engine: &mut E,
+    crew: &mut C,
+) -> Result<(), AllocError>
+    requires agrees { Agrees (E.view engine.old) (C.ready crew.old) (C.work crew.old) (C.posted crew.old) (C.out crew.old) }
+    ensures leaves { Leaves (E.view engine.old) (E.view engine.new) (C.ready crew.new) (C.work crew.new) (C.posted crew.new) }
+    ensures crew { OnOk result (CrewStands (E.view engine.new) (C.posted crew.new) (C.out crew.new)) }
+    ensures retired { (now (E.view engine.new)).retired ≡ (now (E.view engine.old)).retired }
+    ensures struck { struck_now (E.view engine.new) ≡ struck_now (E.view engine.old) }
+    ensures home { OnOk result (NoneLent (E.view engine.new)) }
+{
+    'homing: while !engine.all_home() {
+        take_one(rt, engine, crew)?;
+    }
+    Ok(())
+}
+
+// Makes all restarts that are due, each once no lock is away.
+fn detect_all<R: Threads + Sync, E: Calls, C: Crew>(
+    rt: &R,
+    engine: &mut E,
+    crew: &mut C,
+) -> Result<(), AllocError>
+    requires agrees { Agrees (E.view engine.old) (C.ready crew.old) (C.work crew.old) (C.posted crew.old) (C.out crew.old) }
+    ensures leaves { Leaves (E.view engine.old) (E.view engine.new) (C.ready crew.new) (C.work crew.new) (C.posted crew.new) }
+    ensures crew { OnOk result (CrewStands (E.view engine.new) (C.posted crew.new) (C.out crew.new)) }
+    ensures retired { (now (E.view engine.new)).retired ≡ (now (E.view engine.old)).retired }
+    ensures none_struck { OnOk result (struck_now (E.view engine.new) ≡ None) }
+{
+    'detecting: while engine.due() {
+        bring_home(rt, engine, crew)?;
+        engine.detect()?;
+    }
+    Ok(())
+}
+
 // Retires what may retire, each position after all restarts that are due.
-fn retire_all<E: Calls, O: Sink>(engine: &mut E, out: &mut O) -> Result<(), StopWhy>
-    requires stands { Stands (E.view engine.old) }
-    ensures goes_on { GoesOn (E.view engine.old) (E.view engine.new) }
+fn retire_all<R: Threads + Sync, E: Calls, C: Crew, O: Sink>(
+    rt: &R,
+    engine: &mut E,
+    crew: &mut C,
+    out: &mut O,
+) -> Result<(), StopWhy>
+    requires agrees { Agrees (E.view engine.old) (C.ready crew.old) (C.work crew.old) (C.posted crew.old) (C.out crew.old) }
+    ensures leaves { Leaves (E.view engine.old) (E.view engine.new) (C.ready crew.new) (C.work crew.new) (C.posted crew.new) }
+    ensures crew { ¬ IsErrOf result stop.OutOfMemory → CrewStands (E.view engine.new) (C.posted crew.new) (C.out crew.new) }
     ensures quiet { OnOk result (IsQuiet (E.view engine.new)) }
     ensures written { OnOk result (KeepsWritten (E.view engine.old) (E.view engine.new) (O.written out.old) (O.written out.new)) }
     ensures partly { OnErr result (KeepsPart (E.view engine.old) (E.view engine.new) (O.written out.old) (O.written out.new)) }
     ensures cause { HasStopCause (O.faults out.old) (O.faults out.new) result }
 {
     'retiring: loop {
-        detect_all(engine)?;
+        detect_all(rt, engine, crew)?;
         if !engine.retire(out)? {
             return Ok(());
         }
@@ -46,14 +99,19 @@ fn retire_all<E: Calls, O: Sink>(engine: &mut E, out: &mut O) -> Result<(), Stop
 }
 
 // Issues until it is needed what a thread does next, or a settle waits, or the end is known.
-fn issue_all<E: Calls>(engine: &mut E) -> Result<(), AllocError>
-    requires stands { Stands (E.view engine.old) }
-    ensures goes_on { GoesOn (E.view engine.old) (E.view engine.new) }
+fn issue_all<R: Threads + Sync, E: Calls, C: Crew>(
+    rt: &R,
+    engine: &mut E,
+    crew: &mut C,
+) -> Result<(), AllocError>
+    requires agrees { Agrees (E.view engine.old) (C.ready crew.old) (C.work crew.old) (C.posted crew.old) (C.out crew.old) }
+    ensures leaves { Leaves (E.view engine.old) (E.view engine.new) (C.ready crew.new) (C.work crew.new) (C.posted crew.new) }
+    ensures crew { OnOk result (CrewStands (E.view engine.new) (C.posted crew.new) (C.out crew.new)) }
     ensures retired { (now (E.view engine.new)).retired ≡ (now (E.view engine.old)).retired }
     ensures issued { OnOk result (IsIssued (E.view engine.new)) }
 {
     'issuing: loop {
-        detect_all(engine)?;
+        detect_all(rt, engine, crew)?;
         match engine.issue()? {
             Issued::One(_) => {}
             Issued::Needs(_) => return Ok(()),
@@ -69,14 +127,9 @@ fn post_all<R: Threads + Sync, E: Calls, C: Crew>(
     engine: &mut E,
     crew: &mut C,
 ) -> Result<(), AllocError>
-    requires stands { Stands (E.view engine.old) }
-    requires ready { C.ready crew.old }
-    requires work { C.work crew.old ≡ (E.view engine.old).batch.work }
-    requires crew { CrewStands (E.view engine.old) (C.posted crew.old) (C.out crew.old) }
-    ensures onward { Onward (E.view engine.old) (E.view engine.new) }
-    ensures ready { C.ready crew.new }
-    ensures work { C.work crew.new ≡ C.work crew.old }
-    ensures crew { CrewStands (E.view engine.new) (C.posted crew.new) (C.out crew.new) }
+    requires agrees { Agrees (E.view engine.old) (C.ready crew.old) (C.work crew.old) (C.posted crew.old) (C.out crew.old) }
+    ensures leaves { Leaves (E.view engine.old) (E.view engine.new) (C.ready crew.new) (C.work crew.new) (C.posted crew.new) }
+    ensures crew { OnOk result (CrewStands (E.view engine.new) (C.posted crew.new) (C.out crew.new)) }
     ensures retired { (now (E.view engine.new)).retired ≡ (now (E.view engine.old)).retired }
     ensures none { OnOk result (NoneToPost (E.view engine.new) 0) }
 {
@@ -88,34 +141,6 @@ fn post_all<R: Threads + Sync, E: Calls, C: Crew>(
     Ok(())
 }
 
-// Takes one run of a task, where one is out.
-fn take_one<R: Threads + Sync, E: Calls, C: Crew>(
-    rt: &R,
-    engine: &mut E,
-    crew: &mut C,
-) -> Result<bool, AllocError>
-    requires stands { Stands (E.view engine.old) }
-    requires ready { C.ready crew.old }
-    requires work { C.work crew.old ≡ (E.view engine.old).batch.work }
-    requires crew { CrewStands (E.view engine.old) (C.posted crew.old) (C.out crew.old) }
-    ensures onward { Onward (E.view engine.old) (E.view engine.new) }
-    ensures ready { C.ready crew.new }
-    ensures work { C.work crew.new ≡ C.work crew.old }
-    ensures posted { C.posted crew.new ≡ (now (E.view engine.new)).posted }
-    ensures crew { OnOk result (CrewStands (E.view engine.new) (C.posted crew.new) (C.out crew.new)) }
-    ensures retired { (now (E.view engine.new)).retired ≡ (now (E.view engine.old)).retired }
-    ensures took { IfOk result (TakeGives (E.view engine.old) (E.view engine.new)) }
-{
-    engine.reserve()?;
-    match crew.next(rt)? {
-        None => Ok(false),
-        Some(done) => {
-            engine.accept(done);
-            Ok(true)
-        }
-    }
-}
-
 /// Goes on with a run to its end, and answers how it ends.
 pub fn run_rounds<R: Threads + Sync, E: Calls, C: Crew, O: Sink>(
     rt: &R,
@@ -123,27 +148,21 @@ pub fn run_rounds<R: Threads + Sync, E: Calls, C: Crew, O: Sink>(
     crew: &mut C,
     out: &mut O,
 ) -> Result<End, StopWhy>
-    requires stands { Stands (E.view engine.old) }
-    requires ready { C.ready crew.old }
-    requires work { C.work crew.old ≡ (E.view engine.old).batch.work }
-    requires crew { CrewStands (E.view engine.old) (C.posted crew.old) (C.out crew.old) }
-    ensures onward { Onward (E.view engine.old) (E.view engine.new) }
+    requires agrees { Agrees (E.view engine.old) (C.ready crew.old) (C.work crew.old) (C.posted crew.old) (C.out crew.old) }
+    ensures leaves { Leaves (E.view engine.old) (E.view engine.new) (C.ready crew.new) (C.work crew.new) (C.posted crew.new) }
+    ensures crew { ¬ IsErrOf result stop.OutOfMemory → CrewStands (E.view engine.new) (C.posted crew.new) (C.out crew.new) }
     ensures complete { OnOk result (Complete (dependence_in (E.view engine.new).batch) (E.view engine.new).batch.faults (E.view engine.new).events) }
     ensures end { IfOk result (λ end. end ≡ end_in (E.view engine.new).batch) }
-    ensures ready { C.ready crew.new }
-    ensures work { C.work crew.new ≡ C.work crew.old }
-    ensures posted { C.posted crew.new ≡ (now (E.view engine.new)).posted }
-    ensures crew { ¬ IsErrOf result stop.OutOfMemory → CrewStands (E.view engine.new) (C.posted crew.new) (C.out crew.new) }
     ensures written { OnOk result (KeepsWritten (E.view engine.old) (E.view engine.new) (O.written out.old) (O.written out.new)) }
     ensures partly { OnErr result (KeepsPart (E.view engine.old) (E.view engine.new) (O.written out.old) (O.written out.new)) }
     ensures cause { HasStopCause (O.faults out.old) (O.faults out.new) result }
 {
     'rounds: loop {
-        retire_all(engine, out)?;
+        retire_all(rt, engine, crew, out)?;
         if let Some(end) = engine.finished() {
             return Ok(end);
         }
-        issue_all(engine)?;
+        issue_all(rt, engine, crew)?;
         post_all(rt, engine, crew)?;
         take_one(rt, engine, crew)?;
     }

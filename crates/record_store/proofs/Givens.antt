@@ -35,7 +35,7 @@ joined_is sync.BadIndex state = refl
 joined_is sync.Spent state = refl
 
 -- the value of a cell in a bundle that has it
-beside : (f : ℕ → ℤ) (cells : List ℕ) (c : ℕ) (other : ℤ) → value_beside cells (map f cells) c other ≡ cond (is_member c cells) (f c) other
+pub beside : (f : ℕ → ℤ) (cells : List ℕ) (c : ℕ) (other : ℤ) → value_beside cells (map f cells) c other ≡ cond (is_member c cells) (f c) other
 beside f [] c other = refl
 beside f (x ∷ cells) c other = go (nat_eq c x) refl (beside f cells c other)
   where

@@ -1,48 +1,68 @@
-// The store: the data of a run, what an effect does to it, and what undoes that.
+// The store: the data of a run, what is lent of it and comes home, and what undoes that.
 
-ghost use Rattle.std.specs.Prelude.{◌≡◌, length, IfOk, OnOk, OnErr};
+ghost use Rattle.std.specs.Prelude.{◌≡◌, ◌<◌, ◌≤◌, ℕ, [], cond, nat_eq, true, false, not, unwrap_or, length, map, slice_get, slice_set, Some, All, IfOk, OnOk, OnErr};
+ghost use Rattle.std.specs.List.Sorted.{IsStrictlyIncreasing};
+ghost use Rattle.std.specs.Ordering.{nat_cmp};
+ghost use Rattle.std.specs.FinMap.{find};
 ghost use Rattle.task_ast.specs.State.{RegistersOf, number_at};
 ghost use Rattle.task_ast.specs.Effect.{after};
 ghost use Rattle.task_ast.specs.History.{old_of};
-ghost use Rattle.record_store.specs.Stored.{state_of, Fits, SameShape, without_threads, with_thread};
-ghost use Rattle.record_store.specs.inner.Exchanged.{left};
-ghost use Rattle.record_store.specs.Given.{given_of, joined_value};
+ghost use Rattle.task_ast.specs.Under.{under_lock};
+ghost use Rattle.record_store.specs.Stored.{state_of, Fits, FitsChild, SameShape, IsAtHome, IsAway, IsAllHome, CellsAtHome, without_threads, with_thread};
+ghost use Rattle.record_store.specs.Given.{joined_value, bundle_of, value_beside};
+ghost use Rattle.record_store.specs.Lent.{marked, lock_in, whole_effect, AreAsLent, MayComeHome, IsSharedOut};
+ghost use Rattle.record_store.specs.inner.Homing.{value_over, CanLend, HaveSizes};
 
-use crate::exchange::{exchange_cells, exchange_threads, value_at};
-use crate::given::copy_bundles;
-use crate::{Given, History};
-use gp_base::{Lines, LockNo, Nums, RecNo, Seq, ThreadNo};
+use crate::exchange::{exchange_threads, value_at};
+use crate::shelf::{Shelf, is_home, put_in, set_at, take_out};
+use crate::stock::{fill_cells, places_of, shelves_of};
+use crate::{Bundle, Effect, History};
+use gp_base::{Lines, LockNo, Nums, RecNo, Room, Seq, ThreadNo};
 use std::alloc::{AllocError, Global};
 use std::marker::Model;
-use task_ast::{Effect, Layout};
+use task_ast::Layout;
 
-/// The registers of all threads, the cells of all records, and the record cells under each lock cell. Contracts see
-/// these lists; what a run rests on is the state that they stand for.
+/// The registers of all threads, the cells of all records on a shelf for each lock cell, the place of each record cell,
+/// the record cells under each lock cell, and the list of the records as they began, which is kept as room for the answer.
+/// Contracts see registers and cells as lists, the cells of a shelf that is lent at the values with which it was lent;
+/// what a run rests on is the state that they stand for.
 #[derive(Drop)]
 pub struct Store {
     threads: Vec<Nums>,
-    cells: Nums,
+    shelves: Vec<Shelf>,
+    places: Vec<(LockNo, u32)>,
     layout: Layout,
+    room: Nums,
 }
 
 impl Model for Store {
+    ghost use Rattle.std.specs.Prelude.{map, length};
     ghost use Rattle.record_store.specs.Stored.{Stored};
+    ghost use Rattle.record_store.specs.inner.Shelves.{seen, is_away, cells_on, IsKept};
 
     ghost Value = { Stored };
 
-    ghost view = { λ s. record { threads = s.threads.items; cells = s.cells; under = s.layout.under } };
+    ghost view = { λ s. record { threads = s.threads.items; cells = cells_on (map seen s.shelves.items) s.places.items; under = s.layout.under; away = map is_away s.shelves.items } };
+
+    ghost invariant = { λ s. IsKept s.layout.under s.places.items (map seen s.shelves.items) (length s.room) };
 }
 
 impl Store {
-    /// These record cells, and no thread. Takes no memory.
-    pub fn new(alloc: Global, records: Nums, layout: Layout) -> Store
-        ensures { result ≡ without_threads records layout.under }
+    /// These record cells, all at home, and no thread. The error is that memory is out, or that there are more cells than
+    /// have numbers.
+    pub fn new(alloc: Global, records: Nums, layout: Layout) -> Result<Store, AllocError>
+        requires { IsSharedOut (length records) layout.under }
+        ensures { IfOk result (λ store. store ≡ without_threads records layout.under) }
     {
-        Store {
+        let places = places_of(alloc, records.len(), layout.under.as_slice())?;
+        let shelves = shelves_of(alloc, records.as_slice(), layout.under.as_slice())?;
+        Ok(Store {
             threads: Vec::new(alloc),
-            cells: records,
+            shelves,
+            places,
             layout,
-        }
+            room: records,
+        })
     }
 
     /// A number among the registers of a thread, or 0.
@@ -62,18 +82,18 @@ impl Store {
         self.threads.len()
     }
 
-    /// The cells of all records, in declared order. Takes no memory.
-    pub fn records(&self) -> &Nums
-        ensures { result.now ≡ self.now.cells }
-    {
-        &self.cells
-    }
-
-    /// The cells of all records, in declared order; all else is given up. Takes no memory.
+    /// The cells of all records, in declared order, which are all at home; all else is given up. Takes no memory.
     pub fn into_records(self) -> Nums
+        requires { IsAllHome self }
         ensures { result ≡ self.cells }
     {
-        self.cells
+        let Store {
+            shelves,
+            places,
+            room,
+            ..
+        } = self;
+        fill_cells(room, &shelves, &places)
     }
 
     /// Adds the next thread, with so many registers that are 0. The error is that memory is out; the store is then as
@@ -87,23 +107,18 @@ impl Store {
         Ok(())
     }
 
-    /// What a subthread of this thread is given, which joins this thread, if any, and holds these lock cells. The error
-    /// is that memory is out.
-    pub fn inputs(
+    /// The registers of a thread, and `$ret` of the thread that is joined, if any, or 0. The error is that memory is out.
+    pub fn regs_of(
         &self,
         alloc: Global,
         thread: ThreadNo,
-        held: &Seq<LockNo>,
         joined: Option<ThreadNo>,
-    ) -> Result<Given, AllocError>
-        ensures { IfOk result (λ given. given ≡ given_of self.now.under (state_of self.now) thread joined held.now) }
+    ) -> Result<(Nums, i64), AllocError>
+        ensures regs { IfOk result (λ given. given.0 ≡ state_of self.now (RegistersOf thread)) }
+        ensures joined { IfOk result (λ given. given.1 ≡ joined_value (state_of self.now) joined) }
     {
-        let under = &self.layout.under;
-        Ok(Given {
-            regs: Seq::from_slice(alloc, self.registers(thread))?,
-            joined: self.returned(joined),
-            bundles: copy_bundles(alloc, self.cells.as_slice(), under, held.as_slice())?,
-        })
+        let regs = Seq::from_slice(alloc, self.registers(thread))?;
+        Ok((regs, self.returned(joined)))
     }
 
     // The registers of a thread; one that isn't there has none.
@@ -126,32 +141,119 @@ impl Store {
         }
     }
 
-    /// Leaves what an effect leaves, and gives the values that it overwrote, which fit this store from now on, and the
-    /// lines that it printed. Takes no memory.
-    pub fn apply(&mut self, effect: Effect) -> (History, Lines)
-        requires fits { Fits self.old effect }
-        ensures state { state_of self.new ≡ after effect (state_of self.old) }
-        ensures history { result.0 ≡ old_of effect (state_of self.old) }
+    /// Whether the cells under a lock cell are at home. Takes no memory.
+    pub fn is_home(&self, lock: LockNo) -> bool
+        requires { lock < length self.now.away }
+        ensures { slice_get self.now.away lock ≡ Some (not result) }
+    {
+        is_home(&self.shelves[lock.0 as usize])
+    }
+
+    /// Moves the cells under lock cells out, which rise and are at home; they are then away. The store stays as it was
+    /// otherwise. Takes no memory.
+    pub fn lend(&mut self, held: &Seq<LockNo>, into: &mut Room<Bundle>)
+        requires home { All (IsAtHome self.old) held.now }
+        requires rising { IsStrictlyIncreasing held.now }
+        requires empty { into.old.items ≡ [] }
+        requires room { length held.now ≤ into.old.spare }
+        ensures bundles { into.new.items ≡ map (bundle_of self.old.under (state_of self.old)) held.now }
+        ensures store { self.new ≡ record self.old { away = marked held.now true self.old.away } }
+    {
+        for lock in held.as_slice() {
+            let bundle = self.lend_one(*lock);
+            into.push(bundle);
+        }
+    }
+
+    // Moves the cells under a lock cell out.
+    fn lend_one(&mut self, lock: LockNo) -> Bundle
+        requires home { IsAtHome self.old lock }
+        ensures bundle { result ≡ bundle_of self.old.under (state_of self.old) lock }
+        ensures store { self.new ≡ record self.old { away = slice_set self.old.away lock true } }
+    {
+        let cells = take_out(&mut self.shelves[lock.0 as usize]);
+        Bundle { lock, cells }
+    }
+
+    /// Takes home what was lent, with new values, and leaves the registers that an effect leaves. Gives the values that
+    /// these overwrote, which fit this store from now on, and the lines that were printed. Takes no memory.
+    pub fn accept_home(
+        &mut self,
+        bundles: Seq<Bundle>,
+        old: Seq<(RecNo, i64)>,
+        effect: Effect,
+    ) -> (History, Lines)
+        requires comes { MayComeHome self.old bundles old }
+        requires thread { effect.thread < length self.old.threads }
+        requires child { FitsChild (length self.old.threads) effect.thread effect.child }
+        ensures state { state_of self.new ≡ after (whole_effect self.old.under bundles old effect) (state_of self.old) }
+        ensures history { result.0 ≡ old_of (whole_effect self.old.under bundles old effect) (state_of self.old) }
         ensures lines { result.1 ≡ effect.prints }
         ensures back { Fits self.new result.0 }
         ensures shape { SameShape self.old self.new }
+        ensures away { self.new.away ≡ marked (map lock_in bundles) false self.old.away }
     {
         let Effect {
             thread,
-            writes,
             regs,
             child,
             prints,
         } = effect;
-        let history = self.exchange(thread, writes, regs, child);
+        let mut regs = regs;
+        let mut child = child;
+        exchange_threads(&mut self.threads, thread, &mut regs, &mut child);
+        self.bring_home(bundles);
+        let history = History {
+            thread,
+            writes: old,
+            regs,
+            child,
+        };
         (history, prints)
     }
 
-    /// Gives the old values back. Takes no memory.
+    /// Takes home what was lent and is as it was. The store stays as it was otherwise. Takes no memory.
+    pub fn send_back(&mut self, bundles: Seq<Bundle>)
+        requires away { All (λ b. IsAway self.old (lock_in b)) bundles }
+        requires as_lent { AreAsLent self.old bundles }
+        ensures { self.new ≡ record self.old { away = marked (map lock_in bundles) false self.old.away } }
+    {
+        self.bring_home(bundles);
+    }
+
+    // Puts bundles onto the shelves of their locks.
+    fn bring_home(&mut self, bundles: Seq<Bundle>)
+        requires exist { All (λ b. lock_in b < length self.old.away) bundles }
+        requires sizes { HaveSizes self.old.under bundles }
+        ensures cells { (c : ℕ) → number_at self.new.cells c ≡ value_over self.old.under bundles c (number_at self.old.cells c) }
+        ensures count { length self.new.cells ≡ length self.old.cells }
+        ensures rest { self.new ≡ record self.old { cells = self.new.cells; away = marked (map lock_in bundles) false self.old.away } }
+    {
+        let mut bundles = bundles;
+        'coming: while let Some(bundle) = bundles.pop() {
+            self.bring_one(bundle);
+        }
+    }
+
+    // Puts a bundle onto the shelf of its lock.
+    fn bring_one(&mut self, bundle: Bundle)
+        requires exists { bundle.lock < length self.old.away }
+        requires size { length bundle.cells ≡ length (under_lock self.old.under bundle.lock) }
+        ensures cells { (c : ℕ) → number_at self.new.cells c ≡ value_beside (under_lock self.old.under bundle.lock) bundle.cells c (number_at self.old.cells c) }
+        ensures count { length self.new.cells ≡ length self.old.cells }
+        ensures rest { self.new ≡ record self.old { cells = self.new.cells; away = slice_set self.old.away bundle.lock false } }
+    {
+        let Bundle { lock, cells } = bundle;
+        put_in(&mut self.shelves[lock.0 as usize], cells);
+    }
+
+    /// Gives the old values back; no lock over a cell among them is away. Takes no memory.
     pub fn undo(&mut self, history: History)
         requires fits { Fits self.old history }
+        requires home { CellsAtHome self.old history }
         ensures state { state_of self.new ≡ after history (state_of self.old) }
         ensures shape { SameShape self.old self.new }
+        ensures away { self.new.away ≡ self.old.away }
     {
         let History {
             thread,
@@ -159,32 +261,35 @@ impl Store {
             regs,
             child,
         } = history;
-        self.exchange(thread, writes, regs, child);
-    }
-
-    // Puts these registers and cells into the place of the old ones, and gives those.
-    fn exchange(
-        &mut self,
-        thread: ThreadNo,
-        writes: Seq<(RecNo, i64)>,
-        regs: Nums,
-        child: Option<(ThreadNo, Nums)>,
-    ) -> History
-        requires fits { Fits self.old (left thread writes regs child) }
-        ensures state { state_of self.new ≡ after (left thread writes regs child) (state_of self.old) }
-        ensures history { result ≡ old_of (left thread writes regs child) (state_of self.old) }
-        ensures shape { SameShape self.old self.new }
-    {
-        let mut writes = writes.into_vec();
         let mut regs = regs;
         let mut child = child;
         exchange_threads(&mut self.threads, thread, &mut regs, &mut child);
-        exchange_cells(&mut self.cells, &mut writes);
-        History {
-            thread,
-            writes: Seq::from_vec(writes),
-            regs,
-            child,
+        self.restore(writes);
+    }
+
+    // Puts old values into cells that are at home.
+    fn restore(&mut self, writes: Seq<(RecNo, i64)>)
+        requires in_range { All (λ w. w.0 < length self.old.cells) writes }
+        requires home { All (λ w. (l k : ℕ) → slice_get (under_lock self.old.under l) k ≡ Some w.0 → ¬ IsAway self.old l) writes }
+        ensures cells { (c : ℕ) → number_at self.new.cells c ≡ unwrap_or (find nat_cmp c writes) (number_at self.old.cells c) }
+        ensures count { length self.new.cells ≡ length self.old.cells }
+        ensures rest { self.new ≡ record self.old { cells = self.new.cells } }
+    {
+        let mut writes = writes;
+        'restoring: while let Some(write) = writes.pop() {
+            self.restore_one(write.0, write.1);
         }
+    }
+
+    // Puts an old value into a cell that is at home.
+    fn restore_one(&mut self, cell: RecNo, value: i64)
+        requires in_range { cell < length self.old.cells }
+        requires home { (l k : ℕ) → slice_get (under_lock self.old.under l) k ≡ Some cell → ¬ IsAway self.old l }
+        ensures cells { (c : ℕ) → number_at self.new.cells c ≡ cond (nat_eq c cell) value (number_at self.old.cells c) }
+        ensures count { length self.new.cells ≡ length self.old.cells }
+        ensures rest { self.new ≡ record self.old { cells = self.new.cells } }
+    {
+        let (lock, place) = self.places[cell.0 as usize];
+        set_at(&mut self.shelves[lock.0 as usize], place as usize, value);
     }
 }

@@ -1,5 +1,5 @@
 -- The entries of the positions from the oldest that has not retired, and how they change.
-use Rattle.std.specs.Prelude.{◌≡◌, ℕ, suc, ◌+◌, ℤ, Bool, true, false, cond, nat_eq, ⊤, List, [], ◌∷◌, map, Option, Some, None, option_map, unwrap_or}
+use Rattle.std.specs.Prelude.{◌≡◌, ℕ, suc, ◌+◌, ℤ, Bool, true, false, not, ◌&&◌, cond, nat_eq, ⊤, List, [], ◌∷◌, map, Option, Some, None, option_map, unwrap_or}
 use Rattle.std.specs.Option.{option_and_then}
 use Rattle.task_ast.specs.declared.effect.Effect.{Effect}
 use Rattle.reorder_list.specs.declared.entry.Entry.{Entry}
@@ -42,14 +42,26 @@ abbrev pub entry_at : List Entry → ℕ → Option Entry
 entry_at [] p = None
 entry_at (e ∷ entries) p = cond (nat_eq e.pos p) (Some e) (entry_at entries p)
 
--- whether the attempt was not posted, and whether its result is applied
+-- whether the attempt was not posted, whether its result is not there yet, and whether that is applied
 abbrev pub is_waiting : State → Bool
 is_waiting Waiting = true
 is_waiting _ = false
 
+abbrev pub is_out : State → Bool
+is_out Out = true
+is_out _ = false
+
 abbrev pub is_applied : State → Bool
 is_applied Applied = true
 is_applied _ = false
+
+abbrev pub is_nil : {A : Type 0} → List A → Bool
+is_nil [] = true
+is_nil (x ∷ xs) = false
+
+-- whether the entry is out and holds a lock
+abbrev pub lends : Entry → Bool
+lends e = is_out e.state && not (is_nil e.held)
 
 -- each entry whose position passes the test is changed, and the others are as they were
 abbrev pub with_change : (test : ℕ → Bool) → (Entry → Entry) → List Entry → List Entry

@@ -1,8 +1,9 @@
 // The list of entries from the oldest that has not retired.
 
 ghost use Rattle.std.specs.Prelude.{◌≡◌, ◌↔◌, ◌+◌, ◌<◌, ◌≤◌, ◌^◌, [], ◌∷◌, ◌++◌, IsTrue, OnOk, MatchOption, IfSome, IfNone, None, Some, length, min, slice_get, is_some};
+ghost use Rattle.std.specs.List.{list_any};
 ghost use Rattle.std.specs.Option.{IsSomeAnd, option_copied};
-ghost use Rattle.reorder_list.specs.Entries.{ComesNext, IsFresh, is_applied, entry_at, with_change_at, out_entry, applied_entry, raised_entry, histories_of};
+ghost use Rattle.reorder_list.specs.Entries.{ComesNext, IsFresh, is_applied, lends, entry_at, with_change_at, out_entry, applied_entry, raised_entry, histories_of};
 ghost use Rattle.reorder_list.specs.Runnable.{IsRunnable, IsFirstRunnable, NoneRunnable};
 ghost use Rattle.reorder_list.specs.declared.entry.Entry.{Entry};
 ghost use Rattle.reorder_list.specs.declared.entry.State.TheVariants.{Out, Applied};
@@ -66,6 +67,13 @@ fn send_entry(entry: &mut Entry)
     entry.state = State::Out;
 }
 
+// Whether an entry's attempt is out and holds a lock.
+fn lends(entry: &Entry) -> bool
+    ensures { result ≡ lends entry.now }
+{
+    matches!(entry.state, State::Out) && !entry.held.is_empty()
+}
+
 // The result of an entry's attempt is applied.
 fn apply_entry(entry: &mut Entry, history: History, lines: Lines)
     ensures { entry.new ≡ applied_entry history lines entry.old }
@@ -92,6 +100,14 @@ impl Rol {
         ensures { result ≡ length self.now.entries }
     {
         self.entries.len()
+    }
+
+    /// Whether an attempt that is out holds a lock, whose record cells are lent to it then. Looks at each entry. Takes no
+    /// memory.
+    pub fn lent(&self) -> bool
+        ensures { result ≡ list_any lends self.now.entries }
+    {
+        self.entries.iter().any(|entry| lends(entry))
     }
 
     /// Makes room for one more entry. The error is that memory is out.

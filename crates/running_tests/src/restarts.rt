@@ -91,7 +91,7 @@ fn redone_with(alloc: Global, struck: u32) -> Result<Seq<Pos>, AllocError>
     let layout = Layout {
         under: Seq::new(alloc),
     };
-    let mut store = Store::new(alloc, Seq::new(alloc), layout);
+    let mut store = Store::new(alloc, Seq::new(alloc), layout)?;
     let mut redo = Room::new(alloc);
     redo.reserve(8)?;
     restart(alloc, &mut rol, &mut store, Pos(struck), Pos(8), &mut redo);

@@ -1,81 +1,124 @@
-// Effects on a store, and what undoing some of them leaves.
-ghost use Rattle.std.specs.Prelude.{◌≡◌, ◌<◌, length, IfOk};
-ghost use Rattle.record_store.specs.Stored.{Stored, Fits};
+// What a store lends and takes home, and what undoing some of it leaves.
+ghost use Rattle.std.specs.Prelude.{◌≡◌, ◌<◌, ℕ, pos, [], ◌∷◌, cond, nat_eq, IfOk, OnOk};
+ghost use Rattle.task_ast.specs.State.{number_at};
+ghost use Rattle.record_store.specs.Stored.{Fits, FitsChild};
+ghost use Rattle.running_tests.specs.Pairs.{IsPair, each_alone};
 
-use gp_base::{LockNo, RecNo, Seq, ThreadNo};
-use record_store::Store;
+use gp_base::{LockNo, RecNo, Room, Seq, ThreadNo};
+use record_store::{Bundle, Effect, History, Store};
 use std::alloc::{AllocError, Global};
 use std::test::Fail;
-use task_ast::{Effect, Layout};
+use task_ast::Layout;
 
-// Cells 5 and 7, each under a lock of its own, and two threads.
-fn two_cells(alloc: Global) -> Result<Store, AllocError>
-    ensures { IfOk result (λ store. (length store.threads ≡ 2) × (length store.cells ≡ 2)) }
+// Two cells, each under a lock of its own.
+fn alone(alloc: Global) -> Result<Layout, AllocError>
+    ensures { IfOk result (λ layout. layout.under ≡ each_alone) }
 {
     let mut under = Seq::new(alloc);
     under.push(Seq::from_slice(alloc, &[RecNo(0)])?)?;
     under.push(Seq::from_slice(alloc, &[RecNo(1)])?)?;
-    let mut store = Store::new(alloc, Seq::from_slice(alloc, &[5, 7])?, Layout { under });
+    Ok(Layout { under })
+}
+
+// Cells 5 and 7, each under a lock of its own, and two threads.
+fn two_cells(alloc: Global) -> Result<Store, AllocError>
+    ensures pair { IfOk result (λ store. IsPair store) }
+    ensures cells { IfOk result (λ store. store.cells ≡ pos 5 ∷ pos 7 ∷ []) }
+{
+    let mut store = Store::new(alloc, Seq::from_slice(alloc, &[5, 7])?, alone(alloc)?)?;
     store.reserve_thread(alloc, 1)?;
     store.reserve_thread(alloc, 0)?;
     Ok(store)
 }
 
-// Thread 0 writes a cell, and leaves its registers as 3.
-fn write(alloc: Global, cell: u32, value: i64) -> Result<Effect, AllocError>
-    requires { cell < 2 }
-    ensures { IfOk result (λ effect. (store : Stored) → (length store.threads ≡ 2) → (length store.cells ≡ 2) → Fits store effect) }
-{
-    Ok(Effect {
-        thread: ThreadNo(0),
-        writes: Seq::from_slice(alloc, &[(RecNo(cell), value)])?,
-        regs: Seq::from_slice(alloc, &[3])?,
-        child: None,
-        prints: Seq::new(alloc),
-    })
-}
-
 // Thread 0 forks thread 1, leaves its registers as 3 and those of the child as 4 and 2, and prints 1.
 fn fork(alloc: Global) -> Result<Effect, AllocError>
-    ensures { IfOk result (λ effect. (store : Stored) → (length store.threads ≡ 2) → Fits store effect) }
+    ensures thread { IfOk result (λ effect. effect.thread ≡ 0) }
+    ensures child { IfOk result (λ effect. FitsChild 2 0 effect.child) }
 {
     let mut prints = Seq::new(alloc);
     prints.push(Seq::from_slice(alloc, &[1])?)?;
     Ok(Effect {
         thread: ThreadNo(0),
-        writes: Seq::new(alloc),
         regs: Seq::from_slice(alloc, &[3])?,
         child: Some((ThreadNo(1), Seq::from_slice(alloc, &[4, 2])?)),
         prints,
     })
 }
 
+// The bundle of the lock over a cell, with this value.
+fn bundle(alloc: Global, cell: u32, value: i64) -> Result<Seq<Bundle>, AllocError>
+    ensures { IfOk result (λ bundles. bundles ≡ record { lock = cell; cells = value ∷ [] } ∷ []) }
+{
+    let cells = Seq::from_slice(alloc, &[value])?;
+    let lock = LockNo(cell);
+    let mut bundles = Seq::new(alloc);
+    bundles.push(Bundle { lock, cells })?;
+    Ok(bundles)
+}
+
+// A cell is lent, and comes home with another value than before.
+fn write(
+    alloc: Global,
+    store: &mut Store,
+    cell: u32,
+    before: i64,
+    value: i64,
+) -> Result<History, AllocError>
+    requires pair { IsPair store.old }
+    requires exists { cell < 2 }
+    requires before { number_at store.old.cells cell ≡ before }
+    ensures pair { OnOk result (IsPair store.new) }
+    ensures cells { OnOk result ((c : ℕ) → number_at store.new.cells c ≡ cond (nat_eq c cell) value (number_at store.old.cells c)) }
+    ensures back { IfOk result (Fits store.new) }
+{
+    let bundles = bundle(alloc, cell, value)?;
+    let old = Seq::from_slice(alloc, &[(RecNo(cell), before)])?;
+    let held = Seq::from_slice(alloc, &[LockNo(cell)])?;
+    let effect = Effect {
+        thread: ThreadNo(0),
+        regs: Seq::new(alloc),
+        child: None,
+        prints: Seq::new(alloc),
+    };
+    let mut lent = Room::new(alloc);
+    lent.reserve(1)?;
+    store.lend(&held, &mut lent);
+    let (history, _) = store.accept_home(bundles, old, effect);
+    Ok(history)
+}
+
 #[test]
-fn gives_registers_and_cells(rt: HostRuntime) -> Result<(), Fail> {
+fn lends_cells_and_gives_registers(rt: HostRuntime) -> Result<(), Fail> {
     let alloc = rt.alloc();
     let mut store = two_cells(alloc)?;
-    let (_, prints) = store.apply(fork(alloc)?);
+    let (_, prints) = store.accept_home(Seq::new(alloc), Seq::new(alloc), fork(alloc)?);
     assert!(rt; store.len() == 2 && prints.len() == 1);
+    let (regs, joined) = store.regs_of(alloc, ThreadNo(0), Some(ThreadNo(1)))?;
+    assert!(rt; regs.as_slice() == [3].as_slice() && joined == 4);
     let held = Seq::from_slice(alloc, &[LockNo(1)])?;
-    let given = store.inputs(alloc, ThreadNo(0), &held, Some(ThreadNo(1)))?;
-    assert!(rt; given.regs.as_slice() == [3].as_slice() && given.joined == 4);
-    assert!(rt; given.bundles.len() == 1);
-    for bundle in given.bundles.as_slice() {
+    let mut lent = Room::new(alloc);
+    lent.reserve(1)?;
+    store.lend(&held, &mut lent);
+    assert!(rt; store.is_home(LockNo(0)) && !store.is_home(LockNo(1)));
+    assert!(rt; lent.len() == 1);
+    for bundle in lent.as_slice() {
         assert!(rt; bundle.lock == LockNo(1) && bundle.cells.as_slice() == [7].as_slice());
     }
+    store.send_back(lent.into_seq());
+    assert!(rt; store.is_home(LockNo(1)));
     Ok(())
 }
 
 #[test]
-fn undoes_effects(rt: HostRuntime) -> Result<(), Fail> {
+fn undoes_what_came_home(rt: HostRuntime) -> Result<(), Fail> {
     let alloc = rt.alloc();
     let mut store = two_cells(alloc)?;
-    let (first, _) = store.apply(write(alloc, 0, 6)?);
-    let (_, _) = store.apply(write(alloc, 1, 9)?);
-    let (third, _) = store.apply(write(alloc, 0, 8)?);
-    assert!(rt; store.records().as_slice() == [8, 9].as_slice());
+    let first = write(alloc, &mut store, 0, 5, 6)?;
+    let _ = write(alloc, &mut store, 1, 7, 9)?;
+    let third = write(alloc, &mut store, 0, 6, 8)?;
     store.undo(third);
     store.undo(first);
-    assert!(rt; store.records().as_slice() == [5, 9].as_slice());
+    assert!(rt; store.into_records().as_slice() == [5, 9].as_slice());
     Ok(())
 }

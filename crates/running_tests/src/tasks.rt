@@ -1,7 +1,8 @@
 // Runs of tasks on flat code.
-ghost use Rattle.std.specs.Prelude.{◌≡◌, ◌<◌, ◌^◌, [], IfOk, length};
+ghost use Rattle.std.specs.Prelude.{◌≡◌, ◌<◌, ◌^◌, IsTrue, IfOk, length};
+ghost use Rattle.task_ast.specs.Under.{under_lock};
 ghost use Rattle.subthread.specs.declared.task.Work.{Work as PlainWork};
-ghost use Rattle.subthread.specs.Tasks.{Fits};
+ghost use Rattle.subthread.specs.Tasks.{Fits, under_of};
 
 use crate::programs::accepted;
 use gp_base::{At, Feed, LockNo, Nums, Pos, RecNo, Seq, ThreadNo};
@@ -52,9 +53,19 @@ fn run(alloc: Global, work: &Work, task: Task) -> Result<Done, AllocError>
     Ok(run_task(alloc, work, task)?)
 }
 
+// Whether one record cell stands under the first lock cell.
+fn has_one_cell(work: &Work) -> bool
+    ensures { IsTrue result → length (under_lock (under_of work.now) 0) ≡ 1 }
+{
+    match work.code.layout().under.get(0) {
+        Some(cells) => cells.len() == 1,
+        None => false,
+    }
+}
+
 // Thread 1 holds the lock, and the total is 0.
 fn adding(alloc: Global, mask: i64) -> Result<Task, AllocError>
-    ensures { IfOk result (λ task. (work : PlainWork) → Fits work task) }
+    ensures { IfOk result (λ task. (work : PlainWork) → length (under_lock (under_of work) 0) ≡ 1 → Fits work task) }
 {
     let bundle = Bundle {
         lock: LockNo(0),
@@ -81,9 +92,19 @@ fn adding(alloc: Global, mask: i64) -> Result<Task, AllocError>
     })
 }
 
+// The total was 0 and is this now.
+fn has_total(done: &Done, total: i64) -> bool {
+    let bundles = done.task.given.bundles.as_slice();
+    done.old.as_slice() == [(RecNo(0), 0)].as_slice()
+        && bundles.len() == 1
+        && bundles
+            .iter()
+            .all(|bundle| bundle.cells.as_slice() == [total].as_slice())
+}
+
 fn added(done: &Done, register: i64, total: i64) -> bool {
     done.effect.regs.as_slice() == [register, register].as_slice()
-        && done.effect.writes.as_slice() == [(RecNo(0), total)].as_slice()
+        && has_total(done, total)
         && matches!(&done.next.sync, SyncOp::Unlock(LockNo(0)))
         && done.next.line == 8
 }
@@ -92,6 +113,7 @@ fn added(done: &Done, register: i64, total: i64) -> bool {
 fn adds_and_is_damaged(rt: HostRuntime) -> Result<(), Fail> {
     let alloc = rt.alloc();
     let work = work(alloc, ADD, Seq::new(alloc), 10)?;
+    assert!(rt; has_one_cell(&work), "one cell under the lock");
     for (mask, register, total) in [(0, 0, 3), (1, 1, 2)] {
         let done = run(alloc, &work, adding(alloc, mask)?)?;
         assert!(rt; added(&done, register, total), "{mask}");

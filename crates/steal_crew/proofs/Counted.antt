@@ -3,6 +3,7 @@ use Rattle.std.proofs.Common.{◌≡◌, ℕ, ◌+◌, ◌≤◌, false, true≢
 use Rattle.std.proofs.Common.{true}
 use Rattle.std.proofs.lemmas.List.{length-append}
 use Rattle.std.specs.Option.{option_to_list}
+use Rattle.subthread.specs.declared.task.Work.{Work}
 use Rattle.subthread.specs.declared.task.Task.{Task}
 use Rattle.subthread.specs.declared.task.Done.{Done}
 use Rattle.subthread.specs.Tasks.{task_of}
@@ -24,7 +25,12 @@ posted_counted (Ok x) before after task sum ok err counted most =
 posted_counted (Err x) before after task sum ok err counted most = subst (AreCountedIn sum) (sym err) ((λ e. absurd (true≢false e)), most)
 
 -- the run at the front of those at hand is taken out of what is out
-pub taken_first : (found : Option Done) (before after : List Done) (waits out : List Task) → before ≡ option_to_list found ++ after → map task_of before ++ waits ≡ out
-    → IfSome found (λ run. TakesOut out (task_of run) (map task_of after ++ waits))
-taken_first None before after waits out items whole = tt
-taken_first (Some run) before after waits out items whole = record { earlier = []; later = map task_of after ++ waits; before_is = sym whole ∙ ap (λ l. map task_of l ++ waits) items; after_is = refl }
+pub taken_first : (w : Work) (found : Option Done) (before after : List Done) (waits out : List Task) → before ≡ option_to_list found ++ after
+    → map (task_of w) before ++ waits ≡ out → IfSome found (λ run. TakesOut out (task_of w run) (map (task_of w) after ++ waits))
+taken_first w None before after waits out items whole = tt
+taken_first w (Some run) before after waits out items whole = record {
+  earlier = [];
+  later = map (task_of w) after ++ waits;
+  before_is = sym whole ∙ ap (λ l. map (task_of w) l ++ waits) items;
+  after_is = refl;
+}

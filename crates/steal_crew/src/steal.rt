@@ -55,7 +55,7 @@ impl<'a, F: Fn(Seq<Task>) -> Result<(Seq<Done>, (u64, u64, u64)), AllocError>> S
         ensures ready { IsReady self.new.inbox (F.pre self.new.run_all) (F.post self.new.run_all) self.new.runs.items self.new.counts }
         ensures work { self.new.inbox.work ≡ self.old.inbox.work }
         ensures posted { self.new.inbox.posted ≡ self.old.inbox.posted }
-        ensures out { OnOk result (map task_of self.new.runs.items ++ self.new.inbox.out ≡ map task_of self.old.runs.items ++ self.old.inbox.out) }
+        ensures out { OnOk result (map (task_of self.new.inbox.work) self.new.runs.items ++ self.new.inbox.out ≡ map (task_of self.old.inbox.work) self.old.runs.items ++ self.old.inbox.out) }
         ensures all { OnOk result (self.new.runs.items ≡ [] → self.new.inbox.out ≡ []) }
         ensures fails { OnErr result (self.new.inbox.failed ≡ true) }
     {
@@ -84,7 +84,7 @@ impl<'a, F: Fn(Seq<Task>) -> Result<(Seq<Done>, (u64, u64, u64)), AllocError>> C
     for StealCrew<'a, F> {
     ghost work = { λ c. c.inbox.work };
 
-    ghost out = { λ c. map task_of c.runs.items ++ c.inbox.out };
+    ghost out = { λ c. map (task_of c.inbox.work) c.runs.items ++ c.inbox.out };
 
     ghost posted = { λ c. c.inbox.posted };
 

@@ -1,6 +1,6 @@
 -- The cells of the layout are searchable.
 use Rattle.std.proofs.Common.{◌≡◌, inl, inr, ℕ, true, List, [], length, map, Option, Some, None, sym, ap, ◌∙◌, subst, arith}
-use Rattle.std.specs.Prelude.{◌⊎◌, slice_get}
+use Rattle.std.specs.Prelude.{◌⊎◌, All, slice_get}
 use Rattle.std.specs.List.{Contains}
 use Rattle.std.specs.List.Sorted.{IsStrictlyIncreasing}
 use Rattle.std.proofs.lemmas.Bool.{cases_lt, eqb-true, false≢true}
@@ -15,8 +15,8 @@ use Rattle.task_ast.specs.Table.{numbers}
 use Rattle.task_ast.specs.Under.{under_lock}
 use Rattle.task_ast.proofs.Layouts.{length-numbers, get-numbers, laid_out, accepted_sizes}
 use Rattle.record_store.specs.declared.given.Bundle.{Bundle}
-use Rattle.subthread.specs.Tasks.{lock_in}
-use Rattle.subthread.specs.inner.Running.{AreSearchable}
+use Rattle.record_store.specs.Lent.{lock_in}
+use Rattle.subthread.specs.inner.Places.{AreSearchable}
 
 is_over : (lock : ℕ) (o : Option ℕ) → is_lock_cell lock o ≡ true → o ≡ Some lock
 is_over lock None is = absurd (false≢true is)
@@ -52,10 +52,11 @@ module _ (heads : List Head) where
       ]
 
 pub searchable : (program : Program) → IsAccepted program → (over : List ℕ) → ((cell : ℕ) → slice_get over cell ≡ lock_over (locks_of program.heads) program.heads cell) → (bundles : List Bundle) → IsStrictlyIncreasing (map lock_in bundles)
-    → AreSearchable (layout program.heads).under over bundles
-searchable program accepted over over_is bundles rises =
+    → All (λ (b : Bundle). length b.cells ≡ length (under_lock (layout program.heads).under b.lock)) bundles → AreSearchable (layout program.heads).under over bundles
+searchable program accepted over over_is bundles rises sizes =
     record {
       over_is = λ cell lock there. over_is cell ∙ over_found program.heads lock cell there;
       cells_rise = cells_rise program.heads (laid_out program.heads (accepted_sizes program accepted)).rising;
       bundles_rise = rises;
+      sizes = sizes;
     }

@@ -25,9 +25,9 @@ use Rattle.subthread.specs.declared.task.Done.{Done}
 use Rattle.subthread.specs.Tasks.{task_of, place_of, program_in, machine_of, under_of, body_from, actions_from, IsRun, Suits}
 use Rattle.subthread.specs.Joining.{IsTaskOf, IsGiven, Runs, RunsLaw}
 
-module _ (work : Work) (cells : Layout) (inputs : Inputs) (limits : Limits) (suits : Suits work cells inputs limits) (p : ℕ) (s : Subthread) (done : Done) (is_task : IsTaskOf work inputs limits p s (task_of done)) (run : IsRun work done) where
+module _ (work : Work) (cells : Layout) (inputs : Inputs) (limits : Limits) (suits : Suits work cells inputs limits) (p : ℕ) (s : Subthread) (done : Done) (is_task : IsTaskOf work inputs limits p s (task_of work done)) (run : IsRun work done) where
   abbrev task : Task
-  task = task_of done
+  task = task_of work done
 
   abbrev tree : Machine Point
   tree = tree_machine (program_in work) inputs limits

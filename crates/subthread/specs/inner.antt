@@ -1,5 +1,6 @@
 -- What describes parts of the crate alone.
+pub mod Hand
 pub mod Leaving
+pub mod Places
 pub mod Running
-pub mod Searches
 pub mod Turning

@@ -17,7 +17,8 @@ use task_code::{Calc, Does, Forking};
 
 // A data argument of a fork goes into the register of its parameter.
 fn give_one(gift: &(usize, Calc), ground: &Ground, ctl: &[i64], doing: &mut Doing)
-    ensures { Performs ground.now (gift_action (gift.now.0, plain_calc gift.now.1) (env_in ground.now ctl.now)) (doing_of doing.old) (doing_of doing.new) }
+    ensures performs { Performs ground.now (gift_action (gift.now.0, plain_calc gift.now.1) (env_in ground.now ctl.now)) (doing_of doing.old) (doing_of doing.new) }
+    ensures cells { doing.new.cells ≡ doing.old.cells }
 {
     if let Some(v) = data_value(&gift.1, ground, ctl, doing.regs.as_slice()) {
         set_number(&mut doing.child, gift.0, v);
@@ -26,7 +27,8 @@ fn give_one(gift: &(usize, Calc), ground: &Ground, ctl: &[i64], doing: &mut Doin
 
 // So do all.
 fn give_all(gifts: &[(usize, Calc)], ground: &Ground, ctl: &[i64], doing: &mut Doing)
-    ensures { AllPerform ground.now (all_of (map (λ g. gift_action g (env_in ground.now ctl.now)) (plain_gifts gifts.now))) (doing_of doing.old) (doing_of doing.new) }
+    ensures performs { AllPerform ground.now (all_of (map (λ g. gift_action g (env_in ground.now ctl.now)) (plain_gifts gifts.now))) (doing_of doing.old) (doing_of doing.new) }
+    ensures cells { doing.new.cells ≡ doing.old.cells }
 {
     for gift in gifts {
         give_one(gift, ground, ctl, doing);
@@ -41,7 +43,8 @@ fn make_child(
     ctl: &[i64],
     doing: &mut Doing,
 ) -> Result<(), AllocError>
-    ensures { OnOk result (doing_of doing.new ≡ after_all ground.now (unwrap_or (option_map (λ a. a.1) (fork_arguments (plain_forking forking.now) (env_in ground.now ctl.now))) []) (doing_of doing.old)) }
+    ensures made { OnOk result (doing_of doing.new ≡ after_all ground.now (unwrap_or (option_map (λ a. a.1) (fork_arguments (plain_forking forking.now) (env_in ground.now ctl.now))) []) (doing_of doing.old)) }
+    ensures cells { doing.new.cells ≡ doing.old.cells }
 {
     let Some(_values) = fork_values(alloc, forking, ground, ctl)? else {
         return Ok(());
@@ -94,7 +97,8 @@ fn begin_at(
 ) -> Result<(), AllocError>
     requires task { IsTask ground.now }
     requires inside { StaysInside (plain_does does.now) stand.old.pc }
-    ensures { OnOk result ((line : ℕ) → Begun ground.now (begin_actions ground.now.feeds.now (Some (PlainAt line (plain_does does.now))) (place_in ground.now stand.old)) (behind (tasks_in ground.now) (Some (PlainAt line (plain_does does.now))) child (place_in ground.now stand.old)) (place_in ground.now stand.new) (doing_of doing.old) (doing_of doing.new)) }
+    ensures begun { OnOk result ((line : ℕ) → Begun ground.now (begin_actions ground.now.feeds.now (Some (PlainAt line (plain_does does.now))) (place_in ground.now stand.old)) (behind (tasks_in ground.now) (Some (PlainAt line (plain_does does.now))) child (place_in ground.now stand.old)) (place_in ground.now stand.new) (doing_of doing.old) (doing_of doing.new)) }
+    ensures cells { doing.new.cells ≡ doing.old.cells }
 {
     match does {
         Does::Fork(forking) => {
@@ -152,7 +156,8 @@ pub fn begin(
     doing: &mut Doing,
 ) -> Result<(), AllocError>
     requires { IsTask ground.now }
-    ensures { OnOk result (Begun ground.now (code_first (tasks_in ground.now) ground.now.feeds.now begins.now (place_in ground.now stand.old)) (code_begins (tasks_in ground.now) begins.now child (place_in ground.now stand.old)) (place_in ground.now stand.new) (doing_of doing.old) (doing_of doing.new)) }
+    ensures begun { OnOk result (Begun ground.now (code_first (tasks_in ground.now) ground.now.feeds.now begins.now (place_in ground.now stand.old)) (code_begins (tasks_in ground.now) begins.now child (place_in ground.now stand.old)) (place_in ground.now stand.new) (doing_of doing.old) (doing_of doing.new)) }
+    ensures cells { doing.new.cells ≡ doing.old.cells }
 {
     if is_start(begins) {
         return Ok(());

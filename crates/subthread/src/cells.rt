@@ -1,88 +1,236 @@
-// The record cells of a run.
-ghost use Rattle.std.specs.Prelude.{◌≡◌, map, slice_get, unwrap_or, OnOk};
-ghost use Rattle.std.specs.FinMap.{put, find};
-ghost use Rattle.std.specs.List.Sorted.{IsStrictlyIncreasing};
+// The record cells that a run has at hand.
+ghost use Rattle.std.specs.Prelude.{◌≡◌, ◌<◌, [], length, map, unwrap_or, All, true, IsTrue, IfOk, IfErr, OnOk, OnErr};
+ghost use Rattle.std.specs.Int.{int_bit_xor, w64};
+ghost use Rattle.std.specs.FinMap.{put, find, is_sorted};
 ghost use Rattle.std.specs.Ordering.{nat_cmp};
-ghost use Rattle.task_ast.specs.Under.{under_lock};
-ghost use Rattle.subthread.specs.Tasks.{lock_in};
-ghost use Rattle.subthread.specs.inner.Running.{HasCells, cells_in};
-ghost use Rattle.subthread.specs.inner.Searches.{IsPlaceIn};
+ghost use Rattle.record_store.specs.Given.{value_in};
+ghost use Rattle.task_ast.specs.Under.{is_under};
+ghost use Rattle.record_store.specs.Lent.{lock_in, put_back, new_write};
+ghost use Rattle.subthread.specs.inner.Places.{AreSearchable, AreHandy, HasPlace, with_value, value_at};
+ghost use Rattle.subthread.specs.inner.Hand.{with_old, damaged_write, turned_write};
 
-use crate::ground::Ground;
-use crate::numbers::number_at;
+use crate::numbers::is_zero;
+use crate::places::find_cell;
 use gp_base::{LockNo, RecNo, Seq};
 use record_store::Bundle;
-use std::alloc::AllocError;
+use std::alloc::{AllocError, Global};
 use std::collections::BTreeMap;
+use std::marker::Model;
 
-// The place of a cell among cells that rise.
-fn place_in(cells: &[RecNo], cell: u32) -> Option<usize>
-    requires { IsStrictlyIncreasing cells.now }
-    ensures { IsPlaceIn cells.now cell result }
-{
-    cells.binary_search_by_key(&cell, |c| c.0).ok()
+/// The record cells that a run has at hand, which it changes in place, and the value that each cell came with where it
+/// was written. Contracts see the bundles that came, and the cells that were written, each with its last value.
+#[derive(Drop)]
+pub struct Cells<'a> {
+    under: &'a [Seq<RecNo>],
+    over: &'a [LockNo],
+    bundles: Vec<Bundle>,
+    olds: BTreeMap<u32, i64>,
 }
 
-// The bundle of a lock among bundles whose locks rise.
-fn bundle_of<'a>(bundles: &'a [Bundle], lock: LockNo) -> Option<usize>
-    requires { IsStrictlyIncreasing (map lock_in bundles.now) }
-    ensures { IsPlaceIn (map lock_in bundles.now) lock result }
-{
-    bundles
-        .binary_search_by_key(&lock.0, |bundle| bundle.lock.0)
-        .ok()
+impl<'a> Model for Cells<'a> {
+    ghost use Rattle.record_store.specs.Lent.{put_back, new_write};
+    ghost use Rattle.std.specs.Prelude.{map};
+    ghost use Rattle.subthread.specs.inner.Hand.{Hand};
+    ghost use Rattle.subthread.specs.inner.Places.{AreHandy};
+
+    ghost Value = { Hand };
+
+    ghost view = { λ c. record { under = c.under.now; came = put_back c.under.now c.olds.entries c.bundles.items; written = map (new_write c.under.now c.bundles.items) c.olds.entries } };
+
+    ghost invariant = { λ c. AreHandy c.under.now c.over.now c.bundles.items c.olds.entries };
 }
 
-// The record cells under a lock cell.
-fn under_lock<'a>(under: &'a [Seq<RecNo>], lock: LockNo) -> &'a [RecNo]
-    ensures { result.now ≡ under_lock under.now lock }
+// The value at a place.
+fn value_there(bundles: &[Bundle], at: usize, place: usize) -> i64
+    requires bundle { at < length bundles.now }
+    requires place { HasPlace bundles.now at place }
+    ensures { result ≡ value_at bundles.now at place }
 {
-    match under.get(lock.0 as usize) {
-        Some(cells) => cells.as_slice(),
-        None => &[],
-    }
-}
-
-// The lock cell over a record cell.
-fn lock_over(over: &[LockNo], cell: u32) -> Option<LockNo>
-    ensures { result ≡ slice_get over.now cell }
-{
-    over.get(cell as usize).copied()
-}
-
-// The value of a record cell as it was given: that in the bundle of the lock over it, or 0.
-fn given_value(ground: &Ground, cell: u32) -> i64
-    requires { HasCells ground.now }
-    ensures { result ≡ cells_in ground.now cell }
-{
-    let Some(lock) = lock_over(ground.over, cell) else {
-        return 0;
-    };
-    let Some(at) = bundle_of(ground.bundles, lock) else {
-        return 0;
-    };
-    let bundle = &ground.bundles[at];
-    match place_in(under_lock(ground.under, lock), cell) {
-        Some(k) => number_at(bundle.cells.as_slice(), k),
+    match bundles[at].cells.get(place) {
+        Some(value) => *value,
         None => 0,
     }
 }
 
-/// The value of a record cell: that which was written last, or else that which was given.
-pub fn cell_value(ground: &Ground, written: &BTreeMap<u32, i64>, cell: u32) -> i64
-    requires { HasCells ground.now }
-    ensures { result ≡ unwrap_or (find nat_cmp cell written.now.entries) (cells_in ground.now cell) }
+// Puts a value into a place.
+fn put_there(bundles: &mut [Bundle], at: usize, place: usize, value: i64)
+    requires bundle { at < length bundles.old }
+    requires place { HasPlace bundles.old at place }
+    ensures { bundles.new ≡ with_value at place value bundles.old }
 {
-    match written.get(&cell) {
-        Some(value) => *value,
-        None => given_value(ground, cell),
+    bundles[at].cells.set(place, value);
+}
+
+// Keeps the value of a cell, where none is kept.
+fn keep_old(olds: &mut BTreeMap<u32, i64>, cell: u32, value: i64) -> Result<(), AllocError>
+    ensures ok { OnOk result (olds.new.entries ≡ with_old cell value olds.old.entries) }
+    ensures err { OnErr result (olds.new.entries ≡ olds.old.entries) }
+{
+    if olds.contains_key(&cell) {
+        return Ok(());
+    }
+    olds.insert(cell, value)?;
+    Ok(())
+}
+
+// Puts the values that were kept back.
+fn restore(
+    under: &[Seq<RecNo>],
+    over: &[LockNo],
+    bundles: &mut [Bundle],
+    olds: &mut BTreeMap<u32, i64>,
+)
+    requires { AreHandy under.now over.now bundles.old olds.old.entries }
+    ensures { bundles.new ≡ put_back under.now olds.old.entries bundles.old }
+{
+    'restoring: while let Some(entry) = olds.pop_first() {
+        if let Some((at, place)) = find_cell(under, over, bundles, entry.0) {
+            put_there(bundles, at, place, entry.1);
+        }
     }
 }
 
-/// Writes a record cell.
-pub fn set_cell(written: &mut BTreeMap<u32, i64>, cell: u32, value: i64) -> Result<(), AllocError>
-    ensures { OnOk result (written.new.entries ≡ put nat_cmp cell value written.old.entries) }
+// The values that were kept, in rising order of their cells.
+fn old_values(alloc: Global, olds: &BTreeMap<u32, i64>) -> Result<Vec<(RecNo, i64)>, AllocError>
+    ensures { IfOk result (λ values. values.items ≡ olds.now.entries) }
 {
-    written.insert(cell, value)?;
-    Ok(())
+    olds.iter()
+        .map(|(cell, value)| (RecNo(*cell), *value))
+        .collect(alloc)
+}
+
+// The value with the bits of a mask turned round.
+fn turn_there(bundles: &mut [Bundle], at: usize, place: usize, mask: i64)
+    requires bundle { at < length bundles.old }
+    requires place { HasPlace bundles.old at place }
+    ensures { bundles.new ≡ with_value at place (int_bit_xor w64 (value_at bundles.old at place) mask) bundles.old }
+{
+    let value = value_there(bundles, at, place);
+    put_there(bundles, at, place, value ^ mask);
+}
+
+// The mask falls on each of these cells.
+fn strike(
+    under: &[Seq<RecNo>],
+    over: &[LockNo],
+    bundles: &mut [Bundle],
+    olds: &[(RecNo, i64)],
+    mask: i64,
+)
+    requires { AreHandy under.now over.now bundles.old olds.now }
+    ensures came { put_back under.now olds.now bundles.new ≡ put_back under.now olds.now bundles.old }
+    ensures written { map (new_write under.now bundles.new) olds.now ≡ map (turned_write mask) (map (new_write under.now bundles.old) olds.now) }
+{
+    'striking: for at in 0..olds.len() {
+        let cell = olds[at].0;
+        let Some((bundle, place)) = find_cell(under, over, bundles, cell.0) else {
+            unreachable!()
+        };
+        turn_there(bundles, bundle, place, mask);
+    }
+}
+
+// A mask falls on each of these cells; mask 0 changes nothing.
+fn damage(
+    under: &[Seq<RecNo>],
+    over: &[LockNo],
+    bundles: &mut [Bundle],
+    olds: &[(RecNo, i64)],
+    mask: i64,
+)
+    requires { AreHandy under.now over.now bundles.old olds.now }
+    ensures came { put_back under.now olds.now bundles.new ≡ put_back under.now olds.now bundles.old }
+    ensures written { map (new_write under.now bundles.new) olds.now ≡ map (damaged_write mask) (map (new_write under.now bundles.old) olds.now) }
+{
+    if !is_zero(mask) {
+        strike(under, over, bundles, olds, mask);
+    }
+}
+
+impl<'a> Cells<'a> {
+    /// The cells of these bundles, of which none was written.
+    pub fn new(
+        alloc: Global,
+        under: &'a [Seq<RecNo>],
+        over: &'a [LockNo],
+        bundles: Seq<Bundle>,
+    ) -> Cells<'a>
+        requires { AreSearchable under.now over.now bundles }
+        ensures { result ≡ record { under = under.now; came = bundles; written = [] } }
+    {
+        Cells {
+            under,
+            over,
+            bundles: bundles.into_vec(),
+            olds: BTreeMap::new(alloc),
+        }
+    }
+
+    /// The value of a cell: that which was written last, or else that which came; a cell that isn't at hand is 0.
+    pub fn value(&self, cell: u32) -> i64
+        ensures { result ≡ unwrap_or (find nat_cmp cell self.now.written) (value_in self.now.under self.now.came cell) }
+    {
+        match find_cell(self.under, self.over, &self.bundles, cell) {
+            Some((at, place)) => value_there(&self.bundles, at, place),
+            None => 0,
+        }
+    }
+
+    /// Writes a cell in place. The error is that memory is out, or that the cell isn't at hand; nothing is written then.
+    pub fn write(&mut self, cell: u32, value: i64) -> Result<(), AllocError>
+        ensures ok { OnOk result (self.new ≡ record self.old { written = put nat_cmp cell value self.old.written }) }
+        ensures err { OnErr result (self.new ≡ self.old) }
+    {
+        let Some((at, place)) = find_cell(self.under, self.over, &self.bundles, cell) else {
+            return Err(AllocError);
+        };
+        let before = value_there(&self.bundles, at, place);
+        keep_old(&mut self.olds, cell, before)?;
+        put_there(&mut self.bundles, at, place, value);
+        Ok(())
+    }
+
+    /// Ends a run that a fault of this mask strikes, or none, where it is 0: the mask falls on each cell that was written.
+    /// Gives the bundles with their new values, and the old ones. The error is that memory is out, and has the bundles as
+    /// they came.
+    pub fn finish(
+        self,
+        alloc: Global,
+        mask: i64,
+    ) -> Result<(Seq<Bundle>, Seq<(RecNo, i64)>), Seq<Bundle>>
+        ensures came { IfOk result (λ left. put_back self.entry.under left.1 left.0 ≡ self.entry.came) }
+        ensures written { IfOk result (λ left. map (new_write self.entry.under left.0) left.1 ≡ map (damaged_write mask) self.entry.written) }
+        ensures rising { IfOk result (λ left. IsTrue (is_sorted nat_cmp left.1)) }
+        ensures within { IfOk result (λ left. All (λ w. is_under self.entry.under (map lock_in self.entry.came) w.0 ≡ true) left.1) }
+        ensures back { IfErr result (λ bundles. bundles ≡ self.entry.came) }
+    {
+        let Ok(olds) = old_values(alloc, &self.olds) else {
+            return Err(self.take_back());
+        };
+        let Cells {
+            under,
+            over,
+            bundles,
+            ..
+        } = self;
+        let mut bundles = bundles;
+        damage(under, over, &mut bundles, &olds, mask);
+        Ok((Seq::from_vec(bundles), Seq::from_vec(olds)))
+    }
+
+    /// The bundles as they came. Takes no memory.
+    pub fn take_back(self) -> Seq<Bundle>
+        ensures { result ≡ self.entry.came }
+    {
+        let Cells {
+            under,
+            over,
+            bundles,
+            olds,
+        } = self;
+        let mut bundles = bundles;
+        let mut olds = olds;
+        restore(under, over, &mut bundles, &mut olds);
+        Seq::from_vec(bundles)
+    }
 }

@@ -1,14 +1,14 @@
 // What a run reads, and what it changes.
 
-use gp_base::{Feed, Lines, LockNo, Nums, RecNo, Seq, ThreadNo};
+use crate::cells::Cells;
+use gp_base::{Feed, Lines, Nums, RecNo, Seq, ThreadNo};
 use record_store::Bundle;
-use std::collections::BTreeMap;
+use std::snapshot::Snapshot;
 use task_ast::Next;
 use task_code::{Code, Instr};
 
 /// What a run reads and never changes: the code, its task's number and instructions, the feeds, the record cells under
-/// each lock cell, the lock cell over each record cell, the bundles at hand, `$ret` of the thread that is joined, and its
-/// thread.
+/// each lock cell, the bundles as they came, `$ret` of the thread that is joined, and its thread.
 #[derive(Drop)]
 pub struct Ground<'a> {
     pub code: &'a Code,
@@ -16,8 +16,7 @@ pub struct Ground<'a> {
     pub instrs: &'a [Instr],
     pub feeds: &'a [Feed],
     pub under: &'a [Seq<RecNo>],
-    pub over: &'a [LockNo],
-    pub bundles: &'a [Bundle],
+    pub bundles: Snapshot<Seq<Bundle>>,
     pub joined: i64,
     pub me: ThreadNo,
 }
@@ -29,13 +28,13 @@ pub struct Stand {
     pub ctl: Nums,
 }
 
-/// What a run did so far: the registers of its thread and of the child that it forked, the cells that it wrote, each with
-/// its last value, the lines that it printed, and how many control steps it made.
+/// What a run did so far: the registers of its thread and of the child that it forked, the cells at hand, which it writes
+/// in place, the lines that it printed, and how many control steps it made.
 #[derive(Drop)]
-pub struct Doing {
+pub struct Doing<'a> {
     pub regs: Nums,
     pub child: Nums,
-    pub written: BTreeMap<u32, i64>,
+    pub cells: Cells<'a>,
     pub lines: Lines,
     pub steps: u64,
 }

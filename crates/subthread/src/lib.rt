@@ -10,6 +10,7 @@ mod ground;
 mod job;
 pub mod laws;
 mod numbers;
+mod places;
 mod run;
 mod task;
 mod values;

@@ -1,36 +1,33 @@
 // The run of a task.
-ghost use Rattle.std.specs.Prelude.{◌≡◌, [], map, option_map, IfOk, IfErr, OnOk};
+ghost use Rattle.std.specs.Prelude.{◌≡◌, [], length, map, All, true, IfOk, IfErr};
 ghost use Rattle.std.specs.List.Sorted.{IsStrictlyIncreasing};
-ghost use Rattle.task_ast.specs.Effect.{effect_on};
-ghost use Rattle.subthread.specs.Tasks.{task_of, lock_in, Fits, IsRun};
-ghost use Rattle.subthread.specs.inner.Running.{doing_of, HasCells, IsTask};
-ghost use Rattle.subthread.specs.inner.Leaving.{IsGroundOf, effect_in, Walked, Leaves};
+ghost use Rattle.std.specs.Ordering.{nat_cmp};
+ghost use Rattle.std.specs.FinMap.{is_sorted};
+ghost use Rattle.task_ast.specs.Damage.{damaged};
+ghost use Rattle.task_ast.specs.Under.{under_lock, is_under};
+ghost use Rattle.record_store.specs.Lent.{lock_in, put_back, whole_effect};
+ghost use Rattle.record_store.specs.declared.given.Bundle.{Bundle as BundleThere};
+ghost use Rattle.subthread.specs.Tasks.{with_bundles, under_of, task_of, Fits, IsRun};
+ghost use Rattle.subthread.specs.inner.Running.{doing_of, Holds, IsTask};
+ghost use Rattle.subthread.specs.inner.Leaving.{IsGroundOf, Walked, effect_in, EndsAs};
 
 use crate::begins::begin;
+use crate::cells::Cells;
 use crate::damage::damage;
 use crate::ground::{Doing, Ground, Stand};
 use crate::numbers::narrow;
 use crate::walk::run_body;
 use crate::{Done, Task, Work};
-use gp_base::{At, Nums, RecNo, Seq, ThreadNo};
+use gp_base::{At, RecNo, Seq, ThreadNo};
+use record_store::{Bundle, Effect};
 use std::alloc::{AllocError, AllocFailed, Global};
-use std::collections::BTreeMap;
-use task_ast::{Effect, Next};
-
-// What a run leaves beside its task.
-#[derive(Drop)]
-struct Left {
-    effect: Effect,
-    next: Next,
-    at: At,
-    ctl: Nums,
-}
+use std::mem;
+use std::snapshot::Snapshot;
+use task_ast::Next;
 
 // What the run of a task reads.
-fn ground_of<'a>(work: &'a Work, task: &'a Task) -> Ground<'a>
-    requires { Fits work.now task.now }
+fn ground_of<'a>(work: &'a Work, task: &Task) -> Ground<'a>
     ensures is { IsGroundOf work.now task.now result }
-    ensures cells { HasCells result }
     ensures task { IsTask result }
 {
     work.code.facts();
@@ -40,95 +37,126 @@ fn ground_of<'a>(work: &'a Work, task: &'a Task) -> Ground<'a>
         instrs: work.code.instrs(task.at.task),
         feeds: work.feeds.as_slice(),
         under: work.code.layout().under.as_slice(),
-        over: work.code.over().as_slice(),
-        bundles: task.given.bundles.as_slice(),
+        bundles: Snapshot::of(&task.given.bundles),
         joined: task.given.joined,
         me: task.thread,
     }
 }
 
-// The cells that were written, in rising order, each with its last value.
-fn writes_of(alloc: Global, written: &BTreeMap<u32, i64>) -> Result<Vec<(RecNo, i64)>, AllocError>
-    ensures { IfOk result (λ writes. writes.items ≡ written.now.entries) }
+// The cells of the bundles at hand, of which none was written.
+fn cells_of<'a>(alloc: Global, work: &'a Work, bundles: Seq<Bundle>) -> Cells<'a>
+    requires rising { IsStrictlyIncreasing (map lock_in bundles) }
+    requires sizes { All (λ (b : BundleThere). length b.cells ≡ length (under_lock (under_of work.now) b.lock)) bundles }
+    ensures { result ≡ record { under = under_of work.now; came = bundles; written = [] } }
 {
-    written
-        .iter()
-        .map(|(cell, value)| (RecNo(*cell), *value))
-        .collect(alloc)
+    work.code.facts();
+    let under = work.code.layout().under.as_slice();
+    let over = work.code.over().as_slice();
+    Cells::new(alloc, under, over, bundles)
 }
 
-// The effect of what a run did.
-fn effect_of(
-    alloc: Global,
-    thread: ThreadNo,
-    child: Option<ThreadNo>,
-    doing: Doing,
-) -> Result<Effect, AllocError>
-    ensures { IfOk result (λ effect. effect ≡ effect_in thread child (doing_of doing)) }
-{
-    let writes = writes_of(alloc, &doing.written)?;
-    Ok(Effect {
-        thread,
-        writes: Seq::from_vec(writes),
-        regs: doing.regs,
-        child: child.map(|c| (c, doing.child)),
-        prints: doing.lines,
-    })
-}
-
-// Walks from where a task stands to its next synchronisation.
+// Walks from where a task stands to its next synchronisation; the task's bundles are with the cells at hand.
 fn walk(
     alloc: Global,
     work: &Work,
     task: &Task,
+    ground: &Ground,
     stand: &mut Stand,
     doing: &mut Doing,
 ) -> Result<Next, AllocError>
-    requires { Fits work.now task.now }
-    ensures { IfOk result (λ next. Walked work.now task.now next stand.old (doing_of doing.old) stand.new (doing_of doing.new)) }
+    requires is { IsGroundOf work.now (with_bundles ground.now.bundles.value task.now) ground.now }
+    requires task { IsTask ground.now }
+    requires holds { Holds ground.now doing.old }
+    ensures walked { IfOk result (λ next. Walked work.now (with_bundles ground.now.bundles.value task.now) next stand.old (doing_of doing.old) stand.new (doing_of doing.new)) }
+    ensures holds { Holds ground.now doing.new }
 {
-    let ground = ground_of(work, task);
-    begin(alloc, &task.begins.sync, &ground, task.child, stand, doing)?;
-    run_body(alloc, &ground, work.turns, stand, doing)
+    begin(alloc, &task.begins.sync, ground, task.child, stand, doing)?;
+    run_body(alloc, ground, work.turns, stand, doing)
 }
 
-// Runs a task on copies of what it was given, and leaves the number of its control steps in `steps`.
-fn run_copy(alloc: Global, work: &Work, task: &Task, steps: &mut u64) -> Result<Left, AllocError>
-    requires { Fits work.now task.now }
-    ensures { IfOk result (λ left. Leaves work.now task.now left) }
+// Ends a run: the mask falls on all that it did. Gives the bundles with their new values, the old ones, and the effect. The
+// error is that memory is out, and has the bundles as they came.
+fn end(
+    alloc: Global,
+    mask: i64,
+    thread: ThreadNo,
+    child: Option<ThreadNo>,
+    doing: Doing,
+) -> Result<(Seq<Bundle>, Seq<(RecNo, i64)>, Effect), Seq<Bundle>>
+    ensures came { IfOk result (λ left. put_back doing.entry.cells.under left.1 left.0 ≡ doing.entry.cells.came) }
+    ensures effect { IfOk result (λ left. whole_effect doing.entry.cells.under left.0 left.1 left.2 ≡ damaged mask (effect_in thread child (doing_of doing.entry))) }
+    ensures rising { IfOk result (λ left. is_sorted nat_cmp left.1 ≡ true) }
+    ensures within { IfOk result (λ left. All (λ w. is_under doing.entry.cells.under (map lock_in doing.entry.cells.came) w.0 ≡ true) left.1) }
+    ensures back { IfErr result (λ bundles. bundles ≡ doing.entry.cells.came) }
 {
-    let mut stand = Stand {
-        pc: task.at.pc as usize,
-        ctl: task.ctl.copied(alloc)?,
+    let Doing {
+        regs,
+        child: child_regs,
+        cells,
+        lines,
+        ..
+    } = doing;
+    let effect = Effect {
+        thread,
+        regs,
+        child: child.map(|c| (c, child_regs)),
+        prints: lines,
     };
-    let mut doing = Doing {
-        regs: task.given.regs.copied(alloc)?,
-        child: Seq::new(alloc),
-        written: BTreeMap::new(alloc),
-        lines: Seq::new(alloc),
-        steps: 0,
+    let Ok(effect) = damage(alloc, mask, effect) else {
+        return Err(cells.take_back());
     };
-    let next = walk(alloc, work, task, &mut stand, &mut doing)?;
-    *steps = doing.steps;
-    let effect = effect_of(alloc, task.thread, task.child, doing)?;
-    let effect = damage(alloc, task.mask, effect)?;
-    Ok(Left {
-        effect,
-        next,
-        at: At {
-            task: task.at.task,
-            pc: narrow(stand.pc)?,
-        },
-        ctl: stand.ctl,
-    })
+    match cells.finish(alloc, mask) {
+        Err(bundles) => Err(bundles),
+        Ok(left) => Ok((left.0, left.1, effect)),
+    }
 }
 
-/// Runs a task. What comes next and where the thread then stands follow from the task's beginning, place, control
-/// variables, thread and child; the effect is what its actions do on what was given, damaged by its mask. An index fault
-/// and spent loop turns are values of what comes next. The error is that memory is out, and has the task as it was.
+// Ends the run of a task that stands here, and whose bundles are with the cells at hand.
+fn ended(
+    alloc: Global,
+    task: Task,
+    stand: Stand,
+    next: Next,
+    doing: Doing,
+) -> Result<Done, AllocFailed<Task>>
+    ensures ok { IfOk result (λ done. EndsAs doing.entry.cells.under doing.entry.cells.came task stand next (doing_of doing.entry) done) }
+    ensures back { IfErr result (λ failed. failed.value ≡ with_bundles doing.entry.cells.came task) }
+{
+    let mut task = task;
+    let Ok(pc) = narrow(stand.pc) else {
+        task.given.bundles = doing.cells.take_back();
+        return Err(AllocFailed { value: task });
+    };
+    match end(alloc, task.mask, task.thread, task.child, doing) {
+        Err(bundles) => {
+            task.given.bundles = bundles;
+            Err(AllocFailed { value: task })
+        }
+        Ok((bundles, old, effect)) => {
+            task.given.bundles = bundles;
+            let at = At {
+                task: task.at.task,
+                pc,
+            };
+            Ok(Done {
+                task,
+                old,
+                effect,
+                next,
+                at,
+                ctl: stand.ctl,
+            })
+        }
+    }
+}
+
+/// Runs a task, whose cells it changes in place. What comes next and where the thread then stands follow from the task's
+/// beginning, place, control variables, thread and child; the effect is what its actions do on what was given, damaged by
+/// its mask. An index fault and spent loop turns are values of what comes next. The error is that memory is out, and has
+/// the task as it was.
 pub fn run_task(alloc: Global, work: &Work, task: Task) -> Result<Done, AllocFailed<Task>>
     requires { Fits work.now task }
-    ensures of_task { IfOk result (λ done. task_of done ≡ task) }
+    ensures of_task { IfOk result (λ done. task_of work.now done ≡ task) }
     ensures run { IfOk result (λ done. IsRun work.now done) }
     ensures back { IfErr result (λ failed. failed.value ≡ task) }
 {
@@ -145,18 +173,38 @@ pub fn run_counted(
     steps: &mut u64,
 ) -> Result<Done, AllocFailed<Task>>
     requires { Fits work.now task }
-    ensures of_task { IfOk result (λ done. task_of done ≡ task) }
+    ensures of_task { IfOk result (λ done. task_of work.now done ≡ task) }
     ensures run { IfOk result (λ done. IsRun work.now done) }
     ensures back { IfErr result (λ failed. failed.value ≡ task) }
 {
-    match run_copy(alloc, work, &task, steps) {
-        Ok(left) => Ok(Done {
-            task,
-            effect: left.effect,
-            next: left.next,
-            at: left.at,
-            ctl: left.ctl,
-        }),
-        Err(_) => Err(AllocFailed { value: task }),
+    let Ok(ctl) = task.ctl.copied(alloc) else {
+        return Err(AllocFailed { value: task });
+    };
+    let Ok(regs) = task.given.regs.copied(alloc) else {
+        return Err(AllocFailed { value: task });
+    };
+    let ground = ground_of(work, &task);
+    let mut task = task;
+    let bundles = mem::replace(&mut task.given.bundles, Seq::new(alloc));
+    let mut stand = Stand {
+        pc: task.at.pc as usize,
+        ctl,
+    };
+    let mut doing = Doing {
+        regs,
+        child: Seq::new(alloc),
+        cells: cells_of(alloc, work, bundles),
+        lines: Seq::new(alloc),
+        steps: 0,
+    };
+    match walk(alloc, work, &task, &ground, &mut stand, &mut doing) {
+        Ok(next) => {
+            *steps = doing.steps;
+            ended(alloc, task, stand, next, doing)
+        }
+        Err(_) => {
+            task.given.bundles = doing.cells.take_back();
+            Err(AllocFailed { value: task })
+        }
     }
 }

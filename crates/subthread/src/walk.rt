@@ -3,7 +3,7 @@ ghost use Rattle.std.specs.Prelude.{◌≡◌, is_some, map, option_map, slice_g
 ghost use Rattle.task_ast.specs.Control.{all_of};
 ghost use Rattle.task_code.specs.Reading.{fork_arguments, gift_action, step_does, step_instr};
 ghost use Rattle.task_code.specs.View.{plain_does, plain_forking, plain_gifts, plain_instrs};
-ghost use Rattle.subthread.specs.inner.Running.{env_in, place_in, doing_of, body_in, HasCells, IsTask, StaysInside, Stepped, Ran};
+ghost use Rattle.subthread.specs.inner.Running.{env_in, place_in, doing_of, body_in, Holds, IsTask, StaysInside, Stepped, Ran};
 
 use crate::deeds::{fits, perform};
 use crate::ground::{Doing, Ground, Stand, Went};
@@ -66,9 +66,10 @@ fn step_at(
     stand: &mut Stand,
     doing: &mut Doing,
 ) -> Result<Went, AllocError>
-    requires cells { HasCells ground.now }
+    requires cells { Holds ground.now doing.old }
     requires inside { StaysInside (plain_does does.now) stand.old.pc }
-    ensures { IfOk result (λ went. Stepped ground.now (step_does ground.now.feeds.now line (plain_does does.now) (place_in ground.now stand.old)) went (place_in ground.now stand.old) (place_in ground.now stand.new) (doing_of doing.old) (doing_of doing.new)) }
+    ensures steps { IfOk result (λ went. Stepped ground.now (step_does ground.now.feeds.now line (plain_does does.now) (place_in ground.now stand.old)) went (place_in ground.now stand.old) (place_in ground.now stand.new) (doing_of doing.old) (doing_of doing.new)) }
+    ensures holds { Holds ground.now doing.new }
 {
     match does {
         Does::Assign(k, c) => match control_value(c, ground, stand.ctl.as_slice()) {
@@ -155,9 +156,10 @@ fn step(
     stand: &mut Stand,
     doing: &mut Doing,
 ) -> Result<Went, AllocError>
-    requires cells { HasCells ground.now }
+    requires cells { Holds ground.now doing.old }
     requires task { IsTask ground.now }
-    ensures { IfOk result (λ went. Stepped ground.now (step_instr ground.now.feeds.now (slice_get (plain_instrs ground.now.instrs.now) stand.old.pc) (place_in ground.now stand.old)) went (place_in ground.now stand.old) (place_in ground.now stand.new) (doing_of doing.old) (doing_of doing.new)) }
+    ensures steps { IfOk result (λ went. Stepped ground.now (step_instr ground.now.feeds.now (slice_get (plain_instrs ground.now.instrs.now) stand.old.pc) (place_in ground.now stand.old)) went (place_in ground.now stand.old) (place_in ground.now stand.new) (doing_of doing.old) (doing_of doing.new)) }
+    ensures holds { Holds ground.now doing.new }
 {
     doing.steps = doing.steps.saturating_add(1);
     if stand.pc < ground.instrs.len() {
@@ -176,9 +178,10 @@ pub fn run_body(
     stand: &mut Stand,
     doing: &mut Doing,
 ) -> Result<Next, AllocError>
-    requires cells { HasCells ground.now }
+    requires cells { Holds ground.now doing.old }
     requires task { IsTask ground.now }
-    ensures { IfOk result (λ next. Ran ground.now (body_in ground.now turns (place_in ground.now stand.old)) next (place_in ground.now stand.new) (doing_of doing.old) (doing_of doing.new)) }
+    ensures ran { IfOk result (λ next. Ran ground.now (body_in ground.now turns (place_in ground.now stand.old)) next (place_in ground.now stand.new) (doing_of doing.old) (doing_of doing.new)) }
+    ensures holds { Holds ground.now doing.new }
 {
     let mut left = turns;
     loop {

@@ -4,7 +4,7 @@ use Rattle.gp_base.specs.declared.journal.Event.{Event}
 use Rattle.gp_base.specs.declared.journal.Restart.{Restart}
 use Rattle.task_ast.specs.declared.sync.SyncOp.{SyncOp}
 use Rattle.task_ast.specs.Control.{Point}
-use Rattle.task_ast.specs.Names.{records_of, cells_in}
+use Rattle.task_ast.specs.Names.{records_of, locks_of, cells_in}
 use Rattle.task_ast.specs.Layout.{layout}
 use Rattle.task_ast.specs.Table.{Table}
 use Rattle.dependence.specs.Journal.{Stage, Lawful, stage}
@@ -20,6 +20,7 @@ use Rattle.engine.specs.declared.parts.Plan.{Plan}
 use Rattle.engine.specs.declared.parts.Parts.{Parts}
 use Rattle.engine.specs.declared.calls.Halt.{Halt}
 use Rattle.engine.specs.View.{Batch, View, program_in, run_in, dependence_in, under_in, start_in, IsHalt}
+use Rattle.engine.specs.inner.Locks.{LocksStand}
 use Rattle.engine.specs.inner.RingStands.{from_before, RingStands}
 
 -- what a plan is to definitions
@@ -57,11 +58,12 @@ pub record IsFit (batch : Batch) : Type 0 where
   pub short : AreShort batch.faults
   pub few : batch.limits.subthreads < 2 ^ 32
 
--- the store has room for the registers of all threads, and the cells and the layout of the run
+-- the store has room for the registers of all threads, and the cells, the layout and the locks of the run
 pub record IsHome (batch : Batch) (table : Table) (store : Stored) : Type 0 where
   pub threads : length table.seats ≤ length store.threads
   pub cells : length store.cells ≡ cells_in (records_of (program_in batch).heads)
   pub under : store.under ≡ under_in batch
+  pub locks : length store.away ≡ cells_in (locks_of (program_in batch).heads)
 
 -- the journal with its counts
 pub record JournalStands (batch : Batch) (events : List Event) (restarts : List Restart) (issued : ℕ) (ended : Option Halt) : Type 0 where
@@ -76,6 +78,7 @@ pub record WindowStands (batch : Batch) (at : Stage) (table : Table) (entries : 
   pub buffer_is : RunStands (run_in batch) batch.faults (start_in batch) at (buffer_of store entries)
   pub placed : All (IsPlaced batch) entries
   pub undoable : HistoriesFit store entries
+  pub locks : LocksStand store.away entries
   pub home : IsHome batch table store
 
 -- all that is kept

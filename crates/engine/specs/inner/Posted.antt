@@ -1,15 +1,17 @@
 -- The task of an entry's present attempt.
-use Rattle.std.specs.Prelude.{ℕ, List}
+use Rattle.std.specs.Prelude.{ℕ, List, [], map}
 use Rattle.gp_base.specs.declared.fault.Fault.{Fault}
+use Rattle.task_ast.specs.State.{RegistersOf}
 use Rattle.dependence.specs.Restarts.{mask_of}
-use Rattle.record_store.specs.Given.{given_of, joined_by}
+use Rattle.record_store.specs.Given.{bundle_of, joined_by, joined_value}
 use Rattle.record_store.specs.Stored.{Stored, state_of}
 use Rattle.reorder_list.specs.declared.entry.Entry.{Entry}
 use Rattle.subthread.specs.declared.task.Task.{Task}
+use Rattle.subthread.specs.Tasks.{with_bundles}
 
--- it is given what the store gives, and has the mask of the fault that strikes the attempt
-abbrev pub task_in : List Fault → Stored → (position : ℕ) → Entry → Task
-task_in faults store p e =
+-- it is given registers as the store has them, and no cells yet; it has the mask of the fault that strikes the attempt
+abbrev pub bare_in : List Fault → Stored → (position : ℕ) → Entry → Task
+bare_in faults store p e =
     record {
       pos = p;
       thread = e.thread;
@@ -18,7 +20,15 @@ task_in faults store p e =
       at = e.at;
       ctl = e.ctl;
       child = e.child;
-      given = given_of store.under (state_of store) e.thread (joined_by e.begins.sync) e.held;
+      given = record { regs = state_of store (RegistersOf e.thread); joined = joined_value (state_of store) (joined_by e.begins.sync); bundles = [] };
       held = e.held;
       mask = mask_of faults p e.attempt;
     }
+
+-- a task with the cells that the store lends for its locks
+abbrev pub lent_by : Stored → Task → Task
+lent_by store task = with_bundles (map (bundle_of store.under (state_of store)) task.held) task
+
+-- it is given what the store gives
+abbrev pub task_in : List Fault → Stored → (position : ℕ) → Entry → Task
+task_in faults store p e = lent_by store (bare_in faults store p e)

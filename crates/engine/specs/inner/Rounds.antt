@@ -5,6 +5,7 @@ use Rattle.std.specs.Io.KnownBytes.{Appends}
 use Rattle.dependence.specs.Journal.{WasTaken}
 use Rattle.dependence.specs.Measure.{left_after}
 use Rattle.subthread.specs.declared.task.Task.{Task}
+use Rattle.subthread.specs.declared.task.Work.{Work}
 use Rattle.restart_log.specs.Lines.{printed}
 use Rattle.engine.specs.View.{View, dependence_in, lines_at, lines_below, now, is_known, Stands}
 use Rattle.engine.specs.declared.calls.Halt.TheVariants as halt
@@ -30,14 +31,19 @@ pub record Onward (before after : View) : Type 0 where
   pub stands : Stands after
   pub moved : (left after < left before) ⊎ Rests before after
 
--- a crew that agreed with the engine does so still: nothing was posted or taken
-abbrev pub KeepsCrew : (before after : View) → Type 0
-KeepsCrew before after = (posted : List (ℕ × ℕ)) (out : List Task) → CrewStands before posted out → CrewStands after posted out
+-- between two parts of a round: the engine stands, and the crew is ready, is of its work, and agrees with it
+pub record Agrees (view : View) (ready : Type 0) (work : Work) (posted : List (ℕ × ℕ)) (out : List Task) : Type 0 where
+  pub stands : Stands view
+  pub is_ready : ready
+  pub work_is : work ≡ view.batch.work
+  pub crew : CrewStands view posted out
 
--- the run went on, or rests, and nothing was posted or taken
-pub record GoesOn (before after : View) : Type 0 where
+-- what each part leaves, whatever it answers: the run went on, or rests, and the crew is ready, is of its work, and has all posts
+pub record Leaves (before after : View) (ready : Type 0) (work : Work) (posted : List (ℕ × ℕ)) : Type 0 where
   pub onward : Onward before after
-  pub crew : KeepsCrew before after
+  pub is_ready : ready
+  pub work_is : work ≡ after.batch.work
+  pub posted_are : posted ≡ (now after).posted
 
 -- no position is struck, and the oldest may not retire
 pub record IsQuiet (view : View) : Type 0 where

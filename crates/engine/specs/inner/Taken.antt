@@ -6,6 +6,7 @@ use Rattle.task_ast.specs.Effect.{after}
 use Rattle.task_ast.specs.History.{old_of}
 use Rattle.task_ast.specs.Table.{Table, learning}
 use Rattle.token_order.specs.View.{awaited}
+use Rattle.record_store.specs.Lent.{marked}
 use Rattle.record_store.specs.Stored.{Stored, state_of, SameShape, Fits}
 use Rattle.reorder_list.specs.declared.entry.Entry.{Entry}
 use Rattle.reorder_list.specs.Entries.{with_change_at, applied_entry}
@@ -33,14 +34,15 @@ abbrev pub has_attempt : (attempt : ℕ) → Option Entry → Bool
 has_attempt attempt None = false
 has_attempt attempt (Some e) = nat_eq attempt e.attempt
 
--- an effect was applied to the store, and its history and lines to the entry of its position
-pub record IsApplied (p : ℕ) (effect : Effect) (store later : Stored) (entries others : List Entry) : Type 0 where
+-- an effect was applied to the store, which took the cells of these locks home, and its history and lines to the entry of its position
+pub record IsApplied (p : ℕ) (locks : List ℕ) (effect : Effect) (store later : Stored) (entries others : List Entry) : Type 0 where
   pub state : state_of later ≡ after effect (state_of store)
   pub shape : SameShape store later
+  pub away : later.away ≡ marked locks false store.away
   pub back : Fits later (old_of effect (state_of store))
   pub entries_are : others ≡ with_change_at p (applied_entry (old_of effect (state_of store)) effect.prints) entries
 
 -- it was, or all is as before
-abbrev pub IsAppliedWhere : (fresh : Bool) → (p : ℕ) → Effect → (store later : Stored) → (entries others : List Entry) → Type 0
-IsAppliedWhere true p effect store later entries others = IsApplied p effect store later entries others
-IsAppliedWhere false p effect store later entries others = (later ≡ store) × (others ≡ entries)
+abbrev pub IsAppliedWhere : (fresh : Bool) → (p : ℕ) → (locks : List ℕ) → Effect → (store later : Stored) → (entries others : List Entry) → Type 0
+IsAppliedWhere true p locks effect store later entries others = IsApplied p locks effect store later entries others
+IsAppliedWhere false p locks effect store later entries others = (later ≡ store) × (others ≡ entries)

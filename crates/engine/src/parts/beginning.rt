@@ -47,10 +47,12 @@ fn ring_of(alloc: Global, plan: &Plan, layout: &Layout) -> Result<Ring, AllocErr
 
 /// The store with the records and the registers of thread 0.
 fn store_of(alloc: Global, plan: &Plan, layout: Layout, records: Nums) -> Result<Store, AllocError>
+    requires suits { Suits (batch_in plan.now).work layout (batch_in plan.now).inputs (batch_in plan.now).limits }
+    requires records { records ≡ (batch_in plan.now).inputs.records }
     ensures { IfOk result (λ store. store ≡ with_thread (length (registers_of (main_task (program_in (batch_in plan.now))))) (without_threads records layout.under)) }
 {
     let code = &plan.work.code;
-    let mut store = Store::new(alloc, records, layout);
+    let mut store = Store::new(alloc, records, layout)?;
     store.reserve_thread(alloc, registers(code, code.main()))?;
     Ok(store)
 }

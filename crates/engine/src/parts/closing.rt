@@ -3,7 +3,7 @@
 ghost use Rattle.std.specs.Prelude.{◌≡◌, false, Some, IfSome, IfNone};
 ghost use Rattle.gp_base.specs.declared.ending.End.{End as EndThere};
 ghost use Rattle.engine.specs.declared.calls.Halt.TheVariants as halt;
-ghost use Rattle.engine.specs.Gives.{IsNextToPost, NoneToPost, HasFinished, IsJournalOf, IsReportOf};
+ghost use Rattle.engine.specs.Gives.{NoneLent, IsNextToPost, NoneToPost, HasFinished, IsJournalOf, IsReportOf};
 ghost use Rattle.engine.specs.inner.Kept.{batch_in, view_of, Kept};
 
 use crate::Halt;
@@ -66,9 +66,10 @@ pub fn into_journal(plan: &Plan, parts: Parts) -> Journal
     }
 }
 
-/// The report of the run, which has ended so. Takes no memory.
+/// The report of the run, which has ended so, when each lock is at home. Takes no memory.
 pub fn into_report(plan: &Plan, parts: Parts, end: End) -> Report
     requires kept { Kept (batch_in plan.now) parts }
+    requires home { NoneLent (view_of (batch_in plan.now) parts) }
     ensures { IsReportOf (view_of (batch_in plan.now) parts) end result }
 {
     let unused = (plan.faults.as_slice().len() - parts.restarts.len()) as u32;

@@ -1,10 +1,11 @@
 // Making the restarts that faults ask for.
 
-ghost use Rattle.std.specs.Prelude.{◌≡◌, ◌+◌, ◌<◌, ◌≤◌, [], ◌∷◌, ◌++◌, Some, false, IfOk, OnErr, OnOk, length};
+ghost use Rattle.std.specs.Prelude.{◌≡◌, ◌↔◌, ◌+◌, ◌<◌, ◌≤◌, [], ◌∷◌, ◌++◌, Some, is_some, false, IsTrue, IfOk, OnErr, OnOk, length};
 ghost use Rattle.std.specs.Option.{IsSome};
 ghost use Rattle.gp_base.specs.declared.journal.Event.TheVariants as event;
+ghost use Rattle.record_store.specs.Stored.{IsAllHome};
 ghost use Rattle.reorder_list.specs.Entries.{entry_at};
-ghost use Rattle.engine.specs.Gives.{Did, DetectGives, struck_now};
+ghost use Rattle.engine.specs.Gives.{Did, DetectGives, NoneLent, struck_now};
 ghost use Rattle.engine.specs.View.{now};
 ghost use Rattle.engine.specs.inner.Kept.{batch_in, view_of, Kept};
 ghost use Rattle.engine.specs.inner.Detected.{HasRooms, attempt_in};
@@ -15,6 +16,23 @@ use gp_base::{Event, Pos, Restart, Room};
 use reorder_list::Rol;
 use restart::restart;
 use std::alloc::{AllocError, Global};
+
+/// Whether a restart is due, as far as the end is known.
+pub fn due(plan: &Plan, parts: &Parts) -> bool
+    requires kept { Kept (batch_in plan.now) parts.now }
+    ensures { result ≡ is_some (struck_now (view_of (batch_in plan.now) parts.now)) }
+{
+    let faults = plan.faults.as_slice();
+    struck(&parts.rol, faults, parts.issued, parts.ended.is_some()).is_some()
+}
+
+/// Whether no task that is out holds a lock, so that each lock is at home.
+pub fn all_home(plan: &Plan, parts: &Parts) -> bool
+    requires kept { Kept (batch_in plan.now) parts.now }
+    ensures { IsTrue result ↔ NoneLent (view_of (batch_in plan.now) parts.now) }
+{
+    !parts.rol.lent()
+}
 
 // Takes the memory that a restart of so many positions needs: for its list, and for it in the journal.
 fn make_room(
@@ -50,6 +68,7 @@ fn redo_from(alloc: Global, plan: &Plan, parts: &mut Parts, struck: Pos, redo: R
     requires kept { Kept (batch_in plan.now) parts.old }
     requires closed { parts.old.ring.cleared ≡ false }
     requires is_struck { struck_now (view_of (batch_in plan.now) parts.old) ≡ Some struck }
+    requires home { IsAllHome parts.old.store }
     requires empty { redo.items ≡ [] }
     requires rooms { HasRooms (length parts.old.rol.entries) parts.old.events parts.old.restarts redo }
     ensures kept { Kept (batch_in plan.now) parts.new }
@@ -78,11 +97,12 @@ fn redo_from(alloc: Global, plan: &Plan, parts: &mut Parts, struck: Pos, redo: R
     });
 }
 
-/// Makes one restart and answers `true`, or answers `false` where none is due, as far as the end is known. The error is
-/// that memory is out, and changes nothing.
+/// Makes one restart, before which each lock has to be at home, and answers `true`, or answers `false` where none is due, as
+/// far as the end is known. The error is that memory is out, and changes nothing.
 pub fn detect(alloc: Global, plan: &Plan, parts: &mut Parts) -> Result<bool, AllocError>
     requires kept { Kept (batch_in plan.now) parts.old }
     requires closed { parts.old.ring.cleared ≡ false }
+    requires home { IsSome (struck_now (view_of (batch_in plan.now) parts.old)) → NoneLent (view_of (batch_in plan.now) parts.old) }
     ensures kept { Kept (batch_in plan.now) parts.new }
     ensures closed { parts.new.ring.cleared ≡ false }
     ensures gives { IfOk result (DetectGives (view_of (batch_in plan.now) parts.old) (view_of (batch_in plan.now) parts.new)) }

@@ -1,27 +1,31 @@
 // Posting the present attempt of a position.
 
-ghost use Rattle.std.specs.Prelude.{◌≡◌, false, [], ◌∷◌, ◌++◌, IfOk, OnOk, OnErr};
+ghost use Rattle.std.specs.Prelude.{◌≡◌, ◌≤◌, true, false, [], ◌∷◌, ◌++◌, length, map, All, Contains, IfOk, IfErr, OnOk, OnErr};
 ghost use Rattle.std.specs.Option.{IsSomeAnd};
+ghost use Rattle.std.specs.List.Sorted.{IsStrictlyIncreasing};
 ghost use Rattle.gp_base.specs.declared.journal.Event.TheVariants as event;
 ghost use Rattle.dependence.specs.Restarts.{mask_of};
 ghost use Rattle.dependence.specs.Standing.{present};
 ghost use Rattle.record_store.specs.Given.{joined_by};
+ghost use Rattle.record_store.specs.Lent.{lock_in, marked, AreAsLent};
+ghost use Rattle.record_store.specs.Stored.{IsAtHome, IsAway};
 ghost use Rattle.reorder_list.specs.Entries.{entry_at};
 ghost use Rattle.subthread.specs.declared.task.Task.{Task};
 ghost use Rattle.subthread.specs.Footprints.{IsNumbered};
+ghost use Rattle.subthread.specs.Tasks.{Fits};
 ghost use Rattle.crew.specs.Out.{pair_of};
 ghost use Rattle.engine.specs.View.{now};
 ghost use Rattle.engine.specs.Gives.{Did, MayPostNow};
 ghost use Rattle.engine.specs.Takes.{TaskStands};
 ghost use Rattle.engine.specs.inner.Kept.{batch_in, view_of, Kept};
-ghost use Rattle.engine.specs.inner.Posted.{task_in};
+ghost use Rattle.engine.specs.inner.Posted.{bare_in, lent_by};
 
 use crate::parts::{Parts, Plan};
 use crew::Crew;
-use gp_base::{Event, Fault, Pos, ThreadNo};
-use record_store::Store;
+use gp_base::{Event, Fault, Pos, Room, Seq, ThreadNo};
+use record_store::{Bundle, Given, Store};
 use reorder_list::{Entry, Rol};
-use std::alloc::{AllocError, Global};
+use std::alloc::{AllocError, AllocFailed, Global};
 use std::thread::Threads;
 use subthread::Task;
 use task_ast::SyncOp;
@@ -49,8 +53,8 @@ fn joined_by(begins: &SyncOp) -> Option<ThreadNo>
     }
 }
 
-/// The task of an entry's present attempt.
-fn task_in(
+/// The task of an entry's present attempt, which has no cells yet.
+fn bare_in(
     alloc: Global,
     faults: &[Fault],
     store: &Store,
@@ -58,9 +62,11 @@ fn task_in(
     entry: &Entry,
 ) -> Result<Task, AllocError>
     requires numbered { IsNumbered entry.now.begins.sync }
-    ensures { IfOk result (λ task. task ≡ task_in faults.now store.now pos entry.now) }
+    ensures { IfOk result (λ task. task ≡ bare_in faults.now store.now pos entry.now) }
 {
     let joined = joined_by(&entry.begins.sync);
+    let (regs, joined) = store.regs_of(alloc, entry.thread, joined)?;
+    let bundles = Seq::new(alloc);
     Ok(Task {
         pos,
         thread: entry.thread,
@@ -69,14 +75,18 @@ fn task_in(
         at: entry.at,
         ctl: entry.ctl.copied(alloc)?,
         child: entry.child,
-        given: store.inputs(alloc, entry.thread, &entry.held, joined)?,
+        given: Given {
+            regs,
+            joined,
+            bundles,
+        },
         held: entry.held.copied(alloc)?,
         mask: mask_of(faults, pos, entry.attempt),
     })
 }
 
-/// The task of a position's present attempt.
-fn task_at(
+/// The task of a position's present attempt, which has no cells yet.
+fn bare_at(
     alloc: Global,
     faults: &[Fault],
     store: &Store,
@@ -84,16 +94,106 @@ fn task_at(
     pos: Pos,
 ) -> Result<Task, AllocError>
     requires found { IsSomeAnd (entry_at rol.now.entries pos) (λ e. IsNumbered e.begins.sync) }
-    ensures { IfOk result (λ task. IsSomeAnd (entry_at rol.now.entries pos) (λ e. task ≡ task_in faults.now store.now pos e)) }
+    ensures { IfOk result (λ task. IsSomeAnd (entry_at rol.now.entries pos) (λ e. task ≡ bare_in faults.now store.now pos e)) }
 {
     match rol.get(pos) {
-        Some(entry) => task_in(alloc, faults, store, pos, entry),
+        Some(entry) => bare_in(alloc, faults, store, pos, entry),
         None => unreachable!(),
     }
 }
 
-/// Posts the present attempt of a position to a crew of this run's work. The error is that memory is out; nothing was
-/// posted then.
+/// Room for the cells of so many locks.
+fn room_for(alloc: Global, locks: usize) -> Result<Room<Bundle>, AllocError>
+    ensures empty { IfOk result (λ room. room.items ≡ []) }
+    ensures room { IfOk result (λ room. locks ≤ room.spare) }
+{
+    let mut room = Room::new(alloc);
+    room.reserve(locks)?;
+    Ok(room)
+}
+
+/// Lends a task the cells of its locks, which are at home.
+fn lend(store: &mut Store, task: Task, room: Room<Bundle>) -> Task
+    requires home { All (IsAtHome store.old) task.held }
+    requires rising { IsStrictlyIncreasing task.held }
+    requires empty { room.items ≡ [] }
+    requires room { length task.held ≤ room.spare }
+    ensures task { result ≡ lent_by store.old task }
+    ensures store { store.new ≡ record store.old { away = marked task.held true store.old.away } }
+{
+    let mut task = task;
+    let mut room = room;
+    store.lend(&task.held, &mut room);
+    task.given.bundles = room.into_seq();
+    task
+}
+
+/// Hands a task to a crew. The error is that memory is out; the task comes back.
+fn hand<R: Threads + Sync, C: Crew>(
+    rt: &R,
+    crew: &mut C,
+    task: Task,
+) -> Result<(), AllocFailed<Task>>
+    requires ready { C.ready crew.old }
+    requires fits { Fits (C.work crew.old) task }
+    requires fresh { ¬ Contains (C.posted crew.old) (pair_of task) }
+    ensures ready { C.ready crew.new }
+    ensures work { C.work crew.new ≡ C.work crew.old }
+    ensures out { OnOk result (C.out crew.new ≡ C.out crew.old ++ task ∷ []) }
+    ensures posted { OnOk result (C.posted crew.new ≡ C.posted crew.old ++ pair_of task ∷ []) }
+    ensures posted_kept { OnErr result (C.posted crew.new ≡ C.posted crew.old) }
+    ensures out_kept { OnErr result (C.out crew.new ≡ C.out crew.old) }
+    ensures back { IfErr result (λ refused. refused.value ≡ task) }
+{
+    crew.post(rt, task)
+}
+
+/// Takes home the cells that were lent to a task, which are as they were.
+fn take_back(store: &mut Store, task: Task)
+    requires away { All (λ b. IsAway store.old (lock_in b)) task.given.bundles }
+    requires as_lent { AreAsLent store.old task.given.bundles }
+    ensures { store.new ≡ record store.old { away = marked (map lock_in task.given.bundles) false store.old.away } }
+{
+    let Task { given, .. } = task;
+    store.send_back(given.bundles);
+}
+
+/// Lends a task the cells of its locks and hands it to a crew. The error is that memory is out; the cells are home again.
+fn send<R: Threads + Sync, C: Crew>(
+    rt: &R,
+    crew: &mut C,
+    store: &mut Store,
+    task: Task,
+    room: Room<Bundle>,
+) -> Result<(), AllocError>
+    requires ready { C.ready crew.old }
+    requires fits { Fits (C.work crew.old) (lent_by store.old task) }
+    requires fresh { ¬ Contains (C.posted crew.old) (pair_of task) }
+    requires home { All (IsAtHome store.old) task.held }
+    requires rising { IsStrictlyIncreasing task.held }
+    requires empty { room.items ≡ [] }
+    requires room { length task.held ≤ room.spare }
+    ensures ready { C.ready crew.new }
+    ensures work { C.work crew.new ≡ C.work crew.old }
+    ensures out { OnOk result (C.out crew.new ≡ C.out crew.old ++ lent_by store.old task ∷ []) }
+    ensures posted { OnOk result (C.posted crew.new ≡ C.posted crew.old ++ pair_of task ∷ []) }
+    ensures lent { OnOk result (store.new ≡ record store.old { away = marked task.held true store.old.away }) }
+    ensures posted_kept { OnErr result (C.posted crew.new ≡ C.posted crew.old) }
+    ensures out_kept { OnErr result (C.out crew.new ≡ C.out crew.old) }
+    ensures home { OnErr result (store.new ≡ store.old) }
+{
+    let task = lend(store, task, room);
+    match hand(rt, crew, task) {
+        Ok(()) => Ok(()),
+        Err(refused) => {
+            take_back(store, refused.value);
+            Err(AllocError)
+        }
+    }
+}
+
+/// Posts the present attempt of a position to a crew of this run's work; the cells of its locks go out with it. The error is
+/// that memory is out; nothing was posted then, and each cell is where it was.
 pub fn post<R: Threads + Sync, C: Crew>(
     alloc: Global,
     rt: &R,
@@ -121,9 +221,10 @@ pub fn post<R: Threads + Sync, C: Crew>(
 {
     parts.events.reserve(1)?;
     let faults = plan.faults.as_slice();
-    let task = task_at(alloc, faults, &parts.store, &parts.rol, position)?;
+    let task = bare_at(alloc, faults, &parts.store, &parts.rol, position)?;
+    let room = room_for(alloc, task.held.len())?;
     let attempt = task.attempt;
-    crew.post(rt, task)?;
+    send(rt, crew, &mut parts.store, task, room)?;
     parts.rol.set_out(position);
     parts.events.push(Event::Post(position, attempt));
     Ok(())

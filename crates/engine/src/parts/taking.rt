@@ -1,8 +1,9 @@
 // Taking the run of a task.
 
-ghost use Rattle.std.specs.Prelude.{◌≡◌, ◌<◌, true, false, length};
+ghost use Rattle.std.specs.Prelude.{◌≡◌, ◌<◌, true, false, length, map};
 ghost use Rattle.std.specs.Option.{IsSomeAnd};
 ghost use Rattle.gp_base.specs.declared.journal.Event.TheVariants as event;
+ghost use Rattle.record_store.specs.Lent.{lock_in, whole_effect, MayComeHome};
 ghost use Rattle.record_store.specs.Stored.{Fits};
 ghost use Rattle.reorder_list.specs.Entries.{entry_at};
 ghost use Rattle.reorder_list.specs.declared.entry.State.TheVariants as state;
@@ -13,11 +14,11 @@ ghost use Rattle.engine.specs.inner.Kept.{batch_in, view_of, Kept};
 ghost use Rattle.engine.specs.inner.Taken.{awaits, learning_from, placing_from, has_attempt, IsAppliedWhere};
 
 use crate::parts::{Parts, Place, Plan};
-use gp_base::{Event, Pos, ThreadNo};
-use record_store::Store;
+use gp_base::{Event, Pos, RecNo, Seq, ThreadNo};
+use record_store::{Bundle, Effect, Given, Store};
 use reorder_list::Rol;
-use subthread::Done;
-use task_ast::{Effect, Next};
+use subthread::{Done, Task};
+use task_ast::Next;
 use token_order::Ring;
 
 /// Whether this attempt of a position is its present one. A position that has retired has none.
@@ -61,50 +62,68 @@ fn learn(
     }
 }
 
-/// Applies an effect, where that is to be.
-fn apply_where(fresh: bool, store: &mut Store, rol: &mut Rol, pos: Pos, effect: Effect)
-    requires fits { fresh ≡ true → Fits store.old effect }
+/// Takes the cells of a run's locks home and applies its effect, where that is to be.
+fn apply_where(
+    fresh: bool,
+    store: &mut Store,
+    rol: &mut Rol,
+    pos: Pos,
+    bundles: Seq<Bundle>,
+    old: Seq<(RecNo, i64)>,
+    effect: Effect,
+)
+    requires comes { fresh ≡ true → MayComeHome store.old bundles old }
+    requires fits { fresh ≡ true → Fits store.old (whole_effect store.old.under bundles old effect) }
     requires out { fresh ≡ true → IsSomeAnd (entry_at rol.old.entries pos) (λ e. e.state ≡ state.Out) }
-    ensures { IsAppliedWhere fresh pos effect store.old store.new rol.old.entries rol.new.entries }
+    ensures { IsAppliedWhere fresh pos (map lock_in bundles) (whole_effect store.old.under bundles old effect) store.old store.new rol.old.entries rol.new.entries }
 {
     if fresh {
-        let (history, lines) = store.apply(effect);
+        let (history, lines) = store.accept_home(bundles, old, effect);
         rol.set_applied(pos, history, lines);
     }
 }
 
-/// Takes the run of a task that is out, and applies it where its attempt is the present one, which is the answer. What
-/// its thread does next is learnt in any case, where it is awaited.
+/// Takes the run of a task that is out, and applies it where its attempt is the present one, which is the answer: the cells
+/// of its locks then come home. Another attempt holds no lock. What its thread does next is learnt in any case, where it is
+/// awaited.
 pub fn accept(plan: &Plan, parts: &mut Parts, done: Done) -> bool
     requires kept { Kept (batch_in plan.now) parts.old }
     requires closed { parts.old.ring.cleared ≡ false }
-    requires task { TaskStands (view_of (batch_in plan.now) parts.old) (task_of done) }
+    requires task { TaskStands (view_of (batch_in plan.now) parts.old) (task_of (batch_in plan.now).work done) }
     requires run { IsRun (batch_in plan.now).work done }
     requires room { 0 < parts.old.events.spare }
     ensures kept { Kept (batch_in plan.now) parts.new }
     ensures closed { parts.new.ring.cleared ≡ false }
-    ensures did { Did (view_of (batch_in plan.now) parts.old) (event.Take (task_of done).pos (task_of done).attempt result) (view_of (batch_in plan.now) parts.new) }
+    ensures did { Did (view_of (batch_in plan.now) parts.old) (event.Take done.task.pos done.task.attempt result) (view_of (batch_in plan.now) parts.new) }
 {
     let Done {
         task,
+        old,
         effect,
         next,
         at,
         ctl,
     } = done;
-    let pos = task.pos;
-    let attempt = task.attempt;
+    let Task {
+        pos,
+        thread,
+        attempt,
+        given,
+        ..
+    } = task;
+    let Given { bundles, .. } = given;
     let fresh = is_present(&parts.rol, pos, attempt);
     let place = Place { at, ctl };
-    learn(
-        &mut parts.ring,
-        &mut parts.places,
-        task.thread,
+    learn(&mut parts.ring, &mut parts.places, thread, pos, next, place);
+    apply_where(
+        fresh,
+        &mut parts.store,
+        &mut parts.rol,
         pos,
-        next,
-        place,
+        bundles,
+        old,
+        effect,
     );
-    apply_where(fresh, &mut parts.store, &mut parts.rol, pos, effect);
     parts.events.push(Event::Take(pos, attempt, fresh));
     fresh
 }

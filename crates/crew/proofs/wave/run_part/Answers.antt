@@ -1,8 +1,14 @@
-use Rattle.std.proofs.Common.{refl}
+use Rattle.std.proofs.Common.{◌≡◌, List, [], ◌∷◌, ◌++◌, map, length, arith, refl, ap, sym, ◌∙◌}
+use Rattle.std.proofs.lemmas.List.{append-nil}
 use Rattle.std.proofs.lemmas.List.Elements.{All-nil, All-head, All-push, All-tail}
-use Rattle.subthread.specs.Tasks.{Fits, IsRun}
+use Rattle.subthread.specs.Tasks.{Fits, IsRun, task_of}
 use Rattle.crew.proofs.Parts.{one_more}
 use Rattle.crew.proofs.wave.run_part.Goals as goal
+
+-- a list without items is the empty one
+nothing_left : {X : Type 0} (xs : List X) → length xs ≡ 0 → xs ≡ []
+nothing_left [] none = refl
+nothing_left (x ∷ xs) none = absurd (omega arith)
 
 pub loop-task-preserved : goal.loop-task-preserved
 loop-task-preserved g c =
@@ -14,7 +20,7 @@ loop-task-preserved g c =
     let front = c.in-Some.ensures.steps.0 in
     let pushed = c.in_ok-push.ensures.items in
     record {
-      tasks = rw pushed (one_more before done t rest c.args.part c.in_ok-done.ensures.0 (rw front at c.loop-task.invariant.tasks));
+      tasks = rw pushed (one_more w before done t rest c.args.part c.in_ok-done.ensures.0 (rw front at c.loop-task.invariant.tasks));
       runs = rw pushed (All-push (IsRun w) before done c.loop-task.invariant.runs c.in_ok-done.ensures.1);
       fits = All-tail (Fits w) t rest (rw front at c.loop-task.invariant.fits);
     }
@@ -32,3 +38,13 @@ loop-task-init g c =
 
 pub run_noted-requires : goal.run_noted-requires
 run_noted-requires g c = All-head (Fits c.args.work.now) c.in-Some.task c.next.new.self.rest.items (rw c.in-Some.ensures.steps.0 at c.loop-task.invariant.fits)
+
+pub returns : goal.returns
+returns g c =
+    let w = c.args.work.now in
+    let runs = c.loop-task.runs.items in
+    let none : c.loop-task.task-iterator.rest.items ≡ [] = nothing_left c.loop-task.task-iterator.rest.items (sym c.loop-task.task-iterator.rest.ok.0 ∙ c.in-None.ensures.steps.0) in
+    rw c.from_vec.ensures (record {
+      tasks = sym (append-nil (map (task_of w) runs)) ∙ (ap (λ r. map (task_of w) runs ++ r) (sym none) ∙ c.loop-task.invariant.tasks);
+      runs = c.loop-task.invariant.runs;
+    })

@@ -2,19 +2,18 @@ use Rattle.std.proofs.Common.{◌<◌, ◌∙◌, refl, sym, ap, arith, subst}
 use Rattle.gp_base.specs.declared.journal.Event.TheVariants as event
 use Rattle.dependence.specs.Standing.{present}
 use Rattle.engine.specs.View.{now, Stands}
+use Rattle.engine.specs.Takes.{CrewStands}
 use Rattle.engine.specs.inner.Rounds.{left}
-use Rattle.engine.proofs.Events.{did-leaves, did-onward, now-did, onward-then, still-onward}
+use Rattle.engine.proofs.Events.{did-leaves, did-onward, now-did}
 use Rattle.engine.proofs.Crews.{crew-posted}
-use Rattle.engine.proofs.Turns.{none-yet, none-at_all, retired-same}
+use Rattle.engine.proofs.Turns.{leaves-still, leaves-on, leaves-same, none-yet, none-at_all, retired-same}
 use Rattle.engine.proofs.rounds.post_all.Goals as goal
 
 pub posting-init : goal.posting-init
 posting-init g c =
     record {
-      onward = still-onward (g.E.Calls.view c.args.engine.now) c.requires.stands;
-      ready = c.requires.ready;
-      work = refl;
-      crew = c.requires.crew;
+      leaves = leaves-still c.requires.agrees;
+      crew = c.requires.agrees.crew;
       retired = refl;
       none = λ q l. absurd (omega arith);
     }
@@ -22,8 +21,20 @@ posting-init g c =
 pub post-requires-clause-may : goal.post-requires-clause-may
 post-requires-clause-may g c = rw c.runnable.ensures.same c.in-Some.ensures.found.may
 
+pub post-requires-clause-work : goal.post-requires-clause-work
+post-requires-clause-work g c = c.posting.invariant.leaves.work_is ∙ sym (ap (λ v. v.batch.work) c.runnable.ensures.same)
+
 pub post-requires-clause-posted : goal.post-requires-clause-posted
 post-requires-clause-posted g c = c.posting.invariant.crew.posted_are ∙ sym (ap (λ v. (now v).posted) c.runnable.ensures.same)
+
+pub returns-in_err-post-clause-leaves : goal.returns-in_err-post-clause-leaves
+returns-in_err-post-clause-leaves g c =
+    leaves-same (leaves-same (rw (c.post.ensures.work, c.in_err-post.ensures.posted_kept) (record {
+      onward = c.posting.invariant.leaves.onward;
+      is_ready = c.post.ensures.ready;
+      work_is = c.posting.invariant.leaves.work_is;
+      posted_are = c.posting.invariant.leaves.posted_are;
+    })) c.runnable.ensures.same) c.in_err-post.ensures.err
 
 pub returns-in_err-post-clause-retired : goal.returns-in_err-post-clause-retired
 returns-in_err-post-clause-retired g c =
@@ -35,7 +46,7 @@ pub posting-smaller : goal.posting-smaller
 posting-smaller g c =
     let view = g.E.Calls.view in
     let less = did-leaves (view c.runnable.new.self) (view c.post.new.self) (event.Post c.in-Some.position (present (now (view c.runnable.new.self)) c.in-Some.position))
-    (rw c.runnable.ensures.same c.posting.invariant.onward.stands) c.in_ok-post.ensures.did in
+    (rw c.runnable.ensures.same c.posting.invariant.leaves.onward.stands) c.in_ok-post.ensures.did in
     subst (λ v. left (view c.post.new.self) < left v) c.runnable.ensures.same less
 
 pub posting-preserved : goal.posting-preserved
@@ -46,18 +57,24 @@ posting-preserved g c =
     let before = view c.runnable.new.self in
     let p = c.in-Some.position in
     let e = event.Post p (present (now before) p) in
-    let stood : Stands before = rw c.runnable.ensures.same held.onward.stands in
+    let stood : Stands before = rw c.runnable.ensures.same held.leaves.onward.stands in
+    let crew : CrewStands (view c.post.new.self) (g.C.Crew.posted c.post.new.crew) (g.C.Crew.out c.post.new.crew) =
+    rw (made.posted, made.out.1)
+    (crew-posted before (view c.post.new.self) p (present (now before) p) (g.C.Crew.posted c.posting.crew) (g.C.Crew.out c.posting.crew) made.out.0 stood made.did made.out.2 made.out.3
+    (rw c.runnable.ensures.same held.crew)) in
     record {
-      onward = onward-then (view c.args.engine.now) before (view c.post.new.self) (rw c.runnable.ensures.same held.onward) (did-onward before (view c.post.new.self) e stood made.did);
-      ready = c.post.ensures.ready;
-      work = c.post.ensures.work ∙ held.work;
-      crew = rw (made.posted, made.out.1)
-          (crew-posted before (view c.post.new.self) p (present (now before) p) (g.C.Crew.posted c.posting.crew) (g.C.Crew.out c.posting.crew) made.out.0 stood made.did made.out.2 made.out.3
-          (rw c.runnable.ensures.same held.crew));
+      leaves = leaves-on {later = g.C.Crew.ready c.post.new.crew} (leaves-same held.leaves c.runnable.ensures.same) (did-onward before (view c.post.new.self) e stood made.did) c.post.ensures.ready c.post.ensures.work crew.posted_are;
+      crew = crew;
       retired = ap (λ at. at.retired) (now-did before (view c.post.new.self) e made.did)
           ∙ (retired-same (view c.posting.engine) before c.runnable.ensures.same ∙ held.retired);
       none = none-yet before (view c.post.new.self) c.posting.from p (rw c.runnable.ensures.same held.none) (rw c.runnable.ensures.same c.in-Some.ensures.found) made.did;
     }
+
+pub returns-clause-leaves : goal.returns-clause-leaves
+returns-clause-leaves g c = leaves-same c.posting.invariant.leaves c.runnable.ensures.same
+
+pub returns-clause-crew : goal.returns-clause-crew
+returns-clause-crew g c = rw c.runnable.ensures.same c.posting.invariant.crew
 
 pub returns-clause-retired : goal.returns-clause-retired
 returns-clause-retired g c =

@@ -1,15 +1,13 @@
 use Rattle.std.proofs.Common.{◌≡◌}
 use Rattle.engine.specs.View.{now}
 use Rattle.engine.specs.Takes.{CrewStands}
-use Rattle.engine.specs.inner.Rounds.{left, Onward}
+use Rattle.engine.specs.inner.Rounds.{left, Leaves}
 use Rattle.engine.proofs.Turns.{NoneBefore}
 use Rattle.engine.proofs.rounds.post_all.Given as goal
 
 abbrev pub invariant-posting : goal.invariant-posting
 invariant-posting g l = record {
-  onward : Onward (g.E.Calls.view l.fn.engine) (g.E.Calls.view l.engine);
-  ready : g.C.Crew.ready l.crew;
-  work : g.C.Crew.work l.crew ≡ g.C.Crew.work l.fn.crew;
+  leaves : Leaves (g.E.Calls.view l.fn.engine) (g.E.Calls.view l.engine) (g.C.Crew.ready l.crew) (g.C.Crew.work l.crew) (g.C.Crew.posted l.crew);
   crew : CrewStands (g.E.Calls.view l.engine) (g.C.Crew.posted l.crew) (g.C.Crew.out l.crew);
   retired : (now (g.E.Calls.view l.engine)).retired ≡ (now (g.E.Calls.view l.fn.engine)).retired;
   none : NoneBefore (g.E.Calls.view l.engine) l.from;

@@ -1,26 +1,27 @@
 use Rattle.std.proofs.Common.{◌<◌, ◌≤◌, refl, ap, arith}
-use Rattle.engine.specs.inner.Rounds.{left, GoesOn, KeepsPart, KeepsWritten}
+use Rattle.engine.specs.inner.Rounds.{left, KeepsPart, KeepsWritten}
 use Rattle.engine.proofs.Events.{onward-most}
-use Rattle.engine.proofs.Turns.{goes-then, goes-still, goes-same, retired, retired-leaves, retired-quiet, retired-same, on-err}
+use Rattle.engine.proofs.Turns.{GoesOn, leaves-still, leaves-then, leaves-alone, leaves-same, retired, retired-leaves, retired-quiet, retired-same, on-err}
 use Rattle.engine.proofs.Written.{wrote-same, wrote-more, wrote-part, wrote-whole}
 use Rattle.engine.proofs.rounds.retire_all.Goals as goal
-use Rattle.engine.proofs.rounds.retire_all.Goals.{After-detect_all}
+use Rattle.engine.proofs.rounds.retire_all.Goals.{After-detect_all, In_ok-retire}
 
 -- after the restarts of a turn
-so_far : (g : _) (c : After-detect_all g) → GoesOn (g.E.Calls.view c.args.engine.now) (g.E.Calls.view c.detect_all.new.engine)
-so_far g c =
-    goes-then (g.E.Calls.view c.args.engine.now) (g.E.Calls.view c.retiring.engine) (g.E.Calls.view c.detect_all.new.engine) c.retiring.invariant.goes_on c.detect_all.ensures.goes_on
-
 kept : (g : _) (c : After-detect_all g) → KeepsWritten (g.E.Calls.view c.args.engine.now) (g.E.Calls.view c.detect_all.new.engine) (g.O.Sink.written c.args.out.now) (g.O.Sink.written c.retiring.out)
 kept g c start wrote =
     wrote-same start (g.E.Calls.view c.retiring.engine) (g.E.Calls.view c.detect_all.new.engine) (g.O.Sink.written c.retiring.out) (g.O.Sink.written c.retiring.out)
-    c.detect_all.ensures.goes_on.onward.batch c.detect_all.ensures.retired refl (c.retiring.invariant.written start wrote)
+    c.detect_all.ensures.leaves.onward.batch c.detect_all.ensures.retired refl (c.retiring.invariant.written start wrote)
+
+-- its retirement
+goes : (g : _) (c : In_ok-retire g) → GoesOn (g.E.Calls.view c.detect_all.new.engine) (g.E.Calls.view c.retire.new.self)
+goes g c =
+    retired (g.E.Calls.view c.detect_all.new.engine) (g.E.Calls.view c.retire.new.self) c.in_ok-retire.field-0 c.detect_all.ensures.leaves.onward.stands c.in_ok-retire.ensures.gives
 
 pub retiring-init : goal.retiring-init
-retiring-init g c = record { goes_on = goes-still (g.E.Calls.view c.args.engine.now) c.requires.stands; written = λ start wrote. wrote; later = omega arith }
+retiring-init g c = record { leaves = leaves-still c.requires.agrees; crew = c.requires.agrees.crew; written = λ start wrote. wrote; later = omega arith }
 
-pub returns-in_err-detect_all-clause-goes_on : goal.returns-in_err-detect_all-clause-goes_on
-returns-in_err-detect_all-clause-goes_on g c = so_far g (goal.at.returns-in_err-detect_all-clause-goes_on g c).After-detect_all
+pub returns-in_err-detect_all-clause-leaves : goal.returns-in_err-detect_all-clause-leaves
+returns-in_err-detect_all-clause-leaves g c = leaves-then c.retiring.invariant.leaves c.detect_all.ensures.leaves
 
 pub returns-in_err-detect_all-clause-partly : goal.returns-in_err-detect_all-clause-partly
 returns-in_err-detect_all-clause-partly g c =
@@ -28,11 +29,11 @@ returns-in_err-detect_all-clause-partly g c =
     on-err c.from_residual.result (KeepsPart (view c.args.engine.now) (view c.detect_all.new.engine) (written c.args.out.now) (written c.retiring.out))
     (λ start wrote. wrote-whole start (view c.detect_all.new.engine) (written c.retiring.out) (kept g (goal.at.returns-in_err-detect_all-clause-partly g c).After-detect_all start wrote))
 
-pub returns-in_err-retire-clause-goes_on : goal.returns-in_err-retire-clause-goes_on
-returns-in_err-retire-clause-goes_on g c =
-    let view = g.E.Calls.view in
-    goes-then (view c.args.engine.now) (view c.detect_all.new.engine) (view c.retire.new.self) (so_far g (goal.at.returns-in_err-retire-clause-goes_on g c).After-detect_all)
-    (goes-same (view c.detect_all.new.engine) (view c.retire.new.self) c.detect_all.ensures.goes_on.onward.stands c.in_err-retire.ensures.err)
+pub returns-in_err-retire-clause-leaves : goal.returns-in_err-retire-clause-leaves
+returns-in_err-retire-clause-leaves g c = leaves-same (leaves-then c.retiring.invariant.leaves c.detect_all.ensures.leaves) c.in_err-retire.ensures.err
+
+pub returns-in_err-retire-clause-crew : goal.returns-in_err-retire-clause-crew
+returns-in_err-retire-clause-crew g c other = rw c.in_err-retire.ensures.err c.in_ok-detect_all.ensures.crew
 
 pub returns-in_err-retire-clause-partly : goal.returns-in_err-retire-clause-partly
 returns-in_err-retire-clause-partly g c =
@@ -43,11 +44,13 @@ returns-in_err-retire-clause-partly g c =
     (wrote-part start (view c.detect_all.new.engine) (written c.retiring.out) (written c.retire.new.out) c.in_err-retire.ensures.lines
     (kept g (goal.at.returns-in_err-retire-clause-partly g c).After-detect_all start wrote)))
 
-pub returns-then-not-branch-clause-goes_on : goal.returns-then-not-branch-clause-goes_on
-returns-then-not-branch-clause-goes_on g c =
-    let view = g.E.Calls.view in
-    goes-then (view c.args.engine.now) (view c.detect_all.new.engine) (view c.retire.new.self) (so_far g (goal.at.returns-then-not-branch-clause-goes_on g c).After-detect_all)
-    (retired (view c.detect_all.new.engine) (view c.retire.new.self) c.in_ok-retire.field-0 c.detect_all.ensures.goes_on.onward.stands c.in_ok-retire.ensures.gives)
+pub returns-then-not-branch-clause-leaves : goal.returns-then-not-branch-clause-leaves
+returns-then-not-branch-clause-leaves g c =
+    leaves-alone (leaves-then c.retiring.invariant.leaves c.detect_all.ensures.leaves) c.in_ok-detect_all.ensures.crew (goes g (goal.at.returns-then-not-branch-clause-leaves g c).In_ok-retire)
+
+pub returns-then-not-branch-clause-crew : goal.returns-then-not-branch-clause-crew
+returns-then-not-branch-clause-crew g c other =
+    (goes g (goal.at.returns-then-not-branch-clause-crew g c).In_ok-retire).crew (g.C.Crew.posted c.detect_all.new.crew) (g.C.Crew.out c.detect_all.new.crew) c.in_ok-detect_all.ensures.crew
 
 pub returns-then-not-branch-clause-quiet : goal.returns-then-not-branch-clause-quiet
 returns-then-not-branch-clause-quiet g c =
@@ -66,21 +69,21 @@ pub retiring-smaller : goal.retiring-smaller
 retiring-smaller g c =
     let view = g.E.Calls.view in
     let less : left (view c.retire.new.self) < left (view c.detect_all.new.engine) =
-    retired-leaves (view c.detect_all.new.engine) (view c.retire.new.self) c.detect_all.ensures.goes_on.onward.stands (rw c.if-not-branch.false at c.in_ok-retire.ensures.gives) in
+    retired-leaves (view c.detect_all.new.engine) (view c.retire.new.self) c.detect_all.ensures.leaves.onward.stands (rw c.if-not-branch.false at c.in_ok-retire.ensures.gives) in
     let most : left (view c.detect_all.new.engine) ≤ left (view c.retiring.engine) =
-    onward-most (view c.retiring.engine) (view c.detect_all.new.engine) c.detect_all.ensures.goes_on.onward in
+    onward-most (view c.retiring.engine) (view c.detect_all.new.engine) c.detect_all.ensures.leaves.onward in
     omega arith
 
 pub retiring-preserved : goal.retiring-preserved
 retiring-preserved g c =
     let view = g.E.Calls.view in
-    let before = (goal.at.retiring-preserved g c).After-detect_all in
+    let there = goal.at.retiring-preserved g c in
     let gives = rw c.if-not-branch.false at c.in_ok-retire.ensures.gives in
     record {
-      goes_on = goes-then (view c.args.engine.now) (view c.detect_all.new.engine) (view c.retire.new.self) (so_far g before)
-          (retired (view c.detect_all.new.engine) (view c.retire.new.self) c.in_ok-retire.field-0 c.detect_all.ensures.goes_on.onward.stands c.in_ok-retire.ensures.gives);
+      leaves = leaves-alone (leaves-then c.retiring.invariant.leaves c.detect_all.ensures.leaves) c.in_ok-detect_all.ensures.crew (goes g there.In_ok-retire);
+      crew = (goes g there.In_ok-retire).crew (g.C.Crew.posted c.detect_all.new.crew) (g.C.Crew.out c.detect_all.new.crew) c.in_ok-detect_all.ensures.crew;
       written = λ start wrote.
           wrote-more start (view c.detect_all.new.engine) (view c.retire.new.self) (g.O.Sink.written c.retiring.out) (g.O.Sink.written c.retire.new.out)
-          gives.0 (rw c.if-not-branch.false at c.in_ok-retire.ensures.lines) (kept g before start wrote);
+          gives.0 (rw c.if-not-branch.false at c.in_ok-retire.ensures.lines) (kept g there.After-detect_all start wrote);
       later = let first = c.retiring.invariant.later in let second = c.retire.ensures.cause.later in omega arith;
     }

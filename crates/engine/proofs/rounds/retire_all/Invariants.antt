@@ -1,10 +1,12 @@
 use Rattle.std.proofs.Common.{◌≤◌}
-use Rattle.engine.specs.inner.Rounds.{left, GoesOn, KeepsWritten}
+use Rattle.engine.specs.Takes.{CrewStands}
+use Rattle.engine.specs.inner.Rounds.{left, Leaves, KeepsWritten}
 use Rattle.engine.proofs.rounds.retire_all.Given as goal
 
 abbrev pub invariant-retiring : goal.invariant-retiring
 invariant-retiring g l = record {
-  goes_on : GoesOn (g.E.Calls.view l.fn.engine) (g.E.Calls.view l.engine);
+  leaves : Leaves (g.E.Calls.view l.fn.engine) (g.E.Calls.view l.engine) (g.C.Crew.ready l.crew) (g.C.Crew.work l.crew) (g.C.Crew.posted l.crew);
+  crew : CrewStands (g.E.Calls.view l.engine) (g.C.Crew.posted l.crew) (g.C.Crew.out l.crew);
   written : KeepsWritten (g.E.Calls.view l.fn.engine) (g.E.Calls.view l.engine) (g.O.Sink.written l.fn.out) (g.O.Sink.written l.out);
   later : g.O.Sink.faults l.fn.out ≤ g.O.Sink.faults l.out;
 }

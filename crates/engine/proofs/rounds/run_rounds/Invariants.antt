@@ -1,13 +1,11 @@
-use Rattle.std.proofs.Common.{◌≡◌, ◌≤◌}
+use Rattle.std.proofs.Common.{◌≤◌}
 use Rattle.engine.specs.Takes.{CrewStands}
-use Rattle.engine.specs.inner.Rounds.{left_to_know, Onward, KeepsWritten}
+use Rattle.engine.specs.inner.Rounds.{left_to_know, Leaves, KeepsWritten}
 use Rattle.engine.proofs.rounds.run_rounds.Given as goal
 
 abbrev pub invariant-rounds : goal.invariant-rounds
 invariant-rounds g l = record {
-  onward : Onward (g.E.Calls.view l.fn.engine) (g.E.Calls.view l.engine);
-  ready : g.C.Crew.ready l.crew;
-  work : g.C.Crew.work l.crew ≡ g.C.Crew.work l.fn.crew;
+  leaves : Leaves (g.E.Calls.view l.fn.engine) (g.E.Calls.view l.engine) (g.C.Crew.ready l.crew) (g.C.Crew.work l.crew) (g.C.Crew.posted l.crew);
   crew : CrewStands (g.E.Calls.view l.engine) (g.C.Crew.posted l.crew) (g.C.Crew.out l.crew);
   written : KeepsWritten (g.E.Calls.view l.fn.engine) (g.E.Calls.view l.engine) (g.O.Sink.written l.fn.out) (g.O.Sink.written l.out);
   later : g.O.Sink.faults l.fn.out ≤ g.O.Sink.faults l.out;

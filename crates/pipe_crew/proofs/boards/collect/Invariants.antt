@@ -9,6 +9,6 @@ invariant-loop-desk l = record {
   of : IsClerkOf l.board l.clerk;
   whole : IsWhole (gathered l.clerk);
   taken : All (λ d. d < l.desk) (book l.clerk).taken;
-  tasks : map task_of l.runs.items ≡ take l.desk (about l.board).jobs;
+  tasks : map (task_of (about l.board).with) l.runs.items ≡ take l.desk (about l.board).jobs;
   runs : All (IsRun (about l.board).with) l.runs.items;
 }

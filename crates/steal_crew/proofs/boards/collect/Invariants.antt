@@ -8,7 +8,7 @@ invariant-loop-desk l = record {
   of : IsClerkOf l.board l.clerk;
   same : gathered l.clerk ≡ gathered l.initial.clerk;
   taken : All (λ d. d < l.desk) (book l.clerk).taken;
-  tasks : map task_of l.runs.items ≡ take l.desk (about l.board).jobs;
+  tasks : map (task_of (about l.board).with) l.runs.items ≡ take l.desk (about l.board).jobs;
   runs : All (IsRun (about l.board).with) l.runs.items;
   once : 1 ≤ l.desk → length (gathered l.initial.clerk).claimed ≡ length (about l.board).jobs;
 }

@@ -5,7 +5,7 @@ use Rattle.steal_crew.proofs.boards.run_steal.Given as goal
 
 abbrev pub invariant-loop-rest : goal.invariant-loop-rest
 invariant-loop-rest g l = record {
-  tasks : map task_of l.runs.items ++ l.rest.items ≡ l.fn.tasks;
+  tasks : map (task_of l.fn.work) l.runs.items ++ l.rest.items ≡ l.fn.tasks;
   runs : All (IsRun l.fn.work) l.runs.items;
   fits : All (Fits l.fn.work) l.rest.items;
   counted : sum_of l.counts + length l.rest.items ≡ length l.fn.tasks;

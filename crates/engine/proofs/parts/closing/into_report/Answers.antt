@@ -1,5 +1,6 @@
 use Rattle.std.proofs.Common.{◌∙◌, ap, refl, length, ◌-◌}
 use Rattle.engine.specs.inner.Kept.{batch_in}
+use Rattle.engine.proofs.AllHome.{all-home}
 use Rattle.engine.proofs.Closed.{records-are, restarts-within}
 use Rattle.engine.proofs.parts.closing.into_report.Goals as goal
 
@@ -7,6 +8,9 @@ pub overflow_sub-unused : goal.overflow_sub-unused
 overflow_sub-unused c =
     let within = restarts-within (batch_in c.args.plan.now) c.args.parts c.requires.kept in
     rw (c.as_slice.ensures, c.len.ensures) within
+
+pub into_records-requires : goal.into_records-requires
+into_records-requires c = all-home (batch_in c.args.plan.now) c.args.parts c.requires.kept c.requires.home
 
 pub returns : goal.returns
 returns c =

@@ -1,7 +1,8 @@
 use Rattle.std.proofs.Common.{◌≡◌, ◌∙◌, refl, sym}
 use Rattle.engine.specs.Gives.{struck_now}
 use Rattle.engine.specs.inner.Kept.{batch_in, view_of}
-use Rattle.engine.proofs.Options.{some_none}
+use Rattle.engine.proofs.AllHome.{all-home}
+use Rattle.engine.proofs.Options.{some_none, some_is}
 use Rattle.engine.proofs.Struck.{struck-same}
 use Rattle.engine.proofs.parts.detecting.detect.Goals as goal
 use Rattle.engine.proofs.parts.detecting.detect.Goals.{After-struck}
@@ -14,6 +15,11 @@ told c =
 
 pub returns-in_default-clause-gives : goal.returns-in_default-clause-gives
 returns-in_default-clause-gives c = (refl, told (goal.at.returns-in_default-clause-gives c).After-struck ∙ c.in_default.is)
+
+pub redo_from-requires-clause-home : goal.redo_from-requires-clause-home
+redo_from-requires-clause-home c =
+    all-home (batch_in c.args.plan.now) c.args.parts.now c.requires.kept
+    (c.requires.home (some_is (told (goal.at.redo_from-requires-clause-home c).After-struck ∙ c.in-Some.is)))
 
 pub redo_from-requires-clause-is_struck : goal.redo_from-requires-clause-is_struck
 redo_from-requires-clause-is_struck c =

@@ -23,9 +23,9 @@ overflow_cast-len c =
 
 pub returns-clause-kept : goal.returns-clause-kept
 returns-clause-kept c =
-    kept-restarted (batch_in c.args.plan.now) c.args.parts.now c.requires.kept c.args.struck c.requires.is_struck c.restart.new.rol.entries c.restart.new.store c.push.new.self.items
+    kept-restarted (batch_in c.args.plan.now) c.args.parts.now c.requires.kept c.args.struck c.requires.is_struck c.requires.home c.restart.new.rol.entries c.restart.new.store c.push.new.self.items
     c.push-2.new.self.items c.attempt_of-attempt.result c.restart.new.redo.items c.attempt_of-attempt.ensures c.restart.ensures.redo c.restart.ensures.entries c.restart.ensures.state
-    c.restart.ensures.shape (rw c.len.ensures at c.push.ensures.items) (rw c.into_seq.ensures at c.push-2.ensures.items)
+    c.restart.ensures.shape c.restart.ensures.away (rw c.len.ensures at c.push.ensures.items) (rw c.into_seq.ensures at c.push-2.ensures.items)
 
 pub restart-requires-clause-room : goal.restart-requires-clause-room
 restart-requires-clause-room c =

@@ -4,8 +4,11 @@ use Rattle.gp_base.specs.declared.journal.Event.TheVariants as event
 use Rattle.dependence.specs.Journal.{Allowed}
 use Rattle.engine.specs.View.{dependence_in}
 use Rattle.engine.specs.inner.Kept.{batch_in, stage_of}
-use Rattle.engine.proofs.Taken.{allowed, fits, out, kept-taken}
+use Rattle.engine.proofs.Taken.{allowed, comes, fits, out, kept-taken}
 use Rattle.engine.proofs.parts.taking.accept.Goals as goal
+
+pub apply_where-requires-clause-comes : goal.apply_where-requires-clause-comes
+apply_where-requires-clause-comes c = rw c.is_present-fresh.ensures (comes (batch_in c.args.plan.now) c.args.parts.now c.requires.kept c.args.done c.requires.task c.requires.run)
 
 pub apply_where-requires-clause-fits : goal.apply_where-requires-clause-fits
 apply_where-requires-clause-fits c = λ e. fits (batch_in c.args.plan.now) c.args.parts.now c.requires.kept c.args.done c.requires.task c.requires.run

@@ -1,0 +1,44 @@
+-- Cells with old values lie in the bundles.
+use Rattle.std.proofs.Common.{◌≡◌, ℕ, zero, suc, ◌<◌, Bool, true, false, ◌||◌, List, [], ◌∷◌, length, map, get_or, Option, Some, None, is_some, nat_eq, refl, sym, ap, ◌∙◌, subst, arith}
+use Rattle.std.specs.Prelude.{ℤ, All, slice_get}
+use Rattle.std.specs.Ordering.{nat_cmp}
+use Rattle.std.specs.FinMap.{find, is_sorted}
+use Rattle.std.specs.List.{list_any}
+use Rattle.std.proofs.lemmas.Bool.{false≢true, eq-eqb}
+use Rattle.task_ast.specs.Under.{under_lock, is_under}
+use Rattle.record_store.specs.declared.given.Bundle.{Bundle}
+use Rattle.record_store.specs.Lent.{lock_in, put_back}
+use Rattle.subthread.specs.inner.Places.{AreHandy, AllLack}
+use Rattle.subthread.proofs.Struck.{found_at}
+
+pub same_locks_back : (under : List (List ℕ)) (old : List (ℕ × ℤ)) (bundles : List Bundle) → map lock_in (put_back under old bundles) ≡ map lock_in bundles
+same_locks_back under old [] = refl
+same_locks_back under old (b ∷ bundles) = ap (λ ls. b.lock ∷ ls) (same_locks_back under old bundles)
+
+-- a cell that stands somewhere is found
+found_there : (c : ℕ) (cells : List ℕ) (j : ℕ) → slice_get cells j ≡ Some c → list_any (nat_eq c) cells ≡ true
+found_there c [] j there = absurd (cc there)
+found_there c (n ∷ cells) zero there = let same : n ≡ c = cc there in ap (λ b. b || list_any (nat_eq c) cells) (eq-eqb c n (sym same))
+found_there c (n ∷ cells) (suc j) there = go (nat_eq c n) (found_there c cells j there)
+  where
+    go : (b : Bool) → list_any (nat_eq c) cells ≡ true → (b || list_any (nat_eq c) cells) ≡ true
+    go true rest = refl
+    go false rest = rest
+
+-- a cell that stands under none of their locks is in no bundle
+not_under : (under : List (List ℕ)) (c : ℕ) (bundles : List Bundle) → is_under under (map lock_in bundles) c ≡ false → AllLack under c bundles
+not_under under c [] none = tt
+not_under under c (b ∷ bundles) none = go (list_any (nat_eq c) (under_lock under b.lock)) refl none (not_under under c bundles)
+  where
+    go : (m : Bool) → list_any (nat_eq c) (under_lock under b.lock) ≡ m → (m || is_under under (map lock_in bundles) c) ≡ false
+        → (is_under under (map lock_in bundles) c ≡ false → AllLack under c bundles) → AllLack under c (b ∷ bundles)
+    go true is lacking rest = absurd (false≢true (sym lacking))
+    go false is lacking rest = ((λ j there. false≢true (sym is ∙ found_there c (under_lock under b.lock) j there)), rest lacking)
+
+pub all_among : (under : List (List ℕ)) (over : List ℕ) (bundles : List Bundle) (olds : List (ℕ × ℤ)) → AreHandy under over bundles olds → All (λ w. is_under under (map lock_in (put_back under olds bundles)) w.0 ≡ true) olds
+all_among under over bundles olds handy k d less =
+    ap (λ locks. is_under under locks (get_or olds k d).0) (same_locks_back under olds bundles) ∙ go (is_under under (map lock_in bundles) (get_or olds k d).0) refl
+  where
+    go : (b : Bool) → is_under under (map lock_in bundles) (get_or olds k d).0 ≡ b → b ≡ true
+    go true is = refl
+    go false is = absurd (handy.within (get_or olds k d).0 (found_at olds k d handy.rising less) (not_under under (get_or olds k d).0 bundles is))
