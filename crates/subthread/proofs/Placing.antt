@@ -71,12 +71,13 @@ module _ (under : List (List ℕ)) (over : List ℕ) (cell : ℕ) where
 
     pub none_placed : (bundles : List Bundle) → IsPlaceIn (under_lock under lock) cell None → AllLack under cell bundles
     none_placed [] none = tt
-    none_placed (b ∷ bundles) none =
-        (λ j is.
-        let same : lock ≡ b.lock = (let both : Some lock ≡ Some b.lock = sym is_over ∙ over_is cell b.lock (contains-at (under_lock under b.lock) j cell is) in cc both) in
-        let there = subst (λ l. slice_get (under_lock under l) j ≡ Some cell) (sym same) is in
-        none j (slice_get_within (under_lock under lock) j cell there) (get-index (under_lock under lock) j cell there),
-        none_placed bundles none)
+    none_placed (b ∷ bundles) none = (
+      λ j is.
+          let same : lock ≡ b.lock = (let both : Some lock ≡ Some b.lock = sym is_over ∙ over_is cell b.lock (contains-at (under_lock under b.lock) j cell is) in cc both) in
+          let there = subst (λ l. slice_get (under_lock under l) j ≡ Some cell) (sym same) is in
+          none j (slice_get_within (under_lock under lock) j cell there) (get-index (under_lock under lock) j cell there),
+      none_placed bundles none,
+    )
 
     pub all_others : (bundles : List Bundle) → ((k : ℕ) → k < length (map lock_in bundles) → get_or (map lock_in bundles) k 0 ≡ lock → ⊥) → AllLack under cell bundles
     all_others [] none = tt
@@ -86,13 +87,14 @@ module _ (under : List (List ℕ)) (over : List ℕ) (cell : ℕ) where
         → All (λ (b : Bundle). length b.cells ≡ length (under_lock under b.lock)) bundles
         → IsPlaceIn (map lock_in bundles) lock (Some i) → IsPlaceIn (under_lock under lock) cell (Some k) → StandsAt under cell i k bundles
     stands_so rises [] i k up sizes at place = absurd (let less = at.0 in omega arith)
-    stands_so rises (b ∷ bundles) zero k up sizes at place =
-        (record {
-          there = subst (λ l. slice_get (under_lock under l) k ≡ Some cell) (sym at.1) there;
-          once = λ j is. once j (subst (λ l. slice_get (under_lock under l) j ≡ Some cell) at.1 is);
-          size = sizes 0 b (omega arith);
-        },
-        all_others bundles (λ n less is. later (b.lock ∷ map lock_in bundles) up 0 (suc n) (omega arith) (omega arith) at.1 is))
+    stands_so rises (b ∷ bundles) zero k up sizes at place = (
+      record {
+        there = subst (λ l. slice_get (under_lock under l) k ≡ Some cell) (sym at.1) there;
+        once = λ j is. once j (subst (λ l. slice_get (under_lock under l) j ≡ Some cell) at.1 is);
+        size = sizes 0 b (omega arith);
+      },
+      all_others bundles (λ n less is. later (b.lock ∷ map lock_in bundles) up 0 (suc n) (omega arith) (omega arith) at.1 is),
+    )
       where
         there : slice_get (under_lock under lock) k ≡ Some cell
         there = index-get (under_lock under lock) k cell place.0 place.1
@@ -101,7 +103,9 @@ module _ (under : List (List ℕ)) (over : List ℕ) (cell : ℕ) where
         once j is = grind (
           arith,
           λ (less : j < k). apart (under_lock under lock) rises j k cell cell is there less,
-          λ (less : k < j). apart (under_lock under lock) rises k j cell cell there is less)
-    stands_so rises (b ∷ bundles) (suc i) k up sizes at place =
-        (other b (λ same. later (b.lock ∷ map lock_in bundles) up 0 (suc i) (omega arith) (omega (arith, at.0)) same at.1),
-        stands_so rises bundles i k (rises_on b.lock (map lock_in bundles) up) (λ n d less. sizes (suc n) d (omega arith)) (omega (arith, at.0), at.1) place)
+          λ (less : k < j). apart (under_lock under lock) rises k j cell cell there is less,
+        )
+    stands_so rises (b ∷ bundles) (suc i) k up sizes at place = (
+      other b (λ same. later (b.lock ∷ map lock_in bundles) up 0 (suc i) (omega arith) (omega (arith, at.0)) same at.1),
+      stands_so rises bundles i k (rises_on b.lock (map lock_in bundles) up) (λ n d less. sizes (suc n) d (omega arith)) (omega (arith, at.0), at.1) place,
+    )

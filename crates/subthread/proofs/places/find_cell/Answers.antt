@@ -24,6 +24,6 @@ returns-in_err-place c =
 pub returns : goal.returns
 returns c =
     let place : IsPlaceIn (under_lock c.args.under.now c.in_ok-lock.lock) c.args.cell (Some c.in_ok-place.place) =
-        subst (λ cells. IsPlaceIn cells c.args.cell (Some c.in_ok-place.place)) c.under_lock.ensures c.in_ok-place.ensures in
+    subst (λ cells. IsPlaceIn cells c.args.cell (Some c.in_ok-place.place)) c.under_lock.ensures c.in_ok-place.ensures in
     stands_so c.args.under.now c.args.over.now c.args.cell c.requires.over_is c.in_ok-lock.lock (sym c.in_ok-lock.ensures) (c.requires.cells_rise c.in_ok-lock.lock) c.args.bundles.now c.in_ok-at.at
     c.in_ok-place.place c.requires.bundles_rise c.requires.sizes c.in_ok-at.ensures place
