@@ -36,8 +36,8 @@ alone_rises (suc zero) k less = absurd (omega (arith, less))
 alone_rises (suc (suc l)) k less = absurd (omega (arith, less))
 
 alone_lock : (c : ℕ) → c < 2 → (l : ℕ) × Contains (under_lock each_alone l) c
-alone_lock zero less = (0, (0, (omega arith, refl)))
-alone_lock (suc zero) less = (1, (0, (omega arith, refl)))
+alone_lock zero less = (0, (0, omega arith, refl))
+alone_lock (suc zero) less = (1, (0, omega arith, refl))
 alone_lock (suc (suc c)) less = absurd (omega (arith, less))
 
 pub alone_shared : IsSharedOut 2 each_alone
