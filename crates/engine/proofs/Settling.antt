@@ -1,8 +1,6 @@
 -- A settle finds the number of the plain run.
-use Rattle.std.proofs.Common.{◌≡◌, ℕ, true, Some, refl, sym, ap, subst, ◌∙◌, slice_get}
+use Rattle.std.proofs.Common.{◌≡◌, ℕ, true, Some, sym, ap, ◌∙◌, slice_get}
 use Rattle.gp_base.specs.declared.journal.Event.TheVariants as event
-use Rattle.task_ast.specs.declared.sync.SyncOp.{SyncOp}
-use Rattle.task_ast.specs.declared.sync.SyncOp.TheVariants as sync
 use Rattle.task_ast.specs.State.{State, RegistersOf, number_at}
 use Rattle.task_ast.specs.Table.{is_settle}
 use Rattle.task_ast.specs.Plain.{Subthread}
