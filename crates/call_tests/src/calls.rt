@@ -622,9 +622,9 @@ fn beginnings_are_refused(rt: HostRuntime) -> Result<(), Fail> {
     Ok(())
 }
 
-/// How many bytes a sink takes before a call that fails, where it is offered these pieces, each by itself. `None` where
-/// it fails at no call of them.
-pub fn taken_before(pieces: &[usize], most: usize, fails: u64) -> Option<usize> {
+// How many bytes a sink takes before a call that fails, where it is offered these pieces, each by itself. `None` where
+// it fails at no call of them.
+fn taken_before(pieces: &[usize], most: usize, fails: u64) -> Option<usize> {
     let mut calls = 0u64;
     let mut taken = 0usize;
     for piece in pieces {

@@ -4,8 +4,6 @@
 #[cfg(test)]
 mod calls;
 #[cfg(test)]
-mod hostile;
-#[cfg(test)]
 mod rows;
 #[cfg(test)]
 mod scripted;

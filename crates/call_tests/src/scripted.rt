@@ -2,7 +2,7 @@
 ghost use Rattle.std.specs.Prelude.{◌≡◌, [], IfOk};
 ghost use Rattle.subthread.specs.Tasks.{Suits};
 
-use crate::calls::{ADD, Files, alone, shelf_of, sink_of, words_of};
+use crate::calls::{ADD, alone, shelf_of, sink_of, words_of};
 use batch_calls::plan::{Begins, plan_of};
 use call_cases::{read_batch, runs};
 use crew::{Crew, ScriptCrew};
@@ -52,16 +52,12 @@ impl<C: Crew> Crew for Noting<C> {
     }
 }
 
-/// The code of the two threads that add to one total, and what their run begins with, where these faults strike.
-pub fn plan_of_adders(alloc: Global, faults: &str) -> Result<(Work, Begins), Fail>
+// The code of the two threads that add to one total, and what their run begins with.
+fn plan_of_adders(alloc: Global) -> Result<(Work, Begins), Fail>
     ensures { IfOk result (λ made. Suits made.0 made.1.layout made.1.inputs made.1.limits) }
 {
-    let words = words_of(alloc, "run p.gp --faults f.csv")?;
-    let files = Files {
-        faults: faults.as_bytes(),
-        ..alone(ADD)
-    };
-    let mut shelf = shelf_of(alloc, files, 0)?;
+    let words = words_of(alloc, "run p.gp")?;
+    let mut shelf = shelf_of(alloc, alone(ADD), 0)?;
     let batch = match read_batch(alloc, &words, &mut shelf) {
         Ok(batch) if runs(batch.asked.command) => batch,
         _ => return Err(Fail::from("the program was not read")),
@@ -73,7 +69,7 @@ pub fn plan_of_adders(alloc: Global, faults: &str) -> Result<(Work, Begins), Fai
 #[test]
 fn a_scripted_order_posts_each_task_once(rt: HostRuntime) -> Result<(), Fail> {
     let alloc = rt.alloc();
-    let (work, begins) = plan_of_adders(alloc, "")?;
+    let (work, begins) = plan_of_adders(alloc)?;
     let Begins {
         layout,
         inputs,
