@@ -152,8 +152,8 @@ fn ended(
 
 /// Runs a task, whose cells it changes in place. What comes next and where the thread then stands follow from the task's
 /// beginning, place, control variables, thread and child; the effect is what its actions do on what was given, damaged by
-/// its mask. An index fault and spent loop turns are values of what comes next. The error is that memory is out, and has
-/// the task as it was.
+/// its mask. An index fault and spent loop turns are values of what comes next. The error is that memory is out, or that a
+/// cell is written that no bundle has, which no accepted program does; it has the task as it was.
 pub fn run_task(alloc: Global, work: &Work, task: Task) -> Result<Done, AllocFailed<Task>>
     requires { Fits work.now task }
     ensures of_task { IfOk result (λ done. task_of work.now done ≡ task) }
