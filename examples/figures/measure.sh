@@ -1,10 +1,12 @@
 #!/usr/bin/env bash
-# measure.sh [BUSY]: how many milliseconds `gprs` takes for batches of light and of heavy subthreads, by each crew: the best of three
-# runs. BUSY, 0 where it is left out, is how many processes that only count stand beside it. The program has to be built.
+# measure.sh [BUSY [CREW]]: how many milliseconds `gprs` takes for batches of light and of heavy subthreads, on one thread and by the
+# workers of a crew (wave where it is left out): the best of three runs. BUSY, 0 where it is left out, is how many processes that only
+# count stand beside it. The program has to be built.
 set -eu
 cd "$(dirname "$(readlink -f "${BASH_SOURCE[0]}")")/.."
 
 busy="${1:-0}"
+crew="${2:-wave}"
 gprs="$PWD/../crates/gprs/out/gprs"
 [ -x "$gprs" ] || { echo "$0: not built: run ./gprs first" >&2; exit 1; }
 
@@ -38,10 +40,9 @@ row() (
     name="$1"
     shift 2
     printf '| %s |' "$name"
-    for crew in "--crew one" "--workers 1" "--workers 2" "--workers 4" "--workers 64"; do
-        # The options are words.
-        # shellcheck disable=SC2086
-        printf ' %s |' "$(best "$@" $crew)"
+    printf ' %s |' "$(best "$@" --crew one)"
+    for workers in 1 2 4 64; do
+        printf ' %s |' "$(best "$@" --crew "$crew" --workers "$workers")"
     done
     echo
 )
@@ -50,7 +51,7 @@ row() (
 soak/make.sh 20000 1 "$made"
 sed 's/500000/5000000/' simulation.gp >"$made/long.gp"
 
-echo '| batch | --crew one | 1 worker | 2 | 4 | 64 |'
+echo "| batch | --crew one | $crew, 1 worker | 2 | 4 | 64 |"
 echo '|---|---|---|---|---|---|'
 row "soak 20000 1" . soak 20000 1
 row "its files, without faults" "$made" run soak.gp
