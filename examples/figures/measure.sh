@@ -60,3 +60,4 @@ row "simulation, 5,000,000 turns" "$made" run long.gp --turns 5000000
 row threads . run figures/threads.gp
 row loop . run figures/loop.gp --subthreads 200000
 row barrier . run figures/barrier.gp
+row uneven . run figures/uneven.gp
