@@ -2,6 +2,7 @@
 ghost use Rattle.std.specs.Prelude.{◌≡◌, true, All, IfOk};
 ghost use Rattle.subthread.specs.Tasks.{Fits};
 ghost use Rattle.crew.specs.Out.{AreRuns};
+ghost use Rattle.steal_crew.specs.Batches.{AreCounted};
 ghost use Rattle.call_cases.specs.Answers.{change_of};
 ghost use Rattle.call_cases.specs.Decided.{MayRun, work_of};
 ghost use Rattle.call_cases.specs.Work.{is_journalled};
@@ -13,8 +14,10 @@ use call_cases::{Outcome, Request};
 use command_line::CrewKind;
 use crew::{BatchCrew, InlineCrew, MeanSteps, run_wave};
 use gp_base::{Gate, Seq, Sink};
+use pipe_crew::run_board;
 use std::alloc::{AllocError, Global};
 use std::thread::Threads;
+use steal_crew::{StealCrew, run_steal};
 use subthread::{Done, Task, Work};
 
 // Runs a plan in the calling thread.
@@ -59,8 +62,57 @@ fn carry_waves<R: Threads + Sync, O: Sink, E: Sink, G: Gate>(
     carry_by(rt, alloc, work, plan, &mut crew, out, err)
 }
 
+// Runs a plan by workers that draw from boards.
+fn carry_boards<R: Threads + Sync, O: Sink, E: Sink, G: Gate>(
+    rt: &R,
+    alloc: Global,
+    work: &Work,
+    plan: Plan,
+    out: &mut O,
+    err: &mut E,
+    gate: &G,
+) -> Outcome
+    requires planned { IsPlanOf work.now plan }
+    requires run { is_journalled plan.asked.command ≡ true }
+    ensures { Carries plan.asked (work_planned plan) (change_of O.written O.faults out.old out.new) (change_of E.written E.faults err.old err.new) result.status result.journal }
+{
+    let workers = plan.asked.workers;
+    let mean_steps = MeanSteps::new(alloc, work);
+    let run_all = |tasks: Seq<Task>| -> Result<Seq<Done>, AllocError>
+        requires { All (Fits work.now) tasks }
+        ensures { IfOk result (AreRuns work.entry.now tasks) }
+    { run_board(rt, alloc, work, gate, &mean_steps, workers, tasks) };
+    let mut crew = BatchCrew::new(alloc, work, run_all);
+    carry_by(rt, alloc, work, plan, &mut crew, out, err)
+}
+
+// Runs a plan by workers that steal from one another.
+fn carry_stealing<R: Threads + Sync, O: Sink, E: Sink, G: Gate>(
+    rt: &R,
+    alloc: Global,
+    work: &Work,
+    plan: Plan,
+    out: &mut O,
+    err: &mut E,
+    gate: &G,
+) -> Outcome
+    requires planned { IsPlanOf work.now plan }
+    requires run { is_journalled plan.asked.command ≡ true }
+    ensures { Carries plan.asked (work_planned plan) (change_of O.written O.faults out.old out.new) (change_of E.written E.faults err.old err.new) result.status result.journal }
+{
+    let workers = plan.asked.workers;
+    let mean_steps = MeanSteps::new(alloc, work);
+    let run_all = |tasks: Seq<Task>| -> Result<(Seq<Done>, (u64, u64, u64)), AllocError>
+        requires { All (Fits work.now) tasks }
+        ensures { IfOk result (AreCounted work.entry.now tasks) }
+    { run_steal(rt, alloc, work, gate, &mean_steps, workers, tasks) };
+    let mut crew = StealCrew::new(alloc, work, run_all);
+    carry_by(rt, alloc, work, plan, &mut crew, out, err)
+}
+
 /// Does what is requested, and writes its text, and the trace of its run where one is asked for. Where the output
-/// fails, the line of that is written to `err`.
+/// fails, the line of that is written to `err`. Lasting workers wait, which this call does not: in their place workers
+/// draw from boards.
 pub fn carry_out<R: Threads + Sync, O: Sink, E: Sink, G: Gate>(
     rt: &R,
     alloc: Global,
@@ -82,5 +134,7 @@ pub fn carry_out<R: Threads + Sync, O: Sink, E: Sink, G: Gate>(
     match plan.asked.crew {
         CrewKind::One => carry_inline(rt, alloc, &work, plan, out, err, gate),
         CrewKind::Wave => carry_waves(rt, alloc, &work, plan, out, err, gate),
+        CrewKind::Steal => carry_stealing(rt, alloc, &work, plan, out, err, gate),
+        CrewKind::Board | CrewKind::Pipe => { carry_boards(rt, alloc, &work, plan, out, err, gate) }
     }
 }

@@ -1,6 +1,7 @@
 // Worked examples, with the bytes that they write as a whole, and the limits of a run.
 
 use crate::calls::{ADD, Answer, SOUND, alone, answer_over, gives};
+use crate::struck::CREWS;
 use gp_base::limits::{
     DEEPEST_NESTING, DEFAULT_SUBTHREADS, DEFAULT_TURNS, DEFAULT_WORKERS, LEAST_MOVES,
     LONGEST_DELAY, MOST_CELLS, MOST_FAULTS, MOST_FEED_CELLS, MOST_FIELDS, MOST_FILE_BYTES,
@@ -78,14 +79,13 @@ fn rows_as_they_are_written(rt: HostRuntime) -> Result<(), Fail> {
         ("run p.gp", LAST, 0, last.as_str(), ""),
         ("one p.gp", ADD, 0, ADDED, ""),
         ("run p.gp", ADD, 0, ADDED, ""),
-        ("run p.gp --crew one", ADD, 0, ADDED, ""),
-        ("run p.gp --crew one --workers 64", ADD, 0, ADDED, ""),
-        ("run p.gp --crew wave --workers 1", ADD, 0, ADDED, ""),
-        ("run p.gp --crew wave --workers 2", ADD, 0, ADDED, ""),
-        ("run p.gp --crew wave --workers 64", ADD, 0, ADDED, ""),
     ];
     for (words, program, status, output, error) in rows {
         assert!(rt; gives(&rt, words, alone(program), status, output, error)?);
+    }
+    for crew in CREWS {
+        let words = format!(in rt.alloc(); "run p.gp {crew}")?;
+        assert!(rt; gives(&rt, words.as_str(), alone(ADD), 0, ADDED, "")?);
     }
     Ok(())
 }
@@ -149,6 +149,8 @@ fn a_batch_that_faults_strike_keeps_its_records(rt: HostRuntime) -> Result<(), F
         "--crew one",
         "--crew wave --workers 1",
         "--crew wave --workers 64",
+        "--crew board --workers 64",
+        "--crew steal --workers 64",
     ] {
         assert!(rt; keeps_records(&rt, crew)?);
     }

@@ -29,11 +29,17 @@ task main() {
 ";
 
 /// The crews, in the words that name them.
-pub const CREWS: [&str; 4] = [
+pub const CREWS: [&str; 10] = [
     "--crew one",
     "--crew wave --workers 1",
     "--crew wave --workers 2",
     "--crew wave --workers 64",
+    "--crew board --workers 1",
+    "--crew board --workers 2",
+    "--crew board --workers 64",
+    "--crew steal --workers 1",
+    "--crew steal --workers 2",
+    "--crew steal --workers 64",
 ];
 
 // The run of the program with these faults finishes, with these lines and records, restarts and counts, by each crew.
@@ -172,21 +178,26 @@ impl Gate for Meeting {
     }
 }
 
-#[test]
-fn two_tasks_of_a_wave_meet(rt: HostRuntime) -> Result<(), Fail> {
+// Two tasks of a run by these workers are at the gate at the same time.
+fn meet<R: Threads + Sync + AllocGlobal>(rt: &R, crew: &str) -> Result<bool, AllocError> {
     let gate = Meeting {
         entered: AtomicU64::new(0),
         met: AtomicU64::new(0),
     };
-    let answer = answer_through(
-        &rt,
-        "run p.gp --crew wave --workers 2",
-        alone(ADD),
-        SOUND,
-        &gate,
-    )?;
-    assert!(rt; answer.status == 0);
-    assert!(rt; gate.met.load(Ordering::SeqCst) == 1);
+    let words = format!(in rt.alloc(); "run p.gp {crew}")?;
+    let answer = answer_through(rt, words.as_str(), alone(ADD), SOUND, &gate)?;
+    Ok(answer.status == 0 && gate.met.load(Ordering::SeqCst) == 1)
+}
+
+#[test]
+fn two_tasks_meet(rt: HostRuntime) -> Result<(), Fail> {
+    for crew in [
+        "--crew wave --workers 2",
+        "--crew board --workers 2",
+        "--crew steal --workers 2",
+    ] {
+        assert!(rt; meet(&rt, crew)?);
+    }
     Ok(())
 }
 
@@ -253,7 +264,12 @@ fn tasks_enter_the_gate_as_they_are_posted(rt: HostRuntime) -> Result<(), Fail> 
         faults: b"4,0,3,1\n",
         ..alone(ADD)
     };
-    for crew in ["--crew one", "--crew wave --workers 2"] {
+    for crew in [
+        "--crew one",
+        "--crew wave --workers 2",
+        "--crew board --workers 2",
+        "--crew steal --workers 2",
+    ] {
         let run = format!(in rt.alloc(); "run p.gp {crew}")?;
         let struck = format!(in rt.alloc(); "run p.gp --faults f.csv {crew}")?;
         let soak = format!(in rt.alloc(); "soak 2000 1 {crew}")?;

@@ -1,5 +1,5 @@
 -- What the words of a command line ask for.
-use Rattle.std.specs.Prelude.{ℕ, ◌≤◌, ◌<◌, ⊤, List, [], ◌∷◌, map, Option, Some, None, option_and_then, option_map, codes, if◌then◌else◌, String, string_bytes, true}
+use Rattle.std.specs.Prelude.{ℕ, ◌≤◌, ◌<◌, ⊤, Bool, true, false, ◌&&◌, List, [], ◌∷◌, map, Option, Some, None, option_and_then, option_map, codes, if◌then◌else◌, String, string_bytes}
 use Rattle.std.specs.Option.{option_map_or}
 use Rattle.std.specs.Str.{bytes_eq}
 use Rattle.std.specs.declared.alloc.Global.{Global}
@@ -28,11 +28,14 @@ named_verb word =
     else (if bytes_eq word (codes "check") then Some Check
     else (if bytes_eq word (codes "soak") then Some SoakVerb else None)))
 
--- the crew that a word names
-abbrev pub named_crew : Text → Option CrewKind
-named_crew word =
+-- the crew that a word names; `pipe` is one only for a call that may wait
+abbrev pub named_crew : (waits : Bool) → Text → Option CrewKind
+named_crew waits word =
     if bytes_eq word (codes "one") then Some crew.One
-    else (if bytes_eq word (codes "wave") then Some crew.Wave else None)
+    else (if bytes_eq word (codes "wave") then Some crew.Wave
+    else (if bytes_eq word (codes "board") then Some crew.Board
+    else (if bytes_eq word (codes "steal") then Some crew.Steal
+    else (if waits && bytes_eq word (codes "pipe") then Some crew.Pipe else None))))
 
 -- a command without a help flag
 abbrev pub without_help : App → App
@@ -99,8 +102,8 @@ limits_in rows =
     (number_or 1 MOST_SUBTHREADS DEFAULT_SUBTHREADS (text_of (codes "subthreads") rows))
 
 -- the crew is one that a word names, or the default
-abbrev pub crew_in : List Row → Option CrewKind
-crew_in rows = option_map_or named_crew (text_of (codes "crew") rows) (Some crew.Wave)
+abbrev pub crew_in : (waits : Bool) → List Row → Option CrewKind
+crew_in waits rows = option_map_or (named_crew waits) (text_of (codes "crew") rows) (Some crew.Wave)
 
 abbrev pub workers_in : List Row → Option ℕ
 workers_in rows = number_or 1 MOST_WORKERS DEFAULT_WORKERS (text_of (codes "workers") rows)
@@ -112,18 +115,35 @@ asked_with (Some command) (Some program) faults (Some limits) (Some crew) (Some 
 asked_with command program faults limits crew workers trace = None
 
 -- what the texts that were found ask for
-abbrev pub asked_in : Verb → List Row → Option Asked
-asked_in verb rows =
-    asked_with (command_in verb rows) (program_in verb rows) (faults_in verb rows) (limits_in rows) (crew_in rows) (workers_in rows) (text_of (codes "trace") rows)
+abbrev pub asked_in : (waits : Bool) → Verb → List Row → Option Asked
+asked_in waits verb rows =
+    asked_with (command_in verb rows) (program_in verb rows) (faults_in verb rows) (limits_in rows) (crew_in waits rows) (workers_in rows)
+    (text_of (codes "trace") rows)
 
 -- what the words of this command ask for, where it takes them
-abbrev pub asked_of : Verb → List Text → Option Asked
-asked_of verb words = if is_faultless (fault_of (app_for verb) words) then asked_in verb (matches_of (app_for verb) words) else None
+abbrev pub asked_of : (waits : Bool) → Verb → List Text → Option Asked
+asked_of waits verb words =
+    if is_faultless (fault_of (app_for verb) words) then asked_in waits verb (matches_of (app_for verb) words) else None
 
 -- what the words ask for, where they are those of a command
+abbrev pub asked_among : (waits : Bool) → List Text → Option Asked
+asked_among waits [] = None
+asked_among waits (word ∷ words) = option_and_then (λ verb. asked_of waits verb (word ∷ words)) (named_verb word)
+
+-- the same for a call that may not wait, and for one that may
 abbrev pub asked_by : List Text → Option Asked
-asked_by [] = None
-asked_by (word ∷ words) = option_and_then (λ verb. asked_of verb (word ∷ words)) (named_verb word)
+asked_by = asked_among false
+
+abbrev pub asked_waiting : List Text → Option Asked
+asked_waiting = asked_among true
+
+-- the words are those of a command with the crew `pipe`
+abbrev pub is_pipe : CrewKind → Bool
+is_pipe crew.Pipe = true
+is_pipe kind = false
+
+abbrev pub wants_pipe : List Text → Bool
+wants_pipe words = option_map_or (λ asked. is_pipe asked.crew) (asked_waiting words) false
 
 -- the numbers of a batch that is made lie within their limits
 abbrev pub IsWithinMoves : Command → Type 0

@@ -2,7 +2,7 @@
 ghost use Rattle.std.specs.Prelude.{◌≡◌, ◌<◌, ◌≤◌, IfOk, IfSome, option_map};
 ghost use Rattle.gp_base.specs.declared.limits.TheConstants.{MOST_WORKERS, LEAST_MOVES, MOST_MOVES};
 ghost use Rattle.clap.specs.Words.{app_of, found_of, rows_of};
-ghost use Rattle.command_line.specs.Words.{texts, named_verb, named_crew, app_for, on_program, with_limits, with_crew, for_run, for_soak, asked_by, asked_in, asked_of, command_in, crew_in, soak_in, limits_in, program_in, faults_in, IsWithinMoves, IsWithinLimits};
+ghost use Rattle.command_line.specs.Words.{texts, named_verb, named_crew, app_for, on_program, with_limits, with_crew, for_run, for_soak, asked_among, asked_by, asked_in, asked_of, asked_waiting, command_in, crew_in, soak_in, limits_in, program_in, faults_in, is_pipe, wants_pipe, IsWithinMoves, IsWithinLimits};
 
 use crate::arguments::{
     flag, found_number, found_text, is_given, option, option_number, positional, taken,
@@ -32,11 +32,15 @@ pub enum Command {
     Soak(Soak),
 }
 
-/// Who carries out the subthreads of a run: the calling thread, one after another, or waves of workers.
+/// Who carries out the subthreads of a run: the calling thread, one after another; workers that share a wave of them out
+/// beforehand, that draw from a board, or that steal from one another; or lasting workers that wait for boards.
 #[derive(Clone, Copy, PartialEq, Eq)]
 pub enum CrewKind {
     One,
     Wave,
+    Board,
+    Steal,
+    Pipe,
 }
 
 /// What words ask for: a command, on the program of this file, with the faults of that one, under these limits, by such a
@@ -77,13 +81,20 @@ fn named_verb(word: &str) -> Option<Verb>
     }
 }
 
-fn named_crew(word: &str) -> Option<CrewKind>
-    ensures { result ≡ named_crew word.now }
+// The crew of a word. Lasting workers are one only for a call that may wait.
+fn named_crew(waits: bool, word: &str) -> Option<CrewKind>
+    ensures { result ≡ named_crew waits word.now }
 {
     if word == "one" {
         Some(CrewKind::One)
     } else if word == "wave" {
         Some(CrewKind::Wave)
+    } else if word == "board" {
+        Some(CrewKind::Board)
+    } else if word == "steal" {
+        Some(CrewKind::Steal)
+    } else if waits && word == "pipe" {
+        Some(CrewKind::Pipe)
     } else {
         None
     }
@@ -211,11 +222,11 @@ fn faults_in<'a>(verb: Verb, matches: &ArgMatches<'a>) -> Option<&'a str>
 }
 
 // The crew, or none where the word is that of no crew.
-fn crew_in(matches: &ArgMatches<'_>) -> Option<CrewKind>
-    ensures { result ≡ crew_in (rows_of (found_of matches.now)) }
+fn crew_in(waits: bool, matches: &ArgMatches<'_>) -> Option<CrewKind>
+    ensures { result ≡ crew_in waits (rows_of (found_of matches.now)) }
 {
     match found_text(matches, "crew") {
-        Some(word) => named_crew(word),
+        Some(word) => named_crew(waits, word),
         None => Some(CrewKind::Wave),
     }
 }
@@ -238,10 +249,11 @@ fn limits_in(matches: &ArgMatches<'_>) -> Option<Limits>
 // What the matches of a command ask for, or none where a value is not one of its option.
 fn asked_in(
     alloc: Global,
+    waits: bool,
     verb: Verb,
     matches: &ArgMatches<'_>,
 ) -> Result<Option<Asked>, AllocError>
-    ensures asked { IfOk result (λ asked. asked ≡ asked_in verb (rows_of (found_of matches.now))) }
+    ensures asked { IfOk result (λ asked. asked ≡ asked_in waits verb (rows_of (found_of matches.now))) }
     ensures within { IfOk result (λ asked. IfSome asked IsWithinLimits) }
 {
     let Some(command) = command_in(verb, matches) else {
@@ -253,7 +265,7 @@ fn asked_in(
     let Some(limits) = limits_in(matches) else {
         return Ok(None);
     };
-    let Some(crew) = crew_in(matches) else {
+    let Some(crew) = crew_in(waits, matches) else {
         return Ok(None);
     };
     let most = u64::from(MOST_WORKERS);
@@ -277,22 +289,25 @@ fn asked_in(
 }
 
 // What the words of a command ask for, or none where it does not take them.
-fn asked_of(alloc: Global, verb: Verb, words: &[String]) -> Result<Option<Asked>, AllocError>
-    ensures asked { IfOk result (λ asked. asked ≡ asked_of verb (texts words.now)) }
+fn asked_of(
+    alloc: Global,
+    waits: bool,
+    verb: Verb,
+    words: &[String],
+) -> Result<Option<Asked>, AllocError>
+    ensures asked { IfOk result (λ asked. asked ≡ asked_of waits verb (texts words.now)) }
     ensures within { IfOk result (λ asked. IfSome asked IsWithinLimits) }
 {
     let parser = parser_for(alloc, verb)?;
     match taken(parser, words)? {
-        Some(matches) => asked_in(alloc, verb, &matches),
+        Some(matches) => asked_in(alloc, waits, verb, &matches),
         None => Ok(None),
     }
 }
 
-/// What the words ask for, or none where they are those of no command: the first word names none, the command does not
-/// take the others, a number is outside its range, or a crew's word names none. `words` are those after the program's own
-/// name.
-pub fn read_words(alloc: Global, words: &[String]) -> Result<Option<Asked>, AllocError>
-    ensures asked { IfOk result (λ asked. asked ≡ asked_by (texts words.now)) }
+// What the words ask for, or none where they are those of no command, for a call that may wait or for one that may not.
+fn read_among(alloc: Global, waits: bool, words: &[String]) -> Result<Option<Asked>, AllocError>
+    ensures asked { IfOk result (λ asked. asked ≡ asked_among waits (texts words.now)) }
     ensures within { IfOk result (λ asked. IfSome asked IsWithinLimits) }
 {
     let [word, ..] = words else {
@@ -301,5 +316,34 @@ pub fn read_words(alloc: Global, words: &[String]) -> Result<Option<Asked>, Allo
     let Some(verb) = named_verb(word.as_str()) else {
         return Ok(None);
     };
-    asked_of(alloc, verb, words)
+    asked_of(alloc, waits, verb, words)
+}
+
+/// What the words ask for, or none where they are those of no command: the first word names none, the command does not
+/// take the others, a number is outside its range, or a crew's word names none. `words` are those after the program's own
+/// name. Lasting workers, which wait, are no crew here.
+pub fn read_words(alloc: Global, words: &[String]) -> Result<Option<Asked>, AllocError>
+    ensures asked { IfOk result (λ asked. asked ≡ asked_by (texts words.now)) }
+    ensures within { IfOk result (λ asked. IfSome asked IsWithinLimits) }
+{
+    read_among(alloc, false, words)
+}
+
+/// The same for a call that may wait, where `pipe` is the word of a crew too.
+pub fn read_waiting_words(alloc: Global, words: &[String]) -> Result<Option<Asked>, AllocError>
+    ensures asked { IfOk result (λ asked. asked ≡ asked_waiting (texts words.now)) }
+    ensures within { IfOk result (λ asked. IfSome asked IsWithinLimits) }
+{
+    read_among(alloc, true, words)
+}
+
+/// Whether the words are those of a command with the crew `pipe`, for which a call is needed that may wait. The error is
+/// that memory is out.
+pub fn wants_pipe(alloc: Global, words: &[String]) -> Result<bool, AllocError>
+    ensures { IfOk result (λ wants. wants ≡ wants_pipe (texts words.now)) }
+{
+    match read_waiting_words(alloc, words)? {
+        Some(asked) => Ok(asked.crew == CrewKind::Pipe),
+        None => Ok(false),
+    }
 }

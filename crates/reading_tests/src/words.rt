@@ -1,5 +1,5 @@
 // Words of commands, and words of no command.
-use command_line::{Command, read_words};
+use command_line::{Asked, Command, CrewKind, read_waiting_words, read_words, wants_pipe};
 use gp_base::limits::{DEFAULT_SUBTHREADS, DEFAULT_TURNS};
 use std::alloc::{AllocError, Global};
 use std::test::Fail;
@@ -93,6 +93,11 @@ fn words_of_no_command(rt: HostRuntime) -> Result<(), Fail> {
         "run p.gp --help",
         "run -h",
         "run p.gp --version",
+        "run p.gp --crew",
+        "run p.gp --crew fast",
+        "run p.gp --crew Board",
+        "run p.gp --crew pipe",
+        "one p.gp --crew steal",
         "check",
         "check p.gp q.gp",
     ];
@@ -101,5 +106,57 @@ fn words_of_no_command(rt: HostRuntime) -> Result<(), Fail> {
         assert!(rt; read_words(alloc, &words)?.is_none());
     }
     assert!(rt; read_words(alloc, &Vec::new(alloc))?.is_none());
+    Ok(())
+}
+
+// The crew that the words ask for, by a reader of words.
+fn crew_of(asked: Option<Asked>) -> Option<CrewKind> {
+    match asked {
+        Some(asked) => Some(asked.crew),
+        None => None,
+    }
+}
+
+#[test]
+fn words_of_crews(rt: HostRuntime) -> Result<(), Fail> {
+    let alloc = rt.alloc();
+    let rows = [
+        ("run p.gp", Some(CrewKind::Wave)),
+        ("run p.gp --crew one", Some(CrewKind::One)),
+        ("run p.gp --crew wave --workers 64", Some(CrewKind::Wave)),
+        ("run p.gp --crew board --workers 1", Some(CrewKind::Board)),
+        ("run --crew=steal p.gp", Some(CrewKind::Steal)),
+        ("soak 4 0 --crew board", Some(CrewKind::Board)),
+        ("soak 4 0 --crew steal", Some(CrewKind::Steal)),
+        ("soak 4 0 --crew stealing", None),
+    ];
+    for (text, crew) in rows {
+        let words = words_of(alloc, text)?;
+        assert!(rt; crew_of(read_words(alloc, &words)?) == crew);
+        assert!(rt; crew_of(read_waiting_words(alloc, &words)?) == crew);
+        assert!(rt; !wants_pipe(alloc, &words)?);
+    }
+    Ok(())
+}
+
+// Lasting workers are a crew only for a call that may wait.
+#[test]
+fn words_of_lasting_workers(rt: HostRuntime) -> Result<(), Fail> {
+    let alloc = rt.alloc();
+    let rows = [
+        ("run p.gp --crew pipe", true),
+        ("soak 4 0 --workers 2 --crew pipe", true),
+        ("run p.gp --crew pipes", false),
+        ("run --crew pipe", false),
+        ("one p.gp --crew pipe", false),
+        ("check p.gp --crew pipe", false),
+        ("soak 3 0 --crew pipe", false),
+    ];
+    for (text, waits) in rows {
+        let words = words_of(alloc, text)?;
+        assert!(rt; wants_pipe(alloc, &words)? == waits);
+        assert!(rt; read_waiting_words(alloc, &words)?.is_some() == waits);
+        assert!(rt; read_words(alloc, &words)?.is_none());
+    }
     Ok(())
 }

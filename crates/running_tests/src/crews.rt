@@ -2,6 +2,7 @@
 ghost use Rattle.std.specs.Prelude.{◌≡◌, [], All, IfOk};
 ghost use Rattle.subthread.specs.Tasks.{Fits};
 ghost use Rattle.crew.specs.Out.{AreRuns};
+ghost use Rattle.steal_crew.specs.Batches.{AreCounted};
 
 use crate::programs::{ADD, accepted};
 use crew::{BatchCrew, Crew, InlineCrew, MeanSteps, ScriptCrew, run_wave};
@@ -11,6 +12,7 @@ use std::alloc::{AllocError, Global};
 use std::sync::atomic::{AtomicU64, Ordering};
 use std::test::Fail;
 use std::thread::Threads;
+use steal_crew::{StealCrew, run_steal};
 use subthread::{Done, Task, Work};
 use task_ast::{Next, SyncOp};
 use task_code::lower;
@@ -96,9 +98,45 @@ fn attempts_in_waves<G: Gate, R: Threads + Sync>(
     attempts_back(rt, alloc, &mut crew)
 }
 
-// Holds the first task that enters until a second has entered, for so many looks at most.
+// Posts four attempts, and takes the first run that comes back.
+fn run_four<C: Crew, R: Threads + Sync>(
+    rt: &R,
+    alloc: Global,
+    crew: &mut C,
+) -> Result<(), AllocError>
+    requires ready { C.ready crew.old }
+    requires posted { C.posted crew.old ≡ [] }
+    ensures ready { C.ready crew.new }
+{
+    crew.post(rt, start(alloc, 0)?)?;
+    crew.post(rt, start(alloc, 1)?)?;
+    crew.post(rt, start(alloc, 2)?)?;
+    crew.post(rt, start(alloc, 3)?)?;
+    let _first = crew.next(rt)?;
+    Ok(())
+}
+
+// How four tasks are claimed by two workers that steal from one another.
+fn claims_of_four<G: Gate, R: Threads + Sync>(
+    rt: &R,
+    alloc: Global,
+    work: &Work,
+    gate: &G,
+) -> Result<(u64, u64, u64), AllocError> {
+    let mean_steps = MeanSteps::new(alloc, work);
+    let run_all = |tasks: Seq<Task>| -> Result<(Seq<Done>, (u64, u64, u64)), AllocError>
+        requires { All (Fits work.now) tasks }
+        ensures { IfOk result (AreCounted work.entry.now tasks) }
+    { run_steal(rt, alloc, work, gate, &mean_steps, 2, tasks) };
+    let mut crew = StealCrew::new(alloc, work, run_all);
+    run_four(rt, alloc, &mut crew)?;
+    Ok(crew.counts())
+}
+
+// Holds the first task that enters until so many have entered, for so many looks at most.
 #[derive(Drop)]
 struct Meeting {
+    members: u64,
     entered: AtomicU64,
     met: AtomicU64,
 }
@@ -111,7 +149,7 @@ impl Gate for Meeting {
             return;
         }
         for _ in 0..MOST_LOOKS {
-            if self.entered.load(Ordering::SeqCst) > 1 {
+            if self.entered.load(Ordering::SeqCst) >= self.members {
                 self.met.store(1, Ordering::SeqCst);
                 return;
             }
@@ -147,6 +185,7 @@ fn two_tasks_of_a_wave_meet(rt: HostRuntime) -> Result<(), Fail> {
     let alloc = rt.alloc();
     let work = adding(alloc)?;
     let gate = Meeting {
+        members: 2,
         entered: AtomicU64::new(0),
         met: AtomicU64::new(0),
     };
@@ -157,6 +196,25 @@ fn two_tasks_of_a_wave_meet(rt: HostRuntime) -> Result<(), Fail> {
         gate.met.load(Ordering::SeqCst) == 1,
         "a second entered while the first waited"
     );
+    Ok(())
+}
+
+// The first task that enters is held until all four have entered, so the other worker takes one from its deque.
+#[test]
+fn a_task_is_stolen_from_a_worker_that_is_held(rt: HostRuntime) -> Result<(), Fail> {
+    let alloc = rt.alloc();
+    let work = adding(alloc)?;
+    let gate = Meeting {
+        members: 4,
+        entered: AtomicU64::new(0),
+        met: AtomicU64::new(0),
+    };
+    let claims = claims_of_four(&rt, alloc, &work, &gate);
+    drop(work);
+    let (_own, stolen, _swept) = claims?;
+    assert!(rt; gate.entered.load(Ordering::SeqCst) == 4);
+    assert!(rt; gate.met.load(Ordering::SeqCst) == 1);
+    assert!(rt; stolen > 0);
     Ok(())
 }
 
