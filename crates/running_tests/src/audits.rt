@@ -115,8 +115,10 @@ fn order_of(alloc: Global, text: &[u8], cells: &[i64]) -> Result<Seq<Step>, Fail
         turns: 1000,
         subthreads: 20,
     };
-    let run = run_plain(alloc, &accepted(alloc, text)?, &inputs, limits)?;
-    Ok(run.order)
+    let checked = accepted(alloc, text)?;
+    let ran = run_plain(alloc, &checked, &inputs, limits);
+    drop(checked);
+    Ok(ran?.order)
 }
 
 // Whether a trace is refused at its first row.
