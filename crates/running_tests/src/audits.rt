@@ -127,11 +127,7 @@ fn is_no_line(alloc: Global, trace: &[u8]) -> Result<bool, AllocError> {
         return Ok(false);
     }
     let text: Text = Seq::from_slice(alloc, trace)?;
-    match read_trace(alloc, &text) {
-        Err(TraceFault::OutOfMemory) => Err(AllocError),
-        Err(TraceFault::Line(row)) => Ok(row == 1),
-        Ok(_) => Ok(false),
-    }
+    Ok(matches!(read_trace(alloc, &text), Err(TraceFault::Line(1))))
 }
 
 // The lines of a trace that has no broken row.

@@ -99,10 +99,10 @@ fn gives_registers(alloc: Global) -> Result<bool, AllocError> {
 
 // Whether this is the bundle of the second lock alone.
 fn is_second(bundles: &[Bundle]) -> bool {
-    bundles.len() == 1
-        && bundles.iter().all(|bundle| {
-            bundle.lock == LockNo(1) && bundle.cells.as_slice() == [7].as_slice()
-        })
+    match bundles {
+        [bundle] => bundle.lock == LockNo(1) && bundle.cells.as_slice() == [7].as_slice(),
+        _ => false,
+    }
 }
 
 // Whether the second lock is away while its cell is lent, and at home again after that.
