@@ -3,17 +3,17 @@
 use batch_calls::gprs_run;
 use gp_base::{FreeGate, Gate, Journal, MemShelf, MemSink, Name, Seq, Shelf, Text};
 use std::alloc::{AllocError, Global};
-use std::process::Abort;
 use std::test::Fail;
 use std::thread::Threads;
 
-const USAGE: &str = "gprs: usage: run | one | check | soak\n";
+/// The line of words of no command.
+pub const USAGE: &str = "gprs: usage: run | one | check | soak\n";
 
-const TAIL: &str = "records\nrestarts\ncounts\nsubthreads 1\nrestarts 0\nredone 0\nunused 0\n";
-
+/// Nothing to do.
 pub const EMPTY: &str = "task main() { }";
 
-const PRINTS: &str = "task main() { print 7; print 0042; }";
+/// Two lines.
+pub const PRINTS: &str = "task main() { print 7; print 0042; }";
 
 /// Sums, quotients and remainders at the ends of the numbers.
 pub const EDGES: &str = "task main() {
@@ -25,6 +25,7 @@ pub const EDGES: &str = "task main() {
 }
 ";
 
+/// Two threads add to one total, each under its lock.
 pub const ADD: &str = "lock tally[1];
 record total[1] by tally;
 task add(n) {
@@ -311,6 +312,24 @@ pub fn answer_of<R: Threads + Sync + AllocGlobal>(
     answer_through(rt, words, files, devices, &FreeGate)
 }
 
+/// The words with these files, over these devices, have this status, output and line on the error stream.
+pub fn gives_over<R: Threads + Sync + AllocGlobal>(
+    rt: &R,
+    words: &str,
+    files: Files<'_>,
+    devices: Devices,
+    status: u8,
+    output: &str,
+    error: &str,
+) -> Result<bool, AllocError> {
+    let answer = answer_of(rt, words, files, devices)?;
+    Ok(
+        answer.status == status
+            && answer.output.written() == output.as_bytes()
+            && answer.error.written() == error.as_bytes(),
+    )
+}
+
 /// The words with these files have this status, output and line on the error stream.
 pub fn gives<R: Threads + Sync + AllocGlobal>(
     rt: &R,
@@ -320,12 +339,7 @@ pub fn gives<R: Threads + Sync + AllocGlobal>(
     output: &str,
     error: &str,
 ) -> Result<bool, AllocError> {
-    let answer = answer_of(rt, words, files, SOUND)?;
-    Ok(
-        answer.status == status
-            && answer.output.written() == output.as_bytes()
-            && answer.error.written() == error.as_bytes(),
-    )
+    gives_over(rt, words, files, SOUND, status, output, error)
 }
 
 // The words with the program are refused with this status and line.
@@ -417,17 +431,18 @@ fn words_of_no_command(rt: HostRuntime) -> Result<(), Fail> {
     Ok(())
 }
 
-// The first read of the shelf fails, and words of no command make none.
+// Whether words of no command leave the first read, which fails, to the next caller.
+fn reads_nothing<R: Threads + Sync + AllocGlobal>(rt: &R) -> Result<bool, AllocError> {
+    let alloc = rt.alloc();
+    let name = Name::from_slice(alloc, b"p.gp")?;
+    let mut shelf = shelf_of(alloc, alone(EMPTY), 1)?;
+    let answer = answer_over(rt, "fly p.gp", &mut shelf, SOUND, &FreeGate)?;
+    Ok(answer.status == 2 && shelf.read(&name, 15).is_err())
+}
+
 #[test]
 fn words_of_no_command_read_nothing(rt: HostRuntime) -> Result<(), Fail> {
-    let alloc = rt.alloc();
-    let words = words_of(alloc, "fly p.gp")?;
-    let mut shelf = shelf_of(alloc, alone(EMPTY), 1)?;
-    let mut output = sink_of(alloc, 1000, 0)?;
-    let mut error = sink_of(alloc, 1000, 0)?;
-    let outcome = gprs_run(&rt, &words, &mut shelf, &mut output, &mut error, &FreeGate);
-    assert!(rt; outcome.status == 2);
-    assert!(rt; shelf.read(&Name::from_slice(alloc, b"p.gp")?, 15).is_err());
+    assert!(rt; reads_nothing(&rt)?);
     Ok(())
 }
 
@@ -597,152 +612,31 @@ fn a_file_that_is_too_long(rt: HostRuntime) -> Result<(), Fail> {
 // The third read, which is that of the feed, fails; and a file that is not there.
 #[test]
 fn files_that_can_not_be_read(rt: HostRuntime) -> Result<(), Fail> {
-    let answer = answer_of(&rt, "run p.gp", alone(FILES), Devices { read: 3, ..SOUND })?;
-    assert!(rt; answer.status == 7);
-    assert!(rt; answer.output.written().is_empty());
-    assert!(rt; answer.error.written() == b"gprs: read fault moves.csv\n".as_slice());
+    let devices = Devices { read: 3, ..SOUND };
+    let line = "gprs: read fault moves.csv\n";
+    assert!(rt; gives_over(&rt, "run p.gp", alone(FILES), devices, 7, "", line)?);
     let program = "lock a[1];\nrecord r[1] by a from \"gone.csv\";\ntask main() { }\n";
     assert!(rt; refuses(&rt, "one p.gp", program, 7, "gprs: read fault gone.csv\n")?);
     Ok(())
 }
 
-// A text that is cut off is refused.
-#[test]
-fn beginnings_are_refused(rt: HostRuntime) -> Result<(), Fail> {
-    let whole = ADD.trim_end().as_bytes();
-    for end in 0..whole.len() {
-        let (front, _) = whole.split_at(end);
-        let files = Files {
-            program: front,
-            ..alone("")
-        };
-        let answer = answer_of(&rt, "run p.gp", files, SOUND)?;
-        assert!(rt; answer.status == 3 && answer.output.written().is_empty());
-    }
-    Ok(())
-}
-
-// How many bytes a sink takes before a call that fails, where it is offered these pieces, each by itself. `None` where
-// it fails at no call of them.
-fn taken_before(pieces: &[usize], most: usize, fails: u64) -> Option<usize> {
-    let mut calls = 0u64;
-    let mut taken = 0usize;
-    for piece in pieces {
-        let more = calls.saturating_add(piece.div_ceil(most.max(1)) as u64);
-        if fails <= more {
-            let whole = fails.saturating_sub(calls.saturating_add(1)) as usize;
-            return Some(taken.saturating_add(whole.saturating_mul(most)));
-        }
-        calls = more;
-        taken = taken.saturating_add(*piece);
-    }
-    None
-}
-
-// The sink took so many of the first bytes of the text, or all of them.
-fn took(rt: &impl Abort, sink: &MemSink, text: &str, taken: Option<usize>) {
-    assert!(rt; text.as_bytes().starts_with(sink.written()));
-    assert_eq!(rt; sink.written().len(), taken.unwrap_or(text.len()));
-}
-
-// Each call of the output fails in turn. The sink would take the next call.
-#[test]
-fn an_output_that_fails_has_a_prefix(rt: HostRuntime) -> Result<(), Fail> {
-    for (program, lines) in [(EMPTY, ""), (PRINTS, "7\n42\n")] {
-        let text = format!(in rt.alloc(); "output\n{lines}{TAIL}")?;
-        for most in [1, 4, 1000] {
-            for output in 1..100 {
-                let answer = answer_of(
-                    &rt,
-                    "run p.gp",
-                    alone(program),
-                    Devices {
-                        most,
-                        output,
-                        ..SOUND
-                    },
-                )?;
-                let taken = taken_before(&[7, lines.len(), TAIL.len()], most, output);
-                assert_eq!(rt; answer.status, if taken.is_some() { 8 } else { 0 });
-                took(&rt, &answer.output, text.as_str(), taken);
-                let line = if taken.is_some() {
-                    "gprs: write fault\n"
-                } else {
-                    ""
-                };
-                took(&rt, &answer.error, line, None);
-            }
-        }
-    }
-    Ok(())
-}
-
-// The first reads and writes that fail, the status and the line; then each call of the error stream fails in turn.
-#[test]
-fn an_error_stream_that_fails_has_a_prefix(rt: HostRuntime) -> Result<(), Fail> {
-    let rows = [
-        ("run", 0, 0, 2, USAGE),
-        ("run q.gp", 0, 0, 7, "gprs: read fault q.gp\n"),
-        ("run p.gp", 1, 0, 7, "gprs: read fault p.gp\n"),
-        ("run p.gp", 0, 1, 8, "gprs: write fault\n"),
-    ];
-    for (words, read, output, status, line) in rows {
-        for most in [1, 4, 1000] {
-            for error in 1..50 {
-                let answer = answer_of(
-                    &rt,
-                    words,
-                    alone(EMPTY),
-                    Devices {
-                        most,
-                        read,
-                        output,
-                        error,
-                    },
-                )?;
-                let taken = taken_before(&[line.len()], most, error);
-                assert_eq!(rt; answer.status, if taken.is_some() { 8 } else { status });
-                took(&rt, &answer.output, "", None);
-                took(&rt, &answer.error, line, taken);
-            }
-        }
-    }
-    Ok(())
-}
-
-// The output takes all that it is offered, and its second call fails: the first piece is one offer.
+// The second call of an output fails that takes all that it is offered, or four bytes at a time: the first piece is one
+// offer.
 #[test]
 fn a_first_piece_is_one_offer(rt: HostRuntime) -> Result<(), Fail> {
     let rows = [
-        ("check p.gp", 0, "ok\n", ""),
-        ("one p.gp", 8, "output\n", "gprs: write fault\n"),
-        ("run p.gp", 8, "output\n", "gprs: write fault\n"),
+        ("check p.gp", 1000, 0, "ok\n", ""),
+        ("one p.gp", 1000, 8, "output\n", "gprs: write fault\n"),
+        ("run p.gp", 1000, 8, "output\n", "gprs: write fault\n"),
+        ("run p.gp", 4, 8, "outp", "gprs: write fault\n"),
     ];
-    let devices = Devices { output: 2, ..SOUND };
-    for (words, status, output, error) in rows {
-        let answer = answer_of(&rt, words, alone(PRINTS), devices)?;
-        assert_eq!(rt; answer.status, status);
-        took(&rt, &answer.output, output, None);
-        took(&rt, &answer.error, error, None);
-    }
-    Ok(())
-}
-
-// The output takes four bytes at a time, and its second call fails.
-#[test]
-fn four_bytes_at_a_time(rt: HostRuntime) -> Result<(), Fail> {
-    let answer = answer_of(
-        &rt,
-        "run p.gp",
-        alone(EMPTY),
-        Devices {
-            most: 4,
+    for (words, most, status, output, error) in rows {
+        let devices = Devices {
+            most,
             output: 2,
             ..SOUND
-        },
-    )?;
-    assert_eq!(rt; answer.status, 8);
-    assert_eq!(rt; answer.output.written(), b"outp".as_slice());
-    assert_eq!(rt; answer.error.written(), b"gprs: write fault\n".as_slice());
+        };
+        assert!(rt; gives_over(&rt, words, alone(PRINTS), devices, status, output, error)?);
+    }
     Ok(())
 }

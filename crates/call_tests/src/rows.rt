@@ -90,8 +90,8 @@ fn rows_as_they_are_written(rt: HostRuntime) -> Result<(), Fail> {
     Ok(())
 }
 
-// What the words come to over the files of the batch of 2,000 moves that are drawn from 1, where this read of them fails.
-fn answer_over_batch<R: Threads + Sync + AllocGlobal>(
+/// What the words come to over the files of the batch of 2,000 moves that are drawn from 1, where this read of them fails.
+pub fn answer_over_batch<R: Threads + Sync + AllocGlobal>(
     rt: &R,
     words: &str,
     read: u64,
@@ -100,16 +100,6 @@ fn answer_over_batch<R: Threads + Sync + AllocGlobal>(
     let files = soak_files(alloc, 2000, 1)?;
     let mut shelf = MemShelf::new(alloc, files, Seq::from_slice(alloc, &[read])?);
     answer_over(rt, words, &mut shelf, SOUND, &FreeGate)
-}
-
-// The read of the feed fails.
-#[test]
-fn a_feed_that_can_not_be_read(rt: HostRuntime) -> Result<(), Fail> {
-    let answer = answer_over_batch(&rt, "run soak.gp", 3)?;
-    assert!(rt; answer.status == 7);
-    assert!(rt; answer.output.written().is_empty());
-    assert!(rt; answer.error.written() == b"gprs: read fault moves.csv\n".as_slice());
-    Ok(())
 }
 
 // The call ended well, with this after the line of the restarts, where its own count and no line of a restart stand.

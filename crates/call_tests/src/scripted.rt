@@ -2,12 +2,12 @@
 ghost use Rattle.std.specs.Prelude.{◌≡◌, [], IfOk};
 ghost use Rattle.subthread.specs.Tasks.{Suits};
 
-use crate::calls::{ADD, alone, shelf_of, sink_of, words_of};
+use crate::calls::{ADD, Files, alone, shelf_of, sink_of, words_of};
 use batch_calls::plan::{Begins, plan_of};
 use call_cases::{read_request, runs};
 use crew::{Crew, ScriptCrew};
-use engine::drive;
-use gp_base::{Event, Pos, Seq};
+use engine::{EngineStop, Report, drive};
+use gp_base::{Event, MemSink, Pos, Seq};
 use std::alloc::{AllocError, AllocFailed, Global};
 use std::test::Fail;
 use std::thread::Threads;
@@ -52,13 +52,23 @@ impl<C: Crew> Crew for Noting<C> {
     }
 }
 
-// The code of the two threads that add to one total, and what their run begins with.
-fn plan_of_adders(alloc: Global) -> Result<(Work, Begins), Fail>
+/// Numbers that name the newest of up to 16 tasks that are out: one less than what all up to 16 divide.
+pub const NEWEST: [i64; 48] = [720719; 48];
+
+// The code of the two threads that add to one total, and what their run begins with, where these faults strike.
+fn plan_of_adders(alloc: Global, faults: &str) -> Result<(Work, Begins), Fail>
     ensures { IfOk result (λ made. Suits made.0 made.1.layout made.1.inputs made.1.limits) }
 {
-    let words = words_of(alloc, "run p.gp")?;
-    let mut shelf = shelf_of(alloc, alone(ADD), 0)?;
-    let request = match read_request(alloc, &words, &mut shelf) {
+    let files = Files {
+        faults: faults.as_bytes(),
+        ..alone(ADD)
+    };
+    let words = words_of(alloc, "run p.gp --faults f.csv")?;
+    let mut shelf = shelf_of(alloc, files, 0)?;
+    let read = read_request(alloc, &words, &mut shelf);
+    drop(words);
+    drop(shelf);
+    let request = match read {
         Ok(request) if runs(request.asked.command) => request,
         _ => return Err(Fail::from("the program was not read")),
     };
@@ -66,39 +76,108 @@ fn plan_of_adders(alloc: Global) -> Result<(Work, Begins), Fail>
     Ok((work, plan.begins))
 }
 
-#[test]
-fn a_scripted_order_posts_each_task_once(rt: HostRuntime) -> Result<(), Fail> {
+// The report of a run that did not stop, and wrote nothing.
+fn reported(ran: Result<Report, EngineStop>, out: &MemSink) -> Result<Report, Fail> {
+    match ran {
+        Ok(report) if out.written().is_empty() => Ok(report),
+        _ => Err(Fail::from("the run stopped, or wrote something")),
+    }
+}
+
+/// The report of the run that these faults strike, by a crew that hands its tasks back in the order of these numbers. It
+/// writes nothing.
+pub fn ran_in_order<R: Threads + Sync + AllocGlobal>(
+    rt: &R,
+    faults: &str,
+    order: &[i64],
+) -> Result<Report, Fail> {
     let alloc = rt.alloc();
-    let (work, begins) = plan_of_adders(alloc)?;
+    let choice = Seq::from_slice(alloc, order)?;
+    let mut out = sink_of(alloc, 1000, 0)?;
+    let (work, begins) = plan_of_adders(alloc, faults)?;
     let Begins {
         layout,
         inputs,
         faults,
         limits,
     } = begins;
+    let mut crew = ScriptCrew::new(alloc, &work, choice);
+    let ran = drive(
+        rt, alloc, &work, layout, inputs, faults, limits, &mut crew, &mut out,
+    );
+    reported(ran, &out)
+}
+
+// How many positions retired, where they did so in order.
+fn retired_in_order(events: &[Event]) -> Option<u32> {
+    let mut retired = 0u32;
+    for event in events {
+        if let Event::Retire(position) = event {
+            if position.0 != retired {
+                return None;
+            }
+            retired = retired.saturating_add(1);
+        }
+    }
+    Some(retired)
+}
+
+// Whether this is the run of the two threads, each of whose tasks was posted once.
+fn is_of_adders(report: &Report, posts: u64, noted: &[(Pos, i64)]) -> bool {
+    posts == 11
+        && report.subthreads == 11
+        && report.records.as_slice() == [7].as_slice()
+        && report.journal.restarts.is_empty()
+        && noted == [(Pos(4), 0), (Pos(7), 3)].as_slice()
+        && retired_in_order(report.journal.events.as_slice()) == Some(11)
+}
+
+#[test]
+fn a_scripted_order_posts_each_task_once(rt: HostRuntime) -> Result<(), Fail> {
+    let alloc = rt.alloc();
     let choice = Seq::from_slice(alloc, &[1, 0].repeat(alloc, 10)?)?;
+    let mut out = sink_of(alloc, 1000, 0)?;
+    let (work, begins) = plan_of_adders(alloc, "")?;
+    let Begins {
+        layout,
+        inputs,
+        faults,
+        limits,
+    } = begins;
     let mut crew = Noting {
         crew: ScriptCrew::new(alloc, &work, choice),
         noted: Vec::new(alloc),
     };
-    let mut out = sink_of(alloc, 1000, 0)?;
     let ran = drive(
         &rt, alloc, &work, layout, inputs, faults, limits, &mut crew, &mut out,
     );
-    let Ok(report) = ran else {
-        return Err(Fail::from("the run stopped"));
+    let is_told = match ran {
+        Ok(report) => is_of_adders(&report, crew.crew.posts(), crew.noted.as_slice()),
+        Err(_) => false,
     };
-    assert!(rt; crew.crew.posts() == 11 && report.subthreads == 11);
-    assert!(rt; report.records.as_slice() == [7].as_slice());
-    assert!(rt; report.journal.restarts.is_empty());
-    assert!(rt; crew.noted.as_slice() == [(Pos(4), 0), (Pos(7), 3)].as_slice());
-    let mut retired = 0u32;
-    for event in report.journal.events.as_slice() {
-        if let Event::Retire(position) = event {
-            assert!(rt; position.0 == retired);
-            retired = retired.saturating_add(1);
-        }
-    }
-    assert!(rt; retired == 11);
+    assert!(rt; is_told);
+    Ok(())
+}
+
+// Whether position 4 alone was struck, at front 8, and two that depend on it were redone with it.
+fn is_struck_once(report: &Report) -> bool {
+    let [restart] = report.journal.restarts.as_slice() else {
+        return false;
+    };
+    restart.front == Pos(8)
+        && restart.struck == Pos(4)
+        && restart.attempt == 0
+        && restart.redo.as_slice() == [Pos(4), Pos(6), Pos(7)].as_slice()
+        && report.records.as_slice() == [7].as_slice()
+        && report.subthreads == 11
+        && report.unused == 0
+}
+
+#[test]
+fn the_newest_first_has_the_same_restart(rt: HostRuntime) -> Result<(), Fail> {
+    let report = ran_in_order(&rt, "4,0,3,1\n", &NEWEST)?;
+    let is_told = is_struck_once(&report);
+    drop(report);
+    assert!(rt; is_told);
     Ok(())
 }

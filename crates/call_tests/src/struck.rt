@@ -120,27 +120,40 @@ fn a_file_of_faults_is_refused(rt: HostRuntime) -> Result<(), Fail> {
     Ok(())
 }
 
-#[test]
-fn runs_are_traced(rt: HostRuntime) -> Result<(), Fail> {
-    let answer = answer_of(&rt, "run p.gp --trace", alone(EMPTY), SOUND)?;
-    assert!(rt; answer.status == 0);
-    assert!(rt;
-        answer.error.written() == b"issue 0\npost 0 0\ntake 0 0 applied\nretire 0\n".as_slice()
-    );
+// Whether the run of nothing has this trace.
+fn is_traced<R: Threads + Sync + AllocGlobal>(rt: &R) -> Result<bool, AllocError> {
+    let trace = "issue 0\npost 0 0\ntake 0 0 applied\nretire 0\n";
+    let answer = answer_of(rt, "run p.gp --trace", alone(EMPTY), SOUND)?;
+    Ok(answer.status == 0 && answer.error.written() == trace.as_bytes())
+}
+
+// How many restarts the trace tells, where each is that of position 4 at front 8.
+fn restarts_in(trace: &str) -> Option<u32> {
+    let mut restarts = 0u32;
+    for line in trace.lines() {
+        if line.starts_with("restart") {
+            if line != "restart 8 4 0 redo 4 6 7" {
+                return None;
+            }
+            restarts = restarts.saturating_add(1);
+        }
+    }
+    Some(restarts)
+}
+
+// Whether the restart of the struck run is traced.
+fn is_restart_traced<R: Threads + Sync + AllocGlobal>(rt: &R) -> Result<bool, AllocError> {
     let files = Files {
         faults: b"4,0,3,1\n",
         ..alone(ADD)
     };
-    let answer = answer_of(&rt, "run p.gp --faults f.csv --trace", files, SOUND)?;
-    let trace = std::str::from_utf8(answer.error.written()).unwrap_or("");
-    let mut restarts = 0u32;
-    for line in trace.lines() {
-        if line.starts_with("restart") {
-            assert!(rt; line == "restart 8 4 0 redo 4 6 7");
-            restarts = restarts.saturating_add(1);
-        }
-    }
-    assert!(rt; restarts == 1);
+    let answer = answer_of(rt, "run p.gp --faults f.csv --trace", files, SOUND)?;
+    Ok(restarts_in(std::str::from_utf8(answer.error.written()).unwrap_or("")) == Some(1))
+}
+
+#[test]
+fn runs_are_traced(rt: HostRuntime) -> Result<(), Fail> {
+    assert!(rt; is_traced(&rt)? && is_restart_traced(&rt)?);
     Ok(())
 }
 
@@ -237,6 +250,18 @@ fn posts_of(alloc: Global, journal: &Journal, positions: usize) -> Result<Vec<u6
     Ok(posts)
 }
 
+// Whether the gate counted these posts, as many as there are positions at least.
+fn agrees(gate: &Counting, posts: &[u64], positions: usize) -> bool {
+    let mut posted = 0u64;
+    for (entries, count) in gate.entries.iter().zip(posts.iter()) {
+        if entries.load(Ordering::SeqCst) != *count {
+            return false;
+        }
+        posted = posted.saturating_add(*count);
+    }
+    posted >= positions as u64
+}
+
 // Each position enters the gate as often as the journal posts it.
 fn enters_as_posted<R: Threads + Sync + AllocGlobal>(
     rt: &R,
@@ -247,15 +272,11 @@ fn enters_as_posted<R: Threads + Sync + AllocGlobal>(
     let alloc = rt.alloc();
     let gate = gate_over(alloc, positions)?;
     let answer = answer_through(rt, words, files, SOUND, &gate)?;
-    let posts = posts_of(alloc, &answer.journal, positions)?;
-    let mut posted = 0u64;
-    for (entries, count) in gate.entries.iter().zip(posts.iter()) {
-        if entries.load(Ordering::SeqCst) != *count {
-            return Ok(false);
-        }
-        posted = posted.saturating_add(*count);
-    }
-    Ok(answer.status == 0 && posted >= positions as u64)
+    let status = answer.status;
+    let posts = posts_of(alloc, &answer.journal, positions);
+    drop(answer);
+    let posts = posts?;
+    Ok(status == 0 && agrees(&gate, &posts, positions))
 }
 
 #[test]

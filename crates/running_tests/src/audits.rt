@@ -115,8 +115,10 @@ fn order_of(alloc: Global, text: &[u8], cells: &[i64]) -> Result<Seq<Step>, Fail
         turns: 1000,
         subthreads: 20,
     };
-    let run = run_plain(alloc, &accepted(alloc, text)?, &inputs, limits)?;
-    Ok(run.order)
+    let checked = accepted(alloc, text)?;
+    let ran = run_plain(alloc, &checked, &inputs, limits);
+    drop(checked);
+    Ok(ran?.order)
 }
 
 // Whether a trace is refused at its first row.
@@ -125,11 +127,7 @@ fn is_no_line(alloc: Global, trace: &[u8]) -> Result<bool, AllocError> {
         return Ok(false);
     }
     let text: Text = Seq::from_slice(alloc, trace)?;
-    match read_trace(alloc, &text) {
-        Err(TraceFault::OutOfMemory) => Err(AllocError),
-        Err(TraceFault::Line(row)) => Ok(row == 1),
-        Ok(_) => Ok(false),
-    }
+    Ok(matches!(read_trace(alloc, &text), Err(TraceFault::Line(1))))
 }
 
 // The lines of a trace that has no broken row.

@@ -1,6 +1,7 @@
 // The code of a program with each kind of statement.
 use crate::programs::accepted;
 use gp_base::{LockNo, Seq};
+use std::alloc::{AllocError, Global};
 use std::test::Fail;
 use task_code::{Code, lower};
 
@@ -40,20 +41,40 @@ fn begins(code: &Code, task: u32, ctl: u32, regs: u32) -> bool {
     }
 }
 
+// Whether a thread of the task that is given 7 and 9 starts with these values.
+fn starts_with(alloc: Global, code: &Code, task: u32, starts: &[i64]) -> Result<bool, AllocError> {
+    let arguments = Seq::from_slice(alloc, &[7, 9])?;
+    Ok(code.start_values(alloc, task, &arguments)?.as_slice() == starts)
+}
+
+// Whether the tasks are those of the table.
+fn has_tasks(alloc: Global, code: &Code) -> Result<bool, AllocError> {
+    for (task, instrs, ctl, regs, starts) in &TASKS {
+        let is_told = code.instrs(*task).len() == *instrs && begins(code, *task, *ctl, *regs);
+        if !is_told || !starts_with(alloc, code, *task, starts)? {
+            return Ok(false);
+        }
+    }
+    Ok(true)
+}
+
+// Whether the rest of the code is told.
+fn is_told(code: &Code) -> bool {
+    code.start(2).is_none()
+        && code.shape(2).is_none()
+        && code.main() == 1
+        && code.barriers().as_slice() == [1u32].as_slice()
+        && code.layout().under.len() == 2
+        && code.over().as_slice() == [LockNo(0), LockNo(1)].as_slice()
+}
+
 #[test]
 fn lowers_each_statement(rt: HostRuntime) -> Result<(), Fail> {
     let alloc = rt.alloc();
     let code = lower(alloc, &accepted(alloc, EACH)?)?;
-    let arguments = Seq::from_slice(alloc, &[7, 9])?;
-    for (task, instrs, ctl, regs, starts) in &TASKS {
-        let values = code.start_values(alloc, *task, &arguments)?;
-        assert!(rt; code.instrs(*task).len() == *instrs, "{task}");
-        assert!(rt; begins(&code, *task, *ctl, *regs), "{task}");
-        assert!(rt; values.as_slice() == *starts, "{task}");
-    }
-    assert!(rt; code.start(2).is_none() && code.shape(2).is_none());
-    assert!(rt; code.main() == 1 && code.barriers().as_slice() == [1u32].as_slice());
-    assert!(rt; code.layout().under.len() == 2);
-    assert!(rt; code.over().as_slice() == [LockNo(0), LockNo(1)].as_slice());
+    let has_tasks = has_tasks(alloc, &code);
+    let is_told = is_told(&code);
+    drop(code);
+    assert!(rt; has_tasks? && is_told);
     Ok(())
 }

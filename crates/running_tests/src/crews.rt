@@ -157,43 +157,67 @@ impl Gate for Meeting {
     }
 }
 
+// Whether a crew that runs the oldest hands back the attempts in their order.
+fn is_oldest_first<R: Threads + Sync>(
+    rt: &R,
+    alloc: Global,
+    work: &Work,
+) -> Result<bool, AllocError> {
+    let gate = FreeGate;
+    let mut crew = InlineCrew::new(alloc, work, &gate);
+    let (first, second, third) = attempts_back(rt, alloc, &mut crew)?;
+    Ok(first == Some(0) && second == Some(1) && third.is_none())
+}
+
 #[test]
 fn the_oldest_comes_back_first(rt: HostRuntime) -> Result<(), Fail> {
     let alloc = rt.alloc();
     let work = adding(alloc)?;
-    let gate = FreeGate;
-    let mut crew = InlineCrew::new(alloc, &work, &gate);
-    let (first, second, third) = attempts_back(&rt, alloc, &mut crew)?;
-    assert!(rt; first == Some(0) && second == Some(1) && third.is_none());
+    let is_told = is_oldest_first(&rt, alloc, &work);
+    drop(work);
+    assert!(rt; is_told?);
     Ok(())
+}
+
+// Whether a crew hands back first the attempt that the script names.
+fn is_as_scripted<R: Threads + Sync>(
+    rt: &R,
+    alloc: Global,
+    work: &Work,
+) -> Result<bool, AllocError> {
+    let choice = Seq::from_slice(alloc, &[3])?;
+    let mut crew = ScriptCrew::new(alloc, work, choice);
+    let (first, second, third) = attempts_back(rt, alloc, &mut crew)?;
+    Ok(first == Some(1) && second == Some(0) && third.is_none() && crew.posts() == 2)
 }
 
 #[test]
 fn the_one_that_the_script_names_comes_back(rt: HostRuntime) -> Result<(), Fail> {
     let alloc = rt.alloc();
     let work = adding(alloc)?;
-    let choice = Seq::from_slice(alloc, &[3])?;
-    let mut crew = ScriptCrew::new(alloc, &work, choice);
-    let (first, second, third) = attempts_back(&rt, alloc, &mut crew)?;
-    assert!(rt; first == Some(1) && second == Some(0) && third.is_none());
-    assert!(rt; crew.posts() == 2);
+    let is_told = is_as_scripted(&rt, alloc, &work);
+    drop(work);
+    assert!(rt; is_told?);
     Ok(())
 }
 
 #[test]
 fn two_tasks_of_a_wave_meet(rt: HostRuntime) -> Result<(), Fail> {
     let alloc = rt.alloc();
-    let work = adding(alloc)?;
     let gate = Meeting {
         members: 2,
         entered: AtomicU64::new(0),
         met: AtomicU64::new(0),
     };
-    let (first, second, third) = attempts_in_waves(&rt, alloc, &work, &gate)?;
+    let work = adding(alloc)?;
+    let told = attempts_in_waves(&rt, alloc, &work, &gate);
+    drop(work);
+    let (first, second, third) = told?;
+    let entered = gate.entered.load(Ordering::SeqCst);
+    let met = gate.met.load(Ordering::SeqCst);
     assert!(rt; first == Some(0) && second == Some(1) && third.is_none());
-    assert!(rt; gate.entered.load(Ordering::SeqCst) == 2);
     assert!(rt;
-        gate.met.load(Ordering::SeqCst) == 1,
+        entered == 2 && met == 1,
         "a second entered while the first waited"
     );
     Ok(())

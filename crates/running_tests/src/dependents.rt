@@ -21,15 +21,20 @@ fn foot(alloc: Global, reads: &[Loc], writes: &[Loc]) -> Result<Footprint, Alloc
 
 // Two threads that add to one record, up to the second one's lock.
 fn two_adders(alloc: Global) -> Result<Seq<Footprint>, AllocError> {
+    let writes: [&[Loc]; 8] = [
+        &[REGS_0],
+        &[REGS_0, REGS_1],
+        &[REGS_1],
+        &[REGS_0, REGS_2],
+        &[REGS_1, TALLY],
+        &[REGS_2],
+        &[REGS_1],
+        &[REGS_2, TALLY],
+    ];
     let mut feet = Seq::new(alloc);
-    feet.push(foot(alloc, &[], &[REGS_0])?)?;
-    feet.push(foot(alloc, &[], &[REGS_0, REGS_1])?)?;
-    feet.push(foot(alloc, &[], &[REGS_1])?)?;
-    feet.push(foot(alloc, &[], &[REGS_0, REGS_2])?)?;
-    feet.push(foot(alloc, &[], &[REGS_1, TALLY])?)?;
-    feet.push(foot(alloc, &[], &[REGS_2])?)?;
-    feet.push(foot(alloc, &[], &[REGS_1])?)?;
-    feet.push(foot(alloc, &[], &[REGS_2, TALLY])?)?;
+    for written in writes {
+        feet.push(foot(alloc, &[], written)?)?;
+    }
     Ok(feet)
 }
 

@@ -1,7 +1,10 @@
 // Plain runs within limits.
+ghost use Rattle.std.specs.Prelude.{◌<◌, ◌^◌, length};
+
 use crate::programs::{ADD, EMPTY, accepted};
 use gp_base::{End, Inputs, Limits, Pos, Seq};
-use one_thread::run_plain;
+use one_thread::{PlainRun, run_plain};
+use std::alloc::Global;
 use std::test::Fail;
 
 // A program's text, the cells of its records, its limits of turns and of subthreads, how its run ends, how many
@@ -28,24 +31,35 @@ const ROWS: [Row; 5] = [
     (ADD, &[0], 100, 11, End::Finished, 11, &[7]),
 ];
 
+// The plain run of a text whose records hold these cells, within these limits.
+fn run_within(
+    alloc: Global,
+    text: &[u8],
+    cells: &[i64],
+    turns: u64,
+    subthreads: u32,
+) -> Result<PlainRun, Fail>
+    requires { length text.now < 2 ^ 32 }
+{
+    let inputs = Inputs {
+        records: Seq::from_slice(alloc, cells)?,
+        feeds: Seq::new(alloc),
+    };
+    let checked = accepted(alloc, text)?;
+    let ran = run_plain(alloc, &checked, &inputs, Limits { turns, subthreads });
+    drop(checked);
+    Ok(ran?)
+}
+
 #[test]
 fn ends_by_its_limits(rt: HostRuntime) -> Result<(), Fail> {
-    let alloc = rt.alloc();
     for (text, cells, turns, subthreads, end, steps, records) in &ROWS {
-        let inputs = Inputs {
-            records: Seq::from_slice(alloc, cells)?,
-            feeds: Seq::new(alloc),
-        };
-        let limits = Limits {
-            turns: *turns,
-            subthreads: *subthreads,
-        };
-        let run = run_plain(alloc, &accepted(alloc, text)?, &inputs, limits)?;
-        assert!(rt; run.end == *end, "{text:?}");
-        assert!(rt;
-            run.order.len() == *steps && run.records.as_slice() == *records,
-            "{text:?}"
-        );
+        let run = run_within(rt.alloc(), text, cells, *turns, *subthreads)?;
+        let is_told = run.end == *end
+            && run.order.len() == *steps
+            && run.records.as_slice() == *records;
+        drop(run);
+        assert!(rt; is_told, "{text:?}");
     }
     Ok(())
 }

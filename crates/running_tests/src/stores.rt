@@ -88,37 +88,56 @@ fn write(
     Ok(history)
 }
 
-#[test]
-fn lends_cells_and_gives_registers(rt: HostRuntime) -> Result<(), Fail> {
-    let alloc = rt.alloc();
+// Whether thread 0 has the register that the fork left it, and thread 1, which it joins, returns 4.
+fn gives_registers(alloc: Global) -> Result<bool, AllocError> {
+    let fork = fork(alloc)?;
     let mut store = two_cells(alloc)?;
-    let (_, prints) = store.accept_home(Seq::new(alloc), Seq::new(alloc), fork(alloc)?);
-    assert!(rt; store.len() == 2 && prints.len() == 1);
+    let (_, prints) = store.accept_home(Seq::new(alloc), Seq::new(alloc), fork);
     let (regs, joined) = store.regs_of(alloc, ThreadNo(0), Some(ThreadNo(1)))?;
-    assert!(rt; regs.as_slice() == [3].as_slice() && joined == 4);
+    Ok(store.len() == 2 && prints.len() == 1 && regs.as_slice() == [3].as_slice() && joined == 4)
+}
+
+// Whether this is the bundle of the second lock alone.
+fn is_second(bundles: &[Bundle]) -> bool {
+    match bundles {
+        [bundle] => bundle.lock == LockNo(1) && bundle.cells.as_slice() == [7].as_slice(),
+        _ => false,
+    }
+}
+
+// Whether the second lock is away while its cell is lent, and at home again after that.
+fn lends_cells(alloc: Global) -> Result<bool, AllocError> {
     let held = Seq::from_slice(alloc, &[LockNo(1)])?;
     let mut lent = Room::new(alloc);
     lent.reserve(1)?;
+    let mut store = two_cells(alloc)?;
     store.lend(&held, &mut lent);
-    assert!(rt; store.is_home(LockNo(0)) && !store.is_home(LockNo(1)));
-    assert!(rt; lent.len() == 1);
-    for bundle in lent.as_slice() {
-        assert!(rt; bundle.lock == LockNo(1) && bundle.cells.as_slice() == [7].as_slice());
-    }
+    let is_lent = store.is_home(LockNo(0)) && !store.is_home(LockNo(1));
+    let is_second = is_second(lent.as_slice());
     store.send_back(lent.into_seq());
-    assert!(rt; store.is_home(LockNo(1)));
-    Ok(())
+    Ok(is_lent && is_second && store.is_home(LockNo(1)))
 }
 
 #[test]
-fn undoes_what_came_home(rt: HostRuntime) -> Result<(), Fail> {
+fn lends_cells_and_gives_registers(rt: HostRuntime) -> Result<(), Fail> {
     let alloc = rt.alloc();
+    assert!(rt; gives_registers(alloc)? && lends_cells(alloc)?);
+    Ok(())
+}
+
+// Whether the second cell alone keeps its new value.
+fn undoes(alloc: Global) -> Result<bool, AllocError> {
     let mut store = two_cells(alloc)?;
     let first = write(alloc, &mut store, 0, 5, 6)?;
     let _ = write(alloc, &mut store, 1, 7, 9)?;
     let third = write(alloc, &mut store, 0, 6, 8)?;
     store.undo(third);
     store.undo(first);
-    assert!(rt; store.into_records().as_slice() == [5, 9].as_slice());
+    Ok(store.into_records().as_slice() == [5, 9].as_slice())
+}
+
+#[test]
+fn undoes_what_came_home(rt: HostRuntime) -> Result<(), Fail> {
+    assert!(rt; undoes(rt.alloc())?);
     Ok(())
 }

@@ -109,15 +109,29 @@ fn added(done: &Done, register: i64, total: i64) -> bool {
         && done.next.line == 8
 }
 
+// Whether the thread adds, with its register and the total damaged by the mask.
+fn adds(
+    alloc: Global,
+    work: &Work,
+    mask: i64,
+    register: i64,
+    total: i64,
+) -> Result<bool, AllocError> {
+    if !has_one_cell(work) {
+        return Ok(false);
+    }
+    let done = run(alloc, work, adding(alloc, mask)?)?;
+    Ok(added(&done, register, total))
+}
+
 #[test]
 fn adds_and_is_damaged(rt: HostRuntime) -> Result<(), Fail> {
     let alloc = rt.alloc();
     let work = work(alloc, ADD, Seq::new(alloc), 10)?;
-    assert!(rt; has_one_cell(&work), "one cell under the lock");
-    for (mask, register, total) in [(0, 0, 3), (1, 1, 2)] {
-        let done = run(alloc, &work, adding(alloc, mask)?)?;
-        assert!(rt; added(&done, register, total), "{mask}");
-    }
+    let sound = adds(alloc, &work, 0, 0, 3);
+    let damaged = adds(alloc, &work, 1, 1, 2);
+    drop(work);
+    assert!(rt; sound? && damaged?);
     Ok(())
 }
 
@@ -229,23 +243,41 @@ fn is_right(step: usize, done: &Done) -> bool {
     }
 }
 
+// Whether each of four subthreads does what it should.
+fn does_each(alloc: Global, work: &Work) -> Result<bool, AllocError> {
+    let mut task = starting(alloc)?;
+    for step in 0..4 {
+        let done = run(alloc, work, task)?;
+        if !is_right(step, &done) {
+            return Ok(false);
+        }
+        task = next(alloc, done, step);
+    }
+    Ok(true)
+}
+
 #[test]
 fn does_each_kind_of_statement(rt: HostRuntime) -> Result<(), Fail> {
     let alloc = rt.alloc();
     let work = kinds(alloc, 2)?;
-    let mut task = starting(alloc)?;
-    for step in 0..4 {
-        let done = run(alloc, &work, task)?;
-        assert!(rt; is_right(step, &done), "{step}");
-        task = next(alloc, done, step);
-    }
+    let is_told = does_each(alloc, &work);
+    drop(work);
+    assert!(rt; is_told?);
     Ok(())
+}
+
+// Whether the first subthread ends at its last turn.
+fn spends(alloc: Global, work: &Work) -> Result<bool, AllocError> {
+    let done = run(alloc, work, starting(alloc)?)?;
+    Ok(matches!(&done.next.sync, SyncOp::Spent) && prints(&done, &[&[0, 6]]))
 }
 
 #[test]
 fn spends_its_turns(rt: HostRuntime) -> Result<(), Fail> {
     let alloc = rt.alloc();
-    let done = run(alloc, &kinds(alloc, 1)?, starting(alloc)?)?;
-    assert!(rt; matches!(&done.next.sync, SyncOp::Spent) && prints(&done, &[&[0, 6]]));
+    let work = kinds(alloc, 1)?;
+    let is_spent = spends(alloc, &work);
+    drop(work);
+    assert!(rt; is_spent?);
     Ok(())
 }

@@ -12,9 +12,7 @@ fn one_thread(alloc: Global) -> Result<Ring, AllocError> {
         sync: SyncOp::Start,
         line: 0,
     };
-    let mut ring = Ring::new(alloc, 1, Seq::new(alloc), 100, main)?;
-    ring.reserve()?;
-    Ok(ring)
+    Ring::new(alloc, 1, Seq::new(alloc), 100, main)
 }
 
 // The fork of line 12, with one argument.
@@ -68,45 +66,61 @@ fn settles(turn: &Turn, thread: u32) -> bool {
     }
 }
 
-#[test]
-fn a_fork_is_awaited_and_issued(rt: HostRuntime) -> Result<(), Fail> {
-    let alloc = rt.alloc();
+// Whether the ring knows this thread's next synchronisation, whose rules it tries then, or awaits it.
+fn knows(ring: &Ring, thread: ThreadNo, is_known: bool) -> bool {
+    ring.ahead().is_some() == is_known
+        && ring.next_of(thread).is_some() == is_known
+        && ring.awaits(thread).is_none() == is_known
+}
+
+// Whether the fork is awaited, and then issued, with a second thread.
+fn awaits_a_fork(alloc: Global) -> Result<bool, AllocError> {
     let main = ThreadNo(0);
+    let fork = fork(alloc)?;
     let mut ring = one_thread(alloc)?;
     ring.reserve()?;
-    assert!(rt; issues(&ring.turn(), 0, 0));
+    let is_begun = issues(&ring.turn(), 0, 0);
     ring.reserve()?;
-    assert!(rt; needs(&ring.turn(), 0));
-    assert!(rt;
-        ring.ahead().is_none() && ring.next_of(main).is_none() && ring.awaits(main).is_some()
-    );
-    assert!(rt; 0 < ring.len());
-    ring.learn(main, fork(alloc)?);
-    assert!(rt;
-        ring.ahead().is_some() && ring.next_of(main).is_some() && ring.awaits(main).is_none()
-    );
+    let is_awaited = needs(&ring.turn(), 0) && knows(&ring, main, false);
+    if ring.len() == 0 {
+        return Ok(false);
+    }
+    ring.learn(main, fork);
+    let is_known = knows(&ring, main, true);
     ring.reserve()?;
-    assert!(rt; issues(&ring.turn(), 0, 1));
+    let is_issued = issues(&ring.turn(), 0, 1);
     let held = ring.held_after(alloc, main, &SyncOp::Lock(LockNo(0)))?;
-    assert!(rt; ring.len() == 2 && held.len() == 1);
+    Ok(is_begun && is_awaited && is_known && is_issued && ring.len() == 2 && held.len() == 1)
+}
+
+#[test]
+fn a_fork_is_awaited_and_issued(rt: HostRuntime) -> Result<(), Fail> {
+    assert!(rt; awaits_a_fork(rt.alloc())?);
     Ok(())
+}
+
+// Whether the thread begins, and then settles at each turn until that is let.
+fn settles_until_let(ring: &mut Ring) -> Result<bool, AllocError> {
+    ring.reserve()?;
+    let is_begun = issues(&ring.turn(), 0, 0);
+    if ring.len() == 0 {
+        return Ok(false);
+    }
+    ring.learn(ThreadNo(0), settle());
+    ring.reserve()?;
+    let is_told = settles(&ring.turn(), 0);
+    ring.reserve()?;
+    let is_told_again = settles(&ring.turn(), 0);
+    ring.clear();
+    Ok(is_begun && is_told && is_told_again)
 }
 
 #[test]
 fn a_settle_is_told_until_it_is_let(rt: HostRuntime) -> Result<(), Fail> {
-    let alloc = rt.alloc();
-    let main = ThreadNo(0);
-    let mut ring = one_thread(alloc)?;
-    for _ in 0..2u32 {
-        ring.reserve()?;
-        assert!(rt; issues(&ring.turn(), 0, 0));
-        assert!(rt; 0 < ring.len());
-        ring.learn(main, settle());
-        ring.reserve()?;
-        assert!(rt; settles(&ring.turn(), 0));
-        ring.reserve()?;
-        assert!(rt; settles(&ring.turn(), 0));
-        ring.clear();
-    }
+    let mut ring = one_thread(rt.alloc())?;
+    let first = settles_until_let(&mut ring);
+    let second = settles_until_let(&mut ring);
+    drop(ring);
+    assert!(rt; first? && second?);
     Ok(())
 }
