@@ -52,9 +52,9 @@ pub struct Asked {
     pub trace: bool,
 }
 
-// The first word of a call.
+/// The first word of a call.
 #[derive(Clone, Copy, PartialEq, Eq)]
-enum Verb {
+pub enum Verb {
     Run,
     One,
     Check,
@@ -276,8 +276,9 @@ fn asked_in(
     }))
 }
 
-// What the words of a command ask for, or none where it does not take them.
-fn asked_of(alloc: Global, verb: Verb, words: &[String]) -> Result<Option<Asked>, AllocError>
+/// What words ask for that stand behind the word of a command, or none where it does not take them. The first word is any that
+/// stands for the command. The error is that memory is out.
+pub fn asked_of(alloc: Global, verb: Verb, words: &[String]) -> Result<Option<Asked>, AllocError>
     ensures asked { IfOk result (λ asked. asked ≡ asked_of verb (texts words.now)) }
     ensures within { IfOk result (λ asked. IfSome asked IsWithinLimits) }
 {

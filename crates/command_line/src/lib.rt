@@ -5,4 +5,4 @@ mod arguments;
 mod asked;
 mod number;
 
-pub use asked::{Asked, Command, CrewKind, Soak, read_words};
+pub use asked::{Asked, Command, CrewKind, Soak, Verb, asked_of, read_words};
