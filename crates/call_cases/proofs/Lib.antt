@@ -1,3 +1,4 @@
+pub mod Answering
 pub mod Loads
 pub mod OneCase
 pub mod Readable

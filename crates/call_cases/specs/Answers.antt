@@ -1,7 +1,8 @@
 -- How the answer of a call, and what it wrote, stand to its case.
-use Rattle.std.specs.Prelude.{◌≡◌, ◌⊎◌, ◌++◌, ℕ, ◌<◌, List, Option, length, take}
+use Rattle.std.specs.Prelude.{◌≡◌, ◌⊎◌, ◌++◌, ℕ, ◌<◌, List, [], Option, length, take}
 use Rattle.std.specs.Io.KnownBytes.{Appends, Keeps}
 use Rattle.gp_base.specs.Sinks.{Rose, AppendsPrefix}
+use Rattle.gp_base.specs.declared.journal.Journal.{Journal}
 use Rattle.call_cases.specs.Lines.{out_of_memory_line, write_fault_line}
 
 -- what a call did to a sink: its bytes where it tells them, and its count of faults
@@ -13,6 +14,10 @@ pub record Change : Type 0 where
 
 abbrev pub change_of : {S : Type 0} → (S → Option (List ℕ)) → (S → ℕ) → S → S → Change
 change_of written faults before after = record { written = written before; written' = written after; faults = faults before; faults' = faults after }
+
+-- nothing was done to a sink with these bytes and this count
+abbrev pub unwritten : Option (List ℕ) → ℕ → Change
+unwritten written faults = record { written = written; written' = written; faults = faults; faults' = faults }
 
 -- it took all these bytes, a prefix of them, or none
 abbrev pub TakesAll : Change → List ℕ → Type 0
@@ -27,6 +32,10 @@ TakesNothing change = Keeps change.written change.written'
 -- its count rose
 abbrev pub Fails : Change → Type 0
 Fails change = Rose change.faults change.faults'
+
+-- a journal of no event
+abbrev pub IsEmpty : Journal → Type 0
+IsEmpty journal = (journal.events ≡ []) × (journal.restarts ≡ [])
 
 -- the list of failed names grew
 abbrev pub Grew : List (List ℕ) → List (List ℕ) → Type 0

@@ -1,7 +1,6 @@
 // How a call ends: its answer, and the line that tells why there is nothing to do.
-ghost use Rattle.call_cases.specs.Answers.{change_of};
-ghost use Rattle.call_cases.specs.Decided.{RefusalEnds};
-ghost use Rattle.call_cases.specs.Headline.{IsEmpty};
+ghost use Rattle.call_cases.specs.Answers.{IsEmpty, change_of};
+ghost use Rattle.call_cases.specs.Refusals.{RefusalEnds};
 
 use crate::lines::{OUT_OF_MEMORY, USAGE, end_with, read_fault_line};
 use crate::reading::Refusal;
