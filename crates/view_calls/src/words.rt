@@ -1,0 +1,21 @@
+// What words ask for.
+ghost use Rattle.std.specs.Prelude.{◌≡◌, IfOk, IfSome};
+ghost use Rattle.command_line.specs.Words.{texts, IsWithinLimits};
+ghost use Rattle.view_calls.specs.Commands.{asked_by};
+
+use command_line::{Asked, Verb, asked_of};
+use std::alloc::{AllocError, Global};
+
+/// What the words ask for, or none where they are those of no command. `words` are those after the program's own name.
+pub fn read_words(alloc: Global, words: &[String]) -> Result<Option<Asked>, AllocError>
+    ensures asked { IfOk result (λ asked. asked ≡ asked_by (texts words.now)) }
+    ensures within { IfOk result (λ asked. IfSome asked IsWithinLimits) }
+{
+    let [word, ..] = words else {
+        return Ok(None);
+    };
+    if word.as_str() != "order" {
+        return Ok(None);
+    }
+    asked_of(alloc, Verb::One, words)
+}
