@@ -1,7 +1,10 @@
 -- How the answer of a call, and what it wrote, stand to its case.
-use Rattle.std.specs.Prelude.{◌≡◌, ◌⊎◌, ◌++◌, ℕ, ◌<◌, List, [], Option, length, take}
+use Rattle.std.specs.Prelude.{◌≡◌, ◌⊎◌, ◌++◌, ℕ, ◌<◌, List, [], Option, Result, OnOk, OnErr, IfOk, IfErr, length, take}
 use Rattle.std.specs.Io.KnownBytes.{Appends, Keeps}
 use Rattle.gp_base.specs.Sinks.{Rose, AppendsPrefix}
+use Rattle.gp_base.specs.declared.sink.SinkFault.{SinkFault}
+use Rattle.gp_base.specs.declared.sink.SinkFault.TheVariants.{Failed}
+use Rattle.gp_base.specs.declared.sink.SinkFault.TheVariants as sink
 use Rattle.gp_base.specs.declared.journal.Journal.{Journal}
 use Rattle.call_cases.specs.Lines.{out_of_memory_line, write_fault_line}
 
@@ -73,3 +76,15 @@ pub data RunEnds (text trace : List ℕ) (due : ℕ) (out err : Change) : ℕ �
   run_no_memory : TakesPart out text → TakesStop trace err → RunEnds text trace due out err 1
   output_failed : TakesPart out text → Fails out → TakesAll err write_fault_line → RunEnds text trace due out err 8
   error_failed : TakesPart out text → Fails err → TakesStop trace err → RunEnds text trace due out err 8
+
+-- how a text was written that is all there is to write, and its status
+pub record PutFor (text : List ℕ) (due : ℕ) (out : Change) (result : Result ℕ SinkFault) : Type 0 where
+  pub status : IfOk result (λ status. status ≡ due)
+  pub all : OnOk result (TakesAll out text)
+  pub part : OnErr result (TakesPart out text)
+  pub cause : IfErr result (λ fault. fault ≡ Failed → Fails out)
+
+-- the line that tells why a write stopped was written, or it was not
+abbrev pub StopsBy : SinkFault → Change → ℕ → Type 0
+StopsBy Failed err status = LineEnds 8 write_fault_line err status
+StopsBy sink.OutOfMemory err status = LineEnds 1 out_of_memory_line err status
