@@ -3,6 +3,8 @@
 
 mod lines;
 mod reading;
+#[cfg(test)]
+mod tests;
 mod top;
 mod words;
 

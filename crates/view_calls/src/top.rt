@@ -5,7 +5,8 @@ ghost use Rattle.gp_base.specs.Sinks.{AppendsPrefix, HasCause};
 ghost use Rattle.command_line.specs.Words.{texts};
 ghost use Rattle.call_cases.specs.Answers.{change_of};
 ghost use Rattle.call_cases.specs.Decided.{work_of};
-ghost use Rattle.view_calls.specs.Commands.{text_of};
+ghost use Rattle.call_cases.specs.Headline.{ReadsNothing};
+ghost use Rattle.view_calls.specs.Commands.{asked_by, commands, text_of};
 ghost use Rattle.view_calls.specs.Shows.{Shows, ShowEnds};
 
 use crate::lines::{refuse, stop_with};
@@ -55,7 +56,7 @@ pub fn view_run<H: Shelf, O: Sink, E: Sink>(
     out: &mut O,
     err: &mut E,
 ) -> u8
-    ensures { Shows (record {
+    ensures shows { Shows (record {
       words = texts words.now;
       files = H.files shelf.old;
       failed = H.failed shelf.old;
@@ -64,6 +65,9 @@ pub fn view_run<H: Shelf, O: Sink, E: Sink>(
       err = change_of E.written E.faults err.old err.new;
       status = result;
     }) }
+
+    // The shelf is not read for words of no command.
+    ensures unread { ReadsNothing commands (asked_by (texts words.now)) → shelf.new ≡ shelf.old }
 {
     match read_view(alloc, words, shelf) {
         Ok(request) => show(alloc, &request, out, err),
