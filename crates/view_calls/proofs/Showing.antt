@@ -17,7 +17,7 @@ use Rattle.call_cases.specs.declared.reading.Refusal.TheVariants.{Usage as Refus
 use Rattle.call_cases.specs.Work.{Files, ToDo}
 use Rattle.call_cases.specs.Commands.{AreSound}
 use Rattle.call_cases.specs.RunCommands as gprs
-use Rattle.call_cases.specs.Lines as line
+use Rattle.call_cases.specs.Lines as gprs_lines
 use Rattle.call_cases.specs.Case.{Case, Usage, BadProgram, BadInput, Go, IsCaseOf, no_program, of_text, IsCase, ForCase, names_read}
 use Rattle.call_cases.specs.Decided.{case_of}
 use Rattle.call_cases.specs.Refusals.{AnswersCase, RefusesCase, RefusesWords, RefusesShelf, RefusalEnds, usage_told, program_told, input_told, read_told, refusal_no_memory, refusal_failed}
@@ -52,13 +52,13 @@ untold_ends due line other err status (line_no_memory part) = line_no_memory (0,
 -- a refusal was told
 module _ (err : Change) where
   refusal_ends : (refusal : Refusal) (status : ℕ) → LineEnds (refusal_status refusal) (refusal_line refusal) err status → RefusalEnds (untold err) refusal status
-  refusal_ends refusal status (line_failed part fails) = refusal_failed fails (line.write_fault_line, inr (inr refl), (0, tt))
-  refusal_ends refusal status (line_no_memory part) = refusal_no_memory (line.out_of_memory_line, inr (inl refl), (0, tt))
+  refusal_ends refusal status (line_failed part fails) = refusal_failed fails (gprs_lines.write_fault_line, inr (inr refl), (0, tt))
+  refusal_ends refusal status (line_no_memory part) = refusal_no_memory (gprs_lines.out_of_memory_line, inr (inl refl), (0, tt))
   refusal_ends RefusedUsage status (whole all) = usage_told tt
   refusal_ends (RefusedProgram told) status (whole all) = program_told tt
   refusal_ends (RefusedInput told) status (whole all) = input_told tt
   refusal_ends (ReadFault name) status (whole all) = read_told tt
-  refusal_ends OutOfMemory status (whole all) = refusal_no_memory (line.out_of_memory_line, inr (inl refl), (0, tt))
+  refusal_ends OutOfMemory status (whole all) = refusal_no_memory (gprs_lines.out_of_memory_line, inr (inl refl), (0, tt))
 
   refusal_quiet : (refusal : Refusal) (status : ℕ) → LineEnds (refusal_status refusal) (refusal_line refusal) err status → status ≡ 0 → ⊥
   refusal_quiet refusal status (line_failed part fails) is = omega (arith, is)
@@ -151,9 +151,9 @@ module _ (text : List ℕ) (out err : Change) where
   show_ends : (status : ℕ) → ShowEnds text out err status → RunEnds text [] 0 out (untold err) status
   show_ends status (shown all kept) = finished all tt
   show_ends status (unshown Failed part fails ends) =
-      run_of_failed text [] 0 out (untold err) status part (fails refl) (untold_ends 8 (fault_line Failed) line.write_fault_line err status ends)
+      run_of_failed text [] 0 out (untold err) status part (fails refl) (untold_ends 8 (fault_line Failed) gprs_lines.write_fault_line err status ends)
   show_ends status (unshown sink.OutOfMemory part fails ends) =
-      run_of_memory text [] 0 out (untold err) status part (untold_ends 1 (fault_line sink.OutOfMemory) line.out_of_memory_line err status ends)
+      run_of_memory text [] 0 out (untold err) status part (untold_ends 1 (fault_line sink.OutOfMemory) gprs_lines.out_of_memory_line err status ends)
 
   -- it stopped
   stop_status : (fault : SinkFault) (status : ℕ) → LineEnds (fault_status fault) (fault_line fault) err status → IsStop status
@@ -201,7 +201,7 @@ run_shows words files failed failed' out err status names work asked some known 
     let is_status : (status ≡ 0) ⊎ IsStop status = show_status (text_of work) out err status ends in
     record {
       call = run_headline commands commands_sound words files failed failed' out (untold err) status (record { events = []; restarts = [] }) names work asked some known same
-          (λ _. (refl, refl)) (λ _. (tt, λ _. tt, tt)) (show_ends (text_of work) out err status ends);
+          (λ _. (refl, refl)) (λ _. (tt, (λ _. tt), tt)) (show_ends (text_of work) out err status ends);
       quiet = show_quiet (text_of work) out err status ends;
       line = for_each asking words files (λ case. HasCaseLine status → TakesAll err (line_of case)) (λ case is. absurd (grind (arith, is, is_status)));
       read_fault = λ is. absurd (grind (arith, is, is_status));

@@ -31,7 +31,7 @@ fn put_both<E: Sink>(to: &mut E, first: &[u8], second: &[u8]) -> Result<(), Sink
 fn after_name(line: &[u8]) -> &[u8]
     ensures { result.now ≡ drop 4 line.now }
 {
-    &line[line.len().min(4)..]
+    if line.len() < 4 { &[] } else { &line[4..] }
 }
 
 // Writes a line of `gprs` under this program's name.
