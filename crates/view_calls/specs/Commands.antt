@@ -1,7 +1,6 @@
 -- What the words of `gprs_view` ask for, and what is done for that, as one value of the record of promises.
 use Rattle.std.specs.Prelude.{◌≡◌, ℕ, false, List, [], ◌∷◌, Option, None, codes, ⊤, if◌then◌else◌}
 use Rattle.std.specs.Str.{bytes_eq}
-use Rattle.clap.specs.Words.{Text}
 use Rattle.command_line.specs.Words.{asked_of}
 use Rattle.command_line.specs.declared.asked.Asked.{Asked}
 use Rattle.command_line.specs.declared.asked.Verb.TheVariants.{One}
@@ -11,7 +10,7 @@ use Rattle.call_cases.specs.RunCommands as gprs
 use Rattle.run_views.specs.Order.{order_text}
 
 -- what the words ask for: behind `order` stand those that `gprs one` takes, and it is the run of these that is shown
-abbrev pub asked_by : List Text → Option Asked
+abbrev pub asked_by : List (List ℕ) → Option Asked
 asked_by [] = None
 asked_by (word ∷ words) = if bytes_eq word (codes "order") then asked_of One (word ∷ words) else None
 
