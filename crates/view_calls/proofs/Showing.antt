@@ -6,7 +6,6 @@ use Rattle.std.specs.declared.option.Option.TheVariants.{None, Some}
 use Rattle.gp_base.specs.declared.sink.SinkFault.{SinkFault}
 use Rattle.gp_base.specs.declared.sink.SinkFault.TheVariants.{Failed}
 use Rattle.gp_base.specs.declared.sink.SinkFault.TheVariants as sink
-use Rattle.gp_base.specs.declared.journal.Journal.{Journal}
 use Rattle.gp_base.proofs.Written.{prefix_whole}
 use Rattle.task_ast.specs.Tree.{Name}
 use Rattle.command_line.specs.declared.asked.Asked.{Asked}
@@ -28,7 +27,7 @@ use Rattle.call_cases.proofs.OneCase.{for_known, for_each}
 use Rattle.call_cases.proofs.Headlines.{run_of_failed, run_of_memory, run_headline, refused_headline, for_some, reads_failed}
 use Rattle.view_calls.specs.Commands.{asking, commands, text_of}
 use Rattle.view_calls.specs.Lines.{usage_line, read_fault_line, out_of_memory_line, line_of, under_own_name, refusal_line, refusal_status, fault_line, fault_status}
-use Rattle.view_calls.specs.Shows.{View, untold, FailsToRead, IsLine, Shows, ShowEnds, shown, unshown}
+use Rattle.view_calls.specs.Shows.{untold, FailsToRead, IsLine, Shows, ShowEnds, shown, unshown}
 
 commands_sound : AreSound commands
 commands_sound = record { ends = λ work. refl; apart = λ status is. inl is; begins = λ work journal empty. tt; unbegun = λ work journal written faults empty. tt }
