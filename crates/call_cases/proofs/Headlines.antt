@@ -169,7 +169,7 @@ run_headline {T} commands sound words files failed failed' out err status journa
     run_told commands words (Some files) names work status known is = (Go names work, known, is)
 
 -- what holds of a case that is known but for a part
-for_some : {A T : Type 0} (commands : Commands A T) (words : List (List ℕ)) (files : Option Files) (X : Type 0) (known : X → Case T) (P : Case T → Type 0) → IfSome files (λ told. (x : X) × IsCase commands.asking words told (known x)) → ((x : X) → P (known x))
+pub for_some : {A T : Type 0} (commands : Commands A T) (words : List (List ℕ)) (files : Option Files) (X : Type 0) (known : X → Case T) (P : Case T → Type 0) → IfSome files (λ told. (x : X) × IsCase commands.asking words told (known x)) → ((x : X) → P (known x))
     → ForCase commands.asking words files P
 for_some commands words None X known P is holds = tt
 for_some commands words (Some files) X known P (x, is) holds = for_known commands.asking words (Some files) (known x) P is (holds x)
@@ -294,7 +294,7 @@ module _ {A : Type 0} (may_read : A → Name → Type 0) (asked : Option A) (bef
 
 module _ {A T : Type 0} (commands : Commands A T) where
   -- the case reads a file whose read failed
-  reads_failed : (words : List (List ℕ)) (files : Option Files) (name : Name) → IfSome files (λ told. (case : Case T) × IsCase commands.asking words told case × Contains (names_read case) name)
+  pub reads_failed : (words : List (List ℕ)) (files : Option Files) (name : Name) → IfSome files (λ told. (case : Case T) × IsCase commands.asking words told case × Contains (names_read case) name)
       → ForCase commands.asking words files (λ case. Contains (names_read case) name)
   reads_failed words None name is = tt
   reads_failed words (Some files) name (case, is, reads) = for_known commands.asking words (Some files) case (λ c. Contains (names_read c) name) is reads

@@ -56,9 +56,9 @@ pub struct Asked {
     pub trace: bool,
 }
 
-// The first word of a call.
+/// The first word of a call.
 #[derive(Clone, Copy, PartialEq, Eq)]
-enum Verb {
+pub enum Verb {
     Run,
     One,
     Check,
@@ -288,8 +288,9 @@ fn asked_in(
     }))
 }
 
-// What the words of a command ask for, or none where it does not take them.
-fn asked_of(
+/// What words ask for that stand behind the word of a command, or none where it does not take them. The first word is any that
+/// stands for the command, and `waits` tells whether lasting workers are a crew of it. The error is that memory is out.
+pub fn asked_of(
     alloc: Global,
     waits: bool,
     verb: Verb,

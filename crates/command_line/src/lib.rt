@@ -5,4 +5,6 @@ mod arguments;
 mod asked;
 mod number;
 
-pub use asked::{Asked, Command, CrewKind, Soak, read_waiting_words, read_words, wants_pipe};
+pub use asked::{
+    Asked, Command, CrewKind, Soak, Verb, asked_of, read_waiting_words, read_words, wants_pipe,
+};

@@ -1,0 +1,22 @@
+//! Shows the runs of batch programs: the order of their subthreads.
+#![tactic(auto)]
+
+use process_io::{FileShelf, StdSink, words_of};
+use std::io;
+use std::process::ExitCode;
+use view_calls::{OUT_OF_MEMORY, end_with, view_run};
+
+fn main(rt: HostRuntime) -> ExitCode {
+    let mut err = StdSink::new(rt.stderr());
+    // Words that are not text are those of no command.
+    let words = match words_of(&rt) {
+        Ok(words) => words,
+        Err(fault) if fault.kind() == io::ErrorKind::OutOfMemory => {
+            return ExitCode::from(end_with(&mut err, OUT_OF_MEMORY, 1));
+        }
+        Err(_) => Vec::new(rt.alloc()),
+    };
+    let mut shelf = FileShelf::new(&rt);
+    let mut out = StdSink::new(rt.stdout());
+    ExitCode::from(view_run(rt.alloc(), &words, &mut shelf, &mut out, &mut err))
+}

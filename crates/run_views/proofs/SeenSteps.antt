@@ -1,0 +1,57 @@
+-- The text of the code's steps is that of the subthreads that they show.
+use Rattle.std.proofs.Common.{◌≡◌, ℕ, suc, List, [], ◌∷◌, ◌++◌, Option, Some, None, map, codes, refl, ap, ap₂, ◌∙◌, append_assoc}
+use Rattle.gp_base.specs.declared.footprint.Loc.TheVariants as loc
+use Rattle.gp_base.specs.declared.feed.Inputs.{Inputs}
+use Rattle.gp_base.specs.declared.limits.Limits.{Limits}
+use Rattle.task_ast.specs.declared.tree.Head.{Head}
+use Rattle.task_ast.specs.Tree.{Program}
+use Rattle.task_ast.specs.Footprint.{child_registers}
+use Rattle.task_ast.specs.Plain.{Subthread, order, end}
+use Rattle.one_thread.specs.declared.run.PlainRun.{PlainRun}
+use Rattle.one_thread.specs.declared.run.Step.{Step}
+use Rattle.one_thread.specs.PlainRuns.{IsPlainRun, shown}
+use Rattle.run_views.specs.Order.{order_line, order_lines, end_line, order_text}
+use Rattle.run_views.specs.inner.Seen.{child_in, locks_in, seen}
+
+-- the locks in what is written are those that are held
+locks_in-map : (held : List ℕ) → locks_in (map loc.Lock held) ≡ held
+locks_in-map [] = refl
+locks_in-map (lock ∷ held) = ap (λ l. lock ∷ l) (locks_in-map held)
+
+held_in : (child : Option ℕ) (held : List ℕ) → locks_in (child_registers child ++ map loc.Lock held) ≡ held
+held_in None held = locks_in-map held
+held_in (Some c) held = locks_in-map held
+
+child_written : (thread : ℕ) (child : Option ℕ) (held : List ℕ) → child_in (record { reads = []; writes = loc.Regs thread ∷ child_registers child ++ map loc.Lock held }) ≡ child
+child_written thread None [] = refl
+child_written thread None (lock ∷ held) = refl
+child_written thread (Some c) held = refl
+
+-- a step is seen as the subthread that it shows
+line_seen : (heads : List Head) (p : ℕ) (s : Subthread) → order_line heads p (seen (shown s)) ≡ order_line heads p s
+line_seen heads p s =
+    ap₂ (λ child held. order_line heads p (record { thread = s.thread; begins = s.begins; child = child; held = held; actions = []; lines = s.lines }))
+    (child_written s.thread s.child s.held) (held_in s.child s.held)
+
+lines_seen : (heads : List Head) (p : ℕ) (run : List Subthread) → order_lines heads p (map seen (map shown run)) ≡ order_lines heads p run
+lines_seen heads p [] = refl
+lines_seen heads p (s ∷ run) = ap₂ (λ line lines. line ++ lines) (line_seen heads p s) (lines_seen heads (suc p) run)
+
+-- the text of the code's run is that of the plain run
+pub text_seen : (program : Program) (inputs : Inputs) (limits : Limits) (run : PlainRun) → IsPlainRun program inputs limits run
+    → codes "order\n" ++ order_lines program.heads 0 (map seen run.order) ++ end_line run.end ≡ order_text program inputs limits
+unfolding order_text
+text_seen program inputs limits run is =
+    ap₂ (λ steps ending. codes "order\n" ++ order_lines program.heads 0 (map seen steps) ++ end_line ending) is.order is.end
+    ∙ ap (λ lines. codes "order\n" ++ lines ++ end_line (end program inputs limits)) (lines_seen program.heads 0 (order program inputs limits))
+
+-- the same of a text that was put together piece by piece
+pub text_shown : (program : Program) (inputs : Inputs) (limits : Limits) (run : PlainRun) (first second third text : List ℕ) (heads : List Head) (steps : List Step) → IsPlainRun program inputs limits run
+    → first ≡ codes "order\n" → heads ≡ program.heads → steps ≡ run.order → second ≡ first ++ order_lines heads 0 (map seen steps) → third ≡ second ++ end_line run.end → text ≡ third
+    → text ≡ order_text program inputs limits
+text_shown program inputs limits run first second third text heads steps is begun same_heads same_steps lines ends taken =
+    let from : List ℕ → List Head → List Step → List ℕ = λ bytes heads steps. (bytes ++ order_lines heads 0 (map seen steps)) ++ end_line run.end in
+    taken ∙ ends ∙ ap (λ l. l ++ end_line run.end) lines
+    ∙ ap (λ l. from l heads steps) begun ∙ ap (λ h. from (codes "order\n") h steps) same_heads ∙ ap (λ l. from (codes "order\n") program.heads l) same_steps
+    ∙ append_assoc (codes "order\n") (order_lines program.heads 0 (map seen run.order)) (end_line run.end)
+    ∙ text_seen program inputs limits run is

@@ -1,0 +1,67 @@
+// The names of a program's lock cells and barriers.
+ghost use Rattle.std.specs.Prelude.{◌≡◌, ◌<◌, ◌^◌, ◌++◌, OnOk};
+ghost use Rattle.task_ast.specs.Names.{natural, locks_of, barriers_of};
+ghost use Rattle.run_views.specs.Order.{cell_name, cell_text, barrier_name};
+
+use gp_base::{LockNo, Name};
+use itoa::{Buffer, Integer};
+use std::alloc::AllocError;
+use task_ast::Head;
+
+/// Appends a number in decimal.
+pub fn push_number<I: Integer>(text: &mut Vec<u8>, number: I) -> Result<(), AllocError>
+    ensures { OnOk result (text.new.items ≡ text.old.items ++ I.text number) }
+{
+    text.extend_from_slice(Buffer::new().format(number).as_bytes())
+}
+
+// A size as a number; a negative one counts as 0.
+fn natural(size: i64) -> u64
+    ensures value { result ≡ natural size }
+    ensures small { result < 2 ^ 63 }
+{
+    if size < 0 { 0 } else { size as u64 }
+}
+
+// Appends the cell of an array at an index.
+fn push_cell(text: &mut Vec<u8>, array: &Name, index: u64) -> Result<(), AllocError>
+    ensures { OnOk result (text.new.items ≡ text.old.items ++ cell_text array.now index) }
+{
+    text.extend_from_slice(array.as_slice())?;
+    text.extend_from_slice(b"[")?;
+    push_number(text, index)?;
+    text.extend_from_slice(b"]")
+}
+
+/// Appends the name of a lock cell.
+pub fn push_lock(text: &mut Vec<u8>, heads: &[Head], lock: LockNo) -> Result<(), AllocError>
+    ensures { OnOk result (text.new.items ≡ text.old.items ++ cell_name (locks_of heads.now) lock) }
+{
+    let mut left = u64::from(lock.0);
+    for head in heads {
+        if let Head::LockHead { name, size, .. } = head {
+            let size = natural(*size);
+            if left < size {
+                return push_cell(text, name, left);
+            }
+            left -= size;
+        }
+    }
+    Ok(())
+}
+
+/// Appends the name of a barrier.
+pub fn push_barrier(text: &mut Vec<u8>, heads: &[Head], barrier: u32) -> Result<(), AllocError>
+    ensures { OnOk result (text.new.items ≡ text.old.items ++ barrier_name (barriers_of heads.now) barrier) }
+{
+    let mut left = barrier;
+    for head in heads {
+        if let Head::BarrierHead { name, .. } = head {
+            if left == 0 {
+                return text.extend_from_slice(name.as_slice());
+            }
+            left -= 1;
+        }
+    }
+    Ok(())
+}

@@ -1,0 +1,175 @@
+// The text that shows the order of a run.
+ghost use Rattle.std.specs.Prelude.{◌≡◌, ◌++◌, map, IfOk, OnOk};
+ghost use Rattle.task_ast.specs.View.{plain_program};
+ghost use Rattle.lock_checker.specs.Accepted.{program_of};
+ghost use Rattle.restart_log.specs.Tail.{why_word};
+ghost use Rattle.run_views.specs.Order.{sync_text, held_text, order_line, order_lines, end_line, order_text};
+ghost use Rattle.run_views.specs.inner.Seen.{child_in, lock_in, locks_in, seen};
+
+use crate::names::{push_barrier, push_lock, push_number};
+use gp_base::{End, Footprint, Inputs, Limits, Loc, Seq, Text, ThreadNo, Why};
+use lock_checker::Checked;
+use one_thread::{Step, run_plain};
+use std::alloc::{AllocError, Global};
+use task_ast::{Head, SyncOp};
+
+// The thread that a subthread forked, whose registers it writes beside its own.
+fn child_in(foot: &Footprint) -> Option<ThreadNo>
+    ensures { result ≡ child_in foot.now }
+{
+    match foot.writes.get(1) {
+        Some(Loc::Regs(child)) => Some(*child),
+        _ => None,
+    }
+}
+
+// Appends the synchronisation that a subthread begins with.
+fn push_sync(
+    text: &mut Vec<u8>,
+    heads: &[Head],
+    sync: &SyncOp,
+    child: Option<ThreadNo>,
+) -> Result<(), AllocError>
+    ensures { OnOk result (text.new.items ≡ text.old.items ++ sync_text heads.now sync.now child) }
+{
+    match sync {
+        SyncOp::Start => text.extend_from_slice(b"start"),
+        SyncOp::Lock(lock) => {
+            text.extend_from_slice(b"lock ")?;
+            push_lock(text, heads, *lock)
+        }
+        SyncOp::Unlock(lock) => {
+            text.extend_from_slice(b"unlock ")?;
+            push_lock(text, heads, *lock)
+        }
+        SyncOp::Fork { .. } => {
+            text.extend_from_slice(b"fork ")?;
+            match child {
+                Some(child) => push_number(text, child.0),
+                None => Ok(()),
+            }
+        }
+        SyncOp::Join(thread) => {
+            text.extend_from_slice(b"join ")?;
+            push_number(text, *thread)
+        }
+        SyncOp::Barrier(barrier) => {
+            text.extend_from_slice(b"barrier ")?;
+            push_barrier(text, heads, *barrier)
+        }
+        SyncOp::Settle { .. } => text.extend_from_slice(b"settle"),
+        SyncOp::End | SyncOp::BadIndex | SyncOp::Spent => Ok(()),
+    }
+}
+
+// Appends the lock behind a space, where the location is one.
+fn push_location(text: &mut Vec<u8>, heads: &[Head], location: Loc) -> Result<(), AllocError>
+    ensures { OnOk result (text.new.items ≡ text.old.items ++ held_text heads.now (lock_in location)) }
+{
+    match location {
+        Loc::Lock(lock) => {
+            text.extend_from_slice(b" ")?;
+            push_lock(text, heads, lock)
+        }
+        _ => Ok(()),
+    }
+}
+
+// Appends the locks that are among these locations, each behind a space.
+fn push_held(text: &mut Vec<u8>, heads: &[Head], writes: &[Loc]) -> Result<(), AllocError>
+    ensures { OnOk result (text.new.items ≡ text.old.items ++ held_text heads.now (locks_in writes.now)) }
+{
+    for location in writes {
+        push_location(text, heads, *location)?;
+    }
+    Ok(())
+}
+
+// Appends the line of a subthread at its position.
+fn push_step(
+    text: &mut Vec<u8>,
+    heads: &[Head],
+    position: usize,
+    step: &Step,
+) -> Result<(), AllocError>
+    ensures { OnOk result (text.new.items ≡ text.old.items ++ order_line heads.now position (seen step.now)) }
+{
+    push_number(text, position)?;
+    text.extend_from_slice(b" thread ")?;
+    push_number(text, step.thread.0)?;
+    text.extend_from_slice(b" line ")?;
+    push_number(text, step.begins.line)?;
+    text.extend_from_slice(b" ")?;
+    push_sync(text, heads, &step.begins.sync, child_in(&step.foot))?;
+    text.extend_from_slice(b" prints ")?;
+    push_number(text, step.prints.len())?;
+    text.extend_from_slice(b" holds")?;
+    push_held(text, heads, step.foot.writes.as_slice())?;
+    text.extend_from_slice(b"\n")
+}
+
+// Appends the lines of subthreads, the first of which is at position 0.
+fn push_order(text: &mut Vec<u8>, heads: &[Head], order: &[Step]) -> Result<(), AllocError>
+    ensures { OnOk result (text.new.items ≡ text.old.items ++ order_lines heads.now 0 (map seen order.now)) }
+{
+    for (at, step) in order.iter().enumerate() {
+        push_step(text, heads, at, step)?;
+    }
+    Ok(())
+}
+
+fn why_word(why: Why) -> &'static str
+    ensures { result.now ≡ why_word why }
+{
+    match why {
+        Why::Deadlock => "deadlock",
+        Why::Index => "index",
+        Why::Join => "join",
+        Why::Threads => "threads",
+    }
+}
+
+// Appends the line that tells how a run ends.
+fn push_end(text: &mut Vec<u8>, end: End) -> Result<(), AllocError>
+    ensures { OnOk result (text.new.items ≡ text.old.items ++ end_line end) }
+{
+    match end {
+        End::Finished => text.extend_from_slice(b"end finished\n"),
+        End::Stuck { why, thread, line } => {
+            text.extend_from_slice(b"end stuck ")?;
+            text.extend_from_slice(why_word(why).as_bytes())?;
+            text.extend_from_slice(b" thread ")?;
+            push_number(text, thread.0)?;
+            text.extend_from_slice(b" line ")?;
+            push_number(text, line)?;
+            text.extend_from_slice(b"\n")
+        }
+        End::Spent(position) => {
+            text.extend_from_slice(b"end spent ")?;
+            push_number(text, position.0)?;
+            text.extend_from_slice(b"\n")
+        }
+    }
+}
+
+/// The text that shows the order of a program's run on one thread without faults: a line for each subthread by its position,
+/// with its thread, the synchronisation that it begins with, how many lines it prints and the locks that it holds; then how
+/// the run ends. The error is that memory is out.
+pub fn order_text(
+    alloc: Global,
+    c: &Checked,
+    inputs: &Inputs,
+    limits: Limits,
+) -> Result<Text, AllocError>
+    ensures { IfOk result (λ text. text ≡ order_text (plain_program (program_of c.now)) inputs.now limits) }
+{
+    let run = run_plain(alloc, c, inputs, limits)?;
+    let mut text = Vec::from_slice(alloc, b"order\n")?;
+    push_order(
+        &mut text,
+        c.program().heads.as_slice(),
+        run.order.as_slice(),
+    )?;
+    push_end(&mut text, run.end)?;
+    Ok(Seq::from_vec(text))
+}

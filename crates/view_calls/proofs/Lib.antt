@@ -1,0 +1,2 @@
+pub mod OrderWords
+pub mod Showing

@@ -1,0 +1,60 @@
+-- The lines on the error stream.
+use Rattle.std.specs.Prelude.{ℕ, List, [], ◌++◌, codes, drop}
+use Rattle.gp_base.specs.declared.sink.SinkFault.{SinkFault}
+use Rattle.gp_base.specs.declared.sink.SinkFault.TheVariants as sink
+use Rattle.call_cases.specs.declared.reading.Refusal.{Refusal}
+use Rattle.call_cases.specs.declared.reading.Refusal.TheVariants.{Usage as RefusedUsage, BadProgram as RefusedProgram, BadInput as RefusedInput, ReadFault, OutOfMemory}
+use Rattle.call_cases.specs.Lines as gprs
+use Rattle.call_cases.specs.Case.{Case, Usage, Missing, BadProgram, BadInput, Go}
+
+-- a line of `gprs`, under the name of this program
+abbrev pub under_own_name : List ℕ → List ℕ
+under_own_name line = codes "gprs_view" ++ drop 4 line
+
+-- words of no command
+abbrev pub usage_line : List ℕ
+usage_line = codes "gprs_view: usage: order\n"
+
+-- a file that could not be read
+abbrev pub read_fault_line : (name : List ℕ) → List ℕ
+read_fault_line name = under_own_name (gprs.read_fault_line name)
+
+-- memory ran out
+abbrev pub out_of_memory_line : List ℕ
+out_of_memory_line = under_own_name gprs.out_of_memory_line
+
+-- a write that failed
+abbrev pub write_fault_line : List ℕ
+write_fault_line = under_own_name gprs.write_fault_line
+
+-- the line of a case
+abbrev pub line_of : {T : Type 0} → Case T → List ℕ
+line_of Usage = usage_line
+line_of (Missing names name) = read_fault_line name
+line_of (BadProgram name line) = under_own_name line
+line_of (BadInput names line) = under_own_name line
+line_of (Go names work) = []
+
+-- the line that tells a refusal, and the status of it
+abbrev pub refusal_line : Refusal → List ℕ
+refusal_line RefusedUsage = usage_line
+refusal_line (RefusedProgram line) = under_own_name line
+refusal_line (RefusedInput line) = under_own_name line
+refusal_line (ReadFault name) = read_fault_line name
+refusal_line OutOfMemory = out_of_memory_line
+
+abbrev pub refusal_status : Refusal → ℕ
+refusal_status RefusedUsage = 2
+refusal_status (RefusedProgram line) = 3
+refusal_status (RefusedInput line) = 4
+refusal_status (ReadFault name) = 7
+refusal_status OutOfMemory = 1
+
+-- the line that tells why a text was not written whole, and the status of it
+abbrev pub fault_line : SinkFault → List ℕ
+fault_line sink.Failed = write_fault_line
+fault_line sink.OutOfMemory = out_of_memory_line
+
+abbrev pub fault_status : SinkFault → ℕ
+fault_status sink.Failed = 8
+fault_status sink.OutOfMemory = 1

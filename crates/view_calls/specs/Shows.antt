@@ -1,0 +1,66 @@
+-- What each call of `gprs_view` is promised to do.
+use Rattle.std.specs.Prelude.{◌≡◌, ◌⊎◌, ℕ, List, [], Option, None, Contains}
+use Rattle.gp_base.specs.declared.sink.SinkFault.{SinkFault}
+use Rattle.gp_base.specs.declared.sink.SinkFault.TheVariants.{Failed}
+use Rattle.gp_base.specs.Files.{GrowsByOnly}
+use Rattle.task_ast.specs.Tree.{Name}
+use Rattle.call_cases.specs.Work.{Files, ToDo}
+use Rattle.call_cases.specs.Case.{Case, ForCase, names_read}
+use Rattle.call_cases.specs.Answers.{Change, TakesAll, TakesPart, Fails, Grew, LineEnds}
+use Rattle.call_cases.specs.Headline.{Call, HasCaseLine, IsStop, Headline}
+use Rattle.view_calls.specs.Commands.{asking, commands}
+use Rattle.view_calls.specs.Lines.{line_of, read_fault_line, out_of_memory_line, write_fault_line, fault_line, fault_status}
+
+-- a call: what it was given, and what it left
+pub record View : Type 0 where
+  pub words : List (List ℕ)
+  pub files : Option Files
+  pub failed : List Name
+  pub failed' : List Name
+  pub out : Change
+  pub err : Change
+  pub status : ℕ
+
+-- a sink of which no more is told than its count of faults
+abbrev pub untold : Change → Change
+untold change = record change { written = None; written' = None }
+
+-- the call as one of any top call, but for the bytes on the error stream
+abbrev pub call_of : View → Call
+call_of view = record {
+  words = view.words;
+  files = view.files;
+  failed = view.failed;
+  failed' = view.failed';
+  out = view.out;
+  err = untold view.err;
+  status = view.status;
+  journal = record { events = []; restarts = [] };
+}
+
+-- a file that could not be read: its reads alone failed, and it is one that the case reads
+pub record FailsToRead (view : View) (name : Name) : Type 0 where
+  pub read : ForCase asking view.words view.files (λ case. Contains (names_read case) name)
+  pub alone : GrowsByOnly name view.failed view.failed'
+  pub grew : Grew view.failed view.failed'
+
+-- a line that the error stream may take: that of the case, of a file that it reads, or of a stop
+abbrev pub IsLine : Case ToDo → List ℕ → Type 0
+IsLine case line =
+    (line ≡ line_of case) ⊎ (line ≡ out_of_memory_line) ⊎ (line ≡ write_fault_line) ⊎ (name : Name) × Contains (names_read case) name × (line ≡ read_fault_line name)
+
+-- what holds of each call
+pub record Shows (view : View) : Type 0 where
+  -- Status, output and reads are those of a top call with these commands.
+  pub call : Headline commands (call_of view)
+  -- The error stream grew by nothing, or by the line that tells the refusal or the fault.
+  pub quiet : view.status ≡ 0 → TakesAll view.err []
+  pub line : ForCase asking view.words view.files (λ case. HasCaseLine view.status → TakesAll view.err (line_of case))
+  pub read_fault : view.status ≡ 7 → (name : Name) × FailsToRead view name × TakesAll view.err (read_fault_line name)
+  pub write_fault : view.status ≡ 8 → Fails view.err ⊎ Fails view.out × TakesAll view.err write_fault_line
+  pub stopped : IsStop view.status → ForCase asking view.words view.files (λ case. (line : List ℕ) × IsLine case line × TakesPart view.err line)
+
+-- how a run is shown whose text is this: it was written whole, or a part of it was and the line that tells why
+pub data ShowEnds (text : List ℕ) (out err : Change) : ℕ → Type 0 where
+  shown : TakesAll out text → TakesAll err [] → ShowEnds text out err 0
+  unshown : {status : ℕ} (fault : SinkFault) → TakesPart out text → (fault ≡ Failed → Fails out) → LineEnds (fault_status fault) (fault_line fault) err status → ShowEnds text out err status

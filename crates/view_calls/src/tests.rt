@@ -1,0 +1,154 @@
+// What no clause says: calls that succeed, with the texts as they are written.
+use crate::view_run;
+use gp_base::{MemShelf, MemSink, Name, Seq, Text};
+use std::alloc::{AllocError, Global};
+use std::test::Fail;
+
+const ADD: &str = "lock tally[1];
+record total[1] by tally;
+task add(n) {
+  var $t;
+  lock tally[0];
+  read total[0] into $t;
+  write total[0] = $t + n;
+  unlock tally[0];
+}
+task main() {
+  fork add(3);
+  fork add(4);
+  join 1;
+  join 2;
+}
+";
+
+const ADDED: &str = "order
+0 thread 0 line 0 start prints 0 holds
+1 thread 0 line 11 fork 1 prints 0 holds
+2 thread 1 line 0 start prints 0 holds
+3 thread 0 line 12 fork 2 prints 0 holds
+4 thread 1 line 5 lock tally[0] prints 0 holds tally[0]
+5 thread 2 line 0 start prints 0 holds
+6 thread 1 line 8 unlock tally[0] prints 0 holds
+7 thread 2 line 5 lock tally[0] prints 0 holds tally[0]
+8 thread 0 line 13 join 1 prints 0 holds
+9 thread 2 line 8 unlock tally[0] prints 0 holds
+10 thread 0 line 14 join 2 prints 0 holds
+end finished
+";
+
+// Each of two threads waits for a lock of the other.
+const DEADLOCK: &str = "lock x[2];
+lock y[2];
+task p() {
+  print 1;
+  lock x[1];
+  lock y[0];
+  lock y[1];
+  unlock y[1];
+  unlock y[0];
+  unlock x[1];
+}
+task q() {
+  print 2;
+  lock y[1];
+  lock x[1];
+  unlock x[1];
+  unlock y[1];
+}
+task main() {
+  fork p();
+  fork q();
+  join 1;
+}
+";
+
+const STUCK: &str = "order
+0 thread 0 line 0 start prints 0 holds
+1 thread 0 line 20 fork 1 prints 0 holds
+2 thread 1 line 0 start prints 1 holds
+3 thread 0 line 21 fork 2 prints 0 holds
+4 thread 1 line 5 lock x[1] prints 0 holds x[1]
+5 thread 2 line 0 start prints 1 holds
+6 thread 1 line 6 lock y[0] prints 0 holds x[1] y[0]
+7 thread 2 line 14 lock y[1] prints 0 holds y[1]
+end stuck deadlock thread 0 line 22
+";
+
+const BARRIERS: &str = "barrier first(1);
+barrier meet(2);
+task t() { print 1; barrier meet; print 2; }
+task main() { fork t(); print 3; barrier meet; print 4; print 5; }
+";
+
+const MET: &str = "order
+0 thread 0 line 0 start prints 0 holds
+1 thread 0 line 4 fork 1 prints 1 holds
+2 thread 1 line 0 start prints 1 holds
+3 thread 1 line 3 barrier meet prints 1 holds
+4 thread 0 line 4 barrier meet prints 2 holds
+end finished
+";
+
+const LOOP: &str = "task main() { while 1 { } }";
+
+const SPENT: &str = "order
+0 thread 0 line 0 start prints 0 holds
+end spent 0
+";
+
+const USAGE: &str = "gprs_view: usage: order\n";
+
+// The words between spaces.
+fn words_of(alloc: Global, text: &str) -> Result<Vec<String>, AllocError> {
+    let mut words = Vec::new(alloc);
+    for word in text.split(' ') {
+        words.push(String::from_str(alloc, word)?)?;
+    }
+    Ok(words)
+}
+
+// The words over a shelf with this program have this status, output and line on the error stream.
+fn gives(
+    alloc: Global,
+    words: &str,
+    program: &str,
+    status: u8,
+    output: &str,
+    error: &str,
+) -> Result<bool, AllocError> {
+    let file = (
+        Name::from_slice(alloc, b"p.gp")?,
+        Text::from_slice(alloc, program.as_bytes())?,
+    );
+    let files = Seq::from_vec(vec![in alloc; file]?);
+    let mut shelf = MemShelf::new(alloc, files, Seq::new(alloc));
+    let mut out = MemSink::new(alloc, 1000, Seq::new(alloc));
+    let mut err = MemSink::new(alloc, 1000, Seq::new(alloc));
+    let words = words_of(alloc, words)?;
+    let ended = view_run(alloc, &words, &mut shelf, &mut out, &mut err);
+    Ok(ended == status && out.written() == output.as_bytes() && err.written() == error.as_bytes())
+}
+
+#[test]
+fn runs_are_shown_or_refused(rt: HostRuntime) -> Result<(), Fail> {
+    let rows = [
+        ("order p.gp", ADD, 0, ADDED, ""),
+        ("order p.gp", DEADLOCK, 0, STUCK, ""),
+        ("order p.gp", BARRIERS, 0, MET, ""),
+        ("order p.gp --turns 10", LOOP, 0, SPENT, ""),
+        ("order p.gp --subthreads 0", LOOP, 2, "", USAGE),
+        ("one p.gp", ADD, 2, "", USAGE),
+        (
+            "order p.gp",
+            "task t() { }",
+            3,
+            "",
+            "gprs_view: check 1 at line 1\n",
+        ),
+        ("order q.gp", ADD, 7, "", "gprs_view: read fault q.gp\n"),
+    ];
+    for (words, program, status, output, error) in rows {
+        assert!(rt; gives(rt.alloc(), words, program, status, output, error)?);
+    }
+    Ok(())
+}

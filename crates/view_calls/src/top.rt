@@ -1,0 +1,76 @@
+// The top call: all that the program does.
+ghost use Rattle.std.specs.Prelude.{◌≡◌, OnOk, OnErr};
+ghost use Rattle.std.specs.Io.KnownBytes.{Appends};
+ghost use Rattle.gp_base.specs.Sinks.{AppendsPrefix, HasCause};
+ghost use Rattle.command_line.specs.Words.{texts};
+ghost use Rattle.call_cases.specs.Answers.{change_of};
+ghost use Rattle.call_cases.specs.Decided.{work_of};
+ghost use Rattle.call_cases.specs.Headline.{ReadsNothing};
+ghost use Rattle.view_calls.specs.Commands.{asked_by, commands, text_of};
+ghost use Rattle.view_calls.specs.Shows.{Shows, ShowEnds};
+
+use crate::lines::{refuse, stop_with};
+use crate::reading::read_view;
+use call_cases::Request;
+use gp_base::{Shelf, Sink, SinkFault, put_all};
+use run_views::order_text;
+use std::alloc::Global;
+
+// Writes the order of the run that is asked for.
+fn put_order<O: Sink>(alloc: Global, request: &Request, out: &mut O) -> Result<(), SinkFault>
+    ensures all { OnOk result (Appends (O.written out.old) (O.written out.new) (text_of (work_of request.now))) }
+    ensures prefix { OnErr result (AppendsPrefix (O.written out.old) (O.written out.new) (text_of (work_of request.now))) }
+    ensures cause { HasCause (O.faults out.old) (O.faults out.new) result }
+{
+    let text = order_text(
+        alloc,
+        &request.checked,
+        &request.inputs,
+        request.asked.limits,
+    )?;
+    put_all(out, text.as_slice())
+}
+
+// Shows the run that is asked for, and answers the status.
+fn show<O: Sink, E: Sink>(alloc: Global, request: &Request, out: &mut O, err: &mut E) -> u8
+    ensures { ShowEnds (text_of (work_of request.now)) (change_of O.written O.faults out.old out.new) (change_of E.written E.faults err.old err.new) result }
+{
+    match put_order(alloc, request, out) {
+        Ok(()) => 0,
+        Err(fault) => stop_with(fault, err),
+    }
+}
+
+/// Shows what the words ask for, over what is handed in, and answers the status. The words are those after the program's name.
+///
+/// The status is 0 where the run was shown, also one that is stuck or has spent its limits, 1 where memory ran out, 2 where the
+/// words are those of no command, 3 where the program is refused, 4 where a file beside it is refused, 7 where a file could not
+/// be read, and 8 where a write failed.
+///
+/// At 0 `out` took the whole text, and `err` nothing. At 2, 3, 4 and 7 `out` took nothing, and `err` one line that tells why; at 8
+/// `err` took such a line, unless it failed itself. At each status `out` took a prefix of the text.
+pub fn view_run<H: Shelf, O: Sink, E: Sink>(
+    alloc: Global,
+    words: &[String],
+    shelf: &mut H,
+    out: &mut O,
+    err: &mut E,
+) -> u8
+    ensures shows { Shows (record {
+      words = texts words.now;
+      files = H.files shelf.old;
+      failed = H.failed shelf.old;
+      failed' = H.failed shelf.new;
+      out = change_of O.written O.faults out.old out.new;
+      err = change_of E.written E.faults err.old err.new;
+      status = result;
+    }) }
+
+    // The shelf is not read for words of no command.
+    ensures unread { ReadsNothing commands (asked_by (texts words.now)) → shelf.new ≡ shelf.old }
+{
+    match read_view(alloc, words, shelf) {
+        Ok(request) => show(alloc, &request, out, err),
+        Err(refusal) => refuse(&refusal, err),
+    }
+}
