@@ -153,8 +153,8 @@ impl Gate for Meeting {
     }
 }
 
-// A gate at which nobody has met.
-fn meeting() -> Meeting {
+// A gate that nobody has entered.
+fn empty_gate() -> Meeting {
     Meeting {
         entered: AtomicU64::new(0),
         met: AtomicU64::new(0),
@@ -165,7 +165,7 @@ fn meeting() -> Meeting {
 fn two_tasks_of_lasting_threads_meet(rt: HostRuntime) -> Result<(), Fail> {
     let alloc = rt.alloc();
     let work = idle_work(alloc)?;
-    let gate = Arc::new(alloc, meeting())?;
+    let gate = Arc::new(alloc, empty_gate())?;
     let (first, second) = attempts_by_threads(&rt, alloc, 2, &gate, &work)?;
     assert!(rt; first == Some(0) && second == Some(1));
     assert!(rt;
@@ -179,7 +179,7 @@ fn two_tasks_of_lasting_threads_meet(rt: HostRuntime) -> Result<(), Fail> {
 fn two_tasks_of_a_board_meet(rt: HostRuntime) -> Result<(), Fail> {
     let alloc = rt.alloc();
     let work = idle_work(alloc)?;
-    let gate = meeting();
+    let gate = empty_gate();
     let (first, second) = attempts_by_boards(&rt, alloc, 2, &gate, &work)?;
     assert!(rt; first == Some(0) && second == Some(1));
     assert!(rt;
