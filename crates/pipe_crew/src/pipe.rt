@@ -249,13 +249,8 @@ impl<'a, H: Wait, G: Enter> PipeCrew<'a, H, G> {
             return Ok(());
         }
         self.follow()?;
-        flight.help(
-            &self.rt,
-            self.alloc,
-            self.work,
-            &*self.gate,
-            &self.mean_steps,
-        );
+        let work: &Work = self.work;
+        flight.help(&self.rt, self.alloc, work, &*self.gate, &self.mean_steps);
         Ok(())
     }
 
