@@ -1,19 +1,17 @@
-// Crews over boards, with tasks of a program that does nothing.
-ghost use Rattle.std.specs.Prelude.{◌≡◌, [], All, IfOk};
-ghost use Rattle.subthread.specs.Tasks.{Fits};
-ghost use Rattle.crew.specs.Out.{AreRuns};
+// A crew of lasting threads, with tasks of a program that does nothing.
+ghost use Rattle.std.specs.Prelude.{◌≡◌, [], IfOk};
 
-use crew::{BatchCrew, Crew, MeanSteps};
+use crew::Crew;
 use gp_base::{At, FreeGate, Gate, Pos, Seq, ThreadNo};
 use lock_checker::check;
-use pipe_crew::{PipeCrew, run_board};
+use pipe_crew::PipeCrew;
 use record_store::Given;
 use std::alloc::{AllocError, Global};
 use std::sync::atomic::{AtomicU64, Ordering};
 use std::sync::{Arc, Wait};
 use std::test::Fail;
 use std::thread::{Threads, yield_now};
-use subthread::{Done, Task, Work};
+use subthread::{Task, Work};
 use task_ast::{Next, SyncOp};
 use task_code::lower;
 use task_parser::{lex, parse};
@@ -89,23 +87,6 @@ fn two_of_three<C: Crew, R: Threads + Sync>(
     Ok((first, second))
 }
 
-// Which attempts come back from a crew that starts threads for each board.
-fn attempts_by_boards<G: Gate, R: Threads + Sync>(
-    rt: &R,
-    alloc: Global,
-    workers: u32,
-    gate: &G,
-    work: &Work,
-) -> Result<(Option<u32>, Option<u32>), AllocError> {
-    let mean_steps = MeanSteps::new(alloc, work);
-    let run_all = |tasks: Seq<Task>| -> Result<Seq<Done>, AllocError>
-        requires { All (Fits work.now) tasks }
-        ensures { IfOk result (AreRuns work.entry.now tasks) }
-    { run_board(rt, alloc, work, gate, &mean_steps, workers, tasks) };
-    let mut crew = BatchCrew::new(alloc, work, run_all);
-    two_of_three(rt, alloc, &mut crew)
-}
-
 // Which attempts come back from a crew of lasting threads, which is dropped while one is out.
 fn attempts_by_threads<
     H: Threads + Wait + Clone + Send + Sync + Drop + 'static,
@@ -153,34 +134,16 @@ impl Gate for Meeting {
     }
 }
 
-// A gate that nobody has entered.
-fn empty_gate() -> Meeting {
-    Meeting {
+#[test]
+fn two_tasks_meet(rt: HostRuntime) -> Result<(), Fail> {
+    let alloc = rt.alloc();
+    let work = idle_work(alloc)?;
+    let gate = Meeting {
         entered: AtomicU64::new(0),
         met: AtomicU64::new(0),
-    }
-}
-
-#[test]
-fn two_tasks_of_lasting_threads_meet(rt: HostRuntime) -> Result<(), Fail> {
-    let alloc = rt.alloc();
-    let work = idle_work(alloc)?;
-    let gate = Arc::new(alloc, empty_gate())?;
+    };
+    let gate = Arc::new(alloc, gate)?;
     let (first, second) = attempts_by_threads(&rt, alloc, 2, &gate, &work)?;
-    assert!(rt; first == Some(0) && second == Some(1));
-    assert!(rt;
-        gate.met.load(Ordering::SeqCst) == 1,
-        "a second entered while the first waited"
-    );
-    Ok(())
-}
-
-#[test]
-fn two_tasks_of_a_board_meet(rt: HostRuntime) -> Result<(), Fail> {
-    let alloc = rt.alloc();
-    let work = idle_work(alloc)?;
-    let gate = empty_gate();
-    let (first, second) = attempts_by_boards(&rt, alloc, 2, &gate, &work)?;
     assert!(rt; first == Some(0) && second == Some(1));
     assert!(rt;
         gate.met.load(Ordering::SeqCst) == 1,
