@@ -5,8 +5,8 @@ use Rattle.pipe_crew.specs.inner.Flights.{IsFlight}
 use Rattle.pipe_crew.proofs.Flying.{none_left}
 use Rattle.pipe_crew.proofs.pipe.PipeCrew.put_first.Goals as goal
 
-pub returns-clause-fly : goal.returns-clause-fly
-returns-clause-fly g c =
+pub returns-then-is_used_up-clause-fly : goal.returns-then-is_used_up-clause-fly
+returns-then-is_used_up-clause-fly g c =
     let w = c.args.self.now.inbox.work in
     let behind = c.args.self.now.behind.items in
     let all = c.requires.fly in

@@ -12,4 +12,4 @@ returns-clause-taken g c =
     let done = c.in_ok-done.done in
     let same = sym (ap (λ b. task_of b.work done) c.in-Some.ensures.others) ∙ c.in_ok-done.ensures.task in
     subst (λ b. TakesOut before.out (task_of before.work done) b.out) (sym c.in_ok-done.ensures.inbox)
-    (subst (λ t. TakesOut before.out t c.take.new.self.inbox.out) (sym same) c.in-Some.ensures.taken)
+    (subst (λ t. TakesOut before.out t c.take.new.self.out) (sym same) c.in-Some.ensures.taken)

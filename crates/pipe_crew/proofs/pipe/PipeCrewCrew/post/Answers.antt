@@ -7,7 +7,7 @@ pub returns-clause-ready : goal.returns-clause-ready
 returns-clause-ready g c =
     let was = c.requires.ready in
     let before = c.args.self.now.inbox in
-    let after = c.post.new.self.inbox in
+    let after = c.post.new.self in
     rw c.post.ensures.work (record {
       first_flies = was.first_flies;
       behind_fly = was.behind_fly;
