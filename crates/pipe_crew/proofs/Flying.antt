@@ -18,6 +18,7 @@ not_failed true not = absurd (not refl)
 not_failed false not = refl
 
 -- where memory has not run out after a call that tells of it, it had not before
-pub had_not_failed : {T E : Type 0} (result : Result T E) (before after : Bool) → OnOk result (after ≡ before) → OnErr result (after ≡ true) → after ≡ false → before ≡ false
-had_not_failed (Ok x) before after kept fails is = sym kept ∙ is
-had_not_failed (Err e) before after kept fails is = absurd (let both : true ≡ false = sym fails ∙ is in cc)
+pub had_not_failed : {T E P Q : Type 0} (result : Result T E) (before after : Bool) → (P → after ≡ before) → (Q → after ≡ true) → OnOk result P → OnErr result Q
+    → after ≡ false → before ≡ false
+had_not_failed (Ok x) before after kept fails ok err is = sym (kept ok) ∙ is
+had_not_failed (Err e) before after kept fails ok err is = absurd (let both : true ≡ false = sym (fails err) ∙ is in cc)
