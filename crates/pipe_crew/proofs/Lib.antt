@@ -1,1 +1,2 @@
+pub mod Flying
 pub mod Taken

@@ -1,0 +1,10 @@
+use Rattle.std.proofs.Common.{◌≡◌}
+use Rattle.pipe_crew.specs.inner.Flights.{Stands}
+use Rattle.pipe_crew.proofs.flight.Flight.help.Given as goal
+
+abbrev pub invariant-loop : goal.invariant-loop
+invariant-loop g l = record {
+  stands : Stands l.self;
+  taken : l.self.taken ≡ l.initial.self.taken;
+  board : l.self.board ≡ l.initial.self.board;
+}
