@@ -1,7 +1,7 @@
 -- What a command's parse of words says of what they ask for.
 use Rattle.std.proofs.Common.{◌≡◌, ◌∙◌, ◌≤◌, ap, refl, sym, arith, true, List, [], ◌∷◌, length, get_or, Option, Some, None, option_and_then, if◌then◌else◌, String, string_bytes}
 use Rattle.std.specs.declared.alloc.Global.{Global}
-use Rattle.clap.specs.Words.{App, Kinds, Text, fault_of, is_simple_and_free, matches_of, rows_of, found_of}
+use Rattle.clap.specs.Words.{App, Kinds, Row, Text, fault_of, is_simple_and_free, matches_of, rows_of, found_of}
 use Rattle.clap.specs.declared.parser.matches.ArgMatches.{ArgMatches}
 use Rattle.command_line.specs.Arguments.{IsParsedAs, is_faultless}
 use Rattle.command_line.specs.Words.{texts, named_verb, app_for, asked_in, asked_of, asked_by}
@@ -24,12 +24,19 @@ choice : {X : Type 0} (kinds : Kinds) (taken : Option X) → (kinds ≡ [] → �
 choice [] taken refused = absurd (refused refl)
 choice (k ∷ ks) taken refused = refl
 
+-- what the rows of a parse are read as, where the command takes the words, and where it does not
+module _ {X : Type 0} (read : List Row → Option X) (app : App) (words : List Text) where
+  pub read_taken : (matches : ArgMatches) → IsParsedAs app words (Some matches) → read (rows_of (found_of matches)) ≡ if is_faultless (fault_of app words) then read (matches_of app words) else None
+  read_taken matches h = ap read h.1 ∙ sym (ap (λ (kinds : Kinds). if is_faultless kinds then read (matches_of app words) else None) h.0)
+
+  pub read_refused : IsParsedAs app words None → None ≡ if is_faultless (fault_of app words) then read (matches_of app words) else None
+  read_refused h = sym (choice (fault_of app words) (read (matches_of app words)) h)
+
 pub asked_taken : (verb : Verb) (words : List Text) (matches : ArgMatches) → IsParsedAs (app_for verb) words (Some matches) → asked_in verb (rows_of (found_of matches)) ≡ asked_of verb words
-asked_taken verb words matches h =
-    ap (asked_in verb) h.1 ∙ sym (ap (λ (kinds : Kinds). if is_faultless kinds then asked_in verb (matches_of (app_for verb) words) else None) h.0)
+asked_taken verb words matches h = read_taken (asked_in verb) (app_for verb) words matches h
 
 pub asked_refused : (verb : Verb) (words : List Text) → IsParsedAs (app_for verb) words None → None ≡ asked_of verb words
-asked_refused verb words h = sym (choice (fault_of (app_for verb) words) (asked_in verb (matches_of (app_for verb) words)) h)
+asked_refused verb words h = read_refused (asked_in verb) (app_for verb) words h
 
 -- the first of the words names the command
 pub asked_first : (words : List (String Global)) (word : String Global) (verb : Verb) → 1 ≤ length words → word ≡ get_or words 0 word → named_verb (string_bytes word) ≡ Some verb

@@ -3,6 +3,8 @@
 
 mod arguments;
 mod asked;
+mod audit_words;
 mod number;
 
 pub use asked::{Asked, Command, CrewKind, Soak, read_words};
+pub use audit_words::{Audited, read_audit_words};
