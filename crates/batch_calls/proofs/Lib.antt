@@ -1,4 +1,4 @@
 pub mod PlainTexts
 pub mod RanPieces
+pub mod RunEnds
 pub mod RunPieces
-pub mod TopCall

@@ -31,16 +31,16 @@ use Rattle.engine.specs.View.{Batch, program_in, run_in, lines_of}
 use Rattle.engine.specs.Drive.{JournalStands, ReportsRun, all_lines, WritesRetired}
 use Rattle.command_line.specs.declared.asked.Command.TheVariants as command
 use Rattle.command_line.specs.declared.asked.Soak.{Soak}
-use Rattle.call_cases.specs.Work.{Work}
+use Rattle.call_cases.specs.Work.{ToDo}
 use Rattle.call_cases.specs.PlainText.{plain_ran, restarts_in}
 use Rattle.call_cases.specs.Journals.{run_of, dependence_for, retired_in, lines_before, IsJournalOf, IsCompleteOf, TakesRetiredFor}
-use Rattle.call_cases.specs.Answers.{Change, TakesAll, TakesPart, Fails}
-use Rattle.call_cases.specs.Headline.{IsEmpty}
+use Rattle.call_cases.specs.Answers.{Change, IsEmpty, TakesAll, TakesPart, Fails}
+use Rattle.call_cases.proofs.RunSound.{empty_journal_of, none_retired}
 use Rattle.batch_calls.specs.inner.Ran.{Stops, why_of, RunsBatch, bytes_below, bytes_at, IsReportOf, RunsWork, RanFor, told_tail, told_soak}
 use Rattle.call_cases.specs.Texts.{tail_text, run_text, soak_text}
 
 -- a batch of the engine that is the run of a work
-module _ (batch : Batch) (work : Work) (program : program_in batch ≡ work.program) (inputs : batch.inputs ≡ work.inputs) (limits : batch.limits ≡ work.limits) (faults : batch.faults ≡ work.faults) where
+module _ (batch : Batch) (work : ToDo) (program : program_in batch ≡ work.program) (inputs : batch.inputs ≡ work.inputs) (limits : batch.limits ≡ work.limits) (faults : batch.faults ≡ work.faults) where
   same_run : run_in batch ≡ run_of work
   unfolding run_of
   same_run = ap (λ p. order p batch.inputs batch.limits) program ∙ ap (λ i. order work.program i batch.limits) inputs ∙ ap (λ l. order work.program work.inputs l) limits
@@ -106,19 +106,6 @@ module _ (batch : Batch) (work : Work) (program : program_in batch ≡ work.prog
     cause = ran.cause.failed;
   }
 
--- a run that has not begun has a journal of no event
-abbrev journal_by : List Event → List Restart → Journal
-journal_by events restarts = record { events = events; restarts = restarts }
-
-empty_by : (journal : Journal) → IsEmpty journal → journal ≡ journal_by [] []
-empty_by journal empty = ap (λ e. journal_by e journal.restarts) empty.0 ∙ ap (λ r. journal_by [] r) empty.1
-
-pub empty_journal_of : (work : Work) (journal : Journal) → IsEmpty journal → IsJournalOf work journal
-empty_journal_of work journal empty = subst (IsJournalOf work) (sym (empty_by journal empty)) (record { lawful = tt; first = (_, refl); counted = refl })
-
-pub none_retired : (work : Work) (journal : Journal) → IsEmpty journal → retired_in work journal ≡ 0
-none_retired work journal empty = ap (λ j. retired_in work j) (empty_by journal empty)
-
 -- a stop at a fault of the output
 pub stops_by : (fault : SinkFault) (journal : Journal) (stop : EngineStop) → stop.why ≡ why_of fault → stop.journal ≡ journal → Stops fault journal stop
 stops_by Failed journal stop is same = record { journal_is = same; failed = λ failed. refl }
@@ -143,30 +130,30 @@ lines_next (s ∷ run) (suc p) = ap (λ l. s.lines ++ l) (lines_next run p)
 printed-append : (a b : List (List ℤ)) → printed (a ++ b) ≡ printed a ++ printed b
 printed-append a b = flat_map-append _ a b
 
-bytes_next : (work : Work) (p : ℕ) → bytes_below work (suc p) ≡ bytes_below work p ++ bytes_at work p
+bytes_next : (work : ToDo) (p : ℕ) → bytes_below work (suc p) ≡ bytes_below work p ++ bytes_at work p
 bytes_next work p = ap printed (lines_next (run_of work) p) ∙ printed-append (flat_map (λ (s : Subthread). s.lines) (take p (run_of work))) (lines_of (slice_get (run_of work) p))
 
-abbrev bytes_after : Work → ℕ → List ℕ
+abbrev bytes_after : ToDo → ℕ → List ℕ
 bytes_after work p = printed (flat_map (λ (s : Subthread). s.lines) (drop (suc p) (run_of work)))
 
-bytes_split : (work : Work) (p : ℕ) → printed (plain_ran work).lines ≡ bytes_below work p ++ (bytes_at work p ++ bytes_after work p)
+bytes_split : (work : ToDo) (p : ℕ) → printed (plain_ran work).lines ≡ bytes_below work p ++ (bytes_at work p ++ bytes_after work p)
 unfolding plain_ran run_of
 bytes_split work p =
     ap printed (lines_split (run_of work) p)
     ∙ printed-append (flat_map (λ (s : Subthread). s.lines) (take p (run_of work))) (lines_of (slice_get (run_of work) p) ++ flat_map (λ (s : Subthread). s.lines) (drop (suc p) (run_of work)))
     ∙ ap (λ l. bytes_below work p ++ l) (printed-append (lines_of (slice_get (run_of work) p)) (flat_map (λ (s : Subthread). s.lines) (drop (suc p) (run_of work))))
 
-bytes_all : (work : Work) → printed (plain_ran work).lines ≡ bytes_below work (length (run_of work))
+bytes_all : (work : ToDo) → printed (plain_ran work).lines ≡ bytes_below work (length (run_of work))
 unfolding plain_ran run_of
 bytes_all work = ap (λ r. printed (flat_map (λ (s : Subthread). s.lines) r)) (sym (take_all (length (run_of work)) (run_of work) (le_refl (length (run_of work)))))
 
 -- all have retired where the journal is complete
-all_retired : (work : Work) (journal : Journal) → IsCompleteOf work journal → retired_in work journal ≡ length (run_of work)
+all_retired : (work : ToDo) (journal : Journal) → IsCompleteOf work journal → retired_in work journal ≡ length (run_of work)
 unfolding dependence_for
 all_retired work journal complete = complete.retired
 
 -- what follows the lines of the report is what follows those of the work
-told_same : (work : Work) (report : Report) → IsReportOf work report → told_tail work.program report ≡ tail_text (plain_ran work) (restarts_in work) (length work.faults)
+told_same : (work : ToDo) (report : Report) → IsReportOf work report → told_tail work.program report ≡ tail_text (plain_ran work) (restarts_in work) (length work.faults)
 unfolding plain_ran
 told_same work report is =
     let names = records_of work.program.heads in
@@ -176,7 +163,7 @@ told_same work report is =
     ∙ ap (λ r. tail.tail_text (plain_ran work).end (cut names (plain_ran work).cells) (plain_ran work).subthreads r report.unused) is.restarts
     ∙ ap (λ u. tail.tail_text (plain_ran work).end (cut names (plain_ran work).cells) (plain_ran work).subthreads (restarts_in work) u) is.unused
 
-summary_same : (batch : Soak) (work : Work) (report : Report) → IsReportOf work report → told_soak batch report ≡ soak_text batch (plain_ran work) (restarts_in work) (length work.faults)
+summary_same : (batch : Soak) (work : ToDo) (report : Report) → IsReportOf work report → told_soak batch report ≡ soak_text batch (plain_ran work) (restarts_in work) (length work.faults)
 summary_same batch work report is =
     ap (λ e. soak.soak_text batch.moves batch.start e report.records report.subthreads report.journal.restarts report.unused) is.end
     ∙ ap (λ c. soak.soak_text batch.moves batch.start (plain_ran work).end c report.subthreads report.journal.restarts report.unused) is.cells
@@ -199,7 +186,7 @@ abbrev first_line : List ℕ
 first_line = codes "output\n"
 
 -- the text of a run by the engine
-module _ (work : Work) (run : work.command ≡ command.Run) where
+module _ (work : ToDo) (run : work.command ≡ command.Run) where
   abbrev whole : List ℕ
   whole = run_text (plain_ran work) (restarts_in work) (length work.faults)
 
@@ -292,7 +279,7 @@ module _ (work : Work) (run : work.command ≡ command.Run) where
         }
 
 -- the summary of a batch that the program made
-module _ (work : Work) (batch : Soak) (run : work.command ≡ command.Soak batch) where
+module _ (work : ToDo) (batch : Soak) (run : work.command ≡ command.Soak batch) where
   abbrev summary : List ℕ
   summary = soak_text batch (plain_ran work) (restarts_in work) (length work.faults)
 

@@ -1,4 +1,4 @@
-// Batches that run over a journal, each by the crew that is asked for.
+// What runs over a journal, each by the crew that is asked for.
 ghost use Rattle.std.specs.Prelude.{◌≡◌, true, All, IfOk};
 ghost use Rattle.subthread.specs.Tasks.{Fits};
 ghost use Rattle.crew.specs.Out.{AreRuns};
@@ -9,7 +9,7 @@ ghost use Rattle.batch_calls.specs.inner.Planned.{IsPlanOf, Carries, work_planne
 
 use crate::plan::{Plan, plan_of};
 use crate::run::{carry_by, carry_plain, is_journalled, unbegun};
-use call_cases::{Batch, Outcome};
+use call_cases::{Outcome, Request};
 use command_line::CrewKind;
 use crew::{BatchCrew, InlineCrew, MeanSteps, run_wave};
 use gp_base::{Gate, Seq, Sink};
@@ -17,7 +17,7 @@ use std::alloc::{AllocError, Global};
 use std::thread::Threads;
 use subthread::{Done, Task, Work};
 
-// Runs a batch in the calling thread.
+// Runs a plan in the calling thread.
 fn carry_inline<R: Threads + Sync, O: Sink, E: Sink, G: Gate>(
     rt: &R,
     alloc: Global,
@@ -35,7 +35,7 @@ fn carry_inline<R: Threads + Sync, O: Sink, E: Sink, G: Gate>(
     carry_by(rt, alloc, work, plan, &mut crew, out, err)
 }
 
-// Runs a batch by waves of workers.
+// Runs a plan by waves of workers.
 fn carry_waves<R: Threads + Sync, O: Sink, E: Sink, G: Gate>(
     rt: &R,
     alloc: Global,
@@ -59,23 +59,23 @@ fn carry_waves<R: Threads + Sync, O: Sink, E: Sink, G: Gate>(
     carry_by(rt, alloc, work, plan, &mut crew, out, err)
 }
 
-/// Does what the batch asks for, and writes its text, and the trace of its run where one is asked for. Where the output
+/// Does what is requested, and writes its text, and the trace of its run where one is asked for. Where the output
 /// fails, the line of that is written to `err`.
 pub fn carry_out<R: Threads + Sync, O: Sink, E: Sink, G: Gate>(
     rt: &R,
     alloc: Global,
-    batch: Batch,
+    request: Request,
     out: &mut O,
     err: &mut E,
     gate: &G,
 ) -> Outcome
-    requires { MayRun batch }
-    ensures { Carries batch.asked (work_of batch) (change_of O.written O.faults out.old out.new) (change_of E.written E.faults err.old err.new) result.status result.journal }
+    requires { MayRun request }
+    ensures { Carries request.asked (work_of request) (change_of O.written O.faults out.old out.new) (change_of E.written E.faults err.old err.new) result.status result.journal }
 {
-    if !is_journalled(batch.asked.command) {
-        return carry_plain(alloc, &batch, out, err);
+    if !is_journalled(request.asked.command) {
+        return carry_plain(alloc, &request, out, err);
     }
-    let (work, plan) = match plan_of(alloc, batch) {
+    let (work, plan) = match plan_of(alloc, request) {
         Ok(made) => made,
         Err(_) => return unbegun(alloc, err),
     };

@@ -3,13 +3,13 @@ ghost use Rattle.std.specs.Prelude.{◌≡◌, [], codes, IfOk};
 ghost use Rattle.std.specs.Io.KnownBytes.{Appends};
 ghost use Rattle.std.specs.Prelude.{OnOk, OnErr};
 ghost use Rattle.gp_base.specs.Sinks.{HasCause, AppendsPrefix};
-ghost use Rattle.call_cases.specs.Case.{end_status};
+ghost use Rattle.call_cases.specs.RunCommands.{end_status};
 ghost use Rattle.call_cases.specs.Decided.{work_of};
 ghost use Rattle.call_cases.specs.Texts.{run_text};
 ghost use Rattle.call_cases.specs.PlainText.{plain_ran};
 
 use crate::texts::{OK, OUTPUT, printed};
-use call_cases::Batch;
+use call_cases::Request;
 use gp_base::{End, Sink, SinkFault, put_all};
 use one_thread::run_plain;
 use restart_log::plain_tail_text;
@@ -26,22 +26,22 @@ pub fn end_status(end: End) -> u8
     }
 }
 
-/// Runs the program of the batch on one thread, and writes the text of the run: the first line, the printed lines and the
+/// Runs the program of a request on one thread, and writes the text of the run: the first line, the printed lines and the
 /// tail, each as one piece. The answer is the status.
-pub fn put_one<O: Sink>(alloc: Global, batch: &Batch, out: &mut O) -> Result<u8, SinkFault>
-    ensures status { IfOk result (λ status. status ≡ end_status (plain_ran (work_of batch.now)).end) }
-    ensures all { OnOk result (Appends (O.written out.old) (O.written out.new) (run_text (plain_ran (work_of batch.now)) [] 0)) }
-    ensures prefix { OnErr result (AppendsPrefix (O.written out.old) (O.written out.new) (run_text (plain_ran (work_of batch.now)) [] 0)) }
+pub fn put_one<O: Sink>(alloc: Global, request: &Request, out: &mut O) -> Result<u8, SinkFault>
+    ensures status { IfOk result (λ status. status ≡ end_status (plain_ran (work_of request.now)).end) }
+    ensures all { OnOk result (Appends (O.written out.old) (O.written out.new) (run_text (plain_ran (work_of request.now)) [] 0)) }
+    ensures prefix { OnErr result (AppendsPrefix (O.written out.old) (O.written out.new) (run_text (plain_ran (work_of request.now)) [] 0)) }
     ensures cause { HasCause (O.faults out.old) (O.faults out.new) result }
 {
     put_all(out, OUTPUT)?;
-    let ran = run_plain(alloc, &batch.checked, &batch.inputs, batch.asked.limits)?;
+    let ran = run_plain(alloc, &request.checked, &request.inputs, request.asked.limits)?;
     let text = printed(alloc, ran.order.as_slice())?;
     put_all(out, &text)?;
     let subthreads = ran.order.len();
     let tail = plain_tail_text(
         alloc,
-        &batch.checked,
+        &request.checked,
         ran.end,
         ran.records.as_slice(),
         subthreads,

@@ -3,12 +3,13 @@ ghost use Rattle.std.specs.Prelude.{◌≡◌, [], IfOk};
 ghost use Rattle.task_ast.specs.View.{plain_program};
 ghost use Rattle.lock_checker.specs.Accepted.{program_of};
 ghost use Rattle.call_cases.specs.Answers.{change_of};
-ghost use Rattle.call_cases.specs.Decided.{IsSound, work_for, work_of};
+ghost use Rattle.call_cases.specs.Decided.{IsSound, work_of};
+ghost use Rattle.call_cases.specs.Work.{work_for};
 ghost use Rattle.subthread.specs.Tasks.{Suits};
 ghost use Rattle.batch_calls.specs.inner.Planned.{IsPlanOf, IsPlanned, work_planned};
 ghost use Rattle.batch_calls.specs.inner.Ran.{batch_from, RunsBatch, RunsWork};
 
-use call_cases::Batch;
+use call_cases::Request;
 use command_line::Asked;
 use crew::Crew;
 use engine::{EngineStop, Report, drive};
@@ -59,19 +60,19 @@ fn copies_of(alloc: Global, feeds: &[Feed]) -> Result<Seq<Feed>, AllocError>
     Ok(copies)
 }
 
-/// The code of a batch's program, and the plan of its run. The error is that memory is out.
-pub fn plan_of(alloc: Global, batch: Batch) -> Result<(Work, Plan), AllocError>
-    requires { IsSound batch.asked (plain_program (program_of batch.checked)) batch.inputs }
+/// The code of a request's program, and the plan of its run. The error is that memory is out.
+pub fn plan_of(alloc: Global, request: Request) -> Result<(Work, Plan), AllocError>
+    requires { IsSound request.asked (plain_program (program_of request.checked)) request.inputs }
     ensures plan { IfOk result (λ made. IsPlanOf made.0 made.1) }
-    ensures work { IfOk result (λ made. work_planned made.1 ≡ work_of batch) }
-    ensures asked { IfOk result (λ made. made.1.asked ≡ batch.asked) }
+    ensures work { IfOk result (λ made. work_planned made.1 ≡ work_of request) }
+    ensures asked { IfOk result (λ made. made.1.asked ≡ request.asked) }
 {
-    let Batch {
+    let Request {
         asked,
         checked,
         inputs,
         faults,
-    } = batch;
+    } = request;
     let code = lower(alloc, &checked)?;
     let layout = checked.layout(alloc)?;
     let feeds = copies_of(alloc, inputs.feeds.as_slice())?;
@@ -120,7 +121,7 @@ fn drive_by<R: Threads + Sync, C: Crew, O: Sink>(
     drive(rt, alloc, code, layout, inputs, faults, limits, crew, out)
 }
 
-/// Runs the program of a batch with a crew to which nothing was posted, and writes the printed lines to `out`. The answer is
+/// Runs the program of a plan with a crew to which nothing was posted, and writes the printed lines to `out`. The answer is
 /// how the run went, or how it stopped.
 pub fn put_lines<R: Threads + Sync, C: Crew, O: Sink>(
     rt: &R,

@@ -1,4 +1,4 @@
-// Runs a batch over a journal, and writes its text and its trace.
+// Carries a run over a journal out, and writes its text and its trace.
 ghost use Rattle.std.specs.Prelude.{◌≡◌, ℕ, List, [], true, false, length, OnOk, OnErr, Option, if◌then◌else◌};
 ghost use Rattle.std.specs.Io.KnownBytes.{Appends};
 ghost use Rattle.gp_base.specs.Sinks.{AppendsPrefix, HasCause};
@@ -7,19 +7,18 @@ ghost use Rattle.lock_checker.specs.Accepted.{program_of};
 ghost use Rattle.restart_log.specs.Trace.{trace_text};
 ghost use Rattle.command_line.specs.declared.asked.Command.TheVariants as command;
 ghost use Rattle.command_line.specs.declared.asked.Asked.{Asked};
-ghost use Rattle.call_cases.specs.Answers.{Change, LineEnds, RunEnds, change_of};
+ghost use Rattle.call_cases.specs.Answers.{Change, LineEnds, change_of, unwritten};
 ghost use Rattle.call_cases.specs.Decided.{work_of};
-ghost use Rattle.call_cases.specs.Headline.{IsEmpty};
 ghost use Rattle.call_cases.specs.PlainText.{plain_ran, restarts_in};
 ghost use Rattle.call_cases.specs.Texts.{run_text, soak_text};
-ghost use Rattle.call_cases.specs.Work.{Work, is_journalled};
+ghost use Rattle.call_cases.specs.Work.{ToDo, is_journalled};
 ghost use Rattle.batch_calls.specs.inner.Planned.{IsPlanOf, Carries, work_planned};
-ghost use Rattle.batch_calls.specs.inner.Ran.{RanFor, EndsFor, PutFor, StopsWith, why_of, told_tail, told_soak};
+ghost use Rattle.batch_calls.specs.inner.Ran.{RanFor, EndsFor, StopsWith, why_of, told_tail, told_soak};
 
 use crate::plain::{end_status, put_ok, put_one};
 use crate::plan::{Plan, put_lines};
 use crate::texts::OUTPUT;
-use call_cases::{Batch, OUT_OF_MEMORY, Outcome, WRITE_FAULT, empty_journal, end_with};
+use call_cases::{OUT_OF_MEMORY, Outcome, Request, WRITE_FAULT, empty_journal, end_with, plain_outcome};
 use command_line::{Command, Soak};
 use crew::Crew;
 use engine::{EngineStop, Report, StopWhy};
@@ -28,7 +27,7 @@ use lock_checker::Checked;
 use restart_log::{soak_text, tail_text, trace_text};
 use std::alloc::Global;
 use std::thread::Threads;
-use subthread::Work as Code;
+use subthread::Work;
 
 fn why_of(fault: SinkFault) -> StopWhy
     ensures { result ≡ why_of fault }
@@ -88,11 +87,11 @@ fn put_summary<O: Sink>(
     put_all(out, summary.as_slice())
 }
 
-// Runs a batch with a crew, and writes the first line, the printed lines, and the tail.
+// Runs a plan with a crew, and writes the first line, the printed lines, and the tail.
 fn put_run<R: Threads + Sync, C: Crew, O: Sink>(
     rt: &R,
     alloc: Global,
-    code: &Code,
+    code: &Work,
     plan: Plan,
     crew: &mut C,
     out: &mut O,
@@ -124,11 +123,11 @@ fn put_run<R: Threads + Sync, C: Crew, O: Sink>(
     }
 }
 
-// Runs a batch that the program made, whose lines nobody reads, and writes its summary.
+// Runs the plan of a batch that the program made, whose lines nobody reads, and writes its summary.
 fn put_soak<R: Threads + Sync, C: Crew, O: Sink>(
     rt: &R,
     alloc: Global,
-    code: &Code,
+    code: &Work,
     plan: Plan,
     soak: Soak,
     crew: &mut C,
@@ -179,7 +178,7 @@ fn outcome_of<E: Sink>(
     ran: Result<Report, EngineStop>,
     err: &mut E,
 ) -> Outcome
-    ensures { (work : Work) (text : List ℕ) (out : Change) → RanFor work text out ran →
+    ensures { (work : ToDo) (text : List ℕ) (out : Change) → RanFor work text out ran →
         EndsFor work text (if is_traced then trace_text result.journal else []) out (change_of E.written E.faults err.old err.new) result.status result.journal }
 {
     match ran {
@@ -201,32 +200,12 @@ fn outcome_of<E: Sink>(
     }
 }
 
-// How a batch ended that runs over no journal, with the line that tells where its text was not written.
-fn plain_outcome<E: Sink>(alloc: Global, put: Result<u8, SinkFault>, err: &mut E) -> Outcome
-    ensures ends { (text : List ℕ) (due : ℕ) (out : Change) → PutFor text due out put → RunEnds text [] due out (change_of E.written E.faults err.old err.new) result.status }
-    ensures empty { IsEmpty result.journal }
-{
-    match put {
-        Ok(status) => Outcome {
-            status,
-            journal: empty_journal(alloc),
-        },
-        Err(fault) => {
-            let status = stop_with(err, why_of(fault));
-            Outcome {
-                status,
-                journal: empty_journal(alloc),
-            }
-        }
-    }
-}
-
-/// Runs a batch over a journal with a crew to which nothing was posted, and writes its text, and the trace of its run where
+/// Runs a plan over a journal with a crew to which nothing was posted, and writes its text, and the trace of its run where
 /// one is asked for. Where the output fails, the line of that is written to `err`.
 pub fn carry_by<R: Threads + Sync, C: Crew, O: Sink, E: Sink>(
     rt: &R,
     alloc: Global,
-    code: &Code,
+    code: &Work,
     plan: Plan,
     crew: &mut C,
     out: &mut O,
@@ -256,8 +235,8 @@ pub fn carry_by<R: Threads + Sync, C: Crew, O: Sink, E: Sink>(
 
 /// How a run ended that did not begin, since memory was out.
 pub fn unbegun<E: Sink>(alloc: Global, err: &mut E) -> Outcome
-    ensures { (asked : Asked) (work : Work) (written : Option (List ℕ)) (faults : ℕ) →
-        Carries asked work (record { written = written; written' = written; faults = faults; faults' = faults }) (change_of E.written E.faults err.old err.new) result.status result.journal }
+    ensures { (asked : Asked) (work : ToDo) (written : Option (List ℕ)) (faults : ℕ) →
+        Carries asked work (unwritten written faults) (change_of E.written E.faults err.old err.new) result.status result.journal }
 {
     let status = end_with(err, OUT_OF_MEMORY, 1);
     Outcome {
@@ -266,19 +245,19 @@ pub fn unbegun<E: Sink>(alloc: Global, err: &mut E) -> Outcome
     }
 }
 
-/// Does what a batch asks for that runs over no journal.
+/// Does what is requested that runs over no journal.
 pub fn carry_plain<O: Sink, E: Sink>(
     alloc: Global,
-    batch: &Batch,
+    request: &Request,
     out: &mut O,
     err: &mut E,
 ) -> Outcome
-    requires { is_journalled batch.now.asked.command ≡ false }
-    ensures { Carries batch.now.asked (work_of batch.now) (change_of O.written O.faults out.old out.new) (change_of E.written E.faults err.old err.new) result.status result.journal }
+    requires { is_journalled request.now.asked.command ≡ false }
+    ensures { Carries request.now.asked (work_of request.now) (change_of O.written O.faults out.old out.new) (change_of E.written E.faults err.old err.new) result.status result.journal }
 {
-    match batch.asked.command {
+    match request.asked.command {
         Command::One => {
-            let put = put_one(alloc, batch, out);
+            let put = put_one(alloc, request, out);
             plain_outcome(alloc, put, err)
         }
         Command::Check => {

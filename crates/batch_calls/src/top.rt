@@ -1,12 +1,12 @@
 // The top call: all that the program does.
 ghost use Rattle.std.specs.Prelude.{◌≡◌};
 ghost use Rattle.command_line.specs.Words.{texts};
-ghost use Rattle.call_cases.specs.PlainText.{commands};
+ghost use Rattle.call_cases.specs.RunCommands.{commands};
 ghost use Rattle.call_cases.specs.Answers.{change_of};
 ghost use Rattle.call_cases.specs.Headline.{Headline, ReadsNothing};
 
 use crate::crews::carry_out;
-use call_cases::{Outcome, empty_journal, read_batch, refuse};
+use call_cases::{Outcome, empty_journal, read_request, refuse};
 use gp_base::{Gate, Shelf, Sink};
 use std::thread::Threads;
 
@@ -39,11 +39,11 @@ pub fn gprs_run<R: Threads + Sync + AllocGlobal, H: Shelf, O: Sink, E: Sink, G: 
     }) }
 
     // The shelf is not read for words of no command, nor for a batch that the program makes itself.
-    ensures unread { ReadsNothing (commands.reading (texts words.now)) → shelf.new ≡ shelf.old }
+    ensures unread { ReadsNothing commands (commands.asking.reading (texts words.now)) → shelf.new ≡ shelf.old }
 {
     let alloc = rt.alloc();
-    match read_batch(alloc, words, shelf) {
-        Ok(batch) => carry_out(rt, alloc, batch, out, err, gate),
+    match read_request(alloc, words, shelf) {
+        Ok(request) => carry_out(rt, alloc, request, out, err, gate),
         Err(refusal) => {
             let status = refuse(alloc, refusal, err);
             Outcome {

@@ -1,7 +1,11 @@
+pub mod Answering
+pub mod Further
+pub mod Headlines
 pub mod Loads
 pub mod OneCase
 pub mod Readable
 pub mod ReadsProgram
 pub mod RefusalLines
 pub mod Refused
+pub mod RunSound
 pub mod Sizes

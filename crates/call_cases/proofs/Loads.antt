@@ -11,6 +11,7 @@ use Rattle.std.proofs.lemmas.List.{at_drop_more, drop_more, drop_all, take_all}
 use Rattle.std.proofs.lemmas.List.Elements.{Contains-append_left, Contains-append_right}
 use Rattle.gp_base.specs.Files.{bytes_of}
 use Rattle.gp_base.specs.declared.feed.Feed.{Feed}
+use Rattle.gp_base.specs.declared.fault.Fault.{Fault}
 use Rattle.gp_base.specs.declared.fault.Faults.{Faults}
 use Rattle.gp_base.specs.declared.feed.Inputs.{Inputs}
 use Rattle.gp_base.specs.declared.limits.TheConstants.{MOST_FEED_CELLS, MOST_FILE_BYTES}
@@ -25,8 +26,9 @@ use Rattle.call_cases.specs.declared.reading.Refusal.{Refusal}
 use Rattle.call_cases.specs.declared.reading.Refusal.TheVariants as refused
 use Rattle.call_cases.specs.Work.{Files, Supplied, Supplies, Lacks, Spoils}
 use Rattle.call_cases.specs.Lines.{input_line}
-use Rattle.call_cases.specs.InputFiles.{nothing, are_rows, feed_where, feed_with, with_cells, with_feed, room_after, record_rows, feed_rows, fault_rows, more_cells, more_feed, more_faults, by_rows, by_file, load_faults, by_record, named, load_head, then_load, load, names_in, file_names}
-use Rattle.call_cases.specs.inner.Loading.{IsReadable, AreReadable, IsRefusedBy, AnswersRows, names_of, StepsTo, AnswersLoad, AnswersFaults, ReadsAmong}
+use Rattle.call_cases.specs.InputFiles.{nothing, are_rows, feed_where, feed_with, with_cells, with_feed, room_after, record_rows, feed_rows, fault_rows, more_cells, more_feed, by_rows, by_file, load_faults, by_record, named, load_head, then_load, load, names_in, file_names}
+use Rattle.call_cases.specs.inner.Loading.{IsReadable, AreReadable, IsRefusedBy, AnswersRows, names_of, StepsTo, AnswersLoad, AnswersFaults}
+use Rattle.call_cases.specs.Refusals.{ReadsAmong}
 
 -- a feed by its parts; the facts that it keeps have one proof each
 feed_by_parts : (fields : ℕ) (cells : List ℤ) (s : 0 < fields) (w : length cells % fields ≡ 0) (f : length cells ≤ MOST_FEED_CELLS) → Feed
@@ -61,7 +63,7 @@ abbrev inputs_of : List ℤ → List Feed → Inputs
 inputs_of records feeds = record { records = records; feeds = feeds }
 
 -- a file whose rows mean something
-pub ok_file : {T : Type 0} (names : List Name) (file : Name) (bytes : Option (List ℕ)) (meant : List ℕ → Result T Broken) (next : List Name → T → Supplied) (value : T)
+ok_file : {S T : Type 0} (names : List Name) (file : Name) (bytes : Option (List ℕ)) (meant : List ℕ → Result S Broken) (next : List Name → S → Supplied T) (value : S)
     → IsSomeAnd bytes (λ text. (length text ≤ MOST_FILE_BYTES) × (meant text ≡ Ok value))
     → by_file names file bytes meant next ≡ next (names ++ file ∷ []) value
 ok_file names file None meant next value is = absurd is
@@ -70,7 +72,7 @@ ok_file names file (Some text) meant next value is =
     ∙ ap (λ r. by_rows names file r next) is.1
 
 -- a file that is refused with a line
-spoils : {T : Type 0} (names : List Name) (file : Name) (text line : List ℕ) (next : List Name → T → Supplied) (meant : Result T Broken) → IsRefusedBy file line text meant
+spoils : {S T : Type 0} (names : List Name) (file : Name) (text line : List ℕ) (next : List Name → S → Supplied T) (meant : Result S Broken) → IsRefusedBy file line text meant
     → (if nat_lt MOST_FILE_BYTES (length text) then Spoils (names ++ file ∷ []) (input_line file 6 0) else by_rows names file meant next) ≡ Spoils (names ++ file ∷ []) line
 spoils names file text line next (Ok value) (told, above) =
     ap (λ b. if b then Spoils (names ++ file ∷ []) (input_line file 6 0) else by_rows names file (Ok value) next) (passes text above) ∙ ap (Spoils (names ++ file ∷ [])) (sym told)
@@ -79,7 +81,7 @@ spoils names file text line next (Err broken) (inl (told, above)) =
 spoils names file text line next (Err broken) (inr (told, within)) =
     ap (λ b. if b then Spoils (names ++ file ∷ []) (input_line file 6 0) else by_rows names file (Err broken) next) (fits text within) ∙ ap (Spoils (names ++ file ∷ [])) (sym told)
 
-pub bad_file : {T : Type 0} (names : List Name) (file line : Name) (bytes : Option (List ℕ)) (meant : List ℕ → Result T Broken) (next : List Name → T → Supplied)
+pub bad_file : {S T : Type 0} (names : List Name) (file line : Name) (bytes : Option (List ℕ)) (meant : List ℕ → Result S Broken) (next : List Name → S → Supplied T)
     → IsSomeAnd bytes (λ text. IsRefusedBy file line text (meant text))
     → by_file names file bytes meant next ≡ Spoils (names ++ file ∷ []) line
 bad_file names file line None meant next is = absurd is
@@ -87,25 +89,25 @@ bad_file names file line (Some text) meant next is = spoils names file text line
 
 -- the files that are read stay among those that are read
 module _ (name : Name) where
-  keeps_rows : {T : Type 0} (names : List Name) (file : Name) (rows : Result T Broken) (first : List Name → T → Supplied) (next : List Name → Inputs → Supplied)
-      → ((n : List Name) (value : T) → Contains n name → Contains (names_of (then_load (first n value) next)) name)
+  keeps_rows : {R S T : Type 0} (names : List Name) (file : Name) (rows : Result R Broken) (first : List Name → R → Supplied S) (next : List Name → S → Supplied T)
+      → ((n : List Name) (value : R) → Contains n name → Contains (names_of (then_load (first n value) next)) name)
       → Contains (names ++ file ∷ []) name → Contains (names_of (then_load (by_rows names file rows first) next)) name
   keeps_rows names file (Ok value) first next keeps is = keeps (names ++ file ∷ []) value is
   keeps_rows names file (Err broken) first next keeps is = is
 
-  keeps_long : {T : Type 0} (names : List Name) (file : Name) (long : Bool) (rows : Result T Broken) (first : List Name → T → Supplied) (next : List Name → Inputs → Supplied)
-      → ((n : List Name) (value : T) → Contains n name → Contains (names_of (then_load (first n value) next)) name)
+  keeps_long : {R S T : Type 0} (names : List Name) (file : Name) (long : Bool) (rows : Result R Broken) (first : List Name → R → Supplied S) (next : List Name → S → Supplied T)
+      → ((n : List Name) (value : R) → Contains n name → Contains (names_of (then_load (first n value) next)) name)
       → Contains (names ++ file ∷ []) name → Contains (names_of (then_load (if long then Spoils (names ++ file ∷ []) (input_line file 6 0) else by_rows names file rows first) next)) name
   keeps_long names file true rows first next keeps is = is
   keeps_long names file false rows first next keeps is = keeps_rows names file rows first next keeps is
 
-  pub keeps_file : {T : Type 0} (names : List Name) (file : Name) (bytes : Option (List ℕ)) (meant : List ℕ → Result T Broken) (first : List Name → T → Supplied) (next : List Name → Inputs → Supplied)
-      → ((n : List Name) (value : T) → Contains n name → Contains (names_of (then_load (first n value) next)) name)
+  pub keeps_file : {R S T : Type 0} (names : List Name) (file : Name) (bytes : Option (List ℕ)) (meant : List ℕ → Result R Broken) (first : List Name → R → Supplied S) (next : List Name → S → Supplied T)
+      → ((n : List Name) (value : R) → Contains n name → Contains (names_of (then_load (first n value) next)) name)
       → Contains (names ++ file ∷ []) name → Contains (names_of (then_load (by_file names file bytes meant first) next)) name
   keeps_file names file None meant first next keeps is = is
   keeps_file names file (Some text) meant first next keeps is = keeps_long names file (nat_lt MOST_FILE_BYTES (length text)) (meant text) first next keeps is
 
-  keeps_head : (files : Files) (names : List Name) (inputs : Inputs) (head : Head) (next : List Name → Inputs → Supplied)
+  keeps_head : (files : Files) (names : List Name) (inputs : Inputs) (head : Head) (next : List Name → Inputs → Supplied Inputs)
       → ((n : List Name) (i : Inputs) → Contains n name → Contains (names_of (next n i)) name)
       → Contains (names ++ names_in head) name → Contains (names_of (then_load (load_head files names inputs head) next)) name
   keeps_head files names inputs (LockHead x size line) next keeps is = keeps names inputs (subst (λ l. Contains l name) (append-nil names) is)
@@ -142,7 +144,7 @@ file_among (h ∷ heads) (suc i) head name below is file = Contains-append_right
 
 -- the steps of a record's file
 pub record_ok : (names : List Name) (file : Name) (size : ℕ) (bytes : Option (List ℕ)) (inputs : Inputs) (cells : List ℤ) → IsSomeAnd bytes (λ text. (length text ≤ MOST_FILE_BYTES) × (records_by size (rows_of text) ≡ Ok cells))
-    → by_file names file bytes (record_rows size) (more_cells inputs) ≡ Supplies (names ++ file ∷ []) (with_cells inputs cells) []
+    → by_file names file bytes (record_rows size) (more_cells inputs) ≡ Supplies (names ++ file ∷ []) (with_cells inputs cells)
 record_ok names file size bytes inputs cells is = ok_file names file bytes (record_rows size) (more_cells inputs) cells is
 
 pub record_bad : (names : List Name) (file : Name) (size : ℕ) (bytes : Option (List ℕ)) (inputs : Inputs) (refusal : Refusal)
@@ -157,10 +159,10 @@ record_bad names file size bytes inputs refused.OutOfMemory is = tt
 -- the steps of a feed's file
 pub feed_ok : (names : List Name) (file : Name) (bytes : Option (List ℕ)) (inputs : Inputs) (feed : Feed)
     → IsSomeAnd bytes (λ text. (length text ≤ MOST_FILE_BYTES) × (feed_by feed.fields (room_after inputs.feeds) (rows_of text) ≡ Ok feed.cells))
-    → by_file names file bytes (feed_rows feed.fields (room_after inputs.feeds)) (more_feed inputs feed.fields) ≡ Supplies (names ++ file ∷ []) (with_feed inputs (Some feed)) []
+    → by_file names file bytes (feed_rows feed.fields (room_after inputs.feeds)) (more_feed inputs feed.fields) ≡ Supplies (names ++ file ∷ []) (with_feed inputs (Some feed))
 feed_ok names file bytes inputs feed is =
     ok_file names file bytes (feed_rows feed.fields (room_after inputs.feeds)) (more_feed inputs feed.fields) feed.cells is
-    ∙ ap (λ f. Supplies (names ++ file ∷ []) (with_feed inputs f) []) (feed_with-of feed)
+    ∙ ap (λ f. Supplies (names ++ file ∷ []) (with_feed inputs f)) (feed_with-of feed)
 
 pub feed_bad : (names : List Name) (file : Name) (fields : ℕ) (bytes : Option (List ℕ)) (inputs : Inputs) (refusal : Refusal)
     → AnswersRows {A = Feed} (λ feed. feed.cells) file (feed_rows fields (room_after inputs.feeds)) bytes (Err refusal)
@@ -190,7 +192,7 @@ feeds_bad (Some files) file fields room inputs refusal same is =
 pub feeds_ok : (told : Option Files) (file : Name) (fields room : ℕ) (inputs after : Inputs) (feed : Feed) → room ≡ room_after inputs.feeds → feed.fields ≡ fields
     → after.records ≡ inputs.records → after.feeds ≡ inputs.feeds ++ feed ∷ []
     → IfSome told (λ files. IsSomeAnd (bytes_of files file) (λ text. (length text ≤ MOST_FILE_BYTES) × (feed_by fields room (rows_of text) ≡ Ok feed.cells)))
-    → IfSome told (λ files. (names : List Name) → by_file names file (bytes_of files file) (feed_rows fields (room_after inputs.feeds)) (more_feed inputs fields) ≡ Supplies (names ++ file ∷ []) after [])
+    → IfSome told (λ files. (names : List Name) → by_file names file (bytes_of files file) (feed_rows fields (room_after inputs.feeds)) (more_feed inputs fields) ≡ Supplies (names ++ file ∷ []) after)
 feeds_ok None file fields room inputs after feed same_room same_fields records feeds is = tt
 feeds_ok (Some files) file fields room inputs after feed same_room same_fields records feeds is =
     let meant = subst (λ r. IsSomeAnd (bytes_of files file) (λ text. (length text ≤ MOST_FILE_BYTES) × (feed_by feed.fields r (rows_of text) ≡ Ok feed.cells))) same_room
@@ -198,12 +200,12 @@ feeds_ok (Some files) file fields room inputs after feed same_room same_fields r
     let grown : with_feed inputs (Some feed) ≡ after = ap₂ (λ r f. inputs_of r f) (sym records) (sym feeds) in
     λ names.
     ap (λ f. by_file names file (bytes_of files file) (feed_rows f (room_after inputs.feeds)) (more_feed inputs f)) (sym same_fields) ∙ feed_ok names file (bytes_of files file) inputs feed meant
-    ∙ ap (λ i. Supplies (names ++ file ∷ []) i []) grown
+    ∙ ap (λ i. Supplies (names ++ file ∷ []) i) grown
 
 -- one step of the loop, where it goes on
-pub load-more : (files : Files) (heads : List Head) (i : ℕ) (head : Head) (before after : Inputs) (all : Supplied) → i < length heads → head ≡ get_or heads i head
+pub load-more : (files : Files) (heads : List Head) (i : ℕ) (head : Head) (before after : Inputs) (all : Supplied Inputs) → i < length heads → head ≡ get_or heads i head
     → load files (file_names (take i heads)) before (drop i heads) ≡ all
-    → load_head files (file_names (take i heads)) before head ≡ Supplies (file_names (take i heads) ++ names_in head) after []
+    → load_head files (file_names (take i heads)) before head ≡ Supplies (file_names (take i heads) ++ names_in head) after
     → load files (file_names (take (i + 1) heads)) after (drop (i + 1) heads) ≡ all
 load-more files heads i head before after all below is so_far step =
     ap (λ names. load files names after (drop (i + 1) heads)) (file_names-more heads i head below is)
@@ -213,13 +215,13 @@ load-more files heads i head before after all below is so_far step =
     ∙ so_far
 
 -- what all heads give is what is left of them gives
-at_head : (files : Files) (heads : List Head) (i : ℕ) (head : Head) (names : List Name) (before : Inputs) (all : Supplied) → i < length heads → head ≡ get_or heads i head
+at_head : (files : Files) (heads : List Head) (i : ℕ) (head : Head) (names : List Name) (before : Inputs) (all : Supplied Inputs) → i < length heads → head ≡ get_or heads i head
     → load files names before (drop i heads) ≡ all → load files names before (head ∷ drop (i + 1) heads) ≡ all
 at_head files heads i head names before all below is so_far =
     ap (λ h. load files names before (h ∷ drop (i + 1) heads)) is ∙ sym (at_drop_more (λ (left : List Head). load files names before left) heads i head below) ∙ so_far
 
 -- where the loop ends at a head
-pub load-stops : (files : Files) (heads : List Head) (i : ℕ) (head : Head) (before after : Inputs) (all : Supplied) (failed failed' : List Name) (refusal : Refusal) → i < length heads → head ≡ get_or heads i head
+pub load-stops : (files : Files) (heads : List Head) (i : ℕ) (head : Head) (before after : Inputs) (all : Supplied Inputs) (failed failed' : List Name) (refusal : Refusal) → i < length heads → head ≡ get_or heads i head
     → load files (file_names (take i heads)) before (drop i heads) ≡ all
     → StepsTo {T = Unit {0}} (file_names (take i heads)) (names_in head) (load_head files (file_names (take i heads)) before head) after (Err refusal)
     → ReadsAmong {T = Unit {0}} (names_in head) failed failed' (Err refusal) → AnswersLoad all (file_names heads) (Err refusal)
@@ -248,11 +250,11 @@ room_after-more feeds feed = let sums = sum_by-append (λ (f : Feed). length f.c
 -- the same where the files are told, by whom they are told
 pub loads_more : (known told : Option Files) (heads : List Head) (i : ℕ) (head : Head) (before after : Inputs) → known ≡ told → i < length heads → head ≡ get_or heads i head
     → IfSome told (λ files. load files (file_names (take i heads)) before (drop i heads) ≡ load files [] nothing heads)
-    → IfSome known (λ files. (names : List Name) → load_head files names before head ≡ Supplies (names ++ names_in head) after [])
+    → IfSome known (λ files. (names : List Name) → load_head files names before head ≡ Supplies (names ++ names_in head) after)
     → IfSome told (λ files. load files (file_names (take (i + 1) heads)) after (drop (i + 1) heads) ≡ load files [] nothing heads)
 loads_more known None heads i head before after same below is so_far step = tt
 loads_more known (Some files) heads i head before after same below is so_far step =
-    let steps = subst (λ k. IfSome k (λ files. (names : List Name) → load_head files names before head ≡ Supplies (names ++ names_in head) after [])) same step in
+    let steps = subst (λ k. IfSome k (λ files. (names : List Name) → load_head files names before head ≡ Supplies (names ++ names_in head) after)) same step in
     load-more files heads i head before after (load files [] nothing heads) below is so_far (steps (file_names (take i heads)))
 
 pub loads_stop : (known told : Option Files) (heads : List Head) (i : ℕ) (head : Head) (before after : Inputs) (failed failed' : List Name) (refusal : Refusal) → known ≡ told → i < length heads → head ≡ get_or heads i head
@@ -268,10 +270,10 @@ loads_stop known (Some files) heads i head before after failed failed' refusal s
 -- all heads were read
 pub loads_all : (told : Option Files) (heads : List Head) (n : ℕ) (after : Inputs) → length heads ≤ n
     → IfSome told (λ files. load files (file_names (take n heads)) after (drop n heads) ≡ load files [] nothing heads)
-    → IfSome told (λ files. load files [] nothing heads ≡ Supplies (file_names heads) after [])
+    → IfSome told (λ files. load files [] nothing heads ≡ Supplies (file_names heads) after)
 loads_all None heads n after past is = tt
 loads_all (Some files) heads n after past is =
-    sym is ∙ ap (λ l. load files (file_names (take n heads)) after l) (drop_all n heads past) ∙ ap (λ l. Supplies (file_names l) after []) (take_all n heads past)
+    sym is ∙ ap (λ l. load files (file_names (take n heads)) after l) (drop_all n heads past) ∙ ap (λ l. Supplies (file_names l) after) (take_all n heads past)
 
 -- a head that is left can be read
 pub readable_at : (heads : List Head) (i : ℕ) (head : Head) → i < length heads → head ≡ get_or heads i head → AreReadable (drop i heads) → IsReadable head × AreReadable (drop (i + 1) heads)
@@ -281,11 +283,11 @@ readable_at heads i head below is all =
 
 -- the steps of a record without a file and of one with
 pub zeros_step : (told : Option Files) (from : Option Name) (size : ℕ) (inputs after : Inputs) → from ≡ None → after.records ≡ inputs.records ++ replicate size (pos 0) → after.feeds ≡ inputs.feeds
-    → IfSome told (λ files. (names : List Name) → by_record files names inputs size from ≡ Supplies (names ++ named from) after [])
+    → IfSome told (λ files. (names : List Name) → by_record files names inputs size from ≡ Supplies (names ++ named from) after)
 zeros_step None from size inputs after is records feeds = tt
 zeros_step (Some files) from size inputs after is records feeds = λ names.
     let grown : with_cells inputs (replicate size (pos 0)) ≡ after = ap₂ inputs_of (sym records) (sym feeds) in
-    ap (by_record files names inputs size) is ∙ ap (λ i. Supplies names i []) grown ∙ ap (λ l. Supplies l after []) (sym (append-nil names)) ∙ ap (λ f. Supplies (names ++ named f) after []) (sym is)
+    ap (by_record files names inputs size) is ∙ ap (λ i. Supplies names i) grown ∙ ap (λ l. Supplies l after) (sym (append-nil names)) ∙ ap (λ f. Supplies (names ++ named f) after) (sym is)
 
 pub cells_step : {T : Type 0} (told : Option Files) (from : Option Name) (file : Name) (size : ℕ) (inputs after : Inputs) (result : Result T Refusal) → from ≡ Some file
     → IfSome told (λ files. (names : List Name) → StepsTo names (file ∷ []) (by_file names file (bytes_of files file) (record_rows size) (more_cells inputs)) after result)
@@ -315,36 +317,37 @@ pub only_one : (file name : Name) → Contains (file ∷ []) name → file ≡ n
 only_one file name (zero, below, is) = is
 only_one file name (suc k, below, is) = absurd (omega (arith, below))
 
-then_names : (supplied : Supplied) → names_of (then_load supplied (λ n i. Supplies n i [])) ≡ names_of supplied
-then_names (Supplies names inputs faults) = refl
-then_names (Lacks names name) = refl
-then_names (Spoils names line) = refl
+pub then_names : {S T : Type 0} (made : S → T) (supplied : Supplied S) → names_of (then_load supplied (λ n x. Supplies n (made x))) ≡ names_of supplied
+then_names made (Supplies names value) = refl
+then_names made (Lacks names name) = refl
+then_names made (Spoils names line) = refl
 
 -- what was read before the file of faults, and that file, were read
-reads_faults : (name : Name) (files : Files) (names : List Name) (inputs : Inputs) (file : Name) → Contains (names ++ file ∷ []) name → Contains (names_of (load_faults files names inputs (Some file))) name
-reads_faults name files names inputs file is =
-    subst (λ l. Contains l name) (then_names (load_faults files names inputs (Some file)))
-    (keeps_file name names file (bytes_of files file) fault_rows (more_faults inputs) (λ n i. Supplies n i []) (λ n faults keeps. keeps) is)
+reads_faults : (name : Name) (files : Files) (names : List Name) (file : Name) → Contains (names ++ file ∷ []) name → Contains (names_of (load_faults files names (Some file))) name
+reads_faults name files names file is =
+    subst (λ l. Contains l name) (then_names (λ (faults : List Fault). faults) (load_faults files names (Some file)))
+    (keeps_file name names file (bytes_of files file) fault_rows Supplies (λ n faults. Supplies n faults) (λ n faults keeps. keeps) is)
 
-pub keeps_faults : (name : Name) (files : Files) (names : List Name) (inputs : Inputs) (file : Name) → Contains names name → Contains (names_of (load_faults files names inputs (Some file))) name
-keeps_faults name files names inputs file is = reads_faults name files names inputs file (Contains-append_left names (file ∷ []) name is)
+pub keeps_faults : (name : Name) (files : Files) (names : List Name) (from : Option Name) → Contains names name → Contains (names_of (load_faults files names from)) name
+keeps_faults name files names None is = is
+keeps_faults name files names (Some file) is = reads_faults name files names file (Contains-append_left names (file ∷ []) name is)
 
 -- the answers to a file of faults
-module _ (files : Files) (names : List Name) (inputs : Inputs) (file : Name) (before now : List Name) where
+module _ (files : Files) (names : List Name) (file : Name) (before now : List Name) where
   faults_answer : (result : Result Faults Refusal) → AnswersRows (λ (faults : Faults). faults.list) file fault_rows (bytes_of files file) result → ReadsAmong (file ∷ []) before now result
-      → AnswersFaults names inputs (file ∷ []) (load_faults files names inputs (Some file)) result
-  faults_answer (Ok faults) is among = ok_file names file (bytes_of files file) fault_rows (more_faults inputs) faults.list is
+      → AnswersFaults names (file ∷ []) (load_faults files names (Some file)) result
+  faults_answer (Ok faults) is among = ok_file names file (bytes_of files file) fault_rows Supplies faults.list is
   faults_answer (Err refused.Usage) is among = is
   faults_answer (Err (refused.BadProgram line)) is among = is
-  faults_answer (Err (refused.BadInput line)) is among = (names ++ file ∷ [], bad_file names file line (bytes_of files file) fault_rows (more_faults inputs) is)
-  faults_answer (Err (refused.ReadFault told)) is among = reads_faults told files names inputs file (Contains-append_right names (file ∷ []) told among.0)
+  faults_answer (Err (refused.BadInput line)) is among = (names ++ file ∷ [], bad_file names file line (bytes_of files file) fault_rows Supplies is)
+  faults_answer (Err (refused.ReadFault told)) is among = reads_faults told files names file (Contains-append_right names (file ∷ []) told among.0)
   faults_answer (Err refused.OutOfMemory) is among = tt
 
 -- the same where the files are told, of the file that is named
 pub faults_told : (told : Option Files) (from : Option Name) (file : Name) (before now : List Name) (result : Result Faults Refusal) → from ≡ Some file
     → IfSome told (λ files. AnswersRows (λ (faults : Faults). faults.list) file fault_rows (bytes_of files file) result) → ReadsAmong (file ∷ []) before now result
-    → IfSome told (λ files. (names : List Name) (inputs : Inputs) → AnswersFaults names inputs (named from) (load_faults files names inputs from) result)
+    → IfSome told (λ files. (names : List Name) → AnswersFaults names (named from) (load_faults files names from) result)
 faults_told None from file before now result is told among = tt
 faults_told (Some files) from file before now result is told among =
-    subst (λ f. (names : List Name) (inputs : Inputs) → AnswersFaults names inputs (named f) (load_faults files names inputs f) result) (sym is)
-    (λ names inputs. faults_answer files names inputs file before now result told among)
+    subst (λ f. (names : List Name) → AnswersFaults names (named f) (load_faults files names f) result) (sym is)
+    (λ names. faults_answer files names file before now result told among)

@@ -5,8 +5,8 @@ use Rattle.std.specs.declared.option.Option.TheVariants.{None, Some}
 use Rattle.gp_base.specs.Files.{bytes_of}
 use Rattle.task_parser.specs.Spelling.{Means}
 use Rattle.task_parser.proofs.OneSpelling.{one_meaning, some_meaning}
-use Rattle.command_line.specs.declared.asked.Asked.{Asked}
-use Rattle.call_cases.specs.Work.{Files, Commands}
+use Rattle.call_cases.specs.Work.{Files}
+use Rattle.call_cases.specs.Commands.{Asking}
 use Rattle.call_cases.specs.Case.{OneCase, SomeCase, Case, Missing, IsCaseOf, no_program, of_text, IsCase, no_command, asks, ForCase, meant_case}
 
 value_of : {A : Type 0} → A → Option A → A
@@ -22,43 +22,43 @@ pub none_some : {A : Type 0} (o : Option A) (x : A) → o ≡ None → o ≡ Som
 none_some o x none some = let e : None ≡ Some x = sym none ∙ some in cc
 
 -- what is asked has one case over the same files
-pub one_case_of : (commands : Commands) (asked : Asked) (files : Files) (a b : Case) → IsCaseOf commands asked files a → IsCaseOf commands asked files b → a ≡ b
-one_case_of commands asked files a b (no_program absent) (no_program absent') = refl
-one_case_of commands asked files a b (no_program absent) (of_text {text} meaning there means) = absurd (none_some (bytes_of files asked.program) text absent there)
-one_case_of commands asked files a b (of_text {text} meaning there means) (no_program absent) = absurd (none_some (bytes_of files asked.program) text absent there)
-one_case_of commands asked files a b (of_text {text} meaning there means) (of_text {text = text'} meaning' there' means') =
-    let texts = same_some (bytes_of files asked.program) text' text there' there in
-    ap (meant_case commands files asked) (one_meaning text meaning meaning' means (subst (λ u. Means u meaning') texts means'))
+pub one_case_of : {A T : Type 0} (asking : Asking A T) (asked : A) (files : Files) (a b : Case T) → IsCaseOf asking asked files a → IsCaseOf asking asked files b → a ≡ b
+one_case_of asking asked files a b (no_program absent) (no_program absent') = refl
+one_case_of asking asked files a b (no_program absent) (of_text {text} meaning there means) = absurd (none_some (bytes_of files (asking.program asked)) text absent there)
+one_case_of asking asked files a b (of_text {text} meaning there means) (no_program absent) = absurd (none_some (bytes_of files (asking.program asked)) text absent there)
+one_case_of asking asked files a b (of_text {text} meaning there means) (of_text {text = text'} meaning' there' means') =
+    let texts = same_some (bytes_of files (asking.program asked)) text' text there' there in
+    ap (meant_case asking files asked) (one_meaning text meaning meaning' means (subst (λ u. Means u meaning') texts means'))
 
-pub one_case : OneCase
-one_case commands words files a b (no_command none) (no_command none') = refl
-one_case commands words files a b (no_command none) (asks {asked} some is) = absurd (none_some (commands.reading words) asked none some)
-one_case commands words files a b (asks {asked} some is) (no_command none) = absurd (none_some (commands.reading words) asked none some)
-one_case commands words files a b (asks {asked} some is) (asks {asked = asked'} some' is') =
-    let same = same_some (commands.reading words) asked' asked some' some in
-    one_case_of commands asked (commands.files asked files) a b is (subst (λ (x : Asked). IsCaseOf commands x (commands.files x files) b) same is')
+pub one_case : (A T : Type 0) → OneCase A T
+one_case A T asking words files a b (no_command none) (no_command none') = refl
+one_case A T asking words files a b (no_command none) (asks {asked} some is) = absurd (none_some (asking.reading words) asked none some)
+one_case A T asking words files a b (asks {asked} some is) (no_command none) = absurd (none_some (asking.reading words) asked none some)
+one_case A T asking words files a b (asks {asked} some is) (asks {asked = asked'} some' is') =
+    let same = same_some (asking.reading words) asked' asked some' some in
+    one_case_of asking asked (asking.files asked files) a b is (subst (λ (x : A). IsCaseOf asking x (asking.files x files) b) same is')
 
-pub some_case_of : (commands : Commands) (asked : Asked) (files : Files) → (case : Case) × IsCaseOf commands asked files case
-some_case_of commands asked files = found (bytes_of files asked.program) refl
+pub some_case_of : {A T : Type 0} (asking : Asking A T) (asked : A) (files : Files) → (case : Case T) × IsCaseOf asking asked files case
+some_case_of {T} asking asked files = found (bytes_of files (asking.program asked)) refl
   where
-    found : (bytes : Option (List ℕ)) → bytes_of files asked.program ≡ bytes → (case : Case) × IsCaseOf commands asked files case
-    found None absent = (Missing [] asked.program, no_program absent)
-    found (Some text) there = let m = some_meaning text in (meant_case commands files asked m.0, of_text m.0 there m.1)
+    found : (bytes : Option (List ℕ)) → bytes_of files (asking.program asked) ≡ bytes → (case : Case T) × IsCaseOf asking asked files case
+    found None absent = (Missing [] (asking.program asked), no_program absent)
+    found (Some text) there = let m = some_meaning text in (meant_case asking files asked m.0, of_text m.0 there m.1)
 
-pub some_case : SomeCase
-some_case commands words files = go (commands.reading words) refl
+pub some_case : (A T : Type 0) → SomeCase A T
+some_case A T asking words files = go (asking.reading words) refl
   where
-    go : (asked : Option Asked) → commands.reading words ≡ asked → (case : Case) × IsCase commands words files case
+    go : (asked : Option A) → asking.reading words ≡ asked → (case : Case T) × IsCase asking words files case
     go None none = (_, no_command none)
-    go (Some asked) some = let found = some_case_of commands asked (commands.files asked files) in (found.0, asks some found.1)
+    go (Some asked) some = let found = some_case_of asking asked (asking.files asked files) in (found.0, asks some found.1)
 
 -- what holds of a case that is known holds of the case
-pub for_known : (commands : Commands) (words : List (List ℕ)) (files : Option Files) (known : Case) (P : Case → Type 0) → IfSome files (λ told. IsCase commands words told known) → P known →
-    ForCase commands words files P
-for_known commands words None known P is holds = tt
-for_known commands words (Some files) known P is holds = λ case is_case. subst P (one_case commands words files known case is is_case) holds
+pub for_known : {A T : Type 0} (asking : Asking A T) (words : List (List ℕ)) (files : Option Files) (known : Case T) (P : Case T → Type 0) → IfSome files (λ told. IsCase asking words told known) → P known →
+    ForCase asking words files P
+for_known asking words None known P is holds = tt
+for_known {A} {T} asking words (Some files) known P is holds = λ case is_case. subst P (one_case A T asking words files known case is is_case) holds
 
 -- what holds of each case
-pub for_each : (commands : Commands) (words : List (List ℕ)) (files : Option Files) (P : Case → Type 0) → ((case : Case) → P case) → ForCase commands words files P
-for_each commands words None P holds = tt
-for_each commands words (Some files) P holds = λ case is_case. holds case
+pub for_each : {A T : Type 0} (asking : Asking A T) (words : List (List ℕ)) (files : Option Files) (P : Case T → Type 0) → ((case : Case T) → P case) → ForCase asking words files P
+for_each asking words None P holds = tt
+for_each asking words (Some files) P holds = λ case is_case. holds case

@@ -7,28 +7,28 @@ use Rattle.task_ast.specs.Tree.{Name, Program}
 use Rattle.task_ast.specs.Check.{check_fault}
 use Rattle.task_ast.specs.declared.check_kind.CheckKind.{CheckKind}
 use Rattle.task_parser.specs.Spelling.{Meaning, Stands, LexFails, ParseFails}
-use Rattle.command_line.specs.declared.asked.Asked.{Asked}
-use Rattle.call_cases.specs.Work.{Files, Commands, Supplied, Supplies, Lacks, Spoils}
+use Rattle.call_cases.specs.Work.{Files, Supplied, Supplies, Lacks, Spoils}
+use Rattle.call_cases.specs.Commands.{Asking}
 use Rattle.call_cases.specs.Case.{Case, IsCaseOf, no_program, of_text, supplied_case, program_case, meant_case, names_read}
 
 pub first : (name : Name) (names : List Name) → Contains (name ∷ names) name
 first name names = (0, omega arith, refl)
 
-reads_supplied : (asked : Asked) (program : Program) (supplied : Supplied) → Contains (names_read (supplied_case asked program supplied)) asked.program
-reads_supplied asked program (Supplies names inputs faults) = first asked.program names
-reads_supplied asked program (Lacks names name) = first asked.program (names ++ name ∷ [])
-reads_supplied asked program (Spoils names line) = first asked.program names
+reads_supplied : {T : Type 0} (program : Name) (supplied : Supplied T) → Contains (names_read (supplied_case program supplied)) program
+reads_supplied program (Supplies names work) = first program names
+reads_supplied program (Lacks names name) = first program (names ++ name ∷ [])
+reads_supplied program (Spoils names line) = first program names
 
-module _ (commands : Commands) (files : Files) (asked : Asked) where
-  reads_checked : (program : Program) (fault : Option (CheckKind × ℕ)) → Contains (names_read (program_case commands files asked program fault)) asked.program
-  reads_checked program (Some fault) = first asked.program []
-  reads_checked program None = reads_supplied asked program (commands.supplied asked program files)
+module _ {A T : Type 0} (asking : Asking A T) (files : Files) (asked : A) where
+  reads_checked : (program : Program) (fault : Option (CheckKind × ℕ)) → Contains (names_read (program_case asking files asked program fault)) (asking.program asked)
+  reads_checked program (Some fault) = first (asking.program asked) []
+  reads_checked program None = reads_supplied (asking.program asked) (asking.supplied asked program files)
 
-  reads_meant : (meaning : Meaning) → Contains (names_read (meant_case commands files asked meaning)) asked.program
-  reads_meant (LexFails fault) = first asked.program []
-  reads_meant (ParseFails fault) = first asked.program []
+  reads_meant : (meaning : Meaning) → Contains (names_read (meant_case asking files asked meaning)) (asking.program asked)
+  reads_meant (LexFails fault) = first (asking.program asked) []
+  reads_meant (ParseFails fault) = first (asking.program asked) []
   reads_meant (Stands program) = reads_checked program (check_fault program)
 
-pub reads_program : (commands : Commands) (files : Files) (asked : Asked) (case : Case) → IsCaseOf commands asked files case → Contains (names_read case) asked.program
-reads_program commands files asked case (no_program absent) = first asked.program []
-reads_program commands files asked case (of_text meaning there means) = reads_meant commands files asked meaning
+pub reads_program : {A T : Type 0} (asking : Asking A T) (files : Files) (asked : A) (case : Case T) → IsCaseOf asking asked files case → Contains (names_read case) (asking.program asked)
+reads_program asking files asked case (no_program absent) = first (asking.program asked) []
+reads_program asking files asked case (of_text meaning there means) = reads_meant asking files asked meaning

@@ -3,7 +3,7 @@ use Rattle.std.proofs.Common.{◌⊎◌, ℕ, List, refl, inl, inr}
 use Rattle.gp_base.proofs.Written.{prefix_whole}
 use Rattle.call_cases.specs.declared.reading.Refusal.{Refusal}
 use Rattle.call_cases.specs.Lines.{out_of_memory_line}
-use Rattle.call_cases.specs.Decided.{TellsRefusal, RefusalEnds, refusal_no_memory, refusal_failed}
+use Rattle.call_cases.specs.Refusals.{TellsRefusal, RefusalEnds, refusal_no_memory, refusal_failed}
 use Rattle.call_cases.specs.Answers.{Change, TakesAll, IsStopLine, LineEnds, whole, line_failed, line_no_memory}
 
 -- a line that was due for a refusal

@@ -24,7 +24,7 @@ use Rattle.command_line.specs.declared.asked.Soak.{Soak}
 use Rattle.soak_batch.specs.Files.{soak_files}
 use Rattle.call_cases.specs.SoakFiles.{files_of}
 use Rattle.std.proofs.Common.{Result}
-use Rattle.call_cases.specs.declared.work.Batch.{Batch}
+use Rattle.call_cases.specs.declared.work.Request.{Request}
 use Rattle.call_cases.specs.declared.reading.Refusal.{Refusal}
 use Rattle.call_cases.specs.declared.reading.Refusal.TheVariants.{Usage as RefusedUsage, BadProgram as RefusedProgram, BadInput as RefusedInput, ReadFault, OutOfMemory}
 use Rattle.gp_base.specs.declared.limits.TheConstants.{MOST_PROGRAM_BYTES}
@@ -34,17 +34,18 @@ use Rattle.std.proofs.lemmas.List.Elements.{Contains-append_right}
 use Rattle.gp_base.specs.declared.fault.Fault.{Fault}
 use Rattle.gp_base.specs.declared.fault.Faults.{Faults}
 use Rattle.gp_base.specs.declared.feed.Inputs.{Inputs}
-use Rattle.call_cases.specs.Work.{Files, Supplied, Supplies, Lacks, Spoils, runs}
-use Rattle.call_cases.specs.InputFiles.{names_for, named, supplied_for, file_names, then_load, load_faults}
-use Rattle.call_cases.specs.inner.Loading.{AnswersLoad, AnswersFaults, ReadsAmong, names_of}
-use Rattle.call_cases.proofs.Loads.{keeps_faults, only_one}
-use Rattle.call_cases.specs.Headline.{MayRead, an_input, the_faults}
+use Rattle.call_cases.specs.Work.{Files, Supplied, Supplies, Lacks, Spoils, ToDo, work_for, runs}
+use Rattle.call_cases.specs.InputFiles.{names_for, named, supplied_for, file_names, then_load, load_faults, with_faults}
+use Rattle.call_cases.specs.inner.Loading.{AnswersLoad, AnswersFaults, names_of}
+use Rattle.call_cases.specs.Refusals.{AnswersCase, RefusesCase, RefusesShelf, ReadsAmong}
+use Rattle.call_cases.proofs.Loads.{keeps_faults, then_names, only_one}
+use Rattle.call_cases.specs.RunCommands.{MayRead, an_input, the_faults, asking}
 use Rattle.call_cases.proofs.OneCase.{some_case_of}
+use Rattle.call_cases.proofs.Answering.{answers_map}
 use Rattle.call_cases.proofs.ReadsProgram.{reads_program}
-use Rattle.call_cases.specs.PlainText.{commands}
 use Rattle.call_cases.specs.Lines.{lex_line, parse_line, check_line}
-use Rattle.call_cases.specs.Case.{Case, Usage, BadProgram as BadCase, BadInput, Go, IsCaseOf, of_text, IsCase, no_command, asks, supplied_case, program_case, names_read}
-use Rattle.call_cases.specs.Decided.{ComesTo, AnswersCase, IsAcceptedIn, IsRefusedWith, RefusesLexing, RefusesParsing, RefusesChecking, TouchesShelf, accepted_case, work_for, work_of}
+use Rattle.call_cases.specs.Case.{Case, BadProgram as BadCase, Go, IsCaseOf, of_text, supplied_case, program_case, names_read}
+use Rattle.call_cases.specs.Decided.{ComesTo, IsAcceptedIn, IsRefusedWith, RefusesLexing, RefusesParsing, RefusesChecking, accepted_case, files_read, case_of}
 use Rattle.gp_base.specs.Files.{bytes_of, AnswersRead}
 
 pub decided_by_line : (asked : Asked) (text line : List ℕ) (refusal : Refusal) → IsRefusedWith line refusal → ComesTo asked text (BadCase asked.program line) → IsAcceptedIn asked text (Err refusal)
@@ -73,77 +74,73 @@ decided_parsing asked text tokens parse.OutOfMemory refusal refuses lexes first 
 pub decided_checking : (asked : Asked) (text : List ℕ) (program : Program) (fault : CheckFault) (refusal : Refusal) → RefusesChecking fault refusal → Means text (Stands program)
     → Told fault (check_fault program) → IsAcceptedIn asked text (Err refusal)
 decided_checking asked text program (check.Bad kind line) refusal refuses stands told =
-    decided_by_line asked text (check_line kind line) refusal refuses (Stands program, stands, λ files. ap (program_case commands files asked program) told)
+    decided_by_line asked text (check_line kind line) refusal refuses (Stands program, stands, λ files. ap (program_case asking files asked program) told)
 decided_checking asked text program check.OutOfMemory refusal refuses stands told = subst (λ r. IsAcceptedIn asked text (Err r)) (sym refuses) tt
 
--- words of no command
-pub usage_case : (words : List (List ℕ)) (files : Option Files) → commands.reading words ≡ None → IfSome files (λ files. AnswersCase (IsCase commands words files) (Err RefusedUsage))
-usage_case words None none = tt
-usage_case words (Some files) none = no_command none
-
 -- the files that are read are those of the case
-reads_supplied : (asked : Asked) (program : Program) (name : Name) (supplied : Supplied) → Contains (names_of supplied) name → Contains (names_read (supplied_case asked program supplied)) name
-reads_supplied asked program name (Supplies names inputs faults) is = Contains-append_right (asked.program ∷ []) names name is
-reads_supplied asked program name (Lacks names missing) is = Contains-append_right (asked.program ∷ []) (names ++ missing ∷ []) name is
-reads_supplied asked program name (Spoils names line) is = Contains-append_right (asked.program ∷ []) names name is
-
--- what the files of an accepted program give, with that of the faults
-abbrev all_for : Asked → Program → Inputs → List Fault → Supplied
-all_for asked program inputs faults = Supplies (names_for asked.command program.heads ++ named asked.faults) inputs faults
+reads_supplied : (program name : Name) (supplied : Supplied ToDo) → Contains (names_of supplied) name → Contains (names_read (supplied_case program supplied)) name
+reads_supplied program name (Supplies names work) is = Contains-append_right (program ∷ []) names name is
+reads_supplied program name (Lacks names missing) is = Contains-append_right (program ∷ []) (names ++ missing ∷ []) name is
+reads_supplied program name (Spoils names line) is = Contains-append_right (program ∷ []) names name is
 
 pub loaded_ok : (asked : Asked) (program : Program) (told known : Option Files) (inputs : Inputs) (faults : Faults) → known ≡ told
     → IfSome told (λ files. AnswersLoad (supplied_for asked.command program.heads files) (names_for asked.command program.heads) (Ok inputs))
-    → IfSome known (λ files. (names : List Name) (i : Inputs) → AnswersFaults names i (named asked.faults) (load_faults files names i asked.faults) (Ok faults))
-    → IfSome told (λ files. accepted_case asked program files ≡ Go (work_for asked program inputs faults.list))
+    → IfSome known (λ files. (names : List Name) → AnswersFaults names (named asked.faults) (load_faults files names asked.faults) (Ok faults))
+    → IfSome told (λ files. accepted_case asked program files ≡ Go (files_read asked program) (work_for asked program inputs faults.list))
 loaded_ok asked program None known inputs faults same is struck = tt
 loaded_ok asked program (Some files) known inputs faults same is struck =
-    let more = subst (λ k. IfSome k (λ files. (names : List Name) (i : Inputs) → AnswersFaults names i (named asked.faults) (load_faults files names i asked.faults) (Ok faults))) same struck in
-    ap (λ s. supplied_case asked program (then_load s (λ names i. load_faults files names i asked.faults))) is
-    ∙ ap (supplied_case asked program) (more (names_for asked.command program.heads) inputs)
+    let more = subst (λ k. IfSome k (λ files. (names : List Name) → AnswersFaults names (named asked.faults) (load_faults files names asked.faults) (Ok faults))) same struck in
+    ap (λ s. supplied_case asked.program (then_load s (with_faults files asked program))) is
+    ∙ ap (λ s. supplied_case asked.program (then_load s (λ names list. Supplies names (work_for asked program inputs list)))) (more (names_for asked.command program.heads))
 
--- a file that names read before
-keeps_names : (files : Files) (asked : Option Name) (supplied : Supplied) (name : Name) → Contains (names_of supplied) name
-    → Contains (names_of (then_load supplied (λ names inputs. load_faults files names inputs asked))) name
-keeps_names files None (Supplies names inputs faults) name is = is
-keeps_names files (Some file) (Supplies names inputs faults) name is = keeps_faults name files names inputs file is
-keeps_names files asked (Lacks names missing) name is = is
-keeps_names files asked (Spoils names line) name is = is
+-- a file that was read before that of the faults
+keeps_names : (files : Files) (asked : Asked) (program : Program) (supplied : Supplied Inputs) (name : Name) → Contains (names_of supplied) name
+    → Contains (names_of (then_load supplied (with_faults files asked program))) name
+keeps_names files asked program (Supplies names inputs) name is =
+    subst (λ l. Contains l name) (sym (then_names (work_for asked program inputs) (load_faults files names asked.faults))) (keeps_faults name files names asked.faults is)
+keeps_names files asked program (Lacks names missing) name is = is
+keeps_names files asked program (Spoils names line) name is = is
 
 pub loaded_err : (asked : Asked) (program : Program) (files : Option Files) (refusal : Refusal)
     → IfSome files (λ files. AnswersLoad (supplied_for asked.command program.heads files) (names_for asked.command program.heads) (Err refusal))
-    → IfSome files (λ files. AnswersCase (λ case. accepted_case asked program files ≡ case) (Err refusal))
+    → IfSome files (λ files. RefusesCase (λ case. accepted_case asked program files ≡ case) refusal)
 loaded_err asked program None refusal is = tt
 loaded_err asked program (Some files) RefusedUsage is = absurd is
 loaded_err asked program (Some files) (RefusedProgram line) is = absurd is
-loaded_err asked program (Some files) (RefusedInput line) (read, is) =
-    (asked.program ∷ read, ap (λ s. supplied_case asked program (then_load s (λ names i. load_faults files names i asked.faults))) is)
+loaded_err asked program (Some files) (RefusedInput line) (read, is) = (asked.program ∷ read, ap (λ s. supplied_case asked.program (then_load s (with_faults files asked program))) is)
 loaded_err asked program (Some files) (ReadFault name) is =
-    let supplied = commands.supplied asked program files in
-    (supplied_case asked program supplied, refl, reads_supplied asked program name supplied (keeps_names files asked.faults (supplied_for asked.command program.heads files) name is))
+    let supplied = asking.supplied asked program files in
+    (supplied_case asked.program supplied, refl, reads_supplied asked.program name supplied (keeps_names files asked program (supplied_for asked.command program.heads files) name is))
 loaded_err asked program (Some files) OutOfMemory is = tt
 
 -- where the file of faults is refused
 pub struck_err : (asked : Asked) (program : Program) (told known : Option Files) (inputs : Inputs) (refusal : Refusal) → known ≡ told
     → IfSome told (λ files. AnswersLoad (supplied_for asked.command program.heads files) (names_for asked.command program.heads) (Ok inputs))
-    → IfSome known (λ files. (names : List Name) (i : Inputs) → AnswersFaults names i (named asked.faults) (load_faults files names i asked.faults) (Err refusal))
-    → IfSome told (λ files. AnswersCase (λ case. accepted_case asked program files ≡ case) (Err refusal))
+    → IfSome known (λ files. (names : List Name) → AnswersFaults names (named asked.faults) (load_faults files names asked.faults) (Err refusal))
+    → IfSome told (λ files. RefusesCase (λ case. accepted_case asked program files ≡ case) refusal)
 struck_err asked program None known inputs refusal same is struck = tt
 struck_err asked program (Some files) known inputs refusal same is struck =
-    let more = subst (λ k. IfSome k (λ files. (names : List Name) (i : Inputs) → AnswersFaults names i (named asked.faults) (load_faults files names i asked.faults) (Err refusal))) same struck in
-    go refusal (more (names_for asked.command program.heads) inputs)
+    let more = subst (λ k. IfSome k (λ files. (names : List Name) → AnswersFaults names (named asked.faults) (load_faults files names asked.faults) (Err refusal))) same struck in
+    go refusal (more (names_for asked.command program.heads))
   where
-    faults_there : Supplied
-    faults_there = load_faults files (names_for asked.command program.heads) inputs asked.faults
+    faults_there : Supplied (List Fault)
+    faults_there = load_faults files (names_for asked.command program.heads) asked.faults
 
-    here : commands.supplied asked program files ≡ faults_there
-    here = ap (λ s. then_load s (λ names i. load_faults files names i asked.faults)) is
+    all : Supplied (List Fault) → Supplied ToDo
+    all given = then_load given (λ names list. Supplies names (work_for asked program inputs list))
 
-    go : (r : Refusal) → AnswersFaults (names_for asked.command program.heads) inputs (named asked.faults) faults_there (Err r) → AnswersCase (λ case. accepted_case asked program files ≡ case) (Err r)
+    here : asking.supplied asked program files ≡ all faults_there
+    here = ap (λ s. then_load s (with_faults files asked program)) is
+
+    go : (r : Refusal) → AnswersFaults (names_for asked.command program.heads) (named asked.faults) faults_there (Err r) → RefusesCase (λ case. accepted_case asked program files ≡ case) r
     go RefusedUsage never = absurd never
     go (RefusedProgram line) never = absurd never
-    go (RefusedInput line) (read, spoils) = (asked.program ∷ read, ap (supplied_case asked program) (here ∙ spoils))
-    go (ReadFault name) reads =
-        (supplied_case asked program faults_there, ap (supplied_case asked program) here, reads_supplied asked program name faults_there reads)
+    go (RefusedInput line) (read, spoils) = (asked.program ∷ read, ap (supplied_case asked.program) (here ∙ ap all spoils))
+    go (ReadFault name) reads = (
+      supplied_case asked.program (all faults_there),
+      ap (supplied_case asked.program) here,
+      reads_supplied asked.program name (all faults_there) (subst (λ l. Contains l name) (sym (then_names (work_for asked program inputs) faults_there)) reads),
+    )
     go OutOfMemory never = tt
 
 -- the reads of inputs are those that may be made for what is asked
@@ -151,7 +148,7 @@ may_read : (asked : Asked) (program : Program) (name : Name) (b : Bool) → runs
 may_read asked program name true run is = an_input run
 may_read asked program name false run (k, below, is) = absurd (omega (arith, below))
 
-pub loaded_reads : (T : Type 0) (asked : Asked) (program : Program) (before now : List Name) (refusal : Refusal) → ReadsAmong {T = T} (names_for asked.command program.heads) before now (Err refusal) → TouchesShelf (Some asked) before now (Err refusal)
+pub loaded_reads : (T : Type 0) (asked : Asked) (program : Program) (before now : List Name) (refusal : Refusal) → ReadsAmong {T = T} (names_for asked.command program.heads) before now (Err refusal) → RefusesShelf MayRead (Some asked) before now refusal
 loaded_reads T asked program before now RefusedUsage is = absurd is
 loaded_reads T asked program before now (RefusedProgram line) is = absurd is
 loaded_reads T asked program before now (RefusedInput line) is = is
@@ -162,48 +159,39 @@ may_strike : (asked : Asked) (name : Name) (faults : Option Name) → asked.faul
 may_strike asked name None same (k, below, is) = absurd (omega (arith, below))
 may_strike asked name (Some file) same is = the_faults (same ∙ ap Some (only_one file name is))
 
-pub struck_reads : (T : Type 0) (asked : Asked) (before now : List Name) (refusal : Refusal) → ReadsAmong {T = T} (named asked.faults) before now (Err refusal) → TouchesShelf (Some asked) before now (Err refusal)
+pub struck_reads : (T : Type 0) (asked : Asked) (before now : List Name) (refusal : Refusal) → ReadsAmong {T = T} (named asked.faults) before now (Err refusal) → RefusesShelf MayRead (Some asked) before now refusal
 struck_reads T asked before now RefusedUsage is = absurd is
 struck_reads T asked before now (RefusedProgram line) is = absurd is
 struck_reads T asked before now (RefusedInput line) is = is
 struck_reads T asked before now (ReadFault name) is = (is.1, is.2, may_strike asked name asked.faults refl is.0)
 struck_reads T asked before now OutOfMemory is = tt
 
--- an answer tells the case of the call where it tells that of the accepted program
-answers_map : (Is Js : Case → Type 0) → ((case : Case) → Is case → Js case) → (result : Result Batch Refusal) → AnswersCase Is result → AnswersCase Js result
-answers_map Is Js to (Ok batch) is = to (Go (work_of batch)) is
-answers_map Is Js to (Err RefusedUsage) is = to Usage is
-answers_map Is Js to (Err (RefusedProgram line)) (name, is) = (name, to (BadCase name line) is)
-answers_map Is Js to (Err (RefusedInput line)) (names, is) = (names, to (BadInput names line) is)
-answers_map Is Js to (Err (ReadFault name)) (case, is, reads) = (case, to case is, reads)
-answers_map Is Js to (Err OutOfMemory) is = tt
-
 -- the text of the program was read
 text_case : (files : Files) (asked : Asked) (text : List ℕ) (program : Program) → bytes_of files asked.program ≡ Some text → Spells text program → check_fault program ≡ None
-    → IsCaseOf commands asked files (accepted_case asked program files)
+    → IsCaseOf asking asked files (accepted_case asked program files)
 text_case files asked text program there stands accepted =
-    subst (λ fault. IsCaseOf commands asked files (program_case commands files asked program fault)) accepted (of_text (Stands program) there stands)
+    subst (λ fault. IsCaseOf asking asked files (program_case asking files asked program fault)) accepted (of_text (Stands program) there stands)
 
-pub accepted_answers : (told known : Option Files) (asked : Asked) (text : List ℕ) (program : Program) (before now : List (List ℕ)) (result : Result Batch Refusal) → known ≡ told
+pub accepted_answers : (told known : Option Files) (asked : Asked) (text : List ℕ) (program : Program) (before now : List (List ℕ)) (result : Result Request Refusal) → known ≡ told
     → IfSome told (λ files. AnswersRead (bytes_of files asked.program) MOST_PROGRAM_BYTES before now (Ok text)) → Spells text program → check_fault program ≡ None
-    → IfSome known (λ files. AnswersCase (λ case. accepted_case asked program files ≡ case) result) → IfSome told (λ files. AnswersCase (IsCaseOf commands asked files) result)
+    → IfSome known (λ files. AnswersCase case_of (λ case. accepted_case asked program files ≡ case) result) → IfSome told (λ files. AnswersCase case_of (IsCaseOf asking asked files) result)
 accepted_answers None known asked text program before now result same read stands accepted is = tt
 accepted_answers (Some files) known asked text program before now result same read stands accepted is =
     let case = text_case files asked text program read.ok stands accepted in
-    answers_map (λ c. accepted_case asked program files ≡ c) (IsCaseOf commands asked files) (λ c same_case. subst (IsCaseOf commands asked files) same_case case) result
-    (subst (λ k. IfSome k (λ files. AnswersCase (λ c. accepted_case asked program files ≡ c) result)) same is)
+    answers_map case_of (λ c. accepted_case asked program files ≡ c) (IsCaseOf asking asked files) (λ c same_case. subst (IsCaseOf asking asked files) same_case case) result
+    (subst (λ k. IfSome k (λ files. AnswersCase case_of (λ c. accepted_case asked program files ≡ c) result)) same is)
 
 pub refused_answers : (files : Option Files) (asked : Asked) (text : List ℕ) (before now : List (List ℕ)) (refusal : Refusal)
-    → IfSome files (λ files. AnswersRead (bytes_of files asked.program) MOST_PROGRAM_BYTES before now (Ok text)) → IsAcceptedIn asked text (Err refusal) → IfSome files (λ files. AnswersCase (IsCaseOf commands asked files) (Err refusal))
+    → IfSome files (λ files. AnswersRead (bytes_of files asked.program) MOST_PROGRAM_BYTES before now (Ok text)) → IsAcceptedIn asked text (Err refusal) → IfSome files (λ files. RefusesCase (IsCaseOf asking asked files) refusal)
 refused_answers None asked text before now refusal read is = tt
 refused_answers (Some files) asked text before now RefusedUsage read is = absurd is
 refused_answers (Some files) asked text before now (RefusedProgram line) read (meaning, means, is) =
-    (asked.program, subst (IsCaseOf commands asked files) (is files) (of_text meaning read.ok means))
+    (asked.program, subst (IsCaseOf asking asked files) (is files) (of_text meaning read.ok means))
 refused_answers (Some files) asked text before now (RefusedInput line) read is = absurd is
 refused_answers (Some files) asked text before now (ReadFault name) read is = absurd is
 refused_answers (Some files) asked text before now OutOfMemory read is = tt
 
-pub refused_reads : (reading : Option Asked) (asked : Asked) (text : List ℕ) (before now : List Name) (refusal : Refusal) → now ≡ before → IsAcceptedIn asked text (Err refusal) → TouchesShelf reading before now (Err refusal)
+pub refused_reads : (reading : Option Asked) (asked : Asked) (text : List ℕ) (before now : List Name) (refusal : Refusal) → now ≡ before → IsAcceptedIn asked text (Err refusal) → RefusesShelf MayRead reading before now refusal
 refused_reads reading asked text before now RefusedUsage same is = absurd is
 refused_reads reading asked text before now (RefusedProgram line) same is = same
 refused_reads reading asked text before now (RefusedInput line) same is = absurd is
@@ -211,48 +199,37 @@ refused_reads reading asked text before now (ReadFault name) same is = absurd is
 refused_reads reading asked text before now OutOfMemory same is = tt
 
 -- a read of the program failed: each case that the call may have reads it
-pub unread_answers : (files : Option Files) (asked : Asked) → IfSome files (λ files. AnswersCase (IsCaseOf commands asked files) (Err (ReadFault asked.program)))
+pub unread_answers : (files : Option Files) (asked : Asked) → IfSome files (λ files. RefusesCase (IsCaseOf asking asked files) (ReadFault asked.program))
 unread_answers None asked = tt
-unread_answers (Some files) asked = let k = some_case_of commands asked files in (k.0, k.1, reads_program commands files asked k.0 k.1)
+unread_answers (Some files) asked = let k = some_case_of asking asked files in (k.0, k.1, reads_program asking files asked k.0 k.1)
 
 -- a text that is longer than a program may be
 lexed-long : (text : List ℕ) → MOST_PROGRAM_BYTES < length text → lexed text ≡ Err lex.TooLong
 lexed-long text long = ap (λ test. if test then Err lex.TooLong else lexed_behind [] 0 text) (lt-ltb MOST_PROGRAM_BYTES (length text) long)
 
 long_file : (files : Files) (asked : Asked) → (found : Option (List ℕ)) → bytes_of files asked.program ≡ found → IsSomeAnd found (λ text. MOST_PROGRAM_BYTES < length text)
-    → IsCaseOf commands asked files (BadCase asked.program (lex_line lex.TooLong))
+    → IsCaseOf asking asked files (BadCase asked.program (lex_line lex.TooLong))
 long_file files asked None is long = absurd long
 long_file files asked (Some text) is long = of_text (LexFails lex.TooLong) is (lexed-long text long)
 
-long_answer : (asked : Asked) (files : Files) (name line : List ℕ) (refusal : Refusal) → IsRefusedWith line refusal → IsCaseOf commands asked files (BadCase name line) → AnswersCase (IsCaseOf commands asked files) (Err refusal)
+long_answer : (asked : Asked) (files : Files) (name line : List ℕ) (refusal : Refusal) → IsRefusedWith line refusal → IsCaseOf asking asked files (BadCase name line) → RefusesCase (IsCaseOf asking asked files) refusal
 long_answer asked files name line RefusedUsage with_line is = absurd with_line
-long_answer asked files name line (RefusedProgram told) with_line is = (name, subst (λ l. IsCaseOf commands asked files (BadCase name l)) (sym with_line) is)
+long_answer asked files name line (RefusedProgram told) with_line is = (name, subst (λ l. IsCaseOf asking asked files (BadCase name l)) (sym with_line) is)
 long_answer asked files name line (RefusedInput told) with_line is = absurd with_line
 long_answer asked files name line (ReadFault other) with_line is = absurd with_line
 long_answer asked files name line OutOfMemory with_line is = tt
 
 pub long_case : (files : Option Files) (asked : Asked) (before now : List (List ℕ)) (refusal : Refusal) → IsRefusedWith (lex_line lex.TooLong) refusal
-    → IfSome files (λ files. AnswersRead (bytes_of files asked.program) MOST_PROGRAM_BYTES before now (Err TooLong)) → IfSome files (λ files. AnswersCase (IsCaseOf commands asked files) (Err refusal))
+    → IfSome files (λ files. AnswersRead (bytes_of files asked.program) MOST_PROGRAM_BYTES before now (Err TooLong)) → IfSome files (λ files. RefusesCase (IsCaseOf asking asked files) refusal)
 long_case None asked before now refusal with_line told = tt
 long_case (Some files) asked before now refusal with_line told =
     long_answer asked files asked.program (lex_line lex.TooLong) refusal with_line (long_file files asked (bytes_of files asked.program) refl (told.too_long refl))
 
--- the case of what is asked is that of the words that ask for it
-pub asked_case : (words : List (List ℕ)) (files : Files) (asked : Asked) (result : Result Batch Refusal) → commands.reading words ≡ Some asked
-    → AnswersCase (IsCaseOf commands asked (commands.files asked files)) result → AnswersCase (IsCase commands words files) result
-asked_case words files asked result some is = answers_map (IsCaseOf commands asked (commands.files asked files)) (IsCase commands words files) (λ case known. asks some known) result is
-
--- the same where the files are told
-pub asked_told : (words : List (List ℕ)) (told : Option Files) (asked : Asked) (result : Result Batch Refusal) → commands.reading words ≡ Some asked
-    → IfSome told (λ files. AnswersCase (IsCaseOf commands asked (commands.files asked files)) result) → IfSome told (λ files. AnswersCase (IsCase commands words files) result)
-asked_told words None asked result some is = tt
-asked_told words (Some files) asked result some is = asked_case words files asked result some is
-
--- the files of a batch that is made, and those of the others
-pub made_case : (told : Option Files) (asked : Asked) (batch : Soak) (result : Result Batch Refusal) → asked.command ≡ command.Soak batch
-    → AnswersCase (IsCaseOf commands asked (soak_files batch.moves batch.start)) result → IfSome told (λ files. AnswersCase (IsCaseOf commands asked (commands.files asked files)) result)
+-- the files of a batch that the program makes, and those of the others
+pub made_case : (told : Option Files) (asked : Asked) (batch : Soak) (result : Result Request Refusal) → asked.command ≡ command.Soak batch
+    → AnswersCase case_of (IsCaseOf asking asked (soak_files batch.moves batch.start)) result → IfSome told (λ files. AnswersCase case_of (IsCaseOf asking asked (asking.files asked files)) result)
 made_case None asked batch result is known = tt
-made_case (Some files) asked batch result is known = subst (λ c. AnswersCase (IsCaseOf commands asked (files_of c files)) result) (sym is) known
+made_case (Some files) asked batch result is known = subst (λ c. AnswersCase case_of (IsCaseOf asking asked (files_of c files)) result) (sym is) known
 
 shelf_files : (c : Command) (files : Files) → ((batch : Soak) → c ≡ command.Soak batch → ⊥) → files ≡ files_of c files
 shelf_files command.Run files other = refl
@@ -260,7 +237,7 @@ shelf_files command.One files other = refl
 shelf_files command.Check files other = refl
 shelf_files (command.Soak batch) files other = absurd (other batch refl)
 
-pub shelf_case : (told : Option Files) (asked : Asked) (result : Result Batch Refusal) → ((batch : Soak) → asked.command ≡ command.Soak batch → ⊥)
-    → IfSome told (λ files. AnswersCase (IsCaseOf commands asked files) result) → IfSome told (λ files. AnswersCase (IsCaseOf commands asked (commands.files asked files)) result)
+pub shelf_case : (told : Option Files) (asked : Asked) (result : Result Request Refusal) → ((batch : Soak) → asked.command ≡ command.Soak batch → ⊥)
+    → IfSome told (λ files. AnswersCase case_of (IsCaseOf asking asked files) result) → IfSome told (λ files. AnswersCase case_of (IsCaseOf asking asked (asking.files asked files)) result)
 shelf_case None asked result other known = tt
-shelf_case (Some files) asked result other known = subst (λ l. AnswersCase (IsCaseOf commands asked l) result) (shelf_files asked.command files other) known
+shelf_case (Some files) asked result other known = subst (λ l. AnswersCase case_of (IsCaseOf asking asked l) result) (shelf_files asked.command files other) known

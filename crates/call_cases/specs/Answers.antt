@@ -1,7 +1,11 @@
 -- How the answer of a call, and what it wrote, stand to its case.
-use Rattle.std.specs.Prelude.{◌≡◌, ◌⊎◌, ◌++◌, ℕ, ◌<◌, List, Option, length, take}
+use Rattle.std.specs.Prelude.{◌≡◌, ◌⊎◌, ◌++◌, ℕ, ◌<◌, List, [], Option, Result, OnOk, OnErr, IfOk, IfErr, length, take}
 use Rattle.std.specs.Io.KnownBytes.{Appends, Keeps}
 use Rattle.gp_base.specs.Sinks.{Rose, AppendsPrefix}
+use Rattle.gp_base.specs.declared.sink.SinkFault.{SinkFault}
+use Rattle.gp_base.specs.declared.sink.SinkFault.TheVariants.{Failed}
+use Rattle.gp_base.specs.declared.sink.SinkFault.TheVariants as sink
+use Rattle.gp_base.specs.declared.journal.Journal.{Journal}
 use Rattle.call_cases.specs.Lines.{out_of_memory_line, write_fault_line}
 
 -- what a call did to a sink: its bytes where it tells them, and its count of faults
@@ -13,6 +17,10 @@ pub record Change : Type 0 where
 
 abbrev pub change_of : {S : Type 0} → (S → Option (List ℕ)) → (S → ℕ) → S → S → Change
 change_of written faults before after = record { written = written before; written' = written after; faults = faults before; faults' = faults after }
+
+-- nothing was done to a sink with these bytes and this count
+abbrev pub unwritten : Option (List ℕ) → ℕ → Change
+unwritten written faults = record { written = written; written' = written; faults = faults; faults' = faults }
 
 -- it took all these bytes, a prefix of them, or none
 abbrev pub TakesAll : Change → List ℕ → Type 0
@@ -27,6 +35,10 @@ TakesNothing change = Keeps change.written change.written'
 -- its count rose
 abbrev pub Fails : Change → Type 0
 Fails change = Rose change.faults change.faults'
+
+-- a journal of no event
+abbrev pub IsEmpty : Journal → Type 0
+IsEmpty journal = (journal.events ≡ []) × (journal.restarts ≡ [])
 
 -- the list of failed names grew
 abbrev pub Grew : List (List ℕ) → List (List ℕ) → Type 0
@@ -64,3 +76,15 @@ pub data RunEnds (text trace : List ℕ) (due : ℕ) (out err : Change) : ℕ �
   run_no_memory : TakesPart out text → TakesStop trace err → RunEnds text trace due out err 1
   output_failed : TakesPart out text → Fails out → TakesAll err write_fault_line → RunEnds text trace due out err 8
   error_failed : TakesPart out text → Fails err → TakesStop trace err → RunEnds text trace due out err 8
+
+-- how a text was written that is all there is to write, and its status
+pub record PutFor (text : List ℕ) (due : ℕ) (out : Change) (result : Result ℕ SinkFault) : Type 0 where
+  pub status : IfOk result (λ status. status ≡ due)
+  pub all : OnOk result (TakesAll out text)
+  pub part : OnErr result (TakesPart out text)
+  pub cause : IfErr result (λ fault. fault ≡ Failed → Fails out)
+
+-- the line that tells why a write stopped was written, or it was not
+abbrev pub StopsBy : SinkFault → Change → ℕ → Type 0
+StopsBy Failed err status = LineEnds 8 write_fault_line err status
+StopsBy sink.OutOfMemory err status = LineEnds 1 out_of_memory_line err status

@@ -18,7 +18,7 @@ use Rattle.batch_files.specs.Feeds.{feed_by}
 use Rattle.batch_files.specs.Faults.{faults_by}
 use Rattle.command_line.specs.declared.asked.Asked.{Asked}
 use Rattle.command_line.specs.declared.asked.Command.{Command}
-use Rattle.call_cases.specs.Work.{Files, Supplied, Supplies, Lacks, Spoils, runs}
+use Rattle.call_cases.specs.Work.{Files, Supplied, Supplies, Lacks, Spoils, ToDo, work_for, runs}
 use Rattle.call_cases.specs.Lines.{input_line, kind_number}
 
 -- these are whole rows of at least one field, and few enough
@@ -57,12 +57,12 @@ abbrev pub room_after : List Feed → ℕ
 room_after feeds = MOST_FEED_CELLS - sum_by (λ (feed : Feed). length feed.cells) feeds
 
 -- what comes of the rows of a file, after these files: the next of what they mean, or the line of the first that breaks a rule
-abbrev pub by_rows : {T : Type 0} → List Name → Name → Result T Broken → (List Name → T → Supplied) → Supplied
+abbrev pub by_rows : {S T : Type 0} → List Name → Name → Result S Broken → (List Name → S → Supplied T) → Supplied T
 by_rows names file (Ok value) next = next (names ++ file ∷ []) value
 by_rows names file (Err broken) next = Spoils (names ++ file ∷ []) (input_line file (kind_number broken.0) broken.1)
 
 -- what comes of a file with these bytes, or of none, after these files
-abbrev pub by_file : {T : Type 0} → List Name → Name → Option (List ℕ) → (List ℕ → Result T Broken) → (List Name → T → Supplied) → Supplied
+abbrev pub by_file : {S T : Type 0} → List Name → Name → Option (List ℕ) → (List ℕ → Result S Broken) → (List Name → S → Supplied T) → Supplied T
 by_file names file None meant next = Lacks names file
 by_file names file (Some bytes) meant next = if nat_lt MOST_FILE_BYTES (length bytes) then Spoils (names ++ file ∷ []) (input_line file 6 0) else by_rows names file (meant bytes) next
 
@@ -70,44 +70,41 @@ by_file names file (Some bytes) meant next = if nat_lt MOST_FILE_BYTES (length b
 abbrev pub record_rows : (size : ℕ) → List ℕ → Result (List ℤ) Broken
 record_rows size bytes = records_by size (rows_of bytes)
 
-abbrev pub more_cells : Inputs → List Name → List ℤ → Supplied
-more_cells inputs names cells = Supplies names (with_cells inputs cells) []
+abbrev pub more_cells : Inputs → List Name → List ℤ → Supplied Inputs
+more_cells inputs names cells = Supplies names (with_cells inputs cells)
 
 -- the cells of a feed of so many fields, for which there is so much room, by the bytes of its file, and the inputs with it
 abbrev pub feed_rows : (fields room : ℕ) → List ℕ → Result (List ℤ) Broken
 feed_rows fields room bytes = feed_by fields room (rows_of bytes)
 
-abbrev pub more_feed : Inputs → (fields : ℕ) → List Name → List ℤ → Supplied
-more_feed inputs fields names cells = Supplies names (with_feed inputs (feed_with fields cells)) []
+abbrev pub more_feed : Inputs → (fields : ℕ) → List Name → List ℤ → Supplied Inputs
+more_feed inputs fields names cells = Supplies names (with_feed inputs (feed_with fields cells))
 
--- the faults of a file, by its bytes, and the inputs with them
+-- the faults of a file, by its bytes
 abbrev pub fault_rows : List ℕ → Result (List Fault) Broken
 fault_rows bytes = faults_by (rows_of bytes)
 
-abbrev pub more_faults : Inputs → List Name → List Fault → Supplied
-more_faults inputs names faults = Supplies names inputs faults
-
 -- what comes of a record of this size, which has cells of 0 where it names no file
-abbrev pub by_record : Files → List Name → Inputs → (size : ℕ) → Option Name → Supplied
-by_record files names inputs size None = Supplies names (with_cells inputs (replicate size (pos 0))) []
+abbrev pub by_record : Files → List Name → Inputs → (size : ℕ) → Option Name → Supplied Inputs
+by_record files names inputs size None = Supplies names (with_cells inputs (replicate size (pos 0)))
 by_record files names inputs size (Some file) = by_file names file (bytes_of files file) (record_rows size) (more_cells inputs)
 
 -- what comes of a head, after these files and inputs
-abbrev pub load_head : Files → List Name → Inputs → Head → Supplied
+abbrev pub load_head : Files → List Name → Inputs → Head → Supplied Inputs
 load_head files names inputs (RecHead name size by from line) = by_record files names inputs (natural size) from
 load_head files names inputs (FeedHead name fields file line) =
     by_file names file (bytes_of files file) (feed_rows (natural fields) (room_after inputs.feeds)) (more_feed inputs (natural fields))
-load_head files names inputs head = Supplies names inputs []
+load_head files names inputs head = Supplies names inputs
 
 -- what comes after it, where nothing is wrong
-abbrev pub then_load : Supplied → (List Name → Inputs → Supplied) → Supplied
-then_load (Supplies names inputs faults) next = next names inputs
+abbrev pub then_load : {S T : Type 0} → Supplied S → (List Name → S → Supplied T) → Supplied T
+then_load (Supplies names value) next = next names value
 then_load (Lacks names name) next = Lacks names name
 then_load (Spoils names line) next = Spoils names line
 
 -- what comes of heads, one after another
-abbrev pub load : Files → List Name → Inputs → List Head → Supplied
-load files names inputs [] = Supplies names inputs []
+abbrev pub load : Files → List Name → Inputs → List Head → Supplied Inputs
+load files names inputs [] = Supplies names inputs
 load files names inputs (head ∷ heads) = then_load (load_head files names inputs head) (λ names inputs. load files names inputs heads)
 
 -- the file that is named, if one is
@@ -125,19 +122,23 @@ names_in head = []
 abbrev pub file_names : List Head → List Name
 file_names heads = flat_map names_in heads
 
--- what comes of the file of faults, after these files and inputs, where one is named
-abbrev pub load_faults : Files → List Name → Inputs → Option Name → Supplied
-load_faults files names inputs None = Supplies names inputs []
-load_faults files names inputs (Some file) = by_file names file (bytes_of files file) fault_rows (more_faults inputs)
+-- what comes of the file of faults, after these files, where one is named
+abbrev pub load_faults : Files → List Name → Option Name → Supplied (List Fault)
+load_faults files names None = Supplies names []
+load_faults files names (Some file) = by_file names file (bytes_of files file) fault_rows Supplies
 
 -- the files that are read for a command beside that of its faults; one that does not run its program reads none
 abbrev pub names_for : Command → List Head → List Name
 names_for command heads = if runs command then file_names heads else []
 
 -- what they give
-abbrev pub supplied_for : Command → List Head → Files → Supplied
-supplied_for command heads files = if runs command then load files [] nothing heads else Supplies [] nothing []
+abbrev pub supplied_for : Command → List Head → Files → Supplied Inputs
+supplied_for command heads files = if runs command then load files [] nothing heads else Supplies [] nothing
 
--- what the files beside a program give for what is asked: those that it names, and then that of the faults
-abbrev pub supplied_by : Asked → Program → Files → Supplied
-supplied_by asked program files = then_load (supplied_for asked.command program.heads files) (λ names inputs. load_faults files names inputs asked.faults)
+-- what is to be done for what is asked on a program, after these files, from these inputs
+abbrev pub with_faults : Files → Asked → Program → List Name → Inputs → Supplied ToDo
+with_faults files asked program names inputs = then_load (load_faults files names asked.faults) (λ names faults. Supplies names (work_for asked program inputs faults))
+
+-- what is to be done for what is asked on a program, by the files beside it: those that it names, and then that of the faults
+abbrev pub supplied_by : Asked → Program → Files → Supplied ToDo
+supplied_by asked program files = then_load (supplied_for asked.command program.heads files) (with_faults files asked program)

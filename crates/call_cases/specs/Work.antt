@@ -1,5 +1,5 @@
--- What a call asks for by its words, and what is to be done where it can be.
-use Rattle.std.specs.Prelude.{ℕ, Bool, true, false, List, Option}
+-- What there is to be done for a call of the program, and what the files beside its program give.
+use Rattle.std.specs.Prelude.{ℕ, Bool, true, false, List}
 use Rattle.gp_base.specs.declared.fault.Fault.{Fault}
 use Rattle.gp_base.specs.declared.feed.Inputs.{Inputs}
 use Rattle.gp_base.specs.declared.limits.Limits.{Limits}
@@ -12,32 +12,23 @@ use Rattle.command_line.specs.declared.asked.Asked.{Asked}
 abbrev pub Files : Type 0
 Files = List (Name × List ℕ)
 
--- What is to be done: a command on an accepted program, from these inputs, with these faults, under these limits. The files are those that were
--- read for it, in the order of reading.
-pub record Work : Type 0 where
+-- what the files beside a program give, as a value of T
+pub data Supplied (T : Type 0) : Type 0 where
+  -- this, from the files of these names, in the order of reading
+  Supplies : List Name → T → Supplied T
+  -- after these files there is none of the next name
+  Lacks : List Name → Name → Supplied T
+  -- the last of these files is refused with this line
+  Spoils : List Name → List ℕ → Supplied T
+
+-- What is to be done: a command on an accepted program, from these inputs, with these faults, under these limits, and whether the run is traced.
+pub record ToDo : Type 0 where
   pub command : Command
   pub program : Program
   pub inputs : Inputs
   pub faults : List Fault
   pub limits : Limits
   pub trace : Bool
-  pub files : List Name
-
--- what the files beside the program give
-pub data Supplied : Type 0 where
-  -- these inputs and faults, from the files of these names
-  Supplies : List Name → Inputs → List Fault → Supplied
-  -- after these files there is none of the next name
-  Lacks : List Name → Name → Supplied
-  -- the last of these files is refused with this line
-  Spoils : List Name → List ℕ → Supplied
-
--- the commands of a top call: what words ask for, where they are those of a command; which files that is done over, where the shelf has these; and
--- what the files beside the program give
-pub record Commands : Type 0 where
-  pub reading : List (List ℕ) → Option Asked
-  pub files : Asked → Files → Files
-  pub supplied : Asked → Program → Files → Supplied
 
 -- the command runs its program, and does not only check it
 abbrev pub runs : Command → Bool
@@ -47,6 +38,17 @@ runs command = true
 -- the words ask for a trace
 abbrev pub is_traced : Asked → Bool
 is_traced asked = asked.trace
+
+-- what is to be done for what is asked, on this program, from these inputs and with these faults
+abbrev pub work_for : Asked → Program → Inputs → List Fault → ToDo
+work_for asked program inputs faults = record {
+  command = asked.command;
+  program = program;
+  inputs = inputs;
+  faults = faults;
+  limits = asked.limits;
+  trace = is_traced asked;
+}
 
 -- the command makes its files itself
 abbrev pub makes_files : Command → Bool

@@ -1,11 +1,11 @@
 // How a call ends: its answer, and the line that tells why there is nothing to do.
-ghost use Rattle.call_cases.specs.Answers.{change_of};
-ghost use Rattle.call_cases.specs.Decided.{RefusalEnds};
-ghost use Rattle.call_cases.specs.Headline.{IsEmpty};
+ghost use Rattle.std.specs.Prelude.{ℕ, List, []};
+ghost use Rattle.call_cases.specs.Answers.{Change, IsEmpty, PutFor, RunEnds, StopsBy, change_of};
+ghost use Rattle.call_cases.specs.Refusals.{RefusalEnds};
 
-use crate::lines::{OUT_OF_MEMORY, USAGE, end_with, read_fault_line};
+use crate::lines::{OUT_OF_MEMORY, USAGE, WRITE_FAULT, end_with, read_fault_line};
 use crate::reading::Refusal;
-use gp_base::{Journal, Seq, Sink};
+use gp_base::{Journal, Seq, Sink, SinkFault};
 use std::alloc::Global;
 
 /// The answer of a call: its status, and the journal of the run.
@@ -39,5 +39,36 @@ pub fn refuse<E: Sink>(alloc: Global, refusal: Refusal, err: &mut E) -> u8
             Err(_) => end_with(err, OUT_OF_MEMORY, 1),
         },
         Refusal::OutOfMemory => end_with(err, OUT_OF_MEMORY, 1),
+    }
+}
+
+// Tells why a write stopped, and answers the status of that.
+fn stop_by<E: Sink>(err: &mut E, fault: SinkFault) -> u8
+    ensures { StopsBy fault (change_of E.written E.faults err.old err.new) result }
+{
+    match fault {
+        SinkFault::Failed => end_with(err, WRITE_FAULT, 8),
+        SinkFault::OutOfMemory => end_with(err, OUT_OF_MEMORY, 1),
+    }
+}
+
+/// How a call ended that runs over no journal, by the answer to the write of its text: the status, or why the write
+/// stopped. Then `err` took the line that tells it.
+pub fn plain_outcome<E: Sink>(alloc: Global, put: Result<u8, SinkFault>, err: &mut E) -> Outcome
+    ensures ends { (text : List ℕ) (due : ℕ) (out : Change) → PutFor text due out put → RunEnds text [] due out (change_of E.written E.faults err.old err.new) result.status }
+    ensures empty { IsEmpty result.journal }
+{
+    match put {
+        Ok(status) => Outcome {
+            status,
+            journal: empty_journal(alloc),
+        },
+        Err(fault) => {
+            let status = stop_by(err, fault);
+            Outcome {
+                status,
+                journal: empty_journal(alloc),
+            }
+        }
     }
 }

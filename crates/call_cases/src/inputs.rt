@@ -2,13 +2,13 @@
 ghost use Rattle.std.specs.Prelude.{◌≡◌, ◌<◌, ◌≤◌, ◌+◌, ◌-◌, ◌^◌, [], ◌∷◌, ◌++◌, length, map, List, replicate, pos, IfOk, IfSome, OnOk};
 ghost use Rattle.gp_base.specs.declared.limits.TheConstants.{MOST_FEED_CELLS};
 ghost use Rattle.gp_base.specs.Files.{bytes_of};
-ghost use Rattle.gp_base.specs.declared.feed.Inputs.{Inputs};
 ghost use Rattle.task_ast.specs.Tree.{Name};
 ghost use Rattle.task_ast.specs.Names.{natural};
 ghost use Rattle.task_ast.specs.Inputs.{fields_in};
 ghost use Rattle.call_cases.specs.Lines.{input_line, kind_number};
 ghost use Rattle.call_cases.specs.InputFiles.{nothing, room_after, named, by_file, by_record, record_rows, feed_rows, fault_rows, more_cells, more_feed, load_head, load_faults, load, names_in, file_names};
-ghost use Rattle.call_cases.specs.inner.Loading.{IsInputRefused, IsUnread, RefusesFile, ReadsAmong, AnswersFile, AnswersRows, IsReadable, AreReadable, seen, StepsTo, AnswersLoad, AnswersFaults, Grows, Counts};
+ghost use Rattle.call_cases.specs.Refusals.{IsInputRefused, IsUnread, ReadsAmong, AnswersFile};
+ghost use Rattle.call_cases.specs.inner.Loading.{RefusesFile, AnswersRows, IsReadable, AreReadable, seen, StepsTo, AnswersLoad, AnswersFaults, Grows, Counts};
 
 use crate::lines::input_line;
 use crate::reading::Refusal;
@@ -31,8 +31,8 @@ fn kind_number(kind: FileKind) -> u8
     }
 }
 
-// The refusal of a file by a rule at a row.
-fn refused_input(alloc: Global, name: &Name, kind: u8, row: u32) -> Refusal
+/// The refusal of a file by a rule at a row.
+pub fn refused_input(alloc: Global, name: &Name, kind: u8, row: u32) -> Refusal
     ensures { IsInputRefused (input_line name.now kind row) result }
 {
     match input_line(alloc, name, kind, row) {
@@ -61,8 +61,9 @@ fn unread(alloc: Global, name: &Name) -> Refusal
     }
 }
 
-// The bytes of a file.
-fn read_file<H: Shelf>(alloc: Global, shelf: &mut H, name: &Name) -> Result<Text, Refusal>
+/// The bytes of a file. The error is that it can't be read, that it is longer than a file may be (kind 6, row 0), or that
+/// memory is out.
+pub fn read_file<H: Shelf>(alloc: Global, shelf: &mut H, name: &Name) -> Result<Text, Refusal>
     ensures kept { H.files shelf.new ≡ H.files shelf.old }
     ensures failed { ReadsAmong (name.now ∷ []) (H.failed shelf.old) (H.failed shelf.new) result }
     ensures told { IfSome (H.files shelf.old) (λ files. AnswersFile name.now (bytes_of files name.now) result) }
@@ -301,6 +302,7 @@ pub fn read_inputs<H: Shelf>(
 
 // The faults of a file.
 fn faults_of<H: Shelf>(alloc: Global, shelf: &mut H, name: &Name) -> Result<Faults, Refusal>
+    ensures kept { H.files shelf.new ≡ H.files shelf.old }
     ensures failed { ReadsAmong (name.now ∷ []) (H.failed shelf.old) (H.failed shelf.new) result }
     ensures told { IfSome (H.files shelf.old) (λ files.
         AnswersRows (λ faults. faults.list) name.now fault_rows (bytes_of files name.now) result) }
@@ -318,9 +320,10 @@ pub fn read_struck<H: Shelf>(
     shelf: &mut H,
     name: &Option<Name>,
 ) -> Result<Faults, Refusal>
+    ensures kept { H.files shelf.new ≡ H.files shelf.old }
     ensures failed { ReadsAmong (named name.now) (H.failed shelf.old) (H.failed shelf.new) result }
-    ensures told { IfSome (H.files shelf.old) (λ files. (names : List Name) (inputs : Inputs) →
-        AnswersFaults names inputs (named name.now) (load_faults files names inputs name.now) result) }
+    ensures told { IfSome (H.files shelf.old) (λ files. (names : List Name) →
+        AnswersFaults names (named name.now) (load_faults files names name.now) result) }
 {
     match name {
         Some(file) => faults_of(alloc, shelf, file),

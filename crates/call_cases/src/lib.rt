@@ -10,7 +10,8 @@ mod reading;
 mod work;
 
 pub use cases::{one_case, some_case};
-pub use endings::{Outcome, empty_journal, refuse};
+pub use endings::{Outcome, empty_journal, plain_outcome, refuse};
+pub use inputs::{read_file, refused_input};
 pub use lines::{OUT_OF_MEMORY, WRITE_FAULT, end_with};
-pub use reading::{Refusal, read_batch};
-pub use work::{Batch, runs};
+pub use reading::{Refusal, read_asked, read_request};
+pub use work::{Request, runs};

@@ -9,18 +9,19 @@ ghost use Rattle.command_line.specs.Words.{texts, asked_by, IsWithinLimits};
 ghost use Rattle.command_line.specs.declared.asked.Command.TheVariants as command;
 ghost use Rattle.call_cases.specs.Work.{runs, makes_files};
 ghost use Rattle.call_cases.specs.Headline.{ReadsNothing};
-ghost use Rattle.call_cases.specs.PlainText.{commands};
+ghost use Rattle.call_cases.specs.RunCommands.{MayRead, asking, commands};
 ghost use Rattle.call_cases.specs.Lines.{fault_line, number_of};
 ghost use Rattle.call_cases.specs.Case.{IsCaseOf, IsCase};
 ghost use Rattle.lock_checker.specs.Accepted.{program_of};
-ghost use Rattle.call_cases.specs.inner.Loading.{ReadsAmong, AnswersLoad};
+ghost use Rattle.call_cases.specs.inner.Loading.{AnswersLoad};
 ghost use Rattle.call_cases.specs.InputFiles.{names_for, supplied_for};
 ghost use Rattle.call_cases.specs.declared.reading.Refusal.TheVariants.{OutOfMemory};
-ghost use Rattle.call_cases.specs.Decided.{AnswersCase, AnswersNoCommand, IsAcceptedIn, accepted_case, IsRefusedWith, RefusesLexing, RefusesParsing, RefusesChecking, TouchesShelf, MayRun};
+ghost use Rattle.call_cases.specs.Decided.{IsAcceptedIn, accepted_case, case_of, IsRefusedWith, RefusesLexing, RefusesParsing, RefusesChecking, MayRun};
+ghost use Rattle.call_cases.specs.Refusals.{AnswersCase, AnswersNoCommand, ReadsAmong, TouchesShelf};
 
 use crate::inputs::{read_inputs, read_struck};
 use crate::lines::{TOO_LONG, fault_line};
-use crate::work::{Batch, runs};
+use crate::work::{Request, runs};
 use command_line::{Asked, Command, Soak, read_words};
 use gp_base::limits::MOST_PROGRAM_BYTES;
 use gp_base::{Inputs, Name, NeverShelf, Seq, Shelf, ShelfFault, Text};
@@ -160,18 +161,19 @@ fn inputs_for<H: Shelf>(
 }
 
 // What is asked, on an accepted program.
-fn batch_of<H: Shelf>(
+fn request_of<H: Shelf>(
     alloc: Global,
     asked: Asked,
     checked: Checked,
     shelf: &mut H,
-) -> Result<Batch, Refusal>
+) -> Result<Request, Refusal>
     requires { IsWithinLimits asked }
-    ensures shelf { TouchesShelf (Some asked) (H.failed shelf.old) (H.failed shelf.new) result }
+    ensures kept { H.files shelf.new ≡ H.files shelf.old }
+    ensures shelf { TouchesShelf MayRead (Some asked) (H.failed shelf.old) (H.failed shelf.new) result }
     ensures case { IfSome (H.files shelf.old) (λ files.
-        AnswersCase (λ case. accepted_case asked (plain_program (program_of checked)) files ≡ case) result) }
+        AnswersCase case_of (λ case. accepted_case asked (plain_program (program_of checked)) files ≡ case) result) }
     ensures sound { IfOk result MayRun }
-    ensures asked { IfOk result (λ batch. batch.asked ≡ asked) }
+    ensures asked { IfOk result (λ request. request.asked ≡ asked) }
 {
     let inputs = match inputs_for(alloc, asked.command, &checked, shelf) {
         Ok(inputs) => inputs,
@@ -181,7 +183,7 @@ fn batch_of<H: Shelf>(
         Ok(faults) => faults,
         Err(refusal) => return Err(refusal),
     };
-    Ok(Batch {
+    Ok(Request {
         asked,
         checked,
         inputs,
@@ -189,14 +191,15 @@ fn batch_of<H: Shelf>(
     })
 }
 
-// What is asked, on the program that its file has, with the files that the program names, and that of the faults. The first
-// refusal met is the answer.
-fn read_asked<H: Shelf>(alloc: Global, asked: Asked, shelf: &mut H) -> Result<Batch, Refusal>
+/// What is asked, on the program that its file has, with the files that the program names, and that of the faults. The first
+/// refusal met is the answer.
+pub fn read_asked<H: Shelf>(alloc: Global, asked: Asked, shelf: &mut H) -> Result<Request, Refusal>
     requires { IsWithinLimits asked }
-    ensures shelf { TouchesShelf (Some asked) (H.failed shelf.old) (H.failed shelf.new) result }
-    ensures case { IfSome (H.files shelf.old) (λ files. AnswersCase (IsCaseOf commands asked files) result) }
+    ensures kept { H.files shelf.new ≡ H.files shelf.old }
+    ensures shelf { TouchesShelf MayRead (Some asked) (H.failed shelf.old) (H.failed shelf.new) result }
+    ensures case { IfSome (H.files shelf.old) (λ files. AnswersCase case_of (IsCaseOf asking asked files) result) }
     ensures sound { IfOk result MayRun }
-    ensures asked { IfOk result (λ batch. batch.asked ≡ asked) }
+    ensures asked { IfOk result (λ request. request.asked ≡ asked) }
 {
     let text = match shelf.read(&asked.program, MOST_PROGRAM_BYTES) {
         Ok(text) => text,
@@ -205,19 +208,19 @@ fn read_asked<H: Shelf>(alloc: Global, asked: Asked, shelf: &mut H) -> Result<Ba
         Err(ShelfFault::OutOfMemory) => return Err(Refusal::OutOfMemory),
     };
     match program_in(alloc, &asked, text.as_slice()) {
-        Ok(checked) => batch_of(alloc, asked, checked, shelf),
+        Ok(checked) => request_of(alloc, asked, checked, shelf),
         Err(refusal) => Err(refusal),
     }
 }
 
-// The batch that the program makes itself. All files of it are there, so none of them can fail to be read.
-fn read_made(alloc: Global, asked: Asked, soak: Soak) -> Result<Batch, Refusal>
+// What is asked, over the files that the program makes itself. All files of it are there, so none of them can fail to be read.
+fn read_made(alloc: Global, asked: Asked, soak: Soak) -> Result<Request, Refusal>
     requires within { IsWithinLimits asked }
     requires made { asked.command ≡ command.Soak soak }
-    ensures shelf { (failed : List Name) → TouchesShelf (Some asked) failed failed result }
-    ensures case { AnswersCase (IsCaseOf commands asked (soak_files soak.moves soak.start)) result }
+    ensures shelf { (failed : List Name) → TouchesShelf MayRead (Some asked) failed failed result }
+    ensures case { AnswersCase case_of (IsCaseOf asking asked (soak_files soak.moves soak.start)) result }
     ensures sound { IfOk result MayRun }
-    ensures asked { IfOk result (λ batch. batch.asked ≡ asked) }
+    ensures asked { IfOk result (λ request. request.asked ≡ asked) }
 {
     let files = soak_files(alloc, soak.moves, soak.start)?;
     let mut shelf = NeverShelf::new(alloc, files);
@@ -228,13 +231,13 @@ fn read_made(alloc: Global, asked: Asked, soak: Soak) -> Result<Batch, Refusal>
 }
 
 // What is asked, over the files of the shelf, or over those that the program makes itself.
-fn read_for<H: Shelf>(alloc: Global, asked: Asked, shelf: &mut H) -> Result<Batch, Refusal>
+fn read_for<H: Shelf>(alloc: Global, asked: Asked, shelf: &mut H) -> Result<Request, Refusal>
     requires { IsWithinLimits asked }
     ensures unread { makes_files asked.command ≡ true → shelf.new ≡ shelf.old }
-    ensures shelf { TouchesShelf (Some asked) (H.failed shelf.old) (H.failed shelf.new) result }
-    ensures case { IfSome (H.files shelf.old) (λ files. AnswersCase (IsCaseOf commands asked (commands.files asked files)) result) }
+    ensures shelf { TouchesShelf MayRead (Some asked) (H.failed shelf.old) (H.failed shelf.new) result }
+    ensures case { IfSome (H.files shelf.old) (λ files. AnswersCase case_of (IsCaseOf asking asked (asking.files asked files)) result) }
     ensures sound { IfOk result MayRun }
-    ensures asked { IfOk result (λ batch. batch.asked ≡ asked) }
+    ensures asked { IfOk result (λ request. request.asked ≡ asked) }
 {
     if let Command::Soak(soak) = asked.command {
         return read_made(alloc, asked, soak);
@@ -244,17 +247,17 @@ fn read_for<H: Shelf>(alloc: Global, asked: Asked, shelf: &mut H) -> Result<Batc
 
 /// What the words ask for, with the program that they name and the files that the program names, or with the files that the
 /// program makes itself. The first refusal met is the answer.
-pub fn read_batch<H: Shelf>(
+pub fn read_request<H: Shelf>(
     alloc: Global,
     words: &[String],
     shelf: &mut H,
-) -> Result<Batch, Refusal>
+) -> Result<Request, Refusal>
     ensures no_command { asked_by (texts words.now) ≡ None → AnswersNoCommand result }
-    ensures unread { ReadsNothing (asked_by (texts words.now)) → shelf.new ≡ shelf.old }
-    ensures shelf { TouchesShelf (asked_by (texts words.now)) (H.failed shelf.old) (H.failed shelf.new) result }
-    ensures case { IfSome (H.files shelf.old) (λ files. AnswersCase (IsCase commands (texts words.now) files) result) }
+    ensures unread { ReadsNothing commands (asked_by (texts words.now)) → shelf.new ≡ shelf.old }
+    ensures shelf { TouchesShelf MayRead (asked_by (texts words.now)) (H.failed shelf.old) (H.failed shelf.new) result }
+    ensures case { IfSome (H.files shelf.old) (λ files. AnswersCase case_of (IsCase asking (texts words.now) files) result) }
     ensures sound { IfOk result MayRun }
-    ensures asked { IfOk result (λ batch. asked_by (texts words.now) ≡ Some batch.asked) }
+    ensures asked { IfOk result (λ request. asked_by (texts words.now) ≡ Some request.asked) }
 {
     let asked = match read_words(alloc, words) {
         Ok(Some(asked)) => asked,

@@ -8,7 +8,7 @@ use lock_checker::Checked;
 
 /// What a call is to do: what its words ask for, on an accepted program, from these inputs, with these faults.
 #[derive(Drop)]
-pub struct Batch {
+pub struct Request {
     pub asked: Asked,
     pub checked: Checked,
     pub inputs: Inputs,

@@ -4,7 +4,7 @@ ghost use Rattle.subthread.specs.Tasks.{Suits};
 
 use crate::calls::{ADD, alone, shelf_of, sink_of, words_of};
 use batch_calls::plan::{Begins, plan_of};
-use call_cases::{read_batch, runs};
+use call_cases::{read_request, runs};
 use crew::{Crew, ScriptCrew};
 use engine::drive;
 use gp_base::{Event, Pos, Seq};
@@ -58,11 +58,11 @@ fn plan_of_adders(alloc: Global) -> Result<(Work, Begins), Fail>
 {
     let words = words_of(alloc, "run p.gp")?;
     let mut shelf = shelf_of(alloc, alone(ADD), 0)?;
-    let batch = match read_batch(alloc, &words, &mut shelf) {
-        Ok(batch) if runs(batch.asked.command) => batch,
+    let request = match read_request(alloc, &words, &mut shelf) {
+        Ok(request) if runs(request.asked.command) => request,
         _ => return Err(Fail::from("the program was not read")),
     };
-    let (work, plan) = plan_of(alloc, batch)?;
+    let (work, plan) = plan_of(alloc, request)?;
     Ok((work, plan.begins))
 }
 

@@ -1,37 +1,35 @@
 -- Runs that may begin, and what comes of them.
-use Rattle.std.specs.Prelude.{◌≡◌, ℕ, true, false, Some}
+use Rattle.std.specs.Prelude.{◌≡◌, ℕ, true, false}
 use Rattle.gp_base.specs.declared.journal.Journal.{Journal}
 use Rattle.task_ast.specs.Tree.{Program}
 use Rattle.task_ast.specs.View.{plain_program}
 use Rattle.lock_checker.specs.Accepted.{program_of}
-use Rattle.subthread.specs.declared.task.Work.{Work as Code}
+use Rattle.subthread.specs.declared.task.Work.{Work}
 use Rattle.subthread.specs.Tasks.{Suits, program_in}
 use Rattle.command_line.specs.declared.asked.Asked.{Asked}
-use Rattle.call_cases.specs.Work.{Work, is_journalled}
-use Rattle.call_cases.specs.Case.{Go, status_of, text_of}
-use Rattle.call_cases.specs.Answers.{Change, RunEnds}
-use Rattle.call_cases.specs.Headline.{IsEmpty, trace_for}
-use Rattle.call_cases.specs.Decided.{work_for}
+use Rattle.call_cases.specs.Work.{ToDo, work_for, is_journalled}
+use Rattle.call_cases.specs.Answers.{Change, RunEnds, IsEmpty}
+use Rattle.call_cases.specs.RunCommands.{work_text, work_status, trace_for}
 use Rattle.batch_calls.specs.declared.plan.Begins.{Begins}
 use Rattle.batch_calls.specs.declared.plan.Plan.{Plan}
 use Rattle.batch_calls.specs.inner.Ran.{Journalled}
 
 -- the code is that of the program, and what the run begins with suits it and what is asked
-pub record IsPlanned (asked : Asked) (program : Program) (code : Code) (begins : Begins) : Type 0 where
+pub record IsPlanned (asked : Asked) (program : Program) (code : Work) (begins : Begins) : Type 0 where
   pub suits : Suits code begins.layout begins.inputs begins.limits
   pub program_is : program_in code ≡ program
   pub limits_are : begins.limits ≡ asked.limits
 
 -- the plan is one of a run of this code
-abbrev pub IsPlanOf : Code → Plan → Type 0
+abbrev pub IsPlanOf : Work → Plan → Type 0
 IsPlanOf code plan = IsPlanned plan.asked (plain_program (program_of plan.checked)) code plan.begins
 
 -- what is to be done
-abbrev pub work_planned : Plan → Work
+abbrev pub work_planned : Plan → ToDo
 work_planned plan = work_for plan.asked (plain_program (program_of plan.checked)) plan.begins.inputs plan.begins.faults.list
 
 -- what is asked was done, or stopped
-pub record Carries (asked : Asked) (work : Work) (out err : Change) (status : ℕ) (journal : Journal) : Type 0 where
-  pub ends : RunEnds (text_of (Go work)) (trace_for (Some asked) journal) (status_of (Go work)) out err status
+pub record Carries (asked : Asked) (work : ToDo) (out err : Change) (status : ℕ) (journal : Journal) : Type 0 where
+  pub ends : RunEnds (work_text work.command work) (trace_for asked journal) (work_status work.command work) out err status
   pub unjournalled : is_journalled asked.command ≡ false → IsEmpty journal
   pub run : is_journalled asked.command ≡ true → Journalled work status journal out

@@ -17,17 +17,16 @@ use Rattle.reorder_list.specs.declared.report.StopWhy.{StopWhy}
 use Rattle.reorder_list.specs.declared.report.StopWhy.TheVariants.{WriteFault}
 use Rattle.reorder_list.specs.declared.report.StopWhy.TheVariants as why
 use Rattle.restart_log.specs.Lines.{printed}
-use Rattle.subthread.specs.declared.task.Work.{Work as Code}
+use Rattle.subthread.specs.declared.task.Work.{Work}
 use Rattle.engine.specs.Drive.{journal_in, batch_of, JournalStands, ReportsRun, all_lines, WritesRetired, HasRunCause}
 use Rattle.engine.specs.View.{Batch, lines_of}
 use Rattle.batch_calls.specs.declared.plan.Begins.{Begins}
-use Rattle.call_cases.specs.Work.{Work}
+use Rattle.call_cases.specs.Work.{ToDo}
 use Rattle.call_cases.specs.PlainText.{plain_ran, restarts_in}
 use Rattle.call_cases.specs.Journals.{run_of, retired_in, IsJournalOf, IsCompleteOf, TakesRetired}
 use Rattle.call_cases.specs.Lines.{out_of_memory_line, write_fault_line}
 use Rattle.call_cases.specs.Answers.{Change, TakesAll, TakesPart, Fails, LineEnds, RunEnds}
-use Rattle.call_cases.specs.Case.{end_status}
-use Rattle.call_cases.specs.Headline.{IsWhole}
+use Rattle.call_cases.specs.RunCommands.{end_status, IsWhole}
 
 -- a run that stopped at a fault of its output, with this journal
 pub record Stops (fault : SinkFault) (journal : Journal) (stop : EngineStop) : Type 0 where
@@ -52,14 +51,14 @@ abbrev pub told_soak : Soak → Report → List ℕ
 told_soak batch report = soak.soak_text batch.moves batch.start report.end report.records report.subthreads report.journal.restarts report.unused
 
 -- the bytes of the lines before a position, and of those at it
-abbrev pub bytes_below : Work → ℕ → List ℕ
+abbrev pub bytes_below : ToDo → ℕ → List ℕ
 bytes_below work p = printed (flat_map (λ (s : Subthread). s.lines) (take p (run_of work)))
 
-abbrev pub bytes_at : Work → ℕ → List ℕ
+abbrev pub bytes_at : ToDo → ℕ → List ℕ
 bytes_at work p = printed (lines_of (slice_get (run_of work) p))
 
 -- the report of the whole run
-pub record IsReportOf (work : Work) (report : Report) : Type 0 where
+pub record IsReportOf (work : ToDo) (report : Report) : Type 0 where
   pub complete : IsCompleteOf work report.journal
   pub restarts : report.journal.restarts ≡ restarts_in work
   pub end : report.end ≡ (plain_ran work).end
@@ -68,7 +67,7 @@ pub record IsReportOf (work : Work) (report : Report) : Type 0 where
   pub unused : report.unused ≡ length work.faults - length (restarts_in work)
 
 -- the batch that the engine runs, from its code and from what it begins with
-abbrev pub batch_from : Code → Begins → Batch
+abbrev pub batch_from : Work → Begins → Batch
 batch_from code begins = batch_of code begins.inputs begins.limits begins.faults
 
 -- what the engine promises of a batch that it ran
@@ -80,7 +79,7 @@ pub record RunsBatch (batch : Batch) (out : Change) (result : Result Report Engi
   pub cause : HasRunCause out.faults out.faults' result
 
 -- The run went, and its lines were written: all of them at its end, and else those of the subthreads that have retired, and a part of those of the next.
-pub record RunsWork (work : Work) (out : Change) (result : Result Report EngineStop) : Type 0 where
+pub record RunsWork (work : ToDo) (out : Change) (result : Result Report EngineStop) : Type 0 where
   pub journal : IsJournalOf work (journal_in result)
   pub report : IfOk result (IsReportOf work)
   pub lines : OnOk result (TakesAll out (printed (plain_ran work).lines))
@@ -89,7 +88,7 @@ pub record RunsWork (work : Work) (out : Change) (result : Result Report EngineS
   pub cause : IfErr result (λ stop. stop.why ≡ WriteFault → Fails out)
 
 -- the run went and the text of the work was written, or a part of it
-pub record RanFor (work : Work) (text : List ℕ) (out : Change) (result : Result Report EngineStop) : Type 0 where
+pub record RanFor (work : ToDo) (text : List ℕ) (out : Change) (result : Result Report EngineStop) : Type 0 where
   pub journal : IsJournalOf work (journal_in result)
   pub report : IfOk result (IsReportOf work)
   pub all : OnOk result (TakesAll out text)
@@ -98,19 +97,12 @@ pub record RanFor (work : Work) (text : List ℕ) (out : Change) (result : Resul
   pub cause : IfErr result (λ stop. stop.why ≡ WriteFault → Fails out)
 
 -- what the journal of an answer says of the run, and of what was written
-pub record Journalled (work : Work) (status : ℕ) (journal : Journal) (out : Change) : Type 0 where
+pub record Journalled (work : ToDo) (status : ℕ) (journal : Journal) (out : Change) : Type 0 where
   pub lawful : IsJournalOf work journal
   pub complete : IsWhole status → IsCompleteOf work journal
   pub retired : TakesRetired work journal out
 
 -- how a run over a journal ends whose text is this: its answer, and what it writes
-pub record EndsFor (work : Work) (text trace : List ℕ) (out err : Change) (status : ℕ) (journal : Journal) : Type 0 where
+pub record EndsFor (work : ToDo) (text trace : List ℕ) (out err : Change) (status : ℕ) (journal : Journal) : Type 0 where
   pub ends : RunEnds text trace (end_status (plain_ran work).end) out err status
   pub journalled : Journalled work status journal out
-
--- how the text of a work that runs over no journal was written, and its status
-pub record PutFor (text : List ℕ) (due : ℕ) (out : Change) (result : Result ℕ SinkFault) : Type 0 where
-  pub status : IfOk result (λ status. status ≡ due)
-  pub all : OnOk result (TakesAll out text)
-  pub part : OnErr result (TakesPart out text)
-  pub cause : IfErr result (λ fault. fault ≡ Failed → Fails out)

@@ -1,6 +1,6 @@
 -- How the reading of files stands to what the files give.
-use Rattle.std.specs.Prelude.{◌≡◌, ◌⊎◌, ◌<◌, ◌≤◌, ◌+◌, ℕ, map, List, [], ◌∷◌, ◌++◌, length, Contains, Option, Some, Result, Ok, Err, IsSomeAnd, ⊤}
-use Rattle.gp_base.specs.Files.{GrowsByOnly}
+use Rattle.std.specs.Prelude.{◌≡◌, ◌⊎◌, ◌<◌, ◌≤◌, ◌+◌, ℕ, map, List, [], ◌∷◌, ◌++◌, length, Contains, Option, Result, Ok, Err, IsSomeAnd, ⊤}
+use Rattle.gp_base.specs.declared.fault.Fault.{Fault}
 use Rattle.gp_base.specs.declared.fault.Faults.{Faults}
 use Rattle.gp_base.specs.declared.feed.Inputs.{Inputs}
 use Rattle.gp_base.specs.declared.limits.TheConstants.{MOST_CELLS, MOST_FIELDS, MOST_FILE_BYTES}
@@ -17,44 +17,16 @@ use Rattle.call_cases.specs.declared.reading.Refusal.TheVariants as refused
 use Rattle.call_cases.specs.declared.inputs.Loading.{Loading}
 use Rattle.call_cases.specs.Work.{Supplied, Supplies, Lacks, Spoils}
 use Rattle.call_cases.specs.Lines.{input_line, kind_number}
-use Rattle.call_cases.specs.Answers.{Grew}
+use Rattle.call_cases.specs.Refusals.{IsInputRefused}
 
 -- the inputs so far
 abbrev pub seen : Loading → Inputs
 seen loading = record { records = loading.records.items; feeds = loading.feeds.items }
 
--- a refusal of a file with this line, unless memory is short
-abbrev pub IsInputRefused : List ℕ → Refusal → Type 0
-IsInputRefused line (refused.BadInput told) = told ≡ line
-IsInputRefused line refused.OutOfMemory = ⊤
-IsInputRefused line refusal = ⊥
-
 -- the refusal of a file with this fault
 abbrev pub RefusesFile : Name → FileFault → Refusal → Type 0
 RefusesFile name (file.Bad kind row) refusal = IsInputRefused (input_line name (kind_number kind) row) refusal
 RefusesFile name file.OutOfMemory refusal = refusal ≡ refused.OutOfMemory
-
--- the refusal of a file whose read failed, unless memory is short
-abbrev pub IsUnread : Name → Refusal → Type 0
-IsUnread name (refused.ReadFault told) = told ≡ name
-IsUnread name refused.OutOfMemory = ⊤
-IsUnread name refusal = ⊥
-
--- The reads failed only where the answer names a file whose read failed, one of these, and no other name was added.
-abbrev pub ReadsAmong : {T : Type 0} → List Name → (before now : List Name) → Result T Refusal → Type 0
-ReadsAmong names before now (Ok value) = now ≡ before
-ReadsAmong names before now (Err (refused.BadInput line)) = now ≡ before
-ReadsAmong names before now (Err (refused.ReadFault name)) = Contains names name × GrowsByOnly name before now × Grew before now
-ReadsAmong names before now (Err refused.OutOfMemory) = ⊤
-ReadsAmong names before now (Err refusal) = ⊥
-
--- a file was read; it is too long; or its read failed, or memory is short
-abbrev pub AnswersFile : Name → Option (List ℕ) → Result (List ℕ) Refusal → Type 0
-AnswersFile name bytes (Ok text) = (bytes ≡ Some text) × (length text ≤ MOST_FILE_BYTES)
-AnswersFile name bytes (Err (refused.BadInput line)) = (line ≡ input_line name 6 0) × IsSomeAnd bytes (λ text. MOST_FILE_BYTES < length text)
-AnswersFile name bytes (Err (refused.ReadFault told)) = ⊤
-AnswersFile name bytes (Err refused.OutOfMemory) = ⊤
-AnswersFile name bytes (Err refusal) = ⊥
 
 -- the line of a file with these bytes, of which this is meant
 abbrev pub IsRefusedBy : {T : Type 0} → Name → List ℕ → (text : List ℕ) → Result T Broken → Type 0
@@ -81,34 +53,34 @@ AreReadable [] = ⊤
 AreReadable (head ∷ heads) = IsReadable head × AreReadable heads
 
 -- the answer to one head, after these files, where this comes of it
-abbrev pub StepsTo : {T : Type 0} → (names named : List Name) → Supplied → Inputs → Result T Refusal → Type 0
-StepsTo names named step after (Ok done) = step ≡ Supplies (names ++ named) after []
+abbrev pub StepsTo : {T : Type 0} → (names named : List Name) → Supplied Inputs → Inputs → Result T Refusal → Type 0
+StepsTo names named step after (Ok done) = step ≡ Supplies (names ++ named) after
 StepsTo names named step after (Err (refused.BadInput line)) = (read : List Name) × (step ≡ Spoils read line)
 StepsTo names named step after (Err (refused.ReadFault name)) = ⊤
 StepsTo names named step after (Err refused.OutOfMemory) = ⊤
 StepsTo names named step after (Err refusal) = ⊥
 
 -- the files that were read
-abbrev pub names_of : Supplied → List Name
-names_of (Supplies names inputs faults) = names
+abbrev pub names_of : {T : Type 0} → Supplied T → List Name
+names_of (Supplies names value) = names
 names_of (Lacks names name) = names ++ name ∷ []
 names_of (Spoils names line) = names
 
 -- the answer to all heads, which name these files
-abbrev pub AnswersLoad : Supplied → List Name → Result Inputs Refusal → Type 0
-AnswersLoad supplied names (Ok inputs) = supplied ≡ Supplies names inputs []
+abbrev pub AnswersLoad : Supplied Inputs → List Name → Result Inputs Refusal → Type 0
+AnswersLoad supplied names (Ok inputs) = supplied ≡ Supplies names inputs
 AnswersLoad supplied names (Err (refused.BadInput line)) = (read : List Name) × (supplied ≡ Spoils read line)
 AnswersLoad supplied names (Err (refused.ReadFault name)) = Contains (names_of supplied) name
 AnswersLoad supplied names (Err refused.OutOfMemory) = ⊤
 AnswersLoad supplied names (Err refusal) = ⊥
 
--- the answer to the file of faults, after these files and inputs
-abbrev pub AnswersFaults : (names : List Name) → Inputs → (named : List Name) → Supplied → Result Faults Refusal → Type 0
-AnswersFaults names inputs named supplied (Ok faults) = supplied ≡ Supplies (names ++ named) inputs faults.list
-AnswersFaults names inputs named supplied (Err (refused.BadInput line)) = (read : List Name) × (supplied ≡ Spoils read line)
-AnswersFaults names inputs named supplied (Err (refused.ReadFault name)) = Contains (names_of supplied) name
-AnswersFaults names inputs named supplied (Err refused.OutOfMemory) = ⊤
-AnswersFaults names inputs named supplied (Err refusal) = ⊥
+-- the answer to the file of faults, after these files
+abbrev pub AnswersFaults : (names named : List Name) → Supplied (List Fault) → Result Faults Refusal → Type 0
+AnswersFaults names named supplied (Ok faults) = supplied ≡ Supplies (names ++ named) faults.list
+AnswersFaults names named supplied (Err (refused.BadInput line)) = (read : List Name) × (supplied ≡ Spoils read line)
+AnswersFaults names named supplied (Err (refused.ReadFault name)) = Contains (names_of supplied) name
+AnswersFaults names named supplied (Err refused.OutOfMemory) = ⊤
+AnswersFaults names named supplied (Err refusal) = ⊥
 
 -- the inputs have as many record cells and feeds as these heads declare, each feed with its fields
 pub record Counts (heads : List Head) (inputs : Inputs) : Type 0 where

@@ -1,7 +1,7 @@
 use Rattle.std.proofs.Common.{refl}
 use Rattle.task_ast.specs.View.{plain_program}
 use Rattle.lock_checker.specs.Accepted.{program_of}
-use Rattle.call_cases.specs.Decided.{work_for}
+use Rattle.call_cases.specs.Work.{work_for}
 use Rattle.batch_calls.specs.inner.Ran.{batch_from}
 use Rattle.call_cases.specs.Answers.{change_of}
 use Rattle.batch_calls.proofs.RanPieces.{runs_work}

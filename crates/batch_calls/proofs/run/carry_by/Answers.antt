@@ -1,9 +1,7 @@
 use Rattle.std.proofs.Common.{◌≡◌, ◌∙◌, true, false, sym, subst, length}
 use Rattle.command_line.specs.declared.asked.Command.{Command}
-use Rattle.std.specs.declared.option.Option.TheVariants.{Some}
 use Rattle.call_cases.specs.Answers.{RunEnds, change_of}
-use Rattle.call_cases.specs.Case.{work_text, work_status}
-use Rattle.call_cases.specs.Headline.{trace_for}
+use Rattle.call_cases.specs.RunCommands.{work_text, work_status, trace_for}
 use Rattle.call_cases.specs.PlainText.{plain_ran, restarts_in}
 use Rattle.call_cases.specs.Texts.{run_text, soak_text}
 use Rattle.batch_calls.specs.inner.Planned.{work_planned}
@@ -16,7 +14,7 @@ returns-in-Run g c =
     let err = change_of g.E.Sink.written g.E.Sink.faults c.args.err.now c.outcome_of.new.err in
     let ends = c.outcome_of.ensures work (run_text (plain_ran work) (restarts_in work) (length work.faults)) out c.put_run-ran.ensures in
     record {
-      ends = subst (λ (k : Command). RunEnds (work_text k work) (trace_for (Some c.args.plan.asked) c.outcome_of.result.journal) (work_status k work) out err c.outcome_of.result.status) (sym c.in-Run.is) ends.ends;
+      ends = subst (λ (k : Command). RunEnds (work_text k work) (trace_for c.args.plan.asked c.outcome_of.result.journal) (work_status k work) out err c.outcome_of.result.status) (sym c.in-Run.is) ends.ends;
       unjournalled = λ not. absurd (let both : true ≡ false = sym c.requires.run ∙ not in cc);
       run = λ is. ends.journalled;
     }
@@ -28,7 +26,7 @@ returns-in-Soak g c =
     let err = change_of g.E.Sink.written g.E.Sink.faults c.args.err.now c.outcome_of-in-Soak.new.err in
     let ends = c.outcome_of-in-Soak.ensures work (soak_text c.in-Soak.soak (plain_ran work) (restarts_in work) (length work.faults)) out c.put_soak-ran.ensures in
     record {
-      ends = subst (λ (k : Command). RunEnds (work_text k work) (trace_for (Some c.args.plan.asked) c.outcome_of-in-Soak.result.journal) (work_status k work) out err c.outcome_of-in-Soak.result.status) (sym c.in-Soak.is) ends.ends;
+      ends = subst (λ (k : Command). RunEnds (work_text k work) (trace_for c.args.plan.asked c.outcome_of-in-Soak.result.journal) (work_status k work) out err c.outcome_of-in-Soak.result.status) (sym c.in-Soak.is) ends.ends;
       unjournalled = λ not. absurd (let both : true ≡ false = sym c.requires.run ∙ not in cc);
       run = λ is. ends.journalled;
     }

@@ -1,7 +1,7 @@
 use Rattle.std.proofs.Common.{[], if◌then◌else◌}
 use Rattle.restart_log.specs.Trace.{trace_text}
 use Rattle.call_cases.specs.Answers.{change_of}
-use Rattle.batch_calls.proofs.TopCall.{ran_to_end, ran_to_stop}
+use Rattle.batch_calls.proofs.RunEnds.{ran_to_end, ran_to_stop}
 use Rattle.batch_calls.proofs.run.outcome_of.Goals as goal
 
 pub returns-in-Ok : goal.returns-in-Ok

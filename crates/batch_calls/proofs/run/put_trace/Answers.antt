@@ -1,7 +1,7 @@
 use Rattle.restart_log.specs.Trace.{trace_text}
 use Rattle.call_cases.specs.Answers.{change_of}
 use Rattle.std.proofs.Common.{refl, [], if◌then◌else◌}
-use Rattle.batch_calls.proofs.TopCall.{untraced, trace_without}
+use Rattle.batch_calls.proofs.RunEnds.{untraced, trace_without}
 use Rattle.batch_calls.proofs.run.put_trace.Goals as goal
 
 pub returns-then-not-is_traced : goal.returns-then-not-is_traced

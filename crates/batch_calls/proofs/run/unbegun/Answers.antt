@@ -1,5 +1,5 @@
 use Rattle.call_cases.specs.Answers.{change_of}
-use Rattle.batch_calls.proofs.TopCall.{unbegun_carries}
+use Rattle.batch_calls.proofs.RunEnds.{unbegun_carries}
 use Rattle.batch_calls.proofs.run.unbegun.Goals as goal
 
 pub returns : goal.returns

@@ -2,4 +2,4 @@ use Rattle.call_cases.proofs.OneCase as lemmas
 use Rattle.call_cases.proofs.cases.one_case.Goals as goal
 
 pub returns : goal.returns
-returns c = lemmas.one_case
+returns g c = lemmas.one_case _ _

@@ -2,4 +2,4 @@ use Rattle.call_cases.proofs.OneCase as lemmas
 use Rattle.call_cases.proofs.cases.some_case.Goals as goal
 
 pub returns : goal.returns
-returns c = lemmas.some_case
+returns g c = lemmas.some_case _ _

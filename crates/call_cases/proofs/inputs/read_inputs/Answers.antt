@@ -1,6 +1,7 @@
 use Rattle.std.proofs.Common.{◌∙◌, Err, subst}
 use Rattle.call_cases.specs.InputFiles.{names_in}
-use Rattle.call_cases.specs.inner.Loading.{seen, ReadsAmong}
+use Rattle.call_cases.specs.inner.Loading.{seen}
+use Rattle.call_cases.specs.Refusals.{ReadsAmong}
 use Rattle.call_cases.proofs.Loads.{loads_more, loads_stop, among_all, readable_at}
 use Rattle.call_cases.proofs.Sizes.{counts_more}
 use Rattle.call_cases.proofs.inputs.read_inputs.Goals as goal

@@ -3,7 +3,7 @@ use Rattle.task_ast.specs.View.{plain_program}
 use Rattle.lock_checker.specs.Accepted.{program_of}
 use Rattle.task_parser.specs.Spelling.{Spells}
 use Rattle.call_cases.specs.Decided.{IsAcceptedIn}
-use Rattle.call_cases.specs.Headline.{the_program}
+use Rattle.call_cases.specs.RunCommands.{the_program}
 use Rattle.call_cases.proofs.Refused.{long_case, unread_answers, refused_answers, accepted_answers}
 use Rattle.call_cases.proofs.reading.read_asked.Goals as goal
 
@@ -22,7 +22,7 @@ returns-in-Ok-program_in-clause-case g c =
     let checked = c.in-Ok-program_in.checked in
     let program = plain_program (program_of checked) in
     accepted_answers (g.H.Shelf.files c.args.shelf.now) (g.H.Shelf.files c.read.new.self) c.args.asked c.in-Ok.text program (g.H.Shelf.failed c.args.shelf.now) (g.H.Shelf.failed c.read.new.self)
-    c.batch_of.result c.in-Ok.ensures.kept c.in-Ok.ensures.told (subst (λ text. Spells text program) c.as_slice.ensures c.in-Ok-program_in.ensures) checked.accepted.faultless c.batch_of.ensures.case
+    c.request_of.result c.in-Ok.ensures.kept c.in-Ok.ensures.told (subst (λ text. Spells text program) c.as_slice.ensures c.in-Ok-program_in.ensures) checked.accepted.faultless c.request_of.ensures.case
 
 pub returns-in-Err-clause-case : goal.returns-in-Err-clause-case
 returns-in-Err-clause-case g c =

@@ -1,7 +1,7 @@
 use Rattle.std.proofs.Common.{refl}
 use Rattle.call_cases.specs.Answers.{change_of}
-use Rattle.batch_calls.proofs.TopCall.{put_whole, put_stopped}
-use Rattle.batch_calls.proofs.run.plain_outcome.Goals as goal
+use Rattle.call_cases.proofs.Headlines.{put_whole, put_stopped}
+use Rattle.call_cases.proofs.endings.plain_outcome.Goals as goal
 
 pub returns-in-Ok-clause-ends : goal.returns-in-Ok-clause-ends
 returns-in-Ok-clause-ends g c = λ text due out put.
@@ -10,5 +10,5 @@ returns-in-Ok-clause-ends g c = λ text due out put.
 
 pub returns-in-Err-clause-ends : goal.returns-in-Err-clause-ends
 returns-in-Err-clause-ends g c = λ text due out put.
-    let err = change_of g.E.Sink.written g.E.Sink.faults c.args.err.now c.stop_with-status.new.err in
-    put_stopped text due out err c.args.put c.in-Err.fault c.stop_with-status.result put c.in-Err.is (rw c.why_of.ensures at c.stop_with-status.ensures)
+    let err = change_of g.E.Sink.written g.E.Sink.faults c.args.err.now c.stop_by-status.new.err in
+    put_stopped text due out err c.args.put c.in-Err.fault c.stop_by-status.result put c.in-Err.is c.stop_by-status.ensures

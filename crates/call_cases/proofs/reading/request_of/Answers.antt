@@ -1,12 +1,13 @@
-use Rattle.std.proofs.Common.{Err, subst}
+use Rattle.std.proofs.Common.{subst}
 use Rattle.gp_base.specs.declared.fault.Faults.{Faults}
 use Rattle.gp_base.specs.declared.feed.Inputs.{Inputs}
 use Rattle.task_ast.specs.View.{plain_program}
 use Rattle.lock_checker.specs.Accepted.{program_of}
 use Rattle.std.specs.declared.option.Option.TheVariants.{Some}
-use Rattle.call_cases.specs.Decided.{TouchesShelf}
+use Rattle.call_cases.specs.Refusals.{RefusesShelf}
+use Rattle.call_cases.specs.RunCommands.{MayRead}
 use Rattle.call_cases.proofs.Refused.{loaded_err, loaded_reads, struck_err, struck_reads}
-use Rattle.call_cases.proofs.reading.batch_of.Goals as goal
+use Rattle.call_cases.proofs.reading.request_of.Goals as goal
 
 pub returns-in-Err-clause-shelf : goal.returns-in-Err-clause-shelf
 returns-in-Err-clause-shelf g c =
@@ -17,7 +18,7 @@ returns-in-Err-clause-case g c = loaded_err c.args.asked (plain_program (program
 
 pub returns-in-Err-read_struck-clause-shelf : goal.returns-in-Err-read_struck-clause-shelf
 returns-in-Err-read_struck-clause-shelf g c =
-    subst (λ before. TouchesShelf (Some c.args.asked) before (g.H.Shelf.failed c.read_struck.new.shelf) (Err c.in-Err-read_struck.refusal)) c.in-Ok.ensures.failed
+    subst (λ before. RefusesShelf MayRead (Some c.args.asked) before (g.H.Shelf.failed c.read_struck.new.shelf) c.in-Err-read_struck.refusal) c.in-Ok.ensures.failed
     (struck_reads Faults c.args.asked (g.H.Shelf.failed c.inputs_for.new.shelf) (g.H.Shelf.failed c.read_struck.new.shelf) c.in-Err-read_struck.refusal c.in-Err-read_struck.ensures.failed)
 
 pub returns-in-Err-read_struck-clause-case : goal.returns-in-Err-read_struck-clause-case

@@ -1,0 +1,364 @@
+-- From what the parts of a top call ensure to what is promised of the call, for each value of the record of promises.
+use Rattle.std.proofs.Common.{◌≡◌, ◌⊎◌, ℕ, true, false, List, [], take, IfSome, refl, sym, ◌∙◌, subst, inl, inr, arith, append-nil}
+use Rattle.std.specs.List.{Contains}
+use Rattle.std.specs.declared.option.Option.{Option}
+use Rattle.std.specs.declared.option.Option.TheVariants.{None, Some}
+use Rattle.std.specs.declared.result.Result.{Result}
+use Rattle.std.specs.declared.result.Result.TheVariants.{Ok, Err}
+use Rattle.std.specs.Io.KnownBytes.{Appends}
+use Rattle.gp_base.specs.declared.sink.SinkFault.{SinkFault}
+use Rattle.gp_base.specs.declared.sink.SinkFault.TheVariants as sink
+use Rattle.gp_base.specs.declared.sink.SinkFault.TheVariants.{Failed}
+use Rattle.gp_base.specs.declared.journal.Journal.{Journal}
+use Rattle.gp_base.proofs.Written.{prefix_whole, prefix_none, Keeps-same}
+use Rattle.task_ast.specs.Tree.{Name}
+use Rattle.call_cases.specs.declared.reading.Refusal.{Refusal}
+use Rattle.call_cases.specs.declared.reading.Refusal.TheVariants.{Usage as RefusedUsage, BadProgram as RefusedProgram, BadInput as RefusedInput, ReadFault, OutOfMemory}
+use Rattle.call_cases.specs.Work.{Files}
+use Rattle.call_cases.specs.Commands.{Commands, AreSound, IsApart}
+use Rattle.call_cases.specs.Case.{Case, Usage, Missing, BadProgram, BadInput, Go, IsCase, ForCase, ForRun, HasWork, IsMissing, names_read, status_of, text_of, line_of}
+use Rattle.call_cases.specs.Lines.{out_of_memory_line, write_fault_line}
+use Rattle.call_cases.specs.Refusals.{RefusesCase, RefusesWords, RefusesShelf, TakesRefusal, RefusalEnds, usage_told, program_told, input_told, read_told, refusal_no_memory, refusal_failed}
+use Rattle.call_cases.specs.Answers.{Change, unwritten, TakesAll, TakesPart, Fails, Grew, IsEmpty, IsStopLine, TakesStop, Yields, due_status, no_memory, read_fault, write_fault, LineEnds, whole, line_failed, line_no_memory, RunEnds, finished, run_no_memory, output_failed, error_failed, PutFor, StopsBy}
+use Rattle.call_cases.specs.Headline.{TellsCase, IsRefusal, HasCaseLine, error_for, RunsNothing, TellsReadFault, TellsWriteFault, IsStop, IsDue, TakesStopLines, ReadsNothing, Headline}
+use Rattle.call_cases.proofs.OneCase.{for_known, for_each, none_some}
+
+-- a prefix of the line that tells the stop, after nothing else
+stop_taken : (begun : List ℕ) (err : Change) (stop : List ℕ) → IsStopLine stop → TakesPart err stop → TakesStop begun err
+stop_taken begun err stop is_stop (n, taken) = record { first = 0; stop = stop; is_stop = is_stop; second = n; taken = taken }
+
+-- a prefix of what comes first, and no line
+begun_taken : (begun : List ℕ) (err : Change) → TakesPart err begun → TakesStop begun err
+begun_taken begun err (n, taken) =
+    record { first = n; stop = out_of_memory_line; is_stop = inl refl; second = 0; taken = subst (TakesAll err) (sym (append-nil (take n begun))) taken }
+
+-- nothing is taken
+pub none_taken : (known : Option (List ℕ)) → Appends known known []
+none_taken None = tt
+none_taken (Some written) = sym (append-nil written)
+
+-- a text that was not written whole, and the line that tells why
+module _ (text trace : List ℕ) (due : ℕ) (out err : Change) where
+  pub run_of_failed : (status : ℕ) → TakesPart out text → Fails out → LineEnds 8 write_fault_line err status → RunEnds text trace due out err status
+  run_of_failed status part fails (whole all) = output_failed part fails all
+  run_of_failed status part fails (line_failed taken failed) = error_failed part failed (stop_taken trace err write_fault_line (inr refl) taken)
+  run_of_failed status part fails (line_no_memory taken) = run_no_memory part (stop_taken trace err write_fault_line (inr refl) taken)
+
+  pub run_of_memory : (status : ℕ) → TakesPart out text → LineEnds 1 out_of_memory_line err status → RunEnds text trace due out err status
+  run_of_memory status part (whole all) = run_no_memory part (stop_taken trace err out_of_memory_line (inl refl) (prefix_whole err.written err.written' out_of_memory_line all))
+  run_of_memory status part (line_failed taken failed) = error_failed part failed (stop_taken trace err out_of_memory_line (inl refl) taken)
+  run_of_memory status part (line_no_memory taken) = run_no_memory part (stop_taken trace err out_of_memory_line (inl refl) taken)
+
+  -- a text that was written whole, and the trace after it
+  pub run_of_whole : (status : ℕ) → TakesAll out text → LineEnds due trace err status → RunEnds text trace due out err status
+  run_of_whole status taken (whole all) = finished taken all
+  run_of_whole status taken (line_failed part failed) = error_failed (prefix_whole out.written out.written' text taken) failed (begun_taken trace err part)
+  run_of_whole status taken (line_no_memory part) = run_no_memory (prefix_whole out.written out.written' text taken) (begun_taken trace err part)
+
+-- a text that is all there is to write, and the line that tells where it was not written
+module _ (text : List ℕ) (due : ℕ) (out err : Change) where
+  pub put_whole : (put : Result ℕ SinkFault) (status : ℕ) → PutFor text due out put → put ≡ Ok status → err.written' ≡ err.written → RunEnds text [] due out err status
+  put_whole put status is ok kept =
+      let here = subst (PutFor text due out) ok is in
+      subst (λ s. RunEnds text [] due out err s) (sym here.status) (finished here.all (subst (λ w. Appends err.written w []) (sym kept) (none_taken err.written)))
+
+  pub put_stopped : (put : Result ℕ SinkFault) (fault : SinkFault) (status : ℕ) → PutFor text due out put → put ≡ Err fault → StopsBy fault err status → RunEnds text [] due out err status
+  put_stopped put Failed status is failed ends = let here = subst (PutFor text due out) failed is in run_of_failed text [] due out err status here.part (here.cause refl) ends
+  put_stopped put sink.OutOfMemory status is failed ends = let here = subst (PutFor text due out) failed is in run_of_memory text [] due out err status here.part ends
+
+-- a prefix of a line that is due, or of the line that tells the stop
+due_lines : (is_due : List ℕ → Type 0) (err : Change) (due : List ℕ) → is_due due → TakesPart err due → TakesStopLines is_due err
+due_lines is_due err due for_case part = (due, for_case, begun_taken due err part)
+
+stop_lines : (is_due : List ℕ → Type 0) (err : Change) (due stop : List ℕ) → is_due due → IsStopLine stop → TakesPart err stop → TakesStopLines is_due err
+stop_lines is_due err due stop for_case for_stop part = (due, for_case, stop_taken due err stop for_stop part)
+
+-- the case that an answer tells, and its status
+told_case : {A T : Type 0} (commands : Commands A T) (words : List (List ℕ)) (files : Option Files) (known : Case T) → IfSome files (λ told. IsCase commands.asking words told known)
+    → IfSome files (λ told. (case : Case T) × IsCase commands.asking words told case × (status_of commands case ≡ status_of commands known))
+told_case commands words None known is = tt
+told_case commands words (Some files) known is = (known, is, refl)
+
+-- what was begun to be done
+module _ (text trace : List ℕ) (due : ℕ) (out err : Change) where
+  run_status : (grew : Type 0) (status : ℕ) → RunEnds text trace due out err status → Yields due grew (Fails out ⊎ Fails err) status
+  run_status grew status (finished all traced) = due_status
+  run_status grew status (run_no_memory part stop) = no_memory
+  run_status grew status (output_failed part fails told) = write_fault (inl fails)
+  run_status grew status (error_failed part fails stop) = write_fault (inr fails)
+
+  run_whole : (status : ℕ) → RunEnds text trace due out err status → IsApart status → TakesAll out text × TakesAll err trace × (due ≡ status)
+  run_whole status (finished all traced) is = (all, traced, refl)
+  run_whole status (run_no_memory part stop) is = absurd (grind (arith, is))
+  run_whole status (output_failed part fails told) is = absurd (grind (arith, is))
+  run_whole status (error_failed part fails stop) is = absurd (grind (arith, is))
+
+  run_part : (status : ℕ) → RunEnds text trace due out err status → TakesPart out text
+  run_part status (finished all traced) = prefix_whole out.written out.written' text all
+  run_part status (run_no_memory part stop) = part
+  run_part status (output_failed part fails told) = part
+  run_part status (error_failed part fails stop) = part
+
+  run_fault : (status : ℕ) → IsApart due → RunEnds text trace due out err status → status ≡ 8 → TellsWriteFault out err
+  run_fault status is_apart (finished all traced) is = absurd (grind (arith, is_apart, is))
+  run_fault status is_apart (run_no_memory part stop) is = absurd (omega (arith, is))
+  run_fault status is_apart (output_failed part fails told) is = inr (fails, told)
+  run_fault status is_apart (error_failed part fails stop) is = inl fails
+
+  run_not_refused : (status : ℕ) → IsApart due → RunEnds text trace due out err status → IsRefusal status → ⊥
+  run_not_refused status is_apart (finished all traced) is = grind (arith, is_apart, is)
+  run_not_refused status is_apart (run_no_memory part stop) is = grind (arith, is)
+  run_not_refused status is_apart (output_failed part fails told) is = grind (arith, is)
+  run_not_refused status is_apart (error_failed part fails stop) is = grind (arith, is)
+
+  run_stopped : (is_due : List ℕ → Type 0) (line : List ℕ) → is_due line → is_due trace → (status : ℕ) → IsApart due → RunEnds text trace due out err status → IsStop status → TakesStopLines is_due err
+  run_stopped is_due line for_case for_trace status is_apart (finished all traced) is = absurd (grind (arith, is_apart, is))
+  run_stopped is_due line for_case for_trace status is_apart (run_no_memory part stop) is = (trace, for_trace, stop)
+  run_stopped is_due line for_case for_trace status is_apart (output_failed part fails told) is =
+      stop_lines is_due err line write_fault_line for_case (inr refl) (prefix_whole err.written err.written' write_fault_line told)
+  run_stopped is_due line for_case for_trace status is_apart (error_failed part fails stop) is = (trace, for_trace, stop)
+
+-- what was begun to be done meets the promise
+pub run_headline : {A T : Type 0} (commands : Commands A T) (sound : AreSound commands) (words : List (List ℕ)) (files : Option Files) (failed failed' : List Name) (out err : Change) (status : ℕ) (journal : Journal)
+    (names : List Name) (work : T) (asked : A)
+    → commands.asking.reading words ≡ Some asked → IfSome files (λ told. IsCase commands.asking words told (Go names work)) → failed' ≡ failed
+    → (commands.is_journalled asked ≡ false → IsEmpty journal)
+    → (commands.has_journal work ≡ true → commands.lawful work journal × (commands.whole status → commands.complete work journal) × commands.retired work journal out)
+    → RunEnds (commands.text work) (commands.error asked journal) (commands.status work) out err status
+    → Headline commands (record { words = words; files = files; failed = failed; failed' = failed'; out = out; err = err; status = status; journal = journal })
+run_headline {T} commands sound words files failed failed' out err status journal names work asked some known same empty run ends_asked =
+    let text = commands.text work in
+    let error = error_for commands (commands.asking.reading words) journal in
+    let due = commands.status work in
+    let apart : IsApart due = sound.apart due (sound.ends work) in
+    let ends : RunEnds text error due out err status = subst (λ r. RunEnds text (error_for commands r journal) due out err status) (sym some) ends_asked in
+    let not_refused : IsRefusal status → ⊥ = run_not_refused text error due out err status apart ends in
+    record {
+      status = for_known commands.asking words files (Go names work) (λ case. Yields (status_of commands case) (Grew failed failed') (Fails out ⊎ Fails err) status) known (run_status text error due out err (Grew failed failed') status ends);
+      told = λ tells. elim tells [
+        | inl is ↦ run_told commands words files names work status known (run_whole text error due out err status ends (sound.apart status is)).2
+        | inr is ↦ absurd (not_refused (inl is))
+      ];
+      usage = λ is. absurd (not_refused (inl (inl is)));
+      no_command = λ none. absurd (none_some (commands.asking.reading words) asked none some);
+      text = for_known commands.asking words files (Go names work) (λ case. commands.whole status → TakesAll out (text_of commands case)) known (λ is. (run_whole text error due out err status ends (sound.apart status is)).0);
+      prefix = for_known commands.asking words files (Go names work) (λ case. TakesPart out (text_of commands case)) known (run_part text error due out err status ends);
+      refused = λ is. absurd (not_refused is);
+      quiet = λ is. (run_whole text error due out err status ends (sound.apart status is)).1;
+      line = for_each commands.asking words files (λ case. HasCaseLine status → TakesAll err (line_of case)) (λ case is. absurd (not_refused (inl is)));
+      read_fault = λ is. absurd (not_refused (inr is));
+      write_fault = run_fault text error due out err status apart ends;
+      stopped = λ is. for_known commands.asking words files (Go names work) (λ case. TakesStopLines (IsDue case error) err) known
+          (run_stopped text error due out err (IsDue {T = T} (Go names work) error) [] (inl refl) (inr (inl (tt, refl))) status apart ends is);
+      untouched = λ tells. same;
+      unread = λ none. same;
+      missing = for_known commands.asking words files (Go names work) (λ case. IsMissing case → Grew failed failed' ⊎ (status ≡ 1) ⊎ Fails err) known (λ missing. absurd missing);
+      journal = λ unbegun. elim unbegun [
+        | inl is ↦ absurd (not_refused is)
+        | inr nothing ↦ empty (subst (RunsNothing commands) some nothing)
+      ];
+      unbegun = for_known commands.asking words files (Go names work) (λ case. HasWork case ⊎ IsEmpty journal) known (inl tt);
+      lawful = for_known commands.asking words files (Go names work) (λ case. ForRun commands case (λ w. commands.lawful w journal)) known (λ is. (run is).0);
+      complete = λ is_whole. for_known commands.asking words files (Go names work) (λ case. ForRun commands case (λ w. commands.complete w journal)) known (λ is. (run is).1 is_whole);
+      retired = for_known commands.asking words files (Go names work) (λ case. ForRun commands case (λ w. commands.retired w journal out)) known (λ is. (run is).2);
+    }
+  where
+    run_told : {A T : Type 0} (commands : Commands A T) (words : List (List ℕ)) (files : Option Files) (names : List Name) (work : T) (status : ℕ) → IfSome files (λ told. IsCase commands.asking words told (Go names work))
+        → commands.status work ≡ status → IfSome files (λ told. (case : Case T) × IsCase commands.asking words told case × (status_of commands case ≡ status))
+    run_told commands words None names work status known is = tt
+    run_told commands words (Some files) names work status known is = (Go names work, known, is)
+
+-- what holds of a case that is known but for a part
+for_some : {A T : Type 0} (commands : Commands A T) (words : List (List ℕ)) (files : Option Files) (X : Type 0) (known : X → Case T) (P : Case T → Type 0) → IfSome files (λ told. (x : X) × IsCase commands.asking words told (known x)) → ((x : X) → P (known x))
+    → ForCase commands.asking words files P
+for_some commands words None X known P is holds = tt
+for_some commands words (Some files) X known P (x, is) holds = for_known commands.asking words (Some files) (known x) P is (holds x)
+
+told_some : {A T : Type 0} (commands : Commands A T) (words : List (List ℕ)) (files : Option Files) (X : Type 0) (known : X → Case T) (status : ℕ) → IfSome files (λ told. (x : X) × IsCase commands.asking words told (known x)) → ((x : X) → status_of commands (known x) ≡ status)
+    → IfSome files (λ told. (case : Case T) × IsCase commands.asking words told case × (status_of commands case ≡ status))
+told_some commands words None X known status is same = tt
+told_some commands words (Some files) X known status (x, is) same = (known x, is, same x)
+
+-- a refusal
+module _ {A T : Type 0} (commands : Commands A T) (words : List (List ℕ)) (files : Option Files) (before now : List Name) (out err : Change) (error : List ℕ) where
+  refused_status : (refusal : Refusal) (status : ℕ) → IfSome files (λ told. RefusesCase (IsCase commands.asking words told) refusal) → RefusesShelf commands.may_read (commands.asking.reading words) before now refusal
+      → RefusalEnds err refusal status → ForCase commands.asking words files (λ case. Yields (status_of commands case) (Grew before now) (Fails out ⊎ Fails err) status)
+  refused_status refusal status known shelf (usage_told line) = for_known commands.asking words files Usage (λ case. Yields (status_of commands case) (Grew before now) (Fails out ⊎ Fails err) 2) known due_status
+  refused_status refusal status known shelf (program_told {line} all) =
+      for_some commands words files Name (λ name. BadProgram name line) (λ case. Yields (status_of commands case) (Grew before now) (Fails out ⊎ Fails err) 3) known (λ name. due_status)
+  refused_status refusal status known shelf (input_told {line} all) =
+      for_some commands words files (List Name) (λ names. BadInput names line) (λ case. Yields (status_of commands case) (Grew before now) (Fails out ⊎ Fails err) 4) known (λ names. due_status)
+  refused_status refusal status known shelf (read_told {name} all) = for_each commands.asking words files (λ case. Yields (status_of commands case) (Grew before now) (Fails out ⊎ Fails err) 7) (λ case. read_fault shelf.1)
+  refused_status refusal status known shelf (refusal_no_memory taken) = for_each commands.asking words files (λ case. Yields (status_of commands case) (Grew before now) (Fails out ⊎ Fails err) 1) (λ case. no_memory)
+  refused_status refusal status known shelf (refusal_failed fails taken) = for_each commands.asking words files (λ case. Yields (status_of commands case) (Grew before now) (Fails out ⊎ Fails err) 8) (λ case. write_fault (inr fails))
+
+  refused_line : (refusal : Refusal) (status : ℕ) → IfSome files (λ told. RefusesCase (IsCase commands.asking words told) refusal) → RefusalEnds err refusal status
+      → ForCase commands.asking words files (λ case. HasCaseLine status → TakesAll err (line_of case))
+  refused_line refusal status known (usage_told all) = for_known commands.asking words files Usage (λ case. HasCaseLine 2 → TakesAll err (line_of case)) known (λ _. all)
+  refused_line refusal status known (program_told {line} all) =
+      for_some commands words files Name (λ name. BadProgram name line) (λ case. HasCaseLine 3 → TakesAll err (line_of case)) known (λ name _. all)
+  refused_line refusal status known (input_told {line} all) =
+      for_some commands words files (List Name) (λ names. BadInput names line) (λ case. HasCaseLine 4 → TakesAll err (line_of case)) known (λ names _. all)
+  refused_line refusal status known (read_told all) = for_each commands.asking words files (λ case. HasCaseLine 7 → TakesAll err (line_of case)) (λ case is. absurd (grind (arith, is)))
+  refused_line refusal status known (refusal_no_memory taken) = for_each commands.asking words files (λ case. HasCaseLine 1 → TakesAll err (line_of case)) (λ case is. absurd (grind (arith, is)))
+  refused_line refusal status known (refusal_failed fails taken) = for_each commands.asking words files (λ case. HasCaseLine 8 → TakesAll err (line_of case)) (λ case is. absurd (grind (arith, is)))
+
+  refused_told : (refusal : Refusal) (status : ℕ) → IfSome files (λ told. RefusesCase (IsCase commands.asking words told) refusal) → RefusalEnds err refusal status → IsApart status ⊎ HasCaseLine status
+      → IfSome files (λ told. (case : Case T) × IsCase commands.asking words told case × (status_of commands case ≡ status))
+  refused_told refusal status known (usage_told all) tells = told_case commands words files Usage known
+  refused_told refusal status known (program_told {line} all) tells = told_some commands words files Name (λ name. BadProgram name line) 3 known (λ name. refl)
+  refused_told refusal status known (input_told {line} all) tells = told_some commands words files (List Name) (λ names. BadInput names line) 4 known (λ names. refl)
+  refused_told refusal status known (read_told all) tells = absurd (grind (arith, tells))
+  refused_told refusal status known (refusal_no_memory taken) tells = absurd (grind (arith, tells))
+  refused_told refusal status known (refusal_failed fails taken) tells = absurd (grind (arith, tells))
+
+  -- where a file that is read is not there
+  refused_missing : (refusal : Refusal) (status : ℕ) → IfSome files (λ told. RefusesCase (IsCase commands.asking words told) refusal) → RefusesShelf commands.may_read (commands.asking.reading words) before now refusal
+      → RefusalEnds err refusal status → ForCase commands.asking words files (λ case. IsMissing case → Grew before now ⊎ (status ≡ 1) ⊎ Fails err)
+  refused_missing refusal status known shelf (usage_told all) = for_known commands.asking words files Usage (λ case. IsMissing case → Grew before now ⊎ ◌≡◌ {A = ℕ} 2 1 ⊎ Fails err) known (λ missing. absurd missing)
+  refused_missing refusal status known shelf (program_told {line} all) =
+      for_some commands words files Name (λ name. BadProgram name line) (λ case. IsMissing case → Grew before now ⊎ ◌≡◌ {A = ℕ} 3 1 ⊎ Fails err) known (λ name missing. absurd missing)
+  refused_missing refusal status known shelf (input_told {line} all) =
+      for_some commands words files (List Name) (λ names. BadInput names line) (λ case. IsMissing case → Grew before now ⊎ ◌≡◌ {A = ℕ} 4 1 ⊎ Fails err) known (λ names missing. absurd missing)
+  refused_missing refusal status known shelf (read_told all) = for_each commands.asking words files (λ case. IsMissing case → Grew before now ⊎ ◌≡◌ {A = ℕ} 7 1 ⊎ Fails err) (λ case missing. inl shelf.1)
+  refused_missing refusal status known shelf (refusal_no_memory taken) = for_each commands.asking words files (λ case. IsMissing case → Grew before now ⊎ ◌≡◌ {A = ℕ} 1 1 ⊎ Fails err) (λ case missing. inr (inl refl))
+  refused_missing refusal status known shelf (refusal_failed fails taken) = for_each commands.asking words files (λ case. IsMissing case → Grew before now ⊎ ◌≡◌ {A = ℕ} 8 1 ⊎ Fails err) (λ case missing. inr (inr fails))
+
+  -- a refusal whose line was not written whole
+  refused_stop : (refusal : Refusal) → IfSome files (λ told. RefusesCase (IsCase commands.asking words told) refusal) → TakesRefusal refusal err → ForCase commands.asking words files (λ case. TakesStopLines (IsDue case error) err)
+  refused_stop refusal known (line, inr for_stop, part) =
+      for_each commands.asking words files (λ case. TakesStopLines (IsDue case error) err) (λ case. stop_lines (IsDue case error) err (line_of case) line (inl refl) for_stop part)
+  refused_stop RefusedUsage known (line, inl tells, part) = for_known commands.asking words files Usage (λ case. TakesStopLines (IsDue case error) err) known (due_lines (IsDue {T = T} Usage error) err line (inl tells) part)
+  refused_stop (RefusedProgram told) known (line, inl tells, part) =
+      for_some commands words files Name (λ name. BadProgram name told) (λ case. TakesStopLines (IsDue case error) err) known (λ name. due_lines (IsDue {T = T} (BadProgram name told) error) err line (inl tells) part)
+  refused_stop (RefusedInput told) known (line, inl tells, part) =
+      for_some commands words files (List Name) (λ names. BadInput names told) (λ case. TakesStopLines (IsDue case error) err) known (λ names. due_lines (IsDue {T = T} (BadInput names told) error) err line (inl tells) part)
+  refused_stop (ReadFault name) known (line, inl tells, part) = for_read files known
+    where
+      for_read : (files : Option Files) → IfSome files (λ told. (case : Case T) × IsCase commands.asking words told case × Contains (names_read case) name) → ForCase commands.asking words files (λ case. TakesStopLines (IsDue case error) err)
+      for_read None is = tt
+      for_read (Some files) (case, is, reads) = for_known commands.asking words (Some files) case (λ c. TakesStopLines (IsDue c error) err) is (due_lines (IsDue case error) err line (inr (inr (name, reads, tells))) part)
+  refused_stop OutOfMemory known (line, inl tells, part) = absurd tells
+
+  refused_stopped : (refusal : Refusal) (status : ℕ) → IfSome files (λ told. RefusesCase (IsCase commands.asking words told) refusal) → RefusalEnds err refusal status → IsStop status
+      → ForCase commands.asking words files (λ case. TakesStopLines (IsDue case error) err)
+  refused_stopped refusal status known (usage_told all) is = absurd (grind (arith, is))
+  refused_stopped refusal status known (program_told all) is = absurd (grind (arith, is))
+  refused_stopped refusal status known (input_told all) is = absurd (grind (arith, is))
+  refused_stopped refusal status known (read_told all) is = absurd (grind (arith, is))
+  refused_stopped refusal status known (refusal_no_memory taken) is = refused_stop refusal known taken
+  refused_stopped refusal status known (refusal_failed fails taken) is = refused_stop refusal known taken
+
+refused_not_apart : (err : Change) (refusal : Refusal) (status : ℕ) → RefusalEnds err refusal status → IsApart status → ⊥
+refused_not_apart err refusal status (usage_told line) is = grind (arith, is)
+refused_not_apart err refusal status (program_told all) is = grind (arith, is)
+refused_not_apart err refusal status (input_told all) is = grind (arith, is)
+refused_not_apart err refusal status (read_told all) is = grind (arith, is)
+refused_not_apart err refusal status (refusal_no_memory taken) is = grind (arith, is)
+refused_not_apart err refusal status (refusal_failed fails taken) is = grind (arith, is)
+
+-- words of no command
+refused_words : (err : Change) (refusal : Refusal) (status : ℕ) → RefusesWords refusal → RefusalEnds err refusal status → Yields 2 ⊥ (Fails err) status
+refused_words err refusal status is (usage_told all) = due_status
+refused_words err refusal status is (program_told all) = absurd is
+refused_words err refusal status is (input_told all) = absurd is
+refused_words err refusal status is (read_told all) = absurd is
+refused_words err refusal status is (refusal_no_memory taken) = no_memory
+refused_words err refusal status is (refusal_failed fails taken) = write_fault fails
+
+refused_fault : (out err : Change) (refusal : Refusal) (status : ℕ) → RefusalEnds err refusal status → status ≡ 8 → TellsWriteFault out err
+refused_fault out err refusal status (usage_told all) is = absurd (omega (arith, is))
+refused_fault out err refusal status (program_told all) is = absurd (omega (arith, is))
+refused_fault out err refusal status (input_told all) is = absurd (omega (arith, is))
+refused_fault out err refusal status (read_told all) is = absurd (omega (arith, is))
+refused_fault out err refusal status (refusal_no_memory taken) is = absurd (omega (arith, is))
+refused_fault out err refusal status (refusal_failed fails taken) is = inl fails
+
+module _ {A : Type 0} (may_read : A → Name → Type 0) (asked : Option A) (before now : List Name) (err : Change) where
+  refused_usage : (refusal : Refusal) (status : ℕ) → RefusesShelf may_read asked before now refusal → RefusalEnds err refusal status → status ≡ 2 → asked ≡ None
+  refused_usage refusal status shelf (usage_told all) is = shelf.0
+  refused_usage refusal status shelf (program_told all) is = absurd (omega (arith, is))
+  refused_usage refusal status shelf (input_told all) is = absurd (omega (arith, is))
+  refused_usage refusal status shelf (read_told all) is = absurd (omega (arith, is))
+  refused_usage refusal status shelf (refusal_no_memory taken) is = absurd (omega (arith, is))
+  refused_usage refusal status shelf (refusal_failed fails taken) is = absurd (omega (arith, is))
+
+  -- the shelf at a status that tells the case
+  refused_untouched : (refusal : Refusal) (status : ℕ) → RefusesShelf may_read asked before now refusal → RefusalEnds err refusal status → IsApart status ⊎ HasCaseLine status → now ≡ before
+  refused_untouched refusal status shelf (usage_told all) tells = shelf.1
+  refused_untouched refusal status shelf (program_told all) tells = shelf
+  refused_untouched refusal status shelf (input_told all) tells = shelf
+  refused_untouched refusal status shelf (read_told all) tells = absurd (grind (arith, tells))
+  refused_untouched refusal status shelf (refusal_no_memory taken) tells = absurd (grind (arith, tells))
+  refused_untouched refusal status shelf (refusal_failed fails taken) tells = absurd (grind (arith, tells))
+
+module _ {A T : Type 0} (commands : Commands A T) where
+  -- the case reads a file whose read failed
+  reads_failed : (words : List (List ℕ)) (files : Option Files) (name : Name) → IfSome files (λ told. (case : Case T) × IsCase commands.asking words told case × Contains (names_read case) name)
+      → ForCase commands.asking words files (λ case. Contains (names_read case) name)
+  reads_failed words None name is = tt
+  reads_failed words (Some files) name (case, is, reads) = for_known commands.asking words (Some files) case (λ c. Contains (names_read c) name) is reads
+
+  refused_read : (words : List (List ℕ)) (files : Option Files) (failed failed' : List Name) (out err : Change) (refusal : Refusal) (status : ℕ) (journal : Journal)
+      → IfSome files (λ told. RefusesCase (IsCase commands.asking words told) refusal) → RefusesShelf commands.may_read (commands.asking.reading words) failed failed' refusal → RefusalEnds err refusal status → status ≡ 7
+      → TellsReadFault commands (record { words = words; files = files; failed = failed; failed' = failed'; out = out; err = err; status = status; journal = journal })
+  refused_read words files failed failed' out err refusal status journal known shelf (usage_told all) is = absurd (omega (arith, is))
+  refused_read words files failed failed' out err refusal status journal known shelf (program_told all) is = absurd (omega (arith, is))
+  refused_read words files failed failed' out err refusal status journal known shelf (input_told all) is = absurd (omega (arith, is))
+  refused_read words files failed failed' out err refusal status journal known shelf (read_told {name} all) is =
+      record { name = name; read = reads_failed words files name known; asked = shelf.2; alone = shelf.0; grew = shelf.1; line = all }
+  refused_read words files failed failed' out err refusal status journal known shelf (refusal_no_memory taken) is = absurd (omega (arith, is))
+  refused_read words files failed failed' out err refusal status journal known shelf (refusal_failed fails taken) is = absurd (omega (arith, is))
+
+  -- a status that tells the case is that of a whole end or of a line
+  tells_apart : AreSound commands → (status : ℕ) → TellsCase commands status → IsApart status ⊎ HasCaseLine status
+  tells_apart sound status (inl is) = inl (sound.apart status is)
+  tells_apart sound status (inr is) = inr is
+
+  -- a journal of no event is one of each case
+  empty_lawful : AreSound commands → (case : Case T) (journal : Journal) → IsEmpty journal → ForRun commands case (λ work. commands.lawful work journal)
+  empty_lawful sound Usage journal empty = tt
+  empty_lawful sound (Missing names name) journal empty = tt
+  empty_lawful sound (BadProgram name line) journal empty = tt
+  empty_lawful sound (BadInput names line) journal empty = tt
+  empty_lawful sound (Go names work) journal empty = λ is. sound.begins work journal empty
+
+  empty_retired : AreSound commands → (case : Case T) (journal : Journal) (written : Option (List ℕ)) (faults : ℕ) → IsEmpty journal → ForRun commands case (λ work. commands.retired work journal (unwritten written faults))
+  empty_retired sound Usage journal written faults empty = tt
+  empty_retired sound (Missing names name) journal written faults empty = tt
+  empty_retired sound (BadProgram name line) journal written faults empty = tt
+  empty_retired sound (BadInput names line) journal written faults empty = tt
+  empty_retired sound (Go names work) journal written faults empty = λ is. sound.unbegun work journal written faults empty
+
+-- a refusal meets the promise
+pub refused_headline : {A T : Type 0} (commands : Commands A T) (sound : AreSound commands) (words : List (List ℕ)) (files : Option Files) (failed failed' : List Name) (written : Option (List ℕ)) (faults : ℕ) (err : Change) (status : ℕ)
+    (journal : Journal) (refusal : Refusal)
+    → (commands.asking.reading words ≡ None → RefusesWords refusal) → (ReadsNothing commands (commands.asking.reading words) → failed' ≡ failed)
+    → IfSome files (λ told. RefusesCase (IsCase commands.asking words told) refusal) → RefusesShelf commands.may_read (commands.asking.reading words) failed failed' refusal → IsEmpty journal → RefusalEnds err refusal status
+    → Headline commands (record { words = words; files = files; failed = failed; failed' = failed'; out = unwritten written faults; err = err; status = status; journal = journal })
+refused_headline commands sound words files failed failed' written faults err status journal refusal no_command unread known shelf empty ends =
+    let error = error_for commands (commands.asking.reading words) journal in
+    let out : Change = unwritten written faults in
+    let not_whole : commands.whole status → ⊥ = λ is. refused_not_apart err refusal status ends (sound.apart status is) in
+    record {
+      status = refused_status commands words files failed failed' out err error refusal status known shelf ends;
+      told = λ tells. refused_told commands words files failed failed' out err error refusal status known ends (tells_apart commands sound status tells);
+      usage = refused_usage commands.may_read (commands.asking.reading words) failed failed' err refusal status shelf ends;
+      no_command = λ none. refused_words err refusal status (no_command none) ends;
+      text = for_each commands.asking words files (λ case. commands.whole status → TakesAll out (text_of commands case)) (λ case is. absurd (not_whole is));
+      prefix = for_each commands.asking words files (λ case. TakesPart out (text_of commands case)) (λ case. prefix_none written (text_of commands case));
+      refused = λ is. Keeps-same written;
+      quiet = λ is. absurd (not_whole is);
+      line = refused_line commands words files failed failed' out err error refusal status known ends;
+      read_fault = refused_read commands words files failed failed' out err refusal status journal known shelf ends;
+      write_fault = refused_fault out err refusal status ends;
+      stopped = refused_stopped commands words files failed failed' out err error refusal status known ends;
+      untouched = λ tells. refused_untouched commands.may_read (commands.asking.reading words) failed failed' err refusal status shelf ends (tells_apart commands sound status tells);
+      unread = unread;
+      missing = refused_missing commands words files failed failed' out err error refusal status known shelf ends;
+      journal = λ unbegun. empty;
+      unbegun = for_each commands.asking words files (λ case. HasWork case ⊎ IsEmpty journal) (λ case. inr empty);
+      lawful = for_each commands.asking words files (λ case. ForRun commands case (λ work. commands.lawful work journal)) (λ case. empty_lawful commands sound case journal empty);
+      complete = λ is. absurd (not_whole is);
+      retired = for_each commands.asking words files (λ case. ForRun commands case (λ work. commands.retired work journal out)) (λ case. empty_retired commands sound case journal written faults empty);
+    }

@@ -1,0 +1,99 @@
+-- How a refusal, as any top call reads one, stands to the case of the call, and how it ends.
+use Rattle.std.specs.Prelude.{◌≡◌, ◌⊎◌, ◌<◌, ◌≤◌, List, ℕ, length, Option, Some, None, Result, IsSomeAnd, Contains, ⊤}
+use Rattle.std.specs.declared.result.Result.TheVariants.{Ok, Err}
+use Rattle.gp_base.specs.Files.{GrowsByOnly}
+use Rattle.gp_base.specs.declared.limits.TheConstants.{MOST_FILE_BYTES}
+use Rattle.task_ast.specs.Tree.{Name}
+use Rattle.call_cases.specs.declared.reading.Refusal.{Refusal}
+use Rattle.call_cases.specs.declared.reading.Refusal.TheVariants.{Usage as RefusedUsage, BadProgram as RefusedProgram, BadInput as RefusedInput, ReadFault, OutOfMemory}
+use Rattle.call_cases.specs.Case.{Case, Usage, BadProgram, BadInput, names_read}
+use Rattle.call_cases.specs.Lines.{usage_line, read_fault_line, input_line}
+use Rattle.call_cases.specs.Answers.{Change, TakesAll, TakesPart, Fails, Grew, IsStopLine}
+
+-- a refusal tells this case; a fault of reading tells that the case reads the file
+abbrev pub RefusesCase : {T : Type 0} → (Case T → Type 0) → Refusal → Type 0
+RefusesCase Is RefusedUsage = Is Usage
+RefusesCase Is (RefusedProgram line) = (name : Name) × Is (BadProgram name line)
+RefusesCase Is (RefusedInput line) = (names : List Name) × Is (BadInput names line)
+RefusesCase {T} Is (ReadFault name) = (case : Case T) × Is case × Contains (names_read case) name
+RefusesCase Is OutOfMemory = ⊤
+
+-- an answer tells this case, where what was read has a case
+abbrev pub AnswersCase : {R T : Type 0} → (R → Case T) → (Case T → Type 0) → Result R Refusal → Type 0
+AnswersCase case_of Is (Ok request) = Is (case_of request)
+AnswersCase case_of Is (Err refusal) = RefusesCase Is refusal
+
+-- the refusals of words of no command, and the answers to them
+abbrev pub RefusesWords : Refusal → Type 0
+RefusesWords RefusedUsage = ⊤
+RefusesWords (RefusedProgram line) = ⊥
+RefusesWords (RefusedInput line) = ⊥
+RefusesWords (ReadFault name) = ⊥
+RefusesWords OutOfMemory = ⊤
+
+abbrev pub AnswersNoCommand : {R : Type 0} → Result R Refusal → Type 0
+AnswersNoCommand (Ok request) = ⊥
+AnswersNoCommand (Err refusal) = RefusesWords refusal
+
+-- The reads failed only where the refusal names a file whose read failed, one that may be read for what the words ask, and no other name was added. Words of
+-- no command are told as such, and no other words.
+abbrev pub RefusesShelf : {A : Type 0} → (may_read : A → Name → Type 0) → Option A → List Name → List Name → Refusal → Type 0
+RefusesShelf may_read asked before now RefusedUsage = (asked ≡ None) × (now ≡ before)
+RefusesShelf may_read asked before now (RefusedProgram line) = now ≡ before
+RefusesShelf may_read asked before now (RefusedInput line) = now ≡ before
+RefusesShelf may_read asked before now (ReadFault name) = GrowsByOnly name before now × Grew before now × IsSomeAnd asked (λ a. may_read a name)
+RefusesShelf may_read asked before now OutOfMemory = ⊤
+
+-- the same of an answer; no read failed where there is something to be done
+abbrev pub TouchesShelf : {A R : Type 0} → (may_read : A → Name → Type 0) → Option A → List Name → List Name → Result R Refusal → Type 0
+TouchesShelf may_read asked before now (Ok request) = now ≡ before
+TouchesShelf may_read asked before now (Err refusal) = RefusesShelf may_read asked before now refusal
+
+-- a refusal of a file with this line, unless memory is short
+abbrev pub IsInputRefused : List ℕ → Refusal → Type 0
+IsInputRefused line (RefusedInput told) = told ≡ line
+IsInputRefused line OutOfMemory = ⊤
+IsInputRefused line refusal = ⊥
+
+-- the refusal of a file whose read failed, unless memory is short
+abbrev pub IsUnread : Name → Refusal → Type 0
+IsUnread name (ReadFault told) = told ≡ name
+IsUnread name OutOfMemory = ⊤
+IsUnread name refusal = ⊥
+
+-- The reads failed only where the answer names a file whose read failed, one of these, and no other name was added.
+abbrev pub ReadsAmong : {T : Type 0} → List Name → (before now : List Name) → Result T Refusal → Type 0
+ReadsAmong names before now (Ok value) = now ≡ before
+ReadsAmong names before now (Err (RefusedInput line)) = now ≡ before
+ReadsAmong names before now (Err (ReadFault name)) = Contains names name × GrowsByOnly name before now × Grew before now
+ReadsAmong names before now (Err OutOfMemory) = ⊤
+ReadsAmong names before now (Err refusal) = ⊥
+
+-- a file was read; it is too long; or its read failed, or memory is short
+abbrev pub AnswersFile : Name → Option (List ℕ) → Result (List ℕ) Refusal → Type 0
+AnswersFile name bytes (Ok text) = (bytes ≡ Some text) × (length text ≤ MOST_FILE_BYTES)
+AnswersFile name bytes (Err (RefusedInput line)) = (line ≡ input_line name 6 0) × IsSomeAnd bytes (λ text. MOST_FILE_BYTES < length text)
+AnswersFile name bytes (Err (ReadFault told)) = ⊤
+AnswersFile name bytes (Err OutOfMemory) = ⊤
+AnswersFile name bytes (Err refusal) = ⊥
+
+-- the line that tells a refusal
+abbrev pub TellsRefusal : Refusal → List ℕ → Type 0
+TellsRefusal RefusedUsage line = line ≡ usage_line
+TellsRefusal (RefusedProgram told) line = line ≡ told
+TellsRefusal (RefusedInput told) line = line ≡ told
+TellsRefusal (ReadFault name) line = line ≡ read_fault_line name
+TellsRefusal OutOfMemory line = ⊥
+
+-- the error stream took a prefix of that line, or of the line that tells why it was not written
+abbrev pub TakesRefusal : Refusal → Change → Type 0
+TakesRefusal refusal err = (line : List ℕ) × (TellsRefusal refusal line ⊎ IsStopLine line) × TakesPart err line
+
+-- how a refusal ends
+pub data RefusalEnds (err : Change) : Refusal → ℕ → Type 0 where
+  usage_told : TakesAll err usage_line → RefusalEnds err RefusedUsage 2
+  program_told : {line : List ℕ} → TakesAll err line → RefusalEnds err (RefusedProgram line) 3
+  input_told : {line : List ℕ} → TakesAll err line → RefusalEnds err (RefusedInput line) 4
+  read_told : {name : Name} → TakesAll err (read_fault_line name) → RefusalEnds err (ReadFault name) 7
+  refusal_no_memory : {refusal : Refusal} → TakesRefusal refusal err → RefusalEnds err refusal 1
+  refusal_failed : {refusal : Refusal} → Fails err → TakesRefusal refusal err → RefusalEnds err refusal 8
