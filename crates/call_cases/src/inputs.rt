@@ -1,6 +1,6 @@
 // Reads the files that a program names, in declared order.
 ghost use Rattle.std.specs.Prelude.{◌≡◌, ◌<◌, ◌≤◌, ◌+◌, ◌-◌, ◌^◌, [], ◌∷◌, ◌++◌, length, map, List, replicate, pos, IfOk, IfSome, OnOk};
-ghost use Rattle.gp_base.specs.declared.limits.TheConstants.{MOST_FEED_CELLS};
+ghost use Rattle.gp_base.specs.declared.limits.TheConstants.{MOST_FEED_CELLS, MOST_FILE_BYTES};
 ghost use Rattle.gp_base.specs.Files.{bytes_of};
 ghost use Rattle.task_ast.specs.Tree.{Name};
 ghost use Rattle.task_ast.specs.Names.{natural};
@@ -67,6 +67,7 @@ pub fn read_file<H: Shelf>(alloc: Global, shelf: &mut H, name: &Name) -> Result<
     ensures kept { H.files shelf.new ≡ H.files shelf.old }
     ensures failed { ReadsAmong (name.now ∷ []) (H.failed shelf.old) (H.failed shelf.new) result }
     ensures told { IfSome (H.files shelf.old) (λ files. AnswersFile name.now (bytes_of files name.now) result) }
+    ensures size { IfOk result (λ text. length text ≤ MOST_FILE_BYTES) }
 {
     match shelf.read(name, MOST_FILE_BYTES) {
         Ok(text) => Ok(text),

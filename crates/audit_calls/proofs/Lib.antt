@@ -1,0 +1,5 @@
+pub mod Readings
+pub mod Sound
+pub mod TracesJudged
+pub mod TrialCases
+pub mod Verdicts

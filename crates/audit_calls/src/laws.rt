@@ -1,0 +1,12 @@
+// Laws of audits, each on a function with an empty body.
+ghost use Rattle.audit_calls.specs.Laws.{OneJudge, TraceLaw};
+
+/// A law: no two judges differ, so that what is promised for each of them is promised once.
+pub fn one_judge()
+    ensures { OneJudge }
+{}
+
+/// A law: the trace of each run that `gprs_run` made to its end is judged lawful.
+pub fn trace_law()
+    ensures { TraceLaw }
+{}
