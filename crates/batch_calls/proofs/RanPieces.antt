@@ -1,7 +1,6 @@
 -- Runs over a journal: from what the engine promises of a batch to what is promised of a work, and from the pieces of a text to the whole.
 use Rattle.std.proofs.Common.{◌≡◌, ◌⊎◌, ℕ, ◌-◌, ◌≤◌, zero, suc, ℤ, List, [], ◌∷◌, ◌++◌, length, take, drop, flat_map, slice_get, codes, Result, Ok, Err, inl, inr, refl, sym, ap, subst, ◌∙◌, append_assoc, append-nil, arith}
 use Rattle.std.specs.declared.option.Option.{Option}
-use Rattle.std.specs.declared.option.Option.TheVariants.{None, Some}
 use Rattle.std.specs.Io.KnownBytes.{Appends, Keeps}
 use Rattle.std.proofs.lemmas.List.{take_all, take-append-drop}
 use Rattle.std.proofs.lemmas.Grind.{flat_map-append}
@@ -11,8 +10,6 @@ use Rattle.gp_base.specs.declared.sink.SinkFault.{SinkFault}
 use Rattle.gp_base.specs.declared.sink.SinkFault.TheVariants.{Failed}
 use Rattle.gp_base.specs.declared.sink.SinkFault.TheVariants as sink
 use Rattle.gp_base.specs.declared.fault.Fault.{Fault}
-use Rattle.gp_base.specs.declared.journal.Event.{Event}
-use Rattle.gp_base.specs.declared.journal.Restart.{Restart}
 use Rattle.gp_base.specs.declared.journal.Journal.{Journal}
 use Rattle.gp_base.proofs.Written.{Appends-append, prefix_first, prefix_second, prefix_none, prefix_of_split, Keeps-same}
 use Rattle.task_ast.specs.Plain.{Subthread, order, end, final_records}

@@ -17,11 +17,11 @@ use Rattle.call_cases.specs.Work.{ToDo}
 use Rattle.call_cases.specs.PlainText.{plain_ran}
 use Rattle.call_cases.specs.RunCommands.{IsWhole, end_status, work_status, work_text, trace_for}
 use Rattle.call_cases.specs.Lines.{out_of_memory_line, write_fault_line}
-use Rattle.call_cases.specs.Answers.{Change, unwritten, IsEmpty, TakesAll, LineEnds, whole, line_failed, line_no_memory, RunEnds}
+use Rattle.call_cases.specs.Answers.{Change, unwritten, IsEmpty, LineEnds, whole, line_failed, line_no_memory, RunEnds}
 use Rattle.call_cases.proofs.Headlines.{none_taken, run_of_failed, run_of_memory, run_of_whole}
 use Rattle.call_cases.proofs.RunSound.{empty_journal_of, retired_none}
 use Rattle.batch_calls.specs.inner.Planned.{Carries}
-use Rattle.batch_calls.specs.inner.Ran.{Journalled, EndsFor, RanFor, StopsWith}
+use Rattle.batch_calls.specs.inner.Ran.{EndsFor, RanFor, StopsWith}
 
 -- a stop has a status of its own
 stopped_whole : (due status : ℕ) (line : List ℕ) (err : Change) → (due ≡ 8) ⊎ (due ≡ 1) → LineEnds due line err status → IsWhole status → ⊥

@@ -44,7 +44,7 @@ use Rattle.call_cases.proofs.OneCase.{some_case_of}
 use Rattle.call_cases.proofs.Answering.{answers_map}
 use Rattle.call_cases.proofs.ReadsProgram.{reads_program}
 use Rattle.call_cases.specs.Lines.{lex_line, parse_line, check_line}
-use Rattle.call_cases.specs.Case.{Case, BadProgram as BadCase, Go, IsCaseOf, of_text, supplied_case, program_case, names_read}
+use Rattle.call_cases.specs.Case.{BadProgram as BadCase, Go, IsCaseOf, of_text, supplied_case, program_case, names_read}
 use Rattle.call_cases.specs.Decided.{ComesTo, IsAcceptedIn, IsRefusedWith, RefusesLexing, RefusesParsing, RefusesChecking, accepted_case, files_read, case_of}
 use Rattle.gp_base.specs.Files.{bytes_of, AnswersRead}
 

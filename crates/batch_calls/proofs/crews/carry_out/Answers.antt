@@ -1,7 +1,4 @@
-use Rattle.std.proofs.Common.{subst}
-use Rattle.call_cases.specs.Answers.{change_of}
 use Rattle.call_cases.specs.Decided.{work_of}
-use Rattle.batch_calls.specs.inner.Planned.{Carries, work_planned}
 use Rattle.batch_calls.proofs.crews.carry_out.Goals as goal
 
 pub returns-in-Err : goal.returns-in-Err
