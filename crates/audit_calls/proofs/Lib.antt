@@ -1,4 +1,5 @@
 pub mod Readings
+pub mod SomeJudge
 pub mod Sound
 pub mod TracesJudged
 pub mod TrialCases

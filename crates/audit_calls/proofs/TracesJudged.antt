@@ -42,7 +42,7 @@ module _ (call : Call) (files : Files) (names : List Name) (work : ToDo) (headli
   unfolding dependence_for
   whole_run whole = record {
     complete =
-      subst (λ told. ForCase run.asking call.words told (λ case. ForRun run.commands case (λ w. IsCompleteOf w call.journal))) known (headline.complete whole) (Go names work) is runs;
+        subst (λ told. ForCase run.asking call.words told (λ case. ForRun run.commands case (λ w. IsCompleteOf w call.journal))) known (headline.complete whole) (Go names work) is runs;
     first = journal_of.first;
     counted = journal_of.counted;
   }
@@ -88,8 +88,8 @@ trace_law judge call files names work headline known is runs whole narrow within
     let text = trace_text call.journal in
     let found = judged call files names work headline known is runs judge whole narrow in
     let answers : AnswersLines judge names' audited.trace work' (bytes_of files' audited.trace) (Ok found.0) =
-        subst (λ bytes. AnswersLines judge names' audited.trace work' bytes (Ok found.0)) (sym holds)
-        (lines_told judge names' audited.trace work' text found.0 within (subst (Reads text) found.1 (judge.reads text))) in
+    subst (λ bytes. AnswersLines judge names' audited.trace work' bytes (Ok found.0)) (sym holds)
+    (lines_told judge names' audited.trace work' text found.0 within (subst (Reads text) found.1 (judge.reads text))) in
     let one = one_case_of (asking judge) audited files' (Go (names' ++ audited.trace ∷ []) (tried judge work' found.0)) case (lines_case judge audited files' names' work' found.0 is' answers) is_case in
     let verdict = same_verdict judge work work' found.0 same found.2 in
     (sym (ap (status_of (commands judge)) one) ∙ ap verdict_status verdict, sym (ap (text_of (commands judge)) one) ∙ ap verdict_text verdict)

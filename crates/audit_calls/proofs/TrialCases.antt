@@ -111,7 +111,7 @@ module _ (judge : Judge) (audited : Audited) where
       after names work,
       case_after names work is,
       subst (λ told. Contains (names_read (after names work)) told) answers
-      (keeps_bytes names work (bytes_of files audited.trace) audited.trace (Contains-append_right names (audited.trace ∷ []) audited.trace (0, omega arith, refl))),
+          (keeps_bytes names work (bytes_of files audited.trace) audited.trace (Contains-append_right names (audited.trace ∷ []) audited.trace (0, omega arith, refl))),
     )
     trace_refused names work refused.OutOfMemory is answers = tt
 
@@ -143,12 +143,12 @@ module _ (audited : Audited) (before now : List Name) where
   run_reads (refused.ReadFault name) is = (is.0, is.1, of_run is.2)
   run_reads refused.OutOfMemory is = tt
 
-  pub trace_reads : {T : Type 0} (refusal : Refusal) → ReadsAmong {T = T} (audited.trace ∷ []) before now (Err refusal) → RefusesShelf MayRead (Some audited) before now refusal
-  trace_reads refused.Usage is = absurd is
-  trace_reads (refused.BadProgram line) is = absurd is
-  trace_reads (refused.BadInput line) is = is
-  trace_reads (refused.ReadFault name) is = (is.1, is.2, subst (MayRead audited) (only_one audited.trace name is.0) the_trace)
-  trace_reads refused.OutOfMemory is = tt
+  pub trace_reads : (T : Type 0) (refusal : Refusal) → ReadsAmong {T = T} (audited.trace ∷ []) before now (Err refusal) → RefusesShelf MayRead (Some audited) before now refusal
+  trace_reads T refused.Usage is = absurd is
+  trace_reads T (refused.BadProgram line) is = absurd is
+  trace_reads T (refused.BadInput line) is = is
+  trace_reads T (refused.ReadFault name) is = (is.1, is.2, subst (MayRead audited) (only_one audited.trace name is.0) the_trace)
+  trace_reads T refused.OutOfMemory is = tt
 
 -- words for which nothing is read are those of no command
 pub nothing_read : {P : Type 0} (judge : Judge) (words : List (List ℕ)) → (audited_by words ≡ None → P) → ReadsNothing (commands judge) (audited_by words) → P

@@ -1,7 +1,9 @@
 -- The verdict that the code gives is that of each judge.
-use Rattle.std.proofs.Common.{◌≡◌, ◌<◌, ◌≤◌, ℕ, List, length, map, length-map, sym, ap, subst, ◌∙◌, arith}
+use Rattle.std.proofs.Common.{◌≡◌, ◌<◌, ◌≤◌, ℕ, List, length, map, sym, ap, subst, ◌∙◌, arith}
 use Rattle.std.specs.declared.option.Option.{Option}
+use Rattle.std.specs.declared.result.Result.{Result}
 use Rattle.std.specs.declared.result.Result.TheVariants.{Ok, Err}
+use Rattle.std.proofs.lemmas.List.{length-map}
 use Rattle.gp_base.specs.declared.feed.Inputs.{Inputs}
 use Rattle.gp_base.specs.declared.limits.Limits.{Limits}
 use Rattle.gp_base.specs.declared.limits.TheConstants.{MOST_SUBTHREADS}
@@ -32,7 +34,7 @@ pub few_steps : (program : Program) (inputs : Inputs) (limits : Limits) (steps :
     → length steps < 4294967295
 few_steps program inputs limits steps are few =
     let count : length (order program inputs limits) ≤ limits.subthreads = count_law (tree_machine program inputs limits) program inputs limits in
-    let same = ap length are ∙ length-map shown (order program inputs limits) in
+    let same = ap length are ∙ length-map (order program inputs limits) shown in
     omega (arith, count, same)
 
 -- a verdict by the steps of the plain run is the judge's
@@ -45,10 +47,13 @@ verdict_judged judge work lines steps verdict are is =
     (judge.judges (dependence_for work) work.faults lines)
 
 -- memory was out before anything was written
-pub stopped_memory : (text : List ℕ) (due : ℕ) (written : Option (List ℕ)) (faults : ℕ) (fault : SinkFault) → fault ≡ OutOfMemory → PutFor text due (unwritten written faults) (Err fault)
-stopped_memory text due written faults fault out =
-    record { status = tt; all = tt; part = prefix_none written text; cause = λ is. let never : OutOfMemory ≡ Failed = sym out ∙ is in cc never }
+pub stopped_memory : (text : List ℕ) (due : ℕ) (written : Option (List ℕ)) (faults : ℕ) (result : Result ℕ SinkFault) (fault : SinkFault) → result ≡ Err fault → fault ≡ OutOfMemory
+    → PutFor text due (unwritten written faults) result
+stopped_memory text due written faults result fault is out =
+    subst (PutFor text due (unwritten written faults)) (sym is)
+    (record { status = tt; all = tt; part = prefix_none written text; cause = λ failed. let never : OutOfMemory ≡ Failed = sym out ∙ failed in cc never })
 
+-- no two judges differ
 pub one_judge : OneJudge
 one_judge judge other = (
   λ bytes. one_reading bytes (judge.lines_of bytes) (other.lines_of bytes) (judge.reads bytes) (other.reads bytes),

@@ -52,11 +52,7 @@ fn trace_lines<H: Shelf>(
 }
 
 // What the run would read, and then its trace. The first refusal met is the answer.
-fn read_audited<H: Shelf>(
-    alloc: Global,
-    audited: Audited,
-    shelf: &mut H,
-) -> Result<Trial, Refusal>
+fn read_audited<H: Shelf>(alloc: Global, audited: Audited, shelf: &mut H) -> Result<Trial, Refusal>
     requires { IsWithinLimits audited.run }
     ensures shelf { TouchesShelf MayRead (Some audited) (H.failed shelf.old) (H.failed shelf.new) result }
     ensures case { (judge : Judge) → IfSome (H.files shelf.old) (λ files. AnswersCase (case_of judge) (IsCaseOf (asking judge) audited files) result) }

@@ -50,7 +50,7 @@ word_once false false r s same = (refl, cancel (codes "stale\n") r s same)
 word_once true false r s same = absurd (let e = ap (λ l. get_or l 0 0) same in omega arith)
 word_once false true r s same = absurd (let e = ap (λ l. get_or l 0 0) same in omega arith)
 
-pub line_once : (l m : TraceLine) (r s : List ℕ) → IsNarrowLine l → IsNarrowLine m → line_text l ++ r ≡ line_text m ++ s → (l ≡ m) × (r ≡ s)
+line_once : (l m : TraceLine) (r s : List ℕ) → IsNarrowLine l → IsNarrowLine m → line_text l ++ r ≡ line_text m ++ s → (l ≡ m) × (r ≡ s)
 line_once (line.Issue p) m r s nl nm same =
     let h = only_issue m (at_end p ++ r) s same in
     let once = before_once (codes "\n") line_end p h.0 r s nl (subst IsNarrowLine h.1 nm) h.2 in

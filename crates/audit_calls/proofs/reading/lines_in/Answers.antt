@@ -16,4 +16,4 @@ returns-in-Err-Line-clause-told c = λ judge names work.
     row_told judge names c.args.name.now work c.args.text.now c.in-Err-Line.row c.refused_input.result c.requires broken c.refused_input.ensures
 
 pub returns-in-Err-Line-clause-unread : goal.returns-in-Err-Line-clause-unread
-returns-in-Err-Line-clause-unread c = λ names failed. input_unread {T = List TraceLine} names failed (input_line c.args.name.now 9 c.in-Err-Line.row) c.refused_input.result c.refused_input.ensures
+returns-in-Err-Line-clause-unread c = λ names failed. input_unread (List TraceLine) names failed (input_line c.args.name.now 9 c.in-Err-Line.row) c.refused_input.result c.refused_input.ensures

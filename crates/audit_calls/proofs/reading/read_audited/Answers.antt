@@ -39,7 +39,7 @@ returns-in-Ok-trace_lines-clause-audited g c = ap (λ (asked : Asked). record { 
 pub returns-in-Err-trace_lines-clause-shelf : goal.returns-in-Err-trace_lines-clause-shelf
 returns-in-Err-trace_lines-clause-shelf g c =
     subst (λ before. RefusesShelf MayRead (Some c.args.audited) before (g.H.Shelf.failed c.trace_lines.new.shelf) c.in-Err-trace_lines.refusal) c.in-Ok.ensures.shelf
-    (trace_reads {T = List TraceLine} c.args.audited (g.H.Shelf.failed c.read_asked.new.shelf) (g.H.Shelf.failed c.trace_lines.new.shelf) c.in-Err-trace_lines.refusal c.in-Err-trace_lines.ensures.failed)
+    (trace_reads c.args.audited (g.H.Shelf.failed c.read_asked.new.shelf) (g.H.Shelf.failed c.trace_lines.new.shelf) (List TraceLine) c.in-Err-trace_lines.refusal c.in-Err-trace_lines.ensures.failed)
 
 pub returns-in-Err-trace_lines-clause-case : goal.returns-in-Err-trace_lines-clause-case
 returns-in-Err-trace_lines-clause-case g c = λ judge.

@@ -5,7 +5,7 @@ use Rattle.audit_calls.proofs.reading.trace_lines.Goals as goal
 
 pub returns-in-Err-clause-told : goal.returns-in-Err-clause-told
 returns-in-Err-clause-told g c = λ judge names work.
-    unread_told {T = List ℕ} judge names c.args.name.now work (g.H.Shelf.files c.args.shelf.now) (g.H.Shelf.failed c.args.shelf.now) (g.H.Shelf.failed c.read_file.new.shelf) c.in-Err.refusal
+    unread_told judge names c.args.name.now work (List ℕ) (g.H.Shelf.files c.args.shelf.now) (g.H.Shelf.failed c.args.shelf.now) (g.H.Shelf.failed c.read_file.new.shelf) c.in-Err.refusal
     c.in-Err.ensures.told c.in-Err.ensures.failed
 
 pub returns-clause-told : goal.returns-clause-told

@@ -1,4 +1,5 @@
 use Rattle.std.proofs.Common.{subst}
+use Rattle.std.proofs.lemmas.Result.{err_from_is_err_and}
 use Rattle.gp_audit.specs.declared.verdict.Verdict.{Verdict}
 use Rattle.gp_audit.specs.Answer.{verdict_text, verdict_status}
 use Rattle.call_cases.specs.Answers.{PutFor, change_of}
@@ -9,7 +10,8 @@ use Rattle.audit_calls.proofs.verdict.put_verdict.Goals as goal
 pub returns-in_err-verdict : goal.returns-in_err-verdict
 returns-in_err-verdict g c = λ judge.
     let verdict = (tried_in judge c.args.trial.now).verdict in
-    stopped_memory (verdict_text verdict) (verdict_status verdict) (g.O.Sink.written c.args.out.now) (g.O.Sink.faults c.args.out.now) c.from_residual.result c.from_residual.ensures
+    let stopped = err_from_is_err_and c.from_residual.result c.from_residual.ensures.1 in
+    stopped_memory (verdict_text verdict) (verdict_status verdict) (g.O.Sink.written c.args.out.now) (g.O.Sink.faults c.args.out.now) c.from_residual.result stopped.0 stopped.1 stopped.2
 
 pub returns : goal.returns
 returns g c = λ judge.
