@@ -55,7 +55,8 @@ goes_on xs r ys s same short =
     sym (take-append-drop (length xs) ys) ∙ ap (λ text. text ++ drop (length xs) ys) (sym front)
 
 -- where no line stands after some lines of a text, no more lines stand in it
-no_further : (xs ys : List TraceLine) (r s : List ℕ) → All IsNarrowLine xs → All IsNarrowLine ys → ((l : TraceLine) (after : List ℕ) → IsNarrowLine l → r ≢ line_text l ++ after)
+no_further : (xs ys : List TraceLine) (r s : List ℕ) → All IsNarrowLine xs → All IsNarrowLine ys
+    → ((l : TraceLine) (after : List ℕ) → IsNarrowLine l → r ≢ line_text l ++ after)
     → trace_text xs ++ r ≡ trace_text ys ++ s → length (trace_text xs) ≤ length (trace_text ys) → length xs ≡ length ys
 no_further xs ys r s nx ny none same short = go once.0 once.1 (rest ∙ ap (λ text. text ++ s) once.2)
   where
@@ -77,15 +78,18 @@ no_further xs ys r s nx ny none same short = go once.0 once.1 (rest ∙ ap (λ t
         (is ∙ append_assoc (line_text z) (trace_text zs) s))
 
 -- the first row that is no line has one number
-same_row : (xs ys : List TraceLine) (r s : List ℕ) → All IsNarrowLine xs → All IsNarrowLine ys → ((l : TraceLine) (after : List ℕ) → IsNarrowLine l → r ≢ line_text l ++ after)
-    → ((l : TraceLine) (after : List ℕ) → IsNarrowLine l → s ≢ line_text l ++ after) → trace_text xs ++ r ≡ trace_text ys ++ s → length xs ≡ length ys
+same_row : (xs ys : List TraceLine) (r s : List ℕ) → All IsNarrowLine xs → All IsNarrowLine ys
+    → ((l : TraceLine) (after : List ℕ) → IsNarrowLine l → r ≢ line_text l ++ after)
+    → ((l : TraceLine) (after : List ℕ) → IsNarrowLine l → s ≢ line_text l ++ after) → trace_text xs ++ r ≡ trace_text ys ++ s
+    → length xs ≡ length ys
 same_row xs ys r s nx ny none_r none_s same =
     elim (cases_lt (length (trace_text xs)) (length (trace_text ys))) [
       | inl below ↦ no_further xs ys r s nx ny none_r same (omega (arith, below))
       | inr above ↦ sym (no_further ys xs s r ny nx none_s (sym same) (omega (arith, above)))
     ]
 
-ok_reading : (bytes : List ℕ) (lines : List TraceLine) (other : Result (List TraceLine) ℕ) → Reads bytes (Ok lines) → Reads bytes other → other ≡ Ok lines
+ok_reading : (bytes : List ℕ) (lines : List TraceLine) (other : Result (List TraceLine) ℕ) → Reads bytes (Ok lines) → Reads bytes other
+    → other ≡ Ok lines
 ok_reading bytes lines other is reads =
     elim (read_once lines is.0 (told other) (subst (λ text. AnswersTrace text (told other)) is.1 (told_reads bytes other reads))) [
       | inl same ↦ told_lines other lines same
@@ -100,11 +104,13 @@ one_reading bytes (Err row) (Err number) is other =
     ap Err (is.counted ∙ (ap (λ n. n + 1) (same_row is.lines other.lines is.rest other.rest is.narrow other.narrow is.no_line other.no_line (sym is.bytes_are ∙ other.bytes_are)) ∙ sym other.counted))
 
 -- no more lines than there may be bytes
-pub few_read : (text : List ℕ) (lines : List TraceLine) → length text ≤ MOST_FILE_BYTES → text ≡ trace_text lines → length lines < 4294967295
+pub few_read : (text : List ℕ) (lines : List TraceLine) → length text ≤ MOST_FILE_BYTES → text ≡ trace_text lines
+    → length lines < 4294967295
 few_read text lines within is = let few = few-lines text [] lines (is ∙ sym (append-nil (trace_text lines))) in omega (arith, few)
 
 -- no read failed at a refusal of a text
-pub input_unread : (T : Type 0) (names failed : List Name) (line : List ℕ) (refusal : Refusal) → IsInputRefused line refusal → ReadsAmong {T = T} names failed failed (Err refusal)
+pub input_unread : (T : Type 0) (names failed : List Name) (line : List ℕ) (refusal : Refusal) → IsInputRefused line refusal
+    → ReadsAmong {T = T} names failed failed (Err refusal)
 input_unread T names failed line Usage is = is
 input_unread T names failed line (BadProgram other) is = is
 input_unread T names failed line (BadInput other) is = refl
@@ -125,10 +131,12 @@ module _ (judge : Judge) (names : List Name) (file : Name) (work : ToDo) where
       ap (λ b. if b then Spoils (names ++ file ∷ []) (input_line file 6 0) else by_rows judge names file work (judge.lines_of text)) (within_file text within)
       ∙ ap (by_rows judge names file work) (one_reading text (judge.lines_of text) read (judge.reads text) is)
 
-  pub lines_told : (text : List ℕ) (lines : List TraceLine) → length text ≤ MOST_FILE_BYTES → AnswersTrace text (Ok lines) → AnswersLines judge names file work (Some text) (Ok lines)
+  pub lines_told : (text : List ℕ) (lines : List TraceLine) → length text ≤ MOST_FILE_BYTES → AnswersTrace text (Ok lines)
+      → AnswersLines judge names file work (Some text) (Ok lines)
   lines_told text lines within is = by_reading text (Ok lines) within is
 
-  pub row_told : (text : List ℕ) (row : ℕ) (refusal : Refusal) → length text ≤ MOST_FILE_BYTES → IsBrokenAt text row → IsInputRefused (input_line file 9 row) refusal → AnswersLines judge names file work (Some text) (Err refusal)
+  pub row_told : (text : List ℕ) (row : ℕ) (refusal : Refusal) → length text ≤ MOST_FILE_BYTES → IsBrokenAt text row
+      → IsInputRefused (input_line file 9 row) refusal → AnswersLines judge names file work (Some text) (Err refusal)
   row_told text row Usage within broken is = is
   row_told text row (BadProgram line) within broken is = is
   row_told text row (BadInput line) within broken is = by_reading text (Err row) within broken ∙ ap (Spoils (names ++ file ∷ [])) (sym is)
@@ -136,18 +144,23 @@ module _ (judge : Judge) (names : List Name) (file : Name) (work : ToDo) where
   row_told text row OutOfMemory within broken is = tt
 
   -- a file that was read, and one that was not
-  pub file_told : (files : Option Files) (text : List ℕ) (result : Result (List TraceLine) Refusal) → IfSome files (λ told. AnswersFile file (bytes_of told file) (Ok text))
-      → AnswersLines judge names file work (Some text) result → IfSome files (λ told. AnswersLines judge names file work (bytes_of told file) result)
+  pub file_told : (files : Option Files) (text : List ℕ) (result : Result (List TraceLine) Refusal)
+      → IfSome files (λ told. AnswersFile file (bytes_of told file) (Ok text))
+      → AnswersLines judge names file work (Some text) result
+      → IfSome files (λ told. AnswersLines judge names file work (bytes_of told file) result)
   file_told None text result is answers = tt
   file_told (Some files) text result is answers = subst (λ bytes. AnswersLines judge names file work bytes result) (sym is.0) answers
 
-  long_told : (bytes : Option (List ℕ)) (line : List ℕ) → line ≡ input_line file 6 0 → IsSomeAnd bytes (λ text. MOST_FILE_BYTES < length text) → AnswersLines judge names file work bytes (Err (BadInput line))
+  long_told : (bytes : Option (List ℕ)) (line : List ℕ) → line ≡ input_line file 6 0
+      → IsSomeAnd bytes (λ text. MOST_FILE_BYTES < length text) → AnswersLines judge names file work bytes (Err (BadInput line))
   long_told None line is above = absurd above
   long_told (Some text) line is above =
       ap (λ b. if b then Spoils (names ++ file ∷ []) (input_line file 6 0) else by_rows judge names file work (judge.lines_of text)) (past_file text above) ∙ ap (Spoils (names ++ file ∷ [])) (sym is)
 
-  pub unread_told : (T : Type 0) (files : Option Files) (before now : List Name) (refusal : Refusal) → IfSome files (λ told. AnswersFile file (bytes_of told file) (Err refusal))
-      → ReadsAmong {T = T} (file ∷ []) before now (Err refusal) → IfSome files (λ told. AnswersLines judge names file work (bytes_of told file) (Err refusal))
+  pub unread_told : (T : Type 0) (files : Option Files) (before now : List Name) (refusal : Refusal)
+      → IfSome files (λ told. AnswersFile file (bytes_of told file) (Err refusal))
+      → ReadsAmong {T = T} (file ∷ []) before now (Err refusal)
+      → IfSome files (λ told. AnswersLines judge names file work (bytes_of told file) (Err refusal))
   unread_told T None before now refusal is among = tt
   unread_told T (Some files) before now Usage is among = is
   unread_told T (Some files) before now (BadProgram line) is among = is

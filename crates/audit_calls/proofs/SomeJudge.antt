@@ -121,7 +121,8 @@ module _ (dependence : Dependence) (faults : List Fault) where
 one_number : (text : ℕ → List ℕ) (bytes : List ℕ) → Choice ((n : ℕ) × (n < 2 ^ 32) × ((rest : List ℕ) × (bytes ≡ text n ++ rest)))
 one_number text bytes = below (λ n. (rest : List ℕ) × (bytes ≡ text n ++ rest)) (2 ^ 32) (λ n. begins cases_eq (text n) bytes)
 
-two_numbers : (text : ℕ → ℕ → List ℕ) (bytes : List ℕ) → Choice ((n : ℕ) × (n < 2 ^ 32) × ((m : ℕ) × (m < 2 ^ 32) × ((rest : List ℕ) × (bytes ≡ text n m ++ rest))))
+two_numbers : (text : ℕ → ℕ → List ℕ) (bytes : List ℕ)
+    → Choice ((n : ℕ) × (n < 2 ^ 32) × ((m : ℕ) × (m < 2 ^ 32) × ((rest : List ℕ) × (bytes ≡ text n m ++ rest))))
 two_numbers text bytes = below (λ n. (m : ℕ) × (m < 2 ^ 32) × ((rest : List ℕ) × (bytes ≡ text n m ++ rest))) (2 ^ 32) (λ n. one_number (text n) bytes)
 
 abbrev IsRedoAt : List ℕ → Type 0
@@ -162,7 +163,8 @@ redo_at (suc fuel) (b ∷ bytes) short =
           | inr not ↦ inr (λ found. not (redo_end found.0 ++ found.2.0, found.2.1))
         ]
 
-    none_at : ((rest : List ℕ) × ((b ∷ bytes) ≡ codes "\n" ++ rest) → ⊥) → ((k : ℕ) × (k < 2 ^ 32) × First k → ⊥) → (redo : List ℕ) → All IsNarrow redo → (rest : List ℕ) → (b ∷ bytes) ≡ redo_end redo ++ rest → ⊥
+    none_at : ((rest : List ℕ) × ((b ∷ bytes) ≡ codes "\n" ++ rest) → ⊥) → ((k : ℕ) × (k < 2 ^ 32) × First k → ⊥) → (redo : List ℕ)
+        → All IsNarrow redo → (rest : List ℕ) → (b ∷ bytes) ≡ redo_end redo ++ rest → ⊥
     none_at not_end none [] narrow rest is = not_end (rest, is)
     none_at not_end none (q ∷ redo) narrow rest is =
         none (q, All-head IsNarrow q redo narrow, (redo, All-tail IsNarrow q redo narrow, (rest, is ∙ first_apart q redo rest)))
@@ -189,19 +191,20 @@ restart_at : (bytes : List ℕ) → Choice (IsRestartAt bytes)
 restart_at bytes =
     same_choice
     (λ (found : (f : ℕ) × (f < 2 ^ 32) × ((s : ℕ) × (s < 2 ^ 32) × ((a : ℕ) × (a < 2 ^ 32) × IsRedoneAfter f s a bytes))).
-        let struck = found.2 in
-        let attempt = struck.2 in
-        let redone = attempt.2 in
-        let r : Restart = record { front = found.0; struck = struck.0; attempt = attempt.0; redo = redone.0 } in
-        (r, record { front = found.1; struck = struck.1; attempt = attempt.1; redo = redone.1 }, (redone.2.0, redone.2.1 ∙ sym (parts r redone.2.0))))
+    let struck = found.2 in
+    let attempt = struck.2 in
+    let redone = attempt.2 in
+    let r : Restart = record { front = found.0; struck = struck.0; attempt = attempt.0; redo = redone.0 } in
+    (r, record { front = found.1; struck = struck.1; attempt = attempt.1; redo = redone.1 }, (redone.2.0, redone.2.1 ∙ sym (parts r redone.2.0))))
     (λ found.
-        let r = found.0 in
-        let narrow = found.1 in
-        (r.front, narrow.front, (r.struck, narrow.struck, (r.attempt, narrow.attempt, (r.redo, narrow.redo, (found.2.0, found.2.1 ∙ parts r found.2.0))))))
+    let r = found.0 in
+    let narrow = found.1 in
+    (r.front, narrow.front, (r.struck, narrow.struck, (r.attempt, narrow.attempt, (r.redo, narrow.redo, (found.2.0, found.2.1 ∙ parts r found.2.0))))))
     (below (λ f. (s : ℕ) × (s < 2 ^ 32) × ((a : ℕ) × (a < 2 ^ 32) × IsRedoneAfter f s a bytes)) (2 ^ 32)
     (λ f. below (λ s. (a : ℕ) × (a < 2 ^ 32) × IsRedoneAfter f s a bytes) (2 ^ 32) (λ s. below (λ a. IsRedoneAfter f s a bytes) (2 ^ 32) (λ a. after_head f s a bytes))))
 
-restart_line : (bytes : List ℕ) → Choice ((r : Restart) × IsNarrowRestart r × ((rest : List ℕ) × (bytes ≡ codes "restart " ++ (restart_end r ++ rest))))
+restart_line : (bytes : List ℕ)
+    → Choice ((r : Restart) × IsNarrowRestart r × ((rest : List ℕ) × (bytes ≡ codes "restart " ++ (restart_end r ++ rest))))
 restart_line bytes =
     elim (begins cases_eq (codes "restart ") bytes) [
       | inl tail ↦
@@ -238,7 +241,8 @@ line_at bytes =
       ]
     ]
   where
-    none : (l : TraceLine) → IsNarrowLine l → After (line_text l) bytes → ((n : ℕ) × (n < 2 ^ 32) × After (line_text (line.Issue n)) bytes → ⊥)
+    none : (l : TraceLine) → IsNarrowLine l → After (line_text l) bytes
+        → ((n : ℕ) × (n < 2 ^ 32) × After (line_text (line.Issue n)) bytes → ⊥)
         → ((n : ℕ) × (n < 2 ^ 32) × ((m : ℕ) × (m < 2 ^ 32) × After (line_text (line.Post n m)) bytes) → ⊥)
         → ((n : ℕ) × (n < 2 ^ 32) × ((m : ℕ) × (m < 2 ^ 32) × After (line_text (line.Take n m true)) bytes) → ⊥)
         → ((n : ℕ) × (n < 2 ^ 32) × ((m : ℕ) × (m < 2 ^ 32) × After (line_text (line.Take n m false)) bytes) → ⊥)
@@ -252,7 +256,8 @@ line_at bytes =
     none (line.Restart r) narrow is a b c d e f = f (r, narrow, is)
 
 -- traces
-read_from : (fuel : ℕ) (bytes : List ℕ) (lines : List TraceLine) (rest : List ℕ) → length rest ≤ fuel → All IsNarrowLine lines → bytes ≡ trace_text lines ++ rest
+read_from : (fuel : ℕ) (bytes : List ℕ) (lines : List TraceLine) (rest : List ℕ) → length rest ≤ fuel → All IsNarrowLine lines
+    → bytes ≡ trace_text lines ++ rest
     → (result : Result (List TraceLine) ℕ) × Reads bytes result
 read_from fuel bytes lines [] short narrow is = (Ok lines, (narrow, is ∙ append-nil (trace_text lines)))
 read_from zero bytes lines (b ∷ rest) short narrow is = absurd (omega (arith, short))
@@ -263,7 +268,7 @@ read_from (suc fuel) bytes lines (b ∷ rest) short narrow is =
           let later = found.2.0 in
           let size = ap length found.2.1 in
           let more = length-append (line_text l) later in
-          let some = few-lines (line_text l) [] (l ∷ []) (sym (append-nil (line_text l ++ [])  ∙ append-nil (line_text l))) in
+          let some = few-lines (line_text l) [] (l ∷ []) (sym (append-nil (line_text l ++ []) ∙ append-nil (line_text l))) in
           read_from fuel bytes (lines ++ l ∷ []) later (omega (arith, size, more, some, short)) (All-push IsNarrowLine lines l narrow found.1) (text-next bytes (b ∷ rest) later lines l is found.2.1)
       | inr none ↦ (
         Err (length lines + 1),

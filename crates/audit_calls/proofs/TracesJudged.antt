@@ -76,7 +76,8 @@ same_dependence work other same =
     let limits = same.limits in
     λ i. dependence_of (order (programs i) (inputs i) (limits i))
 
-same_verdict : (judge : Judge) (work other : ToDo) (lines : List TraceLine) → IsSameRun work other → ((verdict : Verdict) → IsVerdict (dependence_for work) work.faults lines verdict → verdict ≡ Lawful)
+same_verdict : (judge : Judge) (work other : ToDo) (lines : List TraceLine) → IsSameRun work other
+    → ((verdict : Verdict) → IsVerdict (dependence_for work) work.faults lines verdict → verdict ≡ Lawful)
     → (tried judge other lines).verdict ≡ Lawful
 same_verdict judge work other lines same lawful =
     let verdict = judge.verdict_of (dependence_for other) other.faults lines in

@@ -53,12 +53,14 @@ module _ (judge : Judge) (audited : Audited) where
   below_bytes program names work (Some text) = below_long program names work (nat_lt MOST_FILE_BYTES (length text)) (judge.lines_of text)
 
   -- what was read before the trace, and the trace, were read
-  keeps_rows : (names : List Name) (work : ToDo) (rows : Result (List TraceLine) ℕ) (name : Name) → Contains (names ++ audited.trace ∷ []) name
+  keeps_rows : (names : List Name) (work : ToDo) (rows : Result (List TraceLine) ℕ) (name : Name)
+      → Contains (names ++ audited.trace ∷ []) name
       → Contains (names_read (traced_case (by_rows judge names audited.trace work rows))) name
   keeps_rows names work (Ok lines) name is = is
   keeps_rows names work (Err row) name is = is
 
-  keeps_long : (names : List Name) (work : ToDo) (long : Bool) (rows : Result (List TraceLine) ℕ) (name : Name) → Contains (names ++ audited.trace ∷ []) name
+  keeps_long : (names : List Name) (work : ToDo) (long : Bool) (rows : Result (List TraceLine) ℕ) (name : Name)
+      → Contains (names ++ audited.trace ∷ []) name
       → Contains (names_read (traced_case (if long then Spoils (names ++ audited.trace ∷ []) (input_line audited.trace 6 0) else by_rows judge names audited.trace work rows))) name
   keeps_long names work true rows name is = is
   keeps_long names work false rows name is = keeps_rows names work rows name is
@@ -72,37 +74,45 @@ module _ (judge : Judge) (audited : Audited) where
     abbrev after : List Name → ToDo → Case Tried
     after names work = traced_case (by_trace judge names audited.trace work (bytes_of files audited.trace))
 
-    goes_on : (program : Program) → supplied_case audited.run.program (supplied judge audited program files) ≡ further_case after (supplied_case audited.run.program (supplied_by audited.run program files))
+    goes_on : (program : Program)
+        → supplied_case audited.run.program (supplied judge audited program files) ≡ further_case after (supplied_case audited.run.program (supplied_by audited.run program files))
     goes_on program = go (supplied_by audited.run program files)
       where
-        go : (given : Supplied ToDo) → supplied_case audited.run.program (then_load given (λ names work. by_trace judge names audited.trace work (bytes_of files audited.trace)))
+        go : (given : Supplied ToDo)
+            → supplied_case audited.run.program (then_load given (λ names work. by_trace judge names audited.trace work (bytes_of files audited.trace)))
             ≡ further_case after (supplied_case audited.run.program given)
         go (Supplies names work) = below_bytes audited.run.program names work (bytes_of files audited.trace)
         go (Lacks names name) = refl
         go (Spoils names line) = refl
 
-    to_audit : (case : Case Tried) → IsCaseOf (further_asking run.asking (λ (a : Audited). a.run) audited_by (supplied judge)) audited files case → IsCaseOf (asking judge) audited files case
+    to_audit : (case : Case Tried)
+        → IsCaseOf (further_asking run.asking (λ (a : Audited). a.run) audited_by (supplied judge)) audited files case
+        → IsCaseOf (asking judge) audited files case
     to_audit case (no_program absent) = no_program absent
     to_audit case (of_text meaning there means) = of_text meaning there means
 
-    pub case_after : (names : List Name) (work : ToDo) → IsCaseOf run.asking audited.run files (Go names work) → IsCaseOf (asking judge) audited files (after names work)
+    pub case_after : (names : List Name) (work : ToDo) → IsCaseOf run.asking audited.run files (Go names work)
+        → IsCaseOf (asking judge) audited files (after names work)
     case_after names work is = to_audit (after names work) (further run.asking (λ (a : Audited). a.run) audited_by (supplied judge) audited files after goes_on (Go names work) is)
 
     reads_on : (names : List Name) (work : ToDo) (name : Name) → Contains names name → Contains (names_read (after names work)) name
     reads_on names work name is = keeps_bytes names work (bytes_of files audited.trace) name (Contains-append_left names (audited.trace ∷ []) name is)
 
     -- what the run is refused for, the audit is
-    run_refused : (refusal : Refusal) → RefusesCase (IsCaseOf run.asking audited.run files) refusal → RefusesCase (IsCaseOf (asking judge) audited files) refusal
+    run_refused : (refusal : Refusal) → RefusesCase (IsCaseOf run.asking audited.run files) refusal
+        → RefusesCase (IsCaseOf (asking judge) audited files) refusal
     run_refused refusal is =
         refuses_map (IsCaseOf (further_asking run.asking (λ (a : Audited). a.run) audited_by (supplied judge)) audited files) (IsCaseOf (asking judge) audited files) to_audit refusal
         (refuses_further run.asking (λ (a : Audited). a.run) audited_by (supplied judge) audited files after goes_on reads_on refusal is)
 
     pub lines_case : (names : List Name) (work : ToDo) (lines : List TraceLine) → IsCaseOf run.asking audited.run files (Go names work)
-        → AnswersLines judge names audited.trace work (bytes_of files audited.trace) (Ok lines) → IsCaseOf (asking judge) audited files (Go (names ++ audited.trace ∷ []) (tried judge work lines))
+        → AnswersLines judge names audited.trace work (bytes_of files audited.trace) (Ok lines)
+        → IsCaseOf (asking judge) audited files (Go (names ++ audited.trace ∷ []) (tried judge work lines))
     lines_case names work lines is answers = subst (λ given. IsCaseOf (asking judge) audited files (traced_case given)) answers (case_after names work is)
 
     trace_refused : (names : List Name) (work : ToDo) (refusal : Refusal) → IsCaseOf run.asking audited.run files (Go names work)
-        → AnswersLines judge names audited.trace work (bytes_of files audited.trace) (Err refusal) → RefusesCase (IsCaseOf (asking judge) audited files) refusal
+        → AnswersLines judge names audited.trace work (bytes_of files audited.trace) (Err refusal)
+        → RefusesCase (IsCaseOf (asking judge) audited files) refusal
     trace_refused names work refused.Usage is answers = absurd answers
     trace_refused names work (refused.BadProgram line) is answers = absurd answers
     trace_refused names work (refused.BadInput line) is answers =
@@ -116,34 +126,40 @@ module _ (judge : Judge) (audited : Audited) where
     trace_refused names work refused.OutOfMemory is answers = tt
 
   -- the same where the files are told
-  pub run_refuses : (files : Option Files) (refusal : Refusal) → IfSome files (λ told. RefusesCase (IsCaseOf run.asking audited.run told) refusal)
+  pub run_refuses : (files : Option Files) (refusal : Refusal)
+      → IfSome files (λ told. RefusesCase (IsCaseOf run.asking audited.run told) refusal)
       → IfSome files (λ told. RefusesCase (IsCaseOf (asking judge) audited told) refusal)
   run_refuses None refusal is = tt
   run_refuses (Some files) refusal is = run_refused files refusal is
 
-  pub lines_judged : (files known : Option Files) (names : List Name) (work : ToDo) (lines : List TraceLine) → known ≡ files → IfSome files (λ told. IsCaseOf run.asking audited.run told (Go names work))
+  pub lines_judged : (files known : Option Files) (names : List Name) (work : ToDo) (lines : List TraceLine) → known ≡ files
+      → IfSome files (λ told. IsCaseOf run.asking audited.run told (Go names work))
       → IfSome known (λ told. AnswersLines judge names audited.trace work (bytes_of told audited.trace) (Ok lines))
       → IfSome files (λ told. IsCaseOf (asking judge) audited told (Go (names ++ audited.trace ∷ []) (tried judge work lines)))
   lines_judged None known names work lines same is answers = tt
   lines_judged (Some files) known names work lines same is answers =
       lines_case files names work lines is (subst (λ k. IfSome k (λ told. AnswersLines judge names audited.trace work (bytes_of told audited.trace) (Ok lines))) same answers)
 
-  pub trace_refuses : (files known : Option Files) (names : List Name) (work : ToDo) (refusal : Refusal) → known ≡ files → IfSome files (λ told. IsCaseOf run.asking audited.run told (Go names work))
-      → IfSome known (λ told. AnswersLines judge names audited.trace work (bytes_of told audited.trace) (Err refusal)) → IfSome files (λ told. RefusesCase (IsCaseOf (asking judge) audited told) refusal)
+  pub trace_refuses : (files known : Option Files) (names : List Name) (work : ToDo) (refusal : Refusal) → known ≡ files
+      → IfSome files (λ told. IsCaseOf run.asking audited.run told (Go names work))
+      → IfSome known (λ told. AnswersLines judge names audited.trace work (bytes_of told audited.trace) (Err refusal))
+      → IfSome files (λ told. RefusesCase (IsCaseOf (asking judge) audited told) refusal)
   trace_refuses None known names work refusal same is answers = tt
   trace_refuses (Some files) known names work refusal same is answers =
       trace_refused files names work refusal is (subst (λ k. IfSome k (λ told. AnswersLines judge names audited.trace work (bytes_of told audited.trace) (Err refusal))) same answers)
 
 -- what the shelf tells of a refusal
 module _ (audited : Audited) (before now : List Name) where
-  pub run_reads : (refusal : Refusal) → RefusesShelf run.MayRead (Some audited.run) before now refusal → RefusesShelf MayRead (Some audited) before now refusal
+  pub run_reads : (refusal : Refusal) → RefusesShelf run.MayRead (Some audited.run) before now refusal
+      → RefusesShelf MayRead (Some audited) before now refusal
   run_reads refused.Usage is = let never = is.0 in cc never
   run_reads (refused.BadProgram line) is = is
   run_reads (refused.BadInput line) is = is
   run_reads (refused.ReadFault name) is = (is.0, is.1, of_run is.2)
   run_reads refused.OutOfMemory is = tt
 
-  pub trace_reads : (T : Type 0) (refusal : Refusal) → ReadsAmong {T = T} (audited.trace ∷ []) before now (Err refusal) → RefusesShelf MayRead (Some audited) before now refusal
+  pub trace_reads : (T : Type 0) (refusal : Refusal) → ReadsAmong {T = T} (audited.trace ∷ []) before now (Err refusal)
+      → RefusesShelf MayRead (Some audited) before now refusal
   trace_reads T refused.Usage is = absurd is
   trace_reads T (refused.BadProgram line) is = absurd is
   trace_reads T (refused.BadInput line) is = is
@@ -151,7 +167,8 @@ module _ (audited : Audited) (before now : List Name) where
   trace_reads T refused.OutOfMemory is = tt
 
 -- words for which nothing is read are those of no command
-pub nothing_read : {P : Type 0} (judge : Judge) (words : List (List ℕ)) → (audited_by words ≡ None → P) → ReadsNothing (commands judge) (audited_by words) → P
+pub nothing_read : {P : Type 0} (judge : Judge) (words : List (List ℕ)) → (audited_by words ≡ None → P)
+    → ReadsNothing (commands judge) (audited_by words) → P
 nothing_read {P} judge words to = go (audited_by words) to
   where
     go : (asked : Option Audited) → (asked ≡ None → P) → ReadsNothing (commands judge) asked → P

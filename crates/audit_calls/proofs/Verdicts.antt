@@ -30,7 +30,8 @@ use Rattle.audit_calls.specs.Tried.{Judge, tried}
 use Rattle.audit_calls.proofs.Readings.{one_reading}
 
 -- the plain run has few steps
-pub few_steps : (program : Program) (inputs : Inputs) (limits : Limits) (steps : List Step) → steps ≡ map shown (order program inputs limits) → limits.subthreads ≤ MOST_SUBTHREADS
+pub few_steps : (program : Program) (inputs : Inputs) (limits : Limits) (steps : List Step)
+    → steps ≡ map shown (order program inputs limits) → limits.subthreads ≤ MOST_SUBTHREADS
     → length steps < 4294967295
 few_steps program inputs limits steps are few =
     let count : length (order program inputs limits) ≤ limits.subthreads = count_law (tree_machine program inputs limits) program inputs limits in
@@ -38,7 +39,8 @@ few_steps program inputs limits steps are few =
     omega (arith, count, same)
 
 -- a verdict by the steps of the plain run is the judge's
-pub verdict_judged : (judge : Judge) (work : ToDo) (lines : List TraceLine) (steps : List Step) (verdict : Verdict) → steps ≡ map shown (order work.program work.inputs work.limits)
+pub verdict_judged : (judge : Judge) (work : ToDo) (lines : List TraceLine) (steps : List Step) (verdict : Verdict)
+    → steps ≡ map shown (order work.program work.inputs work.limits)
     → IsVerdict (dependence_by steps) work.faults lines verdict → verdict ≡ (tried judge work lines).verdict
 unfolding run_of dependence_for
 verdict_judged judge work lines steps verdict are is =
@@ -47,7 +49,8 @@ verdict_judged judge work lines steps verdict are is =
     (judge.judges (dependence_for work) work.faults lines)
 
 -- memory was out before anything was written
-pub stopped_memory : (text : List ℕ) (due : ℕ) (written : Option (List ℕ)) (faults : ℕ) (result : Result ℕ SinkFault) (fault : SinkFault) → result ≡ Err fault → fault ≡ OutOfMemory
+pub stopped_memory : (text : List ℕ) (due : ℕ) (written : Option (List ℕ)) (faults : ℕ) (result : Result ℕ SinkFault) (fault : SinkFault)
+    → result ≡ Err fault → fault ≡ OutOfMemory
     → PutFor text due (unwritten written faults) result
 stopped_memory text due written faults result fault is out =
     subst (PutFor text due (unwritten written faults)) (sym is)

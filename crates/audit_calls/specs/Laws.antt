@@ -34,8 +34,11 @@ pub record IsSameRun (work other : ToDo) : Type 0 where
 -- file as the trace of the same run comes to the status 0 and the text `lawful`.
 abbrev pub TraceLaw : Type 0
 TraceLaw =
-    (judge : Judge) (call : Call) (files : Files) (names : List Name) (work : ToDo) → Headline run.commands call → call.files ≡ Some files → IsCase run.asking call.words files (Go names work)
-    → is_journalled work.command ≡ true → run.IsWhole call.status → IsNarrowRun (run_of work) work.faults → length (trace_text call.journal) ≤ MOST_FILE_BYTES
-    → (audited : Audited) (files' : Files) (names' : List Name) (work' : ToDo) (case : Case Tried) → IsCaseOf run.asking audited.run files' (Go names' work') → IsSameRun work work'
+    (judge : Judge) (call : Call) (files : Files) (names : List Name) (work : ToDo) → Headline run.commands call → call.files ≡ Some files
+    → IsCase run.asking call.words files (Go names work)
+    → is_journalled work.command ≡ true → run.IsWhole call.status → IsNarrowRun (run_of work) work.faults
+    → length (trace_text call.journal) ≤ MOST_FILE_BYTES
+    → (audited : Audited) (files' : Files) (names' : List Name) (work' : ToDo) (case : Case Tried)
+    → IsCaseOf run.asking audited.run files' (Go names' work') → IsSameRun work work'
     → bytes_of files' audited.trace ≡ Some (trace_text call.journal) → IsCaseOf (asking judge) audited files' case
     → (status_of (commands judge) case ≡ 0) × (text_of (commands judge) case ≡ codes "lawful\n")

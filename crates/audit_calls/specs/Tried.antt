@@ -26,7 +26,8 @@ pub record Judge : Type 0 where
   pub lines_of : List ℕ → Result (List TraceLine) ℕ
   pub reads : (bytes : List ℕ) → Reads bytes (lines_of bytes)
   pub verdict_of : Dependence → List Fault → List TraceLine → Verdict
-  pub judges : (dependence : Dependence) (faults : List Fault) (lines : List TraceLine) → IsVerdict dependence faults lines (verdict_of dependence faults lines)
+  pub judges : (dependence : Dependence) (faults : List Fault) (lines : List TraceLine)
+      → IsVerdict dependence faults lines (verdict_of dependence faults lines)
 
 -- the run that is said to have been, the lines of its trace, and the verdict on them
 pub record Tried : Type 0 where

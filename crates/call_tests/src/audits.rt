@@ -47,14 +47,7 @@ fn audit_of<R: AllocGlobal>(
     let mut shelf = shelf_with(alloc, files, trace)?;
     let mut output = sink_of(alloc, SOUND.most, SOUND.output)?;
     let mut error = sink_of(alloc, SOUND.most, SOUND.error)?;
-    let outcome = audit_run(
-        rt,
-        &words,
-        &mut shelf,
-        &mut output,
-        &mut error,
-        &FreeGate,
-    );
+    let outcome = audit_run(rt, &words, &mut shelf, &mut output, &mut error, &FreeGate);
     Ok(Answer {
         status: outcome.status,
         output,
@@ -99,7 +92,12 @@ fn a_trace_of_one_subthread(rt: HostRuntime) -> Result<(), Fail> {
         ("issue x\n", 4, "", broken),
         ("", 10, "incomplete\n", ""),
         ("issue 0", 4, "", broken),
-        ("issue 1\nissue 00\n", 4, "", "gprs: input t.txt kind 9 row 2\n"),
+        (
+            "issue 1\nissue 00\n",
+            4,
+            "",
+            "gprs: input t.txt kind 9 row 2\n",
+        ),
     ];
     for (trace, status, output, error) in rows {
         let told = (status, output, error);
