@@ -1,6 +1,9 @@
-//! Tests of the top calls: the worked examples, devices that fail at each of their calls, and runs that faults strike.
+//! Tests of the top calls: the worked examples, devices that fail at each of their calls, runs that faults strike,
+//! and audits of their traces.
 #![tactic(auto)]
 
+#[cfg(test)]
+mod audits;
 #[cfg(test)]
 mod calls;
 #[cfg(test)]

@@ -1,3 +1,4 @@
 pub mod Arguments
+pub mod AuditWords
 pub mod Numbers
 pub mod Words

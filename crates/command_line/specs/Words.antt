@@ -150,9 +150,10 @@ abbrev pub IsWithinMoves : Command → Type 0
 IsWithinMoves (command.Soak soak) = (LEAST_MOVES ≤ soak.moves) × (soak.moves ≤ MOST_MOVES)
 IsWithinMoves command = ⊤
 
--- some subthread may begin, there is a worker and no more than there may be
+-- some subthread may begin and no more than may at most, there is a worker and no more than there may be
 pub record IsWithinLimits (asked : Asked) : Type 0 where
   pub moves : IsWithinMoves asked.command
   pub some_subthread : 0 < asked.limits.subthreads
+  pub few_subthreads : asked.limits.subthreads ≤ MOST_SUBTHREADS
   pub some_worker : 1 ≤ asked.workers
   pub few_workers : asked.workers ≤ MOST_WORKERS

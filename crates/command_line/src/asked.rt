@@ -1,6 +1,6 @@
 // The commands, and what words ask for.
 ghost use Rattle.std.specs.Prelude.{◌≡◌, ◌<◌, ◌≤◌, IfOk, IfSome, option_map};
-ghost use Rattle.gp_base.specs.declared.limits.TheConstants.{MOST_WORKERS, LEAST_MOVES, MOST_MOVES};
+ghost use Rattle.gp_base.specs.declared.limits.TheConstants.{MOST_WORKERS, MOST_SUBTHREADS, LEAST_MOVES, MOST_MOVES};
 ghost use Rattle.clap.specs.Words.{app_of, found_of, rows_of};
 ghost use Rattle.command_line.specs.Words.{texts, named_verb, named_crew, app_for, on_program, with_limits, with_crew, for_run, for_soak, asked_among, asked_by, asked_in, asked_of, asked_waiting, command_in, crew_in, soak_in, limits_in, program_in, faults_in, is_pipe, wants_pipe, IsWithinMoves, IsWithinLimits};
 
@@ -100,8 +100,8 @@ fn named_crew(waits: bool, word: &str) -> Option<CrewKind>
     }
 }
 
-// A command of this name that takes a program's name, and no other word.
-fn on_program<'a>(alloc: Global, name: &'a str) -> Result<clap::Command<'a>, AllocError>
+/// A command of this name that takes a program's name, and no other word.
+pub fn on_program<'a>(alloc: Global, name: &'a str) -> Result<clap::Command<'a>, AllocError>
     ensures { IfOk result (λ parser. app_of parser ≡ on_program name.entry.now) }
 {
     let program = positional(alloc, "program");
@@ -109,8 +109,8 @@ fn on_program<'a>(alloc: Global, name: &'a str) -> Result<clap::Command<'a>, All
     start.arg(program)
 }
 
-// The command with the options of limits.
-fn with_limits<'a>(
+/// The command with the options of limits.
+pub fn with_limits<'a>(
     alloc: Global,
     parser: clap::Command<'a>,
 ) -> Result<clap::Command<'a>, AllocError>
@@ -235,6 +235,7 @@ fn crew_in(waits: bool, matches: &ArgMatches<'_>) -> Option<CrewKind>
 fn limits_in(matches: &ArgMatches<'_>) -> Option<Limits>
     ensures limits { result ≡ limits_in (rows_of (found_of matches.now)) }
     ensures some_subthread { IfSome result (λ limits. 0 < limits.subthreads) }
+    ensures few_subthreads { IfSome result (λ limits. limits.subthreads ≤ MOST_SUBTHREADS) }
 {
     let most = u64::from(MOST_SUBTHREADS);
     let usual = u64::from(DEFAULT_SUBTHREADS);
@@ -246,8 +247,8 @@ fn limits_in(matches: &ArgMatches<'_>) -> Option<Limits>
     })
 }
 
-// What the matches of a command ask for, or none where a value is not one of its option.
-fn asked_in(
+/// What the matches of a command ask for, or none where a value is not one of its option.
+pub fn asked_in(
     alloc: Global,
     waits: bool,
     verb: Verb,

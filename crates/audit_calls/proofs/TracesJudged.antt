@@ -1,0 +1,96 @@
+-- The trace of a run that ended is judged lawful.
+use Rattle.std.proofs.Common.{◌≡◌, ◌≤◌, ◌⊎◌, inl, inr, ℕ, true, List, [], ◌∷◌, ◌++◌, length, sym, ap, subst, ◌∙◌}
+use Rattle.std.specs.declared.option.Option.TheVariants.{Some}
+use Rattle.std.specs.declared.result.Result.{Result}
+use Rattle.std.specs.declared.result.Result.TheVariants.{Ok, Err}
+use Rattle.gp_base.specs.Files.{bytes_of}
+use Rattle.gp_base.specs.declared.limits.TheConstants.{MOST_FILE_BYTES}
+use Rattle.task_ast.specs.Tree.{Name}
+use Rattle.task_ast.specs.Plain.{order}
+use Rattle.dependence.specs.Restarts.{Dependence}
+use Rattle.dependence.specs.Runs.{dependence_of}
+use Rattle.restart_log.specs.Trace.{trace_text}
+use Rattle.gp_audit.specs.declared.line.TraceLine.{TraceLine}
+use Rattle.gp_audit.specs.declared.verdict.Verdict.{Verdict}
+use Rattle.gp_audit.specs.declared.verdict.Verdict.TheVariants.{Lawful}
+use Rattle.gp_audit.specs.Answer.{verdict_text, verdict_status}
+use Rattle.gp_audit.specs.Verdicts.{IsVerdict}
+use Rattle.gp_traces.specs.Laws.{IsWholeRun, IsNarrowRun}
+use Rattle.gp_traces.proofs.Orders.{order-is}
+use Rattle.gp_traces.proofs.WholeRuns.{audit-is-lawful}
+use Rattle.call_cases.specs.Work.{Files, ToDo, is_journalled}
+use Rattle.call_cases.specs.Journals.{run_of, dependence_for, IsJournalOf, IsCompleteOf}
+use Rattle.call_cases.specs.Case.{Go, IsCase, ForCase, ForRun, status_of, text_of}
+use Rattle.call_cases.specs.RunCommands as run
+use Rattle.call_cases.specs.Headline.{Call, Headline}
+use Rattle.call_cases.proofs.OneCase.{one_case_of}
+use Rattle.audit_calls.specs.Tried.{Reads, Judge, tried}
+use Rattle.audit_calls.specs.AuditCommands.{asking, commands}
+use Rattle.audit_calls.specs.Laws.{IsSameRun, TraceLaw}
+use Rattle.audit_calls.specs.inner.Trials.{AnswersLines}
+use Rattle.audit_calls.proofs.Readings.{told, told_reads, told_lines, told_something, lines_told}
+use Rattle.audit_calls.proofs.TrialCases.{lines_case}
+
+-- what a headline says of the journal of a run that ended
+module _ (call : Call) (files : Files) (names : List Name) (work : ToDo) (headline : Headline run.commands call) (known : call.files ≡ Some files)
+    (is : IsCase run.asking call.words files (Go names work)) (runs : is_journalled work.command ≡ true) where
+  journal_of : IsJournalOf work call.journal
+  journal_of =
+      subst (λ told. ForCase run.asking call.words told (λ case. ForRun run.commands case (λ w. IsJournalOf w call.journal))) known headline.lawful (Go names work) is runs
+
+  whole_run : run.IsWhole call.status → IsWholeRun (run_of work) work.faults call.journal
+  unfolding dependence_for
+  whole_run whole = record {
+    complete =
+        subst (λ told. ForCase run.asking call.words told (λ case. ForRun run.commands case (λ w. IsCompleteOf w call.journal))) known (headline.complete whole) (Go names work) is runs;
+    first = journal_of.first;
+    counted = journal_of.counted;
+  }
+
+  -- what a judge reads in its trace, and how these lines are judged
+  judged : (judge : Judge) → run.IsWhole call.status → IsNarrowRun (run_of work) work.faults
+      → (lines : List TraceLine) × (judge.lines_of (trace_text call.journal) ≡ Ok lines) × ((verdict : Verdict) → IsVerdict (dependence_for work) work.faults lines verdict → verdict ≡ Lawful)
+  unfolding dependence_for
+  judged judge whole narrow =
+      elim (audit-is-lawful (run_of work) work.faults call.journal narrow (whole_run whole) (told read) (told_reads text read (judge.reads text))) [
+        | inl out ↦ absurd (told_something read out)
+        | inr found ↦ (
+          found.0,
+          told_lines read found.0 found.1,
+          λ verdict is_verdict. found.2 verdict (subst (λ (dependence : Dependence). IsVerdict dependence work.faults found.0 verdict) (sym (order-is (run_of work))) is_verdict),
+        )
+      ]
+    where
+      text : List ℕ
+      text = trace_text call.journal
+
+      read : Result (List TraceLine) ℕ
+      read = judge.lines_of (trace_text call.journal)
+
+-- what the same run says of dependence
+same_dependence : (work other : ToDo) → IsSameRun work other → dependence_for work ≡ dependence_for other
+unfolding run_of dependence_for
+same_dependence work other same =
+    let programs = same.program in
+    let inputs = same.inputs in
+    let limits = same.limits in
+    λ i. dependence_of (order (programs i) (inputs i) (limits i))
+
+same_verdict : (judge : Judge) (work other : ToDo) (lines : List TraceLine) → IsSameRun work other
+    → ((verdict : Verdict) → IsVerdict (dependence_for work) work.faults lines verdict → verdict ≡ Lawful)
+    → (tried judge other lines).verdict ≡ Lawful
+same_verdict judge work other lines same lawful =
+    let verdict = judge.verdict_of (dependence_for other) other.faults lines in
+    let faults = subst (λ fs. IsVerdict (dependence_for other) fs lines verdict) (sym same.faults) (judge.judges (dependence_for other) other.faults lines) in
+    lawful verdict (subst (λ (dependence : Dependence). IsVerdict dependence work.faults lines verdict) (sym (same_dependence work other same)) faults)
+
+pub trace_law : TraceLaw
+trace_law judge call files names work headline known is runs whole narrow within audited files' names' work' case is' same holds is_case =
+    let text = trace_text call.journal in
+    let found = judged call files names work headline known is runs judge whole narrow in
+    let answers : AnswersLines judge names' audited.trace work' (bytes_of files' audited.trace) (Ok found.0) =
+    subst (λ bytes. AnswersLines judge names' audited.trace work' bytes (Ok found.0)) (sym holds)
+    (lines_told judge names' audited.trace work' text found.0 within (subst (Reads text) found.1 (judge.reads text))) in
+    let one = one_case_of (asking judge) audited files' (Go (names' ++ audited.trace ∷ []) (tried judge work' found.0)) case (lines_case judge audited files' names' work' found.0 is' answers) is_case in
+    let verdict = same_verdict judge work work' found.0 same found.2 in
+    (sym (ap (status_of (commands judge)) one) ∙ ap verdict_status verdict, sym (ap (text_of (commands judge)) one) ∙ ap verdict_text verdict)

@@ -1,0 +1,44 @@
+-- Laws of audits.
+use Rattle.std.specs.Prelude.{◌≡◌, ◌≤◌, ℕ, true, List, Some, length, codes}
+use Rattle.gp_base.specs.Files.{bytes_of}
+use Rattle.gp_base.specs.declared.fault.Fault.{Fault}
+use Rattle.gp_base.specs.declared.limits.TheConstants.{MOST_FILE_BYTES}
+use Rattle.task_ast.specs.Tree.{Name}
+use Rattle.dependence.specs.Restarts.{Dependence}
+use Rattle.restart_log.specs.Trace.{trace_text}
+use Rattle.gp_audit.specs.declared.line.TraceLine.{TraceLine}
+use Rattle.gp_traces.specs.Laws.{IsNarrowRun}
+use Rattle.command_line.specs.declared.audit_words.Audited.{Audited}
+use Rattle.call_cases.specs.Work.{Files, ToDo, is_journalled}
+use Rattle.call_cases.specs.Journals.{run_of}
+use Rattle.call_cases.specs.Case.{Case, Go, IsCaseOf, IsCase, status_of, text_of}
+use Rattle.call_cases.specs.RunCommands as run
+use Rattle.call_cases.specs.Headline.{Call, Headline}
+use Rattle.audit_calls.specs.Tried.{Judge, Tried}
+use Rattle.audit_calls.specs.AuditCommands.{asking, commands}
+
+-- no two judges differ
+abbrev pub OneJudge : Type 0
+OneJudge =
+    (judge other : Judge) → ((bytes : List ℕ) → judge.lines_of bytes ≡ other.lines_of bytes)
+    × ((dependence : Dependence) (faults : List Fault) (lines : List TraceLine) → judge.verdict_of dependence faults lines ≡ other.verdict_of dependence faults lines)
+
+-- the same program is run, from the same inputs, with the same faults, under the same limits
+pub record IsSameRun (work other : ToDo) : Type 0 where
+  pub program : work.program ≡ other.program
+  pub inputs : work.inputs ≡ other.inputs
+  pub faults : work.faults ≡ other.faults
+  pub limits : work.limits ≡ other.limits
+
+-- A call of `gprs_run`, over these files, whose run ended at 0, 5 or 6, left a journal. Where the trace of that journal stands in a file, an audit of that
+-- file as the trace of the same run comes to the status 0 and the text `lawful`.
+abbrev pub TraceLaw : Type 0
+TraceLaw =
+    (judge : Judge) (call : Call) (files : Files) (names : List Name) (work : ToDo) → Headline run.commands call → call.files ≡ Some files
+    → IsCase run.asking call.words files (Go names work)
+    → is_journalled work.command ≡ true → run.IsWhole call.status → IsNarrowRun (run_of work) work.faults
+    → length (trace_text call.journal) ≤ MOST_FILE_BYTES
+    → (audited : Audited) (files' : Files) (names' : List Name) (work' : ToDo) (case : Case Tried)
+    → IsCaseOf run.asking audited.run files' (Go names' work') → IsSameRun work work'
+    → bytes_of files' audited.trace ≡ Some (trace_text call.journal) → IsCaseOf (asking judge) audited files' case
+    → (status_of (commands judge) case ≡ 0) × (text_of (commands judge) case ≡ codes "lawful\n")

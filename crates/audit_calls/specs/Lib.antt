@@ -1,0 +1,4 @@
+pub mod AuditCommands
+pub mod Laws
+pub mod Tried
+pub mod inner

@@ -1,0 +1,75 @@
+// The words of `audit`: whose run is audited, and by which trace.
+ghost use Rattle.std.specs.Prelude.{◌≡◌, IfOk, IfSome};
+ghost use Rattle.clap.specs.Words.{app_of, found_of, rows_of};
+ghost use Rattle.command_line.specs.Words.{texts, IsWithinLimits};
+ghost use Rattle.command_line.specs.AuditWords.{for_audit, audited_in, audited_of, audited_by};
+
+use crate::arguments::{found_text, option, positional, taken};
+use crate::asked::{Asked, Verb, asked_in, on_program, with_limits};
+use clap::ArgMatches;
+use gp_base::Name;
+use std::alloc::{AllocError, Global};
+
+/// What words ask to be audited: the run that is said to have been, as `run` asks for it by the default crew and untraced, and
+/// the file of its trace.
+#[derive(Drop)]
+pub struct Audited {
+    pub run: Asked,
+    pub trace: Name,
+}
+
+// What takes the words of `audit`.
+fn for_audit<'a>(alloc: Global) -> Result<clap::Command<'a>, AllocError>
+    ensures { IfOk result (λ parser. app_of parser ≡ for_audit) }
+{
+    let trace = positional(alloc, "trace_file");
+    let faults = option(alloc, "faults");
+    let program = on_program(alloc, "audit")?;
+    let traced = program.arg(trace)?;
+    let struck = traced.arg(faults)?;
+    with_limits(alloc, struck)
+}
+
+// What the matches of the command ask for, or none where a value is not one of its option.
+fn audited_in(alloc: Global, matches: &ArgMatches<'_>) -> Result<Option<Audited>, AllocError>
+    ensures audited { IfOk result (λ audited. audited ≡ audited_in (rows_of (found_of matches.now))) }
+    ensures within { IfOk result (λ audited. IfSome audited (λ a. IsWithinLimits a.run)) }
+{
+    let Some(run) = asked_in(alloc, false, Verb::Run, matches)? else {
+        return Ok(None);
+    };
+    let Some(trace) = found_text(matches, "trace_file") else {
+        return Ok(None);
+    };
+    Ok(Some(Audited {
+        run,
+        trace: Name::from_slice(alloc, trace.as_bytes())?,
+    }))
+}
+
+// What the words of the command ask for, or none where it does not take them.
+fn audited_of(alloc: Global, words: &[String]) -> Result<Option<Audited>, AllocError>
+    ensures audited { IfOk result (λ audited. audited ≡ audited_of (texts words.now)) }
+    ensures within { IfOk result (λ audited. IfSome audited (λ a. IsWithinLimits a.run)) }
+{
+    let parser = for_audit(alloc)?;
+    match taken(parser, words)? {
+        Some(matches) => audited_in(alloc, &matches),
+        None => Ok(None),
+    }
+}
+
+/// What the words ask to be audited, or none where they are not those of `audit`: the first word is another, the command does
+/// not take the others, or a number is outside its range. `words` are those after the program's own name.
+pub fn read_audit_words(alloc: Global, words: &[String]) -> Result<Option<Audited>, AllocError>
+    ensures audited { IfOk result (λ audited. audited ≡ audited_by (texts words.now)) }
+    ensures within { IfOk result (λ audited. IfSome audited (λ a. IsWithinLimits a.run)) }
+{
+    let [word, ..] = words else {
+        return Ok(None);
+    };
+    if word.as_str() != "audit" {
+        return Ok(None);
+    }
+    audited_of(alloc, words)
+}
