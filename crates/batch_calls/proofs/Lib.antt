@@ -2,3 +2,4 @@ pub mod PlainTexts
 pub mod RanPieces
 pub mod RunEnds
 pub mod RunPieces
+pub mod Waiting

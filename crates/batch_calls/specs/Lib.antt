@@ -1,1 +1,2 @@
+pub mod WaitingCommands
 pub mod inner

@@ -7,5 +7,7 @@ pub mod plan;
 mod run;
 mod texts;
 mod top;
+mod waiting;
 
 pub use top::gprs_run;
+pub use waiting::gprs_run_pipe;

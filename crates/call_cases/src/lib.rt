@@ -13,5 +13,5 @@ pub use cases::{one_case, some_case};
 pub use endings::{Outcome, empty_journal, plain_outcome, refuse};
 pub use inputs::{read_file, refused_input};
 pub use lines::{OUT_OF_MEMORY, WRITE_FAULT, end_with};
-pub use reading::{Refusal, read_asked, read_request};
+pub use reading::{Refusal, read_asked, read_for, read_request};
 pub use work::{Request, runs};

@@ -230,8 +230,8 @@ fn read_made(alloc: Global, asked: Asked, soak: Soak) -> Result<Request, Refusal
     }
 }
 
-// What is asked, over the files of the shelf, or over those that the program makes itself.
-fn read_for<H: Shelf>(alloc: Global, asked: Asked, shelf: &mut H) -> Result<Request, Refusal>
+/// What is asked, over the files of the shelf, or over those that the program makes itself. The first refusal met is the answer.
+pub fn read_for<H: Shelf>(alloc: Global, asked: Asked, shelf: &mut H) -> Result<Request, Refusal>
     requires { IsWithinLimits asked }
     ensures unread { makes_files asked.command ≡ true → shelf.new ≡ shelf.old }
     ensures shelf { TouchesShelf MayRead (Some asked) (H.failed shelf.old) (H.failed shelf.new) result }
