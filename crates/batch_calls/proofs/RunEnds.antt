@@ -1,5 +1,5 @@
 -- How a run over a journal ends, and what is promised of it.
-use Rattle.std.proofs.Common.{◌≡◌, ◌⊎◌, ℕ, Bool, true, false, if◌then◌else◌, List, [], refl, sym, ap, ◌∙◌, subst, inl, inr, arith}
+use Rattle.std.proofs.Common.{◌≡◌, ◌⊎◌, ℕ, Bool, false, if◌then◌else◌, List, [], refl, sym, ap, ◌∙◌, subst, inl, inr, arith}
 use Rattle.std.specs.declared.option.Option.{Option}
 use Rattle.std.specs.declared.result.Result.{Result}
 use Rattle.std.specs.declared.result.Result.TheVariants.{Ok, Err}
@@ -9,7 +9,6 @@ use Rattle.reorder_list.specs.declared.report.Report.{Report}
 use Rattle.reorder_list.specs.declared.report.EngineStop.{EngineStop}
 use Rattle.reorder_list.specs.declared.report.StopWhy.{StopWhy}
 use Rattle.reorder_list.specs.declared.report.StopWhy.TheVariants as why
-use Rattle.restart_log.specs.Trace.{trace_text, event_line}
 use Rattle.gp_base.specs.declared.journal.Journal.{Journal}
 use Rattle.gp_base.proofs.Written.{prefix_none}
 use Rattle.command_line.specs.declared.asked.Asked.{Asked}
@@ -62,11 +61,6 @@ untraced due traced trace err is kept =
 
 pub trace_without : (due : ℕ) (line : List ℕ) (err : Change) → err.written' ≡ err.written → LineEnds due line err 1
 trace_without due line err kept = line_no_memory (subst (λ w. AppendsPrefix err.written w line) (sym kept) (prefix_none err.written line))
-
--- a journal of no event has no trace
-pub no_trace : (traced : Bool) (journal : Journal) → IsEmpty journal → (if traced then trace_text journal else []) ≡ []
-no_trace true journal empty = ap (λ events. flat_map (event_line journal.restarts) events) empty.0
-no_trace false journal empty = refl
 
 -- a run that did not begin, since memory was out
 pub unbegun_carries : (asked : Asked) (work : ToDo) (written : Option (List ℕ)) (faults : ℕ) (err : Change) (status : ℕ) (journal : Journal) → IsEmpty journal → LineEnds 1 out_of_memory_line err status

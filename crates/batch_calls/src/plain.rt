@@ -35,7 +35,12 @@ pub fn put_one<O: Sink>(alloc: Global, request: &Request, out: &mut O) -> Result
     ensures cause { HasCause (O.faults out.old) (O.faults out.new) result }
 {
     put_all(out, OUTPUT)?;
-    let ran = run_plain(alloc, &request.checked, &request.inputs, request.asked.limits)?;
+    let ran = run_plain(
+        alloc,
+        &request.checked,
+        &request.inputs,
+        request.asked.limits,
+    )?;
     let text = printed(alloc, ran.order.as_slice())?;
     put_all(out, &text)?;
     let subthreads = ran.order.len();

@@ -18,7 +18,9 @@ ghost use Rattle.batch_calls.specs.inner.Ran.{RanFor, EndsFor, StopsWith, why_of
 use crate::plain::{end_status, put_ok, put_one};
 use crate::plan::{Plan, put_lines};
 use crate::texts::OUTPUT;
-use call_cases::{OUT_OF_MEMORY, Outcome, Request, WRITE_FAULT, empty_journal, end_with, plain_outcome};
+use call_cases::{
+    OUT_OF_MEMORY, Outcome, Request, WRITE_FAULT, empty_journal, end_with, plain_outcome,
+};
 use command_line::{Command, Soak};
 use crew::Crew;
 use engine::{EngineStop, Report, StopWhy};
