@@ -138,7 +138,7 @@ redo_at zero (b ∷ bytes) short = absurd (omega (arith, short))
 redo_at (suc fuel) (b ∷ bytes) short =
     elim (begins cases_eq (codes "\n") (b ∷ bytes)) [
       | inl found ↦ inl ([], All-nil IsNarrow, found)
-      | inr not_end ↦ elim (below First (2 ^ 32) first_at) [
+      | inr not_end ↦ elim (below First (2 ^ 32) (first_at (λ tail few. redo_at fuel tail few))) [
         | inl found ↦
             let p = found.0 in
             let more = found.2 in
@@ -150,8 +150,8 @@ redo_at (suc fuel) (b ∷ bytes) short =
     First : ℕ → Type 0
     First p = (redo : List ℕ) × All IsNarrow redo × ((rest : List ℕ) × ((b ∷ bytes) ≡ codes " " ++ (decimal p ++ (redo_end redo ++ rest))))
 
-    first_at : (p : ℕ) → Choice (First p)
-    first_at p =
+    first_at : ((tail : List ℕ) → length tail ≤ fuel → Choice (IsRedoAt tail)) → (p : ℕ) → Choice (First p)
+    first_at again p =
         elim (begins cases_eq (codes " " ++ decimal p) (b ∷ bytes)) [
           | inl tail ↦
               let size = ap length tail.1 in
@@ -159,7 +159,7 @@ redo_at (suc fuel) (b ∷ bytes) short =
               same_choice
               (λ found. (found.0, found.1, (found.2.0, (let same = found.2.1 in tail.1 ∙ ap (λ text. codes " " ++ (decimal p ++ text)) same))))
               (λ found. (found.0, found.1, (found.2.0, cancel (codes " " ++ decimal p) tail.0 (redo_end found.0 ++ found.2.0) (sym tail.1 ∙ found.2.1))))
-              (redo_at fuel tail.0 (omega (arith, size, more, short)))
+              (again tail.0 (omega (arith, size, more, short)))
           | inr not ↦ inr (λ found. not (redo_end found.0 ++ found.2.0, found.2.1))
         ]
 
