@@ -243,27 +243,34 @@ fn an_error_stream_that_fails_has_a_prefix(rt: HostRuntime) -> Result<(), Fail> 
     Ok(())
 }
 
-// The whole trace is that of a run whose error stream does not fail.
-fn stops_at_each_call_of_a_trace<R: Threads + Sync + AllocGlobal>(
+// The error stream of the struck run gets its trace, which is this, up to the call that fails.
+fn stops_at_each_call_of<R: Threads + Sync + AllocGlobal>(
     rt: &R,
+    trace: &[u8],
 ) -> Result<bool, AllocError> {
-    let files = adding(b"4,0,3,1\n");
-    let whole = answer_of(rt, TRACED, files, SOUND)?;
     let told = Told {
         words: TRACED,
-        files,
+        files: adding(b"4,0,3,1\n"),
         read: 0,
         output: 0,
         status: 0,
         text: STRUCK_TEXT,
-        error: whole.error.written(),
+        error: trace,
     };
     stops_at_each_error(rt, &told)
 }
 
+// The whole trace is that of a run whose error stream does not fail.
+fn stops_in_its_trace<R: Threads + Sync + AllocGlobal>(rt: &R) -> Result<bool, AllocError> {
+    let whole = answer_of(rt, TRACED, adding(b"4,0,3,1\n"), SOUND)?;
+    let stops = stops_at_each_call_of(rt, whole.error.written());
+    drop(whole);
+    stops
+}
+
 #[test]
 fn a_trace_that_fails_has_a_prefix(rt: HostRuntime) -> Result<(), Fail> {
-    assert!(rt; stops_at_each_call_of_a_trace(&rt)?);
+    assert!(rt; stops_in_its_trace(&rt)?);
     Ok(())
 }
 
