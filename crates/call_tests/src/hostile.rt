@@ -12,14 +12,12 @@ use std::alloc::{AllocError, Global};
 use std::test::Fail;
 use std::thread::Threads;
 
-const FIRST: &str = "output\n";
+const EMPTY_TEXT: &str =
+    "output\nrecords\nrestarts\ncounts\nsubthreads 1\nrestarts 0\nredone 0\nunused 0\n";
 
-const UNSTRUCK: &str = "records\nrestarts\ncounts\nsubthreads 1\nrestarts 0\nredone 0\nunused 0\n";
+const PRINTS_TEXT: &str =
+    "output\n7\n42\nrecords\nrestarts\ncounts\nsubthreads 1\nrestarts 0\nredone 0\nunused 0\n";
 
-const STRUCK: &str =
-    "records\ntotal: 7\nrestarts\n1: front 8 struck 4 try 0 redo 4 6 7\ncounts\nsubthreads 11\nrestarts 1\nredone 3\nunused 0\n";
-
-// What the struck run writes.
 const STRUCK_TEXT: &str =
     "output\nrecords\ntotal: 7\nrestarts\n1: front 8 struck 4 try 0 redo 4 6 7\ncounts\nsubthreads 11\nrestarts 1\nredone 3\nunused 0\n";
 
@@ -90,24 +88,25 @@ fn holds(sink: &MemSink, text: &[u8], taken: Option<usize>) -> bool {
     written.len() == taken.unwrap_or(text.len()) && text.starts_with(written)
 }
 
-// A run, and what it writes after its first line: the lines that it prints, and the text after them.
+// A run, its text, and how many bytes of that are printed lines. They stand after the seven of the first line, and each of
+// the three parts is offered by itself.
 #[derive(Clone, Copy)]
 struct Run<'a> {
     words: &'a str,
     files: Files<'a>,
-    lines: &'a str,
-    tail: &'a str,
+    text: &'a str,
+    lines: usize,
 }
 
 // The run writes its text up to the call of the output that fails, and tells of that.
 fn stops_at_output<R: Threads + Sync + AllocGlobal>(
     rt: &R,
     run: &Run<'_>,
-    text: &str,
     devices: Devices,
 ) -> Result<bool, AllocError> {
-    let pieces = [FIRST.len(), run.lines.len(), run.tail.len()];
-    let taken = taken_before(&pieces, devices.most, devices.output);
+    let text = run.text.as_bytes();
+    let tail = text.len().saturating_sub(7).saturating_sub(run.lines);
+    let taken = taken_before(&[7, run.lines, tail], devices.most, devices.output);
     let (status, line) = if taken.is_some() {
         (8, WRITE_FAULT)
     } else {
@@ -116,7 +115,7 @@ fn stops_at_output<R: Threads + Sync + AllocGlobal>(
     let answer = answer_of(rt, run.words, run.files, devices)?;
     Ok(
         answer.status == status
-            && holds(&answer.output, text.as_bytes(), taken)
+            && holds(&answer.output, text, taken)
             && answer.error.written() == line.as_bytes(),
     )
 }
@@ -127,15 +126,13 @@ fn stops_at_each_output<R: Threads + Sync + AllocGlobal>(
     run: &Run<'_>,
     most: usize,
 ) -> Result<bool, AllocError> {
-    let Run { lines, tail, .. } = run;
-    let text = format!(in rt.alloc(); "{FIRST}{lines}{tail}")?;
-    for output in 1..above_calls(text.len(), most) {
+    for output in 1..above_calls(run.text.len(), most) {
         let devices = Devices {
             most,
             output,
             ..SOUND
         };
-        if !stops_at_output(rt, run, text.as_str(), devices)? {
+        if !stops_at_output(rt, run, devices)? {
             return Ok(false);
         }
     }
@@ -148,20 +145,20 @@ fn an_output_that_fails_has_a_prefix(rt: HostRuntime) -> Result<(), Fail> {
         Run {
             words: "run p.gp",
             files: alone(EMPTY),
-            lines: "",
-            tail: UNSTRUCK,
+            text: EMPTY_TEXT,
+            lines: 0,
         },
         Run {
             words: "run p.gp",
             files: alone(PRINTS),
-            lines: "7\n42\n",
-            tail: UNSTRUCK,
+            text: PRINTS_TEXT,
+            lines: 5,
         },
         Run {
             words: "run p.gp --faults f.csv",
             files: adding(b"4,0,3,1\n"),
-            lines: "",
-            tail: STRUCK,
+            text: STRUCK_TEXT,
+            lines: 0,
         },
     ];
     for run in &rows {
@@ -246,27 +243,34 @@ fn an_error_stream_that_fails_has_a_prefix(rt: HostRuntime) -> Result<(), Fail> 
     Ok(())
 }
 
-// The whole trace is that of a run whose error stream does not fail.
-fn stops_at_each_call_of_a_trace<R: Threads + Sync + AllocGlobal>(
+// The error stream of the struck run gets its trace, which is this, up to the call that fails.
+fn stops_at_each_call_of<R: Threads + Sync + AllocGlobal>(
     rt: &R,
+    trace: &[u8],
 ) -> Result<bool, AllocError> {
-    let files = adding(b"4,0,3,1\n");
-    let whole = answer_of(rt, TRACED, files, SOUND)?;
     let told = Told {
         words: TRACED,
-        files,
+        files: adding(b"4,0,3,1\n"),
         read: 0,
         output: 0,
         status: 0,
         text: STRUCK_TEXT,
-        error: whole.error.written(),
+        error: trace,
     };
     stops_at_each_error(rt, &told)
 }
 
+// The whole trace is that of a run whose error stream does not fail.
+fn stops_in_its_trace<R: Threads + Sync + AllocGlobal>(rt: &R) -> Result<bool, AllocError> {
+    let whole = answer_of(rt, TRACED, adding(b"4,0,3,1\n"), SOUND)?;
+    let stops = stops_at_each_call_of(rt, whole.error.written());
+    drop(whole);
+    stops
+}
+
 #[test]
 fn a_trace_that_fails_has_a_prefix(rt: HostRuntime) -> Result<(), Fail> {
-    assert!(rt; stops_at_each_call_of_a_trace(&rt)?);
+    assert!(rt; stops_in_its_trace(&rt)?);
     Ok(())
 }
 

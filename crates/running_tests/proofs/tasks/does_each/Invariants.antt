@@ -3,4 +3,4 @@ use Rattle.subthread.specs.Tasks.{Fits}
 use Rattle.running_tests.proofs.tasks.does_each.Given as goal
 
 abbrev pub invariant-loop-step : goal.invariant-loop-step
-invariant-loop-step g l = (work : Work) → Fits work l.task
+invariant-loop-step l = (work : Work) → Fits work l.task
