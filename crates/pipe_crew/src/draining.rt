@@ -4,6 +4,7 @@ ghost use Rattle.std.specs.Thread.{IsSync};
 ghost use Rattle.desk_board.specs.Held.{about, hand, IsPassOf};
 ghost use Rattle.desk_board.specs.Told.{HasEnded};
 
+use crate::crossing::shared;
 use crew::{MeanSteps, run_noted};
 use desk_board::{Board, Pass};
 use gp_base::Gate;
@@ -38,11 +39,6 @@ pub fn drain<G: Gate>(
     pass
 }
 
-// Threads may share values of this type. Does nothing: the proof that threads may share what holds one starts from it.
-fn shared<T: Sync>(_value: &T)
-    ensures { IsSync T.row }
-{}
-
 /// Works a board of tasks to its end, in at most so many threads at once, each with a pass of its own: the passes are split
 /// off the given one and joined into it again. Each thread enters the gate before each of its runs. A run that finds no
 /// memory is put back as such, so there is no error.
@@ -69,7 +65,7 @@ pub fn work_board<G: Gate, R: Threads + Sync>(
     }
     let mut pass = pass;
     let other = board.split(&mut pass);
-    shared(work);
+    shared::<Work>();
     let (other, mut pass) = thread::join(
         rt,
         move ||

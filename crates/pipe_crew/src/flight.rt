@@ -1,5 +1,5 @@
 // A board whose runs come back one after another.
-ghost use Rattle.std.specs.Prelude.{◌≡◌, ◌↔◌, ◌<◌, ◌≤◌, [], IsTrue, true, length, All, IfOk};
+ghost use Rattle.std.specs.Prelude.{◌≡◌, ◌↔◌, ◌<◌, ◌≤◌, IsTrue, true, length, All, IfOk};
 ghost use Rattle.std.specs.Arc.{arc_value};
 ghost use Rattle.desk_board.specs.Held.{about};
 ghost use Rattle.subthread.specs.Tasks.{Fits};

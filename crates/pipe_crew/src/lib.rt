@@ -3,6 +3,7 @@
 #![tactic(auto)]
 
 mod boards;
+mod crossing;
 mod draining;
 mod enter;
 mod flight;

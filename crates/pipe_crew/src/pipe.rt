@@ -2,13 +2,13 @@
 ghost use Rattle.std.specs.Prelude.{◌≡◌, ◌++◌, ◌<◌, ◌≤◌, ◌↔◌, [], ◌∷◌, length, true, None, All, IsNone, IfOk, OnOk, OnErr, IfSome, IfNone};
 ghost use Rattle.std.specs.List.{flat_map};
 ghost use Rattle.std.specs.Arc.{arc_value};
-ghost use Rattle.std.specs.Thread.{IsSync, IsSend};
 ghost use Rattle.desk_board.specs.Held.{about};
 ghost use Rattle.subthread.specs.Tasks.{Fits, IsRun, task_of};
 ghost use Rattle.crew.specs.Out.{TakesOut};
 ghost use Rattle.pipe_crew.specs.inner.Flights.{Stands, IsFlight, IsBack, left_in};
 ghost use Rattle.pipe_crew.specs.inner.Flying.{AreFlying, left_all, KeepsPosts};
 
+use crate::crossing::{sent, shared};
 use crate::enter::Enter;
 use crate::flight::{Flight, launch};
 use crate::load::Load;
@@ -52,16 +52,6 @@ pub struct PipeCrew<'a, H, G> {
     first: Option<Flight>,
     behind: VecDeque<Flight>,
 }
-
-// Threads may share values of this type, and send them to each other. Both do nothing: the proofs that threads may share or
-// send what holds one start from them.
-fn shared<T: Sync>()
-    ensures { IsSync T.row }
-{}
-
-fn sent<T: Send>()
-    ensures { IsSend T.row }
-{}
 
 // Starts a lasting thread, and answers whether one could be made. The error is that memory is out.
 fn start<H: Threads + Wait + Clone + Send + Sync + Drop + 'static, G: Gate + Send + Drop + 'static>(
