@@ -1,5 +1,5 @@
+pub mod AskedWaiting
 pub mod PlainTexts
 pub mod RanPieces
 pub mod RunEnds
 pub mod RunPieces
-pub mod Waiting

@@ -4,7 +4,7 @@ use Rattle.call_cases.specs.Decided.{program_in, files_read, work_of}
 use Rattle.call_cases.specs.Answers.{change_of}
 use Rattle.call_cases.proofs.Headlines.{run_headline, refused_headline}
 use Rattle.batch_calls.specs.WaitingCommands.{commands}
-use Rattle.batch_calls.proofs.Waiting.{commands_sound}
+use Rattle.batch_calls.proofs.AskedWaiting.{commands_sound}
 use Rattle.batch_calls.proofs.waiting.gprs_run_pipe.Goals as goal
 
 pub returns-in-Ok-clause-headline : goal.returns-in-Ok-clause-headline

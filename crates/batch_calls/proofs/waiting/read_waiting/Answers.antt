@@ -6,7 +6,7 @@ use Rattle.call_cases.specs.RunCommands.{MayRead}
 use Rattle.call_cases.specs.Headline.{ReadsNothing}
 use Rattle.call_cases.proofs.Answering.{usage_case, asked_case}
 use Rattle.batch_calls.specs.WaitingCommands.{asking, commands}
-use Rattle.batch_calls.proofs.Waiting.{same_answer}
+use Rattle.batch_calls.proofs.AskedWaiting.{same_answer}
 use Rattle.batch_calls.proofs.waiting.read_waiting.Goals as goal
 
 pub returns-in-Ok-None-clause-case : goal.returns-in-Ok-None-clause-case
