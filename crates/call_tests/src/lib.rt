@@ -16,3 +16,5 @@ mod scripted;
 mod settles;
 #[cfg(test)]
 mod struck;
+#[cfg(test)]
+mod waiting;

@@ -63,7 +63,8 @@ task main() {
 const STUCK: &str =
     "output\nstuck index thread 0 line 6\nrestarts\ncounts\nsubthreads 1\nrestarts 0\nredone 0\nunused 0\n";
 
-const ADDED: &str =
+/// What the run of `ADD` writes.
+pub const ADDED: &str =
     "output\nrecords\ntotal: 7\nrestarts\ncounts\nsubthreads 11\nrestarts 0\nredone 0\nunused 0\n";
 
 #[test]
