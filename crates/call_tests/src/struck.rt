@@ -214,9 +214,9 @@ fn two_tasks_meet(rt: HostRuntime) -> Result<(), Fail> {
     Ok(())
 }
 
-// A gate that lets all tasks pass, and counts those of each position.
+/// A gate that lets all tasks pass, and counts those of each position.
 #[derive(Drop)]
-struct Counting {
+pub struct Counting {
     entries: Vec<AtomicU64>,
 }
 
@@ -228,8 +228,8 @@ impl Gate for Counting {
     }
 }
 
-// A gate over so many positions, which no task has entered.
-fn gate_over(alloc: Global, positions: usize) -> Result<Counting, AllocError> {
+/// A gate over so many positions, which no task has entered.
+pub fn gate_over(alloc: Global, positions: usize) -> Result<Counting, AllocError> {
     let mut entries = Vec::new(alloc);
     for _ in 0..positions {
         entries.push(AtomicU64::new(0))?;
@@ -237,8 +237,12 @@ fn gate_over(alloc: Global, positions: usize) -> Result<Counting, AllocError> {
     Ok(Counting { entries })
 }
 
-// How often the journal posts each of so many positions.
-fn posts_of(alloc: Global, journal: &Journal, positions: usize) -> Result<Vec<u64>, AllocError> {
+/// How often the journal posts each of so many positions.
+pub fn posts_of(
+    alloc: Global,
+    journal: &Journal,
+    positions: usize,
+) -> Result<Vec<u64>, AllocError> {
     let mut posts = Vec::from_elem(alloc, 0u64, positions)?;
     for event in journal.events.as_slice() {
         if let Event::Post(position, _) = event {
@@ -250,8 +254,8 @@ fn posts_of(alloc: Global, journal: &Journal, positions: usize) -> Result<Vec<u6
     Ok(posts)
 }
 
-// Whether the gate counted these posts, as many as there are positions at least.
-fn agrees(gate: &Counting, posts: &[u64], positions: usize) -> bool {
+/// Whether the gate counted these posts, as many as there are positions at least.
+pub fn agrees(gate: &Counting, posts: &[u64], positions: usize) -> bool {
     let mut posted = 0u64;
     for (entries, count) in gate.entries.iter().zip(posts.iter()) {
         if entries.load(Ordering::SeqCst) != *count {
