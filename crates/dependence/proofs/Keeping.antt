@@ -1,14 +1,14 @@
 -- A member whose actions name only cells under the locks held keeps to its footprint.
-use Rattle.std.proofs.Common.{◌≡◌, inl, inr, ℕ, suc, zero, ◌<◌, Bool, true, false, cond, List, [], ◌∷◌, ◌++◌, length, map, get_or, Option, Some, None, is_some, refl, sym, ap, subst, ◌∙◌, arith, nat_eq, Contains, slice_get, option_map}
+use Rattle.std.proofs.Common.{◌≡◌, inl, inr, ℕ, suc, zero, ◌<◌, Bool, true, false, cond, List, [], ◌∷◌, ◌++◌, length, map, get_or, Option, Some, None, is_some, refl, sym, ap, subst, ◌∙◌, arith, nat_eq, ◌||◌, Contains, slice_get, option_map}
 use Rattle.std.specs.Prelude.{ℤ, pos, negsuc}
 use Rattle.std.specs.List.{position_or_len}
 use Rattle.std.specs.Ordering.{nat_cmp, eq_by_cmp}
 use Rattle.std.specs.FinMap.{find}
-use Rattle.std.proofs.lemmas.Bool.{eqb-true, false≢true, false_from_ne_true, lt-ltb, cases_lt}
+use Rattle.std.proofs.lemmas.Bool.{or_cases, eqb-true, false≢true, false_from_ne_true, lt-ltb, cases_lt}
 use Rattle.std.proofs.lemmas.List.{get_or_past, get_or-map, length-map}
 use Rattle.std.proofs.lemmas.List.Folds.{Any-from_list_any}
 use Rattle.std.proofs.lemmas.List.Sums.{position_or_len_is}
-use Rattle.std.proofs.lemmas.List.Elements.{Contains-append_right}
+use Rattle.std.proofs.lemmas.List.Elements.{Contains-append_left, Contains-append_right}
 use Rattle.gp_base.specs.declared.footprint.Loc.{Loc}
 use Rattle.gp_base.specs.declared.footprint.Loc.TheVariants as loc
 use Rattle.gp_base.specs.declared.footprint.Footprint.{Footprint}
@@ -21,8 +21,7 @@ use Rattle.task_ast.specs.Table.{numbers}
 use Rattle.task_ast.specs.State.{Place, RegistersOf, CellOf, State, number_at}
 use Rattle.task_ast.specs.Effect.{effect, joined_ret, one_number}
 use Rattle.task_ast.specs.Damage.{damaged, masked, all_masked}
-use Rattle.task_ast.specs.Footprint.{footprint, joined_registers, child_registers}
-use Rattle.task_ast.specs.laws.Keeps.{AllName}
+use Rattle.task_ast.specs.Footprint.{named_by, footprint, lock_footprint, joined_registers, child_registers}
 use Rattle.task_ast.specs.Plain.{Subthread}
 use Rattle.task_ast.specs.Fold.{Member}
 use Rattle.task_ast.specs.Members.{member_of}
@@ -32,10 +31,11 @@ use Rattle.task_ast.proofs.Layouts.{length-numbers, get-numbers, laid_out}
 use Rattle.dependence.specs.Conflict.{InConflict, foot_at}
 use Rattle.dependence.specs.Dependents.{is_member}
 use Rattle.dependence.specs.Runs.{feet_of}
-use Rattle.dependence.specs.Touching.{MayWrite, MayTouch, Agree, done_by, KeepsTo, KeepToFeet, IsByThread, IsApart, lock_location, LocationLaw, KeepsLaw, RunKeepsLaw, LaidLaw}
+use Rattle.dependence.specs.Touching.{MayWrite, MayTouch, Agree, done_by, KeepsTo, KeepToFeet, IsApart, own_location, lock_location, LocationLaw, KeepsLaw, RunKeepsLaw, LaidLaw}
 use Rattle.task_ast.specs.Under.{under_lock, is_under}
 use Rattle.dependence.proofs.DependentSets.{is_member-is}
 use Rattle.dependence.proofs.Folds.{Kept}
+use Rattle.dependence.proofs.Naming.{to-map, names-named, writes-named}
 use Rattle.dependence.proofs.Struck.{Contains-head, Contains-later}
 
 -- a cell that passes stands under a lock that is held
@@ -44,7 +44,7 @@ under-held under held c passes =
     let h = Any-from_list_any (λ lock. is_member c (under_lock under lock)) held passes in
     (h.1, (is_member-is c (under_lock under h.1)).0 h.4, (h.0, h.2, h.3))
 
-Contains-map : {A B : Type 0} (f : A → B) (xs : List A) (x : A) → Contains xs x → Contains (map f xs) (f x)
+pub Contains-map : {A B : Type 0} (f : A → B) (xs : List A) (x : A) → Contains xs x → Contains (map f xs) (f x)
 Contains-map f [] x c = absurd (let l = c.1 in omega arith)
 Contains-map f (y ∷ xs) x c = at c.0 c.1 c.2 (λ k l same. Contains-map f xs x (k, l, same))
   where
@@ -84,20 +84,31 @@ location-is under lock c once there = rw (first, lt-ltb lock (length under) with
         (λ k l. false_from_ne_true (is_member c (under_lock under k)) (λ e. let same = once k lock c ((is_member-is c (under_lock under k)).0 e) there in omega arith))
         (λ l. (is_member-is c (under_lock under lock)).1 there)
 
-module _ (location : Place → Loc) (by_thread : IsByThread location) (test : ℕ → Bool) (held : List ℕ) (m : Member) (names : AllName test m.actions)
-    (passes : (c : ℕ) → test c ≡ true → MayWrite location (footprint m.thread m.begins m.child held) (CellOf c)) where
+module _ (m : Member) where
   abbrev foot : Footprint
-  foot = footprint m.thread m.begins m.child held
+  foot = footprint m.thread m.begins m.child m.actions
 
-  own : MayWrite location foot (RegistersOf m.thread)
-  own = subst (Contains foot.writes) (sym (by_thread m.thread)) (Contains-head (loc.Regs m.thread) (child_registers m.child ++ map loc.Lock held))
+  own : MayWrite own_location foot (RegistersOf m.thread)
+  own = Contains-head (loc.Regs m.thread) (child_registers m.child ++ map loc.Rec (named_by m.actions).writes)
 
-  same : (left right : State) → Agree (MayTouch location foot) left right → done_by m left ≡ done_by m right
+  written : (c : ℕ) → is_member c (named_by m.actions).writes ≡ true → MayWrite own_location foot (CellOf c)
+  written c e =
+      Contains-append_right (loc.Regs m.thread ∷ child_registers m.child) (map loc.Rec (named_by m.actions).writes) (loc.Rec c) (to-map (named_by m.actions).writes c e)
+
+  touched : (c : ℕ) → (is_member c (named_by m.actions).reads || is_member c (named_by m.actions).writes) ≡ true → MayTouch own_location foot (CellOf c)
+  touched c e =
+      elim (or_cases (is_member c (named_by m.actions).reads) (is_member c (named_by m.actions).writes) e) [
+        | inl read ↦ inl (Contains-append_right (joined_registers m.begins) (map loc.Rec (named_by m.actions).reads) (loc.Rec c) (to-map (named_by m.actions).reads c read))
+        | inr wrote ↦ inr (written c wrote)
+      ]
+
+  same : (left right : State) → Agree (MayTouch own_location foot) left right → done_by m left ≡ done_by m right
   same left right agree =
-      ap (damaged m.mask) (reads_same test m.thread m.begins m.child m.actions left right names (record {
+      ap (damaged m.mask) (reads_same (λ x. is_member x (named_by m.actions).reads || is_member x (named_by m.actions).writes) m.thread m.begins m.child m.actions left right (names-named m.actions) (record {
         registers = agree (RegistersOf m.thread) (inr own);
-        joined = joined_same m.begins left right (λ h there. agree (RegistersOf h) (inl (subst (Contains foot.reads) (sym (by_thread h)) there)));
-        cells = λ c e. agree (CellOf c) (inr (passes c e));
+        joined = joined_same m.begins left right
+            (λ h there. agree (RegistersOf h) (inl (Contains-append_left (joined_registers m.begins) (map loc.Rec (named_by m.actions).reads) (loc.Regs h) there)));
+        cells = λ c e. agree (CellOf c) (touched c e);
       }))
 
   -- a cell that a damaged effect names was written
@@ -122,47 +133,35 @@ module _ (location : Place → Loc) (by_thread : IsByThread location) (test : �
       go true same some = rw (eqb-true t c same) (Contains-head (loc.Regs c) rest)
       go false same some = absurd (false≢true some)
 
-  within : (state : State) (place : Place) → IsNamed (done_by m state) place → MayWrite location foot place
+  within : (state : State) (place : Place) → IsNamed (done_by m state) place → MayWrite own_location foot place
   within state (CellOf c) some =
-      passes c (writes_within test m.thread m.begins m.child m.actions state names c
+      written c (writes_within (λ x. is_member x (named_by m.actions).writes) m.thread m.begins m.child m.actions state (writes-named m.actions) c
       (λ none. false≢true (sym (ap (λ o. is_some (option_map one_number o)) (find_masked (effect m.thread m.begins m.child m.actions state).writes c none)) ∙ some)))
   within state (RegistersOf t) some = go (nat_eq t m.thread) refl some
     where
-      go : (b : Bool) → nat_eq t m.thread ≡ b → is_some (cond b (Some (done_by m state).regs) (named_child (done_by m state).child t)) ≡ true → MayWrite location foot (RegistersOf t)
-      go true is some_is = subst (λ u. MayWrite location foot (RegistersOf u)) (sym (eqb-true t m.thread is)) own
+      go : (b : Bool) → nat_eq t m.thread ≡ b → is_some (cond b (Some (done_by m state).regs) (named_child (done_by m state).child t)) ≡ true → MayWrite own_location foot (RegistersOf t)
+      go true is some_is = subst (λ u. MayWrite own_location foot (RegistersOf u)) (sym (eqb-true t m.thread is)) own
       go false is there_is =
-          subst (Contains foot.writes) (sym (by_thread t))
-          (Contains-later (loc.Regs m.thread) (child_registers m.child ++ map loc.Lock held) (loc.Regs t) (child_place m.child _ t (map loc.Lock held) there_is))
+          Contains-later (loc.Regs m.thread) (child_registers m.child ++ map loc.Rec (named_by m.actions).writes) (loc.Regs t)
+          (child_place m.child _ t (map loc.Rec (named_by m.actions).writes) there_is)
 
-  keeps : KeepsTo (MayWrite location foot) (MayTouch location foot) m
+  keeps : KeepsTo (MayWrite own_location foot) (MayTouch own_location foot) m
   keeps = record { within = within; same = same }
 
 pub keeps_law : KeepsLaw
-keeps_law location test held m by_thread names passes = keeps location by_thread test held m names passes
-
--- the location of a cell under a lock that is held stands in the footprint
-pub under-writes : (under : List (List ℕ)) → IsApart under → (held : List ℕ) (m : Member) (c : ℕ) → is_under under held c ≡ true
-    → MayWrite (lock_location under) (footprint m.thread m.begins m.child held) (CellOf c)
-under-writes under once held m c passes =
-    let h = under-held under held c passes in
-    subst (Contains (loc.Regs m.thread ∷ child_registers m.child ++ map loc.Lock held)) (sym (location-is under h.0 c once h.1))
-    (Contains-append_right (loc.Regs m.thread ∷ child_registers m.child) (map loc.Lock held) (loc.Lock h.0) (Contains-map loc.Lock held h.0 h.2))
+keeps_law m = keeps m
 
 -- each position of a run keeps to its footprint
 pub run-keeps : RunKeepsLaw
-run-keeps under run masks once held p = go run p held
+run-keeps run masks p = go run p
   where
     Keeps : Option Subthread → Footprint → Type 0
-    Keeps o foot = KeepsTo (MayWrite (lock_location under) foot) (MayTouch (lock_location under) foot) (member_of (masks p) o)
+    Keeps o foot = KeepsTo (MayWrite own_location foot) (MayTouch own_location foot) (member_of (masks p) o)
 
-    in_locks : (locks : List ℕ) (m : Member) → AllName (is_under under locks) m.actions
-        → let foot = footprint m.thread m.begins m.child locks in KeepsTo (MayWrite (lock_location under) foot) (MayTouch (lock_location under) foot) m
-    in_locks locks m names = keeps (lock_location under) (λ t. refl) (is_under under locks) locks m names (under-writes under once locks m)
-
-    go : (rest : List Subthread) (q : ℕ) → ((k : ℕ) (s : Subthread) → slice_get rest k ≡ Some s → AllName (is_under under s.held) s.actions) → Keeps (slice_get rest q) (foot_at (feet_of rest) q)
-    go [] q all = in_locks [] (member_of (masks p) None) tt
-    go (s ∷ rest) zero all = in_locks s.held (member_of (masks p) (Some s)) (all 0 s refl)
-    go (s ∷ rest) (suc q) all = go rest q (λ k. all (suc k))
+    go : (rest : List Subthread) (q : ℕ) → Keeps (slice_get rest q) (foot_at (feet_of rest) q)
+    go [] q = keeps (member_of (masks p) None)
+    go (s ∷ rest) zero = keeps (member_of (masks p) (Some s))
+    go (s ∷ rest) (suc q) = go rest q
 
 -- members that keep to their footprints are in conflict where they have a place in common that one may write
 pub kept-feet : (location : Place → Loc) (feet : ℕ → Footprint) (members : ℕ → Member) → KeepToFeet location feet members
@@ -201,3 +200,11 @@ module _ (heads : List Head) where
 
 pub laid_law : LaidLaw
 laid_law heads fits = laid-apart heads (laid_out heads fits)
+
+-- the location by locks of a cell under a lock that is held stands in the lock footprint
+pub under-writes : (under : List (List ℕ)) → IsApart under → (held : List ℕ) (m : Member) (c : ℕ) → is_under under held c ≡ true
+    → MayWrite (lock_location under) (lock_footprint m.thread m.begins m.child held) (CellOf c)
+under-writes under once held m c passes =
+    let h = under-held under held c passes in
+    subst (Contains (loc.Regs m.thread ∷ child_registers m.child ++ map loc.Lock held)) (sym (location-is under h.0 c once h.1))
+    (Contains-append_right (loc.Regs m.thread ∷ child_registers m.child) (map loc.Lock held) (loc.Lock h.0) (Contains-map loc.Lock held h.0 h.2))

@@ -11,10 +11,14 @@ pub mod IssuedPositions
 pub mod JournalRows
 pub mod Journals
 pub mod Keeping
+pub mod LockClashes
 pub mod Marking
 pub mod Measured
+pub mod Merging
+pub mod Naming
 pub mod RestartEnds
 pub mod RestartRows
 pub mod RunBuffers
 pub mod Standing
 pub mod Struck
+pub mod Posting

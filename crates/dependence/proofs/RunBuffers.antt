@@ -24,8 +24,7 @@ use Rattle.dependence.specs.Journal.{Stage, initial_stage, Allowed, happens, res
 use Rattle.dependence.specs.Runs.{feet_of, dependence_of}
 use Rattle.dependence.specs.Standing.{present, NamesAttempt, AreShort, StageStands}
 use Rattle.dependence.specs.Histories.{HasCells}
-use Rattle.dependence.specs.Touching.{Agree, MayWrite, MayTouch, done_by, IsApart, lock_location}
-use Rattle.task_ast.specs.Under.{NamesHeld}
+use Rattle.dependence.specs.Touching.{Agree, MayWrite, MayTouch, done_by, own_location}
 use Rattle.dependence.specs.Removal.{without}
 use Rattle.dependence.specs.Buffer.{Buffer, MayApply, MayUndo, buffer_without}
 use Rattle.dependence.specs.RunBuffer.{members_at, RunStands, initial_buffer, buffer_restarted, buffer_happens, buffer_from, buffer_after, IsOut}
@@ -55,17 +54,17 @@ module _ (run : List Subthread) (faults : List Fault) where
   clash-is : (p q : ℕ) → ClashIn (feet_of run) p q → (dependence_of run).clash p q ≡ true
   clash-is p q c = (conflicting-is (foot_at (feet_of run) p) (foot_at (feet_of run) q)).1 c
 
-  module _ (under : List (List ℕ)) (once : IsApart under) (held : NamesHeld under run) (start : State) (cells : HasCells start)
+  module _ (start : State) (cells : HasCells start)
       (at : Stage) (buffer : Buffer) (stands : StageStands (dependence_of run) faults at) (holds : RunStands run faults start at buffer) where
     abbrev Writes : ℕ → Place → Type 0
-    Writes p = MayWrite (lock_location under) (foot_at (feet_of run) p)
+    Writes p = MayWrite own_location (foot_at (feet_of run) p)
 
     abbrev Touches : ℕ → Place → Type 0
-    Touches p = MayTouch (lock_location under) (foot_at (feet_of run) p)
+    Touches p = MayTouch own_location (foot_at (feet_of run) p)
 
     kept : Kept Writes Touches (ClashIn (feet_of run)) (members_at run faults at)
     kept =
-        kept-feet (lock_location under) (foot_at (feet_of run)) (members_at run faults at) (run-keeps under run (mask_now faults at.progress.made) once held)
+        kept-feet own_location (foot_at (feet_of run)) (members_at run faults at) (run-keeps run (mask_now faults at.progress.made))
 
     -- what is out may be applied, and has not retired
     out-applies : (p : ℕ) → Contains at.posted (p, present at p) → ¬ Contains at.taken (p, present at p) → MayApply (ClashIn (feet_of run)) at.applied at.progress.front p
@@ -195,7 +194,7 @@ module _ (run : List Subthread) (faults : List Fault) where
         below = λ p e. absurd (false≢true e);
       }
 
-  module _ (under : List (List ℕ)) (once : IsApart under) (held : NamesHeld under run) (start : State) (cells : HasCells start) (short : AreShort faults) where
+  module _ (start : State) (cells : HasCells start) (short : AreShort faults) where
     from : (at : Stage) (events : List Event) (buffer : Buffer) → StageStands (dependence_of run) faults at → RunStands run faults start at buffer → LawfulFrom (dependence_of run) faults at events
         → StageStands (dependence_of run) faults (stage_from (dependence_of run) faults at events)
         × RunStands run faults start (stage_from (dependence_of run) faults at events) (buffer_from run faults at events buffer)
@@ -203,7 +202,7 @@ module _ (run : List Subthread) (faults : List Fault) where
     from at (e ∷ rest) buffer stands holds lawful =
         from (happens (dependence_of run) faults at e) rest (buffer_happens run faults at e buffer)
         (happens-stands (dependence_of run) (run-redoes run) faults short at e (keeps-retired (dependence_of run) faults at (run-later run) stands) stands lawful.0)
-        (event-stands under once held start cells at buffer stands holds e lawful.0) lawful.1
+        (event-stands start cells at buffer stands holds e lawful.0) lawful.1
 
     pub after-events : (events : List Event) → Lawful (dependence_of run) faults events
         → StageStands (dependence_of run) faults (stage (dependence_of run) faults events)
@@ -251,10 +250,10 @@ module _ (program : Program) (inputs : Inputs) (limits : Limits) (faults : List 
       ∙ (ap (λ e. e.prints) (undamaged (effect s.thread s.begins.sync s.child s.actions (fold (member_in run (λ q. pos 0)) start (λ q. true) p)))
       ∙ sym (lines_are (tree_machine program inputs limits) program inputs limits p s there)))))
 
-  pub final-state : (under : List (List ℕ)) (events : List Event) → IsApart under → NamesHeld under run → Complete (dependence_of run) faults events
+  pub final-state : (events : List Event) → Complete (dependence_of run) faults events
       → (buffer_after run faults start events).state ≡ (last_state program inputs limits).state
-  final-state under events once held complete =
-      let h = after-events run faults under once held start (λ c. refl) short events complete.lawful in
+  final-state events complete =
+      let h = after-events run faults start (λ c. refl) short events complete.lawful in
       let passed = complete.final.passed in
       let retired = complete.retired in
       h.1.state_is

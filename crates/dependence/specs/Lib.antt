@@ -4,6 +4,7 @@ pub mod Counts
 pub mod Dependents
 pub mod Histories
 pub mod Insertion
+pub mod inner
 pub mod Journal
 pub mod JournalTests
 pub mod Laws
@@ -14,3 +15,4 @@ pub mod RunBuffer
 pub mod Runs
 pub mod Standing
 pub mod Touching
+pub mod Posting

@@ -18,8 +18,7 @@ use Rattle.dependence.specs.Journal.{Stage, initial_stage, Allowed, happens, May
 use Rattle.dependence.specs.Runs.{feet_of, dependence_of}
 use Rattle.dependence.specs.Standing.{present, AreShort, StageStands}
 use Rattle.dependence.specs.Histories.{HasCells}
-use Rattle.dependence.specs.Touching.{Agree, MayTouch, done_by, IsApart, lock_location}
-use Rattle.task_ast.specs.Under.{NamesHeld}
+use Rattle.dependence.specs.Touching.{Agree, MayTouch, done_by, own_location}
 use Rattle.dependence.specs.Buffer.{Buffer, BufferStands, buffer_with, buffer_without}
 
 -- each position of the run with the mask of its present attempt
@@ -64,24 +63,24 @@ pub record IsOut (at : Stage) (p attempt : ℕ) : Type 0 where
 -- the buffer stands after each lawful event
 abbrev pub RunEventLaw : Type 0
 RunEventLaw =
-    (under : List (List ℕ)) (run : List Subthread) (faults : List Fault) (start : State) (at : Stage) (e : Event) (buffer : Buffer)
-    → IsApart under → NamesHeld under run → HasCells start → StageStands (dependence_of run) faults at → RunStands run faults start at buffer
+    (run : List Subthread) (faults : List Fault) (start : State) (at : Stage) (e : Event) (buffer : Buffer)
+    → HasCells start → StageStands (dependence_of run) faults at → RunStands run faults start at buffer
     → Allowed (dependence_of run) faults at e
     → RunStands run faults start (happens (dependence_of run) faults at e) (buffer_happens run faults at e buffer)
 
 -- what an attempt that is out finds stays as it is while it is out
 abbrev pub OutLaw : Type 0
 OutLaw =
-    (under : List (List ℕ)) (run : List Subthread) (faults : List Fault) (start : State) (at : Stage) (e : Event) (buffer : Buffer) (p attempt : ℕ)
-    → IsApart under → NamesHeld under run → HasCells start → StageStands (dependence_of run) faults at → RunStands run faults start at buffer
+    (run : List Subthread) (faults : List Fault) (start : State) (at : Stage) (e : Event) (buffer : Buffer) (p attempt : ℕ)
+    → HasCells start → StageStands (dependence_of run) faults at → RunStands run faults start at buffer
     → Allowed (dependence_of run) faults at e → IsOut at p attempt → IsOut (happens (dependence_of run) faults at e) p attempt
-    → Agree (MayTouch (lock_location under) (foot_at (feet_of run) p)) (buffer_happens run faults at e buffer).state buffer.state
+    → Agree (MayTouch own_location (foot_at (feet_of run) p)) (buffer_happens run faults at e buffer).state buffer.state
 
 -- after a lawful journal the buffer stands
 abbrev pub RunBufferLaw : Type 0
 RunBufferLaw =
-    (under : List (List ℕ)) (run : List Subthread) (faults : List Fault) (start : State) (events : List Event)
-    → IsApart under → NamesHeld under run → HasCells start → AreShort faults → Lawful (dependence_of run) faults events
+    (run : List Subthread) (faults : List Fault) (start : State) (events : List Event)
+    → HasCells start → AreShort faults → Lawful (dependence_of run) faults events
     → RunStands run faults start (stage (dependence_of run) faults events) (buffer_after run faults start events)
 
 -- the lines of a position that may retire are those of the plain run
@@ -103,7 +102,7 @@ DrainedStateLaw =
 -- a complete journal leaves the state of the plain run
 abbrev pub FinalStateLaw : Type 0
 FinalStateLaw =
-    (program : Program) (inputs : Inputs) (limits : Limits) (under : List (List ℕ)) (faults : List Fault) (events : List Event)
+    (program : Program) (inputs : Inputs) (limits : Limits) (faults : List Fault) (events : List Event)
     → let run = order program inputs limits in
-    IsApart under → NamesHeld under run → AreShort faults → Complete (dependence_of run) faults events
+    AreShort faults → Complete (dependence_of run) faults events
     → (buffer_after run faults (opening program inputs limits).state events).state ≡ (last_state program inputs limits).state

@@ -4,7 +4,7 @@ use Rattle.gp_base.specs.declared.fault.Fault.{Fault}
 use Rattle.gp_base.specs.declared.journal.Restart.{Restart}
 use Rattle.gp_base.specs.declared.footprint.Footprint.{Footprint}
 use Rattle.task_ast.specs.Table.{is_settle}
-use Rattle.task_ast.specs.Plain.{Subthread, foot_of}
+use Rattle.task_ast.specs.Plain.{Subthread, foot_of, lock_foot_of}
 use Rattle.task_ast.specs.Position.{last_below}
 use Rattle.dependence.specs.Conflict.{clash_in}
 use Rattle.dependence.specs.Dependents.{dependents}
@@ -13,6 +13,10 @@ use Rattle.dependence.specs.Restarts.{Dependence, restarts}
 -- the footprints of the positions
 abbrev pub feet_of : List Subthread → List Footprint
 feet_of run = map foot_of run
+
+-- what they may touch by their locks
+abbrev pub lock_feet_of : List Subthread → List Footprint
+lock_feet_of run = map lock_foot_of run
 
 -- the position of the thread's subthread before the one that may be there
 abbrev pub before_one : List Subthread → ℕ → Option Subthread → Option ℕ

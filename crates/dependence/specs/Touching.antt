@@ -17,9 +17,9 @@ use Rattle.task_ast.specs.Members.{member_in}
 use Rattle.task_ast.specs.Under.{under_lock, NamesHeld}
 use Rattle.task_ast.specs.Plain.{Subthread}
 use Rattle.task_ast.specs.History.{IsNamed}
-use Rattle.dependence.specs.Conflict.{foot_at}
+use Rattle.dependence.specs.Conflict.{foot_at, ClashIn}
 use Rattle.dependence.specs.Dependents.{is_member}
-use Rattle.dependence.specs.Runs.{feet_of}
+use Rattle.dependence.specs.Runs.{feet_of, lock_feet_of}
 
 -- a subthread of this footprint may write the place, where each place has this location
 abbrev pub MayWrite : (location : Place → Loc) → Footprint → Place → Type 0
@@ -54,6 +54,11 @@ IsByThread location = (t : ℕ) → location (RegistersOf t) ≡ loc.Regs t
 abbrev pub IsApart : List (List ℕ) → Type 0
 IsApart under = (lock other c : ℕ) → Contains (under_lock under lock) c → Contains (under_lock under other) c → lock ≡ other
 
+-- a record cell is a location of its own
+abbrev pub own_location : Place → Loc
+own_location (RegistersOf t) = loc.Regs t
+own_location (CellOf c) = loc.Rec c
+
 -- the location of a cell is the lock cell over it, and of registers their own
 abbrev pub lock_location : List (List ℕ) → Place → Loc
 lock_location under (RegistersOf t) = loc.Regs t
@@ -64,18 +69,22 @@ abbrev pub LocationLaw : Type 0
 LocationLaw =
     (under : List (List ℕ)) (lock c : ℕ) → IsApart under → Contains (under_lock under lock) c → lock_location under (CellOf c) ≡ loc.Lock lock
 
--- a member keeps to the footprint of the locks that it holds, where each cell that its actions name has its location there
+-- a member keeps to its footprint
 abbrev pub KeepsLaw : Type 0
 KeepsLaw =
-    (location : Place → Loc) (test : ℕ → Bool) (held : List ℕ) (m : Member) → IsByThread location → AllName test m.actions
-    → let foot = footprint m.thread m.begins m.child held in
-    ((c : ℕ) → test c ≡ true → MayWrite location foot (CellOf c)) → KeepsTo (MayWrite location foot) (MayTouch location foot) m
+    (m : Member)
+    → let foot = footprint m.thread m.begins m.child m.actions in KeepsTo (MayWrite own_location foot) (MayTouch own_location foot) m
 
 -- each position of a run keeps to its footprint, those past its end included
 abbrev pub RunKeepsLaw : Type 0
 RunKeepsLaw =
-    (under : List (List ℕ)) (run : List Subthread) (masks : ℕ → ℤ) → IsApart under → NamesHeld under run
-    → KeepToFeet (lock_location under) (foot_at (feet_of run)) (member_in run masks)
+    (run : List Subthread) (masks : ℕ → ℤ) → KeepToFeet own_location (foot_at (feet_of run)) (member_in run masks)
+
+-- two positions that are in conflict by the cells that they name are so by the locks that they hold, where they name only cells under these
+abbrev pub LocksClashLaw : Type 0
+LocksClashLaw =
+    (under : List (List ℕ)) (run : List Subthread) (p q : ℕ) → IsApart under → NamesHeld under run
+    → ClashIn (feet_of run) p q → ClashIn (lock_feet_of run) p q
 
 -- where the sizes of a program's arrays agree, its layout has each cell under one lock at most
 abbrev pub LaidLaw : Type 0

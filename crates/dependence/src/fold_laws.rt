@@ -1,7 +1,7 @@
 // The laws of folds, each on a function with an empty body.
 
 ghost use Rattle.dependence.specs.Histories.{AfterLaw, HistoryLaw, UndoLaw};
-ghost use Rattle.dependence.specs.Touching.{LocationLaw, KeepsLaw, RunKeepsLaw, LaidLaw};
+ghost use Rattle.dependence.specs.Touching.{LocationLaw, KeepsLaw, RunKeepsLaw, LocksClashLaw, LaidLaw};
 ghost use Rattle.dependence.specs.Insertion.{InsertionLaw};
 ghost use Rattle.dependence.specs.Removal.{RemovalLaw};
 ghost use Rattle.dependence.specs.RunBuffer.{RunEventLaw, RunBufferLaw, OutLaw, RetiredLinesLaw, DrainedStateLaw, FinalStateLaw};
@@ -14,13 +14,15 @@ pub fn history_laws()
     ensures undo { UndoLaw }
 {}
 
-/// A layout has each record cell under one lock at most, which is its location; a member whose actions name only cells
-/// under the locks held keeps to its footprint, and so do all positions of a run.
+/// A layout has each record cell under one lock at most, which is its location by locks. A member keeps to its footprint,
+/// and so do all positions of a run. Where they name only cells under the locks that they hold, those in conflict by
+/// their footprints are so by their locks.
 pub fn footprint_laws()
     ensures laid { LaidLaw }
     ensures location { LocationLaw }
     ensures keeps { KeepsLaw }
     ensures run { RunKeepsLaw }
+    ensures locks { LocksClashLaw }
 {}
 
 /// A member that is applied late gives the fold with it, and undoing a part that is closed under later conflict leaves

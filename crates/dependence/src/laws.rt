@@ -4,6 +4,7 @@ ghost use Rattle.dependence.specs.Laws.{ConflictLaw, SwapLaw, DependentsLaw, Lea
 ghost use Rattle.dependence.specs.Counts.{CompleteLaw, RetirementsLaw, OnceLaw, RunsAgainLaw, AttemptsLaw};
 ghost use Rattle.dependence.specs.Measure.{LessLaw, LengthLaw};
 ghost use Rattle.dependence.specs.Standing.{ShortLaw, InitialLaw, EventLaw, StandsLaw, RetiredLaw, NoneLiveLaw, PassesLaw, RunRedoesLaw, RunCleanLaw, RunStandsLaw, IssuedLaw};
+ghost use Rattle.dependence.specs.Posting.{PostLaw, OutReadyLaw, RunWithinLaw, NoLocksLaw};
 
 /// The test says when two footprints are in conflict, and conflict has no direction.
 pub fn conflict_laws()
@@ -85,4 +86,13 @@ pub fn run_laws()
     ensures conflicts { RunRedoesLaw }
     ensures clean { RunCleanLaw }
     ensures stands { RunStandsLaw }
+{}
+
+/// What may be posted by the locks that are held may be posted, and what is out stays ready by locks, where a post waits
+/// by locks and a restart finds no lock away. A run whose subthreads name only cells under their locks is so.
+pub fn posting_laws()
+    ensures post { PostLaw }
+    ensures ready { OutReadyLaw }
+    ensures within { RunWithinLaw }
+    ensures home { NoLocksLaw }
 {}

@@ -10,5 +10,6 @@
 pub mod fold_laws;
 pub mod laws;
 mod marks;
+mod sharing;
 
 pub use marks::{conflict, mark};

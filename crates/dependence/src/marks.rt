@@ -1,17 +1,10 @@
 // Which subthreads depend on one another.
 ghost use Rattle.std.specs.Prelude.{◌≡◌, ◌↔◌, ◌<◌, IsTrue, length};
-ghost use Rattle.dependence.specs.Conflict.{Shared, Conflict};
+ghost use Rattle.dependence.specs.Conflict.{Conflict};
 ghost use Rattle.dependence.specs.Dependents.{IsReached, MarksDependents};
 
-use gp_base::{Footprint, Loc, Seq};
-
-// Whether one location stands in both lists.
-fn share(left: &Seq<Loc>, right: &Seq<Loc>) -> bool
-    ensures { IsTrue result ↔ Shared left.now right.now }
-{
-    let right = right.as_slice();
-    left.as_slice().iter().any(|loc| right.contains(loc))
-}
+use crate::sharing::share;
+use gp_base::{Footprint, Seq};
 
 /// Whether one location stands in both footprints and at least one of the two writes it.
 pub fn conflict(a: &Footprint, b: &Footprint) -> bool

@@ -13,6 +13,7 @@ ghost use Rattle.record_store.specs.Given.{joined_value, bundle_of, value_beside
 ghost use Rattle.record_store.specs.Lent.{marked, lock_in, whole_effect, AreAsLent, MayComeHome, IsSharedOut};
 ghost use Rattle.record_store.specs.inner.Homing.{value_over, CanLend, HaveSizes};
 
+use crate::copies::{copy_layout, copy_lists, copy_shelves};
 use crate::exchange::{exchange_threads, value_at};
 use crate::shelf::{Shelf, is_home, put_in, set_at, take_out};
 use crate::stock::{fill_cells, places_of, shelves_of};
@@ -62,6 +63,25 @@ impl Store {
             places,
             layout,
             room: records,
+        })
+    }
+
+    /// A copy of the store, whose cells are all at home. The error is that memory is out.
+    pub fn copy(&self, alloc: Global) -> Result<Store, AllocError>
+        requires { IsAllHome self.now }
+        ensures { IfOk result (λ copy. copy ≡ self.now) }
+    {
+        let threads = copy_lists(alloc, self.threads.as_slice())?;
+        let shelves = copy_shelves(alloc, self.shelves.as_slice())?;
+        let places = Vec::from_slice(alloc, self.places.as_slice())?;
+        let layout = copy_layout(alloc, &self.layout)?;
+        let room = self.room.copied(alloc)?;
+        Ok(Store {
+            threads,
+            shelves,
+            places,
+            layout,
+            room,
         })
     }
 

@@ -11,7 +11,7 @@ use Rattle.task_ast.specs.declared.effect.Effect.{Effect}
 use Rattle.task_ast.specs.Action.{Action, Set, Load, Store, Say, Choose, Child, Give, Bring, Arm, NoAction, OneAction}
 use Rattle.task_ast.specs.State.{State, RegistersOf, cell_value, number_at}
 use Rattle.task_ast.specs.Effect.{Doing, picked, done, arm_done, all_done, term_value, joined_ret, effect}
-use Rattle.task_ast.specs.laws.Keeps.{NamesOnly, ArmNamesOnly, AllName, AgreeAt}
+use Rattle.task_ast.specs.laws.Keeps.{NamesOnly, ArmNamesOnly, AllName, WritesOnly, ArmWritesOnly, AllWrite, AgreeAt}
 
 picked_same : (v : ℤ) {a b c d : Doing} → a ≡ c → b ≡ d → picked v a b ≡ picked v c d
 picked_same (pos zero) e f = f
@@ -73,7 +73,7 @@ stored_within test c v d passes within q some = go (eq_by_cmp nat_cmp q c) refl 
 
 module _ (test : ℕ → Bool) (cells : ℕ → ℤ) (joined : ℤ) where
   mutual
-    done_within : (a : Action) (d : Doing) → NamesOnly test a → Within test d → Within test (done cells joined a d)
+    done_within : (a : Action) (d : Doing) → WritesOnly test a → Within test d → Within test (done cells joined a d)
     done_within (Set k t) d names within = within
     done_within (Load c k) d names within = within
     done_within (Store c t) d names within = stored_within test c (term_value t d.registers) d names within
@@ -84,16 +84,36 @@ module _ (test : ℕ → Bool) (cells : ℕ → ℤ) (joined : ℤ) where
     done_within (Give k t) d names within = within
     done_within (Bring k) d names within = within
 
-    arm_within : (arm : Arm) (d : Doing) → ArmNamesOnly test arm → Within test d → Within test (arm_done cells joined arm d)
+    arm_within : (arm : Arm) (d : Doing) → ArmWritesOnly test arm → Within test d → Within test (arm_done cells joined arm d)
     arm_within NoAction d names within = within
     arm_within (OneAction a arm) d names within = arm_within arm (done cells joined a d) names.1 (done_within a d names.0 within)
 
-  pub all_within : (actions : List Action) (d : Doing) → AllName test actions → Within test d → Within test (all_done cells joined actions d)
+  pub all_within : (actions : List Action) (d : Doing) → AllWrite test actions → Within test d → Within test (all_done cells joined actions d)
   all_within [] d names within = within
   all_within (a ∷ actions) d names within = all_within actions (done cells joined a d) names.1 (done_within a d names.0 within)
 
 pub writes_within : (test : ℕ → Bool) (t : ℕ) (begins : SyncOp) (child : Option ℕ) (actions : List Action) (state : State)
-    → AllName test actions → (c : ℕ) → (find nat_cmp c (effect t begins child actions state).writes ≡ None → ⊥) → test c ≡ true
+    → AllWrite test actions → (c : ℕ) → (find nat_cmp c (effect t begins child actions state).writes ≡ None → ⊥) → test c ≡ true
 writes_within test t begins child actions state names =
     all_within test (cell_value state) (joined_ret begins state) actions (record { registers = state (RegistersOf t); child = []; written = []; lines = [] }) names
     (λ c some. absurd (some refl))
+
+mutual
+  one_writes : (test : ℕ → Bool) (a : Action) → NamesOnly test a → WritesOnly test a
+  one_writes test (Store c t) n = n
+  one_writes test (Choose t a b) n = (arm_writes test a n.0, arm_writes test b n.1)
+  one_writes test (Set k t) n = tt
+  one_writes test (Load c k) n = tt
+  one_writes test (Say ts) n = tt
+  one_writes test (Child n) h = tt
+  one_writes test (Give k t) h = tt
+  one_writes test (Bring k) h = tt
+
+  arm_writes : (test : ℕ → Bool) (arm : Arm) → ArmNamesOnly test arm → ArmWritesOnly test arm
+  arm_writes test NoAction n = tt
+  arm_writes test (OneAction a arm) n = (one_writes test a n.0, arm_writes test arm n.1)
+
+-- the cells that are written are among those that are named
+pub names_write : (test : ℕ → Bool) (actions : List Action) → AllName test actions → AllWrite test actions
+names_write test [] n = tt
+names_write test (a ∷ actions) n = (one_writes test a n.0, names_write test actions n.1)

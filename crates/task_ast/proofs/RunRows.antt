@@ -59,7 +59,7 @@ touched s = ((foot_of s).reads, (foot_of s).writes)
 
 adders_feet : map touched (order two_adders (zeros 1) (limits 1000 20)) ≡
     ([], loc.Regs 0 ∷ []) ∷ ([], loc.Regs 0 ∷ loc.Regs 1 ∷ []) ∷ ([], loc.Regs 1 ∷ []) ∷ ([], loc.Regs 0 ∷ loc.Regs 2 ∷ [])
-    ∷ ([], loc.Regs 1 ∷ loc.Lock 0 ∷ []) ∷ ([], loc.Regs 2 ∷ []) ∷ ([], loc.Regs 1 ∷ []) ∷ ([], loc.Regs 2 ∷ loc.Lock 0 ∷ [])
+    ∷ (loc.Rec 0 ∷ [], loc.Regs 1 ∷ loc.Rec 0 ∷ []) ∷ ([], loc.Regs 2 ∷ []) ∷ ([], loc.Regs 1 ∷ []) ∷ (loc.Rec 0 ∷ [], loc.Regs 2 ∷ loc.Rec 0 ∷ [])
     ∷ (loc.Regs 1 ∷ [], loc.Regs 0 ∷ []) ∷ ([], loc.Regs 2 ∷ []) ∷ (loc.Regs 2 ∷ [], loc.Regs 0 ∷ []) ∷ []
 unfolding steps body stretch until_done repeated
 adders_feet = refl

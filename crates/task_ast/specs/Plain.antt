@@ -16,7 +16,7 @@ use Rattle.task_ast.specs.Body.{Body}
 use Rattle.task_ast.specs.Control.{Setting, Point, with_number, beginning, first_actions, tree_body}
 use Rattle.task_ast.specs.State.{State, RegistersOf, number_at, opened, with_registers, cell_value}
 use Rattle.task_ast.specs.Effect.{effect, after}
-use Rattle.task_ast.specs.Footprint.{footprint}
+use Rattle.task_ast.specs.Footprint.{footprint, lock_footprint}
 use Rattle.task_ast.specs.Repeat.{Move, Goes, Ends, steps, state_after}
 use Rattle.task_ast.specs.Table.{Table, new_seat, learning, owned, numbers}
 use Rattle.task_ast.specs.Turn.{Turn, Issue, Needs, Ended, next_issue}
@@ -32,7 +32,11 @@ pub record Subthread : Type 0 where
 
 -- what it reads and what it writes
 abbrev pub foot_of : Subthread → Footprint
-foot_of s = footprint s.thread s.begins.sync s.child s.held
+foot_of s = footprint s.thread s.begins.sync s.child s.actions
+
+-- what it may touch by the locks that it holds
+abbrev pub lock_foot_of : Subthread → Footprint
+lock_foot_of s = lock_footprint s.thread s.begins.sync s.child s.held
 
 -- a thread table with the threads' points, of any kind, and the data
 pub record PlainOf (P : Type 0) : Type 0 where

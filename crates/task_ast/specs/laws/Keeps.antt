@@ -25,6 +25,22 @@ abbrev pub AllName : (ℕ → Bool) → List Action → Type 0
 AllName test [] = ⊤
 AllName test (a ∷ actions) = NamesOnly test a × AllName test actions
 
+abbrev mutual
+  -- each cell that the action writes passes the test
+  pub WritesOnly : (ℕ → Bool) → Action → Type 0
+  WritesOnly test (Store c t) = IsTrue (test c)
+  WritesOnly test (Choose t a b) = ArmWritesOnly test a × ArmWritesOnly test b
+  WritesOnly test _ = ⊤
+
+  pub ArmWritesOnly : (ℕ → Bool) → Arm → Type 0
+  ArmWritesOnly test NoAction = ⊤
+  ArmWritesOnly test (OneAction a arm) = WritesOnly test a × ArmWritesOnly test arm
+
+-- each cell that one of the actions writes passes the test
+abbrev pub AllWrite : (ℕ → Bool) → List Action → Type 0
+AllWrite test [] = ⊤
+AllWrite test (a ∷ actions) = WritesOnly test a × AllWrite test actions
+
 -- two states agree at the thread's registers, at `$ret` of the thread that it joins, and at the cells that pass the test
 pub record AgreeAt (test : ℕ → Bool) (t : ℕ) (begins : SyncOp) (left right : State) : Type 0 where
   pub registers : left (RegistersOf t) ≡ right (RegistersOf t)
@@ -41,4 +57,4 @@ ReadsLaw =
 abbrev pub WithinLaw : Type 0
 WithinLaw =
     (test : ℕ → Bool) (t : ℕ) (begins : SyncOp) (child : Option ℕ) (actions : List Action) (state : State)
-    → AllName test actions → (c : ℕ) → (find nat_cmp c (effect t begins child actions state).writes ≡ None → ⊥) → test c ≡ true
+    → AllWrite test actions → (c : ℕ) → (find nat_cmp c (effect t begins child actions state).writes ≡ None → ⊥) → test c ≡ true

@@ -3,11 +3,11 @@ use Rattle.dependence.proofs.fold_laws.run_buffer_laws.Goals as goal
 
 pub returns : goal.returns
 returns c = record {
-  event = λ under run faults start at e buffer once held cells stands holds. event-stands run faults under once held start cells at buffer stands holds e;
-  journal = λ under run faults start events once held cells short lawful. (after-events run faults under once held start cells short events lawful).1;
-  out = λ under run faults start at e buffer p attempt once held cells stands holds.
-      out-finds run faults under once held start cells at buffer stands holds e p attempt;
+  event = λ run faults start at e buffer cells stands holds. event-stands run faults start cells at buffer stands holds e;
+  journal = λ run faults start events cells short lawful. (after-events run faults start cells short events lawful).1;
+  out = λ run faults start at e buffer p attempt cells stands holds.
+      out-finds run faults start cells at buffer stands holds e p attempt;
   lines = λ program inputs limits faults at buffer p s short. retired-lines program inputs limits faults short at buffer p s;
   drained = drained-state;
-  state = λ program inputs limits under faults events once held short. final-state program inputs limits faults short under events once held;
+  state = λ program inputs limits faults events short. final-state program inputs limits faults short events;
 }

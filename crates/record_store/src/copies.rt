@@ -1,0 +1,46 @@
+// Copies of what a store is made of.
+
+ghost use Rattle.std.specs.Prelude.{◌≡◌, false, map, All, IfOk};
+ghost use Rattle.record_store.specs.inner.Shelves.{is_away};
+
+use crate::shelf::Shelf;
+use gp_base::Seq;
+use std::alloc::{AllocError, Global};
+use task_ast::Layout;
+
+/// A copy of each list.
+pub fn copy_lists<T: Copy>(alloc: Global, lists: &[Seq<T>]) -> Result<Vec<Seq<T>>, AllocError>
+    ensures { IfOk result (λ copies. copies.items ≡ lists.now) }
+{
+    let mut copies = Vec::new(alloc);
+    for list in lists {
+        copies.push(list.copied(alloc)?)?;
+    }
+    Ok(copies)
+}
+
+/// A copy of the layout.
+pub fn copy_layout(alloc: Global, layout: &Layout) -> Result<Layout, AllocError>
+    ensures { IfOk result (λ copy. copy ≡ layout.now) }
+{
+    let under = copy_lists(alloc, layout.under.as_slice())?;
+    Ok(Layout {
+        under: Seq::from_vec(under),
+    })
+}
+
+/// A copy of each shelf, which is at home.
+pub fn copy_shelves(alloc: Global, shelves: &[Shelf]) -> Result<Vec<Shelf>, AllocError>
+    requires { All (λ away. away ≡ false) (map is_away shelves.now) }
+    ensures { IfOk result (λ copies. copies.items ≡ shelves.now) }
+{
+    let mut copies = Vec::new(alloc);
+    for shelf in shelves {
+        let cells = match shelf {
+            Shelf::Home(cells) => cells.copied(alloc)?,
+            Shelf::Lent(_) => unreachable!(),
+        };
+        copies.push(Shelf::Home(cells))?;
+    }
+    Ok(copies)
+}
