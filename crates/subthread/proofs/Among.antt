@@ -4,7 +4,7 @@ use Rattle.std.specs.Prelude.{ℤ, All, slice_get}
 use Rattle.std.specs.Ordering.{nat_cmp}
 use Rattle.std.specs.FinMap.{find, is_sorted}
 use Rattle.std.specs.List.{list_any}
-use Rattle.std.proofs.lemmas.Bool.{false≢true, eq-eqb}
+use Rattle.std.proofs.lemmas.Bool.{false≢true, eq-eqb, eqb-true}
 use Rattle.task_ast.specs.Under.{under_lock, is_under}
 use Rattle.record_store.specs.declared.given.Bundle.{Bundle}
 use Rattle.record_store.specs.Lent.{lock_in, put_back}
@@ -25,6 +25,15 @@ found_there c (n ∷ cells) (suc j) there = go (nat_eq c n) (found_there c cells
     go true rest = refl
     go false rest = rest
 
+-- and a cell that is found stands somewhere
+any_at : (c : ℕ) (cells : List ℕ) → list_any (nat_eq c) cells ≡ true → ((j : ℕ) → slice_get cells j ≡ Some c → ⊥) → ⊥
+any_at c [] is none = false≢true is
+any_at c (n ∷ cells) is none = go (nat_eq c n) refl is (λ rest. any_at c cells rest (λ j there. none (suc j) there))
+  where
+    go : (b : Bool) → nat_eq c n ≡ b → (b || list_any (nat_eq c) cells) ≡ true → (list_any (nat_eq c) cells ≡ true → ⊥) → ⊥
+    go true same is later = none 0 (ap Some (sym (eqb-true c n same)))
+    go false differ is later = later is
+
 -- a cell that stands under none of their locks is in no bundle
 not_under : (under : List (List ℕ)) (c : ℕ) (bundles : List Bundle) → is_under under (map lock_in bundles) c ≡ false → AllLack under c bundles
 not_under under c [] none = tt
@@ -42,3 +51,16 @@ all_among under over bundles olds handy k d less =
     go : (b : Bool) → is_under under (map lock_in bundles) (get_or olds k d).0 ≡ b → b ≡ true
     go true is = refl
     go false is = absurd (handy.within (get_or olds k d).0 (found_at olds k d handy.rising less) (not_under under (get_or olds k d).0 bundles is))
+
+-- so a cell under one of the locks is in a bundle
+pub under_there : (under : List (List ℕ)) (c : ℕ) (bundles : List Bundle) → is_under under (map lock_in bundles) c ≡ true → AllLack under c bundles → ⊥
+under_there under c [] is lack = false≢true is
+under_there under c (b ∷ bundles) is lack = go (list_any (nat_eq c) (under_lock under b.lock)) refl is (λ rest. under_there under c bundles rest lack.1)
+  where
+    go : (m : Bool) → list_any (nat_eq c) (under_lock under b.lock) ≡ m → (m || is_under under (map lock_in bundles) c) ≡ true → (is_under under (map lock_in bundles) c ≡ true → ⊥) → ⊥
+    go true here is rest = any_at c (under_lock under b.lock) here lack.0
+    go false here is rest = rest is
+
+-- and so in what is left when old values stand back
+pub under_now : (under : List (List ℕ)) (old : List (ℕ × ℤ)) (c : ℕ) (bundles : List Bundle) → is_under under (map lock_in (put_back under old bundles)) c ≡ true → AllLack under c bundles → ⊥
+under_now under old c bundles is = under_there under c bundles (ap (λ locks. is_under under locks c) (sym (same_locks_back under old bundles)) ∙ is)

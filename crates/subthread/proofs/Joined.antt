@@ -8,6 +8,7 @@ use Rattle.task_ast.specs.Control.{Point}
 use Rattle.task_ast.specs.State.{State}
 use Rattle.task_ast.specs.Effect.{effect, effect_on}
 use Rattle.task_ast.specs.Damage.{damaged}
+use Rattle.task_ast.specs.Footprint.{footprint}
 use Rattle.task_ast.specs.laws.Following.{Agrees, Follows}
 use Rattle.task_ast.specs.Plain.{Subthread, Machine, tree_machine}
 use Rattle.task_ast.specs.Position.{before, body_at, IsStep, from_in}
@@ -25,10 +26,7 @@ use Rattle.subthread.specs.declared.task.Done.{Done}
 use Rattle.subthread.specs.Tasks.{task_of, place_of, program_in, machine_of, under_of, body_from, actions_from, IsRun, Suits}
 use Rattle.subthread.specs.Joining.{IsTaskOf, IsGiven, Runs, RunsLaw}
 
-module _ (work : Work) (cells : Layout) (inputs : Inputs) (limits : Limits) (suits : Suits work cells inputs limits) (p : ℕ) (s : Subthread) (done : Done) (is_task : IsTaskOf work inputs limits p s (task_of work done)) (run : IsRun work done) where
-  abbrev task : Task
-  task = task_of work done
-
+module _ (work : Work) (cells : Layout) (inputs : Inputs) (limits : Limits) (suits : Suits work cells inputs limits) (p : ℕ) (s : Subthread) (task : Task) (is_task : IsTaskOf work inputs limits p s task) where
   abbrev tree : Machine Point
   tree = tree_machine (program_in work) inputs limits
 
@@ -58,7 +56,8 @@ module _ (work : Work) (cells : Layout) (inputs : Inputs) (limits : Limits) (sui
   agrees : Agrees (Rests (program_in work) (body_at (program_in work) inputs limits p s).next.sync) (body_at (program_in work) inputs limits p s) here
   agrees = follows.bodies s.begins.sync s.child point (place_of task) is_task.place
 
-  actions_are : actions_from work task.begins.sync task.child (place_of task) ≡ s.actions
+  -- the actions of the task are those of the subthread
+  pub actions_are : actions_from work task.begins.sync task.child (place_of task) ≡ s.actions
   actions_are =
       (λ i. (machine_is i).first (is_task.begins i).sync (place_of task) ++ (body_is i).actions)
       ∙ sym (step.actions ∙ (λ i. follows.first s.begins.sync point (place_of task) is_task.place i ++ agrees.actions i))
@@ -70,12 +69,26 @@ module _ (work : Work) (cells : Layout) (inputs : Inputs) (limits : Limits) (sui
       (λ i. effect_on (is_task.thread i) (is_task.child i) (actions_are i) (found_of (under_of work) ((given ∙ (λ j. given_of (under_of work) state (is_task.thread j) (joined_by (is_task.begins j).sync) (is_task.held j))) i)))
       ∙ given_law (under_of work) s.held s.thread s.begins.sync s.child s.actions state (sound (program_in work) inputs limits suits.code.accepted p s is_task.position)
 
+module _ (work : Work) (cells : Layout) (inputs : Inputs) (limits : Limits) (suits : Suits work cells inputs limits) (p : ℕ) (s : Subthread) (done : Done) (is_task : IsTaskOf work inputs limits p s (task_of work done)) (run : IsRun work done) where
+  abbrev task_run : Task
+  task_run = task_of work done
+
+  bodies : body_from work task_run.begins.sync task_run.child (place_of task_run) ≡ here work cells inputs limits suits p s task_run is_task
+  bodies = body_is work cells inputs limits suits p s task_run is_task
+
+  agreeing : Agrees (Rests (program_in work) (body_at (program_in work) inputs limits p s).next.sync) (body_at (program_in work) inputs limits p s) (here work cells inputs limits suits p s task_run is_task)
+  agreeing = agrees work cells inputs limits suits p s task_run is_task
+
+  same_actions : actions_from work task_run.begins.sync task_run.child (place_of task_run) ≡ s.actions
+  same_actions = actions_are work cells inputs limits suits p s task_run is_task
+
   pub runs : Runs work inputs limits p s done
   runs = record {
-    next = run.next_is ∙ ap (λ (b : Body Place). b.next) body_is ∙ sym agrees.next;
-    place = subst (λ q. Rests (program_in work) (body_at (program_in work) inputs limits p s).next.sync (body_at (program_in work) inputs limits p s).at q) (sym (run.place_is ∙ ap (λ (b : Body Place). b.at) body_is)) agrees.at;
-    given = run.effect_is ∙ (λ i. damaged task.mask (effect_on (is_task.thread i) (is_task.child i) (actions_are i) (found_of (under_of work) task.given)));
-    on = λ state given. run.effect_is ∙ ap (damaged task.mask) (done_on state given);
+    next = run.next_is ∙ ap (λ (b : Body Place). b.next) bodies ∙ sym agreeing.next;
+    place = subst (λ q. Rests (program_in work) (body_at (program_in work) inputs limits p s).next.sync (body_at (program_in work) inputs limits p s).at q) (sym (run.place_is ∙ ap (λ (b : Body Place). b.at) bodies)) agreeing.at;
+    given = run.effect_is ∙ (λ i. damaged task_run.mask (effect_on (is_task.thread i) (is_task.child i) (same_actions i) (found_of (under_of work) task_run.given)));
+    foot = run.foot_is ∙ (λ i. footprint (is_task.thread i) (is_task.begins i).sync (is_task.child i) (same_actions i));
+    on = λ state given. run.effect_is ∙ ap (damaged task_run.mask) (done_on work cells inputs limits suits p s task_run is_task state given);
   }
 
 pub runs_law : RunsLaw

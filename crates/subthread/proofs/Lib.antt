@@ -11,6 +11,7 @@ pub mod HeldLocks
 pub mod Instructions
 pub mod Joined
 pub mod Leavings
+pub mod Noted
 pub mod Placing
 pub mod Searched
 pub mod Standing

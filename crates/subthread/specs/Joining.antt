@@ -6,7 +6,7 @@ use Rattle.task_ast.specs.declared.layout.Layout.{Layout}
 use Rattle.task_ast.specs.State.{State}
 use Rattle.task_ast.specs.Effect.{effect, effect_on}
 use Rattle.task_ast.specs.Damage.{damaged}
-use Rattle.task_ast.specs.Plain.{Subthread, order}
+use Rattle.task_ast.specs.Plain.{Subthread, foot_of, order}
 use Rattle.task_ast.specs.Position.{before, from_in, body_at}
 use Rattle.record_store.specs.Given.{given_of, joined_by, found_of}
 use Rattle.task_code.specs.Relation.{Rests}
@@ -30,13 +30,14 @@ module _ (work : Work) (inputs : Inputs) (limits : Limits) where
   abbrev pub IsGiven : Task → State → Type 0
   IsGiven task state = task.given ≡ given_of (under_of work) state task.thread (joined_by task.begins.sync) task.held
 
-  -- what a run of such a task leaves: what comes next and the place are the subthread's; the effect is what the subthread's
+  -- what a run of such a task leaves: what comes next, the place and the footprint are the subthread's; the effect is what the subthread's
   -- actions do on what was given, and on a state where that was what it finds there
   pub record Runs (p : ℕ) (s : Subthread) (done : Done) : Type 0 where
     pub next : done.next ≡ (body_at (program_in work) inputs limits p s).next
     pub place : Rests (program_in work) (body_at (program_in work) inputs limits p s).next.sync (body_at (program_in work) inputs limits p s).at (place_left done)
     pub given : effect_of work done ≡ damaged (task_of work done).mask (effect_on s.thread s.child s.actions (found_of (under_of work) (task_of work done).given))
     pub on : (state : State) → IsGiven (task_of work done) state → effect_of work done ≡ damaged (task_of work done).mask (effect s.thread s.begins.sync s.child s.actions state)
+    pub foot : done.foot ≡ foot_of s
 
 -- a run of a task of the plain run does what the task's subthread does
 abbrev pub RunsLaw : Type 0
@@ -47,5 +48,6 @@ RunsLaw =
 -- a task of the plain run that was given what it finds in a state fits
 abbrev pub FitsLaw : Type 0
 FitsLaw =
-    (work : Work) (inputs : Inputs) (limits : Limits) (p : ℕ) (s : Subthread) (task : Task) (state : State)
+    (work : Work) (cells : Layout) (inputs : Inputs) (limits : Limits) → Suits work cells inputs limits
+    → (p : ℕ) (s : Subthread) (task : Task) (state : State)
     → IsTaskOf work inputs limits p s task → IsGiven work inputs limits task state → Fits work task

@@ -166,23 +166,25 @@ impl<'a> Cells<'a> {
         }
     }
 
-    /// The value of a cell: that which was written last, or else that which came; a cell that isn't at hand is 0.
+    /// The value of a cell at hand: that which was written last, or else that which came.
     pub fn value(&self, cell: u32) -> i64
+        requires { is_under self.now.under (map lock_in self.now.came) cell ≡ true }
         ensures { result ≡ unwrap_or (find nat_cmp cell self.now.written) (value_in self.now.under self.now.came cell) }
     {
         match find_cell(self.under, self.over, &self.bundles, cell) {
             Some((at, place)) => value_there(&self.bundles, at, place),
-            None => 0,
+            None => unreachable!(),
         }
     }
 
-    /// Writes a cell in place. The error is that memory is out, or that the cell isn't at hand; nothing is written then.
+    /// Writes a cell at hand in place. The error is that memory is out; nothing is written then.
     pub fn write(&mut self, cell: u32, value: i64) -> Result<(), AllocError>
+        requires { is_under self.old.under (map lock_in self.old.came) cell ≡ true }
         ensures ok { OnOk result (self.new ≡ record self.old { written = put nat_cmp cell value self.old.written }) }
         ensures err { OnErr result (self.new ≡ self.old) }
     {
         let Some((at, place)) = find_cell(self.under, self.over, &self.bundles, cell) else {
-            return Err(AllocError);
+            unreachable!()
         };
         let before = value_there(&self.bundles, at, place);
         keep_old(&mut self.olds, cell, before)?;

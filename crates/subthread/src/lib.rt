@@ -9,6 +9,8 @@ mod footprints;
 mod ground;
 mod job;
 pub mod laws;
+mod names;
+mod notes;
 mod numbers;
 mod places;
 mod run;
@@ -16,6 +18,6 @@ mod task;
 mod values;
 mod walk;
 
-pub use footprints::footprint;
+pub use footprints::lock_footprint;
 pub use run::{run_counted, run_task};
 pub use task::{Done, Task, Work};

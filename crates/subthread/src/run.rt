@@ -7,18 +7,21 @@ ghost use Rattle.task_ast.specs.Damage.{damaged};
 ghost use Rattle.task_ast.specs.Under.{under_lock, is_under};
 ghost use Rattle.record_store.specs.Lent.{lock_in, put_back, whole_effect};
 ghost use Rattle.record_store.specs.declared.given.Bundle.{Bundle as BundleThere};
+ghost use Rattle.subthread.specs.Footprints.{IsNumbered};
 ghost use Rattle.subthread.specs.Tasks.{with_bundles, under_of, task_of, Fits, IsRun};
-ghost use Rattle.subthread.specs.inner.Running.{doing_of, Holds, IsTask};
-ghost use Rattle.subthread.specs.inner.Leaving.{IsGroundOf, Walked, effect_in, EndsAs};
+ghost use Rattle.subthread.specs.inner.Running.{doing_of, Holds, IsTask, AreAtHand};
+ghost use Rattle.subthread.specs.inner.Leaving.{IsGroundOf, Walked, actions_at, effect_in, EndsAs};
 
 use crate::begins::begin;
 use crate::cells::Cells;
 use crate::damage::damage;
+use crate::footprints::footprint;
 use crate::ground::{Doing, Ground, Stand};
+use crate::names::Names;
 use crate::numbers::narrow;
 use crate::walk::run_body;
 use crate::{Done, Task, Work};
-use gp_base::{At, RecNo, Seq, ThreadNo};
+use gp_base::{At, Footprint, RecNo, Seq, ThreadNo};
 use record_store::{Bundle, Effect};
 use std::alloc::{AllocError, AllocFailed, Global};
 use std::mem;
@@ -55,7 +58,8 @@ fn cells_of<'a>(alloc: Global, work: &'a Work, bundles: Seq<Bundle>) -> Cells<'a
     Cells::new(alloc, under, over, bundles)
 }
 
-// Walks from where a task stands to its next synchronisation; the task's bundles are with the cells at hand.
+// Walks from where a task stands to its next synchronisation; the task's bundles are with the cells at hand. Gives that, and
+// what the subthread reads and writes.
 fn walk(
     alloc: Global,
     work: &Work,
@@ -63,15 +67,20 @@ fn walk(
     ground: &Ground,
     stand: &mut Stand,
     doing: &mut Doing,
-) -> Result<Next, AllocError>
+) -> Result<(Next, Footprint), AllocError>
+    requires numbered { IsNumbered task.now.begins.sync }
     requires is { IsGroundOf work.now (with_bundles ground.now.bundles.value task.now) ground.now }
     requires task { IsTask ground.now }
     requires holds { Holds ground.now doing.old }
-    ensures walked { IfOk result (λ next. Walked work.now (with_bundles ground.now.bundles.value task.now) next stand.old (doing_of doing.old) stand.new (doing_of doing.new)) }
+    requires named { AreAtHand ground.now (actions_at work.now (with_bundles ground.now.bundles.value task.now) stand.old) }
+    ensures walked { IfOk result (λ end. Walked work.now (with_bundles ground.now.bundles.value task.now) end stand.old (doing_of doing.old) stand.new (doing_of doing.new)) }
     ensures holds { Holds ground.now doing.new }
 {
+    let mut names = Names::new(alloc);
     begin(alloc, &task.begins.sync, ground, task.child, stand, doing)?;
-    run_body(alloc, ground, work.turns, stand, doing)
+    let next = run_body(alloc, ground, work.turns, stand, doing, &mut names)?;
+    let foot = footprint(alloc, &task.begins, task.thread, task.child, &names)?;
+    Ok((next, foot))
 }
 
 // Ends a run: the mask falls on all that it did. Gives the bundles with their new values, the old ones, and the effect. The
@@ -117,9 +126,10 @@ fn ended(
     task: Task,
     stand: Stand,
     next: Next,
+    foot: Footprint,
     doing: Doing,
 ) -> Result<Done, AllocFailed<Task>>
-    ensures ok { IfOk result (λ done. EndsAs doing.entry.cells.under doing.entry.cells.came task stand next (doing_of doing.entry) done) }
+    ensures ok { IfOk result (λ done. EndsAs doing.entry.cells.under doing.entry.cells.came task stand next foot (doing_of doing.entry) done) }
     ensures back { IfErr result (λ failed. failed.value ≡ with_bundles doing.entry.cells.came task) }
 {
     let mut task = task;
@@ -145,6 +155,7 @@ fn ended(
                 next,
                 at,
                 ctl: stand.ctl,
+                foot,
             })
         }
     }
@@ -152,8 +163,8 @@ fn ended(
 
 /// Runs a task, whose cells it changes in place. What comes next and where the thread then stands follow from the task's
 /// beginning, place, control variables, thread and child; the effect is what its actions do on what was given, damaged by
-/// its mask. An index fault and spent loop turns are values of what comes next. The error is that memory is out, or that a
-/// cell is written that no bundle has, which no accepted program does; it has the task as it was.
+/// its mask. An index fault and spent loop turns are values of what comes next. The error is that memory is out, and has the
+/// task as it was.
 pub fn run_task(alloc: Global, work: &Work, task: Task) -> Result<Done, AllocFailed<Task>>
     requires { Fits work.now task }
     ensures of_task { IfOk result (λ done. task_of work.now done ≡ task) }
@@ -198,9 +209,9 @@ pub fn run_counted(
         steps: 0,
     };
     match walk(alloc, work, &task, &ground, &mut stand, &mut doing) {
-        Ok(next) => {
+        Ok((next, foot)) => {
             *steps = doing.steps;
-            ended(alloc, task, stand, next, doing)
+            ended(alloc, task, stand, next, foot, doing)
         }
         Err(_) => {
             task.given.bundles = doing.cells.take_back();

@@ -3,10 +3,12 @@ ghost use Rattle.std.specs.Prelude.{◌≡◌, is_some, map, option_map, slice_g
 ghost use Rattle.task_ast.specs.Control.{all_of};
 ghost use Rattle.task_code.specs.Reading.{fork_arguments, gift_action, step_does, step_instr};
 ghost use Rattle.task_code.specs.View.{plain_does, plain_forking, plain_gifts, plain_instrs};
-ghost use Rattle.subthread.specs.inner.Running.{env_in, place_in, doing_of, body_in, Holds, IsTask, StaysInside, Stepped, Ran};
+ghost use Rattle.subthread.specs.inner.Running.{env_in, place_in, did, body_in, Holds, IsTask, StaysInside, StepIsAtHand, AreAtHand, Stepped, Ran};
 
 use crate::deeds::{fits, perform};
 use crate::ground::{Doing, Ground, Stand, Went};
+use crate::names::Names;
+use crate::notes::note;
 use crate::numbers::{is_zero, narrow, set_number};
 use crate::values::{cell_at, control_value, control_values, has_value};
 use gp_base::{LockNo, Nums};
@@ -65,10 +67,12 @@ fn step_at(
     ground: &Ground,
     stand: &mut Stand,
     doing: &mut Doing,
+    names: &mut Names,
 ) -> Result<Went, AllocError>
     requires cells { Holds ground.now doing.old }
     requires inside { StaysInside (plain_does does.now) stand.old.pc }
-    ensures steps { IfOk result (λ went. Stepped ground.now (step_does ground.now.feeds.now line (plain_does does.now) (place_in ground.now stand.old)) went (place_in ground.now stand.old) (place_in ground.now stand.new) (doing_of doing.old) (doing_of doing.new)) }
+    requires named { StepIsAtHand ground.now (step_does ground.now.feeds.now line (plain_does does.now) (place_in ground.now stand.old)) }
+    ensures steps { IfOk result (λ went. Stepped ground.now (step_does ground.now.feeds.now line (plain_does does.now) (place_in ground.now stand.old)) went (place_in ground.now stand.old) (place_in ground.now stand.new) (did doing.old names.old) (did doing.new names.new)) }
     ensures holds { Holds ground.now doing.new }
 {
     match does {
@@ -139,6 +143,7 @@ fn step_at(
         )),
         Does::Do(deed) => {
             if fits(deed, ground, stand.ctl.as_slice()) {
+                note(deed, ground, stand.ctl.as_slice(), names)?;
                 perform(alloc, deed, ground, stand.ctl.as_slice(), doing)?;
                 stand.pc += 1;
                 Ok(Went::On)
@@ -155,16 +160,18 @@ fn step(
     ground: &Ground,
     stand: &mut Stand,
     doing: &mut Doing,
+    names: &mut Names,
 ) -> Result<Went, AllocError>
     requires cells { Holds ground.now doing.old }
     requires task { IsTask ground.now }
-    ensures steps { IfOk result (λ went. Stepped ground.now (step_instr ground.now.feeds.now (slice_get (plain_instrs ground.now.instrs.now) stand.old.pc) (place_in ground.now stand.old)) went (place_in ground.now stand.old) (place_in ground.now stand.new) (doing_of doing.old) (doing_of doing.new)) }
+    requires named { StepIsAtHand ground.now (step_instr ground.now.feeds.now (slice_get (plain_instrs ground.now.instrs.now) stand.old.pc) (place_in ground.now stand.old)) }
+    ensures steps { IfOk result (λ went. Stepped ground.now (step_instr ground.now.feeds.now (slice_get (plain_instrs ground.now.instrs.now) stand.old.pc) (place_in ground.now stand.old)) went (place_in ground.now stand.old) (place_in ground.now stand.new) (did doing.old names.old) (did doing.new names.new)) }
     ensures holds { Holds ground.now doing.new }
 {
     doing.steps = doing.steps.saturating_add(1);
     if stand.pc < ground.instrs.len() {
         let instr = &ground.instrs[stand.pc];
-        step_at(alloc, &instr.does, instr.line, ground, stand, doing)
+        step_at(alloc, &instr.does, instr.line, ground, stand, doing, names)
     } else {
         Ok(stop(SyncOp::End, 0))
     }
@@ -177,15 +184,17 @@ pub fn run_body(
     turns: u64,
     stand: &mut Stand,
     doing: &mut Doing,
+    names: &mut Names,
 ) -> Result<Next, AllocError>
     requires cells { Holds ground.now doing.old }
     requires task { IsTask ground.now }
-    ensures ran { IfOk result (λ next. Ran ground.now (body_in ground.now turns (place_in ground.now stand.old)) next (place_in ground.now stand.new) (doing_of doing.old) (doing_of doing.new)) }
+    requires named { AreAtHand ground.now (body_in ground.now turns (place_in ground.now stand.old)).actions }
+    ensures ran { IfOk result (λ next. Ran ground.now (body_in ground.now turns (place_in ground.now stand.old)) next (place_in ground.now stand.new) (did doing.old names.old) (did doing.new names.new)) }
     ensures holds { Holds ground.now doing.new }
 {
     let mut left = turns;
     loop {
-        match step(alloc, ground, stand, doing)? {
+        match step(alloc, ground, stand, doing, names)? {
             Went::On => {}
             Went::Turned(pc) => {
                 if left == 0 {

@@ -1,9 +1,11 @@
 use Rattle.std.proofs.Common.{◌≡◌, ◌<◌, length, ap, sym, ◌∙◌, SFits, w64, rules, subst, map}
 use Rattle.std.proofs.lemmas.Int.{to_z-of_z}
 use Rattle.std.proofs.lemmas.List.{with_items_is}
-use Rattle.record_store.specs.Lent.{put_back, new_write}
+use Rattle.record_store.specs.Lent.{lock_in, put_back, new_write}
 use Rattle.subthread.specs.inner.Places.{StandsAt, AllLack, AreHandy, value_at, with_value}
-use Rattle.subthread.specs.inner.Hand.{with_old}
+use Rattle.subthread.specs.inner.Hand.{Hand, with_old}
+use Rattle.subthread.proofs.Among.{under_now}
+use Rattle.task_ast.specs.Under.{is_under}
 use Rattle.subthread.proofs.Placing.{place_within}
 use Rattle.subthread.proofs.Standing.{stands_has}
 use Rattle.subthread.proofs.Written.{came_same, written_then}
@@ -13,6 +15,12 @@ use Rattle.subthread.proofs.cells.Cells.write.Goals.{After-deref-2, After-deref_
 
 stands : (c : After-deref-2) → StandsAt c.self.inside.under.now c.args.cell c.in-Some.at c.in-Some.place c.self.inside.bundles.items
 stands c = subst (StandsAt c.self.inside.under.now c.args.cell c.in-Some.at c.in-Some.place) c.deref.ensures.value c.in-Some.ensures
+
+pub unreachable-requires : goal.unreachable-requires
+unreachable-requires c =
+    under_now c.self.inside.under.now c.self.inside.olds.entries c.args.cell c.self.inside.bundles.items
+    (ap (λ (h : Hand). is_under h.under (map lock_in h.came) c.args.cell) c.self.view_is ∙ c.requires)
+    (subst (AllLack c.self.inside.under.now c.args.cell) c.deref.ensures.value c.in_default.ensures)
 
 pub value_there-before-requires-clause-bundle : goal.value_there-before-requires-clause-bundle
 value_there-before-requires-clause-bundle c =
