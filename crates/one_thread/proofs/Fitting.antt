@@ -11,6 +11,7 @@ use Rattle.task_ast.specs.Tree.{Name, Expr, Num, Ctl, Reg, Me, Rows, Cell, Neg, 
 use Rattle.task_ast.specs.Value.{value, value_on, operate, operate_on}
 use Rattle.task_ast.specs.Action.{Term, MoreTerms, OneTerm, Action, Say, Choose, Arm, NoAction, OneAction, term, terms}
 use Rattle.task_ast.specs.Effect.{term_value, terms_value}
+use Rattle.task_ast.specs.Footprint.{naming, arm_naming}
 use Rattle.task_ast.specs.Control.{all_of}
 use Rattle.one_thread.specs.declared.data.Data.{Data}
 use Rattle.one_thread.specs.inner.Working.{first_unless, worked, arm_worked, Works, ArmWorks}
@@ -98,25 +99,41 @@ say_some o = sym (map_some Say o)
 some_is : {A : Type 0} {x y : A} → Some x ≡ Some y → x ≡ y
 some_is is = cc
 
-module _ (joined : ℤ) where
-  -- the arm that is left does on what was reached what the whole arm does from the beginning
-  abbrev pub Ahead : (whole left : Option Arm) → (now start : Data) → Type 0
-  Ahead whole left now start = (arm : Arm) → whole ≡ Some arm → (rest : Arm) × (left ≡ Some rest) × (arm_worked joined rest now ≡ arm_worked joined arm start)
+-- what actions and arms do to data of a kind: the actions of an arm in order
+pub record DoesInOrder {D : Type 0} (act : Action → D → D) (arm_act : Arm → D → D) : Type 0 where
+  pub none : (d : D) → arm_act NoAction d ≡ d
+  pub more : (a : Action) (arm : Arm) (d : D) → arm_act (OneAction a arm) d ≡ arm_act arm (act a d)
 
-  on_arm : (o : Option Action) (r : Option Arm) (now new d : Data) (rest : Arm) → also o r ≡ Some rest → arm_worked joined rest now ≡ d → ((a : Action) → o ≡ Some a → new ≡ worked joined a now)
-      → (left : Arm) × (r ≡ Some left) × (arm_worked joined left new ≡ d)
+pub work-in-order : (joined : ℤ) → DoesInOrder (worked joined) (arm_worked joined)
+work-in-order joined = record { none = λ d. refl; more = λ a arm d. refl }
+
+pub naming-in-order : DoesInOrder naming arm_naming
+naming-in-order = record { none = λ d. refl; more = λ a arm d. refl }
+
+-- the arm that is left does on what was reached what the whole arm does from the beginning
+abbrev pub Ahead : {D : Type 0} → (Arm → D → D) → (whole left : Option Arm) → (now start : D) → Type 0
+Ahead arm_act whole left now start =
+    (arm : Arm) → whole ≡ Some arm → (rest : Arm) × (left ≡ Some rest) × (arm_act rest now ≡ arm_act arm start)
+
+module _ {D : Type 0} (act : Action → D → D) (arm_act : Arm → D → D) (does : DoesInOrder act arm_act) where
+  on_arm : (o : Option Action) (r : Option Arm) (now new d : D) (rest : Arm) → also o r ≡ Some rest → arm_act rest now ≡ d
+      → ((a : Action) → o ≡ Some a → new ≡ act a now) → (left : Arm) × (r ≡ Some left) × (arm_act left new ≡ d)
   on_arm None r now new d rest is same works = absurd (cc is)
   on_arm (Some a) None now new d rest is same works = absurd (cc is)
   on_arm (Some a) (Some left) now new d rest is same works =
-      (left, refl, ap (arm_worked joined left) (works a refl) ∙ ap (λ x. arm_worked joined x now) (some_is is) ∙ same)
+      (left, refl, ap (arm_act left) (works a refl) ∙ sym (does.more a left now) ∙ ap (λ x. arm_act x now) (some_is is) ∙ same)
 
-  pub ahead_on : (whole : Option Arm) (o : Option Action) (r : Option Arm) (now new start : Data) → ((a : Action) → o ≡ Some a → new ≡ worked joined a now) → Ahead whole (also o r) now start → Ahead whole r new start
-  ahead_on whole o r now new start works ahead arm is = let so_far = ahead arm is in on_arm o r now new (arm_worked joined arm start) so_far.0 so_far.1 so_far.2 works
+  pub ahead_on : (whole : Option Arm) (o : Option Action) (r : Option Arm) (now new start : D) → ((a : Action) → o ≡ Some a → new ≡ act a now)
+      → Ahead arm_act whole (also o r) now start → Ahead arm_act whole r new start
+  ahead_on whole o r now new start works ahead arm is =
+      let so_far = ahead arm is in on_arm o r now new (arm_act arm start) so_far.0 so_far.1 so_far.2 works
 
-  pub ahead_end : (whole : Option Arm) (now start : Data) → Ahead whole (Some NoAction) now start → (arm : Arm) → whole ≡ Some arm → now ≡ arm_worked joined arm start
-  ahead_end whole now start ahead arm is = let so_far = ahead arm is in ap (λ x. arm_worked joined x now) (some_is so_far.1) ∙ so_far.2
+  pub ahead_end : (whole : Option Arm) (now start : D) → Ahead arm_act whole (Some NoAction) now start
+      → (arm : Arm) → whole ≡ Some arm → now ≡ arm_act arm start
+  ahead_end whole now start ahead arm is =
+      let so_far = ahead arm is in sym (does.none now) ∙ ap (λ x. arm_act x now) (some_is so_far.1) ∙ so_far.2
 
-  pub ahead_start : (whole : Option Arm) (start : Data) → Ahead whole whole start start
+  pub ahead_start : (whole : Option Arm) (start : D) → Ahead arm_act whole whole start start
   ahead_start whole start arm is = (arm, is, refl)
 
 zero_of : (v : ℤ) → int_eq v (pos 0) ≡ true → v ≡ pos 0

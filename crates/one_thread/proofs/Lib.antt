@@ -9,6 +9,7 @@ pub mod Issuing
 pub mod Lefts
 pub mod Looking
 pub mod Mirroring
+pub mod Naming
 pub mod Openings
 pub mod Performing
 pub mod Running

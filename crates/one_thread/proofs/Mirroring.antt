@@ -11,7 +11,7 @@ use Rattle.task_ast.specs.State.{number_at}
 use Rattle.task_ast.specs.Effect.{term_value, Doing, picked, done, arm_done, all_done}
 use Rattle.task_ast.specs.laws.Keeps.{NamesOnly, ArmNamesOnly, AllName}
 use Rattle.one_thread.specs.declared.data.Data.{Data}
-use Rattle.one_thread.specs.inner.Working.{first_unless, worked, arm_worked, all_worked}
+use Rattle.one_thread.specs.inner.Working.{first_unless, worked, arm_worked, recorded, all_worked}
 
 -- the data at hand are those of a subthread that found these cells
 pub record Mirrors (found : ℕ → ℤ) (count : ℕ) (d : Doing) (w : Data) : Type 0 where
@@ -98,11 +98,18 @@ module _ (found : ℕ → ℤ) (joined : ℤ) (count : ℕ) where
     arm_mirrors NoAction d w names same = same
     arm_mirrors (OneAction a arm) d w names same = arm_mirrors arm (done found joined a d) (worked joined a w) names.1 (worked_mirrors a d w names.0 same)
 
+  -- the cells that are recorded are no part of the data
+  recorded_mirrors : (a : Action) (d : Doing) (w : Data)
+      → Mirrors found count d (worked joined a w) → Mirrors found count d (recorded joined a w)
+  recorded_mirrors a d w same = record { registers = same.registers; child = same.child; lines = same.lines; cells = same.cells; many = same.many }
+
   -- the data after a subthread's actions
   pub all_mirrors : (actions : List Action) (d : Doing) (w : Data) → AllName test actions → Mirrors found count d w → Mirrors found count (all_done found joined actions d) (all_worked joined actions w)
   all_mirrors [] d w names same = same
-  all_mirrors (a ∷ actions) d w names same = all_mirrors actions (done found joined a d) (worked joined a w) names.1 (worked_mirrors a d w names.0 same)
+  all_mirrors (a ∷ actions) d w names same =
+      all_mirrors actions (done found joined a d) (recorded joined a w) names.1
+      (recorded_mirrors a (done found joined a d) w (worked_mirrors a d w names.0 same))
 
 pub worked-append : (joined : ℤ) (first second : List Action) (w : Data) → all_worked joined (first ++ second) w ≡ all_worked joined second (all_worked joined first w)
 worked-append joined [] second w = refl
-worked-append joined (a ∷ first) second w = worked-append joined first second (worked joined a w)
+worked-append joined (a ∷ first) second w = worked-append joined first second (recorded joined a w)

@@ -19,6 +19,7 @@ use Rattle.task_ast.specs.Body.{Body}
 use Rattle.task_ast.specs.Control.{Point, with_number, beginning, first_actions, tree_body}
 use Rattle.task_ast.specs.State.{State, RegistersOf, CellOf, number_at, cell_value}
 use Rattle.task_ast.specs.Effect.{Doing, all_done, joined_ret, effect, after, left_to, one_number}
+use Rattle.task_ast.specs.Footprint.{named_by}
 use Rattle.task_ast.specs.laws.Keeps.{AllName}
 use Rattle.task_ast.specs.Table.{learning}
 use Rattle.task_ast.specs.Turn.{child_of}
@@ -27,6 +28,7 @@ use Rattle.task_ast.specs.Plain as plain
 use Rattle.task_ast.specs.View.{plain_program}
 use Rattle.one_thread.specs.declared.data.Data.{Data}
 use Rattle.one_thread.specs.declared.walk.Walk.{Walk}
+use Rattle.one_thread.specs.declared.work.Told.{Told}
 use Rattle.one_thread.specs.declared.threads.Run.{Run}
 use Rattle.one_thread.specs.inner.Holding.{AreHeld}
 use Rattle.one_thread.specs.inner.View.{table_of}
@@ -36,6 +38,7 @@ use Rattle.one_thread.specs.inner.Subthreads.{settled, at_work, body_from, actio
 use Rattle.one_thread.specs.inner.Runs.{registers_at, joined_of, IsSound, AreSound, Forks, grown, Performed, Holds}
 use Rattle.one_thread.proofs.Within.{is_cell, body_within, first_within, all-append}
 use Rattle.one_thread.proofs.Mirroring.{Mirrors, all_mirrors}
+use Rattle.one_thread.proofs.Naming.{all-named}
 use Rattle.one_thread.proofs.ThreadLemmas.{registers-there}
 
 some_is : {A : Type 0} {x y : A} → Some x ≡ Some y → x ≡ y
@@ -236,7 +239,7 @@ settled-point code inputs limits walk sync.BadIndex t state p at same = at
 settled-point code inputs limits walk sync.Spent t state p at same = at
 
 -- ---- the subthread
-module _ (code : Code) (inputs : Inputs) (limits : Limits) (old : Run) (p : Plain) (holds : Holds code inputs limits old p) (t : ℕ) (begins : Next) (child : Option ℕ) (lines : List (List ℤ)) (new : Run) (performed : Performed old t begins child lines new) where
+module _ (code : Code) (inputs : Inputs) (limits : Limits) (old : Run) (p : Plain) (holds : Holds code inputs limits old p) (t : ℕ) (begins : Next) (child : Option ℕ) (told : Told) (new : Run) (performed : Performed old t begins child told new) where
   abbrev machine : Machine Point
   machine = tree_machine (plain_program code) inputs limits
 
@@ -249,7 +252,7 @@ module _ (code : Code) (inputs : Inputs) (limits : Limits) (old : Run) (p : Plai
   abbrev body : Body Point
   body = tree_body (plain.setting_of (plain_program code) inputs) limits.turns (beginning begins.sync child point)
 
-  abbrev actions : List Action
+  abbrev pub actions : List Action
   actions = first_actions (plain.setting_of (plain_program code) inputs) begins.sync point ++ body.actions
 
   abbrev found : ℕ → ℤ
@@ -312,8 +315,14 @@ module _ (code : Code) (inputs : Inputs) (limits : Limits) (old : Run) (p : Plai
         many = holds.many;
       }))
 
-  pub lines-are : lines ≡ what.prints
-  lines-are = performed.lines_are ∙ performed.ran.lines_are ∙ mirrors.lines
+  pub lines-are : told.lines ≡ what.prints
+  lines-are = ap (λ t. t.lines) performed.told_is ∙ performed.ran.lines_are ∙ mirrors.lines
+
+  pub named-are : told.named ≡ named_by actions
+  named-are =
+      ap (λ t. t.named) performed.told_is ∙ performed.ran.named_are
+      ∙ all-named (joined_of begins.sync old.threads.items) (actions_from was begins.sync child old.turns) was.data
+      ∙ ap named_by actions-are
 
   inside : t < length old.threads.items
   inside = slice_get_within old.threads.items t performed.was performed.at

@@ -10,7 +10,8 @@ use Rattle.task_ast.specs.declared.sync.SyncOp.TheVariants as sync
 use Rattle.task_ast.specs.declared.sync.Next.{Next}
 use Rattle.task_ast.specs.Names.{records_of, cells_in}
 use Rattle.task_ast.specs.State.{number_at, cell_value}
-use Rattle.task_ast.specs.Footprint.{footprint}
+use Rattle.task_ast.specs.Action.{Action}
+use Rattle.task_ast.specs.Footprint.{named_by}
 use Rattle.task_ast.specs.Repeat.{Move, Goes, Ends, steps, state_after, steps_from, state_from}
 use Rattle.task_ast.specs.Table.{Table as PlainTable, numbers, owned_from}
 use Rattle.task_ast.specs.Turn.{Turn as PlainTurn, Issue, next_issue, child_of}
@@ -26,9 +27,9 @@ use Rattle.one_thread.specs.inner.View.{table_of, seat_of}
 use Rattle.one_thread.specs.inner.Walking.{point_of}
 use Rattle.one_thread.specs.inner.Runs.{Holds, grown}
 use Rattle.one_thread.specs.PlainRuns.{shown, IsPlainRun}
-use Rattle.one_thread.specs.inner.Moves.{Stepped, Went, Halted, Follows, Ahead}
+use Rattle.one_thread.specs.inner.Moves.{foot_with, Stepped, Went, Halted, Follows, Ahead}
 use Rattle.one_thread.proofs.Issues.{Issues, issued-so}
-use Rattle.one_thread.proofs.Performing.{after_it, lines-are, holds-after, threads-after}
+use Rattle.one_thread.proofs.Performing.{actions, after_it, lines-are, named-are, holds-after, threads-after}
 
 grown-least : (op : SyncOp) (n : ℕ) → n ≤ grown op n
 grown-least (sync.Fork k values) n = omega arith
@@ -77,16 +78,18 @@ module _ (code : Code) (inputs : Inputs) (limits : Limits) (old : Run) (plain : 
     issue-goes held alike is stepped =
         record {
           subthread = _;
-          then = after_it code inputs limits mid plain_mid holds_mid t begins child step.prints new stepped.performed;
+          then = after_it code inputs limits mid plain_mid holds_mid t begins child stepped.told new stepped.performed;
           moves = same-turn (Issue t begins child (table_of after)) is;
           shows =
-              ap (λ x. record { thread = x; begins = step.begins; foot = step.foot; prints = step.prints }) stepped.thread_is
-              ∙ ap (λ x. record { thread = t; begins = x; foot = step.foot; prints = step.prints }) stepped.begins_is
-              ∙ ap (λ x. record { thread = t; begins = begins; foot = x; prints = step.prints }) stepped.foot_is
-              ∙ ap (λ x. record { thread = t; begins = begins; foot = footprint t begins.sync child (owned_from 0 after.owners.owners.items t); prints = x }) (lines-are code inputs limits mid plain_mid holds_mid t begins child step.prints new stepped.performed);
-          holds = holds-after code inputs limits mid plain_mid holds_mid t begins child step.prints new stepped.performed (issues.child_is ∙ ap (child_of begins.sync) many);
+              ap (λ x. record step { thread = x }) stepped.thread_is
+              ∙ ap (λ x. record step { thread = t; begins = x }) stepped.begins_is
+              ∙ ap (λ x. record step { thread = t; begins = begins; held = x }) stepped.held_is
+              ∙ ap (λ x. record step { thread = t; begins = begins; held = held_now; foot = x }) foot_are
+              ∙ ap (λ x. record { thread = t; begins = begins; held = held_now; foot = foot_with t begins.sync child (named_by does); prints = x })
+              (stepped.prints_are ∙ lines-are code inputs limits mid plain_mid holds_mid t begins child stepped.told new stepped.performed);
+          holds = holds-after code inputs limits mid plain_mid holds_mid t begins child stepped.told new stepped.performed (issues.child_is ∙ ap (child_of begins.sync) many);
           alike =
-              threads-after code inputs limits mid plain_mid holds_mid t begins child step.prints new stepped.performed
+              threads-after code inputs limits mid plain_mid holds_mid t begins child stepped.told new stepped.performed
               ∙ ap (grown begins.sync) (sym many) ∙ sym issues.threads_are
               ∙ sym (length-with_nth (table_of after).seats t (λ s. record s { next = Some stepped.performed.done.next }))
               ∙ ap (λ (table : PlainTable). length table.seats) (sym stepped.performed.table) ∙ length-map new.table.seats.items seat_of;
@@ -116,6 +119,17 @@ module _ (code : Code) (inputs : Inputs) (limits : Limits) (old : Run) (plain : 
               cells = holds.cells;
               many = holds.many;
             }
+
+        held_now : List ℕ
+        held_now = owned_from 0 after.owners.owners.items t
+
+        does : List Action
+        does = actions code inputs limits mid plain_mid holds_mid t begins child stepped.told new stepped.performed
+
+        foot_are : step.foot ≡ foot_with t begins.sync child (named_by does)
+        foot_are =
+            stepped.foot_is
+            ∙ ap (foot_with t begins.sync child) (named-are code inputs limits mid plain_mid holds_mid t begins child stepped.told new stepped.performed)
 
 -- ---- the loop
 order-more : (done : List Step) (step : Step) (s : Subthread) (rest : List Subthread) → step ≡ shown s → (done ++ step ∷ []) ++ map shown rest ≡ done ++ map shown (s ∷ rest)

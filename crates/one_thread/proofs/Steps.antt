@@ -19,9 +19,9 @@ use Rattle.task_ast.specs.View.{plain_stmts, plain_block}
 use Rattle.one_thread.specs.declared.walk.Walk.{Walk}
 use Rattle.one_thread.specs.declared.walk.Went.TheVariants as went
 use Rattle.one_thread.specs.inner.Remaining.{left_of, rest_of}
-use Rattle.one_thread.specs.inner.Working.{Works}
 use Rattle.one_thread.specs.inner.Walking.{setting_of, point_of, LeadsTo, Stepped}
 use Rattle.one_thread.proofs.Lefts.{statements-block}
+use Rattle.one_thread.proofs.Naming.{Records}
 
 not_zero : int_eq (pos 0) (pos 0) ≡ false → ⊥
 not_zero is = let eq : int_eq (pos 0) (pos 0) ≡ true = refl in false≢true (sym is ∙ eq)
@@ -68,9 +68,9 @@ acts_at s line (Join e x) rest p is = unlike is
 acts_at s line (Barrier b) rest p is = unlike is
 acts_at s line (Settle x c) rest p is = unlike is
 
-known_acts : (line : ℕ) (o : Option Action) (q : Point) (old new : Walk) → is_some o ≡ true → Works o old.data new.data → LeadsTo q old new → Stepped (known line o (λ a. Act a q)) went.On old new
-known_acts line None q old new is works leads = absurd (false≢true is)
-known_acts line (Some a) q old new is works leads = (leads, λ joined. works joined a refl)
+known_acts : (line : ℕ) (o : Option Action) (q : Point) (old new : Walk) → is_some o ≡ true → Records o old.data new.data → LeadsTo q old new → Stepped (known line o (λ a. Act a q)) went.On old new
+known_acts line None q old new is records leads = absurd (false≢true is)
+known_acts line (Some a) q old new is records leads = (leads, λ joined. records joined a refl)
 
 known_stops : (line : ℕ) (o : Option Action) (q : Point) (walk : Walk) → walk.env.regs ≡ [] → is_some o ≡ false → Stepped (known line o (λ a. Act a q)) (went.Stopped (record { sync = sync.BadIndex; line = line })) walk walk
 known_stops line None q walk clean is = (refl, stays walk clean, refl)
@@ -80,11 +80,11 @@ abbrev action_here : Walk → What → Env → Option Action
 action_here walk w env = action (setting_of walk) (registers_of (point_of walk).task) w env
 
 -- a data statement is done
-pub acted : (old new : Walk) (line : ℕ) (w : What) → old.env.regs ≡ [] → IsTrue (is_data w) → is_some (action_here old w old.env) ≡ true → Works (action_here old w old.env) old.data new.data
+pub acted : (old new : Walk) (line : ℕ) (w : What) → old.env.regs ≡ [] → IsTrue (is_data w) → is_some (action_here old w old.env) ≡ true → Records (action_here old w old.env) old.data new.data
     → LeadsTo (going (point_of old) (rest_of old.left)) old new → Stepped (step_at (setting_of old) line w (rest_of old.left) (point_of old)) went.On old new
-acted old new line w clean is_data_here is works leads =
+acted old new line w clean is_data_here is records leads =
     subst (λ st. Stepped st went.On old new) (sym (acts_at (setting_of old) line w (rest_of old.left) (point_of old) is_data_here ∙ ap (λ env. known line (action_here old w env) (λ a. Act a (going (point_of old) (rest_of old.left)))) (env_is old clean)))
-    (known_acts line (action_here old w old.env) (going (point_of old) (rest_of old.left)) old new is works leads)
+    (known_acts line (action_here old w old.env) (going (point_of old) (rest_of old.left)) old new is records leads)
 
 -- or names a cell that isn't there
 pub unacted : (walk : Walk) (line : ℕ) (w : What) → walk.env.regs ≡ [] → IsTrue (is_data w) → is_some (action_here walk w walk.env) ≡ false

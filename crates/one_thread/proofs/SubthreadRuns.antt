@@ -51,10 +51,10 @@ begins_ok op child joined old new (Err e) is begun = begun
 -- the whole of a subthread
 pub ran_with : (old : Walk) (shared : Shared) (begins : SyncOp) (child : Option ℕ) (joined : ℤ) (turns : ℕ) (begun new last : Walk) (done : Done) (left : Shared)
     → BegunBy begins child joined (at_work old shared) begun → Ran (tree_body (setting_of begun) turns (point_of begun)) done.next begun new
-    → point_of last ≡ point_of new → last.data.registers ≡ new.data.registers → done.child ≡ new.data.child → done.lines ≡ new.data.lines → left.cells ≡ new.data.cells → left.feeds ≡ new.env.feeds
+    → point_of last ≡ point_of new → last.data.registers ≡ new.data.registers → done.child ≡ new.data.child → done.told.lines ≡ new.data.lines → done.told.named ≡ new.data.named → left.cells ≡ new.data.cells → left.feeds ≡ new.env.feeds
     → last.program ≡ new.program → last.task ≡ new.task → last.registers ≡ new.registers → last.env.regs ≡ new.env.regs
     → RanWith old shared begins child joined turns done last left
-ran_with old shared begins child joined turns begun new last done left first body at registers child_is lines cells feeds program task slots regs =
+ran_with old shared begins child joined turns begun new last done left first body at registers child_is lines named cells feeds program task slots regs =
     let start = at_work old shared in
     let same : tree_body (setting_of begun) turns (point_of begun) ≡ body_from start begins child turns =
     ap (λ s. tree_body s turns (point_of begun)) (same_setting start begun first.keeps) ∙ ap (tree_body (setting_of start) turns) first.at in
@@ -68,6 +68,7 @@ ran_with old shared begins child joined turns begun new last done left first bod
       registers_are = registers ∙ ap (λ d. d.registers) works;
       child_is = child_is ∙ ap (λ d. d.child) works;
       lines_are = lines ∙ ap (λ d. d.lines) works;
+      named_are = named ∙ ap (λ d. d.named) works;
       cells_are = cells ∙ ap (λ d. d.cells) works;
       feeds_are = feeds ∙ keeps.feeds;
       program = program ∙ keeps.program;

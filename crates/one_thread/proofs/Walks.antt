@@ -19,7 +19,7 @@ use Rattle.one_thread.specs.declared.walk.Walk.{Walk}
 use Rattle.one_thread.specs.declared.walk.Went.{Went}
 use Rattle.one_thread.specs.declared.walk.Went.TheVariants as went
 use Rattle.one_thread.specs.inner.Remaining.{left_of, rest_of}
-use Rattle.one_thread.specs.inner.Working.{worked, all_worked}
+use Rattle.one_thread.specs.inner.Working.{recorded, all_worked}
 use Rattle.one_thread.specs.inner.Walking.{setting_of, point_of, Keeps, LeadsTo, Stepped, GoesOn, Came, Halted, Ran}
 use Rattle.one_thread.proofs.Steps.{stays}
 
@@ -98,7 +98,7 @@ on_case s n old new (Act a q) is =
     record {
       next = ap (λ b. b.next) same;
       at = ap (λ b. b.at) same;
-      does = λ joined. ap (λ b. all_worked joined b.actions (worked joined a old.data)) same ∙ ap (all_worked joined (tree_body s n (point_of new)).actions) (sym (is.1 joined));
+      does = λ joined. ap (λ b. all_worked joined b.actions (recorded joined a old.data)) same ∙ ap (all_worked joined (tree_body s n (point_of new)).actions) (sym (is.1 joined));
     }
 on_case s n old new (Iteration q) is = absurd is
 on_case s n old new (Stop next) is = absurd is

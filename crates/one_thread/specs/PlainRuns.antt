@@ -9,7 +9,7 @@ use Rattle.one_thread.specs.declared.run.PlainRun.{PlainRun}
 
 -- what the code says of a subthread
 abbrev pub shown : Subthread → Step
-shown s = record { thread = s.thread; begins = s.begins; foot = foot_of s; prints = s.lines }
+shown s = record { thread = s.thread; begins = s.begins; held = s.held; foot = foot_of s; prints = s.lines }
 
 -- the run is the plain run of the definitions
 pub record IsPlainRun (program : Program) (inputs : Inputs) (limits : Limits) (run : PlainRun) : Type 0 where

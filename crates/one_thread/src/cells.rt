@@ -84,7 +84,7 @@ pub fn lock_number(heads: &[Head], array: &Name, index: i64) -> Option<u32>
 
 /// The number of a record cell, or `None` outside its record.
 #[tactic(auto, using(lock_checker::proofs::BaseLemmas::base_steps))]
-pub fn record_number(heads: &[Head], r: &Name, index: i64) -> Option<usize>
+pub fn record_number(heads: &[Head], r: &Name, index: i64) -> Option<u32>
     requires { cells_in (records_of heads.now) ≤ 65536 }
     ensures { result ≡ cell_number (records_of heads.now) r.now index }
 {
@@ -93,7 +93,7 @@ pub fn record_number(heads: &[Head], r: &Name, index: i64) -> Option<usize>
         if let Head::RecHead { name, size, .. } = head {
             if same_name(r, name) {
                 return match place(natural(*size), index) {
-                    Some(n) => Some((base + n) as usize),
+                    Some(n) => Some((base + n) as u32),
                     None => None,
                 };
             }

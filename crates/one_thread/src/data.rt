@@ -8,22 +8,24 @@ ghost use Rattle.task_ast.specs.Effect.{term_value, terms_value};
 ghost use Rattle.task_ast.specs.Control.{action, arm, all_of};
 ghost use Rattle.task_ast.specs.View.{plain_expr, plain_exprs, plain_links, plain_what, plain_stmts, plain_block};
 ghost use Rattle.task_ast.specs.Tree.{Name as PlainName};
-ghost use Rattle.one_thread.specs.inner.Working.{setting_in, Works, ArmWorks};
+ghost use Rattle.one_thread.specs.inner.Working.{setting_in, Works, ArmWorks, Notes, ArmNotes};
 
 use crate::cells::{record_number, same_name};
+use crate::names::Names;
 use crate::variables::{number_at, register_place, set_number};
 use gp_base::{Lines, Name, Nums, Seq};
 use std::alloc::{AllocError, Global};
 use task_ast::{Atom, Env, Expr, Op, Program, Stmt, What, apply, eval_d, negate};
 
 /// What a subthread works on: the registers of its thread and of a child that it
-/// forked, the cells of all records, and the lines that it printed.
+/// forked, the cells of all records, the lines that it printed, and the record cells that it named.
 #[derive(Drop)]
 pub struct Data {
     pub registers: Nums,
     pub child: Nums,
     pub cells: Nums,
     pub lines: Lines,
+    pub named: Names,
 }
 
 /// The number that an atom stands for.
@@ -201,6 +203,52 @@ pub fn is_zero(v: i64) -> bool
     v == 0
 }
 
+/// Records the record cells that a data statement names, of a choice those of both arms.
+#[cycle(noting)]
+#[tactic(auto, using(task_ast::proofs::Views::view), unfolding(task_ast::specs::View::plain_what, task_ast::specs::View::plain_stmt))]
+pub fn note(what: &What, program: &Program, env: &Env, named: &mut Names) -> Result<(), AllocError>
+    requires { cells_in (records_of program.now.heads) ≤ 65536 }
+    ensures { OnOk result ((registers : List PlainName) → Notes (action (setting_in program.now env.now) registers (plain_what what.now) env.now) named.old named.new) }
+{
+    match what {
+        What::Read(r, i, _) => {
+            match record_number(program.heads.as_slice(), r, index_of(i, env)) {
+                Some(c) => named.read(c),
+                None => Ok(()),
+            }
+        }
+        What::Write(r, i, _) => {
+            match record_number(program.heads.as_slice(), r, index_of(i, env)) {
+                Some(c) => named.write(c),
+                None => Ok(()),
+            }
+        }
+        What::When(_, first, second) => {
+            note_all(first.as_slice(), program, env, named)?;
+            note_all(second.as_slice(), program, env, named)?;
+            Ok(())
+        }
+        _ => Ok(()),
+    }
+}
+
+#[cycle(noting)]
+#[tactic(auto, using(task_ast::proofs::Views::view), unfolding(task_ast::specs::View::plain_what, task_ast::specs::View::plain_stmt))]
+fn note_all(
+    block: &[Stmt],
+    program: &Program,
+    env: &Env,
+    named: &mut Names,
+) -> Result<(), AllocError>
+    requires { cells_in (records_of program.now.heads) ≤ 65536 }
+    ensures { OnOk result ((registers : List PlainName) → ArmNotes (arm (setting_in program.now env.now) registers (plain_block block.now) env.now) named.old named.new) }
+{
+    for stmt in block {
+        note(&stmt.what, program, env, named)?;
+    }
+    Ok(())
+}
+
 /// Does a data statement that names cells that exist.
 #[cycle(performing)]
 #[tactic(auto, using(task_ast::proofs::Views::view), unfolding(task_ast::specs::View::plain_what, task_ast::specs::View::plain_stmt))]
@@ -224,7 +272,7 @@ pub fn perform(
         }
         What::Read(r, i, x) => {
             if let Some(c) = record_number(program.heads.as_slice(), r, index_of(i, env)) {
-                let v = number_at(data.cells.as_slice(), c);
+                let v = number_at(data.cells.as_slice(), c as usize);
                 set_number(&mut data.registers, register_number(names, x), v);
             }
             Ok(())
@@ -232,7 +280,7 @@ pub fn perform(
         What::Write(r, i, e) => {
             if let Some(v) = data_value(e, names, env, data.registers.as_slice()) {
                 if let Some(c) = record_number(program.heads.as_slice(), r, index_of(i, env)) {
-                    set_number(&mut data.cells, c, v);
+                    set_number(&mut data.cells, c as usize, v);
                 }
             }
             Ok(())

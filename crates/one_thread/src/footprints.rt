@@ -1,10 +1,11 @@
 // What a subthread reads and what it writes.
-ghost use Rattle.std.specs.Prelude.{◌≡◌, ◌++◌, map, IfOk, OnOk};
-ghost use Rattle.gp_base.specs.declared.footprint.Loc.TheVariants as loc;
-ghost use Rattle.task_ast.specs.Footprint.{joined_registers, child_registers, footprint};
+ghost use Rattle.std.specs.Prelude.{◌≡◌, ◌++◌, IfOk, OnOk};
+ghost use Rattle.task_ast.specs.Footprint.{joined_registers, child_registers};
+ghost use Rattle.one_thread.specs.inner.Moves.{foot_with};
 
+use crate::names::Names;
 use crate::turns::thread_number;
-use gp_base::{Footprint, Loc, LockNo, Seq};
+use gp_base::{Footprint, Loc, Seq};
 use std::alloc::{AllocError, Global};
 use task_ast::SyncOp;
 
@@ -31,30 +32,21 @@ fn add_child(writes: &mut Seq<Loc>, child: Option<usize>) -> Result<(), AllocErr
     }
 }
 
-// A subthread writes what stands under the locks that its thread holds.
-fn add_locks(writes: &mut Seq<Loc>, held: &[u32]) -> Result<(), AllocError>
-    ensures { OnOk result (writes.new ≡ writes.old ++ map loc.Lock held.now) }
-{
-    for lock in held {
-        writes.push(Loc::Lock(LockNo(*lock)))?;
-    }
-    Ok(())
-}
-
-/// The footprint of a subthread whose thread holds these locks.
+/// The footprint of a subthread that names these record cells.
 pub fn footprint(
     alloc: Global,
     t: usize,
     begins: &SyncOp,
     child: Option<usize>,
-    held: &[u32],
+    named: &Names,
 ) -> Result<Footprint, AllocError>
-    ensures { IfOk result (λ foot. foot ≡ footprint t begins.now child held.now) }
+    ensures { IfOk result (λ foot. foot ≡ foot_with t begins.now child named.now) }
 {
-    let reads = reads(alloc, begins)?;
+    let mut reads = reads(alloc, begins)?;
+    named.put_reads(&mut reads)?;
     let mut writes = Seq::new(alloc);
     writes.push(Loc::Regs(thread_number(t)?))?;
     add_child(&mut writes, child)?;
-    add_locks(&mut writes, held)?;
+    named.put_writes(&mut writes)?;
     Ok(Footprint { reads, writes })
 }

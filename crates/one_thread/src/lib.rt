@@ -5,6 +5,7 @@ mod cells;
 mod data;
 mod footprints;
 mod left;
+mod names;
 mod opening;
 mod owners;
 mod run;

@@ -14,18 +14,19 @@ use crate::footprints::footprint;
 use crate::opening::all_registers;
 use crate::threads::Run;
 use crate::turns::{Turn, thread_number};
-use crate::work::Shared;
-use gp_base::{End, Footprint, Inputs, Limits, Lines, Nums, Seq, ThreadNo};
+use crate::work::{Shared, Told};
+use gp_base::{End, Footprint, Inputs, Limits, Lines, LockNo, Nums, Seq, ThreadNo};
 use lock_checker::Checked;
 use std::alloc::{AllocError, Global};
 use task_ast::Next;
 
-/// One subthread of the order: its thread, the synchronisation that it begins with, what it reads and writes, and the
-/// lines that it prints.
+/// One subthread of the order: its thread, the synchronisation that it begins with, the locks that its thread then
+/// holds, what it reads and writes, and the lines that it prints.
 #[derive(Drop)]
 pub struct Step {
     pub thread: ThreadNo,
     pub begins: Next,
+    pub held: Seq<LockNo>,
     pub foot: Footprint,
     pub prints: Lines,
 }
@@ -45,6 +46,17 @@ pub enum Move {
     Ends(End),
 }
 
+// Lock cells as a list of their own.
+fn locks_of(alloc: Global, held: &[u32]) -> Result<Seq<LockNo>, AllocError>
+    ensures { IfOk result (λ locks. locks ≡ held.now) }
+{
+    let mut locks = Seq::new(alloc);
+    for lock in held {
+        locks.push(LockNo(*lock))?;
+    }
+    Ok(locks)
+}
+
 impl Run<'_> {
     // One subthread, whose synchronisation the table knows.
     fn step(
@@ -62,12 +74,15 @@ impl Run<'_> {
         requires held { AreHeld self.old.table.owners.owners.items self.old.table.owners.held.items }
         ensures { IfOk result (λ step. Stepped self.old t begins child step self.new) }
     {
-        let foot = footprint(alloc, t, &begins.sync, child, self.table.owners.held_by(t))?;
+        let held = locks_of(alloc, self.table.owners.held_by(t))?;
+        let told = self.perform(alloc, t, &begins, child)?;
+        let foot = footprint(alloc, t, &begins.sync, child, &told.named)?;
         let thread = thread_number(t)?;
-        let prints = self.perform(alloc, t, &begins, child)?;
+        let Told { lines: prints, .. } = told;
         Ok(Step {
             thread,
             begins,
+            held,
             foot,
             prints,
         })

@@ -7,12 +7,13 @@ ghost use Rattle.one_thread.specs.inner.Runs.{slots_of, registers_at, joined_of,
 
 use crate::data::Data;
 use crate::left::Left;
+use crate::names::Names;
 use crate::seats::Table;
 use crate::turns::thread_number;
 use crate::variables::{control_variables, number_at, with_number};
 use crate::walk::Walk;
-use crate::work::{Done, Shared, work};
-use gp_base::{Lines, Name, Nums, Seq};
+use crate::work::{Done, Shared, Told, work};
+use gp_base::{Name, Nums, Seq};
 use std::alloc::{AllocError, Global};
 use std::mem;
 use task_ast::{Env, Next, Program, SyncOp};
@@ -64,6 +65,7 @@ pub fn new_thread<'a>(
             child: Seq::new(alloc),
             cells: Seq::new(alloc),
             lines: Seq::new(alloc),
+            named: Names::new(alloc),
         },
     })
 }
@@ -151,20 +153,20 @@ impl Run<'_> {
         Ok(())
     }
 
-    /// Performs one subthread, and gives the lines that it printed.
+    /// Performs one subthread, and gives what is told of it.
     pub fn perform(
         &mut self,
         alloc: Global,
         t: usize,
         begins: &Next,
         child: Option<usize>,
-    ) -> Result<Lines, AllocError>
+    ) -> Result<Told, AllocError>
         requires exists { t < length self.old.threads.items }
         requires seated { t < length self.old.table.seats.items }
         requires small { IsSmall self.old.program.now }
         requires slots { self.old.slots.now ≡ map slots_of self.old.program.now.tasks }
         requires sound { AreSound self.old.program.now self.old.threads.items }
-        ensures { IfOk result (λ lines. Performed self.old t begins.now child lines self.new) }
+        ensures { IfOk result (λ told. Performed self.old t begins.now child told self.new) }
     {
         let joined = joined_value(&begins.sync, &self.threads);
         let walk = &mut self.threads[t];
@@ -181,10 +183,10 @@ impl Run<'_> {
         let Done {
             next,
             child: registers,
-            lines,
+            told,
         } = done;
         self.add(alloc, &begins.sync, registers)?;
         self.table.learn(t, next);
-        Ok(lines)
+        Ok(told)
     }
 }

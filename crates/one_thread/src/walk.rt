@@ -13,7 +13,9 @@ ghost use Rattle.one_thread.specs.inner.Remaining.{left_of, rest_of};
 ghost use Rattle.one_thread.specs.inner.Walking.{setting_of, point_of, LeadsTo, Stepped, Came, Halted, Ran, Begun, Gives};
 
 use crate::cells::{barrier_number, lock_number, same_name};
-use crate::data::{Data, data_value, fits, has_value, index_of, is_zero, perform, register_number};
+use crate::data::{
+    Data, data_value, fits, has_value, index_of, is_zero, note, perform, register_number,
+};
 use crate::left::Left;
 use crate::variables::{register_names, set_number, variable_number, with_value, zeros};
 use gp_base::{LockNo, Name, Nums, Seq};
@@ -259,6 +261,7 @@ impl<'a> Walk<'a> {
         ensures { IfOk result (λ went. Stepped (step_at (setting_of self.old) line (plain_what what.now) (rest_of self.old.left) (point_of self.old)) went self.old self.new) }
     {
         if fits(what, self.program, &self.env) {
+            note(what, self.program, &self.env, &mut self.data.named)?;
             perform(
                 alloc,
                 what,

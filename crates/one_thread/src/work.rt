@@ -6,6 +6,7 @@ ghost use Rattle.task_ast.specs.Control.{first_actions, beginning};
 ghost use Rattle.one_thread.specs.inner.Walking.{setting_of, point_of, Begun};
 ghost use Rattle.one_thread.specs.inner.Subthreads.{at_work, is_start, RanWith};
 
+use crate::names::Names;
 use crate::walk::Walk;
 use gp_base::{Feed, Lines, Name, Nums, Seq};
 use std::alloc::{AllocError, Global};
@@ -19,13 +20,20 @@ pub struct Shared {
     pub feeds: Seq<(Name, Feed)>,
 }
 
+/// What is told of a subthread that was run: the lines that it printed, and the record cells that it named.
+#[derive(Drop)]
+pub struct Told {
+    pub lines: Lines,
+    pub named: Names,
+}
+
 /// What a subthread leaves beside its thread and what is shared: what comes next, the registers of a child that it
-/// forked, and the lines that it printed.
+/// forked, and what is told of it.
 #[derive(Drop)]
 pub struct Done {
     pub next: Next,
     pub child: Nums,
-    pub lines: Lines,
+    pub told: Told,
 }
 
 // The data of a subthread, before its first action.
@@ -36,6 +44,7 @@ fn hand_out(alloc: Global, walk: &mut Walk, shared: &mut Shared)
     mem::swap(&mut walk.env.feeds, &mut shared.feeds);
     walk.data.child = Seq::new(alloc);
     walk.data.lines = Seq::new(alloc);
+    walk.data.named = Names::new(alloc);
 }
 
 // Whether a thread starts.
@@ -86,5 +95,10 @@ pub fn work(
     mem::swap(&mut walk.env.feeds, &mut shared.feeds);
     let child = mem::replace(&mut walk.data.child, Seq::new(alloc));
     let lines = mem::replace(&mut walk.data.lines, Seq::new(alloc));
-    Ok(Done { next, child, lines })
+    let named = mem::replace(&mut walk.data.named, Names::new(alloc));
+    Ok(Done {
+        next,
+        child,
+        told: Told { lines, named },
+    })
 }

@@ -1,15 +1,19 @@
 -- How the loop of the code follows the moves of the plain run.
-use Rattle.std.specs.Prelude.{◌≡◌, ℕ, suc, ◌+◌, ◌<◌, ◌≤◌, List, ◌++◌, map, length, Option}
+use Rattle.std.specs.Prelude.{◌≡◌, ℕ, suc, ◌+◌, ◌<◌, ◌≤◌, List, ◌∷◌, ◌++◌, map, length, Option}
 use Rattle.gp_base.specs.declared.limits.Limits.{Limits}
 use Rattle.gp_base.specs.declared.feed.Inputs.{Inputs}
 use Rattle.gp_base.specs.declared.ending.End.{End}
+use Rattle.gp_base.specs.declared.footprint.Loc.TheVariants as loc
+use Rattle.gp_base.specs.declared.footprint.Footprint.{Footprint}
 use Rattle.task_ast.specs.declared.tree.Program.{Program as Code}
+use Rattle.task_ast.specs.declared.sync.SyncOp.{SyncOp}
 use Rattle.task_ast.specs.declared.sync.Next.{Next}
-use Rattle.task_ast.specs.Footprint.{footprint}
+use Rattle.task_ast.specs.Footprint.{Named, joined_registers, child_registers}
 use Rattle.task_ast.specs.Repeat.{Goes, Ends, steps, state_after}
 use Rattle.task_ast.specs.Table.{owned_from}
 use Rattle.task_ast.specs.Plain.{Subthread, Plain, move, order, last_state}
 use Rattle.task_ast.specs.View.{plain_program}
+use Rattle.one_thread.specs.declared.work.Told.{Told}
 use Rattle.one_thread.specs.declared.threads.Run.{Run}
 use Rattle.one_thread.specs.declared.run.Step.{Step}
 use Rattle.one_thread.specs.declared.run.Move.{Move}
@@ -17,12 +21,23 @@ use Rattle.one_thread.specs.declared.run.Move.TheVariants as here
 use Rattle.one_thread.specs.PlainRuns.{shown}
 use Rattle.one_thread.specs.inner.Runs.{Performed, Holds}
 
+-- what a subthread reads and writes that names these record cells
+abbrev pub foot_with : (thread : ℕ) → (begins : SyncOp) → (child : Option ℕ) → Named → Footprint
+foot_with t begins child named =
+    record {
+      reads = joined_registers begins ++ map loc.Rec named.reads;
+      writes = loc.Regs t ∷ child_registers child ++ map loc.Rec named.writes;
+    }
+
 -- one subthread of a run was performed, and what the code says of it
 pub record Stepped (old : Run) (t : ℕ) (begins : Next) (child : Option ℕ) (step : Step) (new : Run) : Type 0 where
-  pub performed : Performed old t begins child step.prints new
+  pub told : Told
+  pub performed : Performed old t begins child told new
   pub thread_is : step.thread ≡ t
   pub begins_is : step.begins ≡ begins
-  pub foot_is : step.foot ≡ footprint t begins.sync child (owned_from 0 old.table.owners.owners.items t)
+  pub held_is : step.held ≡ owned_from 0 old.table.owners.owners.items t
+  pub foot_is : step.foot ≡ foot_with t begins.sync child told.named
+  pub prints_are : step.prints ≡ told.lines
 
 -- a move of the plain run to a next subthread, after which the code's run stands for it again
 pub record Went (code : Code) (inputs : Inputs) (limits : Limits) (plain : Plain) (step : Step) (new : Run) : Type 0 where

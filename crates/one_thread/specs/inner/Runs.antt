@@ -14,6 +14,7 @@ use Rattle.task_ast.specs.Table.{learning}
 use Rattle.task_ast.specs.Plain.{Plain, task_at, start_point}
 use Rattle.task_ast.specs.View.{plain_task, plain_program}
 use Rattle.one_thread.specs.declared.walk.Walk.{Walk}
+use Rattle.one_thread.specs.declared.work.Told.{Told}
 use Rattle.one_thread.specs.declared.work.Done.{Done}
 use Rattle.one_thread.specs.declared.threads.Run.{Run}
 use Rattle.one_thread.specs.inner.Holding.{AreHeld}
@@ -62,7 +63,7 @@ grown (sync.Fork task arguments) threads = suc threads
 grown _ threads = threads
 
 -- one subthread of a run was performed
-pub record Performed (old : Run) (t : ℕ) (begins : Next) (child : Option ℕ) (lines : List (List ℤ)) (new : Run) : Type 0 where
+pub record Performed (old : Run) (t : ℕ) (begins : Next) (child : Option ℕ) (told : Told) (new : Run) : Type 0 where
   pub was : Walk
   pub is : Walk
   pub done : Done
@@ -71,7 +72,7 @@ pub record Performed (old : Run) (t : ℕ) (begins : Next) (child : Option ℕ) 
   pub threads : Forks old.program.now begins.sync done.child (slice_set old.threads.items t is) new.threads.items
   pub table : table_of new.table ≡ learning (table_of old.table) t done.next
   pub owners : new.table.owners ≡ old.table.owners
-  pub lines_are : lines ≡ done.lines
+  pub told_is : told ≡ done.told
   pub program : new.program ≡ old.program
   pub slots : new.slots ≡ old.slots
   pub turns : new.turns ≡ old.turns

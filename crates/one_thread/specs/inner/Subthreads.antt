@@ -4,6 +4,7 @@ use Rattle.task_ast.specs.declared.sync.SyncOp.{SyncOp}
 use Rattle.task_ast.specs.declared.sync.SyncOp.TheVariants as sync
 use Rattle.task_ast.specs.Action.{Action}
 use Rattle.task_ast.specs.Body.{Body}
+use Rattle.task_ast.specs.Footprint.{Named}
 use Rattle.task_ast.specs.State.{number_at}
 use Rattle.task_ast.specs.Tree.{Name}
 use Rattle.task_ast.specs.Control.{Point, with_number, beginning, first_actions, tree_body}
@@ -27,12 +28,16 @@ settled_names _ walk = walk.env.names
 abbrev pub settled : SyncOp → Walk → Walk
 settled begins walk = record walk { env = record walk.env { names = settled_names begins walk } }
 
+-- no record cell
+abbrev pub nothing_named : Named
+nothing_named = record { reads = []; writes = [] }
+
 -- a thread with what all threads share in its hands, before it does anything
 abbrev pub at_work : Walk → Shared → Walk
 at_work walk shared =
     record walk {
       env = record walk.env { feeds = shared.feeds };
-      «data» = record { registers = walk.data.registers; child = []; cells = shared.cells; lines = [] };
+      «data» = record { registers = walk.data.registers; child = []; cells = shared.cells; lines = []; named = nothing_named };
     }
 
 -- the body of a subthread that begins so
@@ -53,7 +58,8 @@ pub record RanWith (old : Walk) (shared : Shared) (begins : SyncOp) (child : Opt
   pub at : point_of new ≡ (body_from (at_work old shared) begins child turns).at
   pub registers_are : new.data.registers ≡ (data_from (at_work old shared) begins child joined turns).registers
   pub child_is : done.child ≡ (data_from (at_work old shared) begins child joined turns).child
-  pub lines_are : done.lines ≡ (data_from (at_work old shared) begins child joined turns).lines
+  pub lines_are : done.told.lines ≡ (data_from (at_work old shared) begins child joined turns).lines
+  pub named_are : done.told.named ≡ (data_from (at_work old shared) begins child joined turns).named
   pub cells_are : left.cells ≡ (data_from (at_work old shared) begins child joined turns).cells
   pub feeds_are : left.feeds ≡ shared.feeds
   pub program : new.program ≡ old.program

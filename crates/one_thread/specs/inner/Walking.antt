@@ -10,7 +10,7 @@ use Rattle.one_thread.specs.declared.walk.Walk.{Walk}
 use Rattle.one_thread.specs.declared.walk.Went.{Went}
 use Rattle.one_thread.specs.declared.walk.Went.TheVariants as went
 use Rattle.one_thread.specs.inner.Remaining.{left_of}
-use Rattle.one_thread.specs.inner.Working.{setting_in, worked, all_worked}
+use Rattle.one_thread.specs.inner.Working.{setting_in, recorded, all_worked}
 
 -- the program and the feeds of a thread at work
 abbrev pub setting_of : Walk → Setting
@@ -36,7 +36,7 @@ pub record LeadsTo (q : Point) (old new : Walk) : Type 0 where
 -- what one control step did; a loop turn is only found, and not yet taken
 abbrev pub Stepped : Step Point → Went → Walk → Walk → Type 0
 Stepped (Silent q) went.On old new = LeadsTo q old new × (new.data ≡ old.data)
-Stepped (Act a q) went.On old new = LeadsTo q old new × ((joined : ℤ) → new.data ≡ worked joined a old.data)
+Stepped (Act a q) went.On old new = LeadsTo q old new × ((joined : ℤ) → new.data ≡ recorded joined a old.data)
 Stepped (Iteration q) (went.Turned body) old new = (q ≡ going (point_of new) (plain_stmts body.now ++ left_of new.left)) × LeadsTo (point_of old) old new × (new.data ≡ old.data)
 Stepped (Stop next) (went.Stopped n) old new = (n ≡ next) × LeadsTo (point_of old) old new × (new.data ≡ old.data)
 Stepped _ _ old new = ⊥

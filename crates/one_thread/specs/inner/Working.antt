@@ -4,6 +4,7 @@ use Rattle.task_ast.specs.declared.env.Env.{Env}
 use Rattle.task_ast.specs.Action.{Action, Set, Load, Store, Say, Choose, Child, Give, Bring, Arm, NoAction, OneAction}
 use Rattle.task_ast.specs.State.{number_at}
 use Rattle.task_ast.specs.Effect.{term_value}
+use Rattle.task_ast.specs.Footprint.{Named, naming, arm_naming}
 use Rattle.task_ast.specs.Control.{Setting}
 use Rattle.task_ast.specs.View.{plain_program}
 use Rattle.task_ast.specs.declared.tree.Program.{Program}
@@ -34,10 +35,14 @@ module _ (joined : ℤ) where
     arm_worked NoAction d = d
     arm_worked (OneAction a arm) d = arm_worked arm (worked a d)
 
+  -- the data after one action of a subthread, with the record cells that it names
+  abbrev pub recorded : Action → Data → Data
+  recorded a d = record (worked a d) { named = naming a d.named }
+
   -- after these actions, in order
   abbrev pub all_worked : List Action → Data → Data
   all_worked [] d = d
-  all_worked (a ∷ actions) d = all_worked actions (worked a d)
+  all_worked (a ∷ actions) d = all_worked actions (recorded a d)
 
 -- the program and the feeds under which expressions are read
 abbrev pub setting_in : Program → Env → Setting
@@ -50,3 +55,11 @@ Works o old new = (joined : ℤ) (a : Action) → o ≡ Some a → new ≡ worke
 -- what the actions of a block that are resolved do
 abbrev pub ArmWorks : Option Arm → Data → Data → Type 0
 ArmWorks o old new = (joined : ℤ) (arm : Arm) → o ≡ Some arm → new ≡ arm_worked joined arm old
+
+-- the record cells that an action which is resolved names are recorded
+abbrev pub Notes : Option Action → Named → Named → Type 0
+Notes o old new = (a : Action) → o ≡ Some a → new ≡ naming a old
+
+-- those that the actions of a block which are resolved name
+abbrev pub ArmNotes : Option Arm → Named → Named → Type 0
+ArmNotes o old new = (arm : Arm) → o ≡ Some arm → new ≡ arm_naming arm old

@@ -7,8 +7,8 @@ use Rattle.task_ast.specs.Action.{term}
 use Rattle.task_ast.specs.Control.{action, arm, all_of}
 use Rattle.task_ast.specs.View.{plain_expr, plain_exprs, plain_what, plain_block}
 use Rattle.task_ast.proofs.Views.{stmt_At, what_Print, what_When}
-use Rattle.one_thread.specs.inner.Working.{setting_in}
-use Rattle.one_thread.proofs.Fitting.{from-here, Ahead, ahead_on, ahead_end, said, unsaid, first_works, second_works}
+use Rattle.one_thread.specs.inner.Working.{setting_in, worked, arm_worked}
+use Rattle.one_thread.proofs.Fitting.{from-here, work-in-order, Ahead, ahead_on, ahead_end, said, unsaid, first_works, second_works}
 use Rattle.one_thread.proofs.data.+performing.Goals as goal
 
 pub perform_all-loop-stmt-preserved : goal.perform_all-loop-stmt-preserved
@@ -16,18 +16,27 @@ perform_all-loop-stmt-preserved t c = λ joined.
     let s = setting_in c.args.program.now c.args.env.now in
     let names = c.args.names.now in
     let env = c.args.env.now in
-    let rest = arm s names (plain_block (drop (c.loop-stmt.stmt-index + 1) c.args.block.now)) env in
-    let here = subst (λ o. Ahead joined (arm s names (plain_block c.args.block.now) env) o c.loop-stmt.data c.args.data.now)
-    (from-here (λ (l : List Stmt). arm s names (plain_block l) env) c.args.block.now c.loop-stmt.stmt-index c.stmt-item.result c.loop-stmt-test.true c.stmt-item.is
-    ∙ ap (λ st. arm s names (plain.Then st (plain_block (drop (c.loop-stmt.stmt-index + 1) c.args.block.now))) env) (stmt_At c.stmt-item.result)) (c.loop-stmt.invariant joined) in
-    ahead_on joined (arm s names (plain_block c.args.block.now) env) (action s names (plain_what c.stmt-item.result.what) env) rest c.loop-stmt.data c.perform.new.data c.args.data.now (c.in_ok-perform.ensures joined) here
+    let block = c.args.block.now in
+    let at = c.loop-stmt.stmt-index in
+    let whole = arm s names (plain_block block) env in
+    let behind = plain_block (drop (at + 1) block) in
+    let here = subst (λ o. Ahead (arm_worked joined) whole o c.loop-stmt.data c.args.data.now)
+    (from-here (λ (l : List Stmt). arm s names (plain_block l) env) block at c.stmt-item.result c.loop-stmt-test.true c.stmt-item.is
+    ∙ ap (λ st. arm s names (plain.Then st behind) env) (stmt_At c.stmt-item.result)) (c.loop-stmt.invariant joined) in
+    ahead_on (worked joined) (arm_worked joined) (work-in-order joined) whole (action s names (plain_what c.stmt-item.result.what) env)
+    (arm s names behind env) c.loop-stmt.data c.perform.new.data c.args.data.now (c.in_ok-perform.ensures joined) here
 
 pub perform_all-returns : goal.perform_all-returns
 perform_all-returns t c = λ joined a is.
     let s = setting_in c.args.program.now c.args.env.now in
-    ahead_end joined (arm s c.args.names.now (plain_block c.args.block.now) c.args.env.now) c.loop-stmt.data c.args.data.now
-    (subst (λ o. Ahead joined (arm s c.args.names.now (plain_block c.args.block.now) c.args.env.now) o c.loop-stmt.data c.args.data.now)
-    (ap (λ (l : List Stmt). arm s c.args.names.now (plain_block l) c.args.env.now) (drop_of_length-le c.args.block.now c.loop-stmt-test.false)) (c.loop-stmt.invariant joined)) a is
+    let names = c.args.names.now in
+    let env = c.args.env.now in
+    let block = c.args.block.now in
+    let whole = arm s names (plain_block block) env in
+    ahead_end (worked joined) (arm_worked joined) (work-in-order joined) whole c.loop-stmt.data c.args.data.now
+    (subst (λ o. Ahead (arm_worked joined) whole o c.loop-stmt.data c.args.data.now)
+    (ap (λ (l : List Stmt). arm s names (plain_block l) env) (drop_of_length-le block c.loop-stmt-test.false))
+    (c.loop-stmt.invariant joined)) a is
 
 pub perform-returns-in_ok-push-in-Print : goal.perform-returns-in_ok-push-in-Print
 perform-returns-in_ok-push-in-Print t c = λ joined a is.
