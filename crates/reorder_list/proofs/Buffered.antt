@@ -5,6 +5,7 @@ use Rattle.std.specs.Option.{option_and_then, option_or}
 use Rattle.std.proofs.lemmas.Bool.{eqb-true, ne_eqb}
 use Rattle.std.proofs.Math.Path.{fun_ext}
 use Rattle.gp_base.specs.declared.fault.Fault.{Fault}
+use Rattle.gp_base.specs.declared.footprint.Footprint.{Footprint}
 use Rattle.gp_base.specs.declared.journal.Event.TheVariants as event
 use Rattle.task_ast.specs.declared.effect.Effect.{Effect}
 use Rattle.task_ast.specs.Plain.{Subthread}
@@ -18,7 +19,7 @@ use Rattle.dependence.specs.Buffer.{Buffer, buffer_with, buffer_without}
 use Rattle.dependence.specs.RunBuffer.{RunStands}
 use Rattle.record_store.specs.Stored.{Stored, state_of}
 use Rattle.reorder_list.specs.declared.entry.Entry.{Entry}
-use Rattle.reorder_list.specs.Entries.{IsFresh, entry_at, with_change, with_change_at, out_entry, applied_entry, raised_entry, histories_of, lines_of}
+use Rattle.reorder_list.specs.Entries.{IsFresh, entry_at, with_change, with_change_at, out_entry, known_entry, applied_entry, raised_entry, histories_of, lines_of}
 use Rattle.reorder_list.specs.Stages.{EntriesStand, buffer_of}
 use Rattle.reorder_list.proofs.Changes.{changed_where, changed, pushed}
 
@@ -58,6 +59,23 @@ sent-holds store entries p =
     histories false (Some x) = refl
 
     lines : (b : Bool) (o : Option Entry) → lines_in (option_map (changed_where b out_entry) o) ≡ lines_in o
+    lines b None = refl
+    lines true (Some x) = refl
+    lines false (Some x) = refl
+
+pub learnt-holds : (store : Stored) (entries : List Entry) (p : ℕ) (foot : Footprint)
+    → buffer_of store (with_change_at p (known_entry foot) entries) ≡ buffer_of store entries
+learnt-holds store entries p foot =
+    same-buffer refl
+    (λ q. ap history_in (changed (λ r. nat_eq r p) (known_entry foot) entries q (λ e. refl)) ∙ histories (nat_eq q p) (entry_at entries q))
+    (λ q. ap lines_in (changed (λ r. nat_eq r p) (known_entry foot) entries q (λ e. refl)) ∙ lines (nat_eq q p) (entry_at entries q))
+  where
+    histories : (b : Bool) (o : Option Entry) → history_in (option_map (changed_where b (known_entry foot)) o) ≡ history_in o
+    histories b None = refl
+    histories true (Some x) = refl
+    histories false (Some x) = refl
+
+    lines : (b : Bool) (o : Option Entry) → lines_in (option_map (changed_where b (known_entry foot)) o) ≡ lines_in o
     lines b None = refl
     lines true (Some x) = refl
     lines false (Some x) = refl

@@ -1,8 +1,8 @@
 -- What stands at a position of entries that were changed, and of entries with one more.
-use Rattle.std.proofs.Common.{◌≡◌, ℕ, suc, ◌+◌, ◌<◌, ◌≤◌, Bool, true, false, cond, nat_eq, List, [], ◌∷◌, ◌++◌, length, All, Some, None, refl, sym, ap, ◌∙◌, arith}
+use Rattle.std.proofs.Common.{◌≡◌, ℕ, suc, ◌+◌, ◌<◌, ◌≤◌, Bool, true, false, cond, nat_eq, List, [], ◌∷◌, ◌++◌, length, All, Some, None, refl, sym, ap, subst, ◌∙◌, arith}
 use Rattle.std.specs.Prelude.{option_map}
 use Rattle.std.specs.Option.{option_or}
-use Rattle.std.proofs.lemmas.Bool.{eqb-true, eq-eqb}
+use Rattle.std.proofs.lemmas.Bool.{eqb-true, eq-eqb, ne_eqb}
 use Rattle.std.proofs.lemmas.List.{length-map}
 use Rattle.std.proofs.lemmas.List.Elements.{All-nil, All-cons, All-head, All-tail}
 use Rattle.reorder_list.specs.declared.entry.Entry.{Entry}
@@ -71,6 +71,27 @@ is-there b (x ∷ entries) p stands low high = go (is-there (suc b) entries p st
         rest
         (let first = stands.0 in let ne : p ≡ b → ⊥ = (λ same. absurd (let e = eq-eqb x.pos p (omega arith) in let both = sym is ∙ e in cc both)) in omega arith)
         (omega arith)
+
+-- what each entry meets, that of a position meets
+pub all-there : (P : Entry → Type 0) (entries : List Entry) (p : ℕ) (e : Entry) → All P entries → entry_at entries p ≡ Some e → P e
+all-there P [] p e all there = absurd (cc there)
+all-there P (x ∷ entries) p e all there = go (all-there P entries p e (All-tail P x entries all)) (nat_eq x.pos p) there
+  where
+    go : (entry_at entries p ≡ Some e → P e) → (b : Bool) → cond b (Some x) (entry_at entries p) ≡ Some e → P e
+    go rest true is = subst P (let same : x ≡ e = cc is in same) (All-head P x entries all)
+    go rest false is = rest is
+
+-- and what those of all positions meet, each entry meets
+pub each-there : (P : Entry → Type 0) (b : ℕ) (entries : List Entry) → StandFrom b entries
+    → ((p : ℕ) (e : Entry) → entry_at entries p ≡ Some e → P e) → All P entries
+each-there P b [] stands each = All-nil P
+each-there P b (x ∷ entries) stands each =
+    All-cons P x entries (each x.pos x (rw (eq-eqb x.pos x.pos refl) refl)) (each-there P (suc b) entries stands.1 (λ p e there. each p e (later p e there)))
+  where
+    later : (p : ℕ) (e : Entry) → entry_at entries p ≡ Some e → entry_at (x ∷ entries) p ≡ Some e
+    later p e there =
+        let low = (from-first (suc b) entries p e stands.1 there).0 in
+        rw (ne_eqb x.pos p (λ same. let first = stands.0 in omega arith)) there
 
 -- changed entries stand as before
 pub stands-changed : (b : ℕ) (test : ℕ → Bool) (change : Entry → Entry) (entries : List Entry) → KeepsPosition change → StandFrom b entries → StandFrom b (with_change test change entries)

@@ -5,3 +5,4 @@ pub mod Kept
 pub mod Readiness
 pub mod Staged
 pub mod Watching
+pub mod Unknown

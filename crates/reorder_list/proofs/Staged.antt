@@ -1,6 +1,6 @@
 -- The entries stand after each event that is allowed.
-use Rattle.std.proofs.Common.{◌≡◌, ◌↔◌, inl, inr, ℕ, ℤ, zero, suc, ◌+◌, ◌<◌, ◌≤◌, Bool, true, false, cond, nat_eq, ◌||◌, List, [], ◌∷◌, ◌++◌, Contains, Option, Some, None, refl, sym, ap, subst, ◌∙◌, arith, length-append, slice_get}
-use Rattle.std.specs.Prelude.{option_map}
+use Rattle.std.proofs.Common.{◌≡◌, ◌↔◌, inl, inr, ℕ, ℤ, zero, suc, ◌+◌, ◌<◌, ◌≤◌, Bool, true, false, cond, nat_eq, ◌||◌, List, [], ◌∷◌, ◌++◌, Contains, Option, Some, None, IfSome, IsTrue, map, refl, sym, ap, subst, ◌∙◌, arith, length-append, slice_get}
+use Rattle.std.specs.Prelude.{is_some, option_map}
 use Rattle.std.proofs.lemmas.Bool.{false≢true, cases_lt, eq-eqb, ne_eqb, eqb-true, eqb-false}
 use Rattle.std.proofs.lemmas.List.Elements.{Contains-push_cases, Contains-push, Contains-append_left}
 use Rattle.std.specs.List.{slice_index_or}
@@ -9,26 +9,44 @@ use Rattle.gp_base.specs.declared.footprint.Footprint.{Footprint}
 use Rattle.gp_base.specs.declared.journal.Event.TheVariants as event
 use Rattle.gp_base.specs.declared.journal.Restart.{Restart}
 use Rattle.task_ast.specs.declared.effect.Effect.{Effect}
-use Rattle.task_ast.specs.Plain.{Subthread, foot_of}
+use Rattle.task_ast.specs.Plain.{Subthread, foot_of, lock_foot_of}
 use Rattle.dependence.specs.Conflict.{Conflict, foot_at}
 use Rattle.dependence.specs.Dependents.{is_member}
 use Rattle.dependence.specs.Restarts.{attempt_of, begun_of, struck_next, restart_of}
-use Rattle.dependence.specs.Journal.{Stage, Allowed, happens, restarted, MayPost}
-use Rattle.dependence.specs.Runs.{dependence_of, feet_of}
+use Rattle.dependence.specs.Journal.{Stage, Allowed, happens, restarted, WasTaken, MayPost}
+use Rattle.dependence.specs.Posting.{posting_of}
+use Rattle.dependence.specs.Runs.{dependence_of, feet_of, lock_feet_of}
 use Rattle.dependence.specs.Standing.{present, StageStands, NamesIssued}
 use Rattle.dependence.proofs.Conflicting.{conflicting-is}
 use Rattle.dependence.proofs.RestartEnds.{attempt-push, begun-push}
 use Rattle.reorder_list.specs.declared.entry.Entry.{Entry}
-use Rattle.reorder_list.specs.Entries.{StandFrom, entry_at, with_change, with_change_at, out_entry, applied_entry, raised_entry}
+use Rattle.reorder_list.specs.Entries.{StandFrom, AllKnown, entry_at, with_change, with_change_at, out_entry, known_entry, applied_entry, raised_entry}
 use Rattle.reorder_list.specs.Runnable.{IsRunnable}
-use Rattle.reorder_list.specs.Stages.{IsEntry, EntriesStand, IsFirst}
+use Rattle.reorder_list.specs.Stages.{IsEntry, EntriesStand, IsFirst, AllTaken}
 use Rattle.reorder_list.proofs.Rows.{stands-push}
-use Rattle.reorder_list.proofs.Changes.{KeepsPosition, changed_where, changed, pushed, from-first, is-there, stands-changed, same-length}
+use Rattle.reorder_list.proofs.Changes.{KeepsPosition, changed_where, changed, pushed, from-first, is-there, all-there, each-there, stands-changed, same-length}
 
-foot-there : (run : List Subthread) (p : ℕ) (s : Subthread) (d : Footprint) → slice_get run p ≡ Some s → slice_index_or (feet_of run) p d ≡ foot_of s
-foot-there [] p s d there = absurd (cc there)
-foot-there (x ∷ run) zero s d there = ap foot_of (let same : x ≡ s = cc there in same)
-foot-there (x ∷ run) (suc p) s d there = foot-there run p s d there
+-- what a list that is made of a run has at a position
+foot-there : (foot : Subthread → Footprint) (run : List Subthread) (p : ℕ) (s : Subthread) (d : Footprint) → slice_get run p ≡ Some s
+    → slice_index_or (map foot run) p d ≡ foot s
+foot-there foot [] p s d there = absurd (cc there)
+foot-there foot (x ∷ run) zero s d there = ap foot (let same : x ≡ s = cc there in same)
+foot-there foot (x ∷ run) (suc p) s d there = foot-there foot run p s d there
+
+-- two changes of one position, one after the other
+change-twice : (p : ℕ) (first then' : Entry → Entry) (entries : List Entry) → KeepsPosition first
+    → with_change_at p then' (with_change_at p first entries) ≡ with_change_at p (λ e. then' (first e)) entries
+change-twice p first then' [] keeps = refl
+change-twice p first then' (e ∷ entries) keeps = λ i. go (nat_eq e.pos p) refl i ∷ change-twice p first then' entries keeps i
+  where
+    go : (b : Bool) → nat_eq e.pos p ≡ b
+        → let x = changed_where (nat_eq e.pos p) first e in changed_where (nat_eq x.pos p) then' x ≡ changed_where (nat_eq e.pos p) (λ y. then' (first y)) e
+    go true same = rw (same, ap (λ k. nat_eq k p) (keeps e) ∙ same) refl
+    go false same = rw (same, same) refl
+
+known-some : (o : Option Footprint) (foot : Footprint) → IfSome o (λ f. f ≡ foot) → IsTrue (is_some o) → o ≡ Some foot
+known-some (Some f) foot same some = ap Some same
+known-some None foot same some = absurd (false≢true some)
 
 -- the entry that a change leaves at a position
 pub changed-there : (test : ℕ → Bool) (change : Entry → Entry) (entries : List Entry) (q : ℕ) (x : Entry) → KeepsPosition change → entry_at (with_change test change entries) q ≡ Some x
@@ -42,8 +60,8 @@ changed-there test change entries q x keeps there = go (entry_at entries q) refl
 module _ (run : List Subthread) where
   -- where a stage has the same of a position, its entry stands as before
   carried : (at later : Stage) (p : ℕ) (e : Entry) → later.progress.made ≡ at.progress.made → Contains later.posted (p, present at p) ↔ Contains at.posted (p, present at p) → later.applied p ≡ at.applied p
-      → IsEntry run at p e → IsEntry run later p e
-  carried at later p e made posted applied is =
+      → WasTaken later p ↔ WasTaken at p → IsEntry run at p e → IsEntry run later p e
+  carried at later p e made posted applied taken is =
       let same : present later p ≡ present at p = ap (λ m. attempt_of m p) made in
       record {
         subthread = is.subthread;
@@ -56,15 +74,49 @@ module _ (run : List Subthread) where
           λ free. is.waits.1 (λ h. free (subst (λ a. Contains later.posted (p, a)) (sym same) (posted.1 h))),
         );
         applied = (λ s. applied ∙ is.applied.0 s, λ a. is.applied.1 (sym applied ∙ a));
+        foot = is.foot;
+        known = (λ some. taken.1 (is.known.0 some), λ was. is.known.1 (taken.0 was));
       }
 
+  -- with one more that is taken, what was taken of another position is the same
+  taken-too : (at : Stage) (p attempt q : ℕ) (applies : Bool) (faults : List Fault) → nat_eq q p ≡ false
+      → WasTaken (happens (dependence_of run) faults at (event.Take p attempt applies)) q ↔ WasTaken at q
+  taken-too at p attempt q applies faults other = (
+    λ was. elim (Contains-push_cases at.taken (p, attempt) (q, was.0) was.1) [
+      | inl old ↦ (was.0, old)
+      | inr new ↦ (let k : p ≡ q = ap (λ x. x.0) new in absurd (eqb-false q p other (sym k)))
+    ],
+    λ was. (was.0, Contains-append_left at.taken ((p, attempt) ∷ []) (q, was.0) was.1),
+  )
+
   module _ (at : Stage) (entries : List Entry) (stand : EntriesStand run at entries) where
-    -- the footprint of an entry is that of its position
-    pub foot-is : (q : ℕ) (x : Entry) → entry_at entries q ≡ Some x → x.foot ≡ foot_at (feet_of run) q
-    foot-is q x there = let is = stand.each q x there in is.is_of.foot ∙ sym (foot-there run q is.subthread _ is.is_there)
+    -- the footprint by locks of an entry is that of its position
+    pub locks-is : (q : ℕ) (x : Entry) → entry_at entries q ≡ Some x → x.locks ≡ foot_at (lock_feet_of run) q
+    locks-is q x there = let is = stand.each q x there in is.is_of.locks ∙ sym (foot-there lock_foot_of run q is.subthread _ is.is_there)
+
+    -- and so is the one that is known
+    pub foot-is : (q : ℕ) (x : Entry) → entry_at entries q ≡ Some x → IsTrue (is_some x.foot) → x.foot ≡ Some (foot_at (feet_of run) q)
+    foot-is q x there some =
+        let is = stand.each q x there in
+        known-some x.foot (foot_of is.subthread) is.foot some ∙ ap Some (sym (foot-there foot_of run q is.subthread _ is.is_there))
+
+    -- all are known exactly where all were taken
+    pub known-taken : AllKnown entries → AllTaken at
+    known-taken known p low high =
+        let found = is-there at.retired entries p stand.row low (let f = stand.front in omega arith) in
+        (stand.each p found.0 found.1).known.0 (all-there (λ (e : Entry). IsTrue (is_some e.foot)) entries p found.0 known found.1)
+
+    pub taken-known : AllTaken at → AllKnown entries
+    taken-known taken =
+        each-there (λ (e : Entry). IsTrue (is_some e.foot)) at.retired entries stand.row
+        (λ p e there. (let bounds = from-first at.retired entries p e stand.row there in
+        let high = bounds.1 in
+        let f = stand.front in
+        (stand.each p e there).known.1 (taken p bounds.0 (omega arith))))
 
     module _ (faults : List Fault) where
-      pub may-post : (p : ℕ) → StageStands (dependence_of run) faults at → IsRunnable entries p → MayPost (dependence_of run) at p (present at p)
+      pub may-post : (p : ℕ) → StageStands (dependence_of run) faults at → IsRunnable entries p
+          → MayPost (posting_of run) at p (present at p)
       may-post p stands runnable =
           let bounds = from-first at.retired entries p runnable.entry stand.row runnable.is_there in
           record {
@@ -78,14 +130,15 @@ module _ (run : List Subthread) where
             ];
           }
         where
-          earlier : (q : ℕ) → q < p → at.retired ≤ q → (dependence_of run).clash q p ≡ true → (x : Entry) × (entry_at entries q ≡ Some x) → at.applied q ≡ true
+          earlier : (q : ℕ) → q < p → at.retired ≤ q → (posting_of run).clash q p ≡ true → (x : Entry) × (entry_at entries q ≡ Some x)
+              → at.applied q ≡ true
           earlier q l low clash found =
-              let both = (conflicting-is (foot_at (feet_of run) q) (foot_at (feet_of run) p)).0 clash in
+              let both = (conflicting-is (foot_at (lock_feet_of run) q) (foot_at (lock_feet_of run) p)).0 clash in
               (stand.each q found.0 found.1).applied.0
               (runnable.ready q found.0 l found.1
-              (subst (λ f. Conflict f runnable.entry.foot) (sym (foot-is q found.0 found.1)) (subst (Conflict (foot_at (feet_of run) q)) (sym (foot-is p runnable.entry runnable.is_there)) both)))
+              (subst (λ f. Conflict f runnable.entry.locks) (sym (locks-is q found.0 found.1)) (subst (Conflict (foot_at (lock_feet_of run) q)) (sym (locks-is p runnable.entry runnable.is_there)) both)))
 
-      pub is-runnable : (p : ℕ) → MayPost (dependence_of run) at p (present at p) → IsRunnable entries p
+      pub is-runnable : (p : ℕ) → MayPost (posting_of run) at p (present at p) → IsRunnable entries p
       is-runnable p may = found (is-there at.retired entries p stand.row may.unretired (let l = may.issued in let f = stand.front in omega arith))
         where
           found : (x : Entry) × (entry_at entries p ≡ Some x) → IsRunnable entries p
@@ -95,8 +148,8 @@ module _ (run : List Subthread) where
                 is_there = here.1;
                 waits = (stand.each p here.0 here.1).waits.1 may.unposted;
                 ready = λ q x l there clash. (stand.each q x there).applied.1
-                    (may.ready q l ((conflicting-is (foot_at (feet_of run) q) (foot_at (feet_of run) p)).1
-                    (subst (λ f. Conflict f (foot_at (feet_of run) p)) (foot-is q x there) (subst (Conflict x.foot) (foot-is p here.0 here.1) clash))));
+                    (may.ready q l ((conflicting-is (foot_at (lock_feet_of run) q) (foot_at (lock_feet_of run) p)).1
+                    (subst (λ f. Conflict f (foot_at (lock_feet_of run) p)) (locks-is q x there) (subst (Conflict x.locks) (locks-is p here.0 here.1) clash))));
               }
 
       module _ (p : ℕ) (e : Entry) (names : NamesIssued at) (allowed : Allowed (dependence_of run) faults at (event.Issue p)) (first : IsFirst run p e) where
@@ -113,6 +166,11 @@ module _ (run : List Subthread) where
               begun = first.begun ∙ sym (names.begun p (let n = allowed.next in omega arith));
               waits = (λ w h. (let l = names.posted p (present at p) h in let n = allowed.next in omega arith), λ free. first.fresh.waits);
               applied = (λ s. absurd (let both = sym first.fresh.waits ∙ s in cc both), λ a. absurd (let l = names.applied p a in let n = allowed.next in omega arith));
+              foot = (let Q : Option Footprint → Type 0 = λ o. IfSome o (λ f. f ≡ foot_of first.subthread) in subst Q (sym first.fresh.unknown) tt);
+              known = (
+                λ some. absurd (false≢true (sym (ap is_some first.fresh.unknown) ∙ some)),
+                λ was. absurd (let l = names.taken p was.0 was.1 in let n = allowed.next in omega arith),
+              );
             }
 
         pub issue-stand : EntriesStand run issued (entries ++ e ∷ [])
@@ -132,7 +190,7 @@ module _ (run : List Subthread) where
             go : (q : ℕ) (x : Entry) (o : Option Entry) → entry_at entries q ≡ o → Rattle.std.specs.Option.option_or o (cond (nat_eq e.pos q) (Some e) None) ≡ Some x → IsEntry run issued q x
             go q x None is found = last q x (nat_eq e.pos q) refl found
             go q x (Some y) is found =
-                carried at issued q x refl (λ h. h, λ h. h) refl (stand.each q x (is ∙ found))
+                carried at issued q x refl (λ h. h, λ h. h) refl (λ h. h, λ h. h) (stand.each q x (is ∙ found))
 
       module _ (p attempt : ℕ) (allowed : Allowed (dependence_of run) faults at (event.Post p attempt)) where
         abbrev sent : Stage
@@ -144,11 +202,19 @@ module _ (run : List Subthread) where
             record {
               subthread = is.subthread;
               is_there = is.is_there;
-              is_of = record { thread = is.is_of.thread; begins = is.is_of.begins; child = is.is_of.child; held = is.is_of.held; foot = is.is_of.foot };
+              is_of = record {
+                thread = is.is_of.thread;
+                begins = is.is_of.begins;
+                child = is.is_of.child;
+                held = is.is_of.held;
+                locks = is.is_of.locks;
+              };
               attempt = is.attempt;
               begun = is.begun;
               waits = (λ w. absurd (cc w), λ free. absurd (free (subst (λ a. Contains (at.posted ++ (p, attempt) ∷ []) (p, a)) allowed.present (Contains-push at.posted (p, attempt)))));
               applied = (λ s. absurd (cc s), λ a. absurd (let both = sym (is.waits.1 (λ h. allowed.unposted (subst (λ a. Contains at.posted (p, a)) (sym allowed.present) h))) ∙ is.applied.1 a in cc both));
+              foot = is.foot;
+              known = is.known;
             }
 
         pub post-stand : EntriesStand run sent (with_change_at p out_entry entries)
@@ -170,44 +236,117 @@ module _ (run : List Subthread) where
                   ],
                   λ h. Contains-append_left at.posted ((p, attempt) ∷ []) (q, present at q) h,
                 )
-                refl is
+                refl (λ h. h, λ h. h) is
 
-      module _ (p attempt : ℕ) (history : Effect) (lines : List (List ℤ)) (allowed : Allowed (dependence_of run) faults at (event.Take p attempt true)) where
-        abbrev taken : Stage
-        taken = happens (dependence_of run) faults at (event.Take p attempt true)
+      module _ (p attempt : ℕ) (s : Subthread) (foot : Footprint) (there : slice_get run p ≡ Some s) (foot_is : foot ≡ foot_of s) where
+        abbrev taken : Bool → Stage
+        taken applies = happens (dependence_of run) faults at (event.Take p attempt applies)
 
-        taken-entry : (y : Entry) → IsEntry run at p y → IsEntry run taken p (applied_entry history lines y)
-        taken-entry y is =
+        -- what is known of the entry now is so
+        now-known : (y : Entry) → (is : IsEntry run at p y) → foot ≡ foot_of is.subthread
+        now-known y is = foot_is ∙ ap foot_of (let both = sym there ∙ is.is_there in let same : s ≡ is.subthread = cc both in same)
+
+        was-taken : (applies : Bool) → WasTaken (taken applies) p
+        was-taken applies = (attempt, Contains-push at.taken (p, attempt))
+
+        learnt-entry : (y : Entry) → IsEntry run at p y → IsEntry run (taken false) p (known_entry foot y)
+        learnt-entry y is =
             record {
               subthread = is.subthread;
               is_there = is.is_there;
-              is_of = record { thread = is.is_of.thread; begins = is.is_of.begins; child = is.is_of.child; held = is.is_of.held; foot = is.is_of.foot };
+              is_of = record {
+                thread = is.is_of.thread;
+                begins = is.is_of.begins;
+                child = is.is_of.child;
+                held = is.is_of.held;
+                locks = is.is_of.locks;
+              };
               attempt = is.attempt;
               begun = is.begun;
-              waits = (λ w. absurd (cc w), λ free. absurd (free (subst (λ a. Contains at.posted (p, a)) (eqb-true attempt (present at p) (sym allowed.decided)) allowed.posted)));
-              applied = (λ s. ap (λ b. b || at.applied p) (eq-eqb p p refl), λ a. refl);
+              waits = is.waits;
+              applied = is.applied;
+              foot = now-known y is;
+              known = (λ some. was-taken false, λ was. refl);
             }
 
-        pub take-stand : EntriesStand run taken (with_change_at p (applied_entry history lines) entries)
-        take-stand =
+        pub stale-stand : EntriesStand run (taken false) (with_change_at p (known_entry foot) entries)
+        stale-stand =
             record {
-              row = stands-changed at.retired (λ q. nat_eq q p) (applied_entry history lines) entries (λ e. refl) stand.row;
-              front = ap (λ n. at.retired + n) (same-length (λ q. nat_eq q p) (applied_entry history lines) entries) ∙ stand.front;
-              each = λ q x there. (let y = changed-there (λ r. nat_eq r p) (applied_entry history lines) entries q x (λ e. refl) there in
-                  subst (IsEntry run taken q) (sym y.2) (go q y.0 (nat_eq q p) refl (stand.each q y.0 y.1)));
+              row = stands-changed at.retired (λ q. nat_eq q p) (known_entry foot) entries (λ e. refl) stand.row;
+              front = ap (λ n. at.retired + n) (same-length (λ q. nat_eq q p) (known_entry foot) entries) ∙ stand.front;
+              each = λ q x there. (let y = changed-there (λ r. nat_eq r p) (known_entry foot) entries q x (λ e. refl) there in
+                  subst (IsEntry run (taken false) q) (sym y.2) (go q y.0 (nat_eq q p) refl (stand.each q y.0 y.1)));
             }
           where
-            go : (q : ℕ) (y : Entry) (b : Bool) → nat_eq q p ≡ b → IsEntry run at q y → IsEntry run taken q (changed_where b (applied_entry history lines) y)
-            go q y true same is = let k = eqb-true q p same in subst (λ r. IsEntry run taken r (applied_entry history lines y)) (sym k) (taken-entry y (subst (λ r. IsEntry run at r y) k is))
-            go q y false other is = carried at taken q y refl (λ h. h, λ h. h) (ap (λ b. b || at.applied q) other) is
+            go : (q : ℕ) (y : Entry) (b : Bool) → nat_eq q p ≡ b → IsEntry run at q y
+                → IsEntry run (taken false) q (changed_where b (known_entry foot) y)
+            go q y true same is =
+                let k = eqb-true q p same in
+                subst (λ r. IsEntry run (taken false) r (known_entry foot y)) (sym k) (learnt-entry y (subst (λ r. IsEntry run at r y) k is))
+            go q y false other is = carried at (taken false) q y refl (λ h. h, λ h. h) refl (taken-too at p attempt q false faults other) is
 
-      pub stale-stand : (p attempt : ℕ) → EntriesStand run (happens (dependence_of run) faults at (event.Take p attempt false)) entries
-      stale-stand p attempt =
+        module _ (history : Effect) (lines : List (List ℤ)) (allowed : Allowed (dependence_of run) faults at (event.Take p attempt true)) where
+          -- it is known what the entry's subthread touches, and its result is applied
+          abbrev done : Entry → Entry
+          done e = applied_entry history lines (known_entry foot e)
+
+          taken-entry : (y : Entry) → IsEntry run at p y → IsEntry run (taken true) p (done y)
+          taken-entry y is =
+              record {
+                subthread = is.subthread;
+                is_there = is.is_there;
+                is_of = record {
+                  thread = is.is_of.thread;
+                  begins = is.is_of.begins;
+                  child = is.is_of.child;
+                  held = is.is_of.held;
+                  locks = is.is_of.locks;
+                };
+                attempt = is.attempt;
+                begun = is.begun;
+                waits = (λ w. absurd (cc w), λ free. absurd (free (subst (λ a. Contains at.posted (p, a)) (eqb-true attempt (present at p) (sym allowed.decided)) allowed.posted)));
+                applied = (λ s. ap (λ b. b || at.applied p) (eq-eqb p p refl), λ a. refl);
+                foot = now-known y is;
+                known = (λ some. was-taken true, λ was. refl);
+              }
+
+          done-stand : EntriesStand run (taken true) (with_change_at p done entries)
+          done-stand =
+              record {
+                row = stands-changed at.retired (λ q. nat_eq q p) done entries (λ e. refl) stand.row;
+                front = ap (λ n. at.retired + n) (same-length (λ q. nat_eq q p) done entries) ∙ stand.front;
+                each = λ q x there. (let y = changed-there (λ r. nat_eq r p) done entries q x (λ e. refl) there in
+                    subst (IsEntry run (taken true) q) (sym y.2) (go q y.0 (nat_eq q p) refl (stand.each q y.0 y.1)));
+              }
+            where
+              go : (q : ℕ) (y : Entry) (b : Bool) → nat_eq q p ≡ b → IsEntry run at q y
+                  → IsEntry run (taken true) q (changed_where b done y)
+              go q y true same is =
+                  let k = eqb-true q p same in
+                  subst (λ r. IsEntry run (taken true) r (done y)) (sym k) (taken-entry y (subst (λ r. IsEntry run at r y) k is))
+              go q y false other is =
+                  carried at (taken true) q y refl (λ h. h, λ h. h) (ap (λ b. b || at.applied q) other) (taken-too at p attempt q true faults other) is
+
+          pub take-stand : EntriesStand run (taken true) (with_change_at p (applied_entry history lines) (with_change_at p (known_entry foot) entries))
+          take-stand =
+              subst (EntriesStand run (taken true)) (sym (change-twice p (known_entry foot) (applied_entry history lines) entries (λ e. refl))) done-stand
+
+      -- a position that has no entry leaves the others as they are
+      pub gone-stand : (p attempt : ℕ) → entry_at entries p ≡ None
+          → EntriesStand run (happens (dependence_of run) faults at (event.Take p attempt false)) entries
+      gone-stand p attempt gone =
           record {
             row = stand.row;
             front = stand.front;
-            each = λ q x there. carried at (happens (dependence_of run) faults at (event.Take p attempt false)) q x refl (λ h. h, λ h. h) refl (stand.each q x there);
+            each = λ q x there. go q x there (nat_eq q p) refl;
           }
+        where
+          go : (q : ℕ) (x : Entry) → entry_at entries q ≡ Some x → (b : Bool) → nat_eq q p ≡ b
+              → IsEntry run (happens (dependence_of run) faults at (event.Take p attempt false)) q x
+          go q x there true same = absurd (let both = sym gone ∙ (ap (entry_at entries) (sym (eqb-true q p same)) ∙ there) in cc both)
+          go q x there false other =
+              carried at (happens (dependence_of run) faults at (event.Take p attempt false)) q x refl (λ h. h, λ h. h) refl (taken-too at p attempt q false faults other)
+              (stand.each q x there)
 
       module _ (struck : ℕ) (stands : StageStands (dependence_of run) faults at) where
         abbrev behind : Stage
@@ -225,11 +364,19 @@ module _ (run : List Subthread) where
             record {
               subthread = is.subthread;
               is_there = is.is_there;
-              is_of = record { thread = is.is_of.thread; begins = is.is_of.begins; child = is.is_of.child; held = is.is_of.held; foot = is.is_of.foot };
+              is_of = record {
+                thread = is.is_of.thread;
+                begins = is.is_of.begins;
+                child = is.is_of.child;
+                held = is.is_of.held;
+                locks = is.is_of.locks;
+              };
               attempt = let a = is.attempt in omega arith;
               begun = sym (rw redo at (begun-push at.progress.made made q));
               waits = (λ w posted. (let low = (stands.posted_low q (present behind q) posted).1 in omega arith), λ free. refl);
               applied = (λ wrong. absurd (cc wrong), λ a. absurd (false≢true (sym (ap (λ b. cond b false (at.applied q)) redo) ∙ a)));
+              foot = is.foot;
+              known = is.known;
             }
 
         kept : (q : ℕ) → part q ≡ false → (y : Entry) → IsEntry run at q y → IsEntry run behind q y
@@ -247,6 +394,8 @@ module _ (run : List Subthread) where
                 λ free. is.waits.1 (λ h. free (subst (λ a. Contains at.posted (q, a)) (sym attempt) h)),
               );
               applied = (λ s. ap (λ b. cond b false (at.applied q)) redo ∙ is.applied.0 s, λ a. is.applied.1 (sym (ap (λ b. cond b false (at.applied q)) redo) ∙ a));
+              foot = is.foot;
+              known = is.known;
             }
 
         pub restart-stand : EntriesStand run behind (with_change part (raised_entry at.progress.front) entries)
@@ -272,6 +421,6 @@ module _ (run : List Subthread) where
       record {
         row = subst (λ b. StandFrom b entries) (let s : suc at.retired ≡ at.retired + 1 = omega arith in s) stand.row.1;
         front = let f = stand.front in omega arith;
-        each = λ q x there. carried at (happens (dependence_of run) faults at (event.Retire at.retired)) q x refl (λ h. h, λ h. h) refl
+        each = λ q x there. carried at (happens (dependence_of run) faults at (event.Retire at.retired)) q x refl (λ h. h, λ h. h) refl (λ h. h, λ h. h)
             (stand.each q x (rw (ne_eqb e.pos q (λ same. (let low = (from-first (suc at.retired) entries q x stand.row.1 there).0 in let first = stand.row.0 in omega arith))) there));
       }

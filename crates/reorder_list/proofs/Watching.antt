@@ -9,20 +9,22 @@ use Rattle.reorder_list.specs.declared.entry.Entry.{Entry}
 use Rattle.reorder_list.specs.Entries.{StandFrom, first_position, IsInRow, ComesNext, entry_at, is_waiting, is_applied, with_change}
 use Rattle.reorder_list.specs.Places.{IsKept}
 use Rattle.reorder_list.specs.Runnable.{IsRunnable}
-use Rattle.reorder_list.specs.Watched.{IsWatch, HoldsUp, IsReady, StillWatched, AreWatched, NoneWaits, IsUpheld}
+use Rattle.reorder_list.specs.Watched.{IsWatch, HoldsUp, IsReady, StillWatched, AreWatched, NoneWaits, unknown_in, IsUpheld}
 use Rattle.reorder_list.proofs.Rows.{next-is, before-first}
 use Rattle.reorder_list.proofs.Readiness.{NoneBelow, one-entry, waits-is, read-there, read-position}
 use Rattle.reorder_list.proofs.Changes.{KeepsPosition, changed_where, pushed, from-first, position-of}
 use Rattle.reorder_list.proofs.Staged.{changed-there}
+use Rattle.reorder_list.proofs.Kept.{kept-rest}
+use Rattle.reorder_list.proofs.Unknown.{one_in, unknown-first, KeepsKnown, unknown-same}
 
--- a change keeps the footprint of each entry
-abbrev pub KeepsFoot : (Entry → Entry) → Type 0
-KeepsFoot change = (e : Entry) → (change e).foot ≡ e.foot
+-- a change keeps the footprint by locks of each entry
+abbrev pub KeepsLocks : (Entry → Entry) → Type 0
+KeepsLocks change = (e : Entry) → (change e).locks ≡ e.locks
 
-module _ (test : ℕ → Bool) (change : Entry → Entry) (keeps : KeepsPosition change) (foot : KeepsFoot change) (entries : List Entry) where
-  same-foot : (b : Bool) (e : Entry) → (changed_where b change e).foot ≡ e.foot
-  same-foot true e = foot e
-  same-foot false e = refl
+module _ (test : ℕ → Bool) (change : Entry → Entry) (keeps : KeepsPosition change) (locks : KeepsLocks change) (entries : List Entry) where
+  same-locks : (b : Bool) (e : Entry) → (changed_where b change e).locks ≡ e.locks
+  same-locks true e = locks e
+  same-locks false e = refl
 
   same-pos : (b : Bool) (e : Entry) → (changed_where b change e).pos ≡ e.pos
   same-pos true e = keeps e
@@ -33,8 +35,8 @@ module _ (test : ℕ → Bool) (change : Entry → Entry) (keeps : KeepsPosition
   one-changed e (Some q) watch = (
     (let l = watch.0 in let same = same-pos (test e.pos) e in omega arith),
     λ x there. (let y = changed-there test change entries q x keeps there in
-        subst (λ f. Conflict f (changed_where (test e.pos) change e).foot) (sym (ap (λ (z : Entry). z.foot) y.2 ∙ same-foot (test q) y.0))
-        (subst (Conflict y.0.foot) (sym (same-foot (test e.pos) e)) (watch.1 y.0 y.1))),
+        subst (λ f. Conflict f (changed_where (test e.pos) change e).locks) (sym (ap (λ (z : Entry). z.locks) y.2 ∙ same-locks (test q) y.0))
+        (subst (Conflict y.0.locks) (sym (same-locks (test e.pos) e)) (watch.1 y.0 y.1))),
   )
 
   some-changed : (xs : List Entry) (ws : List (Option ℕ)) → AllZip (IsWatch entries) xs ws → AllZip (IsWatch (with_change test change entries)) (with_change test change xs) ws
@@ -47,13 +49,15 @@ module _ (test : ℕ → Bool) (change : Entry → Entry) (keeps : KeepsPosition
   watches-changed watched watches = some-changed entries watched watches
 
   -- no entry waits before the position, nor before one whose entry may wait now
-  pub waits-changed : (idle : ℕ) → ((q : ℕ) → q < idle → test q ≡ true → (e : Entry) → is_waiting (change e).state ≡ false) → NoneWaits entries idle → NoneWaits (with_change test change entries) idle
+  pub waits-changed : (idle : ℕ)
+      → ((q : ℕ) → q < idle → test q ≡ true → (e : Entry) → is_waiting e.state ≡ false → is_waiting (change e).state ≡ false)
+      → NoneWaits entries idle → NoneWaits (with_change test change entries) idle
   waits-changed idle still none q x l there =
       let y = changed-there test change entries q x keeps there in
       ap (λ (z : Entry). is_waiting z.state) y.2 ∙ go (test q) refl y.0 (none q y.0 l y.1)
     where
       go : (b : Bool) → test q ≡ b → (e : Entry) → is_waiting e.state ≡ false → is_waiting (changed_where b change e).state ≡ false
-      go true is e w = still q l is e
+      go true is e w = still q l is e w
       go false is e w = w
 
 module _ (entries : List Entry) (new : Entry) where
@@ -145,7 +149,7 @@ watch-holds entries p e (Some q) there watch still = go (entry_at entries q) ref
           entry = x;
           is_there = is;
           unapplied = found;
-          clash = λ f at_p. subst (λ (y : Entry). Conflict x.foot y.foot) (one-entry entries p e f there at_p) (watch.1 x is);
+          clash = λ f at_p. subst (λ (y : Entry). Conflict x.locks y.locks) (one-entry entries p e f there at_p) (watch.1 x is);
         })
 
 -- one that holds up another may be watched
@@ -153,7 +157,7 @@ pub holds-watch : (entries : List Entry) (p : ℕ) (e : Entry) (w : Option ℕ) 
 holds-watch entries p e None there holds = tt
 holds-watch entries p e (Some q) there holds = (
   (let l = holds.before in let same = position-of entries p e there in omega arith),
-  λ x at_q. subst (λ (y : Entry). Conflict y.foot e.foot) (one-entry entries q holds.entry x holds.is_there at_q) (holds.clash e there),
+  λ x at_q. subst (λ (y : Entry). Conflict y.locks e.locks) (one-entry entries q holds.entry x holds.is_there at_q) (holds.clash e there),
 )
 
 -- an entry that waits is runnable exactly where nothing is found that holds it up
@@ -202,11 +206,36 @@ none-start entries from idle top start row within where' none q l low runnable =
     ]
 
 -- all is upheld where entries were changed that do not wait now, or where the position goes back before them
-pub upheld-changed : (entries : List Entry) (watched : List (Option ℕ)) (idle low : ℕ) (test : ℕ → Bool) (change : Entry → Entry) (news : List Entry) → KeepsPosition change → KeepsFoot change
-    → ((q : ℕ) → q < low → test q ≡ true → (e : Entry) → is_waiting (change e).state ≡ false) → low ≤ idle → news ≡ with_change test change entries → IsKept news → IsUpheld entries watched idle → IsUpheld news watched low
-upheld-changed entries watched idle low test change news keeps foot still less is kept upheld =
+pub upheld-changed : (entries : List Entry) (watched : List (Option ℕ)) (idle unknown low more : ℕ) (test : ℕ → Bool) (change : Entry → Entry) (news : List Entry)
+    → KeepsPosition change → KeepsLocks change
+    → ((q : ℕ) → q < low → test q ≡ true → (e : Entry) → is_waiting e.state ≡ false → is_waiting (change e).state ≡ false) → low ≤ idle
+    → more ≡ unknown_in news → news ≡ with_change test change entries → IsKept news → IsUpheld entries watched idle unknown → IsUpheld news watched low more
+upheld-changed entries watched idle unknown low more test change news keeps locks still less count is kept upheld =
     record {
       kept = kept;
-      watches = subst (λ es. AreWatched es watched) (sym is) (watches-changed test change keeps foot entries watched upheld.watches);
-      none_waits = subst (λ es. NoneWaits es low) (sym is) (waits-changed test change keeps foot entries low still (λ q e l there. upheld.none_waits q e (omega arith) there));
+      watches = subst (λ es. AreWatched es watched) (sym is) (watches-changed test change keeps locks entries watched upheld.watches);
+      none_waits = subst (λ es. NoneWaits es low) (sym is)
+          (waits-changed test change keeps locks entries low still (λ q e l there. upheld.none_waits q e (omega arith) there));
+      unknowns = count;
+    }
+
+-- so where the change tells of no subthread what it touches
+pub upheld-kept : (entries : List Entry) (watched : List (Option ℕ)) (idle unknown low : ℕ) (test : ℕ → Bool) (change : Entry → Entry) (news : List Entry)
+    → KeepsPosition change → KeepsLocks change → KeepsKnown change
+    → ((q : ℕ) → q < low → test q ≡ true → (e : Entry) → is_waiting e.state ≡ false → is_waiting (change e).state ≡ false) → low ≤ idle
+    → news ≡ with_change test change entries → IsKept news → IsUpheld entries watched idle unknown → IsUpheld news watched low unknown
+upheld-kept entries watched idle unknown low test change news keeps locks known still less is kept upheld =
+    upheld-changed entries watched idle unknown low unknown test change news keeps locks still less
+    (upheld.unknowns ∙ (sym (unknown-same test change entries known) ∙ ap unknown_in (sym is))) is kept upheld
+
+-- and without the first entry
+pub upheld-rest : (first : Entry) (entries : List Entry) (watched rest : List (Option ℕ)) (idle unknown more : ℕ)
+    → rest ≡ drop 1 watched → more + one_in first ≡ unknown
+    → IsUpheld (first ∷ entries) watched idle unknown → IsUpheld entries rest idle more
+upheld-rest first entries watched rest idle unknown more is less upheld =
+    record {
+      kept = kept-rest first entries upheld.kept;
+      watches = subst (AreWatched entries) (sym is) (watches-rest first entries upheld.kept.row watched upheld.watches);
+      none_waits = waits-rest first entries upheld.kept.row idle upheld.none_waits;
+      unknowns = let counted = upheld.unknowns in let one = unknown-first first entries in omega arith;
     }

@@ -1,6 +1,7 @@
 -- The entries of the positions from the oldest that has not retired, and how they change.
-use Rattle.std.specs.Prelude.{◌≡◌, ℕ, suc, ◌+◌, ℤ, Bool, true, false, not, ◌&&◌, cond, nat_eq, ⊤, List, [], ◌∷◌, map, Option, Some, None, option_map, unwrap_or}
+use Rattle.std.specs.Prelude.{◌≡◌, ℕ, suc, ◌+◌, ℤ, Bool, true, false, not, ◌&&◌, cond, nat_eq, IsTrue, ⊤, All, List, [], ◌∷◌, map, Option, Some, None, is_some, option_map, unwrap_or}
 use Rattle.std.specs.Option.{option_and_then}
+use Rattle.gp_base.specs.declared.footprint.Footprint.{Footprint}
 use Rattle.task_ast.specs.declared.effect.Effect.{Effect}
 use Rattle.reorder_list.specs.declared.entry.Entry.{Entry}
 use Rattle.reorder_list.specs.declared.entry.State.{State}
@@ -31,9 +32,10 @@ ComesNext [] p = ⊤
 ComesNext (e ∷ []) p = p ≡ e.pos + 1
 ComesNext (_ ∷ e ∷ entries) p = ComesNext (e ∷ entries) p
 
--- an entry whose first attempt was not posted
+-- an entry whose first attempt was not posted, and of which it is not known what its subthread touches
 pub record IsFresh (e : Entry) : Type 0 where
   pub waits : e.state ≡ Waiting
+  pub unknown : e.foot ≡ None
   pub no_history : e.hist ≡ None
   pub no_lines : e.prints ≡ []
 
@@ -63,6 +65,14 @@ is_nil (x ∷ xs) = false
 abbrev pub lends : Entry → Bool
 lends e = is_out e.state && not (is_nil e.held)
 
+-- it is known what the subthread of each entry touches
+abbrev pub AllKnown : List Entry → Type 0
+AllKnown entries = All (λ (e : Entry). IsTrue (is_some e.foot)) entries
+
+-- what the subthread of a position touches, where the position has an entry and that is known
+abbrev pub known_foot : List Entry → ℕ → Option Footprint
+known_foot entries p = option_and_then (λ e. e.foot) (entry_at entries p)
+
 -- each entry whose position passes the test is changed, and the others are as they were
 abbrev pub with_change : (test : ℕ → Bool) → (Entry → Entry) → List Entry → List Entry
 with_change test change entries = map (λ e. cond (test e.pos) (change e) e) entries
@@ -74,6 +84,10 @@ with_change_at p change entries = with_change (λ q. nat_eq q p) change entries
 -- the attempt is out
 abbrev pub out_entry : Entry → Entry
 out_entry e = record e { state = Out }
+
+-- it is known what the subthread touches
+abbrev pub known_entry : Footprint → Entry → Entry
+known_entry foot e = record e { foot = Some foot }
 
 -- the attempt's result is applied, with this history and these lines
 abbrev pub applied_entry : Effect → List (List ℤ) → Entry → Entry

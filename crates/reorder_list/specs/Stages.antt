@@ -1,24 +1,26 @@
 -- What stands between a run, the stage that its journal leads to, and the entries of the positions that have not retired.
-use Rattle.std.specs.Prelude.{◌≡◌, ◌↔◌, ◌+◌, ℕ, ℤ, Bool, true, false, List, ◌∷◌, [], ◌++◌, length, Contains, All, IfSome, Some, slice_get}
+use Rattle.std.specs.Prelude.{◌≡◌, ◌↔◌, ◌+◌, ◌≤◌, ◌<◌, ℕ, ℤ, Bool, true, false, IsTrue, List, ◌∷◌, [], ◌++◌, length, Contains, All, IfSome, Some, None, is_some, slice_get}
 use Rattle.gp_base.specs.declared.fault.Fault.{Fault}
+use Rattle.gp_base.specs.declared.footprint.Footprint.{Footprint}
 use Rattle.gp_base.specs.declared.journal.Event.TheVariants as event
 use Rattle.task_ast.specs.declared.effect.Effect.{Effect}
-use Rattle.task_ast.specs.Plain.{Subthread, foot_of}
+use Rattle.task_ast.specs.Plain.{Subthread, foot_of, lock_foot_of}
 use Rattle.task_ast.specs.State.{State}
 use Rattle.task_ast.specs.History.{old_of}
 use Rattle.task_ast.specs.Effect.{after}
 use Rattle.dependence.specs.Dependents.{is_member}
 use Rattle.dependence.specs.Restarts.{begun_of, struck_next}
-use Rattle.dependence.specs.Journal.{Stage, Allowed, happens, MayPost}
+use Rattle.dependence.specs.Journal.{Stage, Allowed, happens, WasTaken, MayPost}
 use Rattle.dependence.specs.Standing.{present, StageStands, NamesIssued}
 use Rattle.dependence.specs.Runs.{dependence_of}
+use Rattle.dependence.specs.Posting.{posting_of}
 use Rattle.dependence.specs.Removal.{undone_part}
 use Rattle.dependence.specs.Buffer.{Buffer, buffer_with, buffer_without}
 use Rattle.dependence.specs.RunBuffer.{RunStands}
 use Rattle.record_store.specs.Stored.{Stored, state_of, Fits}
 use Rattle.reorder_list.specs.declared.entry.Entry.{Entry}
 use Rattle.reorder_list.specs.declared.entry.State.TheVariants.{Waiting, Applied}
-use Rattle.reorder_list.specs.Entries.{StandFrom, IsFresh, entry_at, with_change, with_change_at, out_entry, applied_entry, raised_entry, histories_of, lines_of}
+use Rattle.reorder_list.specs.Entries.{StandFrom, IsFresh, AllKnown, entry_at, with_change, with_change_at, out_entry, known_entry, applied_entry, raised_entry, histories_of, lines_of}
 use Rattle.reorder_list.specs.Runnable.{IsRunnable}
 
 -- the entry is that of a subthread
@@ -27,7 +29,7 @@ pub record IsOf (s : Subthread) (e : Entry) : Type 0 where
   pub begins : e.begins ≡ s.begins
   pub child : e.child ≡ s.child
   pub held : e.held ≡ s.held
-  pub foot : e.foot ≡ foot_of s
+  pub locks : e.locks ≡ lock_foot_of s
 
 -- the entry of a position of the run, as it stands at a stage
 pub record IsEntry (run : List Subthread) (at : Stage) (p : ℕ) (e : Entry) : Type 0 where
@@ -38,6 +40,9 @@ pub record IsEntry (run : List Subthread) (at : Stage) (p : ℕ) (e : Entry) : T
   pub begun : e.begun ≡ begun_of at.progress.made p
   pub waits : (e.state ≡ Waiting) ↔ ¬ Contains at.posted (p, present at p)
   pub applied : (e.state ≡ Applied) ↔ (at.applied p ≡ true)
+  -- what is known of what it touches is so, and that is known exactly where some attempt was taken
+  pub foot : IfSome e.foot (λ f. f ≡ foot_of subthread)
+  pub known : IsTrue (is_some e.foot) ↔ WasTaken at p
 
 -- the entries are those of the positions from the oldest that has not retired up to the front
 pub record EntriesStand (run : List Subthread) (at : Stage) (entries : List Entry) : Type 0 where
@@ -63,11 +68,19 @@ HistoriesFit store entries = All (λ (e : Entry). IfSome e.hist (Fits store)) en
 abbrev pub buffer_of : Stored → List Entry → Buffer
 buffer_of store entries = record { state = state_of store; histories = histories_of entries; lines = lines_of entries }
 
--- an entry is runnable exactly where the present attempt of its position may be posted
+-- an entry is runnable exactly where the present attempt of its position may be posted by locks
 abbrev pub RunnableLaw : Type 0
 RunnableLaw =
     (run : List Subthread) (faults : List Fault) (at : Stage) (entries : List Entry) (p : ℕ) → StageStands (dependence_of run) faults at → EntriesStand run at entries
-    → IsRunnable entries p ↔ MayPost (dependence_of run) at p (present at p)
+    → IsRunnable entries p ↔ MayPost (posting_of run) at p (present at p)
+
+-- each position that was issued and has not retired was taken at some attempt
+abbrev pub AllTaken : Stage → Type 0
+AllTaken at = (p : ℕ) → at.retired ≤ p → p < at.progress.front → WasTaken at p
+
+-- it is known what all entries touch exactly where all positions were taken
+abbrev pub KnownLaw : Type 0
+KnownLaw = (run : List Subthread) (at : Stage) (entries : List Entry) → EntriesStand run at entries → AllKnown entries ↔ AllTaken at
 
 -- an issue puts the next position's entry at the end
 abbrev pub IssueLaw : Type 0
@@ -83,16 +96,26 @@ PostLaw =
     → Allowed (dependence_of run) faults at (event.Post p attempt)
     → EntriesStand run (happens (dependence_of run) faults at (event.Post p attempt)) (with_change_at p out_entry entries)
 
--- a result of the present attempt is applied, and another changes nothing
+-- each result tells what the subthread touches; one of the present attempt is applied then, and another changes nothing else
 abbrev pub TakeLaw : Type 0
 TakeLaw =
-    (run : List Subthread) (faults : List Fault) (at : Stage) (entries : List Entry) (p attempt : ℕ) (history : Effect) (lines : List (List ℤ)) → EntriesStand run at entries
+    (run : List Subthread) (faults : List Fault) (at : Stage) (entries : List Entry) (p attempt : ℕ) (s : Subthread) (foot : Footprint) (history : Effect) (lines : List (List ℤ))
+    → EntriesStand run at entries → slice_get run p ≡ Some s → foot ≡ foot_of s
     → Allowed (dependence_of run) faults at (event.Take p attempt true)
-    → EntriesStand run (happens (dependence_of run) faults at (event.Take p attempt true)) (with_change_at p (applied_entry history lines) entries)
+    → EntriesStand run (happens (dependence_of run) faults at (event.Take p attempt true))
+    (with_change_at p (applied_entry history lines) (with_change_at p (known_entry foot) entries))
 
 abbrev pub StaleLaw : Type 0
 StaleLaw =
+    (run : List Subthread) (faults : List Fault) (at : Stage) (entries : List Entry) (p attempt : ℕ) (s : Subthread) (foot : Footprint)
+    → EntriesStand run at entries → slice_get run p ≡ Some s → foot ≡ foot_of s
+    → EntriesStand run (happens (dependence_of run) faults at (event.Take p attempt false)) (with_change_at p (known_entry foot) entries)
+
+-- one of a position that has no entry, since it has retired, changes nothing
+abbrev pub GoneLaw : Type 0
+GoneLaw =
     (run : List Subthread) (faults : List Fault) (at : Stage) (entries : List Entry) (p attempt : ℕ) → EntriesStand run at entries
+    → entry_at entries p ≡ None
     → EntriesStand run (happens (dependence_of run) faults at (event.Take p attempt false)) entries
 
 -- a restart raises the entries of what it redoes
@@ -115,6 +138,12 @@ PushedLaw = (store : Stored) (entries : List Entry) (e : Entry) → IsFresh e �
 
 abbrev pub SentLaw : Type 0
 SentLaw = (store : Stored) (entries : List Entry) (p : ℕ) → buffer_of store (with_change_at p out_entry entries) ≡ buffer_of store entries
+
+-- what they hold stays as it is where it is known what a subthread touches
+abbrev pub LearntLaw : Type 0
+LearntLaw =
+    (store : Stored) (entries : List Entry) (p : ℕ) (foot : Footprint)
+    → buffer_of store (with_change_at p (known_entry foot) entries) ≡ buffer_of store entries
 
 -- where an effect is applied to the store and its history and lines to its entry, they hold what the position did
 abbrev pub TakenLaw : Type 0

@@ -18,7 +18,8 @@ pub enum State {
 
 /// A subthread that has begun: its position and thread, the synchronisation that begins it, where its code and its
 /// control variables stand then, the locks that it holds and the child that it forks; its present attempt and the front
-/// at which that began; what it may read and write; and, where it is applied, its history and its lines.
+/// at which that began; what it may read and write by its locks; what it reads and writes, where that is known; and, where
+/// it is applied, its history and its lines.
 #[derive(Drop)]
 pub struct Entry {
     pub pos: Pos,
@@ -31,7 +32,8 @@ pub struct Entry {
     pub attempt: u32,
     pub begun: u32,
     pub state: State,
-    pub foot: Footprint,
+    pub locks: Footprint,
+    pub foot: Option<Footprint>,
     pub hist: Option<History>,
     pub prints: Lines,
 }

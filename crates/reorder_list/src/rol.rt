@@ -2,15 +2,15 @@
 
 ghost use Rattle.std.specs.Prelude.{◌≡◌, ◌↔◌, ◌+◌, ◌<◌, ◌≤◌, ◌^◌, [], ◌∷◌, ◌++◌, IsTrue, OnOk, MatchOption, IfSome, IfNone, None, Some, length, min, slice_get, is_some};
 ghost use Rattle.std.specs.List.{list_any};
-ghost use Rattle.std.specs.Option.{IsSomeAnd, option_copied};
-ghost use Rattle.reorder_list.specs.Entries.{ComesNext, IsFresh, is_applied, lends, entry_at, with_change_at, out_entry, applied_entry, raised_entry, histories_of};
+ghost use Rattle.std.specs.Option.{IsSome, IsSomeAnd, option_copied};
+ghost use Rattle.reorder_list.specs.Entries.{ComesNext, IsFresh, AllKnown, is_applied, lends, entry_at, with_change_at, out_entry, known_entry, applied_entry, raised_entry, histories_of};
 ghost use Rattle.reorder_list.specs.Runnable.{IsRunnable, IsFirstRunnable, NoneRunnable};
 ghost use Rattle.reorder_list.specs.declared.entry.Entry.{Entry};
 ghost use Rattle.reorder_list.specs.declared.entry.State.TheVariants.{Out, Applied};
 
 use crate::search::{first_runnable, first_waiting, is_runnable, place_of};
 use crate::{Entry, State};
-use gp_base::{Lines, Pos, Seq};
+use gp_base::{Footprint, Lines, Pos, Seq};
 use record_store::History;
 use std::alloc::{AllocError, Global};
 use std::collections::VecDeque;
@@ -21,10 +21,12 @@ use std::marker::Model;
 #[derive(Drop)]
 pub struct Rol {
     entries: VecDeque<Entry>,
-    // for each entry an earlier position in conflict with it that was not applied when last looked for
+    // for each entry an earlier position in conflict with it by locks that was not applied when last looked for
     watched: VecDeque<Option<Pos>>,
     // no entry before this position waits
     idle: Pos,
+    // of how many entries it is not known what the subthread touches
+    unknown: usize,
 }
 
 impl Model for Rol {
@@ -37,7 +39,7 @@ impl Model for Rol {
 
     ghost view = { λ r. record { entries = r.entries.items; spare = min (deque_capacity r.entries - deque_len r.entries) (deque_capacity r.watched - deque_len r.watched) } };
 
-    ghost invariant = { λ r. IsUpheld r.entries.items r.watched.items r.idle };
+    ghost invariant = { λ r. IsUpheld r.entries.items r.watched.items r.idle r.unknown };
 }
 
 // The earlier of two positions.
@@ -58,6 +60,14 @@ fn raise_entry(alloc: Global, entry: &mut Entry, front: Pos) -> Option<History>
     entry.state = State::Waiting;
     entry.prints = Seq::new(alloc);
     entry.hist.take()
+}
+
+// It is known what the subthread of an entry touches. The answer is whether it was known before.
+fn know_entry(entry: &mut Entry, foot: Footprint) -> bool
+    ensures entry { entry.new ≡ known_entry foot entry.old }
+    ensures known { result ≡ is_some entry.old.foot }
+{
+    entry.foot.replace(foot).is_some()
 }
 
 // The attempt of an entry is out.
@@ -92,6 +102,7 @@ impl Rol {
             entries: VecDeque::new(alloc),
             watched: VecDeque::new(alloc),
             idle: Pos(0),
+            unknown: 0,
         }
     }
 
@@ -108,6 +119,13 @@ impl Rol {
         ensures { result ≡ list_any lends self.now.entries }
     {
         self.entries.iter().any(|entry| lends(entry))
+    }
+
+    /// Whether it is known of each entry what its subthread touches. Takes no memory, and looks at no entry.
+    pub fn all_known(&self) -> bool
+        ensures { IsTrue result ↔ AllKnown self.now.entries }
+    {
+        self.unknown == 0
     }
 
     /// Makes room for one more entry. The error is that memory is out.
@@ -129,6 +147,7 @@ impl Rol {
         ensures spare { self.old.spare ≤ self.new.spare + 1 }
     {
         self.idle = earlier_of(self.idle, entry.pos);
+        self.unknown += 1;
         self.entries.push_back_reserved(entry);
         self.watched.push_back_reserved(None);
     }
@@ -148,7 +167,7 @@ impl Rol {
         self.entries.get(place)
     }
 
-    /// Whether the entry of a position waits and each earlier entry in conflict with it is applied.
+    /// Whether the entry of a position waits and each earlier entry in conflict with it by locks is applied.
     pub fn runnable(&self, p: Pos) -> bool
         ensures { IsTrue result ↔ IsRunnable self.now.entries p }
     {
@@ -179,6 +198,19 @@ impl Rol {
         }
     }
 
+    /// It is known what the subthread of a position touches, from a run of any of its attempts. Nothing else changes.
+    pub fn learn_foot(&mut self, p: Pos, foot: Footprint)
+        requires { IsSome (entry_at self.old.entries p) }
+        ensures entries { self.new.entries ≡ with_change_at p (known_entry foot) self.old.entries }
+        ensures spare { self.new.spare ≡ self.old.spare }
+    {
+        if let Some(place) = place_of(&self.entries, p) {
+            if !know_entry(&mut self.entries[place], foot) {
+                self.unknown -= 1;
+            }
+        }
+    }
+
     /// The result of a position's attempt is applied, with the history that it left and the lines that it printed.
     pub fn set_applied(&mut self, p: Pos, history: History, lines: Lines)
         requires { IsSomeAnd (entry_at self.old.entries p) (λ e. e.state ≡ Out) }
@@ -190,8 +222,8 @@ impl Rol {
         }
     }
 
-    /// The next attempt of a position begins at this front and waits, and its lines are dropped. Answers the history,
-    /// which there is exactly where the result of the last attempt was applied.
+    /// The next attempt of a position begins at this front and waits, and its lines are dropped; it stays known what the
+    /// subthread touches. Answers the history, which there is exactly where the result of the last attempt was applied.
     pub fn raise(&mut self, alloc: Global, p: Pos, front: Pos) -> Option<History>
         requires { IsSomeAnd (entry_at self.old.entries p) (λ e. e.attempt < 4294967295) }
         ensures history { result ≡ histories_of self.old.entries p }
@@ -211,9 +243,12 @@ impl Rol {
         ensures spare { self.old.spare ≤ self.new.spare }
     {
         let _ = self.watched.pop_front();
-        match self.entries.pop_front() {
-            Some(entry) => entry,
-            None => unreachable!(),
+        let Some(entry) = self.entries.pop_front() else {
+            unreachable!();
+        };
+        if entry.foot.is_none() {
+            self.unknown -= 1;
         }
+        entry
     }
 }

@@ -47,12 +47,12 @@ fn place_from(entries: &VecDeque<Entry>, p: Pos) -> usize
     place.min(entries.len())
 }
 
-// Whether an earlier entry is in conflict with the later one and not applied.
+// Whether an earlier entry is in conflict with the later one by locks and not applied.
 fn blocks(earlier: &Entry, later: &Entry) -> bool
-    ensures blocks { IsTrue result → Conflict earlier.now.foot later.now.foot × (is_applied earlier.now.state ≡ false) }
+    ensures blocks { IsTrue result → Conflict earlier.now.locks later.now.locks × (is_applied earlier.now.state ≡ false) }
     ensures passes { result ≡ false → LetsPass earlier.now later.now }
 {
-    !earlier.state.is_applied() && conflict(&earlier.foot, &later.foot)
+    !earlier.state.is_applied() && conflict(&earlier.locks, &later.locks)
 }
 
 // The first position before the one at a place that holds it up.
@@ -72,7 +72,7 @@ fn blocker(entries: &VecDeque<Entry>, place: usize) -> Option<Pos>
     None
 }
 
-/// Whether the entry at a place waits and each earlier one in conflict with it is applied.
+/// Whether the entry at a place waits and each earlier one in conflict with it by locks is applied.
 pub fn is_runnable(entries: &VecDeque<Entry>, place: usize) -> bool
     requires in_row { IsInRow entries.now.items }
     requires in_range { place < length entries.now.items }

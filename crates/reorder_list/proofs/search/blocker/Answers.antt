@@ -22,7 +22,7 @@ returns-then-blocks-clause-some c =
       entry = c.index-before.result.now;
       is_there = ap (entry_at entries) is ∙ read-there entries c.loop-earlier.earlier c.index-before.result.now c.requires.in_row (omega arith) c.index-before.ensures;
       unapplied = found.1;
-      clash = λ e there. subst (λ (x : Entry). Conflict c.index-before.result.now.foot x.foot) (one-entry entries (first_position entries + c.args.place) c.index-entry.result.now e here there) found.0;
+      clash = λ e there. subst (λ (x : Entry). Conflict c.index-before.result.now.locks x.locks) (one-entry entries (first_position entries + c.args.place) c.index-entry.result.now e here there) found.0;
     }
 
 pub returns-then-blocks-clause-none : goal.returns-then-blocks-clause-none

@@ -1,6 +1,7 @@
-use Rattle.std.proofs.Common.{◌∙◌, ap, sym, is_some}
+use Rattle.std.proofs.Common.{◌≡◌, ◌∙◌, ap, arith, sym, is_some}
 use Rattle.reorder_list.specs.Entries.{ComesNext, is_applied}
 use Rattle.reorder_list.proofs.Kept.{kept-push}
+use Rattle.reorder_list.proofs.Unknown.{one_where, one_in, unknown-push}
 use Rattle.reorder_list.proofs.Watching.{watches-pushed, waits-pushed}
 use Rattle.reorder_list.proofs.rol.Rol.push_back.Goals as goal
 
@@ -13,4 +14,9 @@ invariant_of-self c =
       kept = kept-push c.self.inside.entries.items c.args.entry c.self.invariant.kept next (ap is_some fresh.no_history ∙ sym (ap is_applied fresh.waits));
       watches = watches-pushed c.self.inside.entries.items c.args.entry c.self.inside.watched.items c.self.invariant.kept.row next c.self.invariant.watches;
       none_waits = waits-pushed c.self.inside.entries.items c.args.entry c.self.inside.idle c.self.invariant.none_waits;
+      unknowns =
+          (let push = unknown-push c.self.inside.entries.items c.args.entry in
+          let one : one_in c.args.entry ≡ 1 = ap (λ o. one_where (is_some o)) fresh.unknown in
+          let counted = c.self.invariant.unknowns in
+          omega arith);
     })

@@ -4,7 +4,7 @@ use Rattle.reorder_list.specs.declared.entry.Entry.{Entry}
 use Rattle.reorder_list.specs.Entries.{Entered, entry_at, is_applied, histories_of, raised_entry, with_change_at}
 use Rattle.reorder_list.proofs.Kept.{changed-entries, changed-kept, entry-is, has-history, holds-here}
 use Rattle.std.proofs.lemmas.Bool.{eqb-true}
-use Rattle.reorder_list.proofs.Watching.{upheld-changed}
+use Rattle.reorder_list.proofs.Watching.{upheld-kept}
 use Rattle.reorder_list.proofs.rol.Rol.raise.Goals as goal
 
 pub raise_entry-requires : goal.raise_entry-requires
@@ -15,8 +15,8 @@ raise_entry-requires c =
 pub invariant_of-self : goal.invariant_of-self
 invariant_of-self c =
     let low = c.earlier_of-self-inside.ensures in
-    upheld-changed c.self.inside.entries.items c.self.inside.watched.items c.self.inside.idle c.earlier_of-self-inside.result (λ q. nat_eq q c.args.p) (raised_entry c.args.front) _ (λ e. refl) (λ e. refl)
-    (λ q l is e. absurd (let same = eqb-true q c.args.p is in omega arith)) (omega arith)
+    upheld-kept c.self.inside.entries.items c.self.inside.watched.items c.self.inside.idle c.self.inside.unknown c.earlier_of-self-inside.result (λ q. nat_eq q c.args.p) (raised_entry c.args.front) _ (λ e. refl) (λ e. refl) (λ e. refl)
+    (λ q l is e w. absurd (let same = eqb-true q c.args.p is in omega arith)) (omega arith)
     (changed-entries c.self.inside.entries.items c.self.invariant.kept c.args.p c.in_ok-place.place c.in_ok-place.ensures c.index_mut.result.now c.index_mut.ensures.value (raised_entry c.args.front) c.raise_entry.new.entry c.raise_entry.ensures.entry)
     (changed-kept c.self.inside.entries.items c.self.invariant.kept c.args.p c.in_ok-place.place c.in_ok-place.ensures c.index_mut.result.now c.index_mut.ensures.value (raised_entry c.args.front)
     c.raise_entry.new.entry c.raise_entry.ensures.entry refl refl)

@@ -1,12 +1,12 @@
 use Rattle.std.proofs.Common.{◌∙◌, ap, arith, nat_eq, refl}
 use Rattle.reorder_list.specs.Entries.{applied_entry, with_change_at}
 use Rattle.reorder_list.proofs.Kept.{changed-entries, changed-kept}
-use Rattle.reorder_list.proofs.Watching.{upheld-changed}
+use Rattle.reorder_list.proofs.Watching.{upheld-kept}
 use Rattle.reorder_list.proofs.rol.Rol.set_applied.Goals as goal
 
 pub invariant_of-self : goal.invariant_of-self
 invariant_of-self c =
-    upheld-changed c.self.inside.entries.items c.self.inside.watched.items c.self.inside.idle c.self.inside.idle (λ q. nat_eq q c.args.p) (applied_entry c.args.history c.args.lines) _ (λ e. refl) (λ e. refl) (λ q l is e. refl) (omega arith)
+    upheld-kept c.self.inside.entries.items c.self.inside.watched.items c.self.inside.idle c.self.inside.unknown c.self.inside.idle (λ q. nat_eq q c.args.p) (applied_entry c.args.history c.args.lines) _ (λ e. refl) (λ e. refl) (λ e. refl) (λ q l is e w. refl) (omega arith)
     (changed-entries c.self.inside.entries.items c.self.invariant.kept c.args.p c.in-Some.place c.in-Some.ensures c.index_mut.result.now c.index_mut.ensures.value (applied_entry c.args.history c.args.lines) c.apply_entry.new.entry c.apply_entry.ensures)
     (changed-kept c.self.inside.entries.items c.self.invariant.kept c.args.p c.in-Some.place c.in-Some.ensures c.index_mut.result.now c.index_mut.ensures.value (applied_entry c.args.history c.args.lines)
     c.apply_entry.new.entry c.apply_entry.ensures refl refl)
