@@ -59,7 +59,7 @@ takes-are view = takes-from (dependence_in view.batch) view.batch.faults initial
 pub did-task : (before after : View) (e : Event) → Stands before → Did before e after → (task : Task) → TaskStands before task
     → ¬ Contains (now after).taken (pair_of task) → TaskStands after task
 did-task before after e stands did task t untaken =
-    subst (λ v. TaskStands v task) (sym did.grown) (task-kept before stands e did.allowed task t (subst (λ v. ¬ Contains (now v).taken (pair_of task)) did.grown untaken))
+    subst (λ v. TaskStands v task) (sym did.grown) (task-kept before stands e did.allowed did.waited task t (subst (λ v. ¬ Contains (now v).taken (pair_of task)) did.grown untaken))
 
 -- a crew that agreed with the engine does so still
 abbrev pub KeepsCrew : (before after : View) → Type 0

@@ -1,8 +1,8 @@
 -- A restart over the entries and the store.
-use Rattle.std.proofs.Common.{◌≡◌, inl, inr, ℕ, zero, suc, ◌+◌, ◌^◌, ◌<◌, ◌≤◌, cond, get_or, List, [], ◌∷◌, ◌++◌, length, All, Option, Some, None, refl, sym, ap, subst, ◌∙◌, arith}
+use Rattle.std.proofs.Common.{◌≡◌, inl, inr, ℕ, ◌+◌, ◌^◌, ◌<◌, ◌≤◌, cond, List, [], ◌∷◌, ◌++◌, length, All, Option, Some, None, refl, sym, ap, subst, ◌∙◌, arith}
 use Rattle.std.specs.Prelude.{is_some}
 use Rattle.std.specs.Option.{option_or, IsSome}
-use Rattle.std.proofs.lemmas.Bool.{eq-eqb, ne_eqb, cases_lt}
+use Rattle.std.proofs.lemmas.Bool.{cases_lt}
 use Rattle.gp_base.specs.declared.journal.Event.{Event}
 use Rattle.gp_base.specs.declared.journal.Event.TheVariants as event
 use Rattle.gp_base.specs.declared.journal.Restart.{Restart}
@@ -14,38 +14,25 @@ use Rattle.dependence.specs.Standing.{StageStands}
 use Rattle.dependence.specs.Removal.{undone_part}
 use Rattle.dependence.proofs.Counts.{few-attempts}
 use Rattle.dependence.proofs.Struck.{struck-live}
-use Rattle.record_store.specs.Stored.{Stored, state_of, SameShape, IsAllHome}
+use Rattle.record_store.specs.Stored.{Stored, state_of, SameShape}
 use Rattle.reorder_list.specs.declared.entry.Entry.{Entry}
-use Rattle.reorder_list.specs.Entries.{StandFrom, entry_at, with_change, raised_entry, histories_of}
-use Rattle.reorder_list.proofs.Changes.{from-first, is-there}
+use Rattle.reorder_list.specs.Entries.{AllKnown, entry_at, with_change, raised_entry, histories_of}
+use Rattle.reorder_list.proofs.Changes.{is-there, each-there}
+use Rattle.reorder_list.proofs.Staged.{taken-known}
 use Rattle.restart.specs.Redo.{redone}
 use Rattle.restart.proofs.Standing.{same-redo}
 use Rattle.engine.specs.declared.parts.Parts.{Parts}
 use Rattle.engine.specs.declared.calls.Halt.{Halt}
 use Rattle.engine.specs.View.{Batch, run_in, dependence_in}
-use Rattle.engine.specs.Gives.{struck_now}
+use Rattle.engine.specs.Gives.{NoneLent, IsScouted, struck_now}
 use Rattle.engine.specs.inner.Kept.{view_of, stage_of, IsPlaceIn, IsEnd, WindowStands, Keeps, Kept}
 use Rattle.engine.specs.inner.Detected.{attempt_in}
 use Rattle.engine.proofs.Events.{redoes-struck}
+use Rattle.engine.proofs.AllHome.{all-home}
 use Rattle.engine.proofs.Progress.{halts-drain}
 use Rattle.engine.proofs.Kepts.{stage_stands, keeps_then}
 use Rattle.engine.proofs.RingTakes.{ring_same}
 use Rattle.engine.proofs.Windows.{window-restart}
-
--- each entry has what the entries at their positions have
-from-there : (P : Entry → Type 0) (b : ℕ) (entries : List Entry) → StandFrom b entries → ((p : ℕ) (e : Entry) → entry_at entries p ≡ Some e → P e) → All P entries
-from-there P b entries row each k d l = go b entries row each k l
-  where
-    go : (b : ℕ) (xs : List Entry) → StandFrom b xs → ((p : ℕ) (e : Entry) → entry_at xs p ≡ Some e → P e) → (k : ℕ) → k < length xs → P (get_or xs k d)
-    go b [] row each k l = absurd (omega arith)
-    go b (x ∷ xs) row each zero l = each x.pos x (rw (eq-eqb x.pos x.pos refl) refl)
-    go b (x ∷ xs) row each (suc k) l = go (suc b) xs row.1 (λ p e is. each p e (later p e is)) k (omega arith)
-      where
-        later : (p : ℕ) (e : Entry) → entry_at xs p ≡ Some e → entry_at (x ∷ xs) p ≡ Some e
-        later p e is =
-            let low = (from-first (suc b) xs p e row.1 is).0 in
-            let apart : x.pos ≡ p → ⊥ = (λ same. let first = row.0 in omega arith) in
-            rw (ne_eqb x.pos p apart) is
 
 module _ (batch : Batch) (parts : Parts) (kept : Kept batch parts) (p : ℕ) (is_struck : struck_now (view_of batch parts) ≡ Some p) where
   abbrev at : Stage
@@ -98,21 +85,26 @@ module _ (batch : Batch) (parts : Parts) (kept : Kept batch parts) (p : ℕ) (is
 
   pub attempts-few : length batch.faults ≤ MOST_FAULTS → All (λ (e : Entry). e.attempt < 4294967295) parts.rol.entries
   attempts-few most =
-      from-there (λ (e : Entry). e.attempt < 4294967295) at.retired parts.rol.entries kept.window.entries_are.row
+      each-there (λ (e : Entry). e.attempt < 4294967295) at.retired parts.rol.entries kept.window.entries_are.row
       (λ q e is. let same = (kept.window.entries_are.each q e is).attempt in let l = (few most).1 q in omega arith)
 
   pub restarts-few : length batch.faults ≤ MOST_FAULTS → length parts.restarts.items < 2 ^ 32
   restarts-few most = let same = ap length kept.journal.restarts_are in let l = (few most).0 in omega arith
 
-  redo-is : redone parts.rol.entries p parts.issued ≡ (dependence_in batch).redo p at.progress.front
-  redo-is = ap (redone parts.rol.entries p) kept.journal.issued_are ∙ same-redo (run_in batch) at parts.rol.entries p kept.window.entries_are young
+  -- what each entry touches is known
+  pub all-known : IsScouted (view_of batch parts) → AllKnown parts.rol.entries
+  all-known scouted = taken-known (run_in batch) at parts.rol.entries kept.window.entries_are scouted
+
+  redo-is : IsScouted (view_of batch parts) → redone parts.rol.entries p parts.issued ≡ (dependence_in batch).redo p at.progress.front
+  redo-is scouted =
+      ap (redone parts.rol.entries p) kept.journal.issued_are ∙ same-redo (run_in batch) at parts.rol.entries p kept.window.entries_are (all-known scouted) young
 
   -- the restart that is noted is the definition's
-  noted-is : (attempt : ℕ) (redo : List ℕ) → attempt ≡ attempt_in (entry_at parts.rol.entries p) → redo ≡ redone parts.rol.entries p parts.issued
+  noted-is : IsScouted (view_of batch parts) → (attempt : ℕ) (redo : List ℕ) → attempt ≡ attempt_in (entry_at parts.rol.entries p) → redo ≡ redone parts.rol.entries p parts.issued
       → record { front = parts.issued; struck = p; attempt = attempt; redo = redo } ≡ restart_of (dependence_in batch) at.progress p
-  noted-is attempt redo attempt_is redo_is =
+  noted-is scouted attempt redo attempt_is redo_is =
       let a : attempt ≡ attempt_of at.progress.made p = attempt_is ∙ (ap attempt_in found.1 ∙ (kept.window.entries_are.each p found.0 found.1).attempt) in
-      let b : redo ≡ (dependence_in batch).redo p at.progress.front = redo_is ∙ redo-is in
+      let b : redo ≡ (dependence_in batch).redo p at.progress.front = redo_is ∙ redo-is scouted in
       λ i. record { front = kept.journal.issued_are i; struck = p; attempt = a i; redo = b i }
 
   abbrev after_it : Stage
@@ -122,29 +114,29 @@ module _ (batch : Batch) (parts : Parts) (kept : Kept batch parts) (p : ℕ) (is
   after-is = ap (restarted (dependence_in batch) at) next
 
   -- all is kept
-  pub kept-restarted : IsAllHome parts.store → (entries : List Entry) (store : Stored) (events : List Event) (restarts : List Restart) (attempt : ℕ) (redo : List ℕ)
+  pub kept-restarted : IsScouted (view_of batch parts) → NoneLent (view_of batch parts) → (entries : List Entry) (store : Stored) (events : List Event) (restarts : List Restart) (attempt : ℕ) (redo : List ℕ)
       → attempt ≡ attempt_in (entry_at parts.rol.entries p) → redo ≡ redone parts.rol.entries p parts.issued
       → entries ≡ with_change (λ q. is_member q redo) (raised_entry parts.issued) parts.rol.entries
       → state_of store ≡ undone_part (histories_of parts.rol.entries) (λ q. is_member q redo) parts.issued (state_of parts.store) → SameShape parts.store store → store.away ≡ parts.store.away
       → events ≡ parts.events.items ++ event.Restart (length parts.restarts.items) ∷ []
       → restarts ≡ parts.restarts.items ++ record { front = parts.issued; struck = p; attempt = attempt; redo = redo } ∷ []
       → Keeps batch parts.ring.table parts.places.items entries store events restarts parts.issued parts.ended
-  kept-restarted all_home entries store events restarts attempt redo attempt_is redo_is entries_are state shape away events_are restarts_are =
+  kept-restarted scouted none entries store events restarts attempt redo attempt_is redo_is entries_are state shape away events_are restarts_are =
       subst (λ es. Keeps batch parts.ring.table parts.places.items entries store es restarts parts.issued parts.ended)
       (ap (λ n. parts.events.items ++ event.Restart n ∷ []) (sym (ap length kept.journal.restarts_are)) ∙ sym events_are)
       (keeps_then batch parts.events.items kept.fit kept.journal (event.Restart (length at.progress.made)) allowed parts.ring.table parts.places.items entries store restarts parts.issued parts.ended
       (ring_same batch (IsPlaceIn batch) at after_it parts.ring.table parts.places.items (ap (λ (s : Stage). s.progress.front) after-is) (ap (λ (s : Stage). s.taken) after-is) kept.ring)
       window
-      (restarts_are ∙ ((λ i. kept.journal.restarts_are i ++ noted-is attempt redo attempt_is redo_is i ∷ []) ∙ sym (ap (λ (s : Stage). s.progress.made) after-is)))
+      (restarts_are ∙ ((λ i. kept.journal.restarts_are i ++ noted-is scouted attempt redo attempt_is redo_is i ∷ []) ∙ sym (ap (λ (s : Stage). s.progress.made) after-is)))
       (kept.journal.issued_are ∙ sym (ap (λ (s : Stage). s.progress.front) after-is))
       (subst (λ front. IsEnd batch front parts.ended) (sym (ap (λ (s : Stage). s.progress.front) after-is)) kept.journal.ended_is))
     where
       part-is : redo ≡ (dependence_in batch).redo p at.progress.front
-      part-is = redo_is ∙ redo-is
+      part-is = redo_is ∙ redo-is scouted
 
       window : WindowStands batch after_it parts.ring.table entries store
       window =
           subst (λ es. WindowStands batch after_it parts.ring.table es store)
           (sym (entries_are ∙ (λ i. with_change (λ q. is_member q (part-is i)) (raised_entry (kept.journal.issued_are i)) parts.rol.entries)))
-          (window-restart batch kept.fit at stage parts.ring.table parts.store parts.rol.entries kept.window (length at.progress.made) p allowed next all_home store shape away
+          (window-restart batch kept.fit at stage parts.ring.table parts.store parts.rol.entries kept.window (length at.progress.made) p allowed next none (all-home batch parts kept none) store shape away
           (state ∙ (λ i. undone_part (histories_of parts.rol.entries) (λ q. is_member q (part-is i)) (kept.journal.issued_are i) (state_of parts.store))))

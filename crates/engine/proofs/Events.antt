@@ -8,14 +8,16 @@ use Rattle.dependence.specs.Dependents.{itself}
 use Rattle.dependence.specs.Restarts.{RedoesStruck, struck_next}
 use Rattle.dependence.specs.Journal.{Stage, initial_stage, Allowed, happens, restarted}
 use Rattle.dependence.specs.Runs.{feet_of}
+use Rattle.dependence.specs.Posting.{OutReady}
 use Rattle.dependence.specs.Standing.{StageStands}
 use Rattle.dependence.proofs.DependentSets.{dependents-are}
 use Rattle.dependence.proofs.Journals.{LawfulFrom-push, stage_from-push}
 use Rattle.dependence.proofs.Measured.{leaves-less}
 use Rattle.dependence.proofs.Standing.{run-stands}
-use Rattle.engine.specs.View.{Batch, View, run_in, dependence_in, now, ended_after, grown, learnt, IsHalt, Stands}
-use Rattle.engine.specs.Gives.{Did}
+use Rattle.engine.specs.View.{Batch, View, run_in, dependence_in, locks_in, now, ended_after, grown, learnt, IsHalt, Stands}
+use Rattle.engine.specs.Gives.{HasWaited, Did}
 use Rattle.engine.specs.inner.Rounds.{left, Onward}
+use Rattle.engine.proofs.Ready.{stays-ready}
 
 pub redoes-struck : (batch : Batch) → RedoesStruck (dependence_in batch)
 redoes-struck batch struck front l = (dependents-are (clash_in (feet_of (run_in batch))) struck front struck).1 (itself l)
@@ -42,12 +44,15 @@ still-drains view stands (event.Restart number) = go (struck_next (dependence_in
     go (Some p) = stands.ended
 still-drains view stands (event.Retire p) = stands.ended
 
-grown-stands : (view : View) (e : Event) → Stands view → Allowed (dependence_in view.batch) view.batch.faults (now view) e → Stands (grown view e)
-grown-stands view e stands allowed =
+grown-stands : (view : View) (e : Event) → Stands view → Allowed (dependence_in view.batch) view.batch.faults (now view) e → HasWaited (run_in view.batch) (now view) e
+    → Stands (grown view e)
+grown-stands view e stands allowed waited =
     record {
       accepted = stands.accepted;
       short = stands.short;
       lawful = LawfulFrom-push (dependence_in view.batch) view.batch.faults initial_stage view.events e stands.lawful allowed;
+      ready = subst (OutReady (locks_in view.batch)) (sym (now-grown view e))
+          (stays-ready (run_in view.batch) view.batch.faults (now view) (stage-stands view stands) e allowed waited stands.ready);
       ended = subst (Draining view (ended_after e view.ended)) (sym (now-grown view e)) (still-drains view stands e);
     }
 
@@ -57,7 +62,7 @@ grown-leaves view e stands allowed =
     (leaves-less (dependence_in view.batch) (redoes-struck view.batch) view.batch.faults (now view) e (stage-stands view stands).front_low allowed)
 
 pub did-stands : (before after : View) (e : Event) → Stands before → Did before e after → Stands after
-did-stands before after e stands did = subst Stands (sym did.grown) (grown-stands before e stands did.allowed)
+did-stands before after e stands did = subst Stands (sym did.grown) (grown-stands before e stands did.allowed did.waited)
 
 pub did-leaves : (before after : View) (e : Event) → Stands before → Did before e after → left after < left before
 did-leaves before after e stands did = subst (λ v. left v < left before) (sym did.grown) (grown-leaves before e stands did.allowed)
@@ -84,7 +89,7 @@ learnt-onward before after halts stands same is_halt =
     subst (Onward before) (sym same)
     (record {
       batch = refl;
-      stands = record { accepted = stands.accepted; short = stands.short; lawful = stands.lawful; ended = is_halt };
+      stands = record { accepted = stands.accepted; short = stands.short; lawful = stands.lawful; ready = stands.ready; ended = is_halt };
       moved = inr (record { events = refl; known = λ known. refl });
     })
 

@@ -9,7 +9,7 @@ use Rattle.gp_base.specs.declared.journal.Restart.{Restart}
 use Rattle.task_ast.specs.declared.sync.SyncOp.{SyncOp}
 use Rattle.task_ast.specs.declared.sync.SyncOp.TheVariants as sync
 use Rattle.task_ast.specs.declared.sync.Next.{Next}
-use Rattle.task_ast.specs.Footprint.{footprint}
+use Rattle.task_ast.specs.Footprint.{lock_footprint}
 use Rattle.task_ast.specs.Repeat.{Again, More, Done}
 use Rattle.task_ast.specs.Table.{Table, next_of, owned_from, is_settle}
 use Rattle.token_order.specs.Turned.{settling_in}
@@ -17,7 +17,7 @@ use Rattle.task_ast.specs.Turn.{Turn, Issue, Needs, Ended, child_of, turn}
 use Rattle.dependence.specs.Runs.{settles_one}
 use Rattle.task_ast.specs.laws.Threads.{MayBegin, HasBegun, with_child, ahead}
 use Rattle.task_ast.specs.laws.Standing.{IsIssuedBy}
-use Rattle.task_ast.specs.Plain.{tree_machine, foot_of, start_point, task_at}
+use Rattle.task_ast.specs.Plain.{tree_machine, lock_foot_of, start_point, task_at}
 use Rattle.task_code.specs.Reading.{start_place}
 use Rattle.task_code.proofs.Machines.{follows}
 use Rattle.task_ast.proofs.TurnLaws.{pass_law, ahead_law}
@@ -63,6 +63,7 @@ window_at batch at table next entries store l window =
       placed = window.placed;
       undoable = window.undoable;
       locks = window.locks;
+      ready = window.ready;
       home = record { threads = let h = window.home.threads in omega arith; cells = window.home.cells; under = window.home.under; locks = window.home.locks };
     }
 
@@ -79,6 +80,7 @@ window_slot batch at table entries store window =
       placed = window.placed;
       undoable = histories-fit store (with_thread 0 store) entries (λ e. wider_law store (with_thread 0 store) e (let l = slotted store in omega arith) refl) window.undoable;
       locks = window.locks;
+      ready = window.ready;
       home = record { threads = let l = slotted store in let h = window.home.threads in omega arith; cells = window.home.cells; under = window.home.under; locks = window.home.locks };
     }
 
@@ -257,10 +259,10 @@ module _ (batch : Batch) (table : Table) (places : List Place) (entries : List E
       held_is : prepared.held ≡ issued_is.subthread.held
       held_is = made.held ∙ sym (issued_is.held ∙ ap (λ owners. owned_from 0 owners t) has_begun.owners)
 
-      foot_is : prepared.foot ≡ foot_of issued_is.subthread
-      foot_is =
-          made.foot
-          ∙ (λ i. footprint (sym issued_is.thread i) (sym issued_is.begins i).sync (sym (issued_is.child_is ∙ has_begun.child_is) i) (held_is i))
+      locks_are : prepared.locks ≡ lock_foot_of issued_is.subthread
+      locks_are =
+          made.locks
+          ∙ (λ i. lock_footprint (sym issued_is.thread i) (sym issued_is.begins i).sync (sym (issued_is.child_is ∙ has_begun.child_is) i) (held_is i))
 
       first : IsFirst (run_in batch) issued entry
       first =
@@ -272,12 +274,12 @@ module _ (batch : Batch) (table : Table) (places : List Place) (entries : List E
               begins = sym issued_is.begins;
               child = sym issued_is.child_is;
               held = held_is;
-              foot = foot_is;
+              locks = locks_are;
             };
             position = refl;
             attempt = refl;
             begun = refl;
-            fresh = record { waits = refl; no_history = refl; no_lines = refl };
+            fresh = record { waits = refl; unknown = refl; no_history = refl; no_lines = refl };
           }
 
       placed : IsPlaced batch entry
@@ -355,6 +357,7 @@ module _ (batch : Batch) (parts : Parts) (kept : Kept batch parts) (t : ℕ) (ne
         allowed = subst (λ q. Allowed (dependence_in batch) batch.faults (stage_of batch parts.events.items) (event.Issue q)) (sym (p_is ∙ kept.journal.issued_are))
             (may_issue batch (IsPlaceIn batch) (stage_of batch parts.events.items) parts.ring.table parts.places.items kept.ring t next child after is none_due
             (settles_alone batch parts.ring.table parts.places.items parts.rol.entries parts.store parts.events.items parts.restarts.items parts.issued parts.ended kept t next child after is alone none lets));
+        waited = tt;
         grown = λ i. record { batch = batch; events = (pushed.events ∙ ap (λ q. parts.events.items ++ event.Issue q ∷ []) (sym p_is)) i; ended = pushed.ended i };
       }
 

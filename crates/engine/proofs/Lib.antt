@@ -15,14 +15,17 @@ pub mod Options
 pub mod Outcomes
 pub mod Posted
 pub mod Progress
+pub mod Ready
 pub mod RingIssues
 pub mod RingOpens
 pub mod RingTakes
 pub mod Retired
+pub mod Scouting
 pub mod Settling
 pub mod Struck
 pub mod Taken
 pub mod Tasks
 pub mod Turns
+pub mod UnderLocks
 pub mod Windows
 pub mod Written

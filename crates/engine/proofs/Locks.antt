@@ -1,34 +1,32 @@
 -- A lock is away exactly where an entry that is out holds it.
-use Rattle.std.proofs.Common.{◌≡◌, ◌⊎◌, inl, inr, ℕ, ℤ, suc, ◌+◌, ◌<◌, Bool, true, false, cond, nat_eq, List, [], ◌∷◌, ◌++◌, length, map, get_or, Contains, Option, Some, None, refl, sym, ap, subst, ◌∙◌, arith, slice_get, ◌==◌}
+use Rattle.std.proofs.Common.{◌≡◌, ◌⊎◌, inl, inr, ℕ, ℤ, suc, ◌+◌, ◌<◌, Bool, true, false, cond, nat_eq, List, [], ◌∷◌, ◌++◌, length, get_or, Contains, Option, Some, None, refl, sym, ap, subst, ◌∙◌, arith, slice_get, ◌==◌}
 use Rattle.std.specs.Prelude.{All, option_map}
 use Rattle.std.specs.List.{list_any}
 use Rattle.std.specs.List.Sorted.{IsStrictlyIncreasing}
 use Rattle.std.specs.Option.{option_or}
 use Rattle.std.specs.Bool.{Decides}
 use Rattle.std.proofs.lemmas.Bool.{cases_lt, eqb-true, eqb-false, eq-eqb, ne_eqb, false≢true, false_from_ne_true}
-use Rattle.std.proofs.lemmas.List.{length-map, get_or-map}
-use Rattle.std.proofs.lemmas.List.Elements.{All-nil, All-cons, All-contains, Contains-append_right}
+use Rattle.std.proofs.lemmas.List.Elements.{All-nil, All-cons, All-contains}
 use Rattle.std.proofs.lemmas.Option.{slice_get_within, slice_get-get_or, get_or_from_slice_get}
 use Rattle.gp_base.specs.declared.fault.Fault.{Fault}
 use Rattle.gp_base.specs.declared.footprint.Loc.TheVariants as loc
-use Rattle.task_ast.specs.Footprint.{child_registers}
 use Rattle.task_ast.specs.Names.{locks_of, cells_in}
-use Rattle.task_ast.specs.Plain.{Subthread, foot_of, tree_machine}
+use Rattle.task_ast.specs.Plain.{Subthread, tree_machine}
 use Rattle.task_ast.specs.Position.{before}
 use Rattle.task_ast.specs.Table.{owned_from}
 use Rattle.task_ast.proofs.Positions.{step_is}
 use Rattle.lock_checker.proofs.LocksHeld.{before_stands}
-use Rattle.dependence.specs.Conflict.{Conflict, foot_at}
+use Rattle.dependence.specs.Conflict.{Conflict, clash_in}
 use Rattle.dependence.specs.Dependents.{is_member}
 use Rattle.dependence.specs.Journal.{Stage}
 use Rattle.dependence.specs.JournalTests.{same_attempt}
 use Rattle.dependence.specs.Standing.{present, StageStands}
-use Rattle.dependence.specs.Runs.{dependence_of, feet_of}
+use Rattle.dependence.specs.Posting.{OutReady}
+use Rattle.dependence.specs.RunBuffer.{IsOut}
+use Rattle.dependence.specs.Runs.{dependence_of, lock_feet_of}
 use Rattle.dependence.proofs.Auditing.{contains-decides}
 use Rattle.task_ast.specs.declared.effect.Effect.{Effect}
-use Rattle.dependence.proofs.Conflicting.{conflicting-is}
 use Rattle.dependence.proofs.DependentSets.{is_member-is}
-use Rattle.dependence.proofs.Struck.{Contains-later}
 use Rattle.record_store.specs.Lent.{marked}
 use Rattle.reorder_list.specs.declared.entry.Entry.{Entry}
 use Rattle.reorder_list.specs.declared.entry.State.{State}
@@ -37,12 +35,13 @@ use Rattle.reorder_list.specs.Entries.{IsFresh, entry_at, with_change, with_chan
 use Rattle.reorder_list.specs.Runnable.{IsRunnable}
 use Rattle.reorder_list.specs.Stages.{EntriesStand}
 use Rattle.reorder_list.proofs.Changes.{KeepsPosition, changed_where, changed, pushed, from-first}
-use Rattle.reorder_list.proofs.Staged.{changed-there, foot-is}
+use Rattle.reorder_list.proofs.Staged.{changed-there}
 use Rattle.subthread.proofs.HeldLocks.{owned_increasing}
 use Rattle.engine.specs.View.{Batch, program_in, run_in}
 use Rattle.engine.specs.inner.Kept.{IsFit}
 use Rattle.engine.specs.inner.Locks.{IsLent, LocksStand, HasLocks}
 use Rattle.engine.proofs.Marks.{marked-in, marked-out}
+use Rattle.engine.proofs.UnderLocks.{writes-lock, one-lock, out-apart}
 
 -- an attempt is in one state
 out-applied : {s : State} → s ≡ Out → s ≡ Applied → ⊥
@@ -86,28 +85,14 @@ held-rises batch p s there =
 
 -- ---- entries that hold the same lock
 
-lock-location : (held : List ℕ) (l : ℕ) → Contains held l → Contains (map loc.Lock held) (loc.Lock l)
-lock-location held l c = (c.0, (let less = c.1 in let same = length-map held loc.Lock in omega arith), get_or-map loc.Lock held c.0 l (loc.Lock l) c.1 ∙ ap loc.Lock c.2)
-
-writes-lock : (s : Subthread) (l : ℕ) → Contains s.held l → Contains (foot_of s).writes (loc.Lock l)
-writes-lock s l there =
-    Contains-later (loc.Regs s.thread) (child_registers s.child ++ map loc.Lock s.held) (loc.Lock l)
-    (Contains-append_right (child_registers s.child) (map loc.Lock s.held) (loc.Lock l) (lock-location s.held l there))
-
 module _ (run : List Subthread) (at : Stage) (entries : List Entry) (stand : EntriesStand run at entries) where
-  entry-writes : (p l : ℕ) (x : Entry) → entry_at entries p ≡ Some x → Contains x.held l → Contains x.foot.writes (loc.Lock l)
+  entry-writes : (p l : ℕ) (x : Entry) → entry_at entries p ≡ Some x → Contains x.held l → Contains x.locks.writes (loc.Lock l)
   entry-writes p l x there holds =
       let is = stand.each p x there in
-      subst (λ f. Contains f.writes (loc.Lock l)) (sym is.is_of.foot) (writes-lock is.subthread l (subst (λ held. Contains held l) is.is_of.held holds))
+      subst (λ f. Contains f.writes (loc.Lock l)) (sym is.is_of.locks) (writes-lock is.subthread l (subst (λ held. Contains held l) is.is_of.held holds))
 
-  both-write : (p q l : ℕ) (x y : Entry) → entry_at entries p ≡ Some x → entry_at entries q ≡ Some y → Contains x.held l → Contains y.held l → Conflict x.foot y.foot
+  both-write : (p q l : ℕ) (x y : Entry) → entry_at entries p ≡ Some x → entry_at entries q ≡ Some y → Contains x.held l → Contains y.held l → Conflict x.locks y.locks
   both-write p q l x y x_there y_there x_holds y_holds = inl (loc.Lock l, entry-writes p l x x_there x_holds, entry-writes q l y y_there y_holds)
-
-  both-clash : (p q l : ℕ) (x y : Entry) → entry_at entries p ≡ Some x → entry_at entries q ≡ Some y → Contains x.held l → Contains y.held l → (dependence_of run).clash p q ≡ true
-  both-clash p q l x y x_there y_there x_holds y_holds =
-      (conflicting-is (foot_at (feet_of run) p) (foot_at (feet_of run) q)).1
-      (subst (λ f. Conflict f (foot_at (feet_of run) q)) (foot-is run at entries stand p x x_there)
-      (subst (Conflict x.foot) (foot-is run at entries stand q y y_there) (both-write p q l x y x_there y_there x_holds y_holds)))
 
   module _ (faults : List Fault) (stage : StageStands (dependence_of run) faults at) where
     -- an entry that is out was posted
@@ -125,44 +110,55 @@ module _ (run : List Subthread) (at : Stage) (entries : List Entry) (stand : Ent
     pub out-untaken : (q : ℕ) (y : Entry) → entry_at entries q ≡ Some y → y.state ≡ Out → ¬ Contains at.taken (q, present at q)
     out-untaken q y there out taken = out-applied out ((stand.each q y there).applied.1 (stage.taken_applied q taken))
 
-    -- what a later entry that is out holds, an earlier one holds only where it is applied
-    earlier-applied : (p q l : ℕ) (x y : Entry) → p < q → entry_at entries p ≡ Some x → entry_at entries q ≡ Some y → y.state ≡ Out → Contains x.held l → Contains y.held l → x.state ≡ Applied
-    earlier-applied p q l x y less x_there y_there out x_holds y_holds =
-        (stand.each p x x_there).applied.1 (stage.ready q p (out-posted q y y_there out) less (both-clash p q l x y x_there y_there x_holds y_holds))
+    -- so it is an attempt that is out
+    out-is : (q : ℕ) (y : Entry) → entry_at entries q ≡ Some y → y.state ≡ Out → IsOut at q (present at q)
+    out-is q y there out = record { posted = out-posted q y there out; untaken = out-untaken q y there out; present = refl }
 
-    -- of two entries that are out none holds a lock of the other
-    out-alone : (p q l : ℕ) (x y : Entry) → entry_at entries p ≡ Some x → entry_at entries q ≡ Some y → x.state ≡ Out → y.state ≡ Out → Contains x.held l → Contains y.held l → p ≡ q
-    out-alone p q l x y x_there y_there x_out y_out x_holds y_holds =
-        grind (
-          arith,
-          λ (less : p < q). out-applied x_out (earlier-applied p q l x y less x_there y_there y_out x_holds y_holds),
-          λ (less : q < p). out-applied y_out (earlier-applied q p l y x less y_there x_there x_out y_holds x_holds),
-        )
+    -- where all that is in conflict by locks with what is out is applied before it
+    module _ (ready : OutReady (clash_in (lock_feet_of run)) at) where
+      -- of two entries that are out none holds a lock of the other
+      out-alone : (p q l : ℕ) (x y : Entry) → entry_at entries p ≡ Some x → entry_at entries q ≡ Some y → x.state ≡ Out → y.state ≡ Out → Contains x.held l → Contains y.held l → p ≡ q
+      out-alone p q l x y x_there y_there x_out y_out x_holds y_holds =
+          let x_is = stand.each p x x_there in
+          let y_is = stand.each q y y_there in
+          out-apart run faults at stage ready p q (present at p) (present at q) l x_is.subthread y_is.subthread (out-is p x x_there x_out) (out-is q y y_there y_out) x_is.is_there y_is.is_there
+          (subst (λ held. Contains held l) x_is.is_of.held x_holds) (subst (λ held. Contains held l) y_is.is_of.held y_holds)
 
-    -- what an entry that may be posted holds, no entry that is out holds
-    none-out : (p : ℕ) (runnable : IsRunnable entries p) (q l : ℕ) (y : Entry) → Contains runnable.entry.held l → entry_at entries q ≡ Some y → y.state ≡ Out → Contains y.held l → ⊥
-    none-out p runnable q l y holds there out y_holds = elim (cases_lt q p) [
-      | inl less ↦ out-applied out (runnable.ready q y less there (both-write q p l y runnable.entry there runnable.is_there y_holds holds))
-      | inr most ↦ elim (cases_lt p q) [
-        | inl less ↦
-            (let applied = earlier-applied p q l runnable.entry y less runnable.is_there there out holds y_holds in
-            let both = sym applied ∙ runnable.waits in cc both)
-        | inr least ↦ out-waiting out (subst (λ (e : Entry). e.state ≡ Waiting) (one-entry entries p q runnable.entry y runnable.is_there there (omega arith)) runnable.waits)
+      -- what a later entry that is out holds, an earlier one holds only where it is applied
+      earlier-applied : (p q l : ℕ) (x y : Entry) → p < q → entry_at entries p ≡ Some x → entry_at entries q ≡ Some y → y.state ≡ Out → Contains x.held l → Contains y.held l → x.state ≡ Applied
+      earlier-applied p q l x y less x_there y_there out x_holds y_holds =
+          let x_is = stand.each p x x_there in
+          let y_is = stand.each q y y_there in
+          x_is.applied.1
+          (ready q (present at q) p (out-is q y y_there out) less
+          (one-lock run p q l x_is.subthread y_is.subthread x_is.is_there y_is.is_there
+          (subst (λ held. Contains held l) x_is.is_of.held x_holds) (subst (λ held. Contains held l) y_is.is_of.held y_holds)))
+
+      -- what an entry that may be posted holds, no entry that is out holds
+      none-out : (p : ℕ) (runnable : IsRunnable entries p) (q l : ℕ) (y : Entry) → Contains runnable.entry.held l → entry_at entries q ≡ Some y → y.state ≡ Out → Contains y.held l → ⊥
+      none-out p runnable q l y holds there out y_holds = elim (cases_lt q p) [
+        | inl less ↦ out-applied out (runnable.ready q y less there (both-write q p l y runnable.entry there runnable.is_there y_holds holds))
+        | inr most ↦ elim (cases_lt p q) [
+          | inl less ↦
+              (let applied = earlier-applied p q l runnable.entry y less runnable.is_there there out holds y_holds in
+              let both = sym applied ∙ runnable.waits in cc both)
+          | inr least ↦ out-waiting out (subst (λ (e : Entry). e.state ≡ Waiting) (one-entry entries p q runnable.entry y runnable.is_there there (omega arith)) runnable.waits)
+        ]
       ]
-    ]
 
-    module _ (away : List Bool) (locks : LocksStand away entries) where
-      -- the locks of an entry that may be posted are at home
-      pub home-there : (p : ℕ) (runnable : IsRunnable entries p) → HasLocks away runnable.entry → (l : ℕ) → Contains runnable.entry.held l → slice_get away l ≡ Some false
-      home-there p runnable exist l holds = slice_get-get_or away l false (exist l holds) ∙ ap Some (go (get_or away l false) (slice_get-get_or away l false (exist l holds)))
-        where
-          go : (b : Bool) → slice_get away l ≡ Some b → b ≡ false
-          go false is = refl
-          go true is = absurd (let lent = (locks l).0 is in none-out p runnable lent.position l lent.entry holds lent.there lent.out lent.holds)
+      module _ (away : List Bool) (locks : LocksStand away entries) where
+        -- the locks of an entry that may be posted are at home
+        pub home-there : (p : ℕ) (runnable : IsRunnable entries p) → HasLocks away runnable.entry → (l : ℕ) → Contains runnable.entry.held l → slice_get away l ≡ Some false
+        home-there p runnable exist l holds = slice_get-get_or away l false (exist l holds) ∙ ap Some (go (get_or away l false) (slice_get-get_or away l false (exist l holds)))
+          where
+            go : (b : Bool) → slice_get away l ≡ Some b → b ≡ false
+            go false is = refl
+            go true is = absurd (let lent = (locks l).0 is in none-out p runnable lent.position l lent.entry holds lent.there lent.out lent.holds)
 
-      -- those of an entry that is out are away
-      pub away-there : (p : ℕ) (e : Entry) → entry_at entries p ≡ Some e → e.state ≡ Out → (l : ℕ) → Contains e.held l → slice_get away l ≡ Some true
-      away-there p e there out l holds = (locks l).1 (record { position = p; entry = e; there = there; out = out; holds = holds })
+-- the locks of an entry that is out are away
+pub away-there : (entries : List Entry) (away : List Bool) → LocksStand away entries → (p : ℕ) (e : Entry) → entry_at entries p ≡ Some e → e.state ≡ Out
+    → (l : ℕ) → Contains e.held l → slice_get away l ≡ Some true
+away-there entries away locks p e there out l holds = (locks l).1 (record { position = p; entry = e; there = there; out = out; holds = holds })
 
 -- ---- changed entries
 
@@ -245,15 +241,15 @@ locks-sent entries away p e locks there waits exist l = (to, from)
 
 -- a result of the present attempt brings them home
 pub locks-home : (run : List Subthread) (faults : List Fault) (at : Stage) (entries : List Entry) (away : List Bool) (p : ℕ) (e : Entry) (history : Effect) (lines : List (List ℤ))
-    → StageStands (dependence_of run) faults at → EntriesStand run at entries → LocksStand away entries → entry_at entries p ≡ Some e → e.state ≡ Out
+    → StageStands (dependence_of run) faults at → OutReady (clash_in (lock_feet_of run)) at → EntriesStand run at entries → LocksStand away entries → entry_at entries p ≡ Some e → e.state ≡ Out
     → LocksStand (marked e.held false away) (with_change_at p (applied_entry history lines) entries)
-locks-home run faults at entries away p e history lines stage stand locks there out l = (to, from)
+locks-home run faults at entries away p e history lines stage ready stand locks there out l = (to, from)
   where
     test : ℕ → Bool
     test q = nat_eq q p
 
     exist : Contains e.held l → l < length away
-    exist holds = slice_get_within away l true (away-there run at entries stand faults stage away locks p e there out l holds)
+    exist holds = slice_get_within away l true (away-there entries away locks p e there out l holds)
 
     to : slice_get (marked e.held false away) l ≡ Some true → IsLent (with_change_at p (applied_entry history lines) entries) l
     to is = go (is_member l e.held) refl
@@ -274,7 +270,42 @@ locks-home run faults at entries away p e history lines stage stand locks there 
       where
         lacks : (old : IsLent entries l) → (old.position ≡ p → ⊥) → is_member l e.held ≡ false
         lacks old apart = false_from_ne_true (is_member l e.held)
-            (λ among. apart (out-alone run at entries stand faults stage old.position p l old.entry e old.there there old.out out old.holds ((is_member-is l e.held).0 among)))
+            (λ among. apart (out-alone run at entries stand faults stage ready old.position p l old.entry e old.there there old.out out old.holds ((is_member-is l e.held).0 among)))
+
+-- a change that leaves states and locks as they are lends what was lent
+pub locks-kept : (test : ℕ → Bool) (change : Entry → Entry) (entries : List Entry) (away : List Bool) → KeepsPosition change
+    → ((x : Entry) → (change x).state ≡ x.state) → ((x : Entry) → (change x).held ≡ x.held) → LocksStand away entries → LocksStand away (with_change test change entries)
+locks-kept test change entries away keeps states held locks l = (to, from)
+  where
+    state : (b : Bool) (x : Entry) → (changed_where b change x).state ≡ x.state
+    state true x = states x
+    state false x = refl
+
+    holds : (b : Bool) (x : Entry) → (changed_where b change x).held ≡ x.held
+    holds true x = held x
+    holds false x = refl
+
+    to : slice_get away l ≡ Some true → IsLent (with_change test change entries) l
+    to is =
+        let lent = (locks l).0 is in
+        record {
+          position = lent.position;
+          entry = changed_where (test lent.position) change lent.entry;
+          there = changed test change entries lent.position keeps ∙ ap (option_map (changed_where (test lent.position) change)) lent.there;
+          out = state (test lent.position) lent.entry ∙ lent.out;
+          holds = subst (λ held. Contains held l) (sym (holds (test lent.position) lent.entry)) lent.holds;
+        }
+
+    from : IsLent (with_change test change entries) l → slice_get away l ≡ Some true
+    from lent =
+        let y = changed-there test change entries lent.position lent.entry keeps lent.there in
+        (locks l).1 (record {
+          position = lent.position;
+          entry = y.0;
+          there = y.1;
+          out = sym (state (test lent.position) y.0) ∙ (ap (λ (x : Entry). x.state) (sym y.2) ∙ lent.out);
+          holds = subst (λ held. Contains held l) (ap (λ (x : Entry). x.held) y.2 ∙ holds (test lent.position) y.0) lent.holds;
+        })
 
 -- a restart, which finds all at home, leaves them there
 pub locks-raised : (entries : List Entry) (away : List Bool) (part : ℕ → Bool) (front : ℕ) → LocksStand away entries → All (λ b. b ≡ false) away

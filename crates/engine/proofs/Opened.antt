@@ -27,12 +27,12 @@ use Rattle.reorder_list.specs.declared.entry.Entry.{Entry}
 use Rattle.reorder_list.specs.Stages.{buffer_of}
 use Rattle.subthread.specs.Tasks.{Suits}
 use Rattle.engine.specs.declared.parts.Place.{Place}
-use Rattle.engine.specs.View.{Batch, program_in, run_in, under_in, start_in}
+use Rattle.engine.specs.View.{Batch, program_in, run_in, start_in}
 use Rattle.engine.specs.inner.Kept.{IsPlaceIn, IsFit, Keeps}
 use Rattle.engine.specs.inner.Locks.{LocksStand}
 use Rattle.engine.proofs.Options.{none_some}
 use Rattle.engine.proofs.RingOpens.{ring_opens}
-use Rattle.engine.proofs.Windows.{apart, names-held, start-cells}
+use Rattle.engine.proofs.Windows.{start-cells}
 use Rattle.engine.proofs.Kepts.{keeps_as}
 
 -- where thread 0 starts
@@ -110,11 +110,11 @@ module _ (batch : Batch) (cells : Layout) (suits : Suits batch.work cells batch.
             window = record {
               entries_are = record { row = tt; front = refl; each = λ p e there. absurd (none_some there) };
               buffer_is = subst (RunStands (run_in batch) batch.faults (start_in batch) initial_stage) opens
-                  (after-events (run_in batch) batch.faults (under_in batch) (apart batch (fit ranges few)) (names-held batch (fit ranges few)) (start_in batch)
-                  (start-cells batch (fit ranges few)) (fit ranges few).short [] tt).1;
+                  (after-events (run_in batch) batch.faults (start_in batch) (start-cells batch (fit ranges few)) (fit ranges few).short [] tt).1;
               placed = λ k d l. absurd (omega arith);
               undoable = λ k d l. absurd (omega arith);
               locks = none-lent;
+              ready = λ p attempt q out less clash. absurd (let l = out.posted.1 in omega arith);
               home = record {
                 threads = omega arith;
                 cells = suits.inputs_are.records;

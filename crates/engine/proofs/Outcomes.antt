@@ -20,14 +20,14 @@ use Rattle.subthread.specs.declared.task.Task.{Task}
 use Rattle.crew.specs.Standing.{untaken}
 use Rattle.reorder_list.specs.declared.report.Report.{Report}
 use Rattle.restart_log.specs.Lines.{printed}
-use Rattle.engine.specs.View.{View, program_in, run_in, dependence_in, end_in, under_in, now, state_in, begun, Stands}
+use Rattle.engine.specs.View.{View, program_in, run_in, dependence_in, end_in, now, state_in, begun, Stands}
 use Rattle.engine.specs.Gives.{NoneLent, IsJournalOf, IsReportOf}
 use Rattle.engine.specs.Takes.{CrewStands}
 use Rattle.engine.specs.Drive.{JournalStands, ReportsRun, all_lines, WritesRetired, ArePosts, IsUntaken}
 use Rattle.engine.specs.inner.Rounds.{Wrote, WrotePart}
 use Rattle.dependence.proofs.Standing.{run-clean}
 use Rattle.engine.proofs.Events.{stage-stands}
-use Rattle.engine.proofs.Tasks.{locks-apart, names-held, both-stand}
+use Rattle.engine.proofs.Tasks.{both-stand}
 use Rattle.engine.proofs.Crews.{posts-are, takes-are}
 
 -- a journal of a run that stands
@@ -45,8 +45,7 @@ last-is : (view : View) → Stands view → Complete (dependence_in view.batch) 
     → state_in view ≡ (last_state (program_in view.batch) view.batch.inputs view.batch.limits).state
 last-is view stands complete =
     sym (both-stand view stands).1.state_is
-    ∙ final-state (program_in view.batch) view.batch.inputs view.batch.limits view.batch.faults stands.short (under_in view.batch) view.events
-    (locks-apart view stands) (names-held view stands) complete
+    ∙ final-state (program_in view.batch) view.batch.inputs view.batch.limits view.batch.faults stands.short view.events complete
 
 -- where all have retired nothing is out, so each lock is at home
 pub complete-home : (view : View) → Stands view → Complete (dependence_in view.batch) view.batch.faults view.events → NoneLent view

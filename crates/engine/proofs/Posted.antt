@@ -1,14 +1,15 @@
 -- All is kept where an attempt was posted, and its task stands.
-use Rattle.std.proofs.Common.{◌≡◌, ℕ, nat_eq, Bool, true, false, cond, List, [], ◌∷◌, ◌++◌, Some, refl, sym, ap, ◌∙◌, subst, arith}
+use Rattle.std.proofs.Common.{◌≡◌, ℕ, true, List, [], ◌∷◌, ◌++◌, refl, sym, ap, ◌∙◌, subst, arith}
 use Rattle.std.specs.Prelude.{All, Contains, get_or, pos, negsuc}
 use Rattle.std.specs.List.Sorted.{IsStrictlyIncreasing}
 use Rattle.std.specs.Option.{IsSomeAnd}
-use Rattle.std.proofs.lemmas.List.Elements.{All-head, All-tail, Contains-push, Contains-get_or}
+use Rattle.std.proofs.lemmas.List.Elements.{Contains-push, Contains-get_or}
 use Rattle.gp_base.specs.declared.journal.Event.{Event}
 use Rattle.gp_base.specs.declared.journal.Event.TheVariants as event
 use Rattle.task_ast.specs.declared.sync.SyncOp.{SyncOp}
 use Rattle.task_ast.specs.declared.sync.SyncOp.TheVariants as sync
 use Rattle.task_ast.specs.declared.sync.Next.{Next}
+use Rattle.task_ast.specs.Layout.{layout}
 use Rattle.task_ast.specs.Plain.{Subthread, tree_machine}
 use Rattle.task_ast.specs.Position.{from_in, before}
 use Rattle.task_ast.specs.Fold.{fold}
@@ -19,6 +20,7 @@ use Rattle.task_code.specs.Relation.{Rests}
 use Rattle.dependence.specs.Journal.{Stage, Allowed, happens}
 use Rattle.dependence.specs.Standing.{present, StageStands}
 use Rattle.dependence.specs.RunBuffer.{members_at}
+use Rattle.dependence.proofs.Posting.{post-by-locks, run-within}
 use Rattle.record_store.specs.Given.{given_of, joined_by}
 use Rattle.record_store.specs.Lent.{marked}
 use Rattle.record_store.specs.Stored.{Stored, state_of, IsAtHome}
@@ -26,7 +28,7 @@ use Rattle.reorder_list.specs.declared.entry.Entry.{Entry}
 use Rattle.reorder_list.specs.Entries.{entry_at, with_change_at, out_entry}
 use Rattle.reorder_list.specs.Runnable.{IsRunnable}
 use Rattle.reorder_list.specs.Stages.{IsEntry}
-use Rattle.reorder_list.proofs.Changes.{position-of}
+use Rattle.reorder_list.proofs.Changes.{all-there, position-of}
 use Rattle.reorder_list.proofs.Staged.{is-runnable}
 use Rattle.subthread.specs.declared.task.Task.{Task}
 use Rattle.subthread.specs.Footprints.{IsNumbered}
@@ -35,7 +37,7 @@ use Rattle.subthread.specs.Joining.{IsTaskOf, IsGiven}
 use Rattle.subthread.proofs.Fitted.{fits_law}
 use Rattle.crew.specs.Out.{pair_of}
 use Rattle.engine.specs.declared.parts.Parts.{Parts}
-use Rattle.engine.specs.View.{Batch, program_in, run_in, dependence_in, start_in, grown}
+use Rattle.engine.specs.View.{Batch, program_in, run_in, dependence_in, locks_in, under_in, start_in, grown}
 use Rattle.engine.specs.Gives.{MayPostNow}
 use Rattle.engine.specs.Takes.{TaskStands}
 use Rattle.engine.specs.inner.Kept.{view_of, stage_of, IsPlaceIn, IsPlaced, Keeps, Kept}
@@ -44,16 +46,7 @@ use Rattle.engine.specs.inner.Posted.{bare_in, lent_by, task_in}
 use Rattle.engine.proofs.Kepts.{stage_then, stage_stands, keeps_then}
 use Rattle.engine.proofs.Locks.{held-exist, held-rises, home-there}
 use Rattle.engine.proofs.RingTakes.{ring_same}
-use Rattle.engine.proofs.Windows.{threads-below, window-post}
-
--- what all entries meet, the entry of a position meets
-all-there : (P : Entry → Type 0) (entries : List Entry) (p : ℕ) (e : Entry) → All P entries → entry_at entries p ≡ Some e → P e
-all-there P [] p e all there = absurd (cc there)
-all-there P (x ∷ entries) p e all there = go (all-there P entries p e (All-tail P x entries all)) (nat_eq x.pos p) there
-  where
-    go : (entry_at entries p ≡ Some e → P e) → (b : Bool) → cond b (Some x) (entry_at entries p) ≡ Some e → P e
-    go later true is = subst P (cc is) (All-head P x entries all)
-    go later false is = later is
+use Rattle.engine.proofs.Windows.{threads-below, apart, names-held, window-post}
 
 module _ (batch : Batch) (parts : Parts) (kept : Kept batch parts) (p : ℕ) (may : MayPostNow (view_of batch parts) p) where
   abbrev at : Stage
@@ -110,7 +103,7 @@ module _ (batch : Batch) (parts : Parts) (kept : Kept batch parts) (p : ℕ) (ma
 
   home : All (IsAtHome parts.store) e.held
   home k d less =
-      home-there (run_in batch) at parts.rol.entries kept.window.entries_are batch.faults stage parts.store.away kept.window.locks p runnable exist (get_or e.held k d) (Contains-get_or e.held k d less)
+      home-there (run_in batch) at parts.rol.entries kept.window.entries_are batch.faults stage kept.window.ready parts.store.away kept.window.locks p runnable exist (get_or e.held k d) (Contains-get_or e.held k d less)
 
   rising : IsStrictlyIncreasing e.held
   rising = subst IsStrictlyIncreasing (sym is.is_of.held) (held-rises batch p s is.is_there)
@@ -135,13 +128,16 @@ module _ (batch : Batch) (parts : Parts) (kept : Kept batch parts) (p : ℕ) (ma
   is-given = ap (λ under. given_of under (state_of parts.store) e.thread (joined_by e.begins.sync) e.held) kept.window.home.under
 
   fits-it : Fits batch.work task
-  fits-it = fits_law batch.work batch.inputs batch.limits p s task (state_of parts.store) is-task is-given
+  fits-it = fits_law batch.work (layout (program_in batch).heads) batch.inputs batch.limits kept.fit.suits p s task (state_of parts.store) is-task is-given
 
   abbrev post : Event
   post = event.Post p (present at p)
 
-  allowed : Allowed (dependence_in batch) batch.faults at post
-  allowed = may
+  -- what has waited by locks has waited
+  pub allowed : Allowed (dependence_in batch) batch.faults at post
+  allowed =
+      post-by-locks (dependence_in batch) (locks_in batch) at p (present at p)
+      (run-within (under_in batch) (run_in batch) (apart batch kept.fit) (names-held batch kept.fit)) may
 
   -- the task stands once it is posted
   task-stands : TaskStands (grown (view_of batch parts) post) task
@@ -165,7 +161,7 @@ module _ (batch : Batch) (parts : Parts) (kept : Kept batch parts) (p : ℕ) (ma
   kept-posted =
       keeps_then batch parts.events.items kept.fit kept.journal post allowed parts.ring.table parts.places.items (with_change_at p out_entry parts.rol.entries) lender parts.restarts.items parts.issued
       parts.ended (ring_same batch (IsPlaceIn batch) at (happens (dependence_in batch) batch.faults at post) parts.ring.table parts.places.items refl refl kept.ring)
-      (window-post batch kept.fit at stage parts.ring.table parts.store parts.rol.entries kept.window p (present at p) allowed e runnable.is_there runnable.waits exist) kept.journal.restarts_are kept.journal.issued_are kept.journal.ended_is
+      (window-post batch kept.fit at stage parts.ring.table parts.store parts.rol.entries kept.window p (present at p) allowed may e runnable.is_there runnable.waits exist) kept.journal.restarts_are kept.journal.issued_are kept.journal.ended_is
 
   -- the same of the task that was found, and of the events that were made
   module _ (found : Task) (some : IsSomeAnd (entry_at parts.rol.entries p) (λ x. found ≡ bare_in batch.faults parts.store p x)) where

@@ -91,7 +91,7 @@ module _ (view : View) (stands : Stands view) (none : NoneToPost view 0) (home :
   all-applied p below = all-below (suc p) p (omega arith) below
 
   -- so no thread waits for a result
-  none-awaited : (q : ℕ) → q < (now view).progress.front → WasTaken (now view) q
+  pub none-awaited : (q : ℕ) → q < (now view).progress.front → WasTaken (now view) q
   none-awaited q below = applied-taken view q (all-applied q below)
 
 -- no fault is due where no position is struck

@@ -1,6 +1,6 @@
 -- All is kept where the run of a task was taken.
 use Rattle.std.proofs.Common.{◌≡◌, inl, inr, ℕ, nat_eq, Bool, true, false, cond, ◌<◌, ◌≤◌, List, [], ◌∷◌, ◌++◌, length, Option, Some, None, refl, sym, ap, ◌∙◌, subst, arith, slice_get, slice_set}
-use Rattle.std.specs.Prelude.{Contains, All, map}
+use Rattle.std.specs.Prelude.{Contains, All, map, option_map}
 use Rattle.std.specs.Option.{IsSomeAnd}
 use Rattle.std.proofs.lemmas.Bool.{eqb-true, eq-eqb, false≢true, false_from_ne_true, cases_lt}
 use Rattle.gp_base.specs.declared.journal.Event.{Event}
@@ -26,9 +26,9 @@ use Rattle.record_store.specs.Stored.{Stored, state_of, Fits, IsAway}
 use Rattle.reorder_list.specs.declared.entry.Entry.{Entry}
 use Rattle.reorder_list.specs.declared.entry.State.{State}
 use Rattle.reorder_list.specs.declared.entry.State.TheVariants as entry
-use Rattle.reorder_list.specs.Entries.{entry_at}
+use Rattle.reorder_list.specs.Entries.{entry_at, with_change_at, known_entry}
 use Rattle.reorder_list.specs.Stages.{IsEntry}
-use Rattle.reorder_list.proofs.Changes.{is-there}
+use Rattle.reorder_list.proofs.Changes.{changed_where, changed, is-there}
 use Rattle.subthread.specs.declared.task.Done.{Done}
 use Rattle.subthread.specs.Tasks.{task_of, effect_of, IsRun}
 use Rattle.subthread.specs.Joining.{Runs, IsGiven}
@@ -56,6 +56,16 @@ number-is p (Some q) e = ap Some (eqb-true q p e)
 number-not : (p : ℕ) (o : Option ℕ) → is_number p o ≡ false → o ≡ Some p → ⊥
 number-not p None e same = absurd (cc same)
 number-not p (Some q) e same = absurd (let is : q ≡ p = cc same in let yes = eq-eqb q p is in cc (e, yes))
+
+-- where a position has no entry, no entry is changed
+pub none-changed : (p : ℕ) (change : Entry → Entry) (entries : List Entry) → entry_at entries p ≡ None → with_change_at p change entries ≡ entries
+none-changed p change [] none = refl
+none-changed p change (x ∷ entries) none = go (nat_eq x.pos p) none (none-changed p change entries)
+  where
+    go : (b : Bool) → cond b (Some x) (entry_at entries p) ≡ None → (entry_at entries p ≡ None → with_change_at p change entries ≡ entries)
+        → cond b (change x) x ∷ with_change_at p change entries ≡ x ∷ entries
+    go true is rest = absurd (cc is)
+    go false is rest = λ i. x ∷ rest is i
 
 -- an attempt that was posted and is not applied is out
 pub state-out : (state : State) → (state ≡ entry.Waiting → ⊥) → (state ≡ entry.Applied → ⊥) → state ≡ entry.Out
@@ -161,8 +171,14 @@ module _ (batch : Batch) (parts : Parts) (kept : Kept batch parts) (done : Done)
         state-out here.state (λ w. stands.waits.0 w posted)
         (λ a. task.untaken (subst (λ b. Contains at.taken (p, b)) (sym now_present) (stage.applied_taken p (stands.applied.0 a) posted)))
 
-    pub out : IsSomeAnd (entry_at parts.rol.entries p) (λ e. e.state ≡ entry.Out)
-    out = subst (λ o. IsSomeAnd o (λ (x : Entry). x.state ≡ entry.Out)) (sym here-is) is-out
+    -- so it is once it is known what it touches
+    known-there : entry_at (with_change_at p (known_entry done.foot) parts.rol.entries) p ≡ Some (known_entry done.foot here)
+    known-there =
+        changed (λ q. nat_eq q p) (known_entry done.foot) parts.rol.entries p (λ x. refl) ∙ (ap (option_map (changed_where (nat_eq p p) (known_entry done.foot))) here-is
+        ∙ ap (λ b. Some (changed_where b (known_entry done.foot) here)) (eq-eqb p p refl))
+
+    pub out : IsSomeAnd (entry_at (with_change_at p (known_entry done.foot) parts.rol.entries) p) (λ e. e.state ≡ entry.Out)
+    out = subst (λ o. IsSomeAnd o (λ (x : Entry). x.state ≡ entry.Out)) (sym known-there) is-out
 
     -- the task was given what the store gives
     given : IsGiven batch.work batch.inputs batch.limits (task_of batch.work done) (state_of parts.store)
@@ -187,7 +203,7 @@ module _ (batch : Batch) (parts : Parts) (kept : Kept batch parts) (done : Done)
     came-away : All (λ b. IsAway parts.store (lock_in b)) done.task.given.bundles
     came-away =
         all-locks (IsAway parts.store) done.task.given.bundles
-        (λ l among. away-there (run_in batch) at parts.rol.entries kept.window.entries_are batch.faults stage parts.store.away kept.window.locks p here here-is is-out l
+        (λ l among. away-there parts.rol.entries parts.store.away kept.window.locks p here here-is is-out l
         (subst (λ ls. Contains ls l) locks-held among))
 
     came-as-lent : put_back under done.old done.task.given.bundles
@@ -245,18 +261,18 @@ module _ (batch : Batch) (parts : Parts) (kept : Kept batch parts) (done : Done)
         go false = refl
 
     window-then : (store : Stored) (entries : List Entry) (applies : Bool) → Allowed (dependence_in batch) batch.faults at (event.Take p attempt applies)
-        → (applies ≡ true → fresh ≡ true) → IsAppliedWhere applies p locks (effect_of batch.work done) parts.store store parts.rol.entries entries
+        → (applies ≡ true → fresh ≡ true) → IsAppliedWhere applies p locks (effect_of batch.work done) parts.store store (with_change_at p (known_entry done.foot) parts.rol.entries) entries
         → WindowStands batch (happens (dependence_in batch) batch.faults at (event.Take p attempt applies)) (learning_from p t next parts.ring.table) entries store
     window-then store entries false may is applied =
         subst (λ later. WindowStands batch (happens (dependence_in batch) batch.faults at (event.Take p attempt false)) (learning_from p t next parts.ring.table) entries later) (sym applied.0)
         (subst (λ others. WindowStands batch (happens (dependence_in batch) batch.faults at (event.Take p attempt false)) (learning_from p t next parts.ring.table) others parts.store) (sym applied.1)
-        (window-stale batch kept.fit at stage parts.ring.table parts.store parts.rol.entries kept.window p attempt may (learning_from p t next parts.ring.table) home))
+        (window-stale batch kept.fit at stage parts.ring.table parts.store parts.rol.entries kept.window p attempt s done.foot there runs.foot may (learning_from p t next parts.ring.table) home))
       where
         home : IsHome batch (learning_from p t next parts.ring.table) parts.store
         home = record { threads = (let many = kept.window.home.threads in let same = seats-then in omega arith); cells = kept.window.home.cells; under = kept.window.home.under; locks = kept.window.home.locks }
     window-then store entries true may is applied =
         subst (λ others. WindowStands batch (happens (dependence_in batch) batch.faults at (event.Take p attempt true)) (learning_from p t next parts.ring.table) others store) (sym applied.entries_are)
-        (window-take batch kept.fit at stage parts.ring.table parts.store parts.rol.entries kept.window p attempt may (here (is refl)) (here-is (is refl)) (is-out (is refl)) (effect_of batch.work done) effect_is
+        (window-take batch kept.fit at stage parts.ring.table parts.store parts.rol.entries kept.window p attempt s done.foot there runs.foot may (here (is refl)) (here-is (is refl)) (is-out (is refl)) (effect_of batch.work done) effect_is
         (learning_from p t next parts.ring.table) store home applied.state applied.shape (applied.away ∙ ap (λ ls. marked ls false parts.store.away) (locks-held (is refl))) applied.back)
       where
         present_is : attempt ≡ present at p
@@ -278,15 +294,19 @@ module _ (batch : Batch) (parts : Parts) (kept : Kept batch parts) (done : Done)
             }
 
     -- all is kept
-    pub kept-taken : (answer : Bool) → answer ≡ fresh → (table : Table) (places : List Place) (entries : List Entry) (store : Stored) (events : List Event)
+    pub kept-taken : (answer : Bool) → answer ≡ fresh → (table : Table) (places : List Place) (known entries : List Entry) (store : Stored) (events : List Event)
         → table ≡ learning_from p t next parts.ring.table → places ≡ placing_from p t place parts.ring.table parts.places.items
-        → IsAppliedWhere answer p locks (whole_effect parts.store.under done.task.given.bundles done.old done.effect) parts.store store parts.rol.entries entries → events ≡ parts.events.items ++ event.Take p attempt answer ∷ []
+        → known ≡ with_change_at p (known_entry done.foot) parts.rol.entries
+        → IsAppliedWhere answer p locks (whole_effect parts.store.under done.task.given.bundles done.old done.effect) parts.store store known entries → events ≡ parts.events.items ++ event.Take p attempt answer ∷ []
         → Keeps batch table places entries store events parts.restarts.items parts.issued parts.ended
-    kept-taken answer is table places entries store events table_is places_is applied events_is =
+    kept-taken answer is table places known entries store events table_is places_is known_is applied events_is =
         rw (table_is, places_is, events_is, is)
         (keeps_then batch parts.events.items kept.fit kept.journal (event.Take p attempt fresh) allowed (learning_from p t next parts.ring.table)
         (placing_from p t place parts.ring.table parts.places.items) entries store parts.restarts.items parts.issued parts.ended (ring-then fresh)
         (window-then store entries fresh allowed (λ e. e)
-        (subst (λ u. IsAppliedWhere fresh p locks (whole_effect u done.task.given.bundles done.old done.effect) parts.store store parts.rol.entries entries) under-is
-        (subst (λ b. IsAppliedWhere b p locks (whole_effect parts.store.under done.task.given.bundles done.old done.effect) parts.store store parts.rol.entries entries) is applied)))
+        (subst (λ u. IsAppliedWhere fresh p locks (whole_effect u done.task.given.bundles done.old done.effect) parts.store store (with_change_at p (known_entry done.foot) parts.rol.entries) entries)
+        under-is
+        (subst (λ b. IsAppliedWhere b p locks (whole_effect parts.store.under done.task.given.bundles done.old done.effect) parts.store store
+        (with_change_at p (known_entry done.foot) parts.rol.entries) entries) is
+        (subst (λ others. IsAppliedWhere answer p locks (whole_effect parts.store.under done.task.given.bundles done.old done.effect) parts.store store others entries) known_is applied))))
         kept.journal.restarts_are kept.journal.issued_are kept.journal.ended_is)

@@ -5,19 +5,21 @@ use Rattle.std.specs.Result.{OnOk, OnErr}
 use Rattle.std.proofs.lemmas.Bool.{cases_lt, false≢true}
 use Rattle.std.proofs.lemmas.List.Elements.{Contains-push, Contains-append_left}
 use Rattle.gp_base.specs.declared.ending.End.{End}
+use Rattle.gp_base.specs.declared.journal.Event.{Event}
 use Rattle.gp_base.specs.declared.journal.Event.TheVariants as event
 use Rattle.gp_base.specs.Sinks.{Rose}
 use Rattle.task_ast.specs.Position.{last_below, is_of}
 use Rattle.task_ast.specs.Plain.{Subthread}
 use Rattle.dependence.specs.Restarts.{Dependence, is_due, is_live, least_struck, struck_next}
 use Rattle.dependence.specs.Journal.{Stage, restarted, MayPost, happens}
+use Rattle.dependence.specs.Posting.{posting_of}
 use Rattle.dependence.specs.Standing.{present}
 use Rattle.subthread.specs.declared.task.Task.{Task}
 use Rattle.subthread.specs.declared.task.Work.{Work}
 use Rattle.engine.specs.declared.calls.Issued.{Issued}
 use Rattle.engine.specs.declared.calls.Issued.TheVariants.{One, Needs, Settles, Ended}
 use Rattle.engine.specs.declared.calls.Halt.TheVariants as halt
-use Rattle.engine.specs.View.{View, run_in, dependence_in, now, is_known, Stands}
+use Rattle.engine.specs.View.{View, run_in, dependence_in, now, ended_after, grown, Stands}
 use Rattle.engine.specs.Gives.{Did, IssueGives, struck_now, NoneLent, DetectGives, MayRetireNow, RetireGives, MayPostNow, IsNextToPost, NoneToPost}
 use Rattle.engine.specs.Takes.{CrewStands}
 use Rattle.engine.specs.inner.Rounds.{left, Onward, Agrees, Leaves, IsQuiet, IsIssued, TakeGives}
@@ -105,13 +107,18 @@ pub lent-leaves : (before after : View) (b : Bool) → ¬ NoneLent before → Ta
 lent-leaves before after true lent less = less
 lent-leaves before after false lent idle = absurd (lent (λ p s there posted untaken. absurd (untaken (idle.1 (p, present (now before) p) posted))))
 
--- a take makes nothing due, and nothing undue
-pub taken-struck : (before after : View) (p attempt : ℕ) (applies : Bool) → Did before (event.Take p attempt applies) after → struck_now after ≡ struck_now before
-taken-struck before after p attempt applies did =
+-- what neither issues nor restarts makes nothing due, and nothing undue
+pub struck-kept : (before after : View) (e : Event) → Did before e after
+    → (happens (dependence_in before.batch) before.batch.faults (now before) e).progress ≡ (now before).progress
+    → ended_after e before.ended ≡ before.ended → struck_now after ≡ struck_now before
+struck-kept before after e did progress ended =
     subst (λ v. struck_now v ≡ struck_now before) (sym did.grown)
-    (ap
-    (λ (at : Stage). option_or (least_struck (is_due at.progress) before.batch.faults) (cond (is_known before) (least_struck (is_live at.progress) before.batch.faults) None))
-    (now-grown before (event.Take p attempt applies)))
+    (λ i.
+    option_or (least_struck (is_due (still i)) before.batch.faults)
+    (cond (is_some (ended i)) (least_struck (is_live (still i)) before.batch.faults) None))
+  where
+    still : (now (grown before e)).progress ≡ (now before).progress
+    still = ap (λ (at : Stage). at.progress) (now-grown before e) ∙ progress
 
 -- a retirement
 pub retired : (before after : View) (b : Bool) → Stands before → RetireGives before after b → GoesOn before after
@@ -189,10 +196,12 @@ may-before before after p q did may = (
       (Contains-push (now before).posted (p, present (now before) p))),
 )
   where
-    moved : MayPost (dependence_in before.batch) (happens (dependence_in before.batch) before.batch.faults (now before) (event.Post p (present (now before) p))) q (present (now before) q)
+    moved : MayPost (posting_of (run_in before.batch))
+        (happens (dependence_in before.batch) before.batch.faults (now before) (event.Post p (present (now before) p))) q (present (now before) q)
     moved =
-        subst (λ at. MayPost (dependence_in before.batch) at q (present at q)) (now-did before after (event.Post p (present (now before) p)) did)
-        (subst (λ batch. MayPost (dependence_in batch) (now after) q (present (now after) q)) (ap (λ v. v.batch) did.grown) may)
+        subst (λ at. MayPost (posting_of (run_in before.batch)) at q (present at q))
+        (now-did before after (event.Post p (present (now before) p)) did)
+        (subst (λ batch. MayPost (posting_of (run_in batch)) (now after) q (present (now after) q)) (ap (λ v. v.batch) did.grown) may)
 
 -- where none before the position might be posted, none before or at it may be after its post
 abbrev pub NoneBefore : View → ℕ → Type 0

@@ -1,7 +1,9 @@
 -- The entries and the store after each event.
-use Rattle.std.proofs.Common.{◌≡◌, ℕ, zero, suc, nat_eq, true, false, get_or, Bool, ◌+◌, ◌-◌, ◌<◌, ◌≤◌, List, [], ◌∷◌, ◌++◌, length, Option, Some, None, refl, sym, ap, ◌∙◌, subst, arith, slice_get}
-use Rattle.std.specs.Prelude.{IfSome}
+use Rattle.std.proofs.Common.{◌≡◌, ℕ, ℤ, zero, suc, nat_eq, true, false, get_or, Bool, ◌+◌, ◌-◌, ◌<◌, ◌≤◌, List, [], ◌∷◌, ◌++◌, length, Option, Some, None, refl, sym, ap, ◌∙◌, subst, arith, slice_get}
+use Rattle.std.specs.Prelude.{All, IfSome, option_map}
+use Rattle.std.proofs.lemmas.Bool.{eq-eqb}
 use Rattle.std.proofs.lemmas.List.Elements.{All-push, All-tail}
+use Rattle.gp_base.specs.declared.footprint.Footprint.{Footprint}
 use Rattle.gp_base.specs.declared.journal.Event.{Event}
 use Rattle.gp_base.specs.declared.journal.Event.TheVariants as event
 use Rattle.task_ast.specs.declared.effect.Effect.{Effect}
@@ -13,7 +15,7 @@ use Rattle.task_ast.specs.Members.{member_of}
 use Rattle.task_ast.specs.laws.Keeps.{AllName}
 use Rattle.task_ast.specs.Under.{is_under, NamesHeld}
 use Rattle.task_ast.specs.Table.{Table}
-use Rattle.task_ast.specs.Plain.{Subthread, tree_machine}
+use Rattle.task_ast.specs.Plain.{Subthread, foot_of, tree_machine}
 use Rattle.task_ast.specs.Position.{threads_before}
 use Rattle.task_ast.specs.laws.Threads.{with_child}
 use Rattle.task_ast.specs.laws.Standing.{Stands}
@@ -23,6 +25,7 @@ use Rattle.task_ast.proofs.Standings.{agrees}
 use Rattle.dependence.specs.Dependents.{is_member}
 use Rattle.dependence.specs.Restarts.{mask_of, struck_next}
 use Rattle.dependence.specs.Journal.{Stage, Allowed, happens}
+use Rattle.dependence.specs.Posting.{OutReady}
 use Rattle.dependence.specs.Standing.{present, StageStands, NamesIssued}
 use Rattle.dependence.specs.Histories.{HasCells}
 use Rattle.dependence.specs.Touching.{done_by, IsApart}
@@ -39,19 +42,21 @@ use Rattle.record_store.specs.Laws.{IsWithin}
 use Rattle.record_store.proofs.Fitting.{within_law, effect_fits_law, wider_law, fitting_law}
 use Rattle.reorder_list.specs.declared.entry.Entry.{Entry}
 use Rattle.reorder_list.specs.declared.entry.State.TheVariants.{Waiting, Out, Applied}
-use Rattle.reorder_list.specs.Entries.{entry_at, with_change, with_change_at, out_entry, applied_entry, raised_entry, histories_of}
+use Rattle.reorder_list.specs.Entries.{entry_at, with_change, with_change_at, out_entry, known_entry, applied_entry, raised_entry, histories_of}
 use Rattle.reorder_list.specs.Stages.{IsFirst, HistoriesFit, buffer_of}
-use Rattle.reorder_list.proofs.Changes.{all-changed}
+use Rattle.reorder_list.proofs.Changes.{changed_where, changed, all-changed}
 use Rattle.reorder_list.proofs.Staged.{issue-stand, post-stand, take-stand, stale-stand, restart-event, retire-stand}
-use Rattle.reorder_list.proofs.Buffered.{pushed-holds, sent-holds, taken-holds, raised-holds, dropped-holds}
+use Rattle.reorder_list.proofs.Buffered.{pushed-holds, sent-holds, learnt-holds, taken-holds, raised-holds, dropped-holds}
 use Rattle.subthread.specs.declared.task.Done.{Done}
 use Rattle.subthread.specs.Tasks.{task_of, effect_of}
 use Rattle.subthread.specs.Joining.{IsTaskOf, Runs}
-use Rattle.engine.specs.View.{Batch, program_in, run_in, dependence_in, under_in, start_in}
+use Rattle.engine.specs.View.{Batch, program_in, run_in, dependence_in, locks_in, under_in, start_in}
+use Rattle.engine.specs.Gives.{NoneHolds, HasWaited}
 use Rattle.engine.specs.inner.Kept.{IsPlaced, IsFit, IsHome, WindowStands}
 use Rattle.engine.specs.inner.Locks.{LocksStand, HasLocks}
-use Rattle.engine.proofs.Locks.{locks-sent, locks-home, locks-raised, locks-retired, locks-pushed}
+use Rattle.engine.proofs.Locks.{locks-kept, locks-sent, locks-home, locks-raised, locks-retired, locks-pushed}
 use Rattle.engine.proofs.Marks.{length-marked}
+use Rattle.engine.proofs.Ready.{slice_get_inside, stays-ready}
 
 -- what fits a store goes on to fit
 pub histories-fit : (store later : Stored) (entries : List Entry) → ((e : Effect) → Fits store e → Fits later e) → HistoriesFit store entries → HistoriesFit later entries
@@ -61,14 +66,22 @@ histories-fit store later entries wider fit k d l = go (get_or entries k d).hist
     go None f = tt
     go (Some e) f = wider e f
 
+-- whether an entry is known before its result is applied or after
+known-first : (p : ℕ) (foot : Footprint) (history : Effect) (lines : List (List ℤ)) (entries : List Entry)
+    → with_change_at p (applied_entry history lines) (with_change_at p (known_entry foot) entries)
+    ≡ with_change_at p (known_entry foot) (with_change_at p (applied_entry history lines) entries)
+known-first p foot history lines [] = refl
+known-first p foot history lines (x ∷ entries) = λ i. go (nat_eq x.pos p) refl i ∷ known-first p foot history lines entries i
+  where
+    go : (b : Bool) → nat_eq x.pos p ≡ b
+        → changed_where (nat_eq (changed_where b (known_entry foot) x).pos p) (applied_entry history lines) (changed_where b (known_entry foot) x)
+        ≡ changed_where (nat_eq (changed_where b (applied_entry history lines) x).pos p) (known_entry foot) (changed_where b (applied_entry history lines) x)
+    go true here = rw here refl
+    go false apart = rw apart refl
+
 with-child : (child : Option ℕ) (n : ℕ) → n ≤ with_child child n
 with-child None n = omega arith
 with-child (Some c) n = omega arith
-
-slice_get_inside : {X : Type 0} (xs : List X) (k : ℕ) → k < length xs → (x : X) × (slice_get xs k ≡ Some x)
-slice_get_inside [] k l = absurd (omega arith)
-slice_get_inside (x ∷ xs) zero l = (x, refl)
-slice_get_inside (x ∷ xs) (suc k) l = slice_get_inside xs k (omega arith)
 
 -- there are no fewer threads later
 module _ (batch : Batch) where
@@ -110,7 +123,11 @@ module _ (batch : Batch) (fit : IsFit batch) where
       event-buffer : (e : Event) → Allowed (dependence_in batch) batch.faults at e
           → RunStands (run_in batch) batch.faults (start_in batch) (after_event e) (buffer_happens (run_in batch) batch.faults at e (buffer_of store entries))
       event-buffer e allowed =
-          event-stands (run_in batch) batch.faults (under_in batch) apart names-held (start_in batch) start-cells at (buffer_of store entries) stage window.buffer_is e allowed
+          event-stands (run_in batch) batch.faults (start_in batch) start-cells at (buffer_of store entries) stage window.buffer_is e allowed
+
+      -- before what is out all that is in conflict by locks stays applied
+      event-ready : (e : Event) → Allowed (dependence_in batch) batch.faults at e → HasWaited (run_in batch) at e → OutReady (locks_in batch) (after_event e)
+      event-ready e allowed waited = stays-ready (run_in batch) batch.faults at stage e allowed waited window.ready
 
       same-state : (later : Stored) (others : List Entry) → state_of later ≡ state_of store → buffer_of later others ≡ buffer_of store others
       same-state later others state = λ i. record (buffer_of store others) { state = state i }
@@ -130,11 +147,13 @@ module _ (batch : Batch) (fit : IsFit batch) where
                   (histories-fit store later entries (λ x. wider_law store later x wider (home.cells ∙ sym window.home.cells)) window.undoable)
                   (subst (λ (o : Option Effect). IfSome o (Fits later)) (sym first.fresh.no_history) tt);
               locks = subst (λ away. LocksStand away (entries ++ e ∷ [])) (sym away) (locks-pushed entries store.away e window.locks first.fresh);
+              ready = event-ready (event.Issue p) allowed tt;
               home = home;
             }
 
       -- after a post, where the locks of the entry go out
-      module _ (p attempt : ℕ) (allowed : Allowed (dependence_in batch) batch.faults at (event.Post p attempt)) (e : Entry) (there : entry_at entries p ≡ Some e) (waits : e.state ≡ Waiting)
+      module _ (p attempt : ℕ) (allowed : Allowed (dependence_in batch) batch.faults at (event.Post p attempt)) (waited : HasWaited (run_in batch) at (event.Post p attempt)) (e : Entry)
+          (there : entry_at entries p ≡ Some e) (waits : e.state ≡ Waiting)
           (exist : HasLocks store.away e) where
         abbrev lent : Stored
         lent = record store { away = marked e.held true store.away }
@@ -149,19 +168,35 @@ module _ (batch : Batch) (fit : IsFit batch) where
               undoable = all-changed (λ (x : Entry). IfSome x.hist (Fits lent)) (λ (x : Entry). IfSome x.hist (Fits lent)) (λ q. nat_eq q p) out_entry entries (λ x h. h) (λ x h. h)
                   (histories-fit store lent entries (λ x. fitting_law store lent x (record { threads = refl; cells = refl; under = refl })) window.undoable);
               locks = locks-sent entries store.away p e window.locks there waits exist;
+              ready = event-ready (event.Post p attempt) allowed waited;
               home = record { threads = window.home.threads; cells = window.home.cells; under = window.home.under; locks = length-marked e.held true store.away ∙ window.home.locks };
             }
 
+      -- the entries where it is known what the subthread of a position touches
+      module _ (p : ℕ) (foot : Footprint) where
+        abbrev known : List Entry
+        known = with_change_at p (known_entry foot) entries
+
+        known-placed : All (IsPlaced batch) known
+        known-placed = all-changed (IsPlaced batch) (IsPlaced batch) (λ q. nat_eq q p) (known_entry foot) entries (λ x h. h) (λ x h. h) window.placed
+
+        known-undoable : HistoriesFit store known
+        known-undoable =
+            all-changed (λ (x : Entry). IfSome x.hist (Fits store)) (λ (x : Entry). IfSome x.hist (Fits store)) (λ q. nat_eq q p) (known_entry foot) entries (λ x h. h) (λ x h. h) window.undoable
+
       -- after a result of another attempt
-      pub window-stale : (p attempt : ℕ) → Allowed (dependence_in batch) batch.faults at (event.Take p attempt false) → (next : Table) → IsHome batch next store
-          → WindowStands batch (after_event (event.Take p attempt false)) next entries store
-      window-stale p attempt allowed next home =
+      pub window-stale : (p attempt : ℕ) (s : Subthread) (foot : Footprint) → slice_get (run_in batch) p ≡ Some s → foot ≡ foot_of s
+          → Allowed (dependence_in batch) batch.faults at (event.Take p attempt false) → (next : Table) → IsHome batch next store
+          → WindowStands batch (after_event (event.Take p attempt false)) next (with_change_at p (known_entry foot) entries) store
+      window-stale p attempt s foot there foot_is allowed next home =
           record {
-            entries_are = stale-stand (run_in batch) at entries window.entries_are batch.faults p attempt;
-            buffer_is = event-buffer (event.Take p attempt false) allowed;
-            placed = window.placed;
-            undoable = window.undoable;
-            locks = window.locks;
+            entries_are = stale-stand (run_in batch) at entries window.entries_are batch.faults p attempt s foot there foot_is;
+            buffer_is = subst (λ b. RunStands (run_in batch) batch.faults (start_in batch) (after_event (event.Take p attempt false)) b)
+                (sym (learnt-holds store entries p foot)) (event-buffer (event.Take p attempt false) allowed);
+            placed = known-placed p foot;
+            undoable = known-undoable p foot;
+            locks = locks-kept (λ q. nat_eq q p) (known_entry foot) entries store.away (λ x. refl) (λ x. refl) (λ x. refl) window.locks;
+            ready = event-ready (event.Take p attempt false) allowed tt;
             home = home;
           }
 
@@ -201,36 +236,44 @@ module _ (batch : Batch) (fit : IsFit batch) where
             ∙ ap (λ o. done_by (member_of (mask_of batch.faults p (present at p)) o) (state_of store)) (sym there)
 
       -- after a result of the present attempt
-      module _ (p attempt : ℕ) (allowed : Allowed (dependence_in batch) batch.faults at (event.Take p attempt true)) (e : Entry) (there : entry_at entries p ≡ Some e) (out : e.state ≡ Out) (done : Effect)
+      module _ (p attempt : ℕ) (s : Subthread) (foot : Footprint) (position : slice_get (run_in batch) p ≡ Some s) (foot_is : foot ≡ foot_of s) (allowed : Allowed (dependence_in batch) batch.faults at (event.Take p attempt true)) (e : Entry) (there : entry_at entries p ≡ Some e) (out : e.state ≡ Out) (done : Effect)
           (fresh : done ≡ done_by (members_at (run_in batch) batch.faults at p) (state_of store)) (next : Table) (later : Stored) (home : IsHome batch next later)
           (state : state_of later ≡ after done (state_of store)) (shape : SameShape store later) (away : later.away ≡ marked e.held false store.away)
           (back : Fits later (old_of done (state_of store))) where
         abbrev taken : Entry → Entry
         taken = applied_entry (old_of done (state_of store)) done.prints
 
-        pub window-take : WindowStands batch (after_event (event.Take p attempt true)) next (with_change_at p taken entries) later
+        pub window-take : WindowStands batch (after_event (event.Take p attempt true)) next (with_change_at p taken (with_change_at p (known_entry foot) entries)) later
         window-take =
             record {
-              entries_are = take-stand (run_in batch) at entries window.entries_are batch.faults p attempt (old_of done (state_of store)) done.prints allowed;
+              entries_are = take-stand (run_in batch) at entries window.entries_are batch.faults p attempt s foot position foot_is (old_of done (state_of store)) done.prints allowed;
               buffer_is = subst (λ b. RunStands (run_in batch) batch.faults (start_in batch) (after_event (event.Take p attempt true)) b)
-                  (sym (taken-holds store later entries p e done there state))
+                  (sym (taken-holds store later (known p foot) p (known_entry foot e) done known-there state ∙ ap (buffer_with p done) (learnt-holds store entries p foot)))
                   (subst (λ d. RunStands (run_in batch) batch.faults (start_in batch) (after_event (event.Take p attempt true)) (buffer_with p d (buffer_of store entries)))
                   (sym fresh) (event-buffer (event.Take p attempt true) allowed));
-              placed = all-changed (IsPlaced batch) (IsPlaced batch) (λ q. nat_eq q p) taken entries (λ x h. h) (λ x h. h) window.placed;
-              undoable = all-changed (λ (x : Entry). IfSome x.hist (Fits later)) (λ (x : Entry). IfSome x.hist (Fits later)) (λ q. nat_eq q p) taken entries (λ x h. h) (λ x h. back)
-                  (histories-fit store later entries (λ x. fitting_law store later x shape) window.undoable);
-              locks = subst (λ away. LocksStand away (with_change_at p taken entries)) (sym away)
-                  (locks-home (run_in batch) batch.faults at entries store.away p e (old_of done (state_of store)) done.prints stage window.entries_are window.locks there out);
+              placed = all-changed (IsPlaced batch) (IsPlaced batch) (λ q. nat_eq q p) taken (known p foot) (λ x h. h) (λ x h. h) (known-placed p foot);
+              undoable = all-changed (λ (x : Entry). IfSome x.hist (Fits later)) (λ (x : Entry). IfSome x.hist (Fits later)) (λ q. nat_eq q p) taken (known p foot) (λ x h. h) (λ x h. back)
+                  (histories-fit store later (known p foot) (λ x. fitting_law store later x shape) (known-undoable p foot));
+              locks = subst (λ others. LocksStand later.away others) (sym (known-first p foot (old_of done (state_of store)) done.prints entries))
+                  (locks-kept (λ q. nat_eq q p) (known_entry foot) (with_change_at p taken entries) later.away (λ x. refl) (λ x. refl) (λ x. refl)
+                  (subst (λ away. LocksStand away (with_change_at p taken entries)) (sym away)
+                  (locks-home (run_in batch) batch.faults at entries store.away p e (old_of done (state_of store)) done.prints stage window.ready window.entries_are window.locks there out)));
+              ready = event-ready (event.Take p attempt true) allowed tt;
               home = home;
             }
+          where
+            known-there : entry_at (known p foot) p ≡ Some (known_entry foot e)
+            known-there =
+                changed (λ q. nat_eq q p) (known_entry foot) entries p (λ x. refl) ∙ (ap (option_map (changed_where (nat_eq p p) (known_entry foot))) there
+                ∙ ap (λ b. Some (changed_where b (known_entry foot) e)) (eq-eqb p p refl))
 
       -- after a restart, which finds each lock at home
       pub window-restart : (number struck : ℕ) → Allowed (dependence_in batch) batch.faults at (event.Restart number) → struck_next (dependence_in batch) batch.faults at.progress ≡ Some struck
-          → IsAllHome store → (later : Stored) → SameShape store later → later.away ≡ store.away
+          → NoneHolds (run_in batch) at → IsAllHome store → (later : Stored) → SameShape store later → later.away ≡ store.away
           → state_of later ≡ undone_part (histories_of entries) (λ q. is_member q ((dependence_in batch).redo struck at.progress.front)) at.progress.front (state_of store)
           → WindowStands batch (after_event (event.Restart number)) table
           (with_change (λ q. is_member q ((dependence_in batch).redo struck at.progress.front)) (raised_entry at.progress.front) entries) later
-      window-restart number struck allowed next all_home later shape away state =
+      window-restart number struck allowed next none all_home later shape away state =
           record {
             entries_are = restart-event (run_in batch) at entries window.entries_are batch.faults struck stage number next;
             buffer_is = subst (λ b. RunStands (run_in batch) batch.faults (start_in batch) (after_event (event.Restart number)) b)
@@ -242,6 +285,7 @@ module _ (batch : Batch) (fit : IsFit batch) where
                 (histories-fit store later entries (λ x. fitting_law store later x shape) window.undoable);
             locks = subst (λ away. LocksStand away (with_change part (raised_entry at.progress.front) entries)) (sym away)
                 (locks-raised entries store.away part at.progress.front window.locks all_home);
+            ready = event-ready (event.Restart number) allowed none;
             home = record {
               threads = (let many = window.home.threads in let same = shape.threads in omega arith);
               cells = shape.cells ∙ window.home.cells;
@@ -263,5 +307,6 @@ module _ (batch : Batch) (fit : IsFit batch) where
           placed = All-tail (IsPlaced batch) e entries window.placed;
           undoable = All-tail (λ (x : Entry). IfSome x.hist (Fits store)) e entries window.undoable;
           locks = locks-retired (run_in batch) at e entries store.away window.entries_are window.locks applied;
+          ready = λ p attempt q out. window.ready p attempt q (record { posted = out.posted; untaken = out.untaken; present = out.present });
           home = window.home;
         }

@@ -1,5 +1,5 @@
 -- What the calls of an engine answer.
-use Rattle.std.specs.Prelude.{◌≡◌, ◌≢◌, ◌⊎◌, ℕ, map, ◌-◌, ◌+◌, ◌≤◌, ◌<◌, Bool, true, false, cond, List, [], length, Contains, Option, Some, None, Result, Ok, Err, IsErrOf, slice_get}
+use Rattle.std.specs.Prelude.{◌≡◌, ◌≢◌, ◌⊎◌, ℕ, map, ◌-◌, ◌+◌, ◌≤◌, ◌<◌, ⊤, Bool, true, false, cond, List, [], length, Contains, Option, Some, None, Result, Ok, Err, IsErrOf, slice_get}
 use Rattle.std.specs.Option.{option_or}
 use Rattle.std.specs.Io.KnownBytes.{Appends}
 use Rattle.gp_base.specs.declared.limits.TheConstants.{LONGEST_DELAY}
@@ -19,8 +19,10 @@ use Rattle.task_ast.specs.Turn as turns
 use Rattle.task_ast.specs.laws.Standing.{Stands as StandsAt}
 use Rattle.task_ast.specs.Position.{last_below}
 use Rattle.dependence.specs.Restarts.{begun_of, is_live, is_due, least_struck, NoneDue, NoneLive}
-use Rattle.dependence.specs.Journal.{Allowed, WasTaken, MayPost}
+use Rattle.dependence.specs.Journal.{Stage, Allowed, WasTaken, MayPost}
+use Rattle.dependence.specs.Posting.{posting_of}
 use Rattle.dependence.specs.Standing.{present}
+use Rattle.reorder_list.specs.Stages.{AllTaken}
 use Rattle.reorder_list.specs.declared.report.Report.{Report}
 use Rattle.reorder_list.specs.declared.report.StopWhy.{StopWhy}
 use Rattle.reorder_list.specs.declared.report.StopWhy.TheVariants.{WriteFault}
@@ -31,9 +33,24 @@ use Rattle.engine.specs.declared.calls.Issued.TheVariants.{One, Needs, Settles, 
 use Rattle.engine.specs.declared.calls.Halt.TheVariants as halt
 use Rattle.engine.specs.View.{View, program_in, run_in, dependence_in, end_in, lines_at, now, state_in, is_known, grown, learnt}
 
--- the event was allowed, and was made
+-- each lock is at home: no present attempt of a position that was posted and not taken holds one
+abbrev pub NoneHolds : List Subthread → Stage → Type 0
+NoneHolds run at =
+    (p : ℕ) (s : Subthread) → slice_get run p ≡ Some s → Contains at.posted (p, present at p) → ¬ Contains at.taken (p, present at p) → s.held ≡ []
+
+abbrev pub NoneLent : View → Type 0
+NoneLent view = NoneHolds (run_in view.batch) (now view)
+
+-- a post waits for each earlier position that is in conflict by locks, and a restart until each lock is at home
+abbrev pub HasWaited : List Subthread → Stage → Event → Type 0
+HasWaited run at (event.Post p attempt) = MayPost (posting_of run) at p attempt
+HasWaited run at (event.Restart number) = NoneHolds run at
+HasWaited run at _ = ⊤
+
+-- the event was allowed, had waited, and was made
 pub record Did (before : View) (event : Event) (after : View) : Type 0 where
   pub allowed : Allowed (dependence_in before.batch) before.batch.faults (now before) event
+  pub waited : HasWaited (run_in before.batch) (now before) event
   pub grown : after ≡ grown before event
 
 -- the thread's last subthread is at a position of which no attempt was taken
@@ -82,11 +99,9 @@ struck_now view =
     option_or (least_struck (is_due (now view).progress) view.batch.faults)
     (cond (is_known view) (least_struck (is_live (now view).progress) view.batch.faults) None)
 
--- each lock is at home: no present attempt of a position that was posted and not taken holds one
-abbrev pub NoneLent : View → Type 0
-NoneLent view =
-    (p : ℕ) (s : Subthread) → slice_get (run_in view.batch) p ≡ Some s → Contains (now view).posted (p, present (now view) p)
-    → ¬ Contains (now view).taken (p, present (now view) p) → s.held ≡ []
+-- each position that has not retired was run at some attempt, so that it is known what it touches
+abbrev pub IsScouted : View → Type 0
+IsScouted view = AllTaken (now view)
 
 -- a restart was made, or no position is struck
 abbrev pub DetectGives : (before after : View) → Bool → Type 0
@@ -117,9 +132,9 @@ pub record HasStopCause {T : Type 0} (before after : ℕ) (result : Result T Sto
   pub later : before ≤ after
   pub failed : IsErrOf result WriteFault → Rose before after
 
--- the present attempt of the position may be posted
+-- the present attempt of the position may be posted, which waits for each earlier position that is in conflict with it by locks
 abbrev pub MayPostNow : View → (position : ℕ) → Type 0
-MayPostNow view p = MayPost (dependence_in view.batch) (now view) p (present (now view) p)
+MayPostNow view p = MayPost (posting_of (run_in view.batch)) (now view) p (present (now view) p)
 
 -- the first position from this one on whose present attempt may be posted
 pub record IsNextToPost (view : View) (from position : ℕ) : Type 0 where

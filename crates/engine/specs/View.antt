@@ -11,9 +11,11 @@ use Rattle.task_ast.specs.State.{State}
 use Rattle.task_ast.specs.Shaped.{IsAccepted}
 use Rattle.task_ast.specs.Fold.{fold}
 use Rattle.task_ast.specs.Plain.{Subthread, order, opening, end}
+use Rattle.dependence.specs.Conflict.{clash_in}
 use Rattle.dependence.specs.Restarts.{Dependence}
 use Rattle.dependence.specs.Journal.{Stage, Lawful, stage}
-use Rattle.dependence.specs.Runs.{dependence_of}
+use Rattle.dependence.specs.Runs.{lock_feet_of, dependence_of}
+use Rattle.dependence.specs.Posting.{OutReady}
 use Rattle.dependence.specs.Standing.{AreShort}
 use Rattle.dependence.specs.RunBuffer.{members_at}
 use Rattle.subthread.specs.declared.task.Work.{Work}
@@ -44,6 +46,10 @@ module _ (batch : Batch) where
 
   abbrev pub dependence_in : Dependence
   dependence_in = dependence_of run_in
+
+  -- whether two positions are in conflict by the locks that they hold
+  abbrev pub locks_in : (position later : ℕ) → Bool
+  locks_in = clash_in (lock_feet_of run_in)
 
   -- how the plain run ends
   abbrev pub end_in : End
@@ -103,9 +109,10 @@ IsHalt batch front halt.Settling = (dependence_in batch).settles front ≡ true
 abbrev pub begun : Batch → View
 begun batch = record { batch = batch; events = []; ended = None }
 
--- what stands between two calls: the journal is lawful, and a halt that is known is one
+-- what stands between two calls: the journal is lawful, before what is out all that is in conflict with it by locks is applied, and a halt that is known is one
 pub record Stands (view : View) : Type 0 where
   pub accepted : IsAccepted (program_in view.batch)
   pub short : AreShort view.batch.faults
   pub lawful : Lawful (dependence_in view.batch) view.batch.faults view.events
+  pub ready : OutReady (locks_in view.batch) (now view)
   pub ended : IfSome view.ended (IsHalt view.batch (now view).progress.front)

@@ -9,7 +9,7 @@ ghost use Rattle.subthread.specs.declared.task.Task.{Task};
 ghost use Rattle.subthread.specs.Tasks.{task_of, IsRun};
 ghost use Rattle.crew.specs.Out.{pair_of};
 ghost use Rattle.engine.specs.View.{View, now};
-ghost use Rattle.engine.specs.Gives.{Did, IssueGives, struck_now, NoneLent, DetectGives, RetireGives, RetireWrites, HasStopCause, MayPostNow, IsNextToPost, NoneToPost, HasFinished, IsJournalOf, IsReportOf};
+ghost use Rattle.engine.specs.Gives.{Did, IssueGives, struck_now, NoneLent, IsScouted, DetectGives, RetireGives, RetireWrites, HasStopCause, MayPostNow, IsNextToPost, NoneToPost, HasFinished, IsJournalOf, IsReportOf};
 ghost use Rattle.engine.specs.Takes.{TaskStands};
 
 use crew::Crew;
@@ -59,9 +59,15 @@ pub trait Calls {
     fn all_home(&self) -> bool
         ensures { IsTrue result ↔ NoneLent (view self.now) };
 
-    /// Makes one restart, before which each lock has to be at home, and answers `true`, or answers `false` where none is due.
-    /// The error is that memory is out, and changes nothing.
+    /// Whether each position that has not retired was run at some attempt, so that what it reads and writes is known. Takes
+    /// no memory.
+    fn scouted(&self) -> bool
+        ensures { IsTrue result ↔ IsScouted (view self.now) };
+
+    /// Makes one restart, before which what each position reads and writes has to be known and each lock to be at home, and
+    /// answers `true`, or answers `false` where none is due. The error is that memory is out, and changes nothing.
     fn detect(&mut self) -> Result<bool, AllocError>
+        requires scouted { IsSome (struck_now (view self.old)) → IsScouted (view self.old) }
         requires home { IsSome (struck_now (view self.old)) → NoneLent (view self.old) }
         ensures gives { IfOk result (DetectGives (view self.old) (view self.new)) }
         ensures err { OnErr result (view self.new ≡ view self.old) };
@@ -79,7 +85,8 @@ pub trait Calls {
         ensures found { IfSome result (HasFinished (view self.now)) }
         ensures none { IfNone result ((ending : EndThere) → ¬ HasFinished (view self.now) ending) };
 
-    /// The first position from this one on whose present attempt may be posted.
+    /// The first position from this one on whose present attempt may be posted: each earlier one in conflict with it by locks
+    /// is applied.
     fn runnable(&mut self, from: Pos) -> Option<Pos>
         ensures same { view self.new ≡ view self.old }
         ensures found { IfSome result (IsNextToPost (view self.old) from) }

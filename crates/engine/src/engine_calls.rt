@@ -4,7 +4,7 @@ use crate::calls::{Calls, Issued};
 use crate::engine::Engine;
 use crate::parts::{
     accept, all_home, detect, due, finished, into_journal, into_report, issue, post, retire,
-    runnable,
+    runnable, scouted,
 };
 use crew::Crew;
 use gp_base::{End, Journal, Pos, Sink};
@@ -28,6 +28,10 @@ impl<'a> Calls for Engine<'a> {
 
     fn all_home(&self) -> bool {
         all_home(&self.plan, &self.parts)
+    }
+
+    fn scouted(&self) -> bool {
+        scouted(&self.plan, &self.parts)
     }
 
     fn detect(&mut self) -> Result<bool, AllocError> {

@@ -14,7 +14,7 @@ mod taking;
 use crate::Halt;
 pub use beginning::begin;
 pub use closing::{finished, into_journal, into_report, runnable};
-pub use detecting::{all_home, detect, due};
+pub use detecting::{all_home, detect, due, scouted};
 use gp_base::{At, Event, Faults, Inputs, Limits, Nums, Restart, Room};
 pub use issuing::issue;
 pub use posting::post;

@@ -3,7 +3,7 @@ ghost use Rattle.std.specs.Prelude.{◌≡◌, None, OnOk, OnErr, IfOk, IsErrOf}
 ghost use Rattle.dependence.specs.Journal.{Complete};
 ghost use Rattle.reorder_list.specs.declared.report.StopWhy.TheVariants as stop;
 ghost use Rattle.engine.specs.View.{dependence_in, end_in, now};
-ghost use Rattle.engine.specs.Gives.{struck_now, NoneLent, HasStopCause, NoneToPost};
+ghost use Rattle.engine.specs.Gives.{struck_now, NoneLent, IsScouted, HasStopCause, NoneToPost};
 ghost use Rattle.engine.specs.Takes.{CrewStands};
 ghost use Rattle.engine.specs.inner.Rounds.{Agrees, Leaves, IsQuiet, IsIssued, KeepsWritten, KeepsPart, TakeGives};
 
@@ -25,6 +25,7 @@ fn take_one<R: Threads + Sync, E: Calls, C: Crew>(
     ensures crew { OnOk result (CrewStands (E.view engine.new) (C.posted crew.new) (C.out crew.new)) }
     ensures retired { (now (E.view engine.new)).retired ≡ (now (E.view engine.old)).retired }
     ensures struck { struck_now (E.view engine.new) ≡ struck_now (E.view engine.old) }
+    ensures scouted { IsScouted (E.view engine.old) → IsScouted (E.view engine.new) }
     ensures took { IfOk result (TakeGives (E.view engine.old) (E.view engine.new)) }
 {
     engine.reserve()?;
@@ -35,6 +36,47 @@ fn take_one<R: Threads + Sync, E: Calls, C: Crew>(
             Ok(true)
         }
     }
+}
+
+// Posts each position that may be posted.
+fn post_all<R: Threads + Sync, E: Calls, C: Crew>(
+    rt: &R,
+    engine: &mut E,
+    crew: &mut C,
+) -> Result<(), AllocError>
+    requires agrees { Agrees (E.view engine.old) (C.ready crew.old) (C.work crew.old) (C.posted crew.old) (C.out crew.old) }
+    ensures leaves { Leaves (E.view engine.old) (E.view engine.new) (C.ready crew.new) (C.work crew.new) (C.posted crew.new) }
+    ensures crew { OnOk result (CrewStands (E.view engine.new) (C.posted crew.new) (C.out crew.new)) }
+    ensures retired { (now (E.view engine.new)).retired ≡ (now (E.view engine.old)).retired }
+    ensures struck { struck_now (E.view engine.new) ≡ struck_now (E.view engine.old) }
+    ensures none { OnOk result (NoneToPost (E.view engine.new) 0) }
+{
+    let mut from = Pos(0);
+    'posting: while let Some(position) = engine.runnable(from) {
+        engine.post(rt, crew, position)?;
+        from = position;
+    }
+    Ok(())
+}
+
+// Posts what may be posted and takes runs of tasks until each position that has not retired was run at some attempt.
+fn scout_all<R: Threads + Sync, E: Calls, C: Crew>(
+    rt: &R,
+    engine: &mut E,
+    crew: &mut C,
+) -> Result<(), AllocError>
+    requires agrees { Agrees (E.view engine.old) (C.ready crew.old) (C.work crew.old) (C.posted crew.old) (C.out crew.old) }
+    ensures leaves { Leaves (E.view engine.old) (E.view engine.new) (C.ready crew.new) (C.work crew.new) (C.posted crew.new) }
+    ensures crew { OnOk result (CrewStands (E.view engine.new) (C.posted crew.new) (C.out crew.new)) }
+    ensures retired { (now (E.view engine.new)).retired ≡ (now (E.view engine.old)).retired }
+    ensures struck { struck_now (E.view engine.new) ≡ struck_now (E.view engine.old) }
+    ensures scouted { OnOk result (IsScouted (E.view engine.new)) }
+{
+    'scouting: while !engine.scouted() {
+        post_all(rt, engine, crew)?;
+        take_one(rt, engine, crew)?;
+    }
+    Ok(())
 }
 
 // Takes runs of tasks until no lock is away.
@@ -48,6 +90,7 @@ fn bring_home<R: Threads + Sync, E: Calls, C: Crew>(
     ensures crew { OnOk result (CrewStands (E.view engine.new) (C.posted crew.new) (C.out crew.new)) }
     ensures retired { (now (E.view engine.new)).retired ≡ (now (E.view engine.old)).retired }
     ensures struck { struck_now (E.view engine.new) ≡ struck_now (E.view engine.old) }
+    ensures scouted { IsScouted (E.view engine.old) → IsScouted (E.view engine.new) }
     ensures home { OnOk result (NoneLent (E.view engine.new)) }
 {
     'homing: while !engine.all_home() {
@@ -56,7 +99,7 @@ fn bring_home<R: Threads + Sync, E: Calls, C: Crew>(
     Ok(())
 }
 
-// Makes all restarts that are due, each once no lock is away.
+// Makes all restarts that are due, each once all positions were run at some attempt and no lock is away.
 fn detect_all<R: Threads + Sync, E: Calls, C: Crew>(
     rt: &R,
     engine: &mut E,
@@ -69,6 +112,7 @@ fn detect_all<R: Threads + Sync, E: Calls, C: Crew>(
     ensures none_struck { OnOk result (struck_now (E.view engine.new) ≡ None) }
 {
     'detecting: while engine.due() {
+        scout_all(rt, engine, crew)?;
         bring_home(rt, engine, crew)?;
         engine.detect()?;
     }
@@ -119,26 +163,6 @@ fn issue_all<R: Threads + Sync, E: Calls, C: Crew>(
             Issued::Ended(_) => return Ok(()),
         }
     }
-}
-
-// Posts each position that may be posted.
-fn post_all<R: Threads + Sync, E: Calls, C: Crew>(
-    rt: &R,
-    engine: &mut E,
-    crew: &mut C,
-) -> Result<(), AllocError>
-    requires agrees { Agrees (E.view engine.old) (C.ready crew.old) (C.work crew.old) (C.posted crew.old) (C.out crew.old) }
-    ensures leaves { Leaves (E.view engine.old) (E.view engine.new) (C.ready crew.new) (C.work crew.new) (C.posted crew.new) }
-    ensures crew { OnOk result (CrewStands (E.view engine.new) (C.posted crew.new) (C.out crew.new)) }
-    ensures retired { (now (E.view engine.new)).retired ≡ (now (E.view engine.old)).retired }
-    ensures none { OnOk result (NoneToPost (E.view engine.new) 0) }
-{
-    let mut from = Pos(0);
-    'posting: while let Some(position) = engine.runnable(from) {
-        engine.post(rt, crew, position)?;
-        from = position;
-    }
-    Ok(())
 }
 
 /// Goes on with a run to its end, and answers how it ends.

@@ -8,6 +8,7 @@ use Rattle.task_ast.specs.Names.{records_of, locks_of, cells_in}
 use Rattle.task_ast.specs.Layout.{layout}
 use Rattle.task_ast.specs.Table.{Table}
 use Rattle.dependence.specs.Journal.{Stage, Lawful, stage}
+use Rattle.dependence.specs.Posting.{OutReady}
 use Rattle.dependence.specs.Standing.{AreShort}
 use Rattle.dependence.specs.RunBuffer.{RunStands}
 use Rattle.task_code.specs.Relation.{Rests}
@@ -19,7 +20,7 @@ use Rattle.engine.specs.declared.parts.Place.{Place}
 use Rattle.engine.specs.declared.parts.Plan.{Plan}
 use Rattle.engine.specs.declared.parts.Parts.{Parts}
 use Rattle.engine.specs.declared.calls.Halt.{Halt}
-use Rattle.engine.specs.View.{Batch, View, program_in, run_in, dependence_in, under_in, start_in, IsHalt}
+use Rattle.engine.specs.View.{Batch, View, program_in, run_in, dependence_in, locks_in, under_in, start_in, IsHalt}
 use Rattle.engine.specs.inner.Locks.{LocksStand}
 use Rattle.engine.specs.inner.RingStands.{from_before, RingStands}
 
@@ -79,6 +80,8 @@ pub record WindowStands (batch : Batch) (at : Stage) (table : Table) (entries : 
   pub placed : All (IsPlaced batch) entries
   pub undoable : HistoriesFit store entries
   pub locks : LocksStand store.away entries
+  -- before what is out, each position in conflict with it by locks is applied
+  pub ready : OutReady (locks_in batch) at
   pub home : IsHome batch table store
 
 -- all that is kept

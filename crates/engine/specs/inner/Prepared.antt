@@ -5,7 +5,7 @@ use Rattle.task_ast.specs.State.{State, RegistersOf, number_at}
 use Rattle.task_ast.specs.declared.sync.SyncOp.{SyncOp}
 use Rattle.task_ast.specs.declared.sync.SyncOp.TheVariants as sync
 use Rattle.task_ast.specs.declared.sync.Next.{Next}
-use Rattle.task_ast.specs.Footprint.{footprint}
+use Rattle.task_ast.specs.Footprint.{lock_footprint}
 use Rattle.task_ast.specs.Table.{Table, owned_from}
 use Rattle.task_ast.specs.Turn.{owners_after, child_of, turns_left}
 use Rattle.task_ast.specs.laws.Threads.{ahead}
@@ -39,7 +39,7 @@ settled_in op state t prepared = record prepared { place = settled_place op stat
 pub record PreparedFor (batch : Batch) (table : Table) (places : List Place) (t : ℕ) (op : SyncOp) (prepared : Prepared) : Type 0 where
   pub place : slice_get places t ≡ Some prepared.place
   pub held : prepared.held ≡ owned_from 0 (owners_after op t table.owners) t
-  pub foot : prepared.foot ≡ footprint t op (child_of op (length table.seats)) prepared.held
+  pub locks : prepared.locks ≡ lock_footprint t op (child_of op (length table.seats)) prepared.held
   pub start : StartIs batch (IsPlaceIn batch) (length table.seats) op prepared.start
 
 -- what is prepared for the next turn
@@ -85,7 +85,8 @@ new_entry p t next child prepared =
       attempt = 0;
       begun = p + 1;
       state = Waiting;
-      foot = prepared.foot;
+      locks = prepared.locks;
+      foot = None;
       hist = None;
       prints = [];
     }

@@ -11,7 +11,8 @@ use crate::parts::{Parts, Plan};
 use gp_base::{End, Journal, Pos};
 use reorder_list::Report;
 
-/// The first position from this one on whose present attempt may be posted.
+/// The first position from this one on whose present attempt may be posted: each earlier one in conflict with it by locks is
+/// applied.
 pub fn runnable(plan: &Plan, parts: &mut Parts, from: Pos) -> Option<Pos>
     requires kept { Kept (batch_in plan.now) parts.old }
     requires closed { parts.old.ring.cleared ≡ false }

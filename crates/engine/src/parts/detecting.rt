@@ -3,9 +3,8 @@
 ghost use Rattle.std.specs.Prelude.{◌≡◌, ◌↔◌, ◌+◌, ◌<◌, ◌≤◌, [], ◌∷◌, ◌++◌, Some, is_some, false, IsTrue, IfOk, OnErr, OnOk, length};
 ghost use Rattle.std.specs.Option.{IsSome};
 ghost use Rattle.gp_base.specs.declared.journal.Event.TheVariants as event;
-ghost use Rattle.record_store.specs.Stored.{IsAllHome};
 ghost use Rattle.reorder_list.specs.Entries.{entry_at};
-ghost use Rattle.engine.specs.Gives.{Did, DetectGives, NoneLent, struck_now};
+ghost use Rattle.engine.specs.Gives.{Did, DetectGives, NoneLent, IsScouted, struck_now};
 ghost use Rattle.engine.specs.View.{now};
 ghost use Rattle.engine.specs.inner.Kept.{batch_in, view_of, Kept};
 ghost use Rattle.engine.specs.inner.Detected.{HasRooms, attempt_in};
@@ -32,6 +31,14 @@ pub fn all_home(plan: &Plan, parts: &Parts) -> bool
     ensures { IsTrue result ↔ NoneLent (view_of (batch_in plan.now) parts.now) }
 {
     !parts.rol.lent()
+}
+
+/// Whether each position that has not retired was run at some attempt, so that what it reads and writes is known.
+pub fn scouted(plan: &Plan, parts: &Parts) -> bool
+    requires kept { Kept (batch_in plan.now) parts.now }
+    ensures { IsTrue result ↔ IsScouted (view_of (batch_in plan.now) parts.now) }
+{
+    parts.rol.all_known()
 }
 
 // Takes the memory that a restart of so many positions needs: for its list, and for it in the journal.
@@ -68,7 +75,8 @@ fn redo_from(alloc: Global, plan: &Plan, parts: &mut Parts, struck: Pos, redo: R
     requires kept { Kept (batch_in plan.now) parts.old }
     requires closed { parts.old.ring.cleared ≡ false }
     requires is_struck { struck_now (view_of (batch_in plan.now) parts.old) ≡ Some struck }
-    requires home { IsAllHome parts.old.store }
+    requires scouted { IsScouted (view_of (batch_in plan.now) parts.old) }
+    requires home { NoneLent (view_of (batch_in plan.now) parts.old) }
     requires empty { redo.items ≡ [] }
     requires rooms { HasRooms (length parts.old.rol.entries) parts.old.events parts.old.restarts redo }
     ensures kept { Kept (batch_in plan.now) parts.new }
@@ -97,11 +105,13 @@ fn redo_from(alloc: Global, plan: &Plan, parts: &mut Parts, struck: Pos, redo: R
     });
 }
 
-/// Makes one restart, before which each lock has to be at home, and answers `true`, or answers `false` where none is due, as
-/// far as the end is known. The error is that memory is out, and changes nothing.
+/// Makes one restart, before which what each position reads and writes has to be known and each lock to be at home, and
+/// answers `true`, or answers `false` where none is due, as far as the end is known. The error is that memory is out, and
+/// changes nothing.
 pub fn detect(alloc: Global, plan: &Plan, parts: &mut Parts) -> Result<bool, AllocError>
     requires kept { Kept (batch_in plan.now) parts.old }
     requires closed { parts.old.ring.cleared ≡ false }
+    requires scouted { IsSome (struck_now (view_of (batch_in plan.now) parts.old)) → IsScouted (view_of (batch_in plan.now) parts.old) }
     requires home { IsSome (struck_now (view_of (batch_in plan.now) parts.old)) → NoneLent (view_of (batch_in plan.now) parts.old) }
     ensures kept { Kept (batch_in plan.now) parts.new }
     ensures closed { parts.new.ring.cleared ≡ false }

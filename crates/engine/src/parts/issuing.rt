@@ -20,7 +20,7 @@ use gp_base::{At, End, Event, Footprint, LockNo, Pos, Seq, ThreadNo};
 use record_store::Store;
 use reorder_list::{Entry, State};
 use std::alloc::{AllocError, Global};
-use subthread::footprint;
+use subthread::lock_footprint;
 use task_ast::{Next, SyncOp};
 use token_order::{Ring, Turn};
 
@@ -29,7 +29,7 @@ use token_order::{Ring, Turn};
 pub struct Prepared {
     pub place: Place,
     pub held: Seq<LockNo>,
-    pub foot: Footprint,
+    pub locks: Footprint,
     pub start: Option<Place>,
 }
 
@@ -105,12 +105,12 @@ fn prepare_for(
     let place = parts.places[thread.0 as usize].copied(alloc)?;
     let held = parts.ring.held_after(alloc, thread, &begins.sync)?;
     let child = child_of(&begins.sync, threads);
-    let foot = footprint(alloc, begins, thread, child, &held)?;
+    let locks = lock_footprint(alloc, begins, thread, child, &held)?;
     let start = start_of(alloc, plan, &begins.sync, threads)?;
     Ok(Prepared {
         place,
         held,
-        foot,
+        locks,
         start,
     })
 }
@@ -204,7 +204,7 @@ fn push(
     let Prepared {
         place,
         held,
-        foot,
+        locks,
         start,
     } = prepared;
     let Place { at, ctl } = place;
@@ -219,7 +219,8 @@ fn push(
         attempt: 0,
         begun: parts.issued + 1,
         state: State::Waiting,
-        foot,
+        locks,
+        foot: None,
         hist: None,
         prints: Seq::new(alloc),
     });

@@ -5,7 +5,7 @@ ghost use Rattle.std.specs.Option.{IsSomeAnd};
 ghost use Rattle.gp_base.specs.declared.journal.Event.TheVariants as event;
 ghost use Rattle.record_store.specs.Lent.{lock_in, whole_effect, MayComeHome};
 ghost use Rattle.record_store.specs.Stored.{Fits};
-ghost use Rattle.reorder_list.specs.Entries.{entry_at};
+ghost use Rattle.reorder_list.specs.Entries.{entry_at, with_change_at, known_entry};
 ghost use Rattle.reorder_list.specs.declared.entry.State.TheVariants as state;
 ghost use Rattle.subthread.specs.Tasks.{task_of, IsRun};
 ghost use Rattle.engine.specs.Gives.{Did};
@@ -14,7 +14,7 @@ ghost use Rattle.engine.specs.inner.Kept.{batch_in, view_of, Kept};
 ghost use Rattle.engine.specs.inner.Taken.{awaits, learning_from, placing_from, has_attempt, IsAppliedWhere};
 
 use crate::parts::{Parts, Place, Plan};
-use gp_base::{Event, Pos, RecNo, Seq, ThreadNo};
+use gp_base::{Event, Footprint, Pos, RecNo, Seq, ThreadNo};
 use record_store::{Bundle, Effect, Given, Store};
 use reorder_list::Rol;
 use subthread::{Done, Task};
@@ -62,6 +62,15 @@ fn learn(
     }
 }
 
+/// Learns what the subthread of a position touches, where the position has not retired.
+fn learn_foot(rol: &mut Rol, pos: Pos, foot: Footprint)
+    ensures { rol.new.entries ≡ with_change_at pos (known_entry foot) rol.old.entries }
+{
+    if rol.get(pos).is_some() {
+        rol.learn_foot(pos, foot);
+    }
+}
+
 /// Takes the cells of a run's locks home and applies its effect, where that is to be.
 fn apply_where(
     fresh: bool,
@@ -85,7 +94,7 @@ fn apply_where(
 
 /// Takes the run of a task that is out, and applies it where its attempt is the present one, which is the answer: the cells
 /// of its locks then come home. Another attempt holds no lock. What its thread does next is learnt in any case, where it is
-/// awaited.
+/// awaited, and so is what the subthread touches, where it has not retired.
 pub fn accept(plan: &Plan, parts: &mut Parts, done: Done) -> bool
     requires kept { Kept (batch_in plan.now) parts.old }
     requires closed { parts.old.ring.cleared ≡ false }
@@ -103,6 +112,7 @@ pub fn accept(plan: &Plan, parts: &mut Parts, done: Done) -> bool
         next,
         at,
         ctl,
+        foot,
     } = done;
     let Task {
         pos,
@@ -115,6 +125,7 @@ pub fn accept(plan: &Plan, parts: &mut Parts, done: Done) -> bool
     let fresh = is_present(&parts.rol, pos, attempt);
     let place = Place { at, ctl };
     learn(&mut parts.ring, &mut parts.places, thread, pos, next, place);
+    learn_foot(&mut parts.rol, pos, foot);
     apply_where(
         fresh,
         &mut parts.store,

@@ -15,6 +15,7 @@ homing-preserved g c =
       crew = c.in_ok-take_one.ensures.crew;
       retired = c.take_one.ensures.retired ∙ c.homing.invariant.retired;
       struck = c.take_one.ensures.struck ∙ c.homing.invariant.struck;
+      scouted = λ scouted. c.take_one.ensures.scouted (c.homing.invariant.scouted scouted);
     }
 
 pub returns-in_err-take_one-clause-leaves : goal.returns-in_err-take_one-clause-leaves
@@ -22,3 +23,6 @@ returns-in_err-take_one-clause-leaves g c = leaves-then c.homing.invariant.leave
 
 pub returns-clause-home : goal.returns-clause-home
 returns-clause-home g c = c.all_home.ensures.0 c.homing-test.false
+
+pub returns-in_err-take_one-clause-scouted : goal.returns-in_err-take_one-clause-scouted
+returns-in_err-take_one-clause-scouted g c = λ scouted. c.take_one.ensures.scouted (c.homing.invariant.scouted scouted)

@@ -1,6 +1,6 @@
 use Rattle.std.proofs.Common.{◌≡◌}
 use Rattle.engine.specs.View.{now}
-use Rattle.engine.specs.Gives.{struck_now}
+use Rattle.engine.specs.Gives.{struck_now, IsScouted}
 use Rattle.engine.specs.Takes.{CrewStands}
 use Rattle.engine.specs.inner.Rounds.{left, Leaves}
 use Rattle.engine.proofs.rounds.bring_home.Given as goal
@@ -11,6 +11,7 @@ invariant-homing g l = record {
   crew : CrewStands (g.E.Calls.view l.engine) (g.C.Crew.posted l.crew) (g.C.Crew.out l.crew);
   retired : (now (g.E.Calls.view l.engine)).retired ≡ (now (g.E.Calls.view l.fn.engine)).retired;
   struck : struck_now (g.E.Calls.view l.engine) ≡ struck_now (g.E.Calls.view l.fn.engine);
+  scouted : IsScouted (g.E.Calls.view l.fn.engine) → IsScouted (g.E.Calls.view l.engine);
 }
 
 abbrev pub decreases-homing : goal.decreases-homing

@@ -2,11 +2,12 @@ use Rattle.std.proofs.Common.{◌<◌, ◌∙◌, refl, sym, ap, arith, subst}
 use Rattle.gp_base.specs.declared.journal.Event.TheVariants as event
 use Rattle.dependence.specs.Standing.{present}
 use Rattle.engine.specs.View.{now, Stands}
+use Rattle.engine.specs.Gives.{struck_now}
 use Rattle.engine.specs.Takes.{CrewStands}
 use Rattle.engine.specs.inner.Rounds.{left}
 use Rattle.engine.proofs.Events.{did-leaves, did-onward, now-did}
 use Rattle.engine.proofs.Crews.{crew-posted}
-use Rattle.engine.proofs.Turns.{leaves-still, leaves-on, leaves-same, none-yet, none-at_all, retired-same}
+use Rattle.engine.proofs.Turns.{leaves-still, leaves-on, leaves-same, none-yet, none-at_all, retired-same, struck-kept}
 use Rattle.engine.proofs.rounds.post_all.Goals as goal
 
 pub posting-init : goal.posting-init
@@ -15,6 +16,7 @@ posting-init g c =
       leaves = leaves-still c.requires.agrees;
       crew = c.requires.agrees.crew;
       retired = refl;
+      struck = refl;
       none = λ q l. absurd (omega arith);
     }
 
@@ -42,6 +44,10 @@ returns-in_err-post-clause-retired g c =
     retired-same (view c.runnable.new.self) (view c.post.new.self) c.in_err-post.ensures.err
     ∙ (retired-same (view c.posting.engine) (view c.runnable.new.self) c.runnable.ensures.same ∙ c.posting.invariant.retired)
 
+pub returns-in_err-post-clause-struck : goal.returns-in_err-post-clause-struck
+returns-in_err-post-clause-struck g c =
+    ap struck_now c.in_err-post.ensures.err ∙ (ap struck_now c.runnable.ensures.same ∙ c.posting.invariant.struck)
+
 pub posting-smaller : goal.posting-smaller
 posting-smaller g c =
     let view = g.E.Calls.view in
@@ -67,6 +73,7 @@ posting-preserved g c =
       crew = crew;
       retired = ap (λ at. at.retired) (now-did before (view c.post.new.self) e made.did)
           ∙ (retired-same (view c.posting.engine) before c.runnable.ensures.same ∙ held.retired);
+      struck = struck-kept before (view c.post.new.self) e made.did refl refl ∙ (ap struck_now c.runnable.ensures.same ∙ held.struck);
       none = none-yet before (view c.post.new.self) c.posting.from p (rw c.runnable.ensures.same held.none) (rw c.runnable.ensures.same c.in-Some.ensures.found) made.did;
     }
 
@@ -79,6 +86,9 @@ returns-clause-crew g c = rw c.runnable.ensures.same c.posting.invariant.crew
 pub returns-clause-retired : goal.returns-clause-retired
 returns-clause-retired g c =
     retired-same (g.E.Calls.view c.posting.engine) (g.E.Calls.view c.runnable.new.self) c.runnable.ensures.same ∙ c.posting.invariant.retired
+
+pub returns-clause-struck : goal.returns-clause-struck
+returns-clause-struck g c = ap struck_now c.runnable.ensures.same ∙ c.posting.invariant.struck
 
 pub returns-clause-none : goal.returns-clause-none
 returns-clause-none g c =

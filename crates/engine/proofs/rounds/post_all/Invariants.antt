@@ -1,5 +1,6 @@
 use Rattle.std.proofs.Common.{◌≡◌}
 use Rattle.engine.specs.View.{now}
+use Rattle.engine.specs.Gives.{struck_now}
 use Rattle.engine.specs.Takes.{CrewStands}
 use Rattle.engine.specs.inner.Rounds.{left, Leaves}
 use Rattle.engine.proofs.Turns.{NoneBefore}
@@ -10,6 +11,7 @@ invariant-posting g l = record {
   leaves : Leaves (g.E.Calls.view l.fn.engine) (g.E.Calls.view l.engine) (g.C.Crew.ready l.crew) (g.C.Crew.work l.crew) (g.C.Crew.posted l.crew);
   crew : CrewStands (g.E.Calls.view l.engine) (g.C.Crew.posted l.crew) (g.C.Crew.out l.crew);
   retired : (now (g.E.Calls.view l.engine)).retired ≡ (now (g.E.Calls.view l.fn.engine)).retired;
+  struck : struck_now (g.E.Calls.view l.engine) ≡ struck_now (g.E.Calls.view l.fn.engine);
   none : NoneBefore (g.E.Calls.view l.engine) l.from;
 }
 

@@ -7,7 +7,8 @@ use Rattle.engine.specs.Takes.{CrewStands}
 use Rattle.engine.specs.inner.Rounds.{left, Agrees, Leaves}
 use Rattle.engine.proofs.Events.{did-leaves, did-onward, now-did}
 use Rattle.engine.proofs.Crews.{crew-taken, taken-stands, none-out}
-use Rattle.engine.proofs.Turns.{leaves-still, leaves-same, leaves-on, retired-same, taken-struck}
+use Rattle.engine.proofs.Turns.{leaves-still, leaves-same, leaves-on, retired-same, struck-kept}
+use Rattle.engine.proofs.Scouting.{scouted-same, scouted-taken}
 use Rattle.engine.proofs.rounds.take_one.Goals as goal
 use Rattle.engine.proofs.rounds.take_one.Goals.{After-reserve, After-next, After-accept, In-Some}
 
@@ -52,6 +53,10 @@ returns-in_err-reserve-clause-retired g c = retired-same (g.E.Calls.view c.args.
 pub returns-in_err-reserve-clause-struck : goal.returns-in_err-reserve-clause-struck
 returns-in_err-reserve-clause-struck g c = ap struck_now c.reserve.ensures.same
 
+pub returns-in_err-reserve-clause-scouted : goal.returns-in_err-reserve-clause-scouted
+returns-in_err-reserve-clause-scouted g c =
+    scouted-same (g.E.Calls.view c.args.engine.now) (g.E.Calls.view c.reserve.new.self) c.reserve.ensures.same
+
 pub returns-in_err-next-clause-leaves : goal.returns-in_err-next-clause-leaves
 returns-in_err-next-clause-leaves g c = answered g (goal.at.returns-in_err-next-clause-leaves g c).After-next
 
@@ -60,6 +65,10 @@ returns-in_err-next-clause-retired g c = retired-same (g.E.Calls.view c.args.eng
 
 pub returns-in_err-next-clause-struck : goal.returns-in_err-next-clause-struck
 returns-in_err-next-clause-struck g c = ap struck_now c.reserve.ensures.same
+
+pub returns-in_err-next-clause-scouted : goal.returns-in_err-next-clause-scouted
+returns-in_err-next-clause-scouted g c =
+    scouted-same (g.E.Calls.view c.args.engine.now) (g.E.Calls.view c.reserve.new.self) c.reserve.ensures.same
 
 pub returns-in-None-clause-leaves : goal.returns-in-None-clause-leaves
 returns-in-None-clause-leaves g c = answered g (goal.at.returns-in-None-clause-leaves g c).After-next
@@ -75,6 +84,10 @@ returns-in-None-clause-retired g c = retired-same (g.E.Calls.view c.args.engine.
 
 pub returns-in-None-clause-struck : goal.returns-in-None-clause-struck
 returns-in-None-clause-struck g c = ap struck_now c.reserve.ensures.same
+
+pub returns-in-None-clause-scouted : goal.returns-in-None-clause-scouted
+returns-in-None-clause-scouted g c =
+    scouted-same (g.E.Calls.view c.args.engine.now) (g.E.Calls.view c.reserve.new.self) c.reserve.ensures.same
 
 pub returns-in-None-clause-took : goal.returns-in-None-clause-took
 returns-in-None-clause-took g c =
@@ -115,8 +128,16 @@ returns-in-Some-clause-retired g c =
 
 pub returns-in-Some-clause-struck : goal.returns-in-Some-clause-struck
 returns-in-Some-clause-struck g c =
-    taken-struck (g.E.Calls.view c.reserve.new.self) (g.E.Calls.view c.accept.new.self) c.in-Some.done.task.pos c.in-Some.done.task.attempt c.accept.result c.accept.ensures
+    struck-kept (g.E.Calls.view c.reserve.new.self) (g.E.Calls.view c.accept.new.self)
+    (event.Take c.in-Some.done.task.pos c.in-Some.done.task.attempt c.accept.result) c.accept.ensures refl refl
     ∙ ap struck_now c.reserve.ensures.same
+
+pub returns-in-Some-clause-scouted : goal.returns-in-Some-clause-scouted
+returns-in-Some-clause-scouted g c scouted =
+    let view = g.E.Calls.view in
+    scouted-taken (view c.reserve.new.self) (view c.accept.new.self) c.in-Some.done.task.pos c.in-Some.done.task.attempt c.accept.result
+    c.accept.ensures
+    (scouted-same (view c.args.engine.now) (view c.reserve.new.self) c.reserve.ensures.same scouted)
 
 pub returns-in-Some-clause-took : goal.returns-in-Some-clause-took
 returns-in-Some-clause-took g c =

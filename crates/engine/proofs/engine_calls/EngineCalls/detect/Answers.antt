@@ -1,9 +1,12 @@
 use Rattle.std.proofs.Common.{ap, subst, sym}
 use Rattle.std.specs.Option.{IsSome}
 use Rattle.std.specs.Result.{IfOk}
-use Rattle.engine.specs.Gives.{DetectGives, NoneLent, struck_now}
+use Rattle.engine.specs.Gives.{DetectGives, NoneLent, IsScouted, struck_now}
 use Rattle.engine.specs.inner.Kept.{batch_in, view_of}
 use Rattle.engine.proofs.engine_calls.EngineCalls.detect.Goals as goal
+
+pub detect-requires-clause-scouted : goal.detect-requires-clause-scouted
+detect-requires-clause-scouted c = subst (λ view. IsSome (struck_now view) → IsScouted view) (sym (ap (λ e. e.view) c.self.view_is)) c.requires.scouted
 
 pub detect-requires-clause-home : goal.detect-requires-clause-home
 detect-requires-clause-home c = subst (λ view. IsSome (struck_now view) → NoneLent view) (sym (ap (λ e. e.view) c.self.view_is)) c.requires.home

@@ -1,7 +1,6 @@
 use Rattle.std.proofs.Common.{◌≡◌, ◌∙◌, refl, sym}
 use Rattle.engine.specs.Gives.{struck_now}
 use Rattle.engine.specs.inner.Kept.{batch_in, view_of}
-use Rattle.engine.proofs.AllHome.{all-home}
 use Rattle.engine.proofs.Options.{some_none, some_is}
 use Rattle.engine.proofs.Struck.{struck-same}
 use Rattle.engine.proofs.parts.detecting.detect.Goals as goal
@@ -18,8 +17,11 @@ returns-in_default-clause-gives c = (refl, told (goal.at.returns-in_default-clau
 
 pub redo_from-requires-clause-home : goal.redo_from-requires-clause-home
 redo_from-requires-clause-home c =
-    all-home (batch_in c.args.plan.now) c.args.parts.now c.requires.kept
-    (c.requires.home (some_is (told (goal.at.redo_from-requires-clause-home c).After-struck ∙ c.in-Some.is)))
+    rw c.make_room.ensures.events (c.requires.home (some_is (told (goal.at.redo_from-requires-clause-home c).After-struck ∙ c.in-Some.is)))
+
+pub redo_from-requires-clause-scouted : goal.redo_from-requires-clause-scouted
+redo_from-requires-clause-scouted c =
+    rw c.make_room.ensures.events (c.requires.scouted (some_is (told (goal.at.redo_from-requires-clause-scouted c).After-struck ∙ c.in-Some.is)))
 
 pub redo_from-requires-clause-is_struck : goal.redo_from-requires-clause-is_struck
 redo_from-requires-clause-is_struck c =

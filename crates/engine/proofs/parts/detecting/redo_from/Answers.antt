@@ -1,6 +1,7 @@
 use Rattle.std.proofs.Common.{arith}
 use Rattle.engine.specs.inner.Kept.{batch_in}
-use Rattle.engine.proofs.Detected.{struck-below, struck-room, struck-there, attempts-few, restarts-few, kept-restarted}
+use Rattle.engine.proofs.AllHome.{all-home}
+use Rattle.engine.proofs.Detected.{struck-below, struck-room, struck-there, attempts-few, restarts-few, all-known, kept-restarted}
 use Rattle.engine.proofs.parts.detecting.redo_from.Goals as goal
 
 pub restart-requires-clause-there : goal.restart-requires-clause-there
@@ -8,6 +9,12 @@ restart-requires-clause-there c = struck-there (batch_in c.args.plan.now) c.args
 
 pub restart-requires-clause-issued : goal.restart-requires-clause-issued
 restart-requires-clause-issued c = struck-below (batch_in c.args.plan.now) c.args.parts.now c.requires.kept c.args.struck c.requires.is_struck
+
+pub restart-requires-clause-known : goal.restart-requires-clause-known
+restart-requires-clause-known c = all-known (batch_in c.args.plan.now) c.args.parts.now c.requires.kept c.args.struck c.requires.is_struck c.requires.scouted
+
+pub restart-requires-clause-home : goal.restart-requires-clause-home
+restart-requires-clause-home c = all-home (batch_in c.args.plan.now) c.args.parts.now c.requires.kept c.requires.home
 
 pub restart-requires-clause-attempts : goal.restart-requires-clause-attempts
 restart-requires-clause-attempts c = attempts-few (batch_in c.args.plan.now) c.args.parts.now c.requires.kept c.args.struck c.requires.is_struck c.args.plan.now.faults.few
@@ -23,7 +30,7 @@ overflow_cast-len c =
 
 pub returns-clause-kept : goal.returns-clause-kept
 returns-clause-kept c =
-    kept-restarted (batch_in c.args.plan.now) c.args.parts.now c.requires.kept c.args.struck c.requires.is_struck c.requires.home c.restart.new.rol.entries c.restart.new.store c.push.new.self.items
+    kept-restarted (batch_in c.args.plan.now) c.args.parts.now c.requires.kept c.args.struck c.requires.is_struck c.requires.scouted c.requires.home c.restart.new.rol.entries c.restart.new.store c.push.new.self.items
     c.push-2.new.self.items c.attempt_of-attempt.result c.restart.new.redo.items c.attempt_of-attempt.ensures c.restart.ensures.redo c.restart.ensures.entries c.restart.ensures.state
     c.restart.ensures.shape c.restart.ensures.away (rw c.len.ensures at c.push.ensures.items) (rw c.into_seq.ensures at c.push-2.ensures.items)
 

@@ -1,5 +1,5 @@
 use Rattle.engine.specs.inner.Kept.{batch_in}
-use Rattle.engine.proofs.Posted.{runnable, numbered, found-home, found-rising, fits, pair, view-made, stands, kept-then}
+use Rattle.engine.proofs.Posted.{runnable, allowed, numbered, found-home, found-rising, fits, pair, view-made, stands, kept-then}
 use Rattle.std.proofs.Common.{◌∙◌, ◌++◌, ◌∷◌, []}
 use Rattle.engine.proofs.parts.posting.post.Goals as goal
 
@@ -38,7 +38,8 @@ returns-clause-kept g c =
 pub returns-clause-did : goal.returns-clause-did
 returns-clause-did g c =
     record {
-      allowed = c.requires.may;
+      allowed = allowed (batch_in c.args.plan.now) c.args.parts.now c.requires.kept c.args.position c.requires.may;
+      waited = c.requires.may;
       grown = view-made (batch_in c.args.plan.now) c.args.parts.now c.requires.kept c.args.position c.requires.may c.in_ok-task.task (rw c.as_slice-faults.ensures at c.in_ok-task.ensures)
           c.reserve.new.self.items c.push.new.self.items c.reserve.ensures.items c.push.ensures.items;
     }

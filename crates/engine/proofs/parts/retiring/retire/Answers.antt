@@ -39,6 +39,7 @@ returns-clause-gives g c =
     c.reserve.new.self.items c.push.new.self.items c.reserve.ensures.items c.push.ensures.items in (
       record {
         allowed = allowed (batch_in c.args.plan.now) c.args.parts.now c.requires.kept is;
+        waited = tt;
         grown = λ i. record { batch = batch_in c.args.plan.now; events = events i; ended = c.args.parts.now.ended };
       },
       may-now (batch_in c.args.plan.now) c.args.parts.now c.requires.kept is,
