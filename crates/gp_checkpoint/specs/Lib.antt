@@ -1,0 +1,6 @@
+pub mod Cuts
+pub mod Journal
+pub mod JournalTests
+pub mod Laws
+pub mod Standing
+pub mod States
