@@ -16,7 +16,7 @@ use Rattle.gp_audit.specs.declared.verdict.Verdict.TheVariants.{Lawful}
 use Rattle.gp_audit.specs.Answer.{verdict_text, verdict_status}
 use Rattle.gp_audit.specs.Verdicts.{IsVerdict}
 use Rattle.gp_traces.specs.Laws.{IsWholeRun, IsNarrowRun}
-use Rattle.gp_traces.proofs.Orders.{order-is}
+use Rattle.gp_audit.proofs.Orders.{order-is}
 use Rattle.gp_traces.proofs.WholeRuns.{audit-is-lawful}
 use Rattle.call_cases.specs.Work.{Files, ToDo, is_journalled}
 use Rattle.call_cases.specs.Journals.{run_of, dependence_for, IsJournalOf, IsCompleteOf}

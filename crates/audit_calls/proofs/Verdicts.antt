@@ -21,7 +21,7 @@ use Rattle.gp_audit.specs.declared.verdict.Verdict.{Verdict}
 use Rattle.gp_audit.specs.Steps.{dependence_by}
 use Rattle.gp_audit.specs.Verdicts.{IsVerdict}
 use Rattle.gp_audit.proofs.Fronts.{verdict_once}
-use Rattle.gp_traces.proofs.Orders.{order-is}
+use Rattle.gp_audit.proofs.Orders.{order-is}
 use Rattle.call_cases.specs.Work.{ToDo}
 use Rattle.call_cases.specs.Journals.{run_of, dependence_for}
 use Rattle.call_cases.specs.Answers.{PutFor, unwritten}

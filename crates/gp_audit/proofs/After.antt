@@ -28,7 +28,7 @@ use Rattle.gp_audit.proofs.ToldEvents.{LineAllowed}
 
 module _ {A : Type 0} where
   -- what stands in a list with one more at its end
-  push_cases : (xs : List A) (x : A) (q : ℕ) (y : A) → slice_get (xs ++ x ∷ []) q ≡ Some y → (slice_get xs q ≡ Some y) ⊎ ((q ≡ length xs) × (x ≡ y))
+  pub push_cases : (xs : List A) (x : A) (q : ℕ) (y : A) → slice_get (xs ++ x ∷ []) q ≡ Some y → (slice_get xs q ≡ Some y) ⊎ ((q ≡ length xs) × (x ≡ y))
   push_cases [] x zero y e = inr (refl, cc e)
   push_cases [] x (suc q) y e = absurd (cc e)
   push_cases (z ∷ zs) x zero y e = inl e
@@ -84,7 +84,7 @@ after_first p redo rising k c = go c.0 c.1 c.2
     go : (i : ℕ) → i < length redo → get_or redo i k ≡ k → p < k
     go i l e = let above = all_above i l in let same = get_or_default redo i k 0 l in omega arith
 
-raised_length : (front : ℕ) (redo : List ℕ) (seen : List Seen) → length (all_raised front redo seen) ≡ length seen
+pub raised_length : (front : ℕ) (redo : List ℕ) (seen : List Seen) → length (all_raised front redo seen) ≡ length seen
 raised_length front [] seen = refl
 raised_length front (p ∷ redo) seen = raised_length front redo (changed_at (raised_seen front) p seen) ∙ length-set seen p (raised_seen front (seen_at seen p))
 
@@ -109,7 +109,7 @@ raised_step front p redo seen q s above later = go (nat_eq q p) refl
         (rw there at later.0, within)
 
 -- the positions that were raised, where they rise
-raised_at : (front : ℕ) (redo : List ℕ) (seen : List Seen) (q : ℕ) (s : Seen) → ((k : ℕ) → Contains redo k → k < length seen) → IsStrictlyIncreasing redo
+pub raised_at : (front : ℕ) (redo : List ℕ) (seen : List Seen) (q : ℕ) (s : Seen) → ((k : ℕ) → Contains redo k → k < length seen) → IsStrictlyIncreasing redo
     → slice_get (all_raised front redo seen) q ≡ Some s → (s ≡ cond (is_member q redo) (raised_seen front (seen_at seen q)) (seen_at seen q)) × (q < length seen)
 raised_at front [] seen q s low rising e = (sym (get_or_from_slice_get seen q s (first_seen q) e), slice_get_within seen q s e)
 raised_at front (p ∷ redo) seen q s low rising e =

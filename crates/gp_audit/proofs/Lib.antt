@@ -7,9 +7,12 @@ pub mod FirstWords
 pub mod Found
 pub mod Fronts
 pub mod Once
+pub mod Orders
 pub mod Parts
 pub mod Raised
+pub mod Reaching
 pub mod RedoLists
+pub mod Replaying
 pub mod Restarts
 pub mod Shown
 pub mod Sifted

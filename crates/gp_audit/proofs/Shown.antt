@@ -23,6 +23,8 @@ use Rattle.gp_audit.specs.declared.line.TraceLine.{TraceLine}
 use Rattle.gp_audit.specs.declared.line.TraceLine.TheVariants as line
 use Rattle.gp_audit.specs.Steps.{feet_in, before_step, last_step, is_step_of, dependence_by}
 use Rattle.gp_audit.specs.inner.Audited.{Audited, seen_at, first_seen, strikes_one, strikes, least_of, is_last, drains_now, struck_in, follows, issues, holds_up, is_held_up, posts, takes, is_drained, retires, restart_at, IsRestart, Takes, is_whole, IsSeen, Shows}
+use Rattle.gp_audit.specs.inner.Replayed.{Reaches}
+use Rattle.gp_audit.proofs.Reaching as reaching
 use Rattle.gp_audit.proofs.ToldEvents.{LineAllowed}
 
 none-decides : {A : Type 0} (o : Option A) → Decides (is_none o) (o ≡ None)
@@ -51,44 +53,23 @@ module _ (at : Stage) (a : Audited) (shows : Shows at a) where
   pub seen-is : (p : ℕ) → p < at.progress.front → IsSeen at p (seen_at a.seen p)
   seen-is p l = let front = shows.front in shows.each p (seen_at a.seen p) (slice_get-get_or a.seen p (first_seen p) (omega arith))
 
-  strikes-is : (any : Bool) (fault : Fault) → strikes any a.seen fault ≡ (is_live at.progress fault && (any || nat_le (begun_of at.progress.made fault.pos + fault.delay) at.progress.front))
-  strikes-is any fault = go (slice_get a.seen fault.pos) refl
-    where
-      go : (o : Option Seen) → slice_get a.seen fault.pos ≡ o
-          → strikes_one any (length a.seen) fault o ≡ (is_live at.progress fault && (any || nat_le (begun_of at.progress.made fault.pos + fault.delay) at.progress.front))
-      go None e = rw late refl
-        where
-          late : nat_lt fault.pos at.progress.front ≡ false
-          late =
-              elim (cases_lt fault.pos at.progress.front) [
-                | inl l ↦ absurd (let front = shows.front in let some = slice_get-get_or a.seen fault.pos (first_seen fault.pos) (omega arith) in let bad = sym e ∙ some in cc)
-                | inr l ↦ le-ltb _ _ l
-              ]
-      go (Some s) e =
-          let is = shows.each fault.pos s e in
-          let within = slice_get_within a.seen fault.pos s e in
-          let front = shows.front in
-          let early : nat_lt fault.pos at.progress.front ≡ true = lt-ltb _ _ (omega arith) in
-          rw (early, is.attempt, is.begun, shows.front) refl
+  reaches : Reaches at.progress a
+  reaches = record { front = shows.front; each = λ p s e. (let is = shows.each p s e in record { attempt = is.attempt; begun = is.begun }) }
 
   due-is : least_of a false ≡ least_struck (is_due at.progress) a.faults
-  due-is = ap (λ test. least_struck test a.faults) (λ i fault. strikes-is false fault i)
-
-  and-true : (b : Bool) → (b && true) ≡ b
-  and-true true = refl
-  and-true false = refl
+  due-is = reaching.due-is at.progress a reaches
 
   live-is : least_of a true ≡ least_struck (is_live at.progress) a.faults
-  live-is = ap (λ test. least_struck test a.faults) (λ i fault. (strikes-is true fault ∙ and-true (is_live at.progress fault)) i)
+  live-is = reaching.live-is at.progress a reaches
 
   drains-is : drains_now a ≡ drains dependence at.progress.front
-  drains-is = ap (drains dependence) shows.front
+  drains-is = reaching.drains-is at.progress a reaches
 
   last-is : is_last a ≡ nat_eq at.progress.front dependence.count
-  last-is = ap (λ n. nat_eq n (length a.steps)) shows.front
+  last-is = reaching.last-is at.progress a reaches
 
   pub struck-is : struck_in a ≡ struck_next dependence a.faults at.progress
-  struck-is = rw (due-is, live-is, drains-is) refl
+  struck-is = reaching.struck-is at.progress a reaches
 
   none-due : (is_none (least_of a false) ≡ true) ↔ NoneDue a.faults at.progress
   none-due = rw due-is (none-decides (least_struck (is_due at.progress) a.faults))

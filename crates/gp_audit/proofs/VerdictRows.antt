@@ -13,7 +13,7 @@ use Rattle.gp_audit.specs.Verdicts.{IsVerdict, events_of}
 
 -- it reads, writes and prints nothing
 one_step : List Step
-one_step = record { thread = 0; begins = record { sync = sync.Start; line = 0 }; foot = record { reads = []; writes = [] }; prints = [] } ∷ []
+one_step = record { thread = 0; begins = record { sync = sync.Start; line = 0 }; held = []; foot = record { reads = []; writes = [] }; prints = [] } ∷ []
 
 abbrev dependence : Dependence
 dependence = dependence_by one_step

@@ -62,7 +62,7 @@ impl Audit<'_> {
     }
 
     // Whether all positions were issued.
-    fn is_last(&self) -> bool
+    pub fn is_last(&self) -> bool
         ensures { result ≡ is_last (kept self.now) }
     {
         self.seen.len() == self.steps.len()
@@ -86,7 +86,7 @@ impl Audit<'_> {
     }
 
     // The position that is struck next.
-    fn struck_next(&self) -> Option<u32>
+    pub fn struck_next(&self) -> Option<u32>
         ensures { result ≡ struck_in (kept self.now) }
     {
         if let Some(position) = self.least_struck(false) {
@@ -206,7 +206,7 @@ impl Audit<'_> {
     }
 
     // Whether one of these positions is in conflict with a later one.
-    fn is_reached(&self, redo: &[Pos], later: usize) -> bool
+    pub fn is_reached(&self, redo: &[Pos], later: usize) -> bool
         requires later { later < length (kept self.now).steps }
         requires redo { All (λ p. p < length (kept self.now).steps) redo.now }
         ensures { result ≡ list_any (λ p. clash_in (feet_in (kept self.now).steps) p later) redo.now }

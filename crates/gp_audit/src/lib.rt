@@ -9,10 +9,12 @@ mod noted;
 mod numbers;
 mod reading;
 mod redo;
+mod replay;
 mod state;
 mod verdict;
 
 pub use answer::{verdict_status, verdict_text};
 pub use line::{TraceFault, TraceLine};
 pub use reading::read_trace;
+pub use replay::restarts_of;
 pub use verdict::{Verdict, audit};

@@ -45,7 +45,7 @@ impl<'a> Audit<'a> {
         }
     }
 
-    fn issue(&mut self, position: Pos) -> Result<(), AllocError>
+    pub fn issue(&mut self, position: Pos) -> Result<(), AllocError>
         requires { position < length (kept self.old).steps }
         ensures { OnOk result ((kept self.new) ≡ after_line (kept self.old) (line.Issue position)) }
     {
@@ -88,7 +88,7 @@ impl<'a> Audit<'a> {
         };
     }
 
-    fn restart(&mut self, restart: &Restart) -> Result<(), AllocError>
+    pub fn restart(&mut self, restart: &Restart) -> Result<(), AllocError>
         requires issued { All (λ p. p < length (kept self.old).seen) restart.now.redo }
         requires narrow { length (kept self.old).seen < 4294967295 }
         requires short { length restart.now.redo ≤ length (kept self.old).seen }

@@ -29,7 +29,7 @@ use Rattle.gp_traces.specs.Laws.{IsWholeRun, IsNarrowRun}
 use Rattle.gp_traces.specs.Told.{lines_of}
 use Rattle.gp_traces.proofs.Narrow.{restarts-narrow, lines-narrow}
 use Rattle.gp_traces.proofs.Numbered.{lines-lawful}
-use Rattle.gp_traces.proofs.Orders.{order-is}
+use Rattle.gp_audit.proofs.Orders.{order-is}
 use Rattle.gp_traces.proofs.Texts.{text-is}
 
 front-narrow : (restarts rest : List Restart) → All IsNarrowRestart (restarts ++ rest) → All IsNarrowRestart restarts

@@ -1,5 +1,5 @@
 use Rattle.gp_traces.proofs.Numbered.{lines-lawful}
-use Rattle.gp_traces.proofs.Orders.{order-is}
+use Rattle.gp_audit.proofs.Orders.{order-is}
 use Rattle.gp_traces.proofs.Texts.{text-is}
 use Rattle.gp_traces.proofs.laws.trace_laws.Goals as goal
 

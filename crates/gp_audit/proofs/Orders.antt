@@ -1,0 +1,54 @@
+-- The steps of a plain run against its subthreads.
+use Rattle.std.proofs.Common.{◌≡◌, ℕ, zero, suc, List, [], ◌∷◌, length, map, Option, Some, None, refl, ap, ◌∙◌}
+use Rattle.std.specs.Prelude.{slice_get}
+use Rattle.std.specs.Option.{option_map}
+use Rattle.std.proofs.lemmas.List.{length-map}
+use Rattle.task_ast.specs.Plain.{Subthread}
+use Rattle.task_ast.specs.Position.{is_of, last_below}
+use Rattle.one_thread.specs.PlainRuns.{shown}
+use Rattle.dependence.specs.Conflict.{clash_in}
+use Rattle.dependence.specs.Dependents.{dependents}
+use Rattle.dependence.specs.Restarts.{Dependence}
+use Rattle.dependence.specs.Runs.{feet_of, before_one, settles_one, dependence_of}
+use Rattle.gp_audit.specs.Steps.{feet_in, is_step_of, last_step, before_step, settles_step, dependence_by}
+
+get-map : (run : List Subthread) (p : ℕ) → slice_get (map shown run) p ≡ option_map shown (slice_get run p)
+get-map [] p = refl
+get-map (s ∷ run) zero = refl
+get-map (s ∷ run) (suc p) = get-map run p
+
+feet-are : (run : List Subthread) → feet_in (map shown run) ≡ feet_of run
+feet-are [] = refl
+feet-are (s ∷ run) = ap (λ feet. (shown s).foot ∷ feet) (feet-are run)
+
+same-step : (t : ℕ) (o : Option Subthread) → is_step_of t (option_map shown o) ≡ is_of t o
+same-step t None = refl
+same-step t (Some s) = refl
+
+last-is : (run : List Subthread) (t p : ℕ) → last_step (map shown run) t p ≡ last_below run t p
+last-is run t zero = refl
+last-is run t (suc p) = rw (get-map run p, same-step t (slice_get run p), last-is run t p) refl
+
+before-is : (run : List Subthread) (p : ℕ) → before_step (map shown run) p (slice_get (map shown run) p) ≡ before_one run p (slice_get run p)
+before-is run p = ap (before_step (map shown run) p) (get-map run p) ∙ go (slice_get run p)
+  where
+    go : (o : Option Subthread) → before_step (map shown run) p (option_map shown o) ≡ before_one run p o
+    go None = refl
+    go (Some s) = last-is run s.thread p
+
+settles-is : (run : List Subthread) (p : ℕ) → settles_step (slice_get (map shown run) p) ≡ settles_one (slice_get run p)
+settles-is run p = ap settles_step (get-map run p) ∙ go (slice_get run p)
+  where
+    go : (o : Option Subthread) → settles_step (option_map shown o) ≡ settles_one o
+    go None = refl
+    go (Some s) = refl
+
+pub order-is : (run : List Subthread) → dependence_by (map shown run) ≡ dependence_of run
+order-is run =
+    λ i. record {
+      count = length-map run shown i;
+      clash = clash_in (feet-are run i);
+      redo = dependents (clash_in (feet-are run i));
+      before = λ p. before-is run p i;
+      settles = λ p. settles-is run p i;
+    }
