@@ -1,37 +1,36 @@
 -- The text of the code's steps is that of the subthreads that they show.
-use Rattle.std.proofs.Common.{◌≡◌, ℕ, suc, List, [], ◌∷◌, ◌++◌, Option, Some, None, map, codes, refl, ap, ap₂, ◌∙◌, append_assoc}
+use Rattle.std.proofs.Common.{◌≡◌, ℕ, suc, List, [], ◌∷◌, ◌++◌, Option, Some, None, map, codes, slice_get, refl, ap, ap₂, ◌∙◌, append_assoc}
+use Rattle.gp_base.specs.declared.footprint.Loc.{Loc}
 use Rattle.gp_base.specs.declared.footprint.Loc.TheVariants as loc
 use Rattle.gp_base.specs.declared.feed.Inputs.{Inputs}
 use Rattle.gp_base.specs.declared.limits.Limits.{Limits}
 use Rattle.task_ast.specs.declared.tree.Head.{Head}
 use Rattle.task_ast.specs.Tree.{Program}
-use Rattle.task_ast.specs.Footprint.{child_registers}
-use Rattle.task_ast.specs.Plain.{Subthread, order, end}
+use Rattle.task_ast.specs.Footprint.{named_by, child_registers}
+use Rattle.task_ast.specs.Plain.{Subthread, foot_of, order, end}
 use Rattle.one_thread.specs.declared.run.PlainRun.{PlainRun}
 use Rattle.one_thread.specs.declared.run.Step.{Step}
 use Rattle.one_thread.specs.PlainRuns.{IsPlainRun, shown}
 use Rattle.run_views.specs.Order.{order_line, order_lines, end_line, order_text}
-use Rattle.run_views.specs.inner.Seen.{child_in, locks_in, seen}
+use Rattle.run_views.specs.inner.Seen.{thread_in, child_in, seen}
 
--- the locks in what is written are those that are held
-locks_in-map : (held : List ℕ) → locks_in (map loc.Lock held) ≡ held
-locks_in-map [] = refl
-locks_in-map (lock ∷ held) = ap (λ l. lock ∷ l) (locks_in-map held)
+-- the thread that is forked is the second whose registers are written
+pub child_written : (s : Subthread) → child_in (foot_of s) ≡ s.child
+child_written s = go s.child (map loc.Rec (named_by s.actions).writes) (no_registers (named_by s.actions).writes)
+  where
+    no_registers : (cells : List ℕ) → thread_in (slice_get (map loc.Rec cells) 0) ≡ None
+    no_registers [] = refl
+    no_registers (cell ∷ cells) = refl
 
-held_in : (child : Option ℕ) (held : List ℕ) → locks_in (child_registers child ++ map loc.Lock held) ≡ held
-held_in None held = locks_in-map held
-held_in (Some c) held = locks_in-map held
-
-child_written : (thread : ℕ) (child : Option ℕ) (held : List ℕ) → child_in (record { reads = []; writes = loc.Regs thread ∷ child_registers child ++ map loc.Lock held }) ≡ child
-child_written thread None [] = refl
-child_written thread None (lock ∷ held) = refl
-child_written thread (Some c) held = refl
+    go : (child : Option ℕ) (cells : List Loc) → thread_in (slice_get cells 0) ≡ None
+        → child_in (record { reads = []; writes = loc.Regs s.thread ∷ child_registers child ++ cells }) ≡ child
+    go None cells none = none
+    go (Some c) cells none = refl
 
 -- a step is seen as the subthread that it shows
-line_seen : (heads : List Head) (p : ℕ) (s : Subthread) → order_line heads p (seen (shown s)) ≡ order_line heads p s
+pub line_seen : (heads : List Head) (p : ℕ) (s : Subthread) → order_line heads p (seen (shown s)) ≡ order_line heads p s
 line_seen heads p s =
-    ap₂ (λ child held. order_line heads p (record { thread = s.thread; begins = s.begins; child = child; held = held; actions = []; lines = s.lines }))
-    (child_written s.thread s.child s.held) (held_in s.child s.held)
+    ap (λ child. order_line heads p (record { thread = s.thread; begins = s.begins; child = child; held = s.held; actions = []; lines = s.lines })) (child_written s)
 
 lines_seen : (heads : List Head) (p : ℕ) (run : List Subthread) → order_lines heads p (map seen (map shown run)) ≡ order_lines heads p run
 lines_seen heads p [] = refl

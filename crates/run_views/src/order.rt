@@ -4,17 +4,17 @@ ghost use Rattle.task_ast.specs.View.{plain_program};
 ghost use Rattle.lock_checker.specs.Accepted.{program_of};
 ghost use Rattle.restart_log.specs.Tail.{why_word};
 ghost use Rattle.run_views.specs.Order.{sync_text, held_text, order_line, order_lines, end_line, order_text};
-ghost use Rattle.run_views.specs.inner.Seen.{child_in, lock_in, locks_in, seen};
+ghost use Rattle.run_views.specs.inner.Seen.{child_in, seen};
 
 use crate::names::{push_barrier, push_lock, push_number};
-use gp_base::{End, Footprint, Inputs, Limits, Loc, Seq, Text, ThreadNo, Why};
+use gp_base::{End, Footprint, Inputs, Limits, Loc, LockNo, Seq, Text, ThreadNo, Why};
 use lock_checker::Checked;
 use one_thread::{Step, run_plain};
 use std::alloc::{AllocError, Global};
 use task_ast::{Head, SyncOp};
 
-// The thread that a subthread forked, whose registers it writes beside its own.
-fn child_in(foot: &Footprint) -> Option<ThreadNo>
+/// The thread that a subthread forked, whose registers it writes beside its own.
+pub fn child_in(foot: &Footprint) -> Option<ThreadNo>
     ensures { result ≡ child_in foot.now }
 {
     match foot.writes.get(1) {
@@ -62,31 +62,19 @@ fn push_sync(
     }
 }
 
-// Appends the lock behind a space, where the location is one.
-fn push_location(text: &mut Vec<u8>, heads: &[Head], location: Loc) -> Result<(), AllocError>
-    ensures { OnOk result (text.new.items ≡ text.old.items ++ held_text heads.now (lock_in location)) }
+// Appends locks, each behind a space.
+fn push_held(text: &mut Vec<u8>, heads: &[Head], held: &[LockNo]) -> Result<(), AllocError>
+    ensures { OnOk result (text.new.items ≡ text.old.items ++ held_text heads.now held.now) }
 {
-    match location {
-        Loc::Lock(lock) => {
-            text.extend_from_slice(b" ")?;
-            push_lock(text, heads, lock)
-        }
-        _ => Ok(()),
-    }
-}
-
-// Appends the locks that are among these locations, each behind a space.
-fn push_held(text: &mut Vec<u8>, heads: &[Head], writes: &[Loc]) -> Result<(), AllocError>
-    ensures { OnOk result (text.new.items ≡ text.old.items ++ held_text heads.now (locks_in writes.now)) }
-{
-    for location in writes {
-        push_location(text, heads, *location)?;
+    for lock in held {
+        text.extend_from_slice(b" ")?;
+        push_lock(text, heads, *lock)?;
     }
     Ok(())
 }
 
-// Appends the line of a subthread at its position.
-fn push_step(
+/// Appends the line of a subthread at its position.
+pub fn push_step(
     text: &mut Vec<u8>,
     heads: &[Head],
     position: usize,
@@ -104,7 +92,7 @@ fn push_step(
     text.extend_from_slice(b" prints ")?;
     push_number(text, step.prints.len())?;
     text.extend_from_slice(b" holds")?;
-    push_held(text, heads, step.foot.writes.as_slice())?;
+    push_held(text, heads, step.held.as_slice())?;
     text.extend_from_slice(b"\n")
 }
 
@@ -129,8 +117,8 @@ fn why_word(why: Why) -> &'static str
     }
 }
 
-// Appends the line that tells how a run ends.
-fn push_end(text: &mut Vec<u8>, end: End) -> Result<(), AllocError>
+/// Appends the line that tells how a run ends.
+pub fn push_end(text: &mut Vec<u8>, end: End) -> Result<(), AllocError>
     ensures { OnOk result (text.new.items ≡ text.old.items ++ end_line end) }
 {
     match end {

@@ -1,2 +1,2 @@
-pub mod OrderWords
+pub mod FirstWords
 pub mod Showing

@@ -1,6 +1,6 @@
 // What a call is to show, from its words and the shelf.
 ghost use Rattle.std.specs.Prelude.{◌≡◌, Some, None, IfOk, IfSome};
-ghost use Rattle.command_line.specs.Words.{texts};
+ghost use Rattle.command_line.specs.Words.{texts, IsWithinLimits};
 ghost use Rattle.call_cases.specs.Case.{IsCase};
 ghost use Rattle.call_cases.specs.Decided.{case_of};
 ghost use Rattle.call_cases.specs.Headline.{ReadsNothing};
@@ -25,6 +25,7 @@ pub fn read_view<H: Shelf>(
     ensures shelf { TouchesShelf MayRead (asked_by (texts words.now)) (H.failed shelf.old) (H.failed shelf.new) result }
     ensures case { IfSome (H.files shelf.old) (λ files. AnswersCase case_of (IsCase asking (texts words.now) files) result) }
     ensures asked { IfOk result (λ request. asked_by (texts words.now) ≡ Some request.asked) }
+    ensures within { IfOk result (λ request. IsWithinLimits request.asked) }
 {
     let asked = match read_words(alloc, words) {
         Ok(Some(asked)) => asked,

@@ -96,7 +96,7 @@ const SPENT: &str = "order
 end spent 0
 ";
 
-const USAGE: &str = "gprs_view: usage: order\n";
+const USAGE: &str = "gprs_view: usage: order | timeline\n";
 
 // The words between spaces.
 fn words_of(alloc: Global, text: &str) -> Result<Vec<String>, AllocError> {
@@ -138,6 +138,7 @@ fn runs_are_shown_or_refused(rt: HostRuntime) -> Result<(), Fail> {
         ("order p.gp --turns 10", LOOP, 0, SPENT, ""),
         ("order p.gp --subthreads 0", LOOP, 2, "", USAGE),
         ("one p.gp", ADD, 2, "", USAGE),
+        ("timeline p.gp --crew two", ADD, 2, "", USAGE),
         (
             "order p.gp",
             "task t() { }",

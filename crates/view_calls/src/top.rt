@@ -1,8 +1,8 @@
 // The top call: all that the program does.
-ghost use Rattle.std.specs.Prelude.{◌≡◌, OnOk, OnErr};
+ghost use Rattle.std.specs.Prelude.{◌≡◌, IfOk, OnOk, OnErr};
 ghost use Rattle.std.specs.Io.KnownBytes.{Appends};
 ghost use Rattle.gp_base.specs.Sinks.{AppendsPrefix, HasCause};
-ghost use Rattle.command_line.specs.Words.{texts};
+ghost use Rattle.command_line.specs.Words.{texts, IsWithinLimits};
 ghost use Rattle.call_cases.specs.Answers.{change_of};
 ghost use Rattle.call_cases.specs.Decided.{work_of};
 ghost use Rattle.call_cases.specs.Headline.{ReadsNothing};
@@ -12,30 +12,46 @@ ghost use Rattle.view_calls.specs.Shows.{Shows, ShowEnds};
 use crate::lines::{refuse, stop_with};
 use crate::reading::read_view;
 use call_cases::Request;
-use gp_base::{Shelf, Sink, SinkFault, put_all};
-use run_views::order_text;
-use std::alloc::Global;
+use command_line::Command;
+use gp_base::{Shelf, Sink, SinkFault, Text, put_all};
+use run_views::{order_text, timeline_text};
+use std::alloc::{AllocError, Global};
 
-// Writes the order of the run that is asked for.
-fn put_order<O: Sink>(alloc: Global, request: &Request, out: &mut O) -> Result<(), SinkFault>
+// The text that is asked for.
+fn text_for(alloc: Global, request: &Request) -> Result<Text, AllocError>
+    requires { IsWithinLimits request.now.asked }
+    ensures { IfOk result (λ text. text ≡ text_of (work_of request.now)) }
+{
+    let limits = request.asked.limits;
+    match request.asked.command {
+        Command::Run => timeline_text(
+            alloc,
+            &request.checked,
+            &request.inputs,
+            limits,
+            &request.faults,
+        ),
+        _ => order_text(alloc, &request.checked, &request.inputs, limits),
+    }
+}
+
+// Writes the text that is asked for.
+fn put_text<O: Sink>(alloc: Global, request: &Request, out: &mut O) -> Result<(), SinkFault>
+    requires { IsWithinLimits request.now.asked }
     ensures all { OnOk result (Appends (O.written out.old) (O.written out.new) (text_of (work_of request.now))) }
     ensures prefix { OnErr result (AppendsPrefix (O.written out.old) (O.written out.new) (text_of (work_of request.now))) }
     ensures cause { HasCause (O.faults out.old) (O.faults out.new) result }
 {
-    let text = order_text(
-        alloc,
-        &request.checked,
-        &request.inputs,
-        request.asked.limits,
-    )?;
+    let text = text_for(alloc, request)?;
     put_all(out, text.as_slice())
 }
 
 // Shows the run that is asked for, and answers the status.
 fn show<O: Sink, E: Sink>(alloc: Global, request: &Request, out: &mut O, err: &mut E) -> u8
+    requires { IsWithinLimits request.now.asked }
     ensures { ShowEnds (text_of (work_of request.now)) (change_of O.written O.faults out.old out.new) (change_of E.written E.faults err.old err.new) result }
 {
-    match put_order(alloc, request, out) {
+    match put_text(alloc, request, out) {
         Ok(()) => 0,
         Err(fault) => stop_with(fault, err),
     }

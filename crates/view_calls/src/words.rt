@@ -1,17 +1,22 @@
 // What words ask for.
-ghost use Rattle.std.specs.Prelude.{◌≡◌, codes, IfOk, IfSome};
-ghost use Rattle.std.specs.Str.{bytes_eq};
+ghost use Rattle.std.specs.Prelude.{◌≡◌, IfOk, IfSome};
 ghost use Rattle.command_line.specs.Words.{texts, IsWithinLimits};
-ghost use Rattle.view_calls.specs.Commands.{asked_by};
+ghost use Rattle.view_calls.specs.Commands.{named_verb, asked_by};
 
 use command_line::{Asked, Verb, asked_of};
 use std::alloc::{AllocError, Global};
 
-// Whether a word is that of the command.
-fn is_order(word: &str) -> bool
-    ensures { result ≡ bytes_eq word.now (codes "order") }
+// The words of `gprs` that stand behind a word.
+fn named_verb(word: &str) -> Option<Verb>
+    ensures { result ≡ named_verb word.now }
 {
-    word == "order"
+    if word == "order" {
+        Some(Verb::One)
+    } else if word == "timeline" {
+        Some(Verb::Run)
+    } else {
+        None
+    }
 }
 
 /// What the words ask for, or none where they are those of no command. `words` are those after the program's own name. The
@@ -23,8 +28,8 @@ pub fn read_words(alloc: Global, words: &[String]) -> Result<Option<Asked>, Allo
     let [word, ..] = words else {
         return Ok(None);
     };
-    if is_order(word.as_str()) {
-        return asked_of(alloc, false, Verb::One, words);
-    }
-    Ok(None)
+    let Some(verb) = named_verb(word.as_str()) else {
+        return Ok(None);
+    };
+    asked_of(alloc, true, verb, words)
 }

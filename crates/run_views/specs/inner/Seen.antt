@@ -1,5 +1,5 @@
 -- What a step of the code's run says of a subthread.
-use Rattle.std.specs.Prelude.{ℕ, List, [], ◌∷◌, Option, Some, None, flat_map, slice_get}
+use Rattle.std.specs.Prelude.{ℕ, [], Option, Some, None, slice_get}
 use Rattle.gp_base.specs.declared.footprint.Loc.{Loc}
 use Rattle.gp_base.specs.declared.footprint.Loc.TheVariants as loc
 use Rattle.gp_base.specs.declared.footprint.Footprint.{Footprint}
@@ -15,14 +15,6 @@ thread_in location = None
 abbrev pub child_in : Footprint → Option ℕ
 child_in foot = thread_in (slice_get foot.writes 1)
 
--- the locks among locations
-abbrev pub lock_in : Loc → List ℕ
-lock_in (loc.Lock lock) = lock ∷ []
-lock_in location = []
-
-abbrev pub locks_in : List Loc → List ℕ
-locks_in locations = flat_map lock_in locations
-
 -- a step as a subthread, but for its actions
 abbrev pub seen : Step → Subthread
-seen step = record { thread = step.thread; begins = step.begins; child = child_in step.foot; held = locks_in step.foot.writes; actions = []; lines = step.prints }
+seen step = record { thread = step.thread; begins = step.begins; child = child_in step.foot; held = step.held; actions = []; lines = step.prints }

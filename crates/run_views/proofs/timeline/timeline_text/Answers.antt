@@ -1,0 +1,31 @@
+use Rattle.std.proofs.Common.{◌≡◌, ◌<◌, ◌≤◌, length, All, ap, sym, subst, ◌∙◌, arith}
+use Rattle.gp_base.specs.declared.journal.Restart.{Restart}
+use Rattle.task_ast.specs.declared.tree.Program.{Program}
+use Rattle.task_ast.specs.View.{plain_program}
+use Rattle.lock_checker.specs.Accepted.{program_of}
+use Rattle.run_views.proofs.Pictures.{few-steps, few-made, low-fronts, picture-shown}
+use Rattle.run_views.proofs.timeline.timeline_text.Goals as goal
+
+pub restarts_of-requires : goal.restarts_of-requires
+restarts_of-requires c =
+    let few = few-steps (plain_program (program_of c.args.c.now)) c.args.inputs.now c.args.limits c.in_ok-run.run' c.in_ok-run.ensures c.requires in
+    omega arith
+
+pub picture-requires-clause-few : goal.picture-requires-clause-few
+picture-requires-clause-few c = few-steps (plain_program (program_of c.args.c.now)) c.args.inputs.now c.args.limits c.in_ok-run.run' c.in_ok-run.ensures c.requires
+
+pub picture-requires-clause-few_restarts : goal.picture-requires-clause-few_restarts
+picture-requires-clause-few_restarts c =
+    few-made (plain_program (program_of c.args.c.now)) c.args.inputs.now c.args.limits c.in_ok-run.run' c.in_ok-run.ensures c.requires c.args.faults.now.list _
+    (c.as_slice.ensures ∙ c.in_ok-restarts.ensures) c.args.faults.now.few
+
+pub picture-requires-clause-fronts : goal.picture-requires-clause-fronts
+picture-requires-clause-fronts c =
+    low-fronts (plain_program (program_of c.args.c.now)) c.args.inputs.now c.args.limits c.in_ok-run.run' c.in_ok-run.ensures c.requires c.args.faults.now.list _
+    (c.as_slice.ensures ∙ c.in_ok-restarts.ensures)
+
+pub returns : goal.returns
+returns c =
+    c.from_vec.ensures ∙ c.in_ok-text.ensures
+    ∙ picture-shown (plain_program (program_of c.args.c.now)) c.args.inputs.now c.args.limits c.in_ok-run.run' c.in_ok-run.ensures c.requires c.args.faults.now.list _
+    (c.as_slice.ensures ∙ c.in_ok-restarts.ensures) _ (c.as_slice-heads.ensures ∙ ap (λ (p : Program). p.heads) c.program.ensures)

@@ -1,0 +1,80 @@
+// The elements of a picture.
+ghost use Rattle.std.specs.Prelude.{◌≡◌, ◌++◌, codes, decimal, OnOk};
+ghost use Rattle.run_views.specs.Timeline.{at_place, placed, sized, words_from, words};
+
+use crate::names::push_number;
+use std::alloc::AllocError;
+
+// Appends the place of an element.
+#[tactic(auto, unfolding(crate::specs::Timeline::at_place))]
+fn push_place(text: &mut Vec<u8>, x: u64, y: u64) -> Result<(), AllocError>
+    ensures { OnOk result (text.new.items ≡ text.old.items ++ at_place x y) }
+{
+    text.extend_from_slice(b" x='")?;
+    push_number(text, x)?;
+    text.extend_from_slice(b"' y='")?;
+    push_number(text, y)?;
+    text.extend_from_slice(b"'")
+}
+
+/// Appends its size.
+#[tactic(auto, unfolding(crate::specs::Timeline::sized))]
+pub fn push_sized(text: &mut Vec<u8>, width: u64, height: u64) -> Result<(), AllocError>
+    ensures { OnOk result (text.new.items ≡ text.old.items ++ sized width height) }
+{
+    text.extend_from_slice(b" width='")?;
+    push_number(text, width)?;
+    text.extend_from_slice(b"' height='")?;
+    push_number(text, height)?;
+    text.extend_from_slice(b"'")
+}
+
+/// Appends how an element of a class at a place begins, from its opening bracket and name on.
+#[tactic(auto, unfolding(crate::specs::Timeline::placed))]
+pub fn push_placed(
+    text: &mut Vec<u8>,
+    name: &[u8],
+    class: &[u8],
+    x: u64,
+    y: u64,
+) -> Result<(), AllocError>
+    ensures { OnOk result (text.new.items ≡ text.old.items ++ placed name.now class.now x y) }
+{
+    text.extend_from_slice(name)?;
+    text.extend_from_slice(b" class='")?;
+    text.extend_from_slice(class)?;
+    text.extend_from_slice(b"'")?;
+    push_place(text, x, y)
+}
+
+/// Appends how words of a class at a place begin.
+#[tactic(auto, unfolding(crate::specs::Timeline::words_from))]
+pub fn push_words(text: &mut Vec<u8>, class: &[u8], x: u64, y: u64) -> Result<(), AllocError>
+    ensures { OnOk result (text.new.items ≡ text.old.items ++ words_from class.now x y) }
+{
+    push_placed(text, b"<text", class, x, y)?;
+    text.extend_from_slice(b">")
+}
+
+/// Appends how they end.
+pub fn end_words(text: &mut Vec<u8>) -> Result<(), AllocError>
+    ensures { OnOk result (text.new.items ≡ text.old.items ++ codes "</text>\n") }
+{
+    text.extend_from_slice(b"</text>\n")
+}
+
+/// Appends a number as words of a class at a place.
+#[tactic(auto, unfolding(crate::specs::Timeline::words))]
+pub fn push_numeral(
+    text: &mut Vec<u8>,
+    class: &[u8],
+    x: u64,
+    y: u64,
+    number: u64,
+) -> Result<(), AllocError>
+    ensures { OnOk result (text.new.items ≡ text.old.items ++ words class.now x y (decimal number)) }
+{
+    push_words(text, class, x, y)?;
+    push_number(text, number)?;
+    end_words(text)
+}

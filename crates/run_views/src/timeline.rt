@@ -1,0 +1,431 @@
+// The picture of a run and of its restarts.
+ghost use Rattle.std.specs.Prelude.{◌≡◌, ◌<◌, ◌≤◌, ◌++◌, length, map, All, IfOk, OnOk};
+ghost use Rattle.gp_base.specs.declared.limits.TheConstants.{MOST_SUBTHREADS};
+ghost use Rattle.task_ast.specs.View.{plain_program};
+ghost use Rattle.lock_checker.specs.Accepted.{program_of};
+ghost use Rattle.run_views.specs.Timeline.{svg_start, colours, legend, summary, opening, rows, row, mark, class_of, fate_text, title, attempt_box, ended_by, boxes, column_of, columns, struck_text, note, restart_mark, restart_marks, picture, timeline_text};
+ghost use Rattle.run_views.specs.inner.Seen.{seen};
+ghost use Rattle.run_views.specs.inner.Small.{IsSmall};
+
+use crate::elements::{end_words, push_numeral, push_placed, push_sized, push_words};
+use crate::frame::{Frame, frame_of, left, redoes};
+use crate::names::push_number;
+use crate::order::{child_in, push_end, push_step};
+use gp_audit::restarts_of;
+use gp_base::{End, Faults, Inputs, Limits, Restart, Seq, Text, ThreadNo};
+use lock_checker::Checked;
+use one_thread::{PlainRun, Step, run_plain};
+use std::alloc::{AllocError, Global};
+use task_ast::{Head, SyncOp};
+
+const COLOURS: &[u8] =
+    b">\n<style>text{font:10px sans-serif}.side{text-anchor:end}.column,.kept,.again,.struck,.undone{text-anchor:middle}text.again,text.struck{fill:#fff}.note{fill:#d7263d}.row{fill:#efefef}rect.kept{fill:#b9d7ea}rect.again{fill:#2b6ea6}rect.struck,.front{fill:#d7263d}rect.undone{fill:#f4a259}</style>\n<rect width='100%' height='100%' fill='#fff'/>\n";
+
+const LEGEND: &[u8] =
+    b"<rect class='kept' x='50' y='30' width='14' height='12'/><text x='68' y='40'>kept</text><rect class='struck' x='110' y='30' width='14' height='12'/><text x='128' y='40'>struck by a fault</text><rect class='undone' x='230' y='30' width='14' height='12'/><text x='248' y='40'>undone, since it depends on one that was struck</text><rect class='again' x='500' y='30' width='14' height='12'/><text x='518' y='40'>kept after a restart</text>\n";
+
+/// What became of an attempt: it stays, or a restart of this number struck it, or undid it.
+#[derive(Clone, Copy)]
+pub enum Fate {
+    Stays,
+    Struck(u64),
+    Undone(u64),
+}
+
+// A subthread at its position, in a picture of this frame of a program with these heads.
+#[derive(Clone, Copy)]
+struct Column<'a> {
+    frame: Frame,
+    heads: &'a [Head],
+    position: usize,
+    step: &'a Step,
+}
+
+// Appends how a picture begins.
+#[tactic(auto, unfolding(crate::specs::Timeline::svg_start))]
+fn push_start(text: &mut Vec<u8>) -> Result<(), AllocError>
+    ensures { OnOk result (text.new.items ≡ text.old.items ++ svg_start) }
+{
+    text.extend_from_slice(b"<svg xmlns='http://www.w3.org/2000/svg'")
+}
+
+// Appends the colours of a picture.
+#[tactic(auto, unfolding(crate::specs::Timeline::colours))]
+fn push_colours(text: &mut Vec<u8>) -> Result<(), AllocError>
+    ensures { OnOk result (text.new.items ≡ text.old.items ++ colours) }
+{
+    text.extend_from_slice(COLOURS)
+}
+
+// Appends what they mean.
+#[tactic(auto, unfolding(crate::specs::Timeline::legend))]
+fn push_legend(text: &mut Vec<u8>) -> Result<(), AllocError>
+    ensures { OnOk result (text.new.items ≡ text.old.items ++ legend) }
+{
+    text.extend_from_slice(LEGEND)
+}
+
+// Appends how many subthreads and restarts there are, and how the run ends.
+#[tactic(auto, unfolding(crate::specs::Timeline::summary))]
+fn push_summary(
+    text: &mut Vec<u8>,
+    frame: &Frame,
+    restarts: u64,
+    end: End,
+) -> Result<(), AllocError>
+    ensures { OnOk result (text.new.items ≡ text.old.items ++ summary frame.now restarts end) }
+{
+    push_number(text, frame.positions)?;
+    text.extend_from_slice(b" subthreads, ")?;
+    push_number(text, restarts)?;
+    text.extend_from_slice(b" restarts, ")?;
+    push_end(text, end)
+}
+
+// Appends the head of a picture.
+#[tactic(auto, unfolding(crate::specs::Timeline::opening, crate::specs::Timeline::words))]
+fn push_opening(
+    text: &mut Vec<u8>,
+    frame: &Frame,
+    restarts: u64,
+    end: End,
+) -> Result<(), AllocError>
+    requires small { IsSmall frame.now }
+    requires few { restarts ≤ 1000 }
+    ensures { OnOk result (text.new.items ≡ text.old.items ++ opening frame.now restarts end) }
+{
+    push_start(text)?;
+    let width = (frame.width() + 60).max(660);
+    push_sized(text, width, frame.foot() + 16 * restarts + 20)?;
+    push_colours(text)?;
+    push_words(text, b"run", 50, 20)?;
+    push_summary(text, frame, restarts, end)?;
+    end_words(text)?;
+    push_legend(text)
+}
+
+// Appends the row of a thread in the band of a position.
+#[tactic(auto, unfolding(crate::specs::Timeline::row))]
+fn push_row(text: &mut Vec<u8>, frame: &Frame, position: u64, thread: u64) -> Result<(), AllocError>
+    requires small { IsSmall frame.now }
+    requires position { position ≤ 200040 }
+    requires thread { thread < 4294967296 }
+    ensures { OnOk result (text.new.items ≡ text.old.items ++ row frame.now position thread) }
+{
+    let top = frame.row_top(position, thread);
+    push_placed(text, b"<rect", b"row", 50, top)?;
+    push_sized(text, frame.width(), frame.row_height() - 2)?;
+    text.extend_from_slice(b"/>\n")?;
+    push_numeral(text, b"side", 44, top + 11, thread)
+}
+
+// Appends the rows of all threads in that band.
+fn push_rows(text: &mut Vec<u8>, frame: &Frame, position: u64) -> Result<(), AllocError>
+    requires small { IsSmall frame.now }
+    requires position { position ≤ 200040 }
+    ensures { OnOk result (text.new.items ≡ text.old.items ++ rows frame.now position frame.now.threads) }
+{
+    for thread in 0..frame.threads {
+        push_row(text, frame, position, thread)?;
+    }
+    Ok(())
+}
+
+// Appends how a subthread begins, in short.
+fn push_mark(text: &mut Vec<u8>, sync: &SyncOp, child: Option<ThreadNo>) -> Result<(), AllocError>
+    ensures { OnOk result (text.new.items ≡ text.old.items ++ mark sync.now child) }
+{
+    match sync {
+        SyncOp::Start => text.extend_from_slice(b"S"),
+        SyncOp::Lock(lock) => {
+            text.extend_from_slice(b"L")?;
+            push_number(text, lock.0)
+        }
+        SyncOp::Unlock(lock) => {
+            text.extend_from_slice(b"U")?;
+            push_number(text, lock.0)
+        }
+        SyncOp::Fork { .. } => {
+            text.extend_from_slice(b"F")?;
+            match child {
+                Some(child) => push_number(text, child.0),
+                None => Ok(()),
+            }
+        }
+        SyncOp::Join(thread) => {
+            text.extend_from_slice(b"J")?;
+            push_number(text, *thread)
+        }
+        SyncOp::Barrier(barrier) => {
+            text.extend_from_slice(b"B")?;
+            push_number(text, *barrier)
+        }
+        SyncOp::Settle { .. } => text.extend_from_slice(b"="),
+        SyncOp::End | SyncOp::BadIndex | SyncOp::Spent => Ok(()),
+    }
+}
+
+// The class of an attempt.
+fn class_of(attempt: u64, fate: Fate) -> &'static [u8]
+    ensures { result.now ≡ class_of attempt fate }
+{
+    match fate {
+        Fate::Stays if attempt == 0 => b"kept",
+        Fate::Stays => b"again",
+        Fate::Struck(_) => b"struck",
+        Fate::Undone(_) => b"undone",
+    }
+}
+
+// Appends what became of an attempt.
+fn push_fate(text: &mut Vec<u8>, fate: Fate) -> Result<(), AllocError>
+    ensures { OnOk result (text.new.items ≡ text.old.items ++ fate_text fate) }
+{
+    match fate {
+        Fate::Stays => text.extend_from_slice(b" kept"),
+        Fate::Struck(number) => {
+            text.extend_from_slice(b" struck by ")?;
+            push_number(text, number)
+        }
+        Fate::Undone(number) => {
+            text.extend_from_slice(b" undone by ")?;
+            push_number(text, number)
+        }
+    }
+}
+
+// What becomes of an attempt of the position that a restart of this number redoes.
+fn ended_by(position: usize, number: u64, restart: &Restart) -> Fate
+    ensures { result ≡ ended_by position number restart.now }
+{
+    if restart.struck.0 as usize == position {
+        Fate::Struck(number)
+    } else {
+        Fate::Undone(number)
+    }
+}
+
+// Appends what the box of an attempt says when it is pointed at.
+#[tactic(auto, unfolding(crate::specs::Timeline::title))]
+fn push_title(
+    text: &mut Vec<u8>,
+    column: &Column<'_>,
+    attempt: u64,
+    fate: Fate,
+) -> Result<(), AllocError>
+    ensures { OnOk result (text.new.items ≡ text.old.items
+        ++ title column.now.heads.now column.now.position (seen column.now.step.now) attempt fate) }
+{
+    push_step(text, column.heads, column.position, column.step)?;
+    text.extend_from_slice(b"attempt ")?;
+    push_number(text, attempt)?;
+    push_fate(text, fate)
+}
+
+// Appends the box of an attempt.
+#[tactic(auto, unfolding(crate::specs::Timeline::attempt_box, crate::specs::Timeline::words))]
+fn push_box(
+    text: &mut Vec<u8>,
+    column: &Column<'_>,
+    attempt: u64,
+    fate: Fate,
+) -> Result<(), AllocError>
+    requires small { IsSmall column.now.frame }
+    requires position { column.now.position ≤ 200000 }
+    requires attempt { attempt ≤ 1000 }
+    ensures { OnOk result (text.new.items ≡ text.old.items
+        ++ attempt_box column.now.frame column.now.heads.now column.now.position (seen column.now.step.now) attempt fate) }
+{
+    let class = class_of(attempt, fate);
+    let position = column.position as u64;
+    let step = column.step;
+    let thread = u64::from(step.thread.0);
+    let top = column.frame.lane_top(position, thread, attempt);
+    push_placed(text, b"<rect", class, left(position), top)?;
+    push_sized(text, 32, 12)?;
+    text.extend_from_slice(b"><title>")?;
+    push_title(text, column, attempt, fate)?;
+    text.extend_from_slice(b"</title></rect>\n")?;
+    push_words(text, class, left(position) + 16, top + 10)?;
+    push_mark(text, &step.begins.sync, child_in(&step.foot))?;
+    end_words(text)
+}
+
+// Appends the boxes of a subthread: one for each restart that redoes it, and one for the attempt that stays.
+fn push_boxes(
+    text: &mut Vec<u8>,
+    column: &Column<'_>,
+    restarts: &[Restart],
+) -> Result<(), AllocError>
+    requires small { IsSmall column.now.frame }
+    requires position { column.now.position ≤ 200000 }
+    requires few { length restarts.now ≤ 1000 }
+    ensures { OnOk result (text.new.items ≡ text.old.items
+        ++ boxes column.now.frame column.now.heads.now column.now.position (seen column.now.step.now) 0 1 restarts.now) }
+{
+    let mut attempt = 0;
+    for (at, restart) in restarts.iter().enumerate() {
+        if redoes(restart, column.position as u64) {
+            let fate = ended_by(column.position, at as u64 + 1, restart);
+            push_box(text, column, attempt, fate)?;
+            attempt += 1;
+        }
+    }
+    push_box(text, column, attempt, Fate::Stays)
+}
+
+// Appends the column of a subthread, the first of a band with the rows.
+#[tactic(auto, unfolding(crate::specs::Timeline::column_of))]
+fn push_column(
+    text: &mut Vec<u8>,
+    column: &Column<'_>,
+    restarts: &[Restart],
+) -> Result<(), AllocError>
+    requires small { IsSmall column.now.frame }
+    requires position { column.now.position ≤ 200000 }
+    requires few { length restarts.now ≤ 1000 }
+    ensures { OnOk result (text.new.items ≡ text.old.items
+        ++ column_of column.now.frame column.now.heads.now restarts.now column.now.position (seen column.now.step.now)) }
+{
+    let position = column.position as u64;
+    if position % 40 == 0 {
+        push_rows(text, &column.frame, position)?;
+    }
+    let top = column.frame.top(position);
+    push_numeral(text, b"column", left(position) + 16, top + 12, position)?;
+    push_boxes(text, column, restarts)
+}
+
+// Appends the columns of subthreads, the first of which is at position 0.
+fn push_columns(
+    text: &mut Vec<u8>,
+    frame: &Frame,
+    heads: &[Head],
+    order: &[Step],
+    restarts: &[Restart],
+) -> Result<(), AllocError>
+    requires small { IsSmall frame.now }
+    requires few { length order.now ≤ 200000 }
+    requires few_restarts { length restarts.now ≤ 1000 }
+    ensures { OnOk result (text.new.items ≡ text.old.items ++ columns frame.now heads.now restarts.now 0 (map seen order.now)) }
+{
+    for (position, step) in order.iter().enumerate() {
+        let column = Column {
+            frame: *frame,
+            heads,
+            position,
+            step,
+        };
+        push_column(text, &column, restarts)?;
+    }
+    Ok(())
+}
+
+// Appends which attempt a restart found struck, in words.
+#[tactic(auto, unfolding(crate::specs::Timeline::struck_text))]
+fn push_struck(text: &mut Vec<u8>, restart: &Restart) -> Result<(), AllocError>
+    ensures { OnOk result (text.new.items ≡ text.old.items ++ struck_text restart.now) }
+{
+    text.extend_from_slice(b" attempt ")?;
+    push_number(text, restart.attempt)?;
+    text.extend_from_slice(b" of ")?;
+    push_number(text, restart.struck.0)?;
+    text.extend_from_slice(b" struck")
+}
+
+// Appends what a restart of this number did, in words.
+#[tactic(auto, unfolding(crate::specs::Timeline::note))]
+fn push_note(text: &mut Vec<u8>, number: u64, restart: &Restart) -> Result<(), AllocError>
+    ensures { OnOk result (text.new.items ≡ text.old.items ++ note number restart.now) }
+{
+    push_number(text, number)?;
+    text.extend_from_slice(b": front ")?;
+    push_number(text, restart.front.0)?;
+    push_struck(text, restart)?;
+    text.extend_from_slice(b" redone ")?;
+    push_number(text, restart.redo.len())
+}
+
+// Appends a restart by its number: a line behind the last position before its front, and a note at the foot.
+#[tactic(auto, unfolding(crate::specs::Timeline::restart_mark, crate::specs::Timeline::words))]
+fn push_restart(
+    text: &mut Vec<u8>,
+    frame: &Frame,
+    number: u64,
+    restart: &Restart,
+) -> Result<(), AllocError>
+    requires small { IsSmall frame.now }
+    requires front { restart.now.front ≤ 200000 }
+    requires number { number ≤ 1000 }
+    ensures { OnOk result (text.new.items ≡ text.old.items ++ restart_mark frame.now number restart.now) }
+{
+    let last = u64::from(restart.front.0.saturating_sub(1));
+    let top = frame.top(last);
+    push_placed(text, b"<rect", b"front", left(last) + 32, top + 14)?;
+    push_sized(text, 2, frame.band_height() - 24)?;
+    text.extend_from_slice(b"/>\n")?;
+    push_numeral(
+        text,
+        b"note",
+        left(last) + 30,
+        top + frame.band_height(),
+        number,
+    )?;
+    push_words(text, b"note", 50, frame.foot() + 16 * number)?;
+    push_note(text, number, restart)?;
+    end_words(text)
+}
+
+// Appends restarts, numbered from 1.
+fn push_restarts(text: &mut Vec<u8>, frame: &Frame, restarts: &[Restart]) -> Result<(), AllocError>
+    requires small { IsSmall frame.now }
+    requires few { length restarts.now ≤ 1000 }
+    requires fronts { All (λ r. r.front ≤ 200000) restarts.now }
+    ensures { OnOk result (text.new.items ≡ text.old.items ++ restart_marks frame.now 1 restarts.now) }
+{
+    for (at, restart) in restarts.iter().enumerate() {
+        push_restart(text, frame, at as u64 + 1, restart)?;
+    }
+    Ok(())
+}
+
+// The picture of a run of a program with these heads, and of these restarts.
+fn picture(
+    alloc: Global,
+    heads: &[Head],
+    run: &PlainRun,
+    restarts: &[Restart],
+) -> Result<Vec<u8>, AllocError>
+    requires few { length run.now.order ≤ 200000 }
+    requires few_restarts { length restarts.now ≤ 1000 }
+    requires fronts { All (λ r. r.front ≤ 200000) restarts.now }
+    ensures { IfOk result (λ text. text.items ≡ picture heads.now (map seen run.now.order) run.now.end restarts.now) }
+{
+    let order = run.order.as_slice();
+    let frame = frame_of(order, restarts);
+    let mut text = Vec::new(alloc);
+    push_opening(&mut text, &frame, restarts.len() as u64, run.end)?;
+    push_columns(&mut text, &frame, heads, order, restarts)?;
+    push_restarts(&mut text, &frame, restarts)?;
+    text.extend_from_slice(b"</svg>\n")?;
+    Ok(text)
+}
+
+/// The picture, as SVG, of a program's run and of the restarts that these faults make of it. Columns are positions, in bands of
+/// forty; rows are threads, with a lane for each attempt. The error is that memory is out.
+pub fn timeline_text(
+    alloc: Global,
+    c: &Checked,
+    inputs: &Inputs,
+    limits: Limits,
+    faults: &Faults,
+) -> Result<Text, AllocError>
+    requires { limits.subthreads ≤ MOST_SUBTHREADS }
+    ensures { IfOk result (λ text. text ≡ timeline_text (plain_program (program_of c.now)) inputs.now limits faults.now.list) }
+{
+    let run = run_plain(alloc, c, inputs, limits)?;
+    let restarts = restarts_of(alloc, &run.order, faults)?;
+    let heads = c.program().heads.as_slice();
+    let text = picture(alloc, heads, &run, restarts.as_slice())?;
+    Ok(Seq::from_vec(text))
+}
