@@ -123,7 +123,7 @@ fn keeps_records<R: Threads + Sync + AllocGlobal>(rt: &R, crew: &str) -> Result<
     let words = format!(in rt.alloc(); "run soak.gp --faults faults.csv {crew}")?;
     let ran = answer_over_batch(rt, words.as_str(), 0)?;
     let plain = answer_over_batch(rt, "one soak.gp", 0)?;
-    let counts = "counts\nsubthreads 8025\nrestarts 40\nredone 260\nunused 0\n";
+    let counts = "counts\nsubthreads 8025\nrestarts 40\nredone 240\nunused 0\n";
     let plain_counts = "restarts\ncounts\nsubthreads 8025\nrestarts 0\nredone 0\nunused 0\n";
     Ok(
         ends_with(&ran, counts)

@@ -28,6 +28,43 @@ task main() {
 }
 ";
 
+// Two threads write a record each under one lock.
+const APART: &str = "lock bank[1];
+record acct[1] by bank;
+record fee[1] by bank;
+task a() { lock bank[0]; write acct[0] = 5; unlock bank[0]; }
+task b() { lock bank[0]; write fee[0] = 6; unlock bank[0]; }
+task main() { fork a(); fork b(); join 1; join 2; }
+";
+
+// The second one names the record of the first too, in the arm of a choice that it does not take.
+const NAMED: &str = "lock bank[1];
+record acct[1] by bank;
+record fee[1] by bank;
+task a() { lock bank[0]; write acct[0] = 5; unlock bank[0]; }
+task b() { var $z; lock bank[0]; when $z { write acct[0] = 7; } else { write fee[0] = 6; } unlock bank[0]; }
+task main() { fork a(); fork b(); join 1; join 2; }
+";
+
+// Ten threads add to a record each, five times, under one lock.
+fn ten_records(alloc: Global) -> Result<String, AllocError> {
+    let mut text = format!(in alloc; "lock bank[1];\n")?;
+    for number in 0u32..10 {
+        let record = format!(in alloc; "record r{number}[1] by bank;\n")?;
+        text.push_str(record.as_str())?;
+    }
+    for number in 0u32..10 {
+        let task = format!(in alloc;
+            "task t{number}() {{ var i, $x; while i < 5 {{ lock bank[0]; read r{number}[0] into $x; write r{number}[0] = $x + 1; unlock bank[0]; i = i + 1; }} }}\n"
+        )?;
+        text.push_str(task.as_str())?;
+    }
+    text.push_str(
+        "task main() { var w; fork t0(); fork t1(); fork t2(); fork t3(); fork t4(); fork t5(); fork t6(); fork t7(); fork t8(); fork t9(); w = 1; while w <= 10 { join w; w = w + 1; } }\n",
+    )?;
+    Ok(text)
+}
+
 /// The crews, in the words that name them.
 pub const CREWS: [&str; 10] = [
     "--crew one",
@@ -100,10 +137,43 @@ fn faults_redo_their_dependents(rt: HostRuntime) -> Result<(), Fail> {
             [11, 1, 3, 0],
         ),
         (EDGES, "0,0,5,1\n", edges, start, [1, 1, 1, 0]),
+        (
+            APART,
+            "4,0,3,1\n",
+            "records\nacct: 5\nfee: 6\n",
+            "1: front 8 struck 4 try 0 redo 4 6\n",
+            [11, 1, 2, 0],
+        ),
+        (
+            NAMED,
+            "4,0,3,1\n",
+            "records\nacct: 5\nfee: 6\n",
+            struck,
+            [11, 1, 3, 0],
+        ),
     ];
     for (program, faults, told, restarts, counts) in rows {
         assert!(rt; redoes(&rt, program, faults, told, restarts, counts)?);
     }
+    Ok(())
+}
+
+// A fault redoes what named the record of the position that it strikes, and not what held the same lock, which would be 43 positions.
+#[test]
+fn a_lock_over_ten_records_redoes_those_of_one(rt: HostRuntime) -> Result<(), Fail> {
+    let program = ten_records(rt.alloc())?;
+    let told = "records\nr0: 5\nr1: 5\nr2: 5\nr3: 5\nr4: 5\nr5: 5\nr6: 5\nr7: 5\nr8: 5\nr9: 5\n";
+    let restarts = "1: front 111 struck 50 try 0 redo 50 69 70 89 90\n";
+    assert!(rt;
+        redoes(
+            &rt,
+            program.as_str(),
+            "50,0,60,1\n",
+            told,
+            restarts,
+            [131, 1, 5, 0]
+        )?
+    );
     Ok(())
 }
 
@@ -161,7 +231,7 @@ fn runs_are_traced(rt: HostRuntime) -> Result<(), Fail> {
 #[test]
 fn a_batch_of_transfers_keeps_its_sum(rt: HostRuntime) -> Result<(), Fail> {
     let text =
-        "soak 2000 1\nend finished\nsum 100000\ncounts\nsubthreads 8025\nrestarts 40\nredone 260\nunused 0\n";
+        "soak 2000 1\nend finished\nsum 100000\ncounts\nsubthreads 8025\nrestarts 40\nredone 240\nunused 0\n";
     for crew in CREWS {
         let words = format!(in rt.alloc(); "soak 2000 1 {crew}")?;
         assert!(rt; gives(&rt, words.as_str(), alone(EMPTY), 0, text, "")?);

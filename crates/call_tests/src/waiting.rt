@@ -14,7 +14,7 @@ const STRUCK: &str =
     "output\nrecords\ntotal: 7\nrestarts\n1: front 8 struck 4 try 0 redo 4 6 7\ncounts\nsubthreads 11\nrestarts 1\nredone 3\nunused 0\n";
 
 const SOAK: &str =
-    "soak 2000 1\nend finished\nsum 100000\ncounts\nsubthreads 8025\nrestarts 40\nredone 260\nunused 0\n";
+    "soak 2000 1\nend finished\nsum 100000\ncounts\nsubthreads 8025\nrestarts 40\nredone 240\nunused 0\n";
 
 // What the words come to over these files, where tasks enter this gate.
 fn answer_through<

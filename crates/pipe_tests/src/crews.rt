@@ -1,5 +1,9 @@
 // A crew of lasting threads, with tasks of a program that does nothing.
-ghost use Rattle.std.specs.Prelude.{◌≡◌, [], IfOk};
+ghost use Rattle.std.specs.Prelude.{◌≡◌, [], IsTrue, IfOk};
+ghost use Rattle.task_code.specs.Flat.{code_of};
+ghost use Rattle.task_code.specs.Reading.{instrs_of};
+ghost use Rattle.subthread.specs.declared.task.Work.{Work as PlainWork};
+ghost use Rattle.subthread.specs.Tasks.{Fits};
 
 use crew::Crew;
 use gp_base::{At, FreeGate, Gate, Pos, Seq, ThreadNo};
@@ -32,10 +36,18 @@ fn idle_work(alloc: Global) -> Result<Arc<Work>, Fail> {
     Ok(Arc::new(alloc, work)?)
 }
 
+// Whether the first task has no code.
+#[tactic(auto, using(crate::proofs::Idle::none_there))]
+fn is_idle(work: &Work) -> bool
+    ensures { IsTrue result → instrs_of (code_of work.now.code).tasks 0 ≡ [] }
+{
+    work.code.instrs(0).is_empty()
+}
+
 // An attempt of the program's only subthread.
 fn start(alloc: Global, attempt: u32) -> Result<Task, AllocError>
     ensures attempt { IfOk result (λ task. task.attempt ≡ attempt) }
-    ensures bundles { IfOk result (λ task. task.given.bundles ≡ []) }
+    ensures fits { IfOk result (λ task. (work : PlainWork) → instrs_of (code_of work.code).tasks 0 ≡ [] → Fits work task) }
 {
     let regs = Seq::from_slice(alloc, &[0])?;
     Ok(Task {
@@ -78,6 +90,7 @@ fn two_of_three<C: Crew, R: Threads + Sync>(
 ) -> Result<(Option<u32>, Option<u32>), AllocError>
     requires ready { C.ready crew.old }
     requires posted { C.posted crew.old ≡ [] }
+    requires idle { instrs_of (code_of (C.work crew.old).code).tasks 0 ≡ [] }
 {
     crew.post(rt, start(alloc, 0)?)?;
     crew.post(rt, start(alloc, 1)?)?;
@@ -98,6 +111,9 @@ fn attempts_by_threads<
     gate: &Arc<G>,
     work: &Arc<Work>,
 ) -> Result<(Option<u32>, Option<u32>), AllocError> {
+    if !is_idle(work) {
+        return Ok((None, None));
+    }
     let mut crew = PipeCrew::new(alloc, rt.clone()?, work, workers, gate)?;
     two_of_three(rt, alloc, &mut crew)
 }

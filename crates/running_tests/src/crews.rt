@@ -1,9 +1,11 @@
 // Crews over tasks of one program: each hands back what was posted, once, in an order of its own.
 ghost use Rattle.std.specs.Prelude.{◌≡◌, [], All, IfOk};
 ghost use Rattle.subthread.specs.Tasks.{Fits};
+ghost use Rattle.running_tests.specs.Named.{NamesBelow, FitsWithoutCells};
 ghost use Rattle.crew.specs.Out.{AreRuns};
 ghost use Rattle.steal_crew.specs.Batches.{AreCounted};
 
+use crate::named::names_below;
 use crate::programs::{ADD, accepted};
 use crew::{BatchCrew, Crew, InlineCrew, MeanSteps, ScriptCrew, run_wave};
 use gp_base::{At, FreeGate, Gate, Pos, Seq, ThreadNo};
@@ -30,7 +32,8 @@ fn adding(alloc: Global) -> Result<Work, Fail> {
 // An attempt of the program's first subthread: `main` begins, and runs to its fork in line 3.
 fn start(alloc: Global, attempt: u32) -> Result<Task, AllocError>
     ensures attempt { IfOk result (λ task. task.attempt ≡ attempt) }
-    ensures bundles { IfOk result (λ task. task.given.bundles ≡ []) }
+    ensures at { IfOk result (λ task. task.at.task ≡ 1) }
+    ensures fits { IfOk result FitsWithoutCells }
 {
     let regs = Seq::from_slice(alloc, &[0])?;
     Ok(Task {
@@ -73,6 +76,7 @@ fn attempts_back<C: Crew, R: Threads + Sync>(
 ) -> Result<(Option<u32>, Option<u32>, Option<u32>), AllocError>
     requires ready { C.ready crew.old }
     requires posted { C.posted crew.old ≡ [] }
+    requires named { NamesBelow 0 (C.work crew.old) 1 }
 {
     crew.post(rt, start(alloc, 0)?)?;
     crew.post(rt, start(alloc, 1)?)?;
@@ -89,6 +93,9 @@ fn attempts_in_waves<G: Gate, R: Threads + Sync>(
     work: &Work,
     gate: &G,
 ) -> Result<(Option<u32>, Option<u32>, Option<u32>), AllocError> {
+    if !names_below(work, 1, 0) {
+        return Ok((None, None, None));
+    }
     let mean_steps = MeanSteps::new(alloc, work);
     let run_all = |tasks: Seq<Task>| -> Result<Seq<Done>, AllocError>
         requires { All (Fits work.now) tasks }
@@ -106,6 +113,7 @@ fn run_four<C: Crew, R: Threads + Sync>(
 ) -> Result<(), AllocError>
     requires ready { C.ready crew.old }
     requires posted { C.posted crew.old ≡ [] }
+    requires named { NamesBelow 0 (C.work crew.old) 1 }
     ensures ready { C.ready crew.new }
 {
     crew.post(rt, start(alloc, 0)?)?;
@@ -123,6 +131,9 @@ fn claims_of_four<G: Gate, R: Threads + Sync>(
     work: &Work,
     gate: &G,
 ) -> Result<(u64, u64, u64), AllocError> {
+    if !names_below(work, 1, 0) {
+        return Ok((0, 0, 0));
+    }
     let mean_steps = MeanSteps::new(alloc, work);
     let run_all = |tasks: Seq<Task>| -> Result<(Seq<Done>, (u64, u64, u64)), AllocError>
         requires { All (Fits work.now) tasks }
@@ -163,6 +174,9 @@ fn is_oldest_first<R: Threads + Sync>(
     alloc: Global,
     work: &Work,
 ) -> Result<bool, AllocError> {
+    if !names_below(work, 1, 0) {
+        return Ok(false);
+    }
     let gate = FreeGate;
     let mut crew = InlineCrew::new(alloc, work, &gate);
     let (first, second, third) = attempts_back(rt, alloc, &mut crew)?;
@@ -185,6 +199,9 @@ fn is_as_scripted<R: Threads + Sync>(
     alloc: Global,
     work: &Work,
 ) -> Result<bool, AllocError> {
+    if !names_below(work, 1, 0) {
+        return Ok(false);
+    }
     let choice = Seq::from_slice(alloc, &[3])?;
     let mut crew = ScriptCrew::new(alloc, work, choice);
     let (first, second, third) = attempts_back(rt, alloc, &mut crew)?;

@@ -1,6 +1,6 @@
 // Conflicts and dependents of the worked example.
 use dependence::{conflict, mark};
-use gp_base::{Footprint, Loc, LockNo, Seq, ThreadNo};
+use gp_base::{Footprint, Loc, RecNo, Seq, ThreadNo};
 use std::alloc::{AllocError, Global};
 use std::test::Fail;
 
@@ -10,7 +10,7 @@ const REGS_1: Loc = Loc::Regs(ThreadNo(1));
 
 const REGS_2: Loc = Loc::Regs(ThreadNo(2));
 
-const TALLY: Loc = Loc::Lock(LockNo(0));
+const TOTAL: Loc = Loc::Rec(RecNo(0));
 
 fn foot(alloc: Global, reads: &[Loc], writes: &[Loc]) -> Result<Footprint, AllocError> {
     Ok(Footprint {
@@ -21,19 +21,19 @@ fn foot(alloc: Global, reads: &[Loc], writes: &[Loc]) -> Result<Footprint, Alloc
 
 // Two threads that add to one record, up to the second one's lock.
 fn two_adders(alloc: Global) -> Result<Seq<Footprint>, AllocError> {
-    let writes: [&[Loc]; 8] = [
-        &[REGS_0],
-        &[REGS_0, REGS_1],
-        &[REGS_1],
-        &[REGS_0, REGS_2],
-        &[REGS_1, TALLY],
-        &[REGS_2],
-        &[REGS_1],
-        &[REGS_2, TALLY],
+    let touched: [(&[Loc], &[Loc]); 8] = [
+        (&[], &[REGS_0]),
+        (&[], &[REGS_0, REGS_1]),
+        (&[], &[REGS_1]),
+        (&[], &[REGS_0, REGS_2]),
+        (&[TOTAL], &[REGS_1, TOTAL]),
+        (&[], &[REGS_2]),
+        (&[], &[REGS_1]),
+        (&[TOTAL], &[REGS_2, TOTAL]),
     ];
     let mut feet = Seq::new(alloc);
-    for written in writes {
-        feet.push(foot(alloc, &[], written)?)?;
+    for (reads, writes) in touched {
+        feet.push(foot(alloc, reads, writes)?)?;
     }
     Ok(feet)
 }
@@ -59,7 +59,7 @@ fn dependents_of_two_adders(rt: HostRuntime) -> Result<(), Fail> {
 fn one_writes_what_the_other_names(rt: HostRuntime) -> Result<(), Fail> {
     let alloc = rt.alloc();
     let joins_1 = foot(alloc, &[REGS_1], &[REGS_0])?;
-    let writes_1 = foot(alloc, &[], &[REGS_1, TALLY])?;
+    let writes_1 = foot(alloc, &[], &[REGS_1, TOTAL])?;
     let joins_1_too = foot(alloc, &[REGS_1], &[REGS_2])?;
     assert!(rt; conflict(&joins_1, &writes_1) && conflict(&writes_1, &joins_1));
     assert!(rt; !conflict(&joins_1, &joins_1_too));

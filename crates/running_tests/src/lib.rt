@@ -11,6 +11,8 @@ mod crews;
 #[cfg(test)]
 mod dependents;
 #[cfg(test)]
+mod named;
+#[cfg(test)]
 mod plain_runs;
 #[cfg(test)]
 mod programs;

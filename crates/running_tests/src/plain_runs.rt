@@ -2,7 +2,7 @@
 ghost use Rattle.std.specs.Prelude.{◌<◌, ◌^◌, length};
 
 use crate::programs::{ADD, EMPTY, accepted};
-use gp_base::{End, Inputs, Limits, Pos, Seq};
+use gp_base::{End, Inputs, Limits, Loc, Pos, RecNo, Seq, ThreadNo};
 use one_thread::{PlainRun, run_plain};
 use std::alloc::Global;
 use std::test::Fail;
@@ -60,6 +60,38 @@ fn ends_by_its_limits(rt: HostRuntime) -> Result<(), Fail> {
             && run.records.as_slice() == *records;
         drop(run);
         assert!(rt; is_told, "{text:?}");
+    }
+    Ok(())
+}
+
+const REGS_0: Loc = Loc::Regs(ThreadNo(0));
+
+const REGS_1: Loc = Loc::Regs(ThreadNo(1));
+
+const REGS_2: Loc = Loc::Regs(ThreadNo(2));
+
+const TOTAL: Loc = Loc::Rec(RecNo(0));
+
+#[test]
+fn names_the_records_that_it_reads_and_writes(rt: HostRuntime) -> Result<(), Fail> {
+    let touched: [(&[Loc], &[Loc]); 11] = [
+        (&[], &[REGS_0]),
+        (&[], &[REGS_0, REGS_1]),
+        (&[], &[REGS_1]),
+        (&[], &[REGS_0, REGS_2]),
+        (&[TOTAL], &[REGS_1, TOTAL]),
+        (&[], &[REGS_2]),
+        (&[], &[REGS_1]),
+        (&[TOTAL], &[REGS_2, TOTAL]),
+        (&[REGS_1], &[REGS_0]),
+        (&[], &[REGS_2]),
+        (&[REGS_2], &[REGS_0]),
+    ];
+    let run = run_within(rt.alloc(), ADD, &[0], 1000, 20)?;
+    assert!(rt; run.order.len() == touched.len());
+    for (step, (reads, writes)) in run.order.as_slice().iter().zip(&touched) {
+        assert!(rt; step.foot.reads.as_slice() == *reads);
+        assert!(rt; step.foot.writes.as_slice() == *writes);
     }
     Ok(())
 }

@@ -1,9 +1,12 @@
 // Runs of tasks on flat code.
-ghost use Rattle.std.specs.Prelude.{◌≡◌, ◌<◌, ◌^◌, IsTrue, IfOk, length};
+ghost use Rattle.std.specs.Prelude.{◌≡◌, ◌<◌, ◌^◌, [], ◌∷◌, IsTrue, IfOk, IfSome, length};
 ghost use Rattle.task_ast.specs.Under.{under_lock};
 ghost use Rattle.subthread.specs.declared.task.Work.{Work as PlainWork};
+ghost use Rattle.subthread.specs.Footprints.{IsNumbered};
 ghost use Rattle.subthread.specs.Tasks.{Fits, under_of};
+ghost use Rattle.running_tests.specs.Named.{NamesBelow, FitsWithoutCells};
 
+use crate::named::names_below;
 use crate::programs::accepted;
 use gp_base::{At, Feed, LockNo, Nums, Pos, RecNo, Seq, ThreadNo};
 use record_store::{Bundle, Given};
@@ -53,19 +56,31 @@ fn run(alloc: Global, work: &Work, task: Task) -> Result<Done, AllocError>
     Ok(run_task(alloc, work, task)?)
 }
 
-// Whether one record cell stands under the first lock cell.
+// Whether these are the first cell alone.
+#[tactic(auto, using(crate::proofs::Naming::one_is))]
+fn is_first_alone(cells: &[RecNo]) -> bool
+    ensures { IsTrue result → cells.now ≡ 0 ∷ [] }
+{
+    if cells.len() != 1 {
+        return false;
+    }
+    let first = cells[0];
+    first.0 == 0
+}
+
+// Whether the first record cell stands alone under the first lock cell.
 fn has_one_cell(work: &Work) -> bool
-    ensures { IsTrue result → length (under_lock (under_of work.now) 0) ≡ 1 }
+    ensures { IsTrue result → under_lock (under_of work.now) 0 ≡ 0 ∷ [] }
 {
     match work.code.layout().under.get(0) {
-        Some(cells) => cells.len() == 1,
+        Some(cells) => is_first_alone(cells.as_slice()),
         None => false,
     }
 }
 
 // Thread 1 holds the lock, and the total is 0.
 fn adding(alloc: Global, mask: i64) -> Result<Task, AllocError>
-    ensures { IfOk result (λ task. (work : PlainWork) → length (under_lock (under_of work) 0) ≡ 1 → Fits work task) }
+    ensures { IfOk result (λ task. (work : PlainWork) → under_lock (under_of work) 0 ≡ 0 ∷ [] → NamesBelow 1 work 0 → Fits work task) }
 {
     let bundle = Bundle {
         lock: LockNo(0),
@@ -117,7 +132,7 @@ fn adds(
     register: i64,
     total: i64,
 ) -> Result<bool, AllocError> {
-    if !has_one_cell(work) {
+    if !has_one_cell(work) || !names_below(work, 0, 1) {
         return Ok(false);
     }
     let done = run(alloc, work, adding(alloc, mask)?)?;
@@ -145,7 +160,8 @@ fn free(
     regs: Nums,
     joined: i64,
 ) -> Task
-    ensures { (work : PlainWork) → Fits work result }
+    requires { IsNumbered begins.sync }
+    ensures fits { FitsWithoutCells result }
 {
     Task {
         pos: Pos(0),
@@ -167,7 +183,7 @@ fn free(
 
 // `main` at its start.
 fn starting(alloc: Global) -> Result<Task, AllocError>
-    ensures { IfOk result (λ task. (work : PlainWork) → Fits work task) }
+    ensures { IfOk result FitsWithoutCells }
 {
     let begins = Next {
         sync: SyncOp::Start,
@@ -178,9 +194,19 @@ fn starting(alloc: Global) -> Result<Task, AllocError>
     Ok(free(alloc, begins, At { task: 1, pc: 0 }, ctl, None, regs, 0))
 }
 
+// Whether the thread that a join names has a number of 32 bits, or none.
+fn is_numbered(sync: &SyncOp) -> bool
+    ensures { IsTrue result → IsNumbered sync.now }
+{
+    match sync {
+        SyncOp::Join(thread) => *thread < 4294967296,
+        _ => true,
+    }
+}
+
 // The subthread after another: the first forks thread 1, and one that is joined returns 7.
-fn next(alloc: Global, done: Done, step: usize) -> Task
-    ensures { (work : PlainWork) → Fits work result }
+fn next(alloc: Global, done: Done, step: usize) -> Option<Task>
+    ensures { IfSome result FitsWithoutCells }
 {
     let child = if step == 0 { Some(ThreadNo(1)) } else { None };
     let Done {
@@ -190,7 +216,10 @@ fn next(alloc: Global, done: Done, step: usize) -> Task
         ctl,
         ..
     } = done;
-    free(alloc, next, at, ctl, child, effect.regs, 7)
+    if !is_numbered(&next.sync) {
+        return None;
+    }
+    Some(free(alloc, next, at, ctl, child, effect.regs, 7))
 }
 
 // The work of all kinds of statements, with a feed of two rows of two cells.
@@ -247,11 +276,17 @@ fn is_right(step: usize, done: &Done) -> bool {
 fn does_each(alloc: Global, work: &Work) -> Result<bool, AllocError> {
     let mut task = starting(alloc)?;
     for step in 0..4 {
+        if !names_below(work, task.at.task, 0) {
+            return Ok(false);
+        }
         let done = run(alloc, work, task)?;
         if !is_right(step, &done) {
             return Ok(false);
         }
-        task = next(alloc, done, step);
+        let Some(following) = next(alloc, done, step) else {
+            return Ok(false);
+        };
+        task = following;
     }
     Ok(true)
 }
@@ -268,7 +303,11 @@ fn does_each_kind_of_statement(rt: HostRuntime) -> Result<(), Fail> {
 
 // Whether the first subthread ends at its last turn.
 fn spends(alloc: Global, work: &Work) -> Result<bool, AllocError> {
-    let done = run(alloc, work, starting(alloc)?)?;
+    let task = starting(alloc)?;
+    if !names_below(work, task.at.task, 0) {
+        return Ok(false);
+    }
+    let done = run(alloc, work, task)?;
     Ok(matches!(&done.next.sync, SyncOp::Spent) && prints(&done, &[&[0, 6]]))
 }
 
