@@ -1,8 +1,8 @@
 """Two additions under one lock."""
 
-from reckoning import Fork, Join, Lock, Unlock, publish
+from reckoning import Fork, Join, Lock, Unlock, publish, zeros
 
-total = [0]
+total = zeros(1)
 
 
 def add(number):

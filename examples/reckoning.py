@@ -59,6 +59,34 @@ class Settle:
 START = object()
 
 
+class Named:
+    """The record cells that the present subthread reads and writes."""
+
+    reads = set()
+    writes = set()
+
+    @classmethod
+    def begin(cls):
+        cls.reads, cls.writes = set(), set()
+
+
+class Cells(list):
+    """The cells of a record. A subthread reads those that it looks at, and writes those that it sets."""
+
+    def __getitem__(self, index):
+        Named.reads.add((id(self), index))
+        return super().__getitem__(index)
+
+    def __setitem__(self, index, value):
+        Named.writes.add((id(self), index))
+        super().__setitem__(index, value)
+
+    def names(self, *indices):
+        """Notes that these are read and written: of a choice on data, the cells of both arms count, whichever is taken."""
+        for index in indices:
+            self[index] = self[index]
+
+
 class Thread:
     """A thread: its work, the synchronisation at which it stands, and what it returned once it has ended."""
 
@@ -83,7 +111,7 @@ class Thread:
 
 @dataclass(frozen=True)
 class Subthread:
-    """What a subthread may touch, and whether it begins with a settle."""
+    """What a subthread reads and writes, and whether it begins with a settle."""
 
     reads: frozenset
     writes: frozenset
@@ -161,9 +189,9 @@ class Order:
             answer = self.threads[sync.thread].result
             reads.add(("thread", sync.thread))
         this.arrived = this.released = False
-        writes |= {("lock", *lock) for lock, owner in self.owners.items() if owner == thread}
-        self.subthreads.append(Subthread(frozenset(reads), frozenset(writes), isinstance(sync, Settle)))
+        Named.begin()
         this.run(answer)
+        self.subthreads.append(Subthread(frozenset(reads | Named.reads), frozenset(writes | Named.writes), isinstance(sync, Settle)))
 
 
 def dependents(subthreads, struck, front):
@@ -212,7 +240,12 @@ def cells(name, size):
     values = [0] * size
     for index, value in rows(name):
         values[index] = value
-    return values
+    return Cells(values)
+
+
+def zeros(size):
+    """The cells of a record that begins with zeros."""
+    return Cells([0] * size)
 
 
 def wrap(number):

@@ -1,11 +1,11 @@
 """Interest and fees, reckoned account by account."""
 
-from reckoning import Barrier, Fork, Join, Lock, Unlock, publish, quotient, rows
+from reckoning import Barrier, Fork, Join, Lock, Unlock, publish, quotient, rows, zeros
 
 accounts = rows("acct.csv")
 kinds = [kind for (kind,) in rows("kind.csv")]
 terms = rows("terms.csv")
-totals = {"paid": [0], "earned": [0], "fees": [0]}
+totals = {"paid": zeros(1), "earned": zeros(1), "fees": zeros(1)}
 printed = []
 
 

@@ -1,12 +1,12 @@
 """Payroll, reckoned payslip by payslip: here the tax goes through the slices of the year's gross between the brackets."""
 
-from reckoning import Fork, Join, Lock, Unlock, cells, publish, quotient, rows
+from reckoning import Fork, Join, Lock, Unlock, cells, publish, quotient, rows, zeros
 
 staff = rows("staff.csv")
 brackets = rows("brackets.csv")
 year = cells("year.csv", 60)
-cost = [0] * 5
-heads = [0] * 5
+cost = zeros(5)
+heads = zeros(5)
 printed = []
 
 

@@ -1,9 +1,9 @@
 """The queue, reckoned customer by customer: each is served when he has come and the desk is free."""
 
-from reckoning import Barrier, Fork, Join, Lock, Unlock, publish, quotient, remainder, rows, wrap
+from reckoning import Barrier, Fork, Join, Lock, Unlock, publish, quotient, remainder, rows, wrap, zeros
 
 days = rows("days.csv")
-served, waited, longest = [0], [0], [0]
+served, waited, longest = zeros(1), zeros(1), zeros(1)
 printed = []
 
 

@@ -1,11 +1,11 @@
 """Settlement, reckoned trade by trade."""
 
-from reckoning import Fork, Join, Lock, Unlock, cells, publish, rows
+from reckoning import Fork, Join, Lock, Unlock, cells, publish, rows, zeros
 
 cash = cells("cash.csv", 8)
 bonds = cells("bonds.csv", 8)
 limits = rows("limits.csv")
-totals = {"settled": [0], "rejected": [0], "turnover": [0]}
+totals = {"settled": zeros(1), "rejected": zeros(1), "turnover": zeros(1)}
 printed = []
 
 
@@ -32,6 +32,8 @@ def settler(first):
             continue
         yield Lock("member", min(buyer, seller))
         yield Lock("member", max(buyer, seller))
+        cash.names(buyer, seller)
+        bonds.names(buyer, seller)
         why = reason(buyer, seller, units, units * price)
         if why == 0:
             settle(buyer, seller, units, units * price)

@@ -14,6 +14,7 @@ def mover(first):
             continue
         yield Lock("bank", min(source, target))
         yield Lock("bank", max(source, target))
+        accounts.names(source, target)
         if min(accounts[source] - amount, accounts[target] + amount) >= 0:
             accounts[source] -= amount
             accounts[target] += amount
