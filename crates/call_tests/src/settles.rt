@@ -284,7 +284,7 @@ fn a_held_index_is_not_settled(rt: HostRuntime) -> Result<(), Fail> {
     Ok(())
 }
 
-// The events of a run by one worker that the fault strikes, up to the restart.
+// The events of a run by one worker that the fault strikes, up to the restart: what was issued is run once before it.
 const STRUCK: &str = "issue 0
 post 0 0
 take 0 0 applied
@@ -306,6 +306,9 @@ issue 6
 post 6 0
 take 5 0 applied
 issue 7
+post 7 0
+take 6 0 applied
+take 7 0 applied
 restart 8 4 0 redo 4 6 7
 ";
 
