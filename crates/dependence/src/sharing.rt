@@ -87,14 +87,17 @@ fn share_rising(left: &[Loc], right: &[Loc]) -> bool
     false
 }
 
+// Lists this short are compared location by location: that is faster than first to look whether they rise.
+const FEW: usize = 8;
+
 /// Whether one location stands in both lists. Takes a time that grows with the lengths alone where both rise, as those of
-/// footprints do, and else with their product.
+/// footprints do, or where one of them is short, and else with their product.
 pub fn share(left: &Seq<Loc>, right: &Seq<Loc>) -> bool
     ensures { IsTrue result ↔ Shared left.now right.now }
 {
     let left = left.as_slice();
     let right = right.as_slice();
-    if rises(left) && rises(right) {
+    if left.len() > FEW && right.len() > FEW && rises(left) && rises(right) {
         return share_rising(left, right);
     }
     left.iter().any(|loc| right.contains(loc))
