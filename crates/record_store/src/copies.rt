@@ -6,7 +6,6 @@ ghost use Rattle.record_store.specs.inner.Shelves.{is_away};
 use crate::shelf::Shelf;
 use gp_base::Seq;
 use std::alloc::{AllocError, Global};
-use task_ast::Layout;
 
 /// A copy of each list.
 pub fn copy_lists<T: Copy>(alloc: Global, lists: &[Seq<T>]) -> Result<Vec<Seq<T>>, AllocError>
@@ -17,16 +16,6 @@ pub fn copy_lists<T: Copy>(alloc: Global, lists: &[Seq<T>]) -> Result<Vec<Seq<T>
         copies.push(list.copied(alloc)?)?;
     }
     Ok(copies)
-}
-
-/// A copy of the layout.
-pub fn copy_layout(alloc: Global, layout: &Layout) -> Result<Layout, AllocError>
-    ensures { IfOk result (λ copy. copy ≡ layout.now) }
-{
-    let under = copy_lists(alloc, layout.under.as_slice())?;
-    Ok(Layout {
-        under: Seq::from_vec(under),
-    })
 }
 
 /// A copy of each shelf, which is at home.

@@ -13,7 +13,7 @@ ghost use Rattle.record_store.specs.Given.{joined_value, bundle_of, value_beside
 ghost use Rattle.record_store.specs.Lent.{marked, lock_in, whole_effect, AreAsLent, MayComeHome, IsSharedOut};
 ghost use Rattle.record_store.specs.inner.Homing.{value_over, CanLend, HaveSizes};
 
-use crate::copies::{copy_layout, copy_lists, copy_shelves};
+use crate::copies::{copy_lists, copy_shelves};
 use crate::exchange::{exchange_threads, value_at};
 use crate::shelf::{Shelf, is_home, put_in, set_at, take_out};
 use crate::stock::{fill_cells, places_of, shelves_of};
@@ -21,31 +21,40 @@ use crate::{Bundle, Effect, History};
 use gp_base::{Lines, LockNo, Nums, RecNo, Room, Seq, ThreadNo};
 use std::alloc::{AllocError, Global};
 use std::marker::Model;
+use std::sync::Arc;
 use task_ast::Layout;
 
-/// The registers of all threads, the cells of all records on a shelf for each lock cell, the place of each record cell,
-/// the record cells under each lock cell, and the list of the records as they began, which is kept as room for the answer.
-/// Contracts see registers and cells as lists, the cells of a shelf that is lent at the values with which it was lent;
-/// what a run rests on is the state that they stand for.
+/// Where the record cells stand: the place of each, and those under each lock cell. It never changes, and the copies of a
+/// store share it.
+#[derive(Drop)]
+struct Standing {
+    places: Vec<(LockNo, u32)>,
+    layout: Layout,
+}
+
+/// The registers of all threads, the cells of all records on a shelf for each lock cell, where the record cells stand, and
+/// the list of the records as they began, which is kept as room for the answer. Contracts see registers and cells as lists,
+/// the cells of a shelf that is lent at the values with which it was lent; what a run rests on is the state that they stand
+/// for.
 #[derive(Drop)]
 pub struct Store {
     threads: Vec<Nums>,
     shelves: Vec<Shelf>,
-    places: Vec<(LockNo, u32)>,
-    layout: Layout,
+    standing: Arc<Standing>,
     room: Nums,
 }
 
 impl Model for Store {
     ghost use Rattle.std.specs.Prelude.{map, length};
+    ghost use Rattle.std.specs.Arc.{arc_value};
     ghost use Rattle.record_store.specs.Stored.{Stored};
     ghost use Rattle.record_store.specs.inner.Shelves.{seen, is_away, cells_on, IsKept};
 
     ghost Value = { Stored };
 
-    ghost view = { λ s. record { threads = s.threads.items; cells = cells_on (map seen s.shelves.items) s.places.items; under = s.layout.under; away = map is_away s.shelves.items } };
+    ghost view = { λ s. record { threads = s.threads.items; cells = cells_on (map seen s.shelves.items) (arc_value s.standing).places.items; under = (arc_value s.standing).layout.under; away = map is_away s.shelves.items } };
 
-    ghost invariant = { λ s. IsKept s.layout.under s.places.items (map seen s.shelves.items) (length s.room) };
+    ghost invariant = { λ s. IsKept (arc_value s.standing).layout.under (arc_value s.standing).places.items (map seen s.shelves.items) (length s.room) };
 }
 
 impl Store {
@@ -57,30 +66,29 @@ impl Store {
     {
         let places = places_of(alloc, records.len(), layout.under.as_slice())?;
         let shelves = shelves_of(alloc, records.as_slice(), layout.under.as_slice())?;
+        let standing = Arc::new(alloc, Standing { places, layout })?;
         Ok(Store {
             threads: Vec::new(alloc),
             shelves,
-            places,
-            layout,
+            standing,
             room: records,
         })
     }
 
-    /// A copy of the store, whose cells are all at home. The error is that memory is out.
+    /// A copy of the store, whose cells are all at home; where they stand is shared with it. A copy has room for the answer
+    /// too, since it may take the store's place. The error is that memory is out.
     pub fn copy(&self, alloc: Global) -> Result<Store, AllocError>
         requires { IsAllHome self.now }
         ensures { IfOk result (λ copy. copy ≡ self.now) }
     {
         let threads = copy_lists(alloc, self.threads.as_slice())?;
         let shelves = copy_shelves(alloc, self.shelves.as_slice())?;
-        let places = Vec::from_slice(alloc, self.places.as_slice())?;
-        let layout = copy_layout(alloc, &self.layout)?;
+        let standing = Arc::try_clone(&self.standing)?;
         let room = self.room.copied(alloc)?;
         Ok(Store {
             threads,
             shelves,
-            places,
-            layout,
+            standing,
             room,
         })
     }
@@ -109,11 +117,11 @@ impl Store {
     {
         let Store {
             shelves,
-            places,
+            standing,
             room,
             ..
         } = self;
-        fill_cells(room, &shelves, &places)
+        fill_cells(room, &shelves, &standing.places)
     }
 
     /// Adds the next thread, with so many registers that are 0. The error is that memory is out; the store is then as
@@ -309,7 +317,7 @@ impl Store {
         ensures count { length self.new.cells ≡ length self.old.cells }
         ensures rest { self.new ≡ record self.old { cells = self.new.cells } }
     {
-        let (lock, place) = self.places[cell.0 as usize];
+        let (lock, place) = self.standing.places[cell.0 as usize];
         set_at(&mut self.shelves[lock.0 as usize], place as usize, value);
     }
 }

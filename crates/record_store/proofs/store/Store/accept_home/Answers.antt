@@ -2,6 +2,7 @@ use Rattle.std.proofs.Common.{◌≡◌, ◌<◌, ℕ, [], map, length, ap, sym,
 use Rattle.std.specs.Option.{option_map}
 use Rattle.std.specs.Prelude.{All}
 use Rattle.std.proofs.lemmas.List.{with_items_is, length-map}
+use Rattle.std.specs.Arc.{arc_value}
 use Rattle.task_ast.specs.State.{RegistersOf, number_at}
 use Rattle.task_ast.specs.History.{old_child}
 use Rattle.task_ast.specs.Under.{is_under}
@@ -50,9 +51,9 @@ returns-clause-back c =
     let exchanged : c.exchange_threads.new.threads ≡ threads_after s.threads c.args.effect.thread c.args.effect.regs c.args.effect.child = search rules in
     let many : length c.bring_home.new.self.threads ≡ length s.threads = threads ∙ ap length (with_items_is c.self.inside.threads c.exchange_threads.new.threads (search rules) ∙ exchanged)
     ∙ length_after s.threads c.args.effect.thread c.args.effect.regs c.args.effect.child in
-    let placed = length-map c.self.inside.places.items (value_on (map seen c.self.inside.shelves.items)) in
-    let within : All (λ w. is_under c.self.inside.layout.under (map lock_in c.args.bundles) w.0 ≡ true) c.args.old = rw (← c.self.view_is) at c.requires.comes.within in
-    let inside = in_places c.self.inside.layout.under c.self.inside.places.items (map lock_in c.args.bundles) c.args.old c.self.invariant.stocked.cells within in
+    let placed = length-map (arc_value c.self.inside.standing).places.items (value_on (map seen c.self.inside.shelves.items)) in
+    let within : All (λ w. is_under (arc_value c.self.inside.standing).layout.under (map lock_in c.args.bundles) w.0 ≡ true) c.args.old = rw (← c.self.view_is) at c.requires.comes.within in
+    let inside = in_places (arc_value c.self.inside.standing).layout.under (arc_value c.self.inside.standing).places.items (map lock_in c.args.bundles) c.args.old c.self.invariant.stocked.cells within in
     let count = c.bring_home.ensures.count in
     record {
       thread = subst (λ n. c.args.effect.thread < n) (sym many) c.requires.thread;
