@@ -82,10 +82,10 @@ learnt-holds store entries p foot =
 
 -- the entry whose attempt has done this on the store
 abbrev left_by : Stored → Effect → Entry → Entry
-left_by store done = applied_entry (old_of done (state_of store)) done.prints
+left_by store done = applied_entry (Some (old_of done (state_of store))) done.prints
 
 pub taken-holds : (store later : Stored) (entries : List Entry) (p : ℕ) (e : Entry) (done : Effect) → entry_at entries p ≡ Some e → state_of later ≡ after done (state_of store)
-    → buffer_of later (with_change_at p (applied_entry (old_of done (state_of store)) done.prints) entries) ≡ buffer_with p done (buffer_of store entries)
+    → buffer_of later (with_change_at p (applied_entry (Some (old_of done (state_of store))) done.prints) entries) ≡ buffer_with p done (buffer_of store entries)
 taken-holds store later entries p e done there state =
     same-buffer state
     (λ q. ap history_in (changed (λ r. nat_eq r p) (left_by store done) entries q (λ e. refl)) ∙ histories q (nat_eq q p) refl)

@@ -10,12 +10,12 @@ use Rattle.gp_base.specs.declared.journal.Event.TheVariants as event
 use Rattle.gp_base.specs.declared.journal.Restart.{Restart}
 use Rattle.task_ast.specs.declared.effect.Effect.{Effect}
 use Rattle.task_ast.specs.Plain.{Subthread, foot_of, lock_foot_of}
-use Rattle.dependence.specs.Conflict.{Conflict, foot_at}
+use Rattle.dependence.specs.Conflict.{Conflict, foot_at, clash_in}
 use Rattle.dependence.specs.Dependents.{is_member}
-use Rattle.dependence.specs.Restarts.{attempt_of, begun_of, struck_next, restart_of}
+use Rattle.dependence.specs.Restarts.{Dependence, attempt_of, begun_of, struck_next, restart_of}
 use Rattle.dependence.specs.Journal.{Stage, Allowed, happens, restarted, WasTaken, MayPost}
-use Rattle.dependence.specs.Posting.{posting_of}
-use Rattle.dependence.specs.Runs.{dependence_of, feet_of, lock_feet_of}
+use Rattle.dependence.specs.Posting.{by_locks}
+use Rattle.dependence.specs.Runs.{feet_of, lock_feet_of}
 use Rattle.dependence.specs.Standing.{present, StageStands, NamesIssued}
 use Rattle.dependence.proofs.Conflicting.{conflicting-is}
 use Rattle.dependence.proofs.RestartEnds.{attempt-push, begun-push}
@@ -79,9 +79,9 @@ module _ (run : List Subthread) where
       }
 
   -- with one more that is taken, what was taken of another position is the same
-  taken-too : (at : Stage) (p attempt q : ℕ) (applies : Bool) (faults : List Fault) → nat_eq q p ≡ false
-      → WasTaken (happens (dependence_of run) faults at (event.Take p attempt applies)) q ↔ WasTaken at q
-  taken-too at p attempt q applies faults other = (
+  taken-too : (dependence : Dependence) (at : Stage) (p attempt q : ℕ) (applies : Bool) (faults : List Fault) → nat_eq q p ≡ false
+      → WasTaken (happens dependence faults at (event.Take p attempt applies)) q ↔ WasTaken at q
+  taken-too dependence at p attempt q applies faults other = (
     λ was. elim (Contains-push_cases at.taken (p, attempt) (q, was.0) was.1) [
       | inl old ↦ (was.0, old)
       | inr new ↦ (let k : p ≡ q = ap (λ x. x.0) new in absurd (eqb-false q p other (sym k)))
@@ -114,9 +114,13 @@ module _ (run : List Subthread) where
         let f = stand.front in
         (stand.each p e there).known.1 (taken p bounds.0 (omega arith))))
 
-    module _ (faults : List Fault) where
-      pub may-post : (p : ℕ) → StageStands (dependence_of run) faults at → IsRunnable entries p
-          → MayPost (posting_of run) at p (present at p)
+    module _ (dependence : Dependence) (faults : List Fault) where
+      -- the run as posting by locks reads it
+      abbrev posting : Dependence
+      posting = by_locks (clash_in (lock_feet_of run)) dependence
+
+      pub may-post : (p : ℕ) → StageStands dependence faults at → IsRunnable entries p
+          → MayPost posting at p (present at p)
       may-post p stands runnable =
           let bounds = from-first at.retired entries p runnable.entry stand.row runnable.is_there in
           record {
@@ -130,7 +134,7 @@ module _ (run : List Subthread) where
             ];
           }
         where
-          earlier : (q : ℕ) → q < p → at.retired ≤ q → (posting_of run).clash q p ≡ true → (x : Entry) × (entry_at entries q ≡ Some x)
+          earlier : (q : ℕ) → q < p → at.retired ≤ q → posting.clash q p ≡ true → (x : Entry) × (entry_at entries q ≡ Some x)
               → at.applied q ≡ true
           earlier q l low clash found =
               let both = (conflicting-is (foot_at (lock_feet_of run) q) (foot_at (lock_feet_of run) p)).0 clash in
@@ -138,7 +142,7 @@ module _ (run : List Subthread) where
               (runnable.ready q found.0 l found.1
               (subst (λ f. Conflict f runnable.entry.locks) (sym (locks-is q found.0 found.1)) (subst (Conflict (foot_at (lock_feet_of run) q)) (sym (locks-is p runnable.entry runnable.is_there)) both)))
 
-      pub is-runnable : (p : ℕ) → MayPost (posting_of run) at p (present at p) → IsRunnable entries p
+      pub is-runnable : (p : ℕ) → MayPost posting at p (present at p) → IsRunnable entries p
       is-runnable p may = found (is-there at.retired entries p stand.row may.unretired (let l = may.issued in let f = stand.front in omega arith))
         where
           found : (x : Entry) × (entry_at entries p ≡ Some x) → IsRunnable entries p
@@ -152,9 +156,9 @@ module _ (run : List Subthread) where
                     (subst (λ f. Conflict f (foot_at (lock_feet_of run) p)) (locks-is q x there) (subst (Conflict x.locks) (locks-is p here.0 here.1) clash))));
               }
 
-      module _ (p : ℕ) (e : Entry) (names : NamesIssued at) (allowed : Allowed (dependence_of run) faults at (event.Issue p)) (first : IsFirst run p e) where
+      module _ (p : ℕ) (e : Entry) (names : NamesIssued at) (allowed : Allowed dependence faults at (event.Issue p)) (first : IsFirst run p e) where
         abbrev issued : Stage
-        issued = happens (dependence_of run) faults at (event.Issue p)
+        issued = happens dependence faults at (event.Issue p)
 
         new-entry : IsEntry run issued p e
         new-entry =
@@ -192,9 +196,9 @@ module _ (run : List Subthread) where
             go q x (Some y) is found =
                 carried at issued q x refl (λ h. h, λ h. h) refl (λ h. h, λ h. h) (stand.each q x (is ∙ found))
 
-      module _ (p attempt : ℕ) (allowed : Allowed (dependence_of run) faults at (event.Post p attempt)) where
+      module _ (p attempt : ℕ) (allowed : Allowed dependence faults at (event.Post p attempt)) where
         abbrev sent : Stage
-        sent = happens (dependence_of run) faults at (event.Post p attempt)
+        sent = happens dependence faults at (event.Post p attempt)
 
         -- the entry that goes out
         sent-entry : (y : Entry) → IsEntry run at p y → IsEntry run sent p (out_entry y)
@@ -240,7 +244,7 @@ module _ (run : List Subthread) where
 
       module _ (p attempt : ℕ) (s : Subthread) (foot : Footprint) (there : slice_get run p ≡ Some s) (foot_is : foot ≡ foot_of s) where
         abbrev taken : Bool → Stage
-        taken applies = happens (dependence_of run) faults at (event.Take p attempt applies)
+        taken applies = happens dependence faults at (event.Take p attempt applies)
 
         -- what is known of the entry now is so
         now-known : (y : Entry) → (is : IsEntry run at p y) → foot ≡ foot_of is.subthread
@@ -283,9 +287,9 @@ module _ (run : List Subthread) where
             go q y true same is =
                 let k = eqb-true q p same in
                 subst (λ r. IsEntry run (taken false) r (known_entry foot y)) (sym k) (learnt-entry y (subst (λ r. IsEntry run at r y) k is))
-            go q y false other is = carried at (taken false) q y refl (λ h. h, λ h. h) refl (taken-too at p attempt q false faults other) is
+            go q y false other is = carried at (taken false) q y refl (λ h. h, λ h. h) refl (taken-too dependence at p attempt q false faults other) is
 
-        module _ (history : Effect) (lines : List (List ℤ)) (allowed : Allowed (dependence_of run) faults at (event.Take p attempt true)) where
+        module _ (history : Option Effect) (lines : List (List ℤ)) (allowed : Allowed dependence faults at (event.Take p attempt true)) where
           -- it is known what the entry's subthread touches, and its result is applied
           abbrev done : Entry → Entry
           done e = applied_entry history lines (known_entry foot e)
@@ -325,7 +329,7 @@ module _ (run : List Subthread) where
                   let k = eqb-true q p same in
                   subst (λ r. IsEntry run (taken true) r (done y)) (sym k) (taken-entry y (subst (λ r. IsEntry run at r y) k is))
               go q y false other is =
-                  carried at (taken true) q y refl (λ h. h, λ h. h) (ap (λ b. b || at.applied q) other) (taken-too at p attempt q true faults other) is
+                  carried at (taken true) q y refl (λ h. h, λ h. h) (ap (λ b. b || at.applied q) other) (taken-too dependence at p attempt q true faults other) is
 
           pub take-stand : EntriesStand run (taken true) (with_change_at p (applied_entry history lines) (with_change_at p (known_entry foot) entries))
           take-stand =
@@ -333,7 +337,7 @@ module _ (run : List Subthread) where
 
       -- a position that has no entry leaves the others as they are
       pub gone-stand : (p attempt : ℕ) → entry_at entries p ≡ None
-          → EntriesStand run (happens (dependence_of run) faults at (event.Take p attempt false)) entries
+          → EntriesStand run (happens dependence faults at (event.Take p attempt false)) entries
       gone-stand p attempt gone =
           record {
             row = stand.row;
@@ -342,21 +346,21 @@ module _ (run : List Subthread) where
           }
         where
           go : (q : ℕ) (x : Entry) → entry_at entries q ≡ Some x → (b : Bool) → nat_eq q p ≡ b
-              → IsEntry run (happens (dependence_of run) faults at (event.Take p attempt false)) q x
+              → IsEntry run (happens dependence faults at (event.Take p attempt false)) q x
           go q x there true same = absurd (let both = sym gone ∙ (ap (entry_at entries) (sym (eqb-true q p same)) ∙ there) in cc both)
           go q x there false other =
-              carried at (happens (dependence_of run) faults at (event.Take p attempt false)) q x refl (λ h. h, λ h. h) refl (taken-too at p attempt q false faults other)
+              carried at (happens dependence faults at (event.Take p attempt false)) q x refl (λ h. h, λ h. h) refl (taken-too dependence at p attempt q false faults other)
               (stand.each q x there)
 
-      module _ (struck : ℕ) (stands : StageStands (dependence_of run) faults at) where
+      module _ (struck : ℕ) (stands : StageStands dependence faults at) where
         abbrev behind : Stage
-        behind = restarted (dependence_of run) at (Some struck)
+        behind = restarted dependence at (Some struck)
 
         abbrev part : ℕ → Bool
-        part q = is_member q ((dependence_of run).redo struck at.progress.front)
+        part q = is_member q (dependence.redo struck at.progress.front)
 
         abbrev made : Restart
-        made = restart_of (dependence_of run) at.progress struck
+        made = restart_of dependence at.progress struck
 
         raised : (q : ℕ) → part q ≡ true → (y : Entry) → IsEntry run at q y → IsEntry run behind q (raised_entry at.progress.front y)
         raised q redo y is =
@@ -411,16 +415,16 @@ module _ (run : List Subthread) where
             go q y true redo is = raised q redo y is
             go q y false redo is = kept q redo y is
 
-        pub restart-event : (number : ℕ) → struck_next (dependence_of run) faults at.progress ≡ Some struck
-            → EntriesStand run (happens (dependence_of run) faults at (event.Restart number)) (with_change part (raised_entry at.progress.front) entries)
-        restart-event number next = subst (λ o. EntriesStand run (restarted (dependence_of run) at o) (with_change part (raised_entry at.progress.front) entries)) (sym next) restart-stand
+        pub restart-event : (number : ℕ) → struck_next dependence faults at.progress ≡ Some struck
+            → EntriesStand run (happens dependence faults at (event.Restart number)) (with_change part (raised_entry at.progress.front) entries)
+        restart-event number next = subst (λ o. EntriesStand run (restarted dependence at o) (with_change part (raised_entry at.progress.front) entries)) (sym next) restart-stand
 
-  pub retire-stand : (faults : List Fault) (at : Stage) (e : Entry) (entries : List Entry) → EntriesStand run at (e ∷ entries)
-      → EntriesStand run (happens (dependence_of run) faults at (event.Retire at.retired)) entries
-  retire-stand faults at e entries stand =
+  pub retire-stand : (dependence : Dependence) (faults : List Fault) (at : Stage) (e : Entry) (entries : List Entry) → EntriesStand run at (e ∷ entries)
+      → EntriesStand run (happens dependence faults at (event.Retire at.retired)) entries
+  retire-stand dependence faults at e entries stand =
       record {
         row = subst (λ b. StandFrom b entries) (let s : suc at.retired ≡ at.retired + 1 = omega arith in s) stand.row.1;
         front = let f = stand.front in omega arith;
-        each = λ q x there. carried at (happens (dependence_of run) faults at (event.Retire at.retired)) q x refl (λ h. h, λ h. h) refl (λ h. h, λ h. h)
+        each = λ q x there. carried at (happens dependence faults at (event.Retire at.retired)) q x refl (λ h. h, λ h. h) refl (λ h. h, λ h. h)
             (stand.each q x (rw (ne_eqb e.pos q (λ same. (let low = (from-first (suc at.retired) entries q x stand.row.1 there).0 in let first = stand.row.0 in omega arith))) there));
       }

@@ -61,6 +61,10 @@ abbrev pub is_nil : {A : Type 0} → List A → Bool
 is_nil [] = true
 is_nil (x ∷ xs) = false
 
+-- whether the entry is out
+abbrev pub is_out_entry : Entry → Bool
+is_out_entry e = is_out e.state
+
 -- whether the entry is out and holds a lock
 abbrev pub lends : Entry → Bool
 lends e = is_out e.state && not (is_nil e.held)
@@ -89,9 +93,9 @@ out_entry e = record e { state = Out }
 abbrev pub known_entry : Footprint → Entry → Entry
 known_entry foot e = record e { foot = Some foot }
 
--- the attempt's result is applied, with this history and these lines
-abbrev pub applied_entry : Effect → List (List ℤ) → Entry → Entry
-applied_entry history lines e = record e { state = Applied; hist = Some history; prints = lines }
+-- the attempt's result is applied, with the history that is kept of it, if any, and these lines
+abbrev pub applied_entry : Option Effect → List (List ℤ) → Entry → Entry
+applied_entry history lines e = record e { state = Applied; hist = history; prints = lines }
 
 -- the next attempt, which begins at this front, waits
 abbrev pub raised_entry : (front : ℕ) → Entry → Entry

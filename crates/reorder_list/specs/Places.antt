@@ -1,5 +1,5 @@
 -- Where entries stand in the list, and what is kept of them.
-use Rattle.std.specs.Prelude.{◌≡◌, ◌+◌, ◌<◌, ℕ, All, is_some, List, length}
+use Rattle.std.specs.Prelude.{◌≡◌, ◌+◌, ◌<◌, ℕ, IsTrue, All, is_some, List, length}
 use Rattle.reorder_list.specs.declared.entry.Entry.{Entry}
 use Rattle.reorder_list.specs.Entries.{first_position, IsInRow, is_applied}
 
@@ -8,11 +8,11 @@ pub record IsPlaceOf (entries : List Entry) (p place : ℕ) : Type 0 where
   pub within : place < length entries
   pub position : p ≡ first_position entries + place
 
--- an entry has a history exactly where it is applied
-abbrev pub HasItsHistory : Entry → Type 0
-HasItsHistory e = is_some e.hist ≡ is_applied e.state
+-- an entry has a history only where it is applied
+abbrev pub IsHistoryOfApplied : Entry → Type 0
+IsHistoryOfApplied e = IsTrue (is_some e.hist) → IsTrue (is_applied e.state)
 
--- the positions follow one another, and exactly the entries that are applied have histories
+-- the positions follow one another, and no entries but those that are applied have histories
 pub record IsKept (entries : List Entry) : Type 0 where
   pub row : IsInRow entries
-  pub histories : All HasItsHistory entries
+  pub histories : All IsHistoryOfApplied entries

@@ -1,5 +1,5 @@
 -- What stands between a run, the stage that its journal leads to, and the entries of the positions that have not retired.
-use Rattle.std.specs.Prelude.{◌≡◌, ◌↔◌, ◌+◌, ◌≤◌, ◌<◌, ℕ, ℤ, Bool, true, false, IsTrue, List, ◌∷◌, [], ◌++◌, length, Contains, All, IfSome, Some, None, is_some, slice_get}
+use Rattle.std.specs.Prelude.{◌≡◌, ◌↔◌, ◌+◌, ◌≤◌, ◌<◌, ℕ, ℤ, Bool, true, false, IsTrue, List, ◌∷◌, [], ◌++◌, length, Contains, All, IfSome, Option, Some, None, is_some, slice_get}
 use Rattle.gp_base.specs.declared.fault.Fault.{Fault}
 use Rattle.gp_base.specs.declared.footprint.Footprint.{Footprint}
 use Rattle.gp_base.specs.declared.journal.Event.TheVariants as event
@@ -9,11 +9,12 @@ use Rattle.task_ast.specs.State.{State}
 use Rattle.task_ast.specs.History.{old_of}
 use Rattle.task_ast.specs.Effect.{after}
 use Rattle.dependence.specs.Dependents.{is_member}
-use Rattle.dependence.specs.Restarts.{begun_of, struck_next}
+use Rattle.dependence.specs.Restarts.{Dependence, begun_of, struck_next}
 use Rattle.dependence.specs.Journal.{Stage, Allowed, happens, WasTaken, MayPost}
 use Rattle.dependence.specs.Standing.{present, StageStands, NamesIssued}
-use Rattle.dependence.specs.Runs.{dependence_of}
-use Rattle.dependence.specs.Posting.{posting_of}
+use Rattle.dependence.specs.Runs.{dependence_of, lock_feet_of}
+use Rattle.dependence.specs.Conflict.{clash_in}
+use Rattle.dependence.specs.Posting.{by_locks}
 use Rattle.dependence.specs.Removal.{undone_part}
 use Rattle.dependence.specs.Buffer.{Buffer, buffer_with, buffer_without}
 use Rattle.dependence.specs.RunBuffer.{RunStands}
@@ -71,8 +72,8 @@ buffer_of store entries = record { state = state_of store; histories = histories
 -- an entry is runnable exactly where the present attempt of its position may be posted by locks
 abbrev pub RunnableLaw : Type 0
 RunnableLaw =
-    (run : List Subthread) (faults : List Fault) (at : Stage) (entries : List Entry) (p : ℕ) → StageStands (dependence_of run) faults at → EntriesStand run at entries
-    → IsRunnable entries p ↔ MayPost (posting_of run) at p (present at p)
+    (run : List Subthread) (dependence : Dependence) (faults : List Fault) (at : Stage) (entries : List Entry) (p : ℕ) → StageStands dependence faults at → EntriesStand run at entries
+    → IsRunnable entries p ↔ MayPost (by_locks (clash_in (lock_feet_of run)) dependence) at p (present at p)
 
 -- each position that was issued and has not retired was taken at some attempt
 abbrev pub AllTaken : Stage → Type 0
@@ -85,52 +86,53 @@ KnownLaw = (run : List Subthread) (at : Stage) (entries : List Entry) → Entrie
 -- an issue puts the next position's entry at the end
 abbrev pub IssueLaw : Type 0
 IssueLaw =
-    (run : List Subthread) (faults : List Fault) (at : Stage) (entries : List Entry) (p : ℕ) (e : Entry) → NamesIssued at → EntriesStand run at entries
-    → Allowed (dependence_of run) faults at (event.Issue p) → IsFirst run p e
-    → EntriesStand run (happens (dependence_of run) faults at (event.Issue p)) (entries ++ e ∷ [])
+    (run : List Subthread) (dependence : Dependence) (faults : List Fault) (at : Stage) (entries : List Entry) (p : ℕ) (e : Entry) → NamesIssued at → EntriesStand run at entries
+    → Allowed dependence faults at (event.Issue p) → IsFirst run p e
+    → EntriesStand run (happens dependence faults at (event.Issue p)) (entries ++ e ∷ [])
 
 -- a post sends the entry out
 abbrev pub PostLaw : Type 0
 PostLaw =
-    (run : List Subthread) (faults : List Fault) (at : Stage) (entries : List Entry) (p attempt : ℕ) → EntriesStand run at entries
-    → Allowed (dependence_of run) faults at (event.Post p attempt)
-    → EntriesStand run (happens (dependence_of run) faults at (event.Post p attempt)) (with_change_at p out_entry entries)
+    (run : List Subthread) (dependence : Dependence) (faults : List Fault) (at : Stage) (entries : List Entry) (p attempt : ℕ) → EntriesStand run at entries
+    → Allowed dependence faults at (event.Post p attempt)
+    → EntriesStand run (happens dependence faults at (event.Post p attempt)) (with_change_at p out_entry entries)
 
--- each result tells what the subthread touches; one of the present attempt is applied then, and another changes nothing else
+-- each result tells what the subthread touches; one of the present attempt is applied then, whatever history is kept of it, and another
+-- changes nothing else
 abbrev pub TakeLaw : Type 0
 TakeLaw =
-    (run : List Subthread) (faults : List Fault) (at : Stage) (entries : List Entry) (p attempt : ℕ) (s : Subthread) (foot : Footprint) (history : Effect) (lines : List (List ℤ))
+    (run : List Subthread) (dependence : Dependence) (faults : List Fault) (at : Stage) (entries : List Entry) (p attempt : ℕ) (s : Subthread) (foot : Footprint) (history : Option Effect) (lines : List (List ℤ))
     → EntriesStand run at entries → slice_get run p ≡ Some s → foot ≡ foot_of s
-    → Allowed (dependence_of run) faults at (event.Take p attempt true)
-    → EntriesStand run (happens (dependence_of run) faults at (event.Take p attempt true))
+    → Allowed dependence faults at (event.Take p attempt true)
+    → EntriesStand run (happens dependence faults at (event.Take p attempt true))
     (with_change_at p (applied_entry history lines) (with_change_at p (known_entry foot) entries))
 
 abbrev pub StaleLaw : Type 0
 StaleLaw =
-    (run : List Subthread) (faults : List Fault) (at : Stage) (entries : List Entry) (p attempt : ℕ) (s : Subthread) (foot : Footprint)
+    (run : List Subthread) (dependence : Dependence) (faults : List Fault) (at : Stage) (entries : List Entry) (p attempt : ℕ) (s : Subthread) (foot : Footprint)
     → EntriesStand run at entries → slice_get run p ≡ Some s → foot ≡ foot_of s
-    → EntriesStand run (happens (dependence_of run) faults at (event.Take p attempt false)) (with_change_at p (known_entry foot) entries)
+    → EntriesStand run (happens dependence faults at (event.Take p attempt false)) (with_change_at p (known_entry foot) entries)
 
 -- one of a position that has no entry, since it has retired, changes nothing
 abbrev pub GoneLaw : Type 0
 GoneLaw =
-    (run : List Subthread) (faults : List Fault) (at : Stage) (entries : List Entry) (p attempt : ℕ) → EntriesStand run at entries
+    (run : List Subthread) (dependence : Dependence) (faults : List Fault) (at : Stage) (entries : List Entry) (p attempt : ℕ) → EntriesStand run at entries
     → entry_at entries p ≡ None
-    → EntriesStand run (happens (dependence_of run) faults at (event.Take p attempt false)) entries
+    → EntriesStand run (happens dependence faults at (event.Take p attempt false)) entries
 
 -- a restart raises the entries of what it redoes
 abbrev pub RestartLaw : Type 0
 RestartLaw =
-    (run : List Subthread) (faults : List Fault) (at : Stage) (entries : List Entry) (struck number : ℕ) → StageStands (dependence_of run) faults at → EntriesStand run at entries
-    → struck_next (dependence_of run) faults at.progress ≡ Some struck
-    → EntriesStand run (happens (dependence_of run) faults at (event.Restart number))
-    (with_change (λ q. is_member q ((dependence_of run).redo struck at.progress.front)) (raised_entry at.progress.front) entries)
+    (run : List Subthread) (dependence : Dependence) (faults : List Fault) (at : Stage) (entries : List Entry) (struck number : ℕ) → StageStands dependence faults at → EntriesStand run at entries
+    → struck_next dependence faults at.progress ≡ Some struck
+    → EntriesStand run (happens dependence faults at (event.Restart number))
+    (with_change (λ q. is_member q (dependence.redo struck at.progress.front)) (raised_entry at.progress.front) entries)
 
 -- a retirement takes the oldest entry out
 abbrev pub RetireLaw : Type 0
 RetireLaw =
-    (run : List Subthread) (faults : List Fault) (at : Stage) (e : Entry) (entries : List Entry) → EntriesStand run at (e ∷ entries)
-    → EntriesStand run (happens (dependence_of run) faults at (event.Retire at.retired)) entries
+    (run : List Subthread) (dependence : Dependence) (faults : List Fault) (at : Stage) (e : Entry) (entries : List Entry) → EntriesStand run at (e ∷ entries)
+    → EntriesStand run (happens dependence faults at (event.Retire at.retired)) entries
 
 -- the next entry holds nothing, nor does one that goes out
 abbrev pub PushedLaw : Type 0
@@ -149,7 +151,7 @@ LearntLaw =
 abbrev pub TakenLaw : Type 0
 TakenLaw =
     (store later : Stored) (entries : List Entry) (p : ℕ) (e : Entry) (done : Effect) → entry_at entries p ≡ Some e → state_of later ≡ after done (state_of store)
-    → buffer_of later (with_change_at p (applied_entry (old_of done (state_of store)) done.prints) entries) ≡ buffer_with p done (buffer_of store entries)
+    → buffer_of later (with_change_at p (applied_entry (Some (old_of done (state_of store))) done.prints) entries) ≡ buffer_with p done (buffer_of store entries)
 
 -- where the store is undone and entries are raised, they hold what is left without these positions
 abbrev pub RaisedLaw : Type 0

@@ -3,7 +3,7 @@
 ghost use Rattle.std.specs.Prelude.{◌≡◌, ◌↔◌, ◌+◌, ◌<◌, ◌≤◌, ◌^◌, [], ◌∷◌, ◌++◌, IsTrue, OnOk, MatchOption, IfSome, IfNone, None, Some, length, min, slice_get, is_some};
 ghost use Rattle.std.specs.List.{list_any};
 ghost use Rattle.std.specs.Option.{IsSome, IsSomeAnd, option_copied};
-ghost use Rattle.reorder_list.specs.Entries.{ComesNext, IsFresh, AllKnown, is_applied, lends, entry_at, with_change_at, out_entry, known_entry, applied_entry, raised_entry, histories_of};
+ghost use Rattle.reorder_list.specs.Entries.{ComesNext, IsFresh, AllKnown, is_applied, is_out_entry, lends, entry_at, with_change_at, out_entry, known_entry, applied_entry, raised_entry, histories_of};
 ghost use Rattle.reorder_list.specs.Runnable.{IsRunnable, IsFirstRunnable, NoneRunnable};
 ghost use Rattle.reorder_list.specs.declared.entry.Entry.{Entry};
 ghost use Rattle.reorder_list.specs.declared.entry.State.TheVariants.{Out, Applied};
@@ -81,15 +81,22 @@ fn send_entry(entry: &mut Entry)
 fn lends(entry: &Entry) -> bool
     ensures { result ≡ lends entry.now }
 {
-    matches!(entry.state, State::Out) && !entry.held.is_empty()
+    is_out(entry) && !entry.held.is_empty()
+}
+
+// Whether an entry's attempt is out.
+fn is_out(entry: &Entry) -> bool
+    ensures { result ≡ is_out_entry entry.now }
+{
+    matches!(entry.state, State::Out)
 }
 
 // The result of an entry's attempt is applied.
-fn apply_entry(entry: &mut Entry, history: History, lines: Lines)
+fn apply_entry(entry: &mut Entry, history: Option<History>, lines: Lines)
     ensures { entry.new ≡ applied_entry history lines entry.old }
 {
     entry.state = State::Applied;
-    entry.hist = Some(history);
+    entry.hist = history;
     entry.prints = lines;
 }
 
@@ -119,6 +126,13 @@ impl Rol {
         ensures { result ≡ list_any lends self.now.entries }
     {
         self.entries.iter().any(|entry| lends(entry))
+    }
+
+    /// Whether an attempt is out. Looks at each entry. Takes no memory.
+    pub fn any_out(&self) -> bool
+        ensures { result ≡ list_any is_out_entry self.now.entries }
+    {
+        self.entries.iter().any(|entry| is_out(entry))
     }
 
     /// Whether it is known of each entry what its subthread touches. Takes no memory, and looks at no entry.
@@ -211,8 +225,9 @@ impl Rol {
         }
     }
 
-    /// The result of a position's attempt is applied, with the history that it left and the lines that it printed.
-    pub fn set_applied(&mut self, p: Pos, history: History, lines: Lines)
+    /// The result of a position's attempt is applied, with the history that it left, where one is kept, and the lines that
+    /// it printed.
+    pub fn set_applied(&mut self, p: Pos, history: Option<History>, lines: Lines)
         requires { IsSomeAnd (entry_at self.old.entries p) (λ e. e.state ≡ Out) }
         ensures entries { self.new.entries ≡ with_change_at p (applied_entry history lines) self.old.entries }
         ensures spare { self.new.spare ≡ self.old.spare }
@@ -223,11 +238,12 @@ impl Rol {
     }
 
     /// The next attempt of a position begins at this front and waits, and its lines are dropped; it stays known what the
-    /// subthread touches. Answers the history, which there is exactly where the result of the last attempt was applied.
+    /// subthread touches. Answers the history, which there is only where the result of the last attempt was applied, and there
+    /// if it was kept.
     pub fn raise(&mut self, alloc: Global, p: Pos, front: Pos) -> Option<History>
         requires { IsSomeAnd (entry_at self.old.entries p) (λ e. e.attempt < 4294967295) }
         ensures history { result ≡ histories_of self.old.entries p }
-        ensures applied { IfSome (entry_at self.old.entries p) (λ e. is_some result ≡ is_applied e.state) }
+        ensures applied { IfSome (entry_at self.old.entries p) (λ e. IsTrue (is_some result) → IsTrue (is_applied e.state)) }
         ensures entries { self.new.entries ≡ with_change_at p (raised_entry front) self.old.entries }
         ensures spare { self.new.spare ≡ self.old.spare }
     {

@@ -1,6 +1,6 @@
 use Rattle.std.proofs.Common.{◌≡◌, ◌∙◌, ◌-◌, ap, arith, nat_eq, refl, sym}
 use Rattle.reorder_list.specs.Entries.{known_entry, with_change_at}
-use Rattle.reorder_list.proofs.Kept.{changed-entries, changed-kept, has-history}
+use Rattle.reorder_list.proofs.Kept.{changed-entries, changed-kept, history-of-applied}
 use Rattle.reorder_list.proofs.Rows.{read-at}
 use Rattle.reorder_list.proofs.Unknown.{one_where, one_in, known-set}
 use Rattle.reorder_list.proofs.Watching.{upheld-changed}
@@ -22,7 +22,7 @@ invariant_of-self c =
     (λ q. nat_eq q c.args.p) (known_entry c.args.foot) _ (λ e. refl) (λ e. refl) (λ q l is e w. w) (omega arith) (omega arith)
     (changed-entries entries kept c.args.p place c.in-Some.ensures old read (known_entry c.args.foot) new c.know_entry.ensures.entry)
     (changed-kept entries kept c.args.p place c.in-Some.ensures old read (known_entry c.args.foot) new c.know_entry.ensures.entry refl
-    (has-history entries kept c.args.p place c.in-Some.ensures old read))
+    (history-of-applied entries kept c.args.p place c.in-Some.ensures old read))
     c.self.invariant
 
 pub invariant_of-self-else-not-know_entry : goal.invariant_of-self-else-not-know_entry
@@ -41,7 +41,7 @@ invariant_of-self-else-not-know_entry c =
     (λ q. nat_eq q c.args.p) (known_entry c.args.foot) _ (λ e. refl) (λ e. refl) (λ q l is e w. w) (omega arith) (omega arith)
     (changed-entries entries kept c.args.p place c.in-Some.ensures old read (known_entry c.args.foot) new c.know_entry.ensures.entry)
     (changed-kept entries kept c.args.p place c.in-Some.ensures old read (known_entry c.args.foot) new c.know_entry.ensures.entry refl
-    (has-history entries kept c.args.p place c.in-Some.ensures old read))
+    (history-of-applied entries kept c.args.p place c.in-Some.ensures old read))
     c.self.invariant
 
 pub returns-then-not-know_entry-clause-entries : goal.returns-then-not-know_entry-clause-entries

@@ -1,5 +1,6 @@
 use Rattle.std.proofs.Common.{◌≡◌, ◌∙◌, ap, arith, sym, is_some}
-use Rattle.reorder_list.specs.Entries.{ComesNext, is_applied}
+use Rattle.std.proofs.lemmas.Bool.{false≢true}
+use Rattle.reorder_list.specs.Entries.{ComesNext}
 use Rattle.reorder_list.proofs.Kept.{kept-push}
 use Rattle.reorder_list.proofs.Unknown.{one_where, one_in, unknown-push}
 use Rattle.reorder_list.proofs.Watching.{watches-pushed, waits-pushed}
@@ -11,7 +12,7 @@ invariant_of-self c =
     let next : ComesNext c.self.inside.entries.items c.args.entry.pos = rw (ap (λ s. s.entries) c.self.view_is) c.requires.next in
     rw (c.push_back_reserved.ensures.items, c.push_back_reserved-2.ensures.items, c.earlier_of-self-inside.ensures)
     (record {
-      kept = kept-push c.self.inside.entries.items c.args.entry c.self.invariant.kept next (ap is_some fresh.no_history ∙ sym (ap is_applied fresh.waits));
+      kept = kept-push c.self.inside.entries.items c.args.entry c.self.invariant.kept next (λ some. absurd (false≢true (sym (ap is_some fresh.no_history) ∙ some)));
       watches = watches-pushed c.self.inside.entries.items c.args.entry c.self.inside.watched.items c.self.invariant.kept.row next c.self.invariant.watches;
       none_waits = waits-pushed c.self.inside.entries.items c.args.entry c.self.inside.idle c.self.invariant.none_waits;
       unknowns =

@@ -1,8 +1,8 @@
-use Rattle.std.proofs.Common.{◌≡◌, ◌∙◌, ◌<◌, Option, IfSome, ap, arith, nat_eq, refl, sym, subst, is_some}
+use Rattle.std.proofs.Common.{◌∙◌, ◌<◌, Option, IfSome, IsTrue, ap, arith, nat_eq, refl, sym, subst, is_some}
 use Rattle.std.specs.Option.{IsSomeAnd}
 use Rattle.reorder_list.specs.declared.entry.Entry.{Entry}
 use Rattle.reorder_list.specs.Entries.{Entered, entry_at, is_applied, histories_of, raised_entry, with_change_at}
-use Rattle.reorder_list.proofs.Kept.{changed-entries, changed-kept, entry-is, has-history, holds-here}
+use Rattle.reorder_list.proofs.Kept.{changed-entries, changed-kept, entry-is, history-of-applied, holds-here}
 use Rattle.std.proofs.lemmas.Bool.{eqb-true}
 use Rattle.reorder_list.proofs.Watching.{upheld-kept}
 use Rattle.reorder_list.proofs.rol.Rol.raise.Goals as goal
@@ -19,7 +19,7 @@ invariant_of-self c =
     (λ q l is e w. absurd (let same = eqb-true q c.args.p is in omega arith)) (omega arith)
     (changed-entries c.self.inside.entries.items c.self.invariant.kept c.args.p c.in_ok-place.place c.in_ok-place.ensures c.index_mut.result.now c.index_mut.ensures.value (raised_entry c.args.front) c.raise_entry.new.entry c.raise_entry.ensures.entry)
     (changed-kept c.self.inside.entries.items c.self.invariant.kept c.args.p c.in_ok-place.place c.in_ok-place.ensures c.index_mut.result.now c.index_mut.ensures.value (raised_entry c.args.front)
-    c.raise_entry.new.entry c.raise_entry.ensures.entry refl refl)
+    c.raise_entry.new.entry c.raise_entry.ensures.entry refl (λ some. some))
     c.self.invariant
 
 pub returns-clause-history : goal.returns-clause-history
@@ -30,8 +30,10 @@ returns-clause-history c =
 
 pub returns-clause-applied : goal.returns-clause-applied
 returns-clause-applied c =
-    let has = ap is_some c.raise_entry.ensures.history ∙ has-history c.self.inside.entries.items c.self.invariant.kept c.args.p c.in_ok-place.place c.in_ok-place.ensures c.index_mut.result.now c.index_mut.ensures.value in
-    let Q : Option Entry → Type 0 = λ o. IfSome o (λ e. is_some c.raise_entry.result ≡ is_applied e.state) in
+    let has : IsTrue (is_some c.raise_entry.result) → IsTrue (is_applied c.index_mut.result.now.state) =
+    λ some. history-of-applied c.self.inside.entries.items c.self.invariant.kept c.args.p c.in_ok-place.place c.in_ok-place.ensures c.index_mut.result.now c.index_mut.ensures.value
+    (sym (ap is_some c.raise_entry.ensures.history) ∙ some) in
+    let Q : Option Entry → Type 0 = λ o. IfSome o (λ e. IsTrue (is_some c.raise_entry.result) → IsTrue (is_applied e.state)) in
     subst Q (sym (entry-is c.self.inside.entries.items c.self.invariant.kept c.args.p c.in_ok-place.place c.in_ok-place.ensures c.index_mut.result.now c.index_mut.ensures.value) ∙ ap (λ s. entry_at s.entries c.args.p) c.self.view_is) has
 
 pub returns-clause-entries : goal.returns-clause-entries
