@@ -1,0 +1,96 @@
+-- Journals that are lawful and complete by blocks, and journals that are not lawful.
+use Rattle.std.proofs.Common.{ℕ, true, false, List, [], ◌∷◌, ◌++◌, map, pos, None, refl}
+use Rattle.std.proofs.lemmas.Bool.Decides.{not_from_Decides}
+use Rattle.gp_base.specs.declared.fault.Fault.{Fault}
+use Rattle.gp_base.specs.declared.journal.Event.{Event}
+use Rattle.gp_base.specs.declared.journal.Event.TheVariants.{Issue, Post, Take, Restart, Retire}
+use Rattle.task_ast.specs.Body.{body, stretch}
+use Rattle.task_ast.specs.Repeat.{steps, repeated, until_done}
+use Rattle.task_ast.specs.Table.{numbers}
+use Rattle.task_ast.specs.Plain.{order}
+use Rattle.task_ast.proofs.RowPrograms.{two_adders, settling}
+use Rattle.task_ast.proofs.RunRows.{zeros, limits}
+use Rattle.dependence.specs.Restarts.{Dependence}
+use Rattle.dependence.specs.Runs.{dependence_of}
+use Rattle.rollback.specs.Cuts.{is_cut}
+use Rattle.rollback.specs.Journal.{LawfulByBlocks, CompleteByBlocks}
+use Rattle.rollback.proofs.Deciding.{lawful-decides, complete-decides}
+
+-- two threads that add to one record; a fault on position 4 is due at front 8
+abbrev adders : Dependence
+adders = dependence_of (order two_adders (zeros 1) (limits 1000 20))
+
+abbrev faults : List Fault
+faults = record { pos = 4; attempt = 0; delay = 3; mask = pos 1 } ∷ []
+
+abbrev runs : ℕ → List Event
+runs p = Issue p ∷ Post p 0 ∷ Take p 0 true ∷ []
+
+abbrev runs_again : ℕ → List Event
+runs_again p = Post p 1 ∷ Take p 1 true ∷ []
+
+-- all from position 4 on runs again
+abbrev struck : List Event
+struck =
+    runs 0 ++ runs 1 ++ runs 2 ++ runs 3 ++ runs 4 ++ runs 5 ++ runs 6 ++ runs 7
+    ++ Restart 0 ∷ runs_again 4 ++ runs_again 5 ++ runs_again 6 ++ runs_again 7 ++ runs 8 ++ runs 9 ++ runs 10
+    ++ Retire 0 ∷ Retire 1 ∷ Retire 2 ∷ Retire 3 ∷ Retire 4 ∷ Retire 5 ∷ Retire 6 ∷ Retire 7 ∷ Retire 8 ∷ Retire 9 ∷ Retire 10 ∷ []
+
+struck_journal : CompleteByBlocks (is_cut 4 adders) adders faults struck
+unfolding steps body stretch until_done repeated
+struck_journal = (complete-decides (is_cut 4 adders) adders faults struck).0 refl
+
+-- a position of the next block waits until all before its block is applied, here position 2
+abbrev early : List Event
+early = runs 0 ++ runs 1 ++ Issue 2 ∷ runs 3 ++ Issue 4 ∷ Issue 5 ∷ Post 5 0 ∷ []
+
+posted_early : ¬ LawfulByBlocks (is_cut 4 adders) adders faults early
+unfolding steps body stretch until_done repeated
+posted_early = not_from_Decides _ (lawful-decides (is_cut 4 adders) adders faults early) refl
+
+-- a settle is a cut, at which all before it retire
+abbrev settler : Dependence
+settler = dependence_of (order settling (zeros 3) (limits 1000 20))
+
+abbrev early_fault : List Fault
+early_fault = record { pos = 1; attempt = 0; delay = 60; mask = pos 1 } ∷ []
+
+abbrev settled : List Event
+settled =
+    runs 0 ++ runs 1 ++ runs 2 ++ Restart 0 ∷ runs_again 0 ++ runs_again 1 ++ runs_again 2
+    ++ Retire 0 ∷ Retire 1 ∷ Retire 2 ∷ runs 3 ++ runs 4 ++ runs 5 ++ Retire 3 ∷ Retire 4 ∷ Retire 5 ∷ []
+
+settled_journal : CompleteByBlocks (is_cut 100 settler) settler early_fault settled
+unfolding steps body stretch until_done repeated
+settled_journal = (complete-decides (is_cut 100 settler) settler early_fault settled).0 refl
+
+-- a run of a hundred subthreads, no two of them in conflict, of which 68 are issued
+abbrev apart : Dependence
+apart = record { count = 100; clash = λ p q. false; redo = λ struck front. struck ∷ []; before = λ p. None; settles = λ p. false }
+
+abbrev issued : List Event
+issued = map Issue (numbers 0 68)
+
+abbrev applied : ℕ → List Event
+applied p = Post p 0 ∷ Take p 0 true ∷ []
+
+-- no fault can strike position 0 any more, but one can strike position 3, which would roll it back
+abbrev uncleared : List Event
+uncleared = map Issue (numbers 0 67) ++ applied 0 ++ applied 1 ++ applied 2 ++ applied 3 ++ Retire 0 ∷ []
+
+retired_early : ¬ LawfulByBlocks (is_cut 4 apart) apart [] uncleared
+retired_early = not_from_Decides _ (lawful-decides (is_cut 4 apart) apart [] uncleared) refl
+
+-- one issue later its block is clear
+abbrev cleared : List Event
+cleared = issued ++ applied 0 ++ applied 1 ++ applied 2 ++ applied 3 ++ Retire 0 ∷ Retire 1 ∷ Retire 2 ∷ Retire 3 ∷ []
+
+retired_by_block : LawfulByBlocks (is_cut 4 apart) apart [] cleared
+retired_by_block = (lawful-decides (is_cut 4 apart) apart [] cleared).0 refl
+
+-- but only where all of it is applied
+abbrev unapplied : List Event
+unapplied = issued ++ applied 0 ++ applied 1 ++ applied 2 ++ Retire 0 ∷ []
+
+retired_alone : ¬ LawfulByBlocks (is_cut 4 apart) apart [] unapplied
+retired_alone = not_from_Decides _ (lawful-decides (is_cut 4 apart) apart [] unapplied) refl

@@ -1,0 +1,10 @@
+pub mod Backs
+pub mod BlockRows
+pub mod Deciding
+pub mod Driving
+pub mod Journals
+pub mod Multiples
+pub mod RollbackRows
+pub mod Rolled
+pub mod Standing
+pub mod States

@@ -1,0 +1,15 @@
+use Rattle.rollback.proofs.Multiples.{cut-multiple, cut-oldest, cut-retired, whole-cut, next-cut, rest-is-safe}
+use Rattle.rollback.proofs.driving_laws.multiple_laws.Goals as goal
+
+pub returns : goal.returns
+returns c = record {
+  cut = λ every dependence at p some driving unretired issued. (
+    cut-multiple every some dependence at driving p issued,
+    cut-oldest every some dependence at driving p unretired issued,
+    cut-retired every some dependence at driving p unretired issued,
+  );
+  whole = λ every dependence faults at p some blocks driving.
+      whole-cut every some dependence at driving blocks.stands.retired_applied p;
+  next = λ every dependence at p some driving. next-cut every some dependence at driving p;
+  rest = λ every dependence at p some driving. rest-is-safe every some dependence at driving p;
+}
