@@ -1,78 +1,11 @@
--- What a whole run leaves.
-use Rattle.std.specs.Prelude.{◌≡◌, ℕ, ◌-◌, ◌≤◌, ℤ, List, ◌++◌, length, take, map, flat_map, count_by, Option, Result, Ok, Err, IfErr}
-use Rattle.std.specs.Io.KnownBytes.{Appends}
+-- What a run that restarts selectively is asked to run.
 use Rattle.gp_base.specs.declared.limits.Limits.{Limits}
 use Rattle.gp_base.specs.declared.feed.Inputs.{Inputs}
 use Rattle.gp_base.specs.declared.fault.Faults.{Faults}
-use Rattle.gp_base.specs.declared.journal.Restart.{Restart}
-use Rattle.gp_base.specs.declared.journal.Journal.{Journal}
-use Rattle.gp_base.specs.Sinks.{Rose}
-use Rattle.task_ast.specs.Plain.{Subthread, final_records}
-use Rattle.dependence.specs.Journal.{Stage, Lawful, Complete, stage}
-use Rattle.dependence.specs.Runs.{restarts_of}
-use Rattle.dependence.specs.Counts.{is_restart, posts, takes}
 use Rattle.subthread.specs.declared.task.Work.{Work}
-use Rattle.subthread.specs.declared.task.Task.{Task}
-use Rattle.crew.specs.Out.{pair_of}
-use Rattle.crew.specs.Standing.{untaken}
-use Rattle.reorder_list.specs.declared.report.StopWhy.TheVariants.{WriteFault, OutOfMemory}
-use Rattle.reorder_list.specs.declared.report.EngineStop.{EngineStop}
-use Rattle.reorder_list.specs.declared.report.Report.{Report}
-use Rattle.restart_log.specs.Lines.{printed}
-use Rattle.engine.specs.View.{Batch, program_in, run_in, dependence_in, end_in, lines_at, lines_below}
+use Rattle.whole_run.specs.declared.recovery.Recovery.TheVariants.{Selective}
+use Rattle.whole_run.specs.View.{Batch}
+use Rattle.whole_run.specs.Drive as whole
 
--- what a call of `drive` is asked to run
 abbrev pub batch_of : Work → Inputs → Limits → Faults → Batch
-batch_of w inputs limits faults = record { work = w; inputs = inputs; limits = limits; faults = faults.list }
-
--- the journal of an outcome
-abbrev pub journal_in : Result Report EngineStop → Journal
-journal_in (Ok report) = report.journal
-journal_in (Err stop) = stop.journal
-
--- the stage that a journal of the batch comes to
-abbrev pub stage_in : Batch → Journal → Stage
-stage_in batch journal = stage (dependence_in batch) batch.faults journal.events
-
--- a journal of the batch: it is lawful, and its restarts are the first of all restarts, as many as its events make
-pub record JournalStands (batch : Batch) (journal : Journal) : Type 0 where
-  pub lawful : Lawful (dependence_in batch) batch.faults journal.events
-  pub first : (rest : List Restart) × (restarts_of (run_in batch) batch.faults ≡ journal.restarts ++ rest)
-  pub counted : length journal.restarts ≡ count_by is_restart journal.events
-
--- a run that came to its end: a complete journal with all restarts, and the end, the records and the number of subthreads of the plain run
-pub record ReportsRun (batch : Batch) (report : Report) : Type 0 where
-  pub complete : Complete (dependence_in batch) batch.faults report.journal.events
-  pub restarts : report.journal.restarts ≡ restarts_of (run_in batch) batch.faults
-  pub end : report.end ≡ end_in batch
-  pub records : report.records ≡ final_records (program_in batch) batch.inputs batch.limits
-  pub subthreads : report.subthreads ≡ length (run_in batch)
-  pub unused : report.unused ≡ length batch.faults - length report.journal.restarts
-
--- all lines of the plain run
-abbrev pub all_lines : Batch → List (List ℤ)
-all_lines batch = flat_map (λ (s : Subthread). s.lines) (run_in batch)
-
--- what was written is the lines of all positions that have retired, and then a part of those of the next one
-pub record WritesRetired (batch : Batch) (before after : Option (List ℕ)) (journal : Journal) : Type 0 where
-  pub part : ℕ
-  pub bytes : Appends before after
-      (printed (lines_below batch (stage_in batch journal).retired) ++ take part (printed (lines_at batch (stage_in batch journal).retired)))
-
--- the sink's count of faults does not fall, and the run stops with a write fault only where it rose
-pub record HasRunCause (before after : ℕ) (result : Result Report EngineStop) : Type 0 where
-  pub later : before ≤ after
-  pub failed : IfErr result (λ stop. stop.why ≡ WriteFault → Rose before after)
-
--- all posts were to this crew, in order
-abbrev pub ArePosts : (posted : List (ℕ × ℕ)) → Journal → Type 0
-ArePosts posted journal = posted ≡ posts journal.events
-
--- what is out with the crew is what was posted and not taken
-abbrev pub IsUntaken : (out : List Task) → Journal → Type 0
-IsUntaken out journal = map pair_of out ≡ untaken (posts journal.events) (takes journal.events)
-
--- the outcome is that memory is out
-abbrev pub RanOut : Result Report EngineStop → Type 0
-RanOut (Ok report) = ⊥
-RanOut (Err stop) = stop.why ≡ OutOfMemory
+batch_of w inputs limits faults = whole.batch_of Selective w inputs limits faults

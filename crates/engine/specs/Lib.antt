@@ -1,7 +1,1 @@
 pub mod Drive
-pub mod Engaged
-pub mod Gives
-pub mod Laws
-pub mod Takes
-pub mod View
-pub mod inner

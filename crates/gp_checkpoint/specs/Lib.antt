@@ -1,6 +1,1 @@
-pub mod Cuts
-pub mod Journal
-pub mod JournalTests
-pub mod Laws
-pub mod Standing
-pub mod States
+pub mod Drive

@@ -1,7 +1,0 @@
-use Rattle.std.proofs.Common.{◌↔◌, ap, subst}
-use Rattle.std.specs.Prelude.{IsTrue}
-use Rattle.engine.specs.Gives.{NoneLent}
-use Rattle.engine.proofs.engine_calls.EngineCalls.all_home.Goals as goal
-
-pub returns : goal.returns
-returns c = subst (λ view. IsTrue c.all_home.result ↔ NoneLent view) (ap (λ e. e.view) c.self.view_is) c.all_home.ensures

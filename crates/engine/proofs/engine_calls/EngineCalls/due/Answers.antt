@@ -1,6 +1,0 @@
-use Rattle.std.proofs.Common.{◌≡◌, is_some, ap, subst}
-use Rattle.engine.specs.Gives.{struck_now}
-use Rattle.engine.proofs.engine_calls.EngineCalls.due.Goals as goal
-
-pub returns : goal.returns
-returns c = subst (λ view. c.due.result ≡ is_some (struck_now view)) (ap (λ e. e.view) c.self.view_is) c.due.ensures

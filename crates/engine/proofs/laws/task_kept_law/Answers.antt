@@ -1,5 +1,0 @@
-use Rattle.engine.proofs.Crews.{did-task}
-use Rattle.engine.proofs.laws.task_kept_law.Goals as goal
-
-pub returns : goal.returns
-returns c view after e task stands did t untaken = did-task view after e stands did task t untaken

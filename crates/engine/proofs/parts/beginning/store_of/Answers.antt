@@ -1,6 +1,0 @@
-use Rattle.engine.specs.inner.Kept.{batch_in}
-use Rattle.engine.proofs.Opened.{shared-out}
-use Rattle.engine.proofs.parts.beginning.store_of.Goals as goal
-
-pub new-requires : goal.new-requires
-new-requires c = shared-out (batch_in c.args.plan.now) c.args.layout c.requires.suits c.args.records c.requires.records

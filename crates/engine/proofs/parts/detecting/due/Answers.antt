@@ -1,9 +1,0 @@
-use Rattle.std.proofs.Common.{◌∙◌, ap, is_some}
-use Rattle.engine.specs.inner.Kept.{batch_in}
-use Rattle.engine.proofs.Struck.{struck-same}
-use Rattle.engine.proofs.parts.detecting.due.Goals as goal
-
-pub returns : goal.returns
-returns c =
-    c.is_some-2.ensures
-    ∙ ap is_some (rw c.as_slice-faults.ensures at c.struck.ensures ∙ struck-same (batch_in c.args.plan.now) c.args.parts.now c.requires.kept c.is_some.result c.is_some.ensures)

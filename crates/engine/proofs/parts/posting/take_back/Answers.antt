@@ -1,5 +1,0 @@
-use Rattle.std.proofs.Common.{rules}
-use Rattle.engine.proofs.parts.posting.take_back.Goals as goal
-
-pub returns : goal.returns
-returns c = search rules

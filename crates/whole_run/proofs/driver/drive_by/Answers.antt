@@ -1,0 +1,23 @@
+use Rattle.std.proofs.Common.{ap, subst}
+use Rattle.std.specs.Result.{OnOk}
+use Rattle.std.specs.Io.KnownBytes.{Appends}
+use Rattle.restart_log.specs.Lines.{printed}
+use Rattle.whole_run.specs.Drive.{batch_of, all_lines}
+use Rattle.whole_run.proofs.Beginning.{no-journal, no-lines}
+use Rattle.whole_run.proofs.driver.drive_by.Goals as goal
+
+pub returns-in-Ok-clause-lines : goal.returns-in-Ok-clause-lines
+returns-in-Ok-clause-lines g c =
+    subst (λ batch. OnOk c.finish.result
+    (Appends (g.O.Sink.written c.args.out.now) (g.O.Sink.written c.finish.new.out) (printed (all_lines batch))))
+    (ap (λ v. v.batch) c.in-Ok.ensures) c.finish.ensures.lines
+
+pub returns-in-Err-clause-journal : goal.returns-in-Err-clause-journal
+returns-in-Err-clause-journal g c =
+    no-journal (batch_of c.args.recovery c.args.w.now c.args.inputs c.args.limits c.args.faults) c.new-in-Err.result c.new-in-Err-2.result
+    c.new-in-Err.ensures c.new-in-Err-2.ensures
+
+pub returns-in-Err-clause-partly : goal.returns-in-Err-clause-partly
+returns-in-Err-clause-partly g c =
+    no-lines (batch_of c.args.recovery c.args.w.now c.args.inputs c.args.limits c.args.faults) (g.O.Sink.written c.args.out.now)
+    c.new-in-Err.result c.new-in-Err-2.result c.new-in-Err.ensures

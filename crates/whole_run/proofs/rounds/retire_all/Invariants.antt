@@ -1,0 +1,16 @@
+use Rattle.std.proofs.Common.{◌≤◌}
+use Rattle.whole_run.specs.Takes.{CrewStands}
+use Rattle.whole_run.specs.inner.Rounds.{left, Leaves, KeepsWritten}
+use Rattle.whole_run.proofs.rounds.retire_all.Given as goal
+
+abbrev pub invariant-retiring : goal.invariant-retiring
+invariant-retiring g l = record {
+  leaves : Leaves (g.E.Calls.view l.fn.engine) (g.E.Calls.view l.engine) (g.C.Crew.ready l.crew) (g.C.Crew.work l.crew)
+      (g.C.Crew.posted l.crew);
+  crew : CrewStands (g.E.Calls.view l.engine) (g.C.Crew.posted l.crew) (g.C.Crew.out l.crew);
+  written : KeepsWritten (g.E.Calls.view l.fn.engine) (g.E.Calls.view l.engine) (g.O.Sink.written l.fn.out) (g.O.Sink.written l.out);
+  later : g.O.Sink.faults l.fn.out ≤ g.O.Sink.faults l.out;
+}
+
+abbrev pub decreases-retiring : goal.decreases-retiring
+decreases-retiring g l = left (g.E.Calls.view l.engine)

@@ -1,0 +1,154 @@
+use Rattle.std.proofs.Common.{◌∙◌, refl, arith}
+use Rattle.whole_run.specs.Gives.{HasFinished}
+use Rattle.whole_run.specs.inner.Rounds.{KeepsPart, KeepsWritten}
+use Rattle.whole_run.proofs.Progress.{completed, ends-so, round-falls}
+use Rattle.whole_run.proofs.Turns.{agrees-then, leaves-still, leaves-then, on-err}
+use Rattle.whole_run.proofs.Written.{wrote-same, written-whole}
+use Rattle.whole_run.proofs.rounds.run_rounds.Goals as goal
+use Rattle.whole_run.proofs.rounds.run_rounds.Goals.{In_ok-retire_all, In-Some, After-issue_all, After-post_all, After-take_one}
+
+-- what was written after the retirements of a round
+written₁ : (g : _) (c : In_ok-retire_all g)
+    → KeepsWritten (g.E.Calls.view c.args.engine.now) (g.E.Calls.view c.retire_all.new.engine) (g.O.Sink.written c.args.out.now)
+    (g.O.Sink.written c.retire_all.new.out)
+written₁ g c start wrote = c.in_ok-retire_all.ensures.written start (c.rounds.invariant.written start wrote)
+
+-- after its issues
+written₂ : (g : _) (c : After-issue_all g)
+    → KeepsWritten (g.E.Calls.view c.args.engine.now) (g.E.Calls.view c.issue_all.new.engine) (g.O.Sink.written c.args.out.now)
+    (g.O.Sink.written c.retire_all.new.out)
+written₂ g c start wrote =
+    wrote-same start (g.E.Calls.view c.retire_all.new.engine) (g.E.Calls.view c.issue_all.new.engine)
+    (g.O.Sink.written c.retire_all.new.out) (g.O.Sink.written c.retire_all.new.out)
+    c.issue_all.ensures.leaves.onward.batch c.issue_all.ensures.retired refl
+    (c.in_ok-retire_all.ensures.written start (c.rounds.invariant.written start wrote))
+
+-- after its posts
+written₃ : (g : _) (c : After-post_all g)
+    → KeepsWritten (g.E.Calls.view c.args.engine.now) (g.E.Calls.view c.post_all.new.engine) (g.O.Sink.written c.args.out.now)
+    (g.O.Sink.written c.retire_all.new.out)
+written₃ g c start wrote =
+    wrote-same start (g.E.Calls.view c.retire_all.new.engine) (g.E.Calls.view c.post_all.new.engine) (g.O.Sink.written c.retire_all.new.out)
+    (g.O.Sink.written c.retire_all.new.out)
+    (c.post_all.ensures.leaves.onward.batch ∙ c.issue_all.ensures.leaves.onward.batch)
+    (c.post_all.ensures.retired ∙ c.issue_all.ensures.retired) refl
+    (c.in_ok-retire_all.ensures.written start (c.rounds.invariant.written start wrote))
+
+-- after its result
+written₄ : (g : _) (c : After-take_one g)
+    → KeepsWritten (g.E.Calls.view c.args.engine.now) (g.E.Calls.view c.take_one.new.engine) (g.O.Sink.written c.args.out.now)
+    (g.O.Sink.written c.retire_all.new.out)
+written₄ g c start wrote =
+    wrote-same start (g.E.Calls.view c.retire_all.new.engine) (g.E.Calls.view c.take_one.new.engine) (g.O.Sink.written c.retire_all.new.out)
+    (g.O.Sink.written c.retire_all.new.out)
+    (c.take_one.ensures.leaves.onward.batch ∙ (c.post_all.ensures.leaves.onward.batch ∙ c.issue_all.ensures.leaves.onward.batch))
+    (c.take_one.ensures.retired ∙ (c.post_all.ensures.retired ∙ c.issue_all.ensures.retired)) refl
+    (c.in_ok-retire_all.ensures.written start (c.rounds.invariant.written start wrote))
+
+pub rounds-init : goal.rounds-init
+rounds-init g c =
+    record { leaves = leaves-still c.requires.agrees; crew = c.requires.agrees.crew; written = λ start wrote. wrote; later = omega arith }
+
+pub returns-in_err-retire_all-clause-leaves : goal.returns-in_err-retire_all-clause-leaves
+returns-in_err-retire_all-clause-leaves g c = leaves-then c.rounds.invariant.leaves c.retire_all.ensures.leaves
+
+pub returns-in_err-retire_all-clause-partly : goal.returns-in_err-retire_all-clause-partly
+returns-in_err-retire_all-clause-partly g c =
+    on-err c.from_residual.result
+    (KeepsPart (g.E.Calls.view c.args.engine.now) (g.E.Calls.view c.retire_all.new.engine) (g.O.Sink.written c.args.out.now)
+    (g.O.Sink.written c.retire_all.new.out))
+    (λ start wrote. c.in_err-retire_all.ensures.partly start (c.rounds.invariant.written start wrote))
+
+-- where the run has finished
+finished : (g : _) (c : In-Some g) → HasFinished (g.E.Calls.view c.retire_all.new.engine) c.in-Some.end
+finished g c = rw c.in-Some.is at c.finished.ensures.found
+
+pub returns-in-Some-clause-leaves : goal.returns-in-Some-clause-leaves
+returns-in-Some-clause-leaves g c = leaves-then c.rounds.invariant.leaves c.retire_all.ensures.leaves
+
+pub returns-in-Some-clause-complete : goal.returns-in-Some-clause-complete
+returns-in-Some-clause-complete g c =
+    completed (g.E.Calls.view c.retire_all.new.engine) c.in-Some.end c.retire_all.ensures.leaves.onward.stands
+    c.in_ok-retire_all.ensures.quiet.none_struck
+    (finished g (goal.at.returns-in-Some-clause-complete g c).In-Some)
+
+pub returns-in-Some-clause-end : goal.returns-in-Some-clause-end
+returns-in-Some-clause-end g c =
+    ends-so (g.E.Calls.view c.retire_all.new.engine) c.in-Some.end c.retire_all.ensures.leaves.onward.stands
+    (finished g (goal.at.returns-in-Some-clause-end g c).In-Some)
+
+pub returns-in-Some-clause-crew : goal.returns-in-Some-clause-crew
+returns-in-Some-clause-crew g c other = c.in_ok-retire_all.ensures.crew (λ e. absurd (cc e))
+
+pub returns-in-Some-clause-written : goal.returns-in-Some-clause-written
+returns-in-Some-clause-written g c = written₁ g (goal.at.returns-in-Some-clause-written g c).In_ok-retire_all
+
+pub issue_all-requires-clause-agrees : goal.issue_all-requires-clause-agrees
+issue_all-requires-clause-agrees g c lifetimes within =
+    agrees-then (leaves-then c.rounds.invariant.leaves c.retire_all.ensures.leaves) (c.in_ok-retire_all.ensures.crew (λ e. absurd (cc e)))
+
+pub returns-in_err-issue_all-clause-leaves : goal.returns-in_err-issue_all-clause-leaves
+returns-in_err-issue_all-clause-leaves g c =
+    leaves-then (leaves-then c.rounds.invariant.leaves c.retire_all.ensures.leaves) c.issue_all.ensures.leaves
+
+pub returns-in_err-issue_all-clause-partly : goal.returns-in_err-issue_all-clause-partly
+returns-in_err-issue_all-clause-partly g c =
+    on-err c.from_residual-in_err-issue_all.result
+    (KeepsPart (g.E.Calls.view c.args.engine.now) (g.E.Calls.view c.issue_all.new.engine) (g.O.Sink.written c.args.out.now)
+    (g.O.Sink.written c.retire_all.new.out))
+    (written-whole (g.E.Calls.view c.args.engine.now) (g.E.Calls.view c.issue_all.new.engine) (g.O.Sink.written c.args.out.now)
+    (g.O.Sink.written c.retire_all.new.out)
+    (written₂ g (goal.at.returns-in_err-issue_all-clause-partly g c).After-issue_all))
+
+pub returns-in_err-post_all-clause-leaves : goal.returns-in_err-post_all-clause-leaves
+returns-in_err-post_all-clause-leaves g c =
+    leaves-then (leaves-then (leaves-then c.rounds.invariant.leaves c.retire_all.ensures.leaves) c.issue_all.ensures.leaves)
+    c.post_all.ensures.leaves
+
+pub returns-in_err-post_all-clause-partly : goal.returns-in_err-post_all-clause-partly
+returns-in_err-post_all-clause-partly g c =
+    on-err c.from_residual-in_err-post_all.result
+    (KeepsPart (g.E.Calls.view c.args.engine.now) (g.E.Calls.view c.post_all.new.engine) (g.O.Sink.written c.args.out.now)
+    (g.O.Sink.written c.retire_all.new.out))
+    (written-whole (g.E.Calls.view c.args.engine.now) (g.E.Calls.view c.post_all.new.engine) (g.O.Sink.written c.args.out.now)
+    (g.O.Sink.written c.retire_all.new.out)
+    (written₃ g (goal.at.returns-in_err-post_all-clause-partly g c).After-post_all))
+
+pub returns-in_err-take_one-clause-leaves : goal.returns-in_err-take_one-clause-leaves
+returns-in_err-take_one-clause-leaves g c =
+    leaves-then
+    (leaves-then (leaves-then (leaves-then c.rounds.invariant.leaves c.retire_all.ensures.leaves) c.issue_all.ensures.leaves)
+    c.post_all.ensures.leaves)
+    c.take_one.ensures.leaves
+
+pub returns-in_err-take_one-clause-partly : goal.returns-in_err-take_one-clause-partly
+returns-in_err-take_one-clause-partly g c =
+    on-err c.from_residual-in_err-take_one.result
+    (KeepsPart (g.E.Calls.view c.args.engine.now) (g.E.Calls.view c.take_one.new.engine) (g.O.Sink.written c.args.out.now)
+    (g.O.Sink.written c.retire_all.new.out))
+    (written-whole (g.E.Calls.view c.args.engine.now) (g.E.Calls.view c.take_one.new.engine) (g.O.Sink.written c.args.out.now)
+    (g.O.Sink.written c.retire_all.new.out)
+    (written₄ g (goal.at.returns-in_err-take_one-clause-partly g c).After-take_one))
+
+pub rounds-smaller : goal.rounds-smaller
+rounds-smaller g c =
+    let view = g.E.Calls.view in
+    round-falls (view c.rounds.engine) (view c.retire_all.new.engine) (view c.issue_all.new.engine) (view c.post_all.new.engine)
+    (view c.take_one.new.engine) c.in_ok-take_one.field-0
+    c.retire_all.ensures.leaves.onward c.in_ok-retire_all.ensures.quiet c.in_default.ensures.none
+    c.issue_all.ensures.leaves.onward c.in_ok-issue_all.ensures.issued c.post_all.ensures.leaves.onward c.in_ok-post_all.ensures.none
+    c.in_ok-take_one.ensures.took
+
+pub rounds-preserved : goal.rounds-preserved
+rounds-preserved g c =
+    let there = (goal.at.rounds-preserved g c).After-take_one in
+    record {
+      leaves =
+          leaves-then
+          (leaves-then (leaves-then (leaves-then c.rounds.invariant.leaves c.retire_all.ensures.leaves) c.issue_all.ensures.leaves)
+          c.post_all.ensures.leaves)
+          c.take_one.ensures.leaves;
+      crew = c.in_ok-take_one.ensures.crew;
+      written = written₄ g there;
+      later = let first = c.rounds.invariant.later in let second = c.retire_all.ensures.cause.later in omega arith;
+    }

@@ -1,0 +1,18 @@
+use Rattle.std.proofs.Common.{◌≡◌}
+use Rattle.whole_run.specs.View.{now}
+use Rattle.whole_run.specs.Gives.{struck_now}
+use Rattle.whole_run.specs.Takes.{CrewStands}
+use Rattle.whole_run.specs.inner.Rounds.{left, Leaves}
+use Rattle.whole_run.proofs.rounds.scout_all.Given as goal
+
+abbrev pub invariant-scouting : goal.invariant-scouting
+invariant-scouting g l = record {
+  leaves : Leaves (g.E.Calls.view l.fn.engine) (g.E.Calls.view l.engine) (g.C.Crew.ready l.crew) (g.C.Crew.work l.crew)
+      (g.C.Crew.posted l.crew);
+  crew : CrewStands (g.E.Calls.view l.engine) (g.C.Crew.posted l.crew) (g.C.Crew.out l.crew);
+  retired : (now (g.E.Calls.view l.engine)).retired ≡ (now (g.E.Calls.view l.fn.engine)).retired;
+  struck : struck_now (g.E.Calls.view l.engine) ≡ struck_now (g.E.Calls.view l.fn.engine);
+}
+
+abbrev pub decreases-scouting : goal.decreases-scouting
+decreases-scouting g l = left (g.E.Calls.view l.engine)

@@ -1,0 +1,12 @@
+pub mod Backed
+pub mod Backing
+pub mod Detected
+pub mod Kept
+pub mod Locks
+pub mod Posted
+pub mod Prepared
+pub mod Retiring
+pub mod RingStands
+pub mod Rounds
+pub mod Striking
+pub mod Taken

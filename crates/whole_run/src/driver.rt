@@ -1,0 +1,97 @@
+// A whole run.
+ghost use Rattle.std.specs.Prelude.{◌≡◌, [], IfOk, IfErr, OnOk};
+ghost use Rattle.std.specs.Io.KnownBytes.{Appends};
+ghost use Rattle.subthread.specs.Tasks.{Suits};
+ghost use Rattle.restart_log.specs.Lines.{printed};
+ghost use Rattle.whole_run.specs.Recovering.{HasCuts};
+ghost use Rattle.whole_run.specs.View.{begun, Stands};
+ghost use Rattle.whole_run.specs.Drive.{batch_of, journal_in, JournalStands, ReportsRun, all_lines, WritesRetired, HasRunCause, ArePosts, IsUntaken, RanOut};
+
+use crate::Recovery;
+use crate::calls::Calls;
+use crate::engine::Engine;
+use crate::rounds::run_rounds;
+use crew::Crew;
+use gp_base::{Faults, Inputs, Journal, Limits, Seq, Sink};
+use reorder_list::{EngineStop, Report, StopWhy};
+use std::alloc::Global;
+use std::thread::Threads;
+use subthread::Work;
+use task_ast::Layout;
+
+// Goes on with a run from its beginning, and tells what it came to.
+fn finish<R: Threads + Sync, E: Calls, C: Crew, O: Sink>(
+    rt: &R,
+    engine: E,
+    crew: &mut C,
+    out: &mut O,
+) -> Result<Report, EngineStop>
+    requires stands { Stands (E.view engine) }
+    requires begun { E.view engine ≡ begun (E.view engine).batch }
+    requires ready { C.ready crew.old }
+    requires work { C.work crew.old ≡ (E.view engine).batch.work }
+    requires none_out { C.out crew.old ≡ [] }
+    requires none_posted { C.posted crew.old ≡ [] }
+    ensures journal { JournalStands (E.view engine).batch (journal_in result) }
+    ensures report { IfOk result (ReportsRun (E.view engine).batch) }
+    ensures lines { OnOk result (Appends (O.written out.old) (O.written out.new) (printed (all_lines (E.view engine).batch))) }
+    ensures partly { WritesRetired (E.view engine).batch (O.written out.old) (O.written out.new) (journal_in result) }
+    ensures cause { HasRunCause (O.faults out.old) (O.faults out.new) result }
+    ensures ready { C.ready crew.new }
+    ensures work { C.work crew.new ≡ C.work crew.old }
+    ensures posts { ArePosts (C.posted crew.new) (journal_in result) }
+    ensures out { ¬ RanOut result → IsUntaken (C.out crew.new) (journal_in result) }
+{
+    let mut engine = engine;
+    match run_rounds(rt, &mut engine, crew, out) {
+        Ok(end) => Ok(engine.into_report(end)),
+        Err(why) => {
+            let journal = engine.into_journal();
+            Err(EngineStop { why, journal })
+        }
+    }
+}
+
+/// Runs a batch with a crew, which has not been posted to, recovering so from faults, and writes the printed lines to `out`: at
+/// the end exactly those of the plain run. Nothing else is written. Where the output takes no more or memory is out, the run
+/// stops: all lines of each position that retired are written, and at most a part of those of the next. It always returns; some
+/// attempts that were ended may still be out with the crew.
+pub fn drive_by<R: Threads + Sync, C: Crew, O: Sink>(
+    rt: &R,
+    alloc: Global,
+    recovery: Recovery,
+    w: &Work,
+    layout: Layout,
+    inputs: Inputs,
+    faults: Faults,
+    limits: Limits,
+    crew: &mut C,
+    out: &mut O,
+) -> Result<Report, EngineStop>
+    requires suits { Suits w.now layout inputs limits }
+    requires cuts { HasCuts recovery }
+    requires ready { C.ready crew.old }
+    requires work { C.work crew.old ≡ w.now }
+    requires none_out { C.out crew.old ≡ [] }
+    requires none_posted { C.posted crew.old ≡ [] }
+    ensures journal { JournalStands (batch_of recovery w.now inputs limits faults) (journal_in result) }
+    ensures report { IfOk result (ReportsRun (batch_of recovery w.now inputs limits faults)) }
+    ensures lines { OnOk result (Appends (O.written out.old) (O.written out.new) (printed (all_lines (batch_of recovery w.now inputs limits faults)))) }
+    ensures partly { WritesRetired (batch_of recovery w.now inputs limits faults) (O.written out.old) (O.written out.new) (journal_in result) }
+    ensures cause { HasRunCause (O.faults out.old) (O.faults out.new) result }
+    ensures ready { C.ready crew.new }
+    ensures work { C.work crew.new ≡ C.work crew.old }
+    ensures posts { ArePosts (C.posted crew.new) (journal_in result) }
+    ensures out { ¬ RanOut result → IsUntaken (C.out crew.new) (journal_in result) }
+{
+    match Engine::new(alloc, recovery, w, layout, inputs, faults, limits) {
+        Ok(engine) => finish(rt, engine, crew, out),
+        Err(_) => Err(EngineStop {
+            why: StopWhy::OutOfMemory,
+            journal: Journal {
+                events: Seq::new(alloc),
+                restarts: Seq::new(alloc),
+            },
+        }),
+    }
+}

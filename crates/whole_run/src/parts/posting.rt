@@ -1,0 +1,234 @@
+// Posting the present attempt of a position.
+
+ghost use Rattle.std.specs.Prelude.{◌≡◌, ◌≤◌, true, false, [], ◌∷◌, ◌++◌, length, map, All, Contains, IfOk, IfErr, OnOk, OnErr};
+ghost use Rattle.std.specs.Option.{IsSomeAnd};
+ghost use Rattle.std.specs.List.Sorted.{IsStrictlyIncreasing};
+ghost use Rattle.gp_base.specs.declared.journal.Event.TheVariants as event;
+ghost use Rattle.dependence.specs.Restarts.{mask_of};
+ghost use Rattle.dependence.specs.Standing.{present};
+ghost use Rattle.record_store.specs.Given.{joined_by};
+ghost use Rattle.record_store.specs.Lent.{lock_in, marked, AreAsLent};
+ghost use Rattle.record_store.specs.Stored.{IsAtHome, IsAway};
+ghost use Rattle.reorder_list.specs.Entries.{entry_at};
+ghost use Rattle.subthread.specs.declared.task.Task.{Task};
+ghost use Rattle.subthread.specs.Footprints.{IsNumbered};
+ghost use Rattle.subthread.specs.Tasks.{Fits};
+ghost use Rattle.crew.specs.Out.{pair_of};
+ghost use Rattle.whole_run.specs.View.{now};
+ghost use Rattle.whole_run.specs.Gives.{Did, MayPostNow};
+ghost use Rattle.whole_run.specs.Takes.{TaskStands};
+ghost use Rattle.whole_run.specs.inner.Kept.{batch_in, view_of, Kept};
+ghost use Rattle.whole_run.specs.inner.Posted.{bare_in, lent_by};
+
+use crate::parts::backing::open_block;
+use crate::parts::{Parts, Plan};
+use crew::Crew;
+use gp_base::{Event, Fault, Pos, Room, Seq, ThreadNo};
+use record_store::{Bundle, Given, Store};
+use reorder_list::{Entry, Rol};
+use std::alloc::{AllocError, AllocFailed, Global};
+use std::thread::Threads;
+use subthread::Task;
+use task_ast::SyncOp;
+
+/// The mask of the fault that strikes an attempt, or 0.
+fn mask_of(faults: &[Fault], pos: Pos, attempt: u32) -> i64
+    ensures { result ≡ mask_of faults.now pos attempt }
+{
+    for fault in faults {
+        if fault.pos == pos.0 && fault.attempt == attempt {
+            return fault.mask;
+        }
+    }
+    0
+}
+
+/// The thread that is joined.
+fn joined_by(begins: &SyncOp) -> Option<ThreadNo>
+    requires numbered { IsNumbered begins.now }
+    ensures { result ≡ joined_by begins.now }
+{
+    match begins {
+        SyncOp::Join(thread) if *thread >= 0 => Some(ThreadNo(*thread as u32)),
+        _ => None,
+    }
+}
+
+/// The task of an entry's present attempt, which has no cells yet.
+fn bare_in(
+    alloc: Global,
+    faults: &[Fault],
+    store: &Store,
+    pos: Pos,
+    entry: &Entry,
+) -> Result<Task, AllocError>
+    requires numbered { IsNumbered entry.now.begins.sync }
+    ensures { IfOk result (λ task. task ≡ bare_in faults.now store.now pos entry.now) }
+{
+    let joined = joined_by(&entry.begins.sync);
+    let (regs, joined) = store.regs_of(alloc, entry.thread, joined)?;
+    let bundles = Seq::new(alloc);
+    Ok(Task {
+        pos,
+        thread: entry.thread,
+        attempt: entry.attempt,
+        begins: entry.begins.copied(alloc)?,
+        at: entry.at,
+        ctl: entry.ctl.copied(alloc)?,
+        child: entry.child,
+        given: Given {
+            regs,
+            joined,
+            bundles,
+        },
+        held: entry.held.copied(alloc)?,
+        mask: mask_of(faults, pos, entry.attempt),
+    })
+}
+
+/// The task of a position's present attempt, which has no cells yet.
+fn bare_at(
+    alloc: Global,
+    faults: &[Fault],
+    store: &Store,
+    rol: &Rol,
+    pos: Pos,
+) -> Result<Task, AllocError>
+    requires found { IsSomeAnd (entry_at rol.now.entries pos) (λ e. IsNumbered e.begins.sync) }
+    ensures { IfOk result (λ task. IsSomeAnd (entry_at rol.now.entries pos) (λ e. task ≡ bare_in faults.now store.now pos e)) }
+{
+    match rol.get(pos) {
+        Some(entry) => bare_in(alloc, faults, store, pos, entry),
+        None => unreachable!(),
+    }
+}
+
+/// Room for the cells of so many locks.
+fn room_for(alloc: Global, locks: usize) -> Result<Room<Bundle>, AllocError>
+    ensures empty { IfOk result (λ room. room.items ≡ []) }
+    ensures room { IfOk result (λ room. locks ≤ room.spare) }
+{
+    let mut room = Room::new(alloc);
+    room.reserve(locks)?;
+    Ok(room)
+}
+
+/// Lends a task the cells of its locks, which are at home.
+fn lend(store: &mut Store, task: Task, room: Room<Bundle>) -> Task
+    requires home { All (IsAtHome store.old) task.held }
+    requires rising { IsStrictlyIncreasing task.held }
+    requires empty { room.items ≡ [] }
+    requires room { length task.held ≤ room.spare }
+    ensures task { result ≡ lent_by store.old task }
+    ensures store { store.new ≡ record store.old { away = marked task.held true store.old.away } }
+{
+    let mut task = task;
+    let mut room = room;
+    store.lend(&task.held, &mut room);
+    task.given.bundles = room.into_seq();
+    task
+}
+
+/// Hands a task to a crew. The error is that memory is out; the task comes back.
+fn hand<R: Threads + Sync, C: Crew>(
+    rt: &R,
+    crew: &mut C,
+    task: Task,
+) -> Result<(), AllocFailed<Task>>
+    requires ready { C.ready crew.old }
+    requires fits { Fits (C.work crew.old) task }
+    requires fresh { ¬ Contains (C.posted crew.old) (pair_of task) }
+    ensures ready { C.ready crew.new }
+    ensures work { C.work crew.new ≡ C.work crew.old }
+    ensures out { OnOk result (C.out crew.new ≡ C.out crew.old ++ task ∷ []) }
+    ensures posted { OnOk result (C.posted crew.new ≡ C.posted crew.old ++ pair_of task ∷ []) }
+    ensures posted_kept { OnErr result (C.posted crew.new ≡ C.posted crew.old) }
+    ensures out_kept { OnErr result (C.out crew.new ≡ C.out crew.old) }
+    ensures back { IfErr result (λ refused. refused.value ≡ task) }
+{
+    crew.post(rt, task)
+}
+
+/// Takes home the cells that were lent to a task, which are as they were.
+fn take_back(store: &mut Store, task: Task)
+    requires away { All (λ b. IsAway store.old (lock_in b)) task.given.bundles }
+    requires as_lent { AreAsLent store.old task.given.bundles }
+    ensures { store.new ≡ record store.old { away = marked (map lock_in task.given.bundles) false store.old.away } }
+{
+    let Task { given, .. } = task;
+    store.send_back(given.bundles);
+}
+
+/// Lends a task the cells of its locks and hands it to a crew. The error is that memory is out; the cells are home again.
+fn send<R: Threads + Sync, C: Crew>(
+    rt: &R,
+    crew: &mut C,
+    store: &mut Store,
+    task: Task,
+    room: Room<Bundle>,
+) -> Result<(), AllocError>
+    requires ready { C.ready crew.old }
+    requires fits { Fits (C.work crew.old) (lent_by store.old task) }
+    requires fresh { ¬ Contains (C.posted crew.old) (pair_of task) }
+    requires home { All (IsAtHome store.old) task.held }
+    requires rising { IsStrictlyIncreasing task.held }
+    requires empty { room.items ≡ [] }
+    requires room { length task.held ≤ room.spare }
+    ensures ready { C.ready crew.new }
+    ensures work { C.work crew.new ≡ C.work crew.old }
+    ensures out { OnOk result (C.out crew.new ≡ C.out crew.old ++ lent_by store.old task ∷ []) }
+    ensures posted { OnOk result (C.posted crew.new ≡ C.posted crew.old ++ pair_of task ∷ []) }
+    ensures lent { OnOk result (store.new ≡ record store.old { away = marked task.held true store.old.away }) }
+    ensures posted_kept { OnErr result (C.posted crew.new ≡ C.posted crew.old) }
+    ensures out_kept { OnErr result (C.out crew.new ≡ C.out crew.old) }
+    ensures home { OnErr result (store.new ≡ store.old) }
+{
+    let task = lend(store, task, room);
+    match hand(rt, crew, task) {
+        Ok(()) => Ok(()),
+        Err(refused) => {
+            take_back(store, refused.value);
+            Err(AllocError)
+        }
+    }
+}
+
+/// Posts the present attempt of a position to a crew of this run's work; the cells of its locks go out with it. The error is
+/// that memory is out; nothing was posted then, and each cell is where it was. Where all is rolled back, the data are copied
+/// before the first post of a block.
+pub fn post<R: Threads + Sync, C: Crew>(
+    alloc: Global,
+    rt: &R,
+    plan: &Plan,
+    parts: &mut Parts,
+    crew: &mut C,
+    position: Pos,
+) -> Result<(), AllocError>
+    requires kept { Kept (batch_in plan.now) parts.old }
+    requires closed { parts.old.ring.cleared ≡ false }
+    requires may { MayPostNow (view_of (batch_in plan.now) parts.old) position }
+    requires ready { C.ready crew.old }
+    requires work { C.work crew.old ≡ (batch_in plan.now).work }
+    requires posted { C.posted crew.old ≡ (now (view_of (batch_in plan.now) parts.old)).posted }
+    ensures kept { Kept (batch_in plan.now) parts.new }
+    ensures closed { parts.new.ring.cleared ≡ false }
+    ensures did { OnOk result (Did (view_of (batch_in plan.now) parts.old) (event.Post position (present (now (view_of (batch_in plan.now) parts.old)) position)) (view_of (batch_in plan.now) parts.new)) }
+    ensures err { OnErr result (view_of (batch_in plan.now) parts.new ≡ view_of (batch_in plan.now) parts.old) }
+    ensures ready { C.ready crew.new }
+    ensures work { C.work crew.new ≡ C.work crew.old }
+    ensures out { OnOk result ((task : Task) × (C.out crew.new ≡ C.out crew.old ++ task ∷ []) × (pair_of task ≡ (position, present (now (view_of (batch_in plan.now) parts.old)) position)) × TaskStands (view_of (batch_in plan.now) parts.new) task) }
+    ensures posted { OnOk result (C.posted crew.new ≡ C.posted crew.old ++ (position, present (now (view_of (batch_in plan.now) parts.old)) position) ∷ []) }
+    ensures posted_kept { OnErr result (C.posted crew.new ≡ C.posted crew.old) }
+    ensures out_kept { OnErr result (C.out crew.new ≡ C.out crew.old) }
+{
+    open_block(alloc, plan, parts, position)?;
+    parts.events.reserve(1)?;
+    let faults = plan.faults.as_slice();
+    let task = bare_at(alloc, faults, &parts.store, &parts.rol, position)?;
+    let room = room_for(alloc, task.held.len())?;
+    let attempt = task.attempt;
+    send(rt, crew, &mut parts.store, task, room)?;
+    parts.rol.set_out(position);
+    parts.events.push(Event::Post(position, attempt));
+    Ok(())
+}
