@@ -24,11 +24,11 @@ use Rattle.gp_audit.proofs.Parts.{cancel}
 use Rattle.gp_audit.proofs.Traces.{few-lines}
 use Rattle.call_cases.specs.declared.reading.Refusal.{Refusal}
 use Rattle.call_cases.specs.declared.reading.Refusal.TheVariants.{Usage, BadProgram, BadInput, ReadFault, OutOfMemory}
-use Rattle.call_cases.specs.Work.{Files, ToDo, Supplied, Supplies, Spoils}
+use Rattle.call_cases.specs.Work.{Files, ToDo, Spoils}
 use Rattle.call_cases.specs.Lines.{input_line}
 use Rattle.call_cases.specs.Refusals.{IsInputRefused, ReadsAmong, AnswersFile}
 use Rattle.call_cases.proofs.Loads.{only_one}
-use Rattle.audit_calls.specs.Tried.{Reads, Judge, tried, by_rows}
+use Rattle.audit_calls.specs.Tried.{Reads, Judge, by_rows}
 use Rattle.audit_calls.specs.inner.Trials.{AnswersLines}
 
 -- what was read, as an answer that memory may keep back

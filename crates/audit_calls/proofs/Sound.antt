@@ -1,5 +1,5 @@
 -- The commands of an audit are sound.
-use Rattle.std.proofs.Common.{◌≡◌, ◌⊎◌, ℕ, inl, inr, refl, arith}
+use Rattle.std.proofs.Common.{ℕ, inl, inr, refl, arith}
 use Rattle.gp_audit.specs.declared.verdict.Verdict.{Verdict}
 use Rattle.gp_audit.specs.declared.verdict.Verdict.TheVariants.{Lawful, Unlawful, Incomplete}
 use Rattle.gp_audit.specs.Answer.{verdict_status}

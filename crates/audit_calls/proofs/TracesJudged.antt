@@ -1,14 +1,17 @@
 -- The trace of a run that ended is judged lawful.
-use Rattle.std.proofs.Common.{◌≡◌, ◌≤◌, ◌⊎◌, inl, inr, ℕ, true, List, [], ◌∷◌, ◌++◌, length, sym, ap, subst, ◌∙◌}
+use Rattle.std.proofs.Common.{◌≡◌, inl, inr, ℕ, true, List, [], ◌∷◌, ◌++◌, refl, sym, ap, subst, ◌∙◌}
 use Rattle.std.specs.declared.option.Option.TheVariants.{Some}
 use Rattle.std.specs.declared.result.Result.{Result}
-use Rattle.std.specs.declared.result.Result.TheVariants.{Ok, Err}
+use Rattle.std.specs.declared.result.Result.TheVariants.{Ok}
 use Rattle.gp_base.specs.Files.{bytes_of}
-use Rattle.gp_base.specs.declared.limits.TheConstants.{MOST_FILE_BYTES}
 use Rattle.task_ast.specs.Tree.{Name}
-use Rattle.task_ast.specs.Plain.{order}
+use Rattle.task_ast.specs.Plain.{Subthread, order}
 use Rattle.dependence.specs.Restarts.{Dependence}
-use Rattle.dependence.specs.Runs.{dependence_of}
+use Rattle.gp_base.specs.declared.fault.Fault.{Fault}
+use Rattle.gp_base.specs.declared.journal.Event.{Event}
+use Rattle.dependence.specs.Restarts.{restarts}
+use Rattle.dependence.specs.Journal.{Complete}
+use Rattle.dependence.specs.Runs.{dependence_of, restarts_of}
 use Rattle.restart_log.specs.Trace.{trace_text}
 use Rattle.gp_audit.specs.declared.line.TraceLine.{TraceLine}
 use Rattle.gp_audit.specs.declared.verdict.Verdict.{Verdict}
@@ -18,7 +21,11 @@ use Rattle.gp_audit.specs.Verdicts.{IsVerdict}
 use Rattle.gp_traces.specs.Laws.{IsWholeRun, IsNarrowRun}
 use Rattle.gp_audit.proofs.Orders.{order-is}
 use Rattle.gp_traces.proofs.WholeRuns.{audit-is-lawful}
+use Rattle.command_line.specs.declared.asked.Command.{Command}
+use Rattle.command_line.specs.declared.asked.Command.TheVariants as command
 use Rattle.call_cases.specs.Work.{Files, ToDo, is_journalled}
+use Rattle.call_cases.specs.PlainText.{restarts_in}
+use Rattle.call_cases.specs.Recovering.{recovering_by, CompleteBy}
 use Rattle.call_cases.specs.Journals.{run_of, dependence_for, IsJournalOf, IsCompleteOf}
 use Rattle.call_cases.specs.Case.{Go, IsCase, ForCase, ForRun, status_of, text_of}
 use Rattle.call_cases.specs.RunCommands as run
@@ -28,8 +35,30 @@ use Rattle.audit_calls.specs.Tried.{Reads, Judge, tried}
 use Rattle.audit_calls.specs.AuditCommands.{asking, commands}
 use Rattle.audit_calls.specs.Laws.{IsSameRun, TraceLaw}
 use Rattle.audit_calls.specs.inner.Trials.{AnswersLines}
+use Rattle.command_line.proofs.RestartsAlone.{RestartsAlone}
+use Rattle.call_cases.proofs.NoCheckpoints.{restarts_alone}
 use Rattle.audit_calls.proofs.Readings.{told, told_reads, told_lines, told_something, lines_told}
 use Rattle.audit_calls.proofs.TrialCases.{lines_case}
+
+-- what is said of a run of a command that restarts alone, of restarts and of complete journals
+module _ (run : List Subthread) (faults : List Fault) where
+  alone_restarts : (c : Command) → RestartsAlone c → restarts (recovering_by c run) faults ≡ restarts_of run faults
+  alone_restarts command.Run alone = refl
+  alone_restarts command.One alone = refl
+  alone_restarts command.Check alone = refl
+  alone_restarts (command.Soak batch) alone = refl
+  alone_restarts (command.Ckpt every) alone = absurd alone
+
+  alone_complete : (c : Command) (events : List Event) → RestartsAlone c → CompleteBy c run faults events → Complete (dependence_of run) faults events
+  alone_complete command.Run events alone is = is
+  alone_complete command.One events alone is = is
+  alone_complete command.Check events alone is = is
+  alone_complete (command.Soak batch) events alone is = is
+  alone_complete (command.Ckpt every) events alone is = absurd alone
+
+alone_first : (work : ToDo) → RestartsAlone work.command → restarts_of (run_of work) work.faults ≡ restarts_in work
+unfolding run_of restarts_in
+alone_first work alone = sym (alone_restarts (run_of work) work.faults work.command alone)
 
 -- what a headline says of the journal of a run that ended
 module _ (call : Call) (files : Files) (names : List Name) (work : ToDo) (headline : Headline run.commands call) (known : call.files ≡ Some files)
@@ -38,12 +67,17 @@ module _ (call : Call) (files : Files) (names : List Name) (work : ToDo) (headli
   journal_of =
       subst (λ told. ForCase run.asking call.words told (λ case. ForRun run.commands case (λ w. IsJournalOf w call.journal))) known headline.lawful (Go names work) is runs
 
+  alone : RestartsAlone work.command
+  alone = restarts_alone call.words files names work is
+
+  complete_of : run.IsWhole call.status → IsCompleteOf work call.journal
+  complete_of whole =
+      subst (λ told. ForCase run.asking call.words told (λ case. ForRun run.commands case (λ w. IsCompleteOf w call.journal))) known (headline.complete whole) (Go names work) is runs
+
   whole_run : run.IsWhole call.status → IsWholeRun (run_of work) work.faults call.journal
-  unfolding dependence_for
   whole_run whole = record {
-    complete =
-        subst (λ told. ForCase run.asking call.words told (λ case. ForRun run.commands case (λ w. IsCompleteOf w call.journal))) known (headline.complete whole) (Go names work) is runs;
-    first = journal_of.first;
+    complete = alone_complete (run_of work) work.faults work.command call.journal.events alone (complete_of whole);
+    first = (journal_of.first.0, alone_first work alone ∙ journal_of.first.1);
     counted = journal_of.counted;
   }
 

@@ -2,6 +2,7 @@ pub mod Answering
 pub mod Further
 pub mod Headlines
 pub mod Loads
+pub mod NoCheckpoints
 pub mod OneCase
 pub mod Readable
 pub mod ReadsProgram

@@ -12,7 +12,8 @@ use Rattle.command_line.specs.declared.asked.Command.TheVariants as command
 use Rattle.call_cases.specs.Work.{ToDo, runs}
 use Rattle.call_cases.specs.Answers.{IsEmpty, unwritten}
 use Rattle.call_cases.specs.PlainText.{plain_ran}
-use Rattle.call_cases.specs.Journals.{IsJournalOf, TakesRetired, TakesRetiredFor, retired_in, lines_before}
+use Rattle.call_cases.specs.Recovering.{LawfulBy}
+use Rattle.call_cases.specs.Journals.{run_of, IsJournalOf, TakesRetired, TakesRetiredFor, retired_in, lines_before}
 use Rattle.call_cases.specs.Commands.{Asking, Commands, IsApart, AreSound}
 use Rattle.call_cases.specs.RunCommands.{IsWhole, end_status, work_status, commands}
 
@@ -42,7 +43,15 @@ empty_by : (journal : Journal) → IsEmpty journal → journal ≡ journal_by []
 empty_by journal empty = ap (λ e. journal_by e journal.restarts) empty.0 ∙ ap (λ r. journal_by [] r) empty.1
 
 pub empty_journal_of : (work : ToDo) (journal : Journal) → IsEmpty journal → IsJournalOf work journal
-empty_journal_of work journal empty = subst (IsJournalOf work) (sym (empty_by journal empty)) (record { lawful = tt; first = (_, refl); counted = refl })
+empty_journal_of work journal empty =
+    subst (IsJournalOf work) (sym (empty_by journal empty)) (record { lawful = none_lawful work.command; first = (_, refl); counted = refl })
+  where
+    none_lawful : (c : Command) → LawfulBy c (run_of work) work.faults []
+    none_lawful command.Run = tt
+    none_lawful command.One = tt
+    none_lawful command.Check = tt
+    none_lawful (command.Soak batch) = tt
+    none_lawful (command.Ckpt every) = tt
 
 pub none_retired : (work : ToDo) (journal : Journal) → IsEmpty journal → retired_in work journal ≡ 0
 none_retired work journal empty = ap (λ j. retired_in work j) (empty_by journal empty)
@@ -55,6 +64,7 @@ retired_none work journal written faults empty = go work.command
     go command.One = (inl (none_retired work journal empty), inr (prefix_none written (lines_before work (suc (retired_in work journal)))))
     go command.Check = (inl (none_retired work journal empty), inr (prefix_none written (lines_before work (suc (retired_in work journal)))))
     go (command.Soak batch) = inr (Keeps-same written)
+    go (command.Ckpt every) = (inl (none_retired work journal empty), inr (prefix_none written (lines_before work (suc (retired_in work journal)))))
 
 pub commands_sound : AreSound commands
 commands_sound = record { ends = λ work. work_whole work.command work; apart = whole_apart; begins = empty_journal_of; unbegun = retired_none }

@@ -15,6 +15,7 @@ use Rattle.lock_checker.specs.Accepted.{program_of}
 use Rattle.lock_checker.specs.declared.checked.Checked.{Checked}
 use Rattle.lock_checker.specs.declared.fault.CheckFault.{CheckFault}
 use Rattle.lock_checker.specs.declared.fault.CheckFault.TheVariants as check
+use Rattle.command_line.specs.Words.{IsWithinRanges}
 use Rattle.command_line.specs.declared.asked.Asked.{Asked}
 use Rattle.call_cases.specs.declared.work.Request.{Request}
 use Rattle.call_cases.specs.declared.reading.Refusal.{Refusal}
@@ -54,9 +55,11 @@ IsAcceptedIn asked text (Err refusal) = ⊥
 abbrev pub accepted_case : Asked → Program → Files → Case ToDo
 accepted_case asked program files = program_case asking files asked program None
 
--- What may be run: the inputs are those of the program, and there is a worker and no more than there may be.
+-- What may be run: the inputs are those of the program, the number of the command lies within its range, and there is a worker and no more than there
+-- may be.
 pub record IsSound (asked : Asked) (program : Program) (inputs : Inputs) : Type 0 where
   pub inputs_are : AreInputsOf program inputs
+  pub ranges : IsWithinRanges asked.command
   pub some_worker : 1 ≤ asked.workers
   pub few_workers : asked.workers ≤ MOST_WORKERS
 

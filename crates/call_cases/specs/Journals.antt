@@ -4,12 +4,14 @@ use Rattle.gp_base.specs.declared.journal.Journal.{Journal}
 use Rattle.gp_base.specs.declared.journal.Restart.{Restart}
 use Rattle.task_ast.specs.Plain.{Subthread, order}
 use Rattle.dependence.specs.Restarts.{Dependence}
-use Rattle.dependence.specs.Journal.{Lawful, Complete, stage}
-use Rattle.dependence.specs.Runs.{dependence_of, restarts_of}
+use Rattle.dependence.specs.Journal.{stage}
+use Rattle.dependence.specs.Runs.{dependence_of}
 use Rattle.dependence.specs.Counts.{is_restart}
 use Rattle.command_line.specs.declared.asked.Command.{Command}
 use Rattle.command_line.specs.declared.asked.Command.TheVariants as command
 use Rattle.call_cases.specs.Work.{ToDo}
+use Rattle.call_cases.specs.Recovering.{recovering_by, LawfulBy, CompleteBy}
+use Rattle.call_cases.specs.PlainText.{restarts_in}
 use Rattle.restart_log.specs.Lines.{printed}
 use Rattle.call_cases.specs.Answers.{Change, TakesAll, TakesPart, TakesNothing}
 
@@ -20,19 +22,23 @@ run_of work = order work.program work.inputs work.limits
 unfoldable pub dependence_for : ToDo → Dependence
 dependence_for work = dependence_of (run_of work)
 
+-- what is read of them where the run recovers as its command does
+unfoldable pub recovering_for : ToDo → Dependence
+recovering_for work = recovering_by work.command (run_of work)
+
 -- The journal is lawful for the run and the faults. Its restarts are the first of all restarts, as many as its events make.
 pub record IsJournalOf (work : ToDo) (journal : Journal) : Type 0 where
-  pub lawful : Lawful (dependence_for work) work.faults journal.events
-  pub first : (rest : List Restart) × (restarts_of (run_of work) work.faults ≡ journal.restarts ++ rest)
+  pub lawful : LawfulBy work.command (run_of work) work.faults journal.events
+  pub first : (rest : List Restart) × (restarts_in work ≡ journal.restarts ++ rest)
   pub counted : length journal.restarts ≡ count_by is_restart journal.events
 
 -- every subthread was issued and has retired, and all restarts were made
 abbrev pub IsCompleteOf : ToDo → Journal → Type 0
-IsCompleteOf work journal = Complete (dependence_for work) work.faults journal.events
+IsCompleteOf work journal = CompleteBy work.command (run_of work) work.faults journal.events
 
 -- how many subthreads have retired
 abbrev pub retired_in : ToDo → Journal → ℕ
-retired_in work journal = (stage (dependence_for work) work.faults journal.events).retired
+retired_in work journal = (stage (recovering_for work) work.faults journal.events).retired
 
 -- the first line, and the lines of the subthreads before a position
 abbrev pub lines_before : ToDo → ℕ → List ℕ

@@ -7,6 +7,7 @@ pub mod InputFiles
 pub mod Journals
 pub mod Lines
 pub mod PlainText
+pub mod Recovering
 pub mod Refusals
 pub mod RunCommands
 pub mod SoakFiles

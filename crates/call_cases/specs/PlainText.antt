@@ -1,16 +1,17 @@
--- How the plain run of a work goes, as its text tells it.
+-- How the plain run of a work goes, as its text tells it, and the restarts that its faults make.
 use Rattle.std.specs.Prelude.{List, length, flat_map}
 use Rattle.gp_base.specs.declared.journal.Restart.{Restart}
-use Rattle.dependence.specs.Runs.{restarts_of}
+use Rattle.dependence.specs.Restarts.{restarts}
 use Rattle.task_ast.specs.Names.{records_of}
 use Rattle.task_ast.specs.Layout.{cut}
 use Rattle.task_ast.specs.Plain.{Subthread, order, end, final_records}
+use Rattle.call_cases.specs.Recovering.{recovering_by}
 use Rattle.call_cases.specs.Texts.{Ran}
 use Rattle.call_cases.specs.Work.{ToDo}
 
--- the restarts of its run
+-- the restarts of its run, which recovers as its command does
 unfoldable pub restarts_in : ToDo → List Restart
-restarts_in work = restarts_of (order work.program work.inputs work.limits) work.faults
+restarts_in work = restarts (recovering_by work.command (order work.program work.inputs work.limits)) work.faults
 
 -- the plain run of what is to be done
 unfoldable pub plain_ran : ToDo → Ran

@@ -7,7 +7,7 @@ use Rattle.task_ast.specs.Tree.{Name}
 use Rattle.restart_log.specs.Trace.{trace_text}
 use Rattle.command_line.specs.Words.{asked_by}
 use Rattle.command_line.specs.declared.asked.Command.{Command}
-use Rattle.command_line.specs.declared.asked.Command.TheVariants.{Run, One, Check, Soak}
+use Rattle.command_line.specs.declared.asked.Command.TheVariants.{Run, One, Check, Soak, Ckpt}
 use Rattle.command_line.specs.declared.asked.Asked.{Asked}
 use Rattle.call_cases.specs.Work.{ToDo, runs, is_traced, makes_files, is_journalled}
 use Rattle.call_cases.specs.InputFiles.{supplied_by}
@@ -37,6 +37,7 @@ work_text Run work = run_text (plain_ran work) (restarts_in work) (length work.f
 work_text One work = run_text (plain_ran work) [] 0
 work_text Check work = codes "ok\n"
 work_text (Soak soak) work = soak_text soak (plain_ran work) (restarts_in work) (length work.faults)
+work_text (Ckpt every) work = run_text (plain_ran work) (restarts_in work) (length work.faults)
 
 -- the trace of the journal, where one is asked for
 abbrev pub trace_for : Asked → Journal → List ℕ

@@ -1,2 +1,3 @@
 pub mod AskedFacts
 pub mod ParseFacts
+pub mod RestartsAlone

@@ -1,4 +1,6 @@
 pub mod Arguments
 pub mod AuditWords
+pub mod CkptWords
 pub mod Numbers
+pub mod WhyWords
 pub mod Words

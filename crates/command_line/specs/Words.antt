@@ -14,6 +14,7 @@ use Rattle.command_line.specs.declared.asked.Command.TheVariants as command
 use Rattle.command_line.specs.declared.asked.CrewKind.{CrewKind}
 use Rattle.command_line.specs.declared.asked.CrewKind.TheVariants as crew
 use Rattle.command_line.specs.declared.asked.Verb.{Verb}
+use Rattle.command_line.specs.declared.ckpt_words.TheConstants.{LEAST_EVERY, MOST_EVERY}
 use Rattle.command_line.specs.declared.asked.Verb.TheVariants.{Run, One, Check, Soak as SoakVerb}
 
 -- the words as bytes
@@ -145,14 +146,15 @@ is_pipe kind = false
 abbrev pub wants_pipe : List Text → Bool
 wants_pipe words = option_map_or (λ asked. is_pipe asked.crew) (asked_waiting words) false
 
--- the numbers of a batch that is made lie within their limits
-abbrev pub IsWithinMoves : Command → Type 0
-IsWithinMoves (command.Soak soak) = (LEAST_MOVES ≤ soak.moves) × (soak.moves ≤ MOST_MOVES)
-IsWithinMoves command = ⊤
+-- the number of a command lies within its range: how many moves a batch has that is made, and after how many subthreads there is a checkpoint
+abbrev pub IsWithinRanges : Command → Type 0
+IsWithinRanges (command.Soak soak) = (LEAST_MOVES ≤ soak.moves) × (soak.moves ≤ MOST_MOVES)
+IsWithinRanges (command.Ckpt every) = (LEAST_EVERY ≤ every) × (every ≤ MOST_EVERY)
+IsWithinRanges command = ⊤
 
 -- some subthread may begin and no more than may at most, there is a worker and no more than there may be
 pub record IsWithinLimits (asked : Asked) : Type 0 where
-  pub moves : IsWithinMoves asked.command
+  pub ranges : IsWithinRanges asked.command
   pub some_subthread : 0 < asked.limits.subthreads
   pub few_subthreads : asked.limits.subthreads ≤ MOST_SUBTHREADS
   pub some_worker : 1 ≤ asked.workers

@@ -2,7 +2,7 @@
 ghost use Rattle.std.specs.Prelude.{◌≡◌, ◌<◌, ◌≤◌, IfOk, IfSome, option_map};
 ghost use Rattle.gp_base.specs.declared.limits.TheConstants.{MOST_WORKERS, MOST_SUBTHREADS, LEAST_MOVES, MOST_MOVES};
 ghost use Rattle.clap.specs.Words.{app_of, found_of, rows_of};
-ghost use Rattle.command_line.specs.Words.{texts, named_verb, named_crew, app_for, on_program, with_limits, with_crew, for_run, for_soak, asked_among, asked_by, asked_in, asked_of, asked_waiting, command_in, crew_in, soak_in, limits_in, program_in, faults_in, is_pipe, wants_pipe, IsWithinMoves, IsWithinLimits};
+ghost use Rattle.command_line.specs.Words.{texts, named_verb, named_crew, app_for, on_program, with_limits, with_crew, for_run, for_soak, asked_among, asked_by, asked_in, asked_of, asked_waiting, command_in, crew_in, soak_in, limits_in, program_in, faults_in, is_pipe, wants_pipe, IsWithinRanges, IsWithinLimits};
 
 use crate::arguments::{
     flag, found_number, found_text, is_given, option, option_number, positional, taken,
@@ -22,14 +22,15 @@ pub struct Soak {
     pub start: u64,
 }
 
-/// What is to be done: that a program is run; that it is run on one thread, without faults; that it is checked alone; or
-/// that a batch is made and run.
+/// What is to be done: that a program is run; that it is run on one thread, without faults; that it is checked alone; that
+/// a batch is made and run; or that a program is run by checkpoints, one after each so many subthreads.
 #[derive(Clone, Copy, PartialEq, Eq)]
 pub enum Command {
     Run,
     One,
     Check,
     Soak(Soak),
+    Ckpt(u32),
 }
 
 /// Who carries out the subthreads of a run: the calling thread, one after another; workers that share a wave of them out
@@ -121,8 +122,11 @@ pub fn with_limits<'a>(
     parser.arg(turns)?.arg(subthreads)
 }
 
-// The command with the options of a crew.
-fn with_crew<'a>(alloc: Global, parser: clap::Command<'a>) -> Result<clap::Command<'a>, AllocError>
+/// The command with the options of a crew.
+pub fn with_crew<'a>(
+    alloc: Global,
+    parser: clap::Command<'a>,
+) -> Result<clap::Command<'a>, AllocError>
     ensures { IfOk result (λ manned. app_of manned ≡ with_crew (app_of parser.entry)) }
 {
     let workers = option(alloc, "workers");
@@ -188,7 +192,7 @@ fn soak_in(matches: &ArgMatches<'_>) -> Option<Soak>
 // What is to be done, or none where it is a batch whose numbers are none.
 fn command_in(verb: Verb, matches: &ArgMatches<'_>) -> Option<Command>
     ensures command { result ≡ command_in verb (rows_of (found_of matches.now)) }
-    ensures within { IfSome result IsWithinMoves }
+    ensures within { IfSome result IsWithinRanges }
 {
     match verb {
         Verb::Run => Some(Command::Run),

@@ -4,9 +4,13 @@
 mod arguments;
 mod asked;
 mod audit_words;
+mod ckpt_words;
 mod number;
+mod why_words;
 
 pub use asked::{
     Asked, Command, CrewKind, Soak, Verb, asked_of, read_waiting_words, read_words, wants_pipe,
 };
 pub use audit_words::{Audited, read_audit_words};
+pub use ckpt_words::{DEFAULT_EVERY, LEAST_EVERY, MOST_EVERY, read_ckpt_words};
+pub use why_words::{Sought, read_why_words};

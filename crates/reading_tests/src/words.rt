@@ -1,5 +1,7 @@
 // Words of commands, and words of no command.
-use command_line::{Asked, Command, CrewKind, read_waiting_words, read_words, wants_pipe};
+use command_line::{
+    Asked, Command, CrewKind, read_ckpt_words, read_waiting_words, read_words, wants_pipe,
+};
 use gp_base::limits::{DEFAULT_SUBTHREADS, DEFAULT_TURNS};
 use std::alloc::{AllocError, Global};
 use std::test::Fail;
@@ -98,6 +100,8 @@ fn words_of_no_command(rt: HostRuntime) -> Result<(), Fail> {
         "run p.gp --crew Board",
         "run p.gp --crew pipe",
         "one p.gp --crew steal",
+        "run p.gp --every 4",
+        "ckpt p.gp",
         "check",
         "check p.gp q.gp",
     ];
@@ -158,5 +162,45 @@ fn words_of_lasting_workers(rt: HostRuntime) -> Result<(), Fail> {
         assert!(rt; read_waiting_words(alloc, &words)?.is_some() == waits);
         assert!(rt; read_words(alloc, &words)?.is_none());
     }
+    Ok(())
+}
+
+// After how many subthreads there is a checkpoint, by what words ask for.
+fn every_of(asked: Option<Asked>) -> Option<u32> {
+    match asked {
+        Some(asked) => match asked.command {
+            Command::Ckpt(every) if !asked.trace => Some(every),
+            _ => None,
+        },
+        None => None,
+    }
+}
+
+#[test]
+fn words_of_checkpoints(rt: HostRuntime) -> Result<(), Fail> {
+    let alloc = rt.alloc();
+    let rows = [
+        ("ckpt p.gp", Some(64)),
+        ("ckpt p.gp --every 1", Some(1)),
+        ("ckpt --every=100000 p.gp", Some(100000)),
+        (
+            "ckpt p.gp --crew steal --workers 2 --every 4 --faults f.csv",
+            Some(4),
+        ),
+        ("ckpt p.gp --turns 5 --subthreads 6", Some(64)),
+        ("ckpt p.gp --every 0", None),
+        ("ckpt p.gp --every 100001", None),
+        ("ckpt p.gp --every four", None),
+        ("ckpt p.gp --trace", None),
+        ("ckpt p.gp --crew pipe", None),
+        ("ckpt", None),
+        ("run p.gp", None),
+        ("", None),
+    ];
+    for (text, every) in rows {
+        let words = words_of(alloc, text)?;
+        assert!(rt; every_of(read_ckpt_words(alloc, &words)?) == every);
+    }
+    assert!(rt; read_ckpt_words(alloc, &Vec::new(alloc))?.is_none());
     Ok(())
 }

@@ -1,4 +1,4 @@
-use Rattle.std.proofs.Common.{◌≡◌, ◌∙◌, ◌≤◌, List, ap, sym, subst}
+use Rattle.std.proofs.Common.{◌∙◌, ◌≤◌, List, ap, sym, subst}
 use Rattle.std.specs.declared.option.Option.TheVariants.{Some}
 use Rattle.gp_base.specs.declared.limits.TheConstants.{MOST_SUBTHREADS}
 use Rattle.gp_audit.specs.declared.line.TraceLine.{TraceLine}
@@ -6,7 +6,6 @@ use Rattle.command_line.specs.declared.asked.Asked.{Asked}
 use Rattle.call_cases.specs.Decided.{program_in, files_read, work_of}
 use Rattle.call_cases.specs.Refusals.{RefusesShelf}
 use Rattle.audit_calls.specs.AuditCommands.{MayRead}
-use Rattle.audit_calls.specs.inner.Trials.{IsShort, audited_in}
 use Rattle.audit_calls.proofs.TrialCases.{run_refuses, lines_judged, trace_refuses, run_reads, trace_reads}
 use Rattle.audit_calls.proofs.reading.read_audited.Goals as goal
 

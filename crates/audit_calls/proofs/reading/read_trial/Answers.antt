@@ -1,4 +1,4 @@
-use Rattle.std.proofs.Common.{◌≡◌, Some, None, sym, subst, ◌∙◌, ap}
+use Rattle.std.proofs.Common.{◌≡◌, Some, None, sym, subst}
 use Rattle.command_line.specs.Words.{texts}
 use Rattle.command_line.specs.AuditWords.{audited_by}
 use Rattle.call_cases.specs.Refusals.{TouchesShelf}

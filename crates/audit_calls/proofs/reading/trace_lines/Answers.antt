@@ -1,4 +1,4 @@
-use Rattle.std.proofs.Common.{ℕ, List, [], ◌∷◌, sym, subst}
+use Rattle.std.proofs.Common.{ℕ, List, [], ◌∷◌, subst}
 use Rattle.call_cases.specs.Refusals.{ReadsAmong}
 use Rattle.audit_calls.proofs.Readings.{file_told, unread_told}
 use Rattle.audit_calls.proofs.reading.trace_lines.Goals as goal

@@ -1,4 +1,4 @@
-use Rattle.std.proofs.Common.{ap, ◌∙◌}
+use Rattle.std.proofs.Common.{ap}
 use Rattle.gp_audit.specs.Answer.{verdict_text, verdict_status}
 use Rattle.command_line.specs.Words.{texts}
 use Rattle.call_cases.specs.Answers.{change_of}

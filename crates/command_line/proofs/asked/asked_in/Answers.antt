@@ -5,7 +5,7 @@ returns-clause-within c =
     let workers = c.in-Some-option_number.ensures.within in
     let limits = c.in-Some-limits_in.ensures in
     record {
-      moves = c.in-Some.ensures.within;
+      ranges = c.in-Some.ensures.within;
       some_subthread = limits.some_subthread;
       few_subthreads = limits.few_subthreads;
       some_worker = workers.0;

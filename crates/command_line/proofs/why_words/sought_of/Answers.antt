@@ -1,0 +1,26 @@
+use Rattle.std.proofs.Common.{◌≡◌, ◌∙◌, ap, refl, true, Some, None}
+use Rattle.std.proofs.lemmas.Result.{IfOk-weaker}
+use Rattle.clap.specs.Words.{app_of, is_simple_and_free}
+use Rattle.command_line.specs.Words.{texts}
+use Rattle.command_line.specs.WhyWords.{for_why, sought_in}
+use Rattle.command_line.proofs.AskedFacts.{parsed_by, read_taken, read_refused}
+use Rattle.command_line.proofs.why_words.sought_of.Goals as goal
+
+-- the parse of the command is known exactly
+simple_why : is_simple_and_free for_why ≡ true
+unfolding for_why
+simple_why = refl
+
+pub taken-requires : goal.taken-requires
+taken-requires c = ap is_simple_and_free c.in_ok-parser.ensures ∙ simple_why
+
+pub returns-in-Some-clause-sought : goal.returns-in-Some-clause-sought
+returns-in-Some-clause-sought c =
+    let words = texts c.args.words.now in
+    let parsed = parsed_by (app_of c.in_ok-parser.parser) for_why words (Some c.in-Some.matches) c.in_ok-matches.field-0 c.in_ok-parser.ensures c.in-Some.is c.in_ok-matches.ensures in
+    IfOk-weaker c.sought_in.result _ _ (λ sought is. is ∙ read_taken sought_in for_why words c.in-Some.matches parsed) c.sought_in.ensures.sought
+
+pub returns-in-None-clause-sought : goal.returns-in-None-clause-sought
+returns-in-None-clause-sought c =
+    let words = texts c.args.words.now in
+    read_refused sought_in for_why words (parsed_by (app_of c.in_ok-parser.parser) for_why words None c.in_ok-matches.field-0 c.in_ok-parser.ensures c.in-None.is c.in_ok-matches.ensures)

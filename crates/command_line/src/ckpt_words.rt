@@ -1,0 +1,88 @@
+// The words of `ckpt`: a run by checkpoints.
+ghost use Rattle.std.specs.Prelude.{◌≡◌, ◌≤◌, IfOk, IfSome};
+ghost use Rattle.clap.specs.Words.{app_of, found_of, rows_of};
+ghost use Rattle.command_line.specs.Words.{texts, IsWithinLimits};
+ghost use Rattle.command_line.specs.CkptWords.{for_ckpt, every_in, ckpt_in, ckpt_of, ckpt_by};
+ghost use Rattle.command_line.specs.declared.ckpt_words.TheConstants.{LEAST_EVERY, MOST_EVERY};
+
+use crate::arguments::{option, option_number, taken};
+use crate::asked::{Asked, Command, Verb, asked_in, on_program, with_crew, with_limits};
+use clap::ArgMatches;
+use std::alloc::{AllocError, Global};
+
+/// The subthreads from one checkpoint to the next, at least, at most, and where the words do not say.
+pub const LEAST_EVERY: u32 = 1;
+
+pub const MOST_EVERY: u32 = 100000;
+
+pub const DEFAULT_EVERY: u32 = 64;
+
+// What takes the words of `ckpt`.
+fn for_ckpt<'a>(alloc: Global) -> Result<clap::Command<'a>, AllocError>
+    ensures { IfOk result (λ parser. app_of parser ≡ for_ckpt) }
+{
+    let every = option(alloc, "every");
+    let faults = option(alloc, "faults");
+    let program = on_program(alloc, "ckpt")?;
+    let cut = program.arg(every)?;
+    let struck = cut.arg(faults)?;
+    let limited = with_limits(alloc, struck)?;
+    with_crew(alloc, limited)
+}
+
+// After how many subthreads there is a checkpoint, or none where that is no number in its range.
+fn every_in(matches: &ArgMatches<'_>) -> Option<u32>
+    ensures every { result ≡ every_in (rows_of (found_of matches.now)) }
+    ensures within { IfSome result (λ every. (LEAST_EVERY ≤ every) × (every ≤ MOST_EVERY)) }
+{
+    let least = u64::from(LEAST_EVERY);
+    let most = u64::from(MOST_EVERY);
+    let usual = u64::from(DEFAULT_EVERY);
+    let every = option_number(matches, "every", least, most, usual)?;
+    Some(every as u32)
+}
+
+// What the matches of the command ask for, or none where a value is not one of its option.
+fn ckpt_in(alloc: Global, matches: &ArgMatches<'_>) -> Result<Option<Asked>, AllocError>
+    ensures asked { IfOk result (λ asked. asked ≡ ckpt_in (rows_of (found_of matches.now))) }
+    ensures within { IfOk result (λ asked. IfSome asked IsWithinLimits) }
+{
+    let Some(every) = every_in(matches) else {
+        return Ok(None);
+    };
+    let Some(run) = asked_in(alloc, false, Verb::Run, matches)? else {
+        return Ok(None);
+    };
+    Ok(Some(Asked {
+        command: Command::Ckpt(every),
+        trace: false,
+        ..run
+    }))
+}
+
+// What the words of the command ask for, or none where it does not take them.
+fn ckpt_of(alloc: Global, words: &[String]) -> Result<Option<Asked>, AllocError>
+    ensures asked { IfOk result (λ asked. asked ≡ ckpt_of (texts words.now)) }
+    ensures within { IfOk result (λ asked. IfSome asked IsWithinLimits) }
+{
+    let parser = for_ckpt(alloc)?;
+    match taken(parser, words)? {
+        Some(matches) => ckpt_in(alloc, &matches),
+        None => Ok(None),
+    }
+}
+
+/// What the words ask for, or none where they are not those of `ckpt`: the first word is another, the command does not take the
+/// others, a number is outside its range, or a crew's word names none. `words` are those after the program's own name.
+pub fn read_ckpt_words(alloc: Global, words: &[String]) -> Result<Option<Asked>, AllocError>
+    ensures asked { IfOk result (λ asked. asked ≡ ckpt_by (texts words.now)) }
+    ensures within { IfOk result (λ asked. IfSome asked IsWithinLimits) }
+{
+    let [word, ..] = words else {
+        return Ok(None);
+    };
+    if word.as_str() != "ckpt" {
+        return Ok(None);
+    }
+    ckpt_of(alloc, words)
+}
