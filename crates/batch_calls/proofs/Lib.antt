@@ -1,4 +1,4 @@
-pub mod AskedWaiting
+pub mod AskedOtherwise
 pub mod PlainTexts
 pub mod RanPieces
 pub mod RunEnds

@@ -13,8 +13,9 @@ use Rattle.gp_base.specs.declared.fault.Fault.{Fault}
 use Rattle.gp_base.specs.declared.journal.Journal.{Journal}
 use Rattle.gp_base.proofs.Written.{Appends-append, prefix_first, prefix_second, prefix_none, prefix_of_split, Keeps-same}
 use Rattle.task_ast.specs.Plain.{Subthread, order, end, final_records}
-use Rattle.dependence.specs.Journal.{Lawful, Complete, stage}
-use Rattle.dependence.specs.Runs.{dependence_of, restarts_of}
+use Rattle.gp_base.specs.declared.journal.Event.{Event}
+use Rattle.dependence.specs.Restarts.{restarts}
+use Rattle.dependence.specs.Journal.{stage}
 use Rattle.task_ast.specs.Names.{records_of}
 use Rattle.task_ast.specs.Layout.{cut}
 use Rattle.restart_log.specs.Lines.{printed}
@@ -24,46 +25,87 @@ use Rattle.reorder_list.specs.declared.report.Report.{Report}
 use Rattle.reorder_list.specs.declared.report.EngineStop.{EngineStop}
 use Rattle.reorder_list.specs.declared.report.StopWhy.TheVariants.{WriteFault}
 use Rattle.reorder_list.specs.declared.report.StopWhy.TheVariants as why
-use Rattle.engine.specs.View.{Batch, program_in, run_in, lines_of}
-use Rattle.engine.specs.Drive.{JournalStands, ReportsRun, all_lines, WritesRetired}
+use Rattle.whole_run.specs.declared.recovery.Recovery.{Recovery}
+use Rattle.whole_run.specs.Recovering as whole
+use Rattle.whole_run.specs.View.{Batch, program_in, run_in, lines_of}
+use Rattle.whole_run.specs.Drive.{JournalStands, ReportsRun, all_lines, WritesRetired}
+use Rattle.whole_run.specs.Drive as drive
+use Rattle.command_line.specs.declared.asked.Command.{Command}
 use Rattle.command_line.specs.declared.asked.Command.TheVariants as command
 use Rattle.command_line.specs.declared.asked.Soak.{Soak}
 use Rattle.call_cases.specs.Work.{ToDo}
 use Rattle.call_cases.specs.PlainText.{plain_ran, restarts_in}
-use Rattle.call_cases.specs.Journals.{run_of, dependence_for, retired_in, lines_before, IsJournalOf, IsCompleteOf, TakesRetiredFor}
+use Rattle.call_cases.specs.Recovering.{recovering_by, LawfulBy, CompleteBy}
+use Rattle.call_cases.specs.Journals.{run_of, recovering_for, retired_in, lines_before, HoldsRetired, IsJournalOf, IsCompleteOf, TakesRetiredFor}
 use Rattle.call_cases.specs.Answers.{Change, IsEmpty, TakesAll, TakesPart, Fails}
 use Rattle.call_cases.proofs.RunSound.{empty_journal_of, none_retired}
-use Rattle.batch_calls.specs.inner.Ran.{Stops, why_of, RunsBatch, bytes_below, bytes_at, IsReportOf, RunsWork, RanFor, told_tail, told_soak}
+use Rattle.batch_calls.specs.inner.Planned.{recovery_of}
+use Rattle.batch_calls.specs.inner.Ran.{WritesLines, Stops, why_of, RunsBatch, bytes_below, bytes_at, IsReportOf, RunsWork, RanFor, told_tail, told_soak}
 use Rattle.call_cases.specs.Texts.{tail_text, run_text, soak_text}
 
--- a batch of the engine that is the run of a work
-module _ (batch : Batch) (work : ToDo) (program : program_in batch ≡ work.program) (inputs : batch.inputs ≡ work.inputs) (limits : batch.limits ≡ work.limits) (faults : batch.faults ≡ work.faults) where
+-- a run that recovers as a command does redoes what is said of the command, and its journals are lawful and complete as is said of it
+same_recovering : (c : Command) (run : List Subthread) → whole.recovering (recovery_of c) run ≡ recovering_by c run
+same_recovering command.Run run = refl
+same_recovering command.One run = refl
+same_recovering command.Check run = refl
+same_recovering (command.Soak batch) run = refl
+same_recovering (command.Ckpt every) run = refl
+
+module _ (run : List Subthread) (faults : List Fault) (events : List Event) where
+  same_lawful : (c : Command) → whole.LawfulBy run faults (recovery_of c) events → LawfulBy c run faults events
+  same_lawful command.Run is = is
+  same_lawful command.One is = is
+  same_lawful command.Check is = is
+  same_lawful (command.Soak batch) is = is
+  same_lawful (command.Ckpt every) is = is
+
+  same_complete : (c : Command) → whole.CompleteBy run faults (recovery_of c) events → CompleteBy c run faults events
+  same_complete command.Run is = is
+  same_complete command.One is = is
+  same_complete command.Check is = is
+  same_complete (command.Soak batch) is = is
+  same_complete (command.Ckpt every) is = is
+
+  -- all have retired where a journal is complete
+  retired_by : (c : Command) → CompleteBy c run faults events → (stage (recovering_by c run) faults events).retired ≡ length run
+  retired_by command.Run complete = complete.retired
+  retired_by command.One complete = complete.retired
+  retired_by command.Check complete = complete.retired
+  retired_by (command.Soak batch) complete = complete.retired
+  retired_by (command.Ckpt every) complete = complete.retired
+
+-- a batch that is the run of a work
+module _ (batch : Batch) (work : ToDo) (program : program_in batch ≡ work.program) (inputs : batch.inputs ≡ work.inputs) (limits : batch.limits ≡ work.limits) (faults : batch.faults ≡ work.faults)
+    (recovery : batch.recovery ≡ recovery_of work.command) where
   same_run : run_in batch ≡ run_of work
   unfolding run_of
   same_run = ap (λ p. order p batch.inputs batch.limits) program ∙ ap (λ i. order work.program i batch.limits) inputs ∙ ap (λ l. order work.program work.inputs l) limits
 
-  -- what holds of the batch's run and faults holds of the work's
-  crossed : (P : List Subthread → List Fault → Type 0) → P (run_in batch) batch.faults → P (run_of work) work.faults
-  crossed P is = subst (λ f. P (run_of work) f) faults (subst (λ r. P r batch.faults) same_run is)
+  -- what holds of the batch's recovery, run and faults holds of the work's
+  crossed : (P : Recovery → List Subthread → List Fault → Type 0) → P batch.recovery (run_in batch) batch.faults → P (recovery_of work.command) (run_of work) work.faults
+  crossed P is =
+      subst (λ f. P (recovery_of work.command) (run_of work) f) faults
+      (subst (λ r. P (recovery_of work.command) r batch.faults) same_run (subst (λ r. P r (run_in batch) batch.faults) recovery is))
+
+  restarts_same : drive.restarts_in batch ≡ restarts_in work
+  unfolding run_of restarts_in
+  restarts_same =
+      crossed (λ r run f. drive.restarts_in batch ≡ restarts (whole.recovering r run) f) refl
+      ∙ ap (λ d. restarts d work.faults) (same_recovering work.command (run_of work))
 
   journal_of : (journal : Journal) → JournalStands batch journal → IsJournalOf work journal
-  unfolding dependence_for
   journal_of journal stands = record {
-    lawful = crossed (λ r f. Lawful (dependence_of r) f journal.events) stands.lawful;
-    first = (stands.first.0, crossed (λ r f. restarts_of r f ≡ journal.restarts ++ stands.first.0) stands.first.1);
+    lawful = same_lawful (run_of work) work.faults journal.events work.command (crossed (λ r run f. whole.LawfulBy run f r journal.events) stands.lawful);
+    first = (stands.first.0, sym restarts_same ∙ stands.first.1);
     counted = stands.counted;
   }
 
-  restarts_same : restarts_of (run_in batch) batch.faults ≡ restarts_in work
-  unfolding run_of restarts_in
-  restarts_same = crossed (λ r f. restarts_of (run_in batch) batch.faults ≡ restarts_of r f) refl
-
   report_of : (report : Report) → ReportsRun batch report → IsReportOf work report
-  unfolding dependence_for plain_ran run_of
+  unfolding plain_ran run_of
   report_of report reports =
       let restarts = reports.restarts ∙ restarts_same in
       record {
-        complete = crossed (λ r f. Complete (dependence_of r) f report.journal.events) reports.complete;
+        complete = same_complete (run_of work) work.faults report.journal.events work.command (crossed (λ r run f. whole.CompleteBy run f r report.journal.events) reports.complete);
         restarts = restarts;
         end = reports.end ∙ ap (λ p. end p batch.inputs batch.limits) program ∙ ap (λ i. end work.program i batch.limits) inputs ∙ ap (λ l. end work.program work.inputs l) limits;
         cells = reports.records ∙ ap (λ p. final_records p batch.inputs batch.limits) program ∙ ap (λ i. final_records work.program i batch.limits) inputs ∙ ap (λ l. final_records work.program work.inputs l) limits;
@@ -75,14 +117,17 @@ module _ (batch : Batch) (work : ToDo) (program : program_in batch ≡ work.prog
   unfolding plain_ran run_of
   lines_same = ap (flat_map (λ (s : Subthread). s.lines)) same_run
 
+  -- the bytes of the lines before a position, and some of those at it
+  abbrev bytes_to : (position part : ℕ) → List Subthread → List ℕ
+  bytes_to p part run = printed (flat_map (λ (s : Subthread). s.lines) (take p run)) ++ take part (printed (lines_of (slice_get run p)))
+
   partly_of : (before after : Option (List ℕ)) (journal : Journal) → WritesRetired batch before after journal
       → (part : ℕ) × Appends before after (bytes_below work (retired_in work journal) ++ take part (bytes_at work (retired_in work journal)))
-  unfolding dependence_for
+  unfolding recovering_for
   partly_of before after journal writes = (
     writes.part,
-    crossed (λ r f. Appends before after
-        (printed (flat_map (λ (s : Subthread). s.lines) (take (stage (dependence_of r) f journal.events).retired r))
-        ++ take writes.part (printed (lines_of (slice_get r (stage (dependence_of r) f journal.events).retired))))) writes.bytes,
+    subst (λ d. Appends before after (bytes_to (stage d work.faults journal.events).retired writes.part (run_of work))) (same_recovering work.command (run_of work))
+        (crossed (λ r run f. Appends before after (bytes_to (stage (whole.recovering r run) f journal.events).retired writes.part run)) writes.bytes),
   )
 
   pub runs_work : (out : Change) (result : Result Report EngineStop) → RunsBatch batch out result → RunsWork work out result
@@ -146,8 +191,8 @@ bytes_all work = ap (λ r. printed (flat_map (λ (s : Subthread). s.lines) r)) (
 
 -- all have retired where the journal is complete
 all_retired : (work : ToDo) (journal : Journal) → IsCompleteOf work journal → retired_in work journal ≡ length (run_of work)
-unfolding dependence_for
-all_retired work journal complete = complete.retired
+unfolding recovering_for
+all_retired work journal complete = retired_by (run_of work) work.faults journal.events work.command complete
 
 -- what follows the lines of the report is what follows those of the work
 told_same : (work : ToDo) (report : Report) → IsReportOf work report → told_tail work.program report ≡ tail_text (plain_ran work) (restarts_in work) (length work.faults)
@@ -182,17 +227,28 @@ rose_last a b c d first second rose = omega (arith, first, second, rose)
 abbrev first_line : List ℕ
 first_line = codes "output\n"
 
--- the text of a run by the engine
-module _ (work : ToDo) (run : work.command ≡ command.Run) where
-  abbrev whole : List ℕ
-  whole = run_text (plain_ran work) (restarts_in work) (length work.faults)
+-- what the output took of the lines of a run
+abbrev TakesLines : ToDo → Journal → Change → Type 0
+TakesLines work journal out = HoldsRetired work journal out × (IsCompleteOf work journal ⊎ TakesPart out (lines_before work (suc (retired_in work journal))))
+
+takes_lines : (c : Command) (work : ToDo) (journal : Journal) (out : Change) → WritesLines c → TakesLines work journal out → TakesRetiredFor c work journal out
+takes_lines command.Run work journal out writes taken = taken
+takes_lines command.One work journal out writes taken = taken
+takes_lines command.Check work journal out writes taken = taken
+takes_lines (command.Soak batch) work journal out writes taken = absurd writes
+takes_lines (command.Ckpt every) work journal out writes taken = taken
+
+-- the text of a run whose lines are written
+module _ (work : ToDo) (writes : WritesLines work.command) where
+  abbrev all_text : List ℕ
+  all_text = run_text (plain_ran work) (restarts_in work) (length work.faults)
 
   abbrev ending : List ℕ
   ending = tail_text (plain_ran work) (restarts_in work) (length work.faults)
 
   -- the first line was not written
   pub ran_without_first : (out : Change) (stop : EngineStop) (journal : Journal) (fault : SinkFault) → IsEmpty journal → Stops fault journal stop → TakesPart out first_line
-      → (fault ≡ Failed → Fails out) → RanFor work whole out (Err stop)
+      → (fault ≡ Failed → Fails out) → RanFor work all_text out (Err stop)
   ran_without_first out stop journal fault empty stops part cause =
       let empty' = subst IsEmpty (sym stops.journal_is) empty in
       let none = none_retired work stop.journal empty' in
@@ -201,7 +257,7 @@ module _ (work : ToDo) (run : work.command ≡ command.Run) where
         report = tt;
         all = tt;
         part = prefix_first out.written out.written' first_line (printed (plain_ran work).lines ++ ending) part;
-        retired = subst (λ c. TakesRetiredFor c work stop.journal out) (sym run)
+        retired = takes_lines work.command work stop.journal out writes
             (inl none, inr (prefix_first out.written out.written' first_line (bytes_below work (suc (retired_in work stop.journal))) part));
         cause = λ is. cause (stops.failed is);
       }
@@ -209,7 +265,7 @@ module _ (work : ToDo) (run : work.command ≡ command.Run) where
   -- the lines were not all written
   pub ran_without_lines : (before first second : Option (List ℕ)) (f f' f'' : ℕ) (stop : EngineStop) → Appends before first first_line → f ≤ f'
       → RunsWork work (record { written = first; written' = second; faults = f'; faults' = f'' }) (Err stop)
-      → RanFor work whole (record { written = before; written' = second; faults = f; faults' = f'' }) (Err stop)
+      → RanFor work all_text (record { written = before; written' = second; faults = f; faults' = f'' }) (Err stop)
   ran_without_lines before first second f f' f'' stop output later runs =
       let r = retired_in work stop.journal in
       let taken = take runs.partly.0 (bytes_at work r) in
@@ -223,7 +279,7 @@ module _ (work : ToDo) (run : work.command ≡ command.Run) where
             (prefix_first first second (printed (plain_ran work).lines) ending
             (subst (AppendsPrefix first second) (append_assoc (bytes_below work r) (bytes_at work r) (bytes_after work r) ∙ sym (bytes_split work r))
             (prefix_first first second (bytes_below work r ++ bytes_at work r) (bytes_after work r) here)));
-        retired = subst (λ c. TakesRetiredFor c work stop.journal (record { written = before; written' = second; faults = f; faults' = f'' })) (sym run) (
+        retired = takes_lines work.command work stop.journal (record { written = before; written' = second; faults = f; faults' = f'' }) writes (
           inr (taken, subst (Appends before second) (sym (append_assoc first_line (bytes_below work r) taken)) lines),
           inr (prefix_second before first second first_line (bytes_below work (suc r)) output (subst (AppendsPrefix first second) (sym (bytes_next work r)) here)),
         );
@@ -246,7 +302,7 @@ module _ (work : ToDo) (run : work.command ≡ command.Run) where
 
     -- the tail was not written
     pub ran_without_tail : (stop : EngineStop) (fault : SinkFault) → Stops fault report.journal stop → AppendsPrefix second third (told_tail work.program report) → (fault ≡ Failed → Rose f'' f''')
-        → RanFor work whole (record { written = before; written' = third; faults = f; faults' = f''' }) (Err stop)
+        → RanFor work all_text (record { written = before; written' = third; faults = f; faults' = f''' }) (Err stop)
     ran_without_tail stop fault stops part cause =
         let out : Change = record { written = before; written' = third; faults = f; faults' = f''' } in
         let complete = subst (IsCompleteOf work) (sym stops.journal_is) runs.report.complete in
@@ -256,13 +312,13 @@ module _ (work : ToDo) (run : work.command ≡ command.Run) where
           all = tt;
           part = prefix_second before first third first_line (printed (plain_ran work).lines ++ ending) output
               (prefix_second first second third (printed (plain_ran work).lines) ending runs.lines (subst (AppendsPrefix second third) told part));
-          retired = subst (λ c. TakesRetiredFor c work stop.journal out) (sym run)
+          retired = takes_lines work.command work stop.journal out writes
               (subst (λ j. (retired_in work j ≡ 0) ⊎ (more : List ℕ) × Appends before third (lines_before work (retired_in work j) ++ more)) (sym stops.journal_is) (holds (take part.0 (told_tail work.program report)) part.1), inl complete);
           cause = λ is. rose_last f f' f'' f''' later runs.later (cause (stops.failed is));
         }
 
     -- all was written
-    pub ran_whole : Appends second third (told_tail work.program report) → RanFor work whole (record { written = before; written' = third; faults = f; faults' = f''' }) (Ok report)
+    pub ran_whole : Appends second third (told_tail work.program report) → RanFor work all_text (record { written = before; written' = third; faults = f; faults' = f''' }) (Ok report)
     ran_whole taken =
         let out : Change = record { written = before; written' = third; faults = f; faults' = f''' } in
         record {
@@ -271,7 +327,7 @@ module _ (work : ToDo) (run : work.command ≡ command.Run) where
           all = Appends-append before first third first_line (printed (plain_ran work).lines ++ ending) output
               (Appends-append first second third (printed (plain_ran work).lines) ending runs.lines (subst (Appends second third) told taken));
           part = tt;
-          retired = subst (λ c. TakesRetiredFor c work report.journal out) (sym run) (holds (told_tail work.program report) taken, inl runs.report.complete);
+          retired = takes_lines work.command work report.journal out writes (holds (told_tail work.program report) taken, inl runs.report.complete);
           cause = tt;
         }
 

@@ -1,2 +1,3 @@
+pub mod CkptCommands
 pub mod WaitingCommands
 pub mod inner

@@ -1,6 +1,7 @@
 //! The top calls: all that the program does, over a shelf, two sinks and a gate that are handed in.
 #![tactic(auto)]
 
+mod ckpt;
 mod crews;
 mod plain;
 pub mod plan;
@@ -9,5 +10,6 @@ mod texts;
 mod top;
 mod waiting;
 
+pub use ckpt::ckpt_run;
 pub use top::gprs_run;
 pub use waiting::gprs_run_pipe;

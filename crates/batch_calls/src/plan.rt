@@ -5,25 +5,30 @@ ghost use Rattle.lock_checker.specs.Accepted.{program_of};
 ghost use Rattle.call_cases.specs.Answers.{change_of};
 ghost use Rattle.call_cases.specs.Decided.{IsSound, work_of};
 ghost use Rattle.call_cases.specs.Work.{work_for};
+ghost use Rattle.command_line.specs.Words.{IsWithinRanges};
 ghost use Rattle.subthread.specs.Tasks.{Suits};
-ghost use Rattle.batch_calls.specs.inner.Planned.{IsPlanOf, IsPlanned, work_planned};
+ghost use Rattle.whole_run.specs.Recovering.{HasCuts};
+ghost use Rattle.batch_calls.specs.inner.Planned.{IsPlanOf, IsPlanned, recovery_of, work_planned};
 ghost use Rattle.batch_calls.specs.inner.Ran.{batch_from, RunsBatch, RunsWork};
 
 use call_cases::Request;
-use command_line::Asked;
+use command_line::{Asked, Command};
 use crew::Crew;
 use engine::{EngineStop, Report, drive};
 use gp_base::{Faults, Feed, Inputs, Limits, Seq, Sink};
+use gp_checkpoint::ckpt_drive;
 use lock_checker::Checked;
 use std::alloc::{AllocError, Global};
 use std::thread::Threads;
 use subthread::Work;
 use task_ast::Layout;
 use task_code::lower;
+use whole_run::Recovery;
 
-/// What a run begins with, beside its program as code.
+/// How a run recovers from faults, and what it begins with, beside its program as code.
 #[derive(Drop)]
 pub struct Begins {
+    pub recovery: Recovery,
     pub layout: Layout,
     pub inputs: Inputs,
     pub faults: Faults,
@@ -60,6 +65,17 @@ fn copies_of(alloc: Global, feeds: &[Feed]) -> Result<Seq<Feed>, AllocError>
     Ok(copies)
 }
 
+// How the run of a command recovers from faults.
+fn recovery_of(command: Command) -> Recovery
+    ensures recovery { result ≡ recovery_of command }
+    ensures cuts { IsWithinRanges command → HasCuts result }
+{
+    match command {
+        Command::Ckpt(every) => Recovery::Rollback(every),
+        _ => Recovery::Selective,
+    }
+}
+
 /// The code of a request's program, and the plan of its run. The error is that memory is out.
 pub fn plan_of(alloc: Global, request: Request) -> Result<(Work, Plan), AllocError>
     requires { IsSound request.asked (plain_program (program_of request.checked)) request.inputs }
@@ -83,6 +99,7 @@ pub fn plan_of(alloc: Global, request: Request) -> Result<(Work, Plan), AllocErr
         turns: limits.turns,
     };
     let begins = Begins {
+        recovery: recovery_of(asked.command),
         layout,
         inputs,
         faults,
@@ -106,6 +123,7 @@ fn drive_by<R: Threads + Sync, C: Crew, O: Sink>(
     out: &mut O,
 ) -> Result<Report, EngineStop>
     requires suits { Suits code.now begins.layout begins.inputs begins.limits }
+    requires cuts { HasCuts begins.recovery }
     requires ready { C.ready crew.old }
     requires work { C.work crew.old ≡ code.now }
     requires none_out { C.out crew.old ≡ [] }
@@ -113,12 +131,18 @@ fn drive_by<R: Threads + Sync, C: Crew, O: Sink>(
     ensures { RunsBatch (batch_from code.now begins) (change_of O.written O.faults out.old out.new) result }
 {
     let Begins {
+        recovery,
         layout,
         inputs,
         faults,
         limits,
     } = begins;
-    drive(rt, alloc, code, layout, inputs, faults, limits, crew, out)
+    match recovery {
+        Recovery::Selective => drive(rt, alloc, code, layout, inputs, faults, limits, crew, out),
+        Recovery::Rollback(every) => ckpt_drive(
+            rt, alloc, code, layout, inputs, faults, limits, every, crew, out,
+        ),
+    }
 }
 
 /// Runs the program of a plan with a crew to which nothing was posted, and writes the printed lines to `out`. The answer is

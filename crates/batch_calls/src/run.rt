@@ -13,7 +13,7 @@ ghost use Rattle.call_cases.specs.PlainText.{plain_ran, restarts_in};
 ghost use Rattle.call_cases.specs.Texts.{run_text, soak_text};
 ghost use Rattle.call_cases.specs.Work.{ToDo, is_journalled};
 ghost use Rattle.batch_calls.specs.inner.Planned.{IsPlanOf, Carries, work_planned};
-ghost use Rattle.batch_calls.specs.inner.Ran.{RanFor, EndsFor, StopsWith, why_of, told_tail, told_soak};
+ghost use Rattle.batch_calls.specs.inner.Ran.{RanFor, EndsFor, StopsWith, WritesLines, why_of, told_tail, told_soak};
 
 use crate::plain::{end_status, put_ok, put_one};
 use crate::plan::{Plan, put_lines};
@@ -103,7 +103,7 @@ fn put_run<R: Threads + Sync, C: Crew, O: Sink>(
     requires work { C.work crew.old ≡ code.now }
     requires none_out { C.out crew.old ≡ [] }
     requires none_posted { C.posted crew.old ≡ [] }
-    requires run { plan.asked.command ≡ command.Run }
+    requires lines { WritesLines plan.asked.command }
     ensures { RanFor (work_planned plan) (run_text (plain_ran (work_planned plan)) (restarts_in (work_planned plan)) (length plan.begins.faults.list)) (change_of O.written O.faults out.old out.new) result }
 {
     let Plan {
@@ -223,7 +223,7 @@ pub fn carry_by<R: Threads + Sync, C: Crew, O: Sink, E: Sink>(
 {
     let is_traced = plan.asked.trace;
     match plan.asked.command {
-        Command::Run => {
+        Command::Run | Command::Ckpt(_) => {
             let ran = put_run(rt, alloc, code, plan, crew, out);
             outcome_of(alloc, is_traced, ran, err)
         }
@@ -266,7 +266,7 @@ pub fn carry_plain<O: Sink, E: Sink>(
             let put = put_ok(out);
             plain_outcome(alloc, put, err)
         }
-        Command::Run | Command::Soak(_) => unreachable!(),
+        Command::Run | Command::Soak(_) | Command::Ckpt(_) => unreachable!(),
     }
 }
 
@@ -274,5 +274,5 @@ pub fn carry_plain<O: Sink, E: Sink>(
 pub fn is_journalled(command: Command) -> bool
     ensures { result ≡ is_journalled command }
 {
-    matches!(command, Command::Run | Command::Soak(_))
+    matches!(command, Command::Run | Command::Soak(_) | Command::Ckpt(_))
 }

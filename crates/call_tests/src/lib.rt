@@ -1,11 +1,13 @@
-//! Tests of the top calls: the worked examples, devices that fail at each of their calls, runs that faults strike,
-//! and audits of their traces.
+//! Tests of the top calls: the worked examples, devices that fail at each of their calls, runs that faults strike, also by
+//! checkpoints, and audits of their traces.
 #![tactic(auto)]
 
 #[cfg(test)]
 mod audits;
 #[cfg(test)]
 mod calls;
+#[cfg(test)]
+mod ckpt;
 #[cfg(test)]
 mod hostile;
 #[cfg(test)]

@@ -109,8 +109,8 @@ fn ends_with(answer: &Answer, counts: &str) -> bool {
     answer.status == 0 && answer.error.written().is_empty() && text.ends_with(counts)
 }
 
-// The text up to the restarts.
-fn front_of(answer: &Answer) -> &str {
+/// The text up to the restarts.
+pub fn front_of(answer: &Answer) -> &str {
     let text = str::from_utf8(answer.output.written()).unwrap_or("");
     match text.split_once("restarts\n") {
         Some((front, _)) => front,

@@ -100,6 +100,7 @@ pub fn ran_in_order<R: Threads + Sync + AllocGlobal>(
         inputs,
         faults,
         limits,
+        ..
     } = begins;
     let mut crew = ScriptCrew::new(alloc, &work, choice);
     let ran = drive(
@@ -143,6 +144,7 @@ fn a_scripted_order_posts_each_task_once(rt: HostRuntime) -> Result<(), Fail> {
         inputs,
         faults,
         limits,
+        ..
     } = begins;
     let mut crew = Noting {
         crew: ScriptCrew::new(alloc, &work, choice),

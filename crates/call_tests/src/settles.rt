@@ -7,8 +7,8 @@ use std::alloc::AllocError;
 use std::test::Fail;
 use std::thread::Threads;
 
-// A record names the account that is written.
-const ROUTED: &str = "lock bank[3];
+/// A record names the account that is written.
+pub const ROUTED: &str = "lock bank[3];
 record acct[3] by bank;
 task main() {
   var i, $x;

@@ -1,37 +1,42 @@
 // Which of the top calls takes the words.
-ghost use Rattle.std.specs.Prelude.{◌≡◌, codes, IfOk};
+ghost use Rattle.std.specs.Prelude.{◌≡◌, IfOk};
 ghost use Rattle.command_line.specs.Words.{texts};
-ghost use Rattle.gprs.specs.Choice.{is_audit, call_of};
+ghost use Rattle.gprs.specs.Choice.{begins_with, call_of};
 
 use command_line::wants_pipe;
 use std::alloc::{AllocError, Global};
 
-/// The top calls: that which runs or checks a batch, the same by lasting workers, and that which audits a trace.
+/// The top calls: that which runs or checks a batch, the same by lasting workers, that which audits a trace, and that which runs
+/// a batch by checkpoints.
 #[derive(Clone, Copy)]
 pub enum TopCall {
     Run,
     Pipe,
     Audit,
+    Ckpt,
 }
 
-// Whether the first of the words is that of an audit.
-fn is_audit(words: &[String]) -> bool
-    ensures { result ≡ is_audit (texts words.now) }
+// Whether the first of the words is this one.
+fn begins_with(name: &str, words: &[String]) -> bool
+    ensures { result ≡ begins_with name.now (texts words.now) }
 {
     match words {
-        [word, ..] => word.as_str() == "audit",
+        [word, ..] => word.as_str() == name,
         [] => false,
     }
 }
 
-/// Which top call takes the words: that of an audit where the first word is `audit`, that by lasting workers where the words
-/// are those of a command with the crew `pipe`, and else, also for words of no command, the first. The error is that memory is
-/// out.
+/// Which top call takes the words: that of an audit where the first word is `audit`, that by checkpoints where it is `ckpt`, that
+/// by lasting workers where the words are those of a command with the crew `pipe`, and else, also for words of no command, the
+/// first. The error is that memory is out.
 pub fn call_of(alloc: Global, words: &[String]) -> Result<TopCall, AllocError>
     ensures { IfOk result (λ call. call ≡ call_of (texts words.now)) }
 {
-    if is_audit(words) {
+    if begins_with("audit", words) {
         return Ok(TopCall::Audit);
+    }
+    if begins_with("ckpt", words) {
+        return Ok(TopCall::Ckpt);
     }
     if wants_pipe(alloc, words)? {
         return Ok(TopCall::Pipe);

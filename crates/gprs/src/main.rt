@@ -4,7 +4,7 @@
 mod choice;
 
 use audit_calls::audit_run;
-use batch_calls::{gprs_run, gprs_run_pipe};
+use batch_calls::{ckpt_run, gprs_run, gprs_run_pipe};
 use call_cases::{OUT_OF_MEMORY, end_with};
 use choice::{TopCall, call_of};
 use gp_base::{FreeGate, Shelf, Sink};
@@ -30,6 +30,7 @@ fn status_of<
             gprs_run_pipe(rt, words, shelf, out, err, &gate)
         }
         TopCall::Audit => audit_run(rt, words, shelf, out, err, &FreeGate),
+        TopCall::Ckpt => ckpt_run(rt, words, shelf, out, err, &FreeGate),
     };
     Ok(outcome.status)
 }

@@ -7,6 +7,11 @@ use Rattle.lock_checker.specs.Accepted.{program_of}
 use Rattle.subthread.specs.declared.task.Work.{Work}
 use Rattle.subthread.specs.Tasks.{Suits, program_in}
 use Rattle.command_line.specs.declared.asked.Asked.{Asked}
+use Rattle.command_line.specs.declared.asked.Command.{Command}
+use Rattle.command_line.specs.declared.asked.Command.TheVariants.{Ckpt}
+use Rattle.whole_run.specs.declared.recovery.Recovery.{Recovery}
+use Rattle.whole_run.specs.declared.recovery.Recovery.TheVariants.{Selective, Rollback}
+use Rattle.whole_run.specs.Recovering.{HasCuts}
 use Rattle.call_cases.specs.Work.{ToDo, work_for, is_journalled}
 use Rattle.call_cases.specs.Answers.{Change, RunEnds, IsEmpty}
 use Rattle.call_cases.specs.RunCommands.{work_text, work_status, trace_for}
@@ -14,11 +19,18 @@ use Rattle.batch_calls.specs.declared.plan.Begins.{Begins}
 use Rattle.batch_calls.specs.declared.plan.Plan.{Plan}
 use Rattle.batch_calls.specs.inner.Ran.{Journalled}
 
+-- how the run of a command recovers from faults
+abbrev pub recovery_of : Command → Recovery
+recovery_of (Ckpt every) = Rollback every
+recovery_of other = Selective
+
 -- the code is that of the program, and what the run begins with suits it and what is asked
 pub record IsPlanned (asked : Asked) (program : Program) (code : Work) (begins : Begins) : Type 0 where
   pub suits : Suits code begins.layout begins.inputs begins.limits
   pub program_is : program_in code ≡ program
   pub limits_are : begins.limits ≡ asked.limits
+  pub recovery_is : begins.recovery ≡ recovery_of asked.command
+  pub cuts : HasCuts begins.recovery
 
 -- the plan is one of a run of this code
 abbrev pub IsPlanOf : Work → Plan → Type 0

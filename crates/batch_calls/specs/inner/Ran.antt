@@ -1,5 +1,5 @@
 -- How the parts of a run over a journal stand to its work.
-use Rattle.std.specs.Prelude.{◌≡◌, ◌≤◌, ◌-◌, ℕ, List, ◌++◌, length, take, flat_map, slice_get, Result, OnOk, OnErr, IfOk, IfErr}
+use Rattle.std.specs.Prelude.{◌≡◌, ◌≤◌, ◌-◌, ℕ, ⊤, List, ◌++◌, length, take, flat_map, slice_get, Result, OnOk, OnErr, IfOk, IfErr}
 use Rattle.gp_base.specs.declared.journal.Journal.{Journal}
 use Rattle.gp_base.specs.declared.sink.SinkFault.{SinkFault}
 use Rattle.gp_base.specs.declared.sink.SinkFault.TheVariants.{Failed}
@@ -8,6 +8,8 @@ use Rattle.task_ast.specs.Tree.{Program}
 use Rattle.task_ast.specs.Names.{records_of}
 use Rattle.task_ast.specs.Layout.{cut}
 use Rattle.task_ast.specs.Plain.{Subthread}
+use Rattle.command_line.specs.declared.asked.Command.{Command}
+use Rattle.command_line.specs.declared.asked.Command.TheVariants as command
 use Rattle.command_line.specs.declared.asked.Soak.{Soak}
 use Rattle.restart_log.specs.Tail as tail
 use Rattle.restart_log.specs.Soak as soak
@@ -18,8 +20,8 @@ use Rattle.reorder_list.specs.declared.report.StopWhy.TheVariants.{WriteFault}
 use Rattle.reorder_list.specs.declared.report.StopWhy.TheVariants as why
 use Rattle.restart_log.specs.Lines.{printed}
 use Rattle.subthread.specs.declared.task.Work.{Work}
-use Rattle.engine.specs.Drive.{journal_in, batch_of, JournalStands, ReportsRun, all_lines, WritesRetired, HasRunCause}
-use Rattle.engine.specs.View.{Batch, lines_of}
+use Rattle.whole_run.specs.Drive.{journal_in, batch_of, JournalStands, ReportsRun, all_lines, WritesRetired, HasRunCause}
+use Rattle.whole_run.specs.View.{Batch, lines_of}
 use Rattle.batch_calls.specs.declared.plan.Begins.{Begins}
 use Rattle.call_cases.specs.Work.{ToDo}
 use Rattle.call_cases.specs.PlainText.{plain_ran, restarts_in}
@@ -50,6 +52,11 @@ told_tail program report = tail.tail_text report.end (cut (records_of program.he
 abbrev pub told_soak : Soak → Report → List ℕ
 told_soak batch report = soak.soak_text batch.moves batch.start report.end report.records report.subthreads report.journal.restarts report.unused
 
+-- the command writes the lines that its run prints; of a batch that the program makes nobody reads them
+abbrev pub WritesLines : Command → Type 0
+WritesLines (command.Soak soak) = ⊥
+WritesLines other = ⊤
+
 -- the bytes of the lines before a position, and of those at it
 abbrev pub bytes_below : ToDo → ℕ → List ℕ
 bytes_below work p = printed (flat_map (λ (s : Subthread). s.lines) (take p (run_of work)))
@@ -66,11 +73,11 @@ pub record IsReportOf (work : ToDo) (report : Report) : Type 0 where
   pub subthreads : report.subthreads ≡ (plain_ran work).subthreads
   pub unused : report.unused ≡ length work.faults - length (restarts_in work)
 
--- the batch that the engine runs, from its code and from what it begins with
+-- the batch that is run, from its code and from what it begins with
 abbrev pub batch_from : Work → Begins → Batch
-batch_from code begins = batch_of code begins.inputs begins.limits begins.faults
+batch_from code begins = batch_of begins.recovery code begins.inputs begins.limits begins.faults
 
--- what the engine promises of a batch that it ran
+-- what is promised of a batch that was run
 pub record RunsBatch (batch : Batch) (out : Change) (result : Result Report EngineStop) : Type 0 where
   pub journal : JournalStands batch (journal_in result)
   pub report : IfOk result (ReportsRun batch)

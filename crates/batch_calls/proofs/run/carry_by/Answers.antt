@@ -1,4 +1,4 @@
-use Rattle.std.proofs.Common.{◌≡◌, ◌∙◌, true, false, sym, subst, length}
+use Rattle.std.proofs.Common.{◌≡◌, ◌∙◌, inl, inr, true, false, sym, subst, length}
 use Rattle.command_line.specs.declared.asked.Command.{Command}
 use Rattle.call_cases.specs.Answers.{RunEnds, change_of}
 use Rattle.call_cases.specs.RunCommands.{work_text, work_status, trace_for}
@@ -12,9 +12,13 @@ returns-in-Run g c =
     let work = work_planned c.args.plan in
     let out = change_of g.O.Sink.written g.O.Sink.faults c.args.out.now c.put_run-ran.new.out in
     let err = change_of g.E.Sink.written g.E.Sink.faults c.args.err.now c.outcome_of.new.err in
+    let trace = trace_for c.args.plan.asked c.outcome_of.result.journal in
     let ends = c.outcome_of.ensures work (run_text (plain_ran work) (restarts_in work) (length work.faults)) out c.put_run-ran.ensures in
     record {
-      ends = subst (λ (k : Command). RunEnds (work_text k work) (trace_for c.args.plan.asked c.outcome_of.result.journal) (work_status k work) out err c.outcome_of.result.status) (sym c.in-Run.is) ends.ends;
+      ends = elim c.in-Run.is [
+        | inl is ↦ subst (λ (k : Command). RunEnds (work_text k work) trace (work_status k work) out err c.outcome_of.result.status) (sym is) ends.ends
+        | inr is ↦ subst (λ (k : Command). RunEnds (work_text k work) trace (work_status k work) out err c.outcome_of.result.status) (sym is.1) ends.ends
+      ];
       unjournalled = λ not. absurd (let both : true ≡ false = sym c.requires.run ∙ not in cc);
       run = λ is. ends.journalled;
     }

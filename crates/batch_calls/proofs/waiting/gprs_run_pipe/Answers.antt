@@ -4,7 +4,7 @@ use Rattle.call_cases.specs.Decided.{program_in, files_read, work_of}
 use Rattle.call_cases.specs.Answers.{change_of}
 use Rattle.call_cases.proofs.Headlines.{run_headline, refused_headline}
 use Rattle.batch_calls.specs.WaitingCommands.{commands}
-use Rattle.batch_calls.proofs.AskedWaiting.{commands_sound}
+use Rattle.batch_calls.proofs.AskedOtherwise.{waiting_sound}
 use Rattle.batch_calls.proofs.waiting.gprs_run_pipe.Goals as goal
 
 pub returns-in-Ok-clause-headline : goal.returns-in-Ok-clause-headline
@@ -12,7 +12,7 @@ returns-in-Ok-clause-headline g c =
     let request = c.in-Ok.request in
     let out = change_of g.O.Sink.written g.O.Sink.faults c.args.out.now c.carry_waiting.new.out in
     let err = change_of g.E.Sink.written g.E.Sink.faults c.args.err.now c.carry_waiting.new.err in
-    run_headline commands commands_sound (texts c.args.words.now) (g.H.Shelf.files c.args.shelf.now) (g.H.Shelf.failed c.args.shelf.now) (g.H.Shelf.failed c.read_waiting.new.shelf) out err
+    run_headline commands waiting_sound (texts c.args.words.now) (g.H.Shelf.files c.args.shelf.now) (g.H.Shelf.failed c.args.shelf.now) (g.H.Shelf.failed c.read_waiting.new.shelf) out err
     c.carry_waiting.result.status c.carry_waiting.result.journal (files_read request.asked (program_in request)) (work_of request) request.asked
     c.in-Ok.ensures.asked c.in-Ok.ensures.case c.in-Ok.ensures.shelf c.carry_waiting.ensures.unjournalled
     (λ is. let made = c.carry_waiting.ensures.run is in (made.lawful, made.complete, made.retired)) c.carry_waiting.ensures.ends
@@ -20,6 +20,6 @@ returns-in-Ok-clause-headline g c =
 pub returns-in-Err-clause-headline : goal.returns-in-Err-clause-headline
 returns-in-Err-clause-headline g c =
     let err = change_of g.E.Sink.written g.E.Sink.faults c.args.err.now c.refuse-status.new.err in
-    refused_headline commands commands_sound (texts c.args.words.now) (g.H.Shelf.files c.args.shelf.now) (g.H.Shelf.failed c.args.shelf.now) (g.H.Shelf.failed c.read_waiting.new.shelf)
+    refused_headline commands waiting_sound (texts c.args.words.now) (g.H.Shelf.files c.args.shelf.now) (g.H.Shelf.failed c.args.shelf.now) (g.H.Shelf.failed c.read_waiting.new.shelf)
     (g.O.Sink.written c.args.out.now) (g.O.Sink.faults c.args.out.now) err c.refuse-status.result c.empty_journal.result c.in-Err.refusal
     c.in-Err.ensures.no_command (λ nothing. ap g.H.Shelf.failed (c.in-Err.ensures.unread nothing)) c.in-Err.ensures.case c.in-Err.ensures.shelf c.empty_journal.ensures c.refuse-status.ensures

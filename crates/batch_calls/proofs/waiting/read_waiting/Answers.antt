@@ -6,7 +6,7 @@ use Rattle.call_cases.specs.RunCommands.{MayRead}
 use Rattle.call_cases.specs.Headline.{ReadsNothing}
 use Rattle.call_cases.proofs.Answering.{usage_case, asked_case}
 use Rattle.batch_calls.specs.WaitingCommands.{asking, commands}
-use Rattle.batch_calls.proofs.AskedWaiting.{same_answer}
+use Rattle.batch_calls.proofs.AskedOtherwise.{same_answer}
 use Rattle.batch_calls.proofs.waiting.read_waiting.Goals as goal
 
 pub returns-in-Ok-None-clause-case : goal.returns-in-Ok-None-clause-case
@@ -23,7 +23,7 @@ pub returns-clause-case : goal.returns-clause-case
 returns-clause-case g c =
     let some : asked_waiting (texts c.args.words.now) ≡ Some c.in-Ok-Some.asked = sym (rw c.in-Ok-Some.field-0-is at c.in-Ok-Some.ensures.asked) in
     asked_case asking (texts c.args.words.now) case_of (g.H.Shelf.files c.args.shelf.now) c.in-Ok-Some.asked c.read_for.result some
-    (same_answer (g.H.Shelf.files c.args.shelf.now) c.in-Ok-Some.asked c.read_for.result c.read_for.ensures.case)
+    (same_answer asked_waiting (g.H.Shelf.files c.args.shelf.now) c.in-Ok-Some.asked c.read_for.result c.read_for.ensures.case)
 
 pub returns-clause-unread : goal.returns-clause-unread
 returns-clause-unread g c = λ nothing.

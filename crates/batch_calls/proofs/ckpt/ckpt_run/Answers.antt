@@ -1,0 +1,25 @@
+use Rattle.std.proofs.Common.{ap}
+use Rattle.command_line.specs.Words.{texts}
+use Rattle.call_cases.specs.Decided.{program_in, files_read, work_of}
+use Rattle.call_cases.specs.Answers.{change_of}
+use Rattle.call_cases.proofs.Headlines.{run_headline, refused_headline}
+use Rattle.batch_calls.specs.CkptCommands.{commands}
+use Rattle.batch_calls.proofs.AskedOtherwise.{ckpt_sound}
+use Rattle.batch_calls.proofs.ckpt.ckpt_run.Goals as goal
+
+pub returns-in-Ok-clause-headline : goal.returns-in-Ok-clause-headline
+returns-in-Ok-clause-headline g c =
+    let request = c.in-Ok.request in
+    let out = change_of g.O.Sink.written g.O.Sink.faults c.args.out.now c.carry_out.new.out in
+    let err = change_of g.E.Sink.written g.E.Sink.faults c.args.err.now c.carry_out.new.err in
+    run_headline commands ckpt_sound (texts c.args.words.now) (g.H.Shelf.files c.args.shelf.now) (g.H.Shelf.failed c.args.shelf.now) (g.H.Shelf.failed c.read_ckpt.new.shelf) out err
+    c.carry_out.result.status c.carry_out.result.journal (files_read request.asked (program_in request)) (work_of request) request.asked
+    c.in-Ok.ensures.asked c.in-Ok.ensures.case c.in-Ok.ensures.shelf c.carry_out.ensures.unjournalled
+    (λ is. let made = c.carry_out.ensures.run is in (made.lawful, made.complete, made.retired)) c.carry_out.ensures.ends
+
+pub returns-in-Err-clause-headline : goal.returns-in-Err-clause-headline
+returns-in-Err-clause-headline g c =
+    let err = change_of g.E.Sink.written g.E.Sink.faults c.args.err.now c.refuse-status.new.err in
+    refused_headline commands ckpt_sound (texts c.args.words.now) (g.H.Shelf.files c.args.shelf.now) (g.H.Shelf.failed c.args.shelf.now) (g.H.Shelf.failed c.read_ckpt.new.shelf)
+    (g.O.Sink.written c.args.out.now) (g.O.Sink.faults c.args.out.now) err c.refuse-status.result c.empty_journal.result c.in-Err.refusal
+    c.in-Err.ensures.no_command (λ nothing. ap g.H.Shelf.failed (c.in-Err.ensures.unread nothing)) c.in-Err.ensures.case c.in-Err.ensures.shelf c.empty_journal.ensures c.refuse-status.ensures

@@ -1,0 +1,76 @@
+// The top call that runs by checkpoints.
+ghost use Rattle.std.specs.Prelude.{◌≡◌, Some, None, IfOk, IfSome};
+ghost use Rattle.command_line.specs.Words.{texts};
+ghost use Rattle.command_line.specs.CkptWords.{ckpt_by};
+ghost use Rattle.call_cases.specs.Answers.{change_of};
+ghost use Rattle.call_cases.specs.Case.{IsCase};
+ghost use Rattle.call_cases.specs.Decided.{MayRun, case_of};
+ghost use Rattle.call_cases.specs.Headline.{Headline, ReadsNothing};
+ghost use Rattle.call_cases.specs.Refusals.{AnswersCase, AnswersNoCommand, TouchesShelf};
+ghost use Rattle.call_cases.specs.RunCommands.{MayRead};
+ghost use Rattle.batch_calls.specs.CkptCommands.{asking, commands};
+
+use crate::crews::carry_out;
+use call_cases::{Outcome, Refusal, Request, empty_journal, read_for, refuse};
+use command_line::read_ckpt_words;
+use gp_base::{Gate, Shelf, Sink};
+use std::alloc::Global;
+use std::thread::Threads;
+
+// What the words ask for, as `read_request` reads it, where they are those of `ckpt`.
+fn read_ckpt<H: Shelf>(alloc: Global, words: &[String], shelf: &mut H) -> Result<Request, Refusal>
+    ensures no_command { ckpt_by (texts words.now) ≡ None → AnswersNoCommand result }
+    ensures unread { ReadsNothing commands (ckpt_by (texts words.now)) → shelf.new ≡ shelf.old }
+    ensures shelf { TouchesShelf MayRead (ckpt_by (texts words.now)) (H.failed shelf.old) (H.failed shelf.new) result }
+    ensures case { IfSome (H.files shelf.old) (λ files. AnswersCase case_of (IsCase asking (texts words.now) files) result) }
+    ensures sound { IfOk result MayRun }
+    ensures asked { IfOk result (λ request. ckpt_by (texts words.now) ≡ Some request.asked) }
+{
+    let asked = match read_ckpt_words(alloc, words) {
+        Ok(Some(asked)) => asked,
+        Ok(None) => return Err(Refusal::Usage),
+        Err(_) => return Err(Refusal::OutOfMemory),
+    };
+    read_for(alloc, asked, shelf)
+}
+
+/// Runs the program that the words of `ckpt` name, over what is handed in, as `gprs_run` runs one by `run`, but by checkpoints: a
+/// fault rolls back all from the checkpoint on that comes before what it strikes. So the text has the rollbacks in place of the
+/// restarts, with the same printed lines, the same end and the same records. The words are those after the program's name.
+///
+/// The status, and what `out` and `err` took at each status, are those that `gprs_run` has; no trace is written. The journal
+/// is that of the run, up to where it stopped.
+pub fn ckpt_run<R: Threads + Sync + AllocGlobal, H: Shelf, O: Sink, E: Sink, G: Gate>(
+    rt: &R,
+    words: &[String],
+    shelf: &mut H,
+    out: &mut O,
+    err: &mut E,
+    gate: &G,
+) -> Outcome
+    ensures headline { Headline commands (record {
+      words = texts words.now;
+      files = H.files shelf.old;
+      failed = H.failed shelf.old;
+      failed' = H.failed shelf.new;
+      out = change_of O.written O.faults out.old out.new;
+      err = change_of E.written E.faults err.old err.new;
+      status = result.status;
+      journal = result.journal;
+    }) }
+
+    // The shelf is not read for words of no command.
+    ensures unread { ckpt_by (texts words.now) ≡ None → shelf.new ≡ shelf.old }
+{
+    let alloc = rt.alloc();
+    match read_ckpt(alloc, words, shelf) {
+        Ok(request) => carry_out(rt, alloc, request, out, err, gate),
+        Err(refusal) => {
+            let status = refuse(alloc, refusal, err);
+            Outcome {
+                status,
+                journal: empty_journal(alloc),
+            }
+        }
+    }
+}
