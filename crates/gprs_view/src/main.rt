@@ -1,4 +1,4 @@
-//! Shows the runs of batch programs: the order of their subthreads.
+//! Shows the runs of batch programs: the order of their subthreads, why one was redone, and a picture.
 #![tactic(auto)]
 
 use process_io::{FileShelf, StdSink, words_of};

@@ -1,2 +1,4 @@
+pub mod Chains
+pub mod Linking
 pub mod Pictures
 pub mod SeenSteps

@@ -1,5 +1,5 @@
 -- The picture of the code's steps is that of the subthreads that they show.
-use Rattle.std.proofs.Common.{◌≡◌, ℕ, zero, suc, ◌+◌, ◌<◌, ◌≤◌, ◌%◌, min, max, cond, nat_eq, decimal, List, [], ◌∷◌, ◌++◌, Option, Some, None, length, map, codes, refl, sym, ap, ap₂, subst, ◌∙◌, arith}
+use Rattle.std.proofs.Common.{◌≡◌, ℕ, zero, suc, ◌+◌, ◌≤◌, ◌%◌, max, cond, nat_eq, decimal, List, [], ◌∷◌, ◌++◌, Option, Some, None, length, map, codes, refl, sym, ap, ap₂, subst, ◌∙◌, arith}
 use Rattle.std.specs.List.{All}
 use Rattle.std.proofs.lemmas.List.{length-map}
 use Rattle.std.proofs.lemmas.List.Elements.{All-nil, All-push}
@@ -14,7 +14,6 @@ use Rattle.task_ast.specs.Tree.{Program}
 use Rattle.task_ast.specs.Plain.{Subthread, order, end, tree_machine}
 use Rattle.task_ast.proofs.PlainRuns.{count_law}
 use Rattle.one_thread.specs.declared.run.PlainRun.{PlainRun}
-use Rattle.one_thread.specs.declared.run.Step.{Step}
 use Rattle.one_thread.specs.PlainRuns.{IsPlainRun, shown}
 use Rattle.dependence.specs.Restarts.{Dependence, redoes, advance_by, progress, restarts, struck_next, restart_of}
 use Rattle.dependence.specs.Runs.{restarts_of}

@@ -36,8 +36,8 @@ pub fn redoes(restart: &Restart, position: u64) -> bool
     is_among(position, restart.redo.as_slice())
 }
 
-// The attempt of a position after these restarts.
-fn attempt_of(restarts: &[Restart], position: u64) -> u64
+/// The attempt of a position after these restarts.
+pub fn attempt_of(restarts: &[Restart], position: u64) -> u64
     ensures attempt { result ≡ attempt_of restarts.now position }
     ensures few { result ≤ length restarts.now }
 {

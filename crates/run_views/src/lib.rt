@@ -1,11 +1,15 @@
-//! Texts that show a run: the order of its subthreads, and a picture of it and of its restarts.
+//! Texts that show a run: the order of its subthreads, why one of them was redone, and a picture of the run and of its restarts.
 #![tactic(auto)]
 
 mod elements;
 mod frame;
+pub mod laws;
+mod links;
 mod names;
 mod order;
 mod timeline;
+mod why;
 
 pub use order::order_text;
 pub use timeline::timeline_text;
+pub use why::why_text;

@@ -1,6 +1,6 @@
-// The names of a program's lock cells and barriers.
+// The names of a program's lock cells, record cells and barriers.
 ghost use Rattle.std.specs.Prelude.{◌≡◌, ◌<◌, ◌^◌, ◌++◌, OnOk};
-ghost use Rattle.task_ast.specs.Names.{natural, locks_of, barriers_of};
+ghost use Rattle.task_ast.specs.Names.{natural, locks_of, records_of, barriers_of};
 ghost use Rattle.run_views.specs.Order.{cell_name, cell_text, barrier_name};
 
 use gp_base::{LockNo, Name};
@@ -45,6 +45,23 @@ pub fn push_lock(text: &mut Vec<u8>, heads: &[Head], lock: LockNo) -> Result<(),
                 return push_cell(text, name, left);
             }
             left -= size;
+        }
+    }
+    Ok(())
+}
+
+/// Appends the name of a record cell.
+pub fn push_record(text: &mut Vec<u8>, heads: &[Head], cell: u64) -> Result<(), AllocError>
+    ensures { OnOk result (text.new.items ≡ text.old.items ++ cell_name (records_of heads.now) cell) }
+{
+    let mut index = cell;
+    for head in heads {
+        if let Head::RecHead { name, size, .. } = head {
+            let size = natural(*size);
+            if index < size {
+                return push_cell(text, name, index);
+            }
+            index -= size;
         }
     }
     Ok(())

@@ -1,5 +1,5 @@
 -- From what the parts of the call ensure to what is promised of it.
-use Rattle.std.proofs.Common.{◌≡◌, ◌⊎◌, ℕ, List, [], IfSome, refl, inl, inr, arith}
+use Rattle.std.proofs.Common.{◌≡◌, ◌⊎◌, ℕ, List, [], IfSome, refl, sym, ap, subst, inl, inr, arith}
 use Rattle.std.specs.List.{Contains}
 use Rattle.std.specs.declared.option.Option.{Option}
 use Rattle.std.specs.declared.option.Option.TheVariants.{None, Some}
@@ -8,39 +8,34 @@ use Rattle.gp_base.specs.declared.sink.SinkFault.TheVariants.{Failed}
 use Rattle.gp_base.specs.declared.sink.SinkFault.TheVariants as sink
 use Rattle.gp_base.proofs.Written.{prefix_whole}
 use Rattle.task_ast.specs.Tree.{Name}
-use Rattle.command_line.specs.declared.asked.Asked.{Asked}
-use Rattle.std.specs.declared.result.Result.{Result}
-use Rattle.call_cases.specs.declared.work.Request.{Request}
 use Rattle.call_cases.specs.declared.reading.Refusal.{Refusal}
 use Rattle.call_cases.specs.declared.reading.Refusal.TheVariants.{Usage as RefusedUsage, BadProgram as RefusedProgram, BadInput as RefusedInput, ReadFault, OutOfMemory}
-use Rattle.call_cases.specs.Work.{Files, ToDo}
-use Rattle.call_cases.specs.Commands.{AreSound}
-use Rattle.call_cases.specs.RunCommands as gprs
+use Rattle.call_cases.specs.Work.{Files}
+use Rattle.call_cases.specs.Commands.{IsApart, AreSound}
 use Rattle.call_cases.specs.Lines as gprs_lines
-use Rattle.call_cases.specs.Case.{Case, Usage, BadProgram, BadInput, Go, IsCaseOf, no_program, of_text, IsCase, ForCase, names_read}
-use Rattle.call_cases.specs.Decided.{case_of}
-use Rattle.call_cases.specs.Refusals.{AnswersCase, RefusesCase, RefusesWords, RefusesShelf, RefusalEnds, usage_told, program_told, input_told, read_told, refusal_no_memory, refusal_failed}
+use Rattle.call_cases.specs.Case.{Case, Usage, BadProgram, BadInput, Go, IsCase, ForCase, names_read}
+use Rattle.call_cases.specs.Refusals.{RefusesCase, RefusesWords, RefusesShelf, RefusalEnds, usage_told, program_told, input_told, read_told, refusal_no_memory, refusal_failed}
 use Rattle.call_cases.specs.Answers.{Change, unwritten, TakesAll, TakesPart, Fails, LineEnds, whole, line_failed, line_no_memory, RunEnds, finished}
-use Rattle.call_cases.specs.Headline.{HasCaseLine, IsStop, ReadsNothing}
-use Rattle.call_cases.proofs.Answering.{answers_map}
+use Rattle.call_cases.specs.Headline.{IsStop, ReadsNothing}
 use Rattle.call_cases.proofs.OneCase.{for_known, for_each}
-use Rattle.call_cases.proofs.Headlines.{run_of_failed, run_of_memory, run_headline, refused_headline, for_some, reads_failed}
-use Rattle.view_calls.specs.Commands.{asking, commands, text_of}
-use Rattle.view_calls.specs.Lines.{usage_line, read_fault_line, out_of_memory_line, line_of, under_own_name, refusal_line, refusal_status, fault_line, fault_status}
-use Rattle.view_calls.specs.Shows.{untold, FailsToRead, IsLine, Shows, ShowEnds, shown, unshown}
+use Rattle.call_cases.proofs.Headlines.{run_of_failed, run_of_memory, run_of_whole, run_headline, refused_headline, for_some, reads_failed}
+use Rattle.view_calls.specs.declared.words.Viewed.{Viewed}
+use Rattle.view_calls.specs.Commands.{MayRead, IsShown, asking, commands}
+use Rattle.view_calls.specs.Sights.{Sight, text_of, status_by, status_of, absent_of}
+use Rattle.view_calls.specs.Lines.{absent_line, usage_line, read_fault_line, out_of_memory_line, line_of, under_own_name, refusal_line, refusal_status, fault_line, fault_status}
+use Rattle.view_calls.specs.Shows.{untold, FailsToRead, IsLine, HasOwnLine, Shows, ShowEnds, shown, absent, unshown}
+
+sight_status : (absent : Option ℕ) → IsShown (status_by absent)
+sight_status None = inl refl
+sight_status (Some position) = inr refl
+
+shown_apart : (status : ℕ) → IsShown status → IsApart status
+shown_apart status (inl is) = inl is
+shown_apart status (inr is) = inr (inl is)
 
 commands_sound : AreSound commands
-commands_sound = record { ends = λ work. refl; apart = λ status is. inl is; begins = λ work journal empty. tt; unbegun = λ work journal written faults empty. tt }
-
--- programs and files are those of `gprs`
-same_case : (asked : Asked) (files : Files) (case : Case ToDo) → IsCaseOf gprs.asking asked files case → IsCaseOf asking asked files case
-same_case asked files case (no_program absent) = no_program absent
-same_case asked files case (of_text meaning there means) = of_text meaning there means
-
-pub same_answer : (files : Option Files) (asked : Asked) (result : Result Request Refusal) → IfSome files (λ told. AnswersCase case_of (IsCaseOf gprs.asking asked told) result)
-    → IfSome files (λ told. AnswersCase case_of (IsCaseOf asking asked told) result)
-same_answer None asked result is = tt
-same_answer (Some files) asked result is = answers_map case_of (IsCaseOf gprs.asking asked files) (IsCaseOf asking asked files) (λ case known. same_case asked files case known) result is
+commands_sound =
+    record { ends = λ sight. sight_status (absent_of sight); apart = shown_apart; begins = λ sight journal empty. tt; unbegun = λ sight journal written faults empty. tt }
 
 -- a line ends alike whatever it says, where no bytes are told
 untold_ends : (due : ℕ) (line other : List ℕ) (err : Change) (status : ℕ) → LineEnds due line err status → LineEnds due other (untold err) status
@@ -80,16 +75,16 @@ module _ (err : Change) where
 
   module _ (words : List (List ℕ)) (files : Option Files) where
     refusal_told : (refusal : Refusal) (status : ℕ) → IfSome files (λ told. RefusesCase (IsCase asking words told) refusal)
-        → LineEnds (refusal_status refusal) (refusal_line refusal) err status → ForCase asking words files (λ case. HasCaseLine status → TakesAll err (line_of case))
-    refusal_told refusal status known (line_failed part fails) = for_each asking words files (λ case. HasCaseLine 8 → TakesAll err (line_of case)) (λ case is. absurd (grind (arith, is)))
-    refusal_told refusal status known (line_no_memory part) = for_each asking words files (λ case. HasCaseLine 1 → TakesAll err (line_of case)) (λ case is. absurd (grind (arith, is)))
-    refusal_told RefusedUsage status known (whole all) = for_known asking words files Usage (λ case. HasCaseLine 2 → TakesAll err (line_of case)) known (λ _. all)
+        → LineEnds (refusal_status refusal) (refusal_line refusal) err status → ForCase asking words files (λ case. HasOwnLine status → TakesAll err (line_of case))
+    refusal_told refusal status known (line_failed part fails) = for_each asking words files (λ case. HasOwnLine 8 → TakesAll err (line_of case)) (λ case is. absurd (grind (arith, is)))
+    refusal_told refusal status known (line_no_memory part) = for_each asking words files (λ case. HasOwnLine 1 → TakesAll err (line_of case)) (λ case is. absurd (grind (arith, is)))
+    refusal_told RefusedUsage status known (whole all) = for_known asking words files Usage (λ case. HasOwnLine 2 → TakesAll err (line_of case)) known (λ _. all)
     refusal_told (RefusedProgram told) status known (whole all) =
-        for_some commands words files Name (λ name. BadProgram name told) (λ case. HasCaseLine 3 → TakesAll err (line_of case)) known (λ name _. all)
+        for_some commands words files Name (λ name. BadProgram name told) (λ case. HasOwnLine 3 → TakesAll err (line_of case)) known (λ name _. all)
     refusal_told (RefusedInput told) status known (whole all) =
-        for_some commands words files (List Name) (λ names. BadInput names told) (λ case. HasCaseLine 4 → TakesAll err (line_of case)) known (λ names _. all)
-    refusal_told (ReadFault name) status known (whole all) = for_each asking words files (λ case. HasCaseLine 7 → TakesAll err (line_of case)) (λ case is. absurd (grind (arith, is)))
-    refusal_told OutOfMemory status known (whole all) = for_each asking words files (λ case. HasCaseLine 1 → TakesAll err (line_of case)) (λ case is. absurd (grind (arith, is)))
+        for_some commands words files (List Name) (λ names. BadInput names told) (λ case. HasOwnLine 4 → TakesAll err (line_of case)) known (λ names _. all)
+    refusal_told (ReadFault name) status known (whole all) = for_each asking words files (λ case. HasOwnLine 7 → TakesAll err (line_of case)) (λ case is. absurd (grind (arith, is)))
+    refusal_told OutOfMemory status known (whole all) = for_each asking words files (λ case. HasOwnLine 1 → TakesAll err (line_of case)) (λ case is. absurd (grind (arith, is)))
 
     -- a part of the line of a refusal is a part of a line of the case
     refusal_part : (refusal : Refusal) → IfSome files (λ told. RefusesCase (IsCase asking words told) refusal) → TakesPart err (refusal_line refusal)
@@ -101,7 +96,7 @@ module _ (err : Change) where
         for_some commands words files (List Name) (λ names. BadInput names told) (λ case. (line : List ℕ) × IsLine case line × TakesPart err line) known (λ names. (under_own_name told, inl refl, part))
     refusal_part (ReadFault name) known part = for_read files known
       where
-        for_read : (files : Option Files) → IfSome files (λ told. (case : Case ToDo) × IsCase asking words told case × Contains (names_read case) name)
+        for_read : (files : Option Files) → IfSome files (λ told. (case : Case Sight) × IsCase asking words told case × Contains (names_read case) name)
             → ForCase asking words files (λ case. (line : List ℕ) × IsLine case line × TakesPart err line)
         for_read None is = tt
         for_read (Some files) (case, is, reads) =
@@ -115,8 +110,8 @@ module _ (err : Change) where
     refusal_stopped refusal status known (line_no_memory part) is = refusal_part refusal known part
     refusal_stopped refusal status known (whole all) is = refusal_part refusal known (prefix_whole err.written err.written' (refusal_line refusal) all)
 
-    refusal_read : (failed failed' : List Name) (out : Change) (reading : Option Asked) (refusal : Refusal) (status : ℕ) → IfSome files (λ told. RefusesCase (IsCase asking words told) refusal)
-        → RefusesShelf gprs.MayRead reading failed failed' refusal → LineEnds (refusal_status refusal) (refusal_line refusal) err status → status ≡ 7
+    refusal_read : (failed failed' : List Name) (out : Change) (reading : Option Viewed) (refusal : Refusal) (status : ℕ) → IfSome files (λ told. RefusesCase (IsCase asking words told) refusal)
+        → RefusesShelf MayRead reading failed failed' refusal → LineEnds (refusal_status refusal) (refusal_line refusal) err status → status ≡ 7
         → (name : Name) × FailsToRead (record { words = words; files = files; failed = failed; failed' = failed'; out = out; err = err; status = status }) name × TakesAll err (read_fault_line name)
     refusal_read failed failed' out reading refusal status known shelf (line_failed part fails) is = absurd (omega (arith, is))
     refusal_read failed failed' out reading refusal status known shelf (line_no_memory part) is = absurd (omega (arith, is))
@@ -131,7 +126,7 @@ module _ (err : Change) where
 pub refusal_shows : (words : List (List ℕ)) (files : Option Files) (failed failed' : List Name) (written : Option (List ℕ)) (faults : ℕ) (err : Change) (status : ℕ) (refusal : Refusal)
     → (asking.reading words ≡ None → RefusesWords refusal) → (ReadsNothing commands (asking.reading words) → failed' ≡ failed)
     → IfSome files (λ told. RefusesCase (IsCase asking words told) refusal)
-    → RefusesShelf gprs.MayRead (asking.reading words) failed failed' refusal → LineEnds (refusal_status refusal) (refusal_line refusal) err status
+    → RefusesShelf MayRead (asking.reading words) failed failed' refusal → LineEnds (refusal_status refusal) (refusal_line refusal) err status
     → Shows (record { words = words; files = files; failed = failed; failed' = failed'; out = unwritten written faults; err = err; status = status })
 refusal_shows words files failed failed' written faults err status refusal no_command unread known shelf ends =
     let out : Change = unwritten written faults in
@@ -146,13 +141,19 @@ refusal_shows words files failed failed' written faults err status refusal no_co
     }
 
 -- a run was shown, or it was not
-module _ (text : List ℕ) (out err : Change) where
-  show_ends : (status : ℕ) → ShowEnds text out err status → RunEnds text [] 0 out (untold err) status
-  show_ends status (shown all kept) = finished all tt
+module _ (sight : Sight) (out err : Change) where
+  abbrev text : List ℕ
+  text = text_of sight
+
+  show_ends : (status : ℕ) → ShowEnds sight out err status → RunEnds text [] (status_of sight) out (untold err) status
+  show_ends status (shown none all kept) = subst (λ due. RunEnds text [] due out (untold err) 0) (sym (ap status_by none)) (finished all tt)
+  show_ends status (absent {position = position} is all ends) =
+      subst (λ due. RunEnds text [] due out (untold err) status) (sym (ap status_by is))
+      (run_of_whole text [] 5 out (untold err) status all (untold_ends 5 (absent_line (Some position)) [] err status ends))
   show_ends status (unshown Failed part fails ends) =
-      run_of_failed text [] 0 out (untold err) status part (fails refl) (untold_ends 8 (fault_line Failed) gprs_lines.write_fault_line err status ends)
+      run_of_failed text [] (status_of sight) out (untold err) status part (fails refl) (untold_ends 8 (fault_line Failed) gprs_lines.write_fault_line err status ends)
   show_ends status (unshown sink.OutOfMemory part fails ends) =
-      run_of_memory text [] 0 out (untold err) status part (untold_ends 1 (fault_line sink.OutOfMemory) gprs_lines.out_of_memory_line err status ends)
+      run_of_memory text [] (status_of sight) out (untold err) status part (untold_ends 1 (fault_line sink.OutOfMemory) gprs_lines.out_of_memory_line err status ends)
 
   -- it stopped
   stop_status : (fault : SinkFault) (status : ℕ) → LineEnds (fault_status fault) (fault_line fault) err status → IsStop status
@@ -166,44 +167,69 @@ module _ (text : List ℕ) (out err : Change) where
   stop_part fault status (line_no_memory part) = part
   stop_part fault status (whole all) = prefix_whole err.written err.written' (fault_line fault) all
 
-  stop_line : (fault : SinkFault) (case : Case ToDo) → IsLine case (fault_line fault)
+  stop_line : (fault : SinkFault) (case : Case Sight) → IsLine case (fault_line fault)
   stop_line Failed case = inr (inr (inl refl))
   stop_line sink.OutOfMemory case = inr (inl refl)
 
-  -- the status of a run that was shown, or of a stop
-  show_status : (status : ℕ) → ShowEnds text out err status → (status ≡ 0) ⊎ IsStop status
-  show_status status (shown all kept) = inl refl
-  show_status status (unshown fault part fails ends) = inr (stop_status fault status ends)
+  -- the status of what was shown, of a position that there is not, or of a stop
+  absent_status : (position status : ℕ) → LineEnds 5 (absent_line (Some position)) err status → (status ≡ 5) ⊎ IsStop status
+  absent_status position status (whole all) = inl refl
+  absent_status position status (line_failed part fails) = inr (inr refl)
+  absent_status position status (line_no_memory part) = inr (inl refl)
 
-  show_quiet : (status : ℕ) → ShowEnds text out err status → status ≡ 0 → TakesAll err []
-  show_quiet status (shown all kept) is = kept
+  show_status : (status : ℕ) → ShowEnds sight out err status → (status ≡ 0) ⊎ (status ≡ 5) ⊎ IsStop status
+  show_status status (shown none all kept) = inl refl
+  show_status status (absent {position = position} is all ends) = inr (absent_status position status ends)
+  show_status status (unshown fault part fails ends) = inr (inr (stop_status fault status ends))
+
+  show_quiet : (status : ℕ) → ShowEnds sight out err status → status ≡ 0 → TakesAll err []
+  show_quiet status (shown none all kept) is = kept
+  show_quiet status (absent {position = position} there all ends) is = let known = absent_status position status ends in absurd (grind (arith, is, known))
   show_quiet status (unshown fault part fails ends) is = let stop = stop_status fault status ends in absurd (grind (arith, is, stop))
 
-  show_fault : (status : ℕ) → ShowEnds text out err status → status ≡ 8 → Fails err ⊎ Fails out × TakesAll err (fault_line Failed)
-  show_fault status (shown all kept) is = absurd (omega (arith, is))
+  show_line : (status : ℕ) → ShowEnds sight out err status → HasOwnLine status → TakesAll err (absent_line (absent_of sight))
+  show_line status (shown none all kept) is = absurd (grind (arith, is))
+  show_line status (absent there all (whole taken)) is = subst (λ a. TakesAll err (absent_line a)) (sym there) taken
+  show_line status (absent there all (line_failed part fails)) is = absurd (grind (arith, is))
+  show_line status (absent there all (line_no_memory part)) is = absurd (grind (arith, is))
+  show_line status (unshown fault part fails ends) is = let stop = stop_status fault status ends in absurd (grind (arith, is, stop))
+
+  show_fault : (status : ℕ) → ShowEnds sight out err status → status ≡ 8 → Fails err ⊎ Fails out × TakesAll err (fault_line Failed)
+  show_fault status (shown none all kept) is = absurd (omega (arith, is))
+  show_fault status (absent there all (whole taken)) is = absurd (omega (arith, is))
+  show_fault status (absent there all (line_failed part failed)) is = inl failed
+  show_fault status (absent there all (line_no_memory part)) is = absurd (omega (arith, is))
   show_fault status (unshown fault part fails (line_failed taken failed)) is = inl failed
   show_fault status (unshown fault part fails (line_no_memory taken)) is = absurd (omega (arith, is))
   show_fault status (unshown Failed part fails (whole all)) is = inr (fails refl, all)
   show_fault status (unshown sink.OutOfMemory part fails (whole all)) is = absurd (omega (arith, is))
 
-  show_stopped : (words : List (List ℕ)) (files : Option Files) (status : ℕ) → ShowEnds text out err status → IsStop status
-      → ForCase asking words files (λ case. (line : List ℕ) × IsLine case line × TakesPart err line)
-  show_stopped words files status (shown all kept) is = absurd (grind (arith, is))
-  show_stopped words files status (unshown fault part fails ends) is =
-      for_each asking words files (λ case. (line : List ℕ) × IsLine case line × TakesPart err line) (λ case. (fault_line fault, stop_line fault case, stop_part fault status ends))
+  -- a part of a line that the case of what is to be shown calls for
+  absent_taken : (position status : ℕ) → LineEnds 5 (absent_line (Some position)) err status → TakesPart err (absent_line (Some position))
+  absent_taken position status (whole all) = prefix_whole err.written err.written' (absent_line (Some position)) all
+  absent_taken position status (line_failed part fails) = part
+  absent_taken position status (line_no_memory part) = part
 
--- a run that is asked for meets the promise
-pub run_shows : (words : List (List ℕ)) (files : Option Files) (failed failed' : List Name) (out err : Change) (status : ℕ) (names : List Name) (work : ToDo) (asked : Asked)
-    → asking.reading words ≡ Some asked → IfSome files (λ told. IsCase asking words told (Go names work)) → failed' ≡ failed → ShowEnds (text_of work) out err status
+  absent_part : (position status : ℕ) → absent_of sight ≡ Some position → LineEnds 5 (absent_line (Some position)) err status → TakesPart err (absent_line (absent_of sight))
+  absent_part position status there ends = subst (λ a. TakesPart err (absent_line a)) (sym there) (absent_taken position status ends)
+
+  show_stopped : (names : List Name) (status : ℕ) → ShowEnds sight out err status → IsStop status → (line : List ℕ) × IsLine (Go names sight) line × TakesPart err line
+  show_stopped names status (shown none all kept) is = absurd (grind (arith, is))
+  show_stopped names status (absent {position = position} there all ends) is = (absent_line (absent_of sight), inl refl, absent_part position status there ends)
+  show_stopped names status (unshown fault part fails ends) is = (fault_line fault, stop_line fault (Go names sight), stop_part fault status ends)
+
+-- what is asked to be shown meets the promise
+pub run_shows : (words : List (List ℕ)) (files : Option Files) (failed failed' : List Name) (out err : Change) (status : ℕ) (names : List Name) (sight : Sight) (viewed : Viewed)
+    → asking.reading words ≡ Some viewed → IfSome files (λ told. IsCase asking words told (Go names sight)) → failed' ≡ failed → ShowEnds sight out err status
     → Shows (record { words = words; files = files; failed = failed; failed' = failed'; out = out; err = err; status = status })
-run_shows words files failed failed' out err status names work asked some known same ends =
-    let is_status : (status ≡ 0) ⊎ IsStop status = show_status (text_of work) out err status ends in
+run_shows words files failed failed' out err status names sight viewed some known same ends =
+    let is_status : (status ≡ 0) ⊎ (status ≡ 5) ⊎ IsStop status = show_status sight out err status ends in
     record {
-      call = run_headline commands commands_sound words files failed failed' out (untold err) status (record { events = []; restarts = [] }) names work asked some known same
-          (λ _. (refl, refl)) (λ _. (tt, (λ _. tt), tt)) (show_ends (text_of work) out err status ends);
-      quiet = show_quiet (text_of work) out err status ends;
-      line = for_each asking words files (λ case. HasCaseLine status → TakesAll err (line_of case)) (λ case is. absurd (grind (arith, is, is_status)));
+      call = run_headline commands commands_sound words files failed failed' out (untold err) status (record { events = []; restarts = [] }) names sight viewed some known same
+          (λ _. (refl, refl)) (λ _. (tt, (λ _. tt), tt)) (show_ends sight out err status ends);
+      quiet = show_quiet sight out err status ends;
+      line = for_known asking words files (Go names sight) (λ case. HasOwnLine status → TakesAll err (line_of case)) known (show_line sight out err status ends);
       read_fault = λ is. absurd (grind (arith, is, is_status));
-      write_fault = show_fault (text_of work) out err status ends;
-      stopped = show_stopped (text_of work) out err words files status ends;
+      write_fault = show_fault sight out err status ends;
+      stopped = λ is. for_known asking words files (Go names sight) (λ case. (line : List ℕ) × IsLine case line × TakesPart err line) known (show_stopped sight out err names status ends is);
     }

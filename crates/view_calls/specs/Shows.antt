@@ -1,15 +1,16 @@
 -- What each call of `gprs_view` is promised to do.
-use Rattle.std.specs.Prelude.{◌≡◌, ◌⊎◌, ℕ, List, [], Option, None, Contains}
+use Rattle.std.specs.Prelude.{◌≡◌, ◌⊎◌, ℕ, List, [], Option, Some, None, Contains}
 use Rattle.gp_base.specs.declared.sink.SinkFault.{SinkFault}
 use Rattle.gp_base.specs.declared.sink.SinkFault.TheVariants.{Failed}
 use Rattle.gp_base.specs.Files.{GrowsByOnly}
 use Rattle.task_ast.specs.Tree.{Name}
-use Rattle.call_cases.specs.Work.{Files, ToDo}
+use Rattle.call_cases.specs.Work.{Files}
 use Rattle.call_cases.specs.Case.{Case, ForCase, names_read}
 use Rattle.call_cases.specs.Answers.{Change, TakesAll, TakesPart, Fails, Grew, LineEnds}
 use Rattle.call_cases.specs.Headline.{Call, HasCaseLine, IsStop, Headline}
 use Rattle.view_calls.specs.Commands.{asking, commands}
-use Rattle.view_calls.specs.Lines.{line_of, read_fault_line, out_of_memory_line, write_fault_line, fault_line, fault_status}
+use Rattle.view_calls.specs.Sights.{Sight, text_of, absent_of}
+use Rattle.view_calls.specs.Lines.{line_of, absent_line, read_fault_line, out_of_memory_line, write_fault_line, fault_line, fault_status}
 
 -- a call: what it was given, and what it left
 pub record View : Type 0 where
@@ -45,22 +46,27 @@ pub record FailsToRead (view : View) (name : Name) : Type 0 where
   pub grew : Grew view.failed view.failed'
 
 -- a line that the error stream may take: that of the case, of a file that it reads, or of a stop
-abbrev pub IsLine : Case ToDo → List ℕ → Type 0
+abbrev pub IsLine : Case Sight → List ℕ → Type 0
 IsLine case line =
     (line ≡ line_of case) ⊎ (line ≡ out_of_memory_line) ⊎ (line ≡ write_fault_line) ⊎ (name : Name) × Contains (names_read case) name × (line ≡ read_fault_line name)
+
+-- ended with the line of the case
+abbrev pub HasOwnLine : ℕ → Type 0
+HasOwnLine status = HasCaseLine status ⊎ (status ≡ 5)
 
 -- what holds of each call
 pub record Shows (view : View) : Type 0 where
   -- Status, output and reads are those of a top call with these commands.
   pub call : Headline commands (call_of view)
-  -- The error stream grew by nothing, or by the line that tells the refusal or the fault.
+  -- The error stream grew by nothing, or by the line that tells the refusal, the position that is not there or the fault.
   pub quiet : view.status ≡ 0 → TakesAll view.err []
-  pub line : ForCase asking view.words view.files (λ case. HasCaseLine view.status → TakesAll view.err (line_of case))
+  pub line : ForCase asking view.words view.files (λ case. HasOwnLine view.status → TakesAll view.err (line_of case))
   pub read_fault : view.status ≡ 7 → (name : Name) × FailsToRead view name × TakesAll view.err (read_fault_line name)
   pub write_fault : view.status ≡ 8 → Fails view.err ⊎ Fails view.out × TakesAll view.err write_fault_line
   pub stopped : IsStop view.status → ForCase asking view.words view.files (λ case. (line : List ℕ) × IsLine case line × TakesPart view.err line)
 
--- how a run is shown whose text is this: it was written whole, or a part of it was and the line that tells why
-pub data ShowEnds (text : List ℕ) (out err : Change) : ℕ → Type 0 where
-  shown : TakesAll out text → TakesAll err [] → ShowEnds text out err 0
-  unshown : {status : ℕ} (fault : SinkFault) → TakesPart out text → (fault ≡ Failed → Fails out) → LineEnds (fault_status fault) (fault_line fault) err status → ShowEnds text out err status
+-- how this is shown: its text was written whole; or there is no such position, and a line tells that; or a part of the text was written, and the line that tells why
+pub data ShowEnds (sight : Sight) (out err : Change) : ℕ → Type 0 where
+  shown : absent_of sight ≡ None → TakesAll out (text_of sight) → TakesAll err [] → ShowEnds sight out err 0
+  absent : {status position : ℕ} → absent_of sight ≡ Some position → TakesAll out (text_of sight) → LineEnds 5 (absent_line (Some position)) err status → ShowEnds sight out err status
+  unshown : {status : ℕ} (fault : SinkFault) → TakesPart out (text_of sight) → (fault ≡ Failed → Fails out) → LineEnds (fault_status fault) (fault_line fault) err status → ShowEnds sight out err status

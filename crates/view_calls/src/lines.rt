@@ -3,10 +3,11 @@ ghost use Rattle.std.specs.Prelude.{◌≡◌, ◌++◌, codes, drop, OnOk, OnEr
 ghost use Rattle.std.specs.Io.KnownBytes.{Appends};
 ghost use Rattle.gp_base.specs.Sinks.{AppendsPrefix, HasCause};
 ghost use Rattle.call_cases.specs.Answers.{LineEnds, change_of};
-ghost use Rattle.view_calls.specs.Lines.{under_own_name, refusal_line, refusal_status, fault_line, fault_status};
+ghost use Rattle.view_calls.specs.Lines.{under_own_name, no_position_line, refusal_line, refusal_status, fault_line, fault_status};
 
 use call_cases::{Refusal, end_with};
 use gp_base::{Name, Sink, SinkFault, put_all};
+use itoa::Buffer;
 
 /// Memory ran out.
 pub const OUT_OF_MEMORY: &[u8] = b"gprs_view: out of memory\n";
@@ -15,7 +16,7 @@ pub const OUT_OF_MEMORY: &[u8] = b"gprs_view: out of memory\n";
 pub const WRITE_FAULT: &[u8] = b"gprs_view: write fault\n";
 
 // Words of no command.
-const USAGE: &[u8] = b"gprs_view: usage: order | timeline\n";
+const USAGE: &[u8] = b"gprs_view: usage: order | why | timeline\n";
 
 // Writes two pieces one after the other.
 fn put_both<E: Sink>(to: &mut E, first: &[u8], second: &[u8]) -> Result<(), SinkFault>
@@ -43,14 +44,39 @@ fn put_renamed<E: Sink>(to: &mut E, line: &[u8]) -> Result<(), SinkFault>
     put_both(to, b"gprs_view", after_name(line))
 }
 
+// Writes three pieces one after another.
+fn put_three<E: Sink>(
+    to: &mut E,
+    first: &[u8],
+    second: &[u8],
+    third: &[u8],
+) -> Result<(), SinkFault>
+    ensures all { OnOk result (Appends (E.written to.old) (E.written to.new) (first.now ++ (second.now ++ third.now))) }
+    ensures prefix { OnErr result (AppendsPrefix (E.written to.old) (E.written to.new) (first.now ++ (second.now ++ third.now))) }
+    ensures cause { HasCause (E.faults to.old) (E.faults to.new) result }
+{
+    put_all(to, first)?;
+    put_both(to, second, third)
+}
+
 // Writes the line for a file that could not be read.
 fn put_read_fault<E: Sink>(to: &mut E, name: &Name) -> Result<(), SinkFault>
     ensures all { OnOk result (Appends (E.written to.old) (E.written to.new) (codes "gprs_view: read fault " ++ (name.now ++ codes "\n"))) }
     ensures prefix { OnErr result (AppendsPrefix (E.written to.old) (E.written to.new) (codes "gprs_view: read fault " ++ (name.now ++ codes "\n"))) }
     ensures cause { HasCause (E.faults to.old) (E.faults to.new) result }
 {
-    put_all(to, b"gprs_view: read fault ")?;
-    put_both(to, name.as_slice(), b"\n")
+    put_three(to, b"gprs_view: read fault ", name.as_slice(), b"\n")
+}
+
+// Writes the line for a position that there is not.
+fn put_no_position<E: Sink>(to: &mut E, position: u64) -> Result<(), SinkFault>
+    ensures all { OnOk result (Appends (E.written to.old) (E.written to.new) (no_position_line position)) }
+    ensures prefix { OnErr result (AppendsPrefix (E.written to.old) (E.written to.new) (no_position_line position)) }
+    ensures cause { HasCause (E.faults to.old) (E.faults to.new) result }
+{
+    let mut buffer = Buffer::new();
+    let number = buffer.format(position).as_bytes();
+    put_three(to, b"gprs_view: no position ", number, b"\n")
 }
 
 // Writes a line of `gprs` under this program's name, and answers the status that is due. It is 8 where the write fails, and 1
@@ -71,6 +97,18 @@ fn end_read_fault<E: Sink>(err: &mut E, name: &Name) -> u8
 {
     match put_read_fault(err, name) {
         Ok(()) => 7,
+        Err(SinkFault::Failed) => 8,
+        Err(SinkFault::OutOfMemory) => 1,
+    }
+}
+
+/// Tells that there is no such position, and answers the status, which is 5. It is 8 where the write fails, and 1 where memory
+/// runs out.
+pub fn end_no_position<E: Sink>(err: &mut E, position: u64) -> u8
+    ensures { LineEnds 5 (no_position_line position) (change_of E.written E.faults err.old err.new) result }
+{
+    match put_no_position(err, position) {
+        Ok(()) => 5,
         Err(SinkFault::Failed) => 8,
         Err(SinkFault::OutOfMemory) => 1,
     }

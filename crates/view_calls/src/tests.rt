@@ -96,7 +96,37 @@ const SPENT: &str = "order
 end spent 0
 ";
 
-const USAGE: &str = "gprs_view: usage: order | timeline\n";
+// Of two threads that add to one total, the second is redone with the first.
+const NAMED: &str = "7 thread 2 line 5 lock tally[0] prints 0 holds tally[0]
+restart 1 front 8 struck 4 try 0
+7 and 4 name total[0]
+4 was struck
+redone 1
+";
+
+const JOINED: &str = "10 thread 0 line 14 join 2 prints 0 holds
+restart 1 front 11 struck 2 try 0
+10 joins thread 2 after 7
+7 and 4 name total[0]
+4 goes on in thread 1 after 2
+2 was struck
+redone 1
+";
+
+const FORKED: &str = "2 thread 1 line 0 start prints 0 holds
+restart 1 front 11 struck 1 try 0
+2 runs in thread 1 that 1 forked
+1 was struck
+redone 1
+";
+
+const KEPT: &str = "5 thread 2 line 0 start prints 0 holds
+redone 0
+";
+
+const NO_POSITION: &str = "gprs_view: no position 11\n";
+
+const USAGE: &str = "gprs_view: usage: order | why | timeline\n";
 
 // The words between spaces.
 fn words_of(alloc: Global, text: &str) -> Result<Vec<String>, AllocError> {
@@ -105,6 +135,28 @@ fn words_of(alloc: Global, text: &str) -> Result<Vec<String>, AllocError> {
         words.push(String::from_str(alloc, word)?)?;
     }
     Ok(words)
+}
+
+// A shelf with this program, and three lists of one fault each.
+fn shelf_with(alloc: Global, program: &str) -> Result<MemShelf, AllocError> {
+    let program = (
+        Name::from_slice(alloc, b"p.gp")?,
+        Text::from_slice(alloc, program.as_bytes())?,
+    );
+    let lock = (
+        Name::from_slice(alloc, b"lock.csv")?,
+        Text::from_slice(alloc, b"4,0,3,1\n")?,
+    );
+    let start = (
+        Name::from_slice(alloc, b"start.csv")?,
+        Text::from_slice(alloc, b"2,0,60,1\n")?,
+    );
+    let fork = (
+        Name::from_slice(alloc, b"fork.csv")?,
+        Text::from_slice(alloc, b"1,0,60,1\n")?,
+    );
+    let files = Seq::from_vec(vec![in alloc; program, lock, start, fork]?);
+    Ok(MemShelf::new(alloc, files, Seq::new(alloc)))
 }
 
 // The words over a shelf with this program have this status, output and line on the error stream.
@@ -116,12 +168,7 @@ fn gives(
     output: &str,
     error: &str,
 ) -> Result<bool, AllocError> {
-    let file = (
-        Name::from_slice(alloc, b"p.gp")?,
-        Text::from_slice(alloc, program.as_bytes())?,
-    );
-    let files = Seq::from_vec(vec![in alloc; file]?);
-    let mut shelf = MemShelf::new(alloc, files, Seq::new(alloc));
+    let mut shelf = shelf_with(alloc, program)?;
     let mut out = MemSink::new(alloc, 1000, Seq::new(alloc));
     let mut err = MemSink::new(alloc, 1000, Seq::new(alloc));
     let words = words_of(alloc, words)?;
@@ -136,6 +183,12 @@ fn runs_are_shown_or_refused(rt: HostRuntime) -> Result<(), Fail> {
         ("order p.gp", DEADLOCK, 0, STUCK, ""),
         ("order p.gp", BARRIERS, 0, MET, ""),
         ("order p.gp --turns 10", LOOP, 0, SPENT, ""),
+        ("why p.gp 7 --faults lock.csv", ADD, 0, NAMED, ""),
+        ("why p.gp --faults start.csv 10", ADD, 0, JOINED, ""),
+        ("why p.gp 2 --faults fork.csv", ADD, 0, FORKED, ""),
+        ("why p.gp 5 --faults lock.csv", ADD, 0, KEPT, ""),
+        ("why p.gp 11", ADD, 5, "", NO_POSITION),
+        ("why p.gp first", ADD, 2, "", USAGE),
         ("order p.gp --subthreads 0", LOOP, 2, "", USAGE),
         ("one p.gp", ADD, 2, "", USAGE),
         ("timeline p.gp --crew two", ADD, 2, "", USAGE),

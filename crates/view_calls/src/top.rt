@@ -6,21 +6,22 @@ ghost use Rattle.command_line.specs.Words.{texts, IsWithinLimits};
 ghost use Rattle.call_cases.specs.Answers.{change_of};
 ghost use Rattle.call_cases.specs.Decided.{work_of};
 ghost use Rattle.call_cases.specs.Headline.{ReadsNothing};
-ghost use Rattle.view_calls.specs.Commands.{asked_by, commands, text_of};
+ghost use Rattle.view_calls.specs.Commands.{viewed_by, commands};
+ghost use Rattle.view_calls.specs.Sights.{text_for, view_of, text_of, absent_of, sight_of};
 ghost use Rattle.view_calls.specs.Shows.{Shows, ShowEnds};
 
-use crate::lines::{refuse, stop_with};
-use crate::reading::read_view;
+use crate::lines::{end_no_position, refuse, stop_with};
+use crate::reading::{Viewing, read_view};
 use call_cases::Request;
 use command_line::Command;
 use gp_base::{Shelf, Sink, SinkFault, Text, put_all};
-use run_views::{order_text, timeline_text};
+use run_views::{order_text, timeline_text, why_text};
 use std::alloc::{AllocError, Global};
 
-// The text that is asked for.
-fn text_for(alloc: Global, request: &Request) -> Result<Text, AllocError>
+// The text that shows a whole run.
+fn run_text(alloc: Global, request: &Request) -> Result<Text, AllocError>
     requires { IsWithinLimits request.now.asked }
-    ensures { IfOk result (λ text. text ≡ text_of (work_of request.now)) }
+    ensures { IfOk result (λ text. text ≡ text_for request.now.asked.command (work_of request.now)) }
 {
     let limits = request.asked.limits;
     match request.asked.command {
@@ -35,24 +36,52 @@ fn text_for(alloc: Global, request: &Request) -> Result<Text, AllocError>
     }
 }
 
-// Writes the text that is asked for.
-fn put_text<O: Sink>(alloc: Global, request: &Request, out: &mut O) -> Result<(), SinkFault>
-    requires { IsWithinLimits request.now.asked }
-    ensures all { OnOk result (Appends (O.written out.old) (O.written out.new) (text_of (work_of request.now))) }
-    ensures prefix { OnErr result (AppendsPrefix (O.written out.old) (O.written out.new) (text_of (work_of request.now))) }
-    ensures cause { HasCause (O.faults out.old) (O.faults out.new) result }
+// The text that is asked for, or none where it is that of a position that there is not.
+fn view_text(alloc: Global, viewing: &Viewing) -> Result<Option<Text>, AllocError>
+    requires { IsWithinLimits viewing.now.request.asked }
+    ensures { IfOk result (λ text. text ≡ view_of (sight_of viewing.now)) }
 {
-    let text = text_for(alloc, request)?;
-    put_all(out, text.as_slice())
+    let request = &viewing.request;
+    let Some(position) = viewing.position else {
+        return Ok(Some(run_text(alloc, request)?));
+    };
+    why_text(
+        alloc,
+        &request.checked,
+        &request.inputs,
+        request.asked.limits,
+        &request.faults,
+        position,
+    )
 }
 
-// Shows the run that is asked for, and answers the status.
-fn show<O: Sink, E: Sink>(alloc: Global, request: &Request, out: &mut O, err: &mut E) -> u8
-    requires { IsWithinLimits request.now.asked }
-    ensures { ShowEnds (text_of (work_of request.now)) (change_of O.written O.faults out.old out.new) (change_of E.written E.faults err.old err.new) result }
+// Writes the text that is asked for. The answer is the position where that is of one that there is not.
+fn put_text<O: Sink>(
+    alloc: Global,
+    viewing: &Viewing,
+    out: &mut O,
+) -> Result<Option<u64>, SinkFault>
+    requires { IsWithinLimits viewing.now.request.asked }
+    ensures all { OnOk result (Appends (O.written out.old) (O.written out.new) (text_of (sight_of viewing.now))) }
+    ensures prefix { OnErr result (AppendsPrefix (O.written out.old) (O.written out.new) (text_of (sight_of viewing.now))) }
+    ensures cause { HasCause (O.faults out.old) (O.faults out.new) result }
+    ensures absent { IfOk result (λ absent. absent ≡ absent_of (sight_of viewing.now)) }
 {
-    match put_text(alloc, request, out) {
-        Ok(()) => 0,
+    let Some(text) = view_text(alloc, viewing)? else {
+        return Ok(viewing.position);
+    };
+    put_all(out, text.as_slice())?;
+    Ok(None)
+}
+
+// Shows what is asked for, and answers the status.
+fn show<O: Sink, E: Sink>(alloc: Global, viewing: &Viewing, out: &mut O, err: &mut E) -> u8
+    requires { IsWithinLimits viewing.now.request.asked }
+    ensures { ShowEnds (sight_of viewing.now) (change_of O.written O.faults out.old out.new) (change_of E.written E.faults err.old err.new) result }
+{
+    match put_text(alloc, viewing, out) {
+        Ok(None) => 0,
+        Ok(Some(position)) => end_no_position(err, position),
         Err(fault) => stop_with(fault, err),
     }
 }
@@ -60,10 +89,10 @@ fn show<O: Sink, E: Sink>(alloc: Global, request: &Request, out: &mut O, err: &m
 /// Shows what the words ask for, over what is handed in, and answers the status. The words are those after the program's name.
 ///
 /// The status is 0 where the run was shown, also one that is stuck or has spent its limits, 1 where memory ran out, 2 where the
-/// words are those of no command, 3 where the program is refused, 4 where a file beside it is refused, 7 where a file could not
-/// be read, and 8 where a write failed.
+/// words are those of no command, 3 where the program is refused, 4 where a file beside it is refused, 5 where the run has not
+/// the position that is asked for, 7 where a file could not be read, and 8 where a write failed.
 ///
-/// At 0 `out` took the whole text, and `err` nothing. At 2, 3, 4 and 7 `out` took nothing, and `err` one line that tells why; at 8
+/// At 0 `out` took the whole text, and `err` nothing. At 2, 3, 4, 5 and 7 `out` took nothing, and `err` one line that tells why; at 8
 /// `err` took such a line, unless it failed itself. At each status `out` took a prefix of the text.
 pub fn view_run<H: Shelf, O: Sink, E: Sink>(
     alloc: Global,
@@ -83,10 +112,10 @@ pub fn view_run<H: Shelf, O: Sink, E: Sink>(
     }) }
 
     // The shelf is not read for words of no command.
-    ensures unread { ReadsNothing commands (asked_by (texts words.now)) → shelf.new ≡ shelf.old }
+    ensures unread { ReadsNothing commands (viewed_by (texts words.now)) → shelf.new ≡ shelf.old }
 {
     match read_view(alloc, words, shelf) {
-        Ok(request) => show(alloc, &request, out, err),
+        Ok(viewing) => show(alloc, &viewing, out, err),
         Err(refusal) => refuse(&refusal, err),
     }
 }

@@ -1,5 +1,4 @@
-use Rattle.std.proofs.Common.{◌≡◌, ◌<◌, ◌≤◌, length, All, ap, sym, subst, ◌∙◌, arith}
-use Rattle.gp_base.specs.declared.journal.Restart.{Restart}
+use Rattle.std.proofs.Common.{ap, ◌∙◌, arith}
 use Rattle.task_ast.specs.declared.tree.Program.{Program}
 use Rattle.task_ast.specs.View.{plain_program}
 use Rattle.lock_checker.specs.Accepted.{program_of}

@@ -1,29 +1,14 @@
-use Rattle.std.proofs.Common.{rules, subst, codes, ◌++◌}
+use Rattle.std.proofs.Common.{subst, codes, ◌++◌, OnOk, OnErr}
 use Rattle.std.specs.Io.KnownBytes.{Appends}
-use Rattle.std.proofs.lemmas.Result.{on_ok_weaker, on_err_weaker}
 use Rattle.gp_base.specs.Sinks.{AppendsPrefix}
-use Rattle.gp_base.proofs.Written.{Appends-append, prefix_first, prefix_second}
 use Rattle.view_calls.proofs.lines.put_read_fault.Goals as goal
-
-pub returns-in_err-put_all-clause-prefix : goal.returns-in_err-put_all-clause-prefix
-returns-in_err-put_all-clause-prefix g c =
-    let prefix = prefix_first (g.E.Sink.written c.args.to.now) (g.E.Sink.written c.put_all.new.to) (codes "gprs_view: read fault ") (c.args.name.now ++ codes "\n") c.in_err-put_all.ensures.prefix in
-    search (rules, prefix)
 
 pub returns-clause-all : goal.returns-clause-all
 returns-clause-all g c =
-    let first = g.E.Sink.written c.put_all.new.to in
-    let after = g.E.Sink.written c.put_both.new.to in
-    on_ok_weaker c.put_both.result
-    (λ all. Appends-append (g.E.Sink.written c.args.to.now) first after (codes "gprs_view: read fault ") (c.args.name.now ++ codes "\n") c.in_ok-put_all.ensures.all
-    (subst (λ n. Appends first after (n ++ codes "\n")) c.as_slice.ensures all))
-    c.put_both.ensures.all
+    subst (λ n. OnOk c.put_three.result (Appends (g.E.Sink.written c.args.to.now) (g.E.Sink.written c.put_three.new.to) (codes "gprs_view: read fault " ++ (n ++ codes "\n"))))
+    c.as_slice.ensures c.put_three.ensures.all
 
 pub returns-clause-prefix : goal.returns-clause-prefix
 returns-clause-prefix g c =
-    let first = g.E.Sink.written c.put_all.new.to in
-    let after = g.E.Sink.written c.put_both.new.to in
-    on_err_weaker c.put_both.result
-    (λ part. prefix_second (g.E.Sink.written c.args.to.now) first after (codes "gprs_view: read fault ") (c.args.name.now ++ codes "\n") c.in_ok-put_all.ensures.all
-    (subst (λ n. AppendsPrefix first after (n ++ codes "\n")) c.as_slice.ensures part))
-    c.put_both.ensures.prefix
+    subst (λ n. OnErr c.put_three.result (AppendsPrefix (g.E.Sink.written c.args.to.now) (g.E.Sink.written c.put_three.new.to) (codes "gprs_view: read fault " ++ (n ++ codes "\n"))))
+    c.as_slice.ensures c.put_three.ensures.prefix

@@ -1,31 +1,28 @@
-use Rattle.std.proofs.Common.{◌≡◌, None, Some, sym, subst}
+use Rattle.std.proofs.Common.{◌≡◌, None, Some, sym, subst, ap, ◌∙◌}
 use Rattle.command_line.specs.Words.{texts}
-use Rattle.call_cases.specs.Decided.{case_of}
 use Rattle.call_cases.specs.Refusals.{TouchesShelf}
-use Rattle.call_cases.specs.RunCommands as gprs
 use Rattle.call_cases.specs.Headline.{ReadsNothing}
 use Rattle.call_cases.proofs.Answering.{usage_case, asked_case}
-use Rattle.view_calls.specs.Commands.{asked_by, asking, commands}
-use Rattle.view_calls.proofs.Showing.{same_answer}
+use Rattle.view_calls.specs.Commands.{viewed_by, MayRead, asking, commands}
+use Rattle.view_calls.specs.Sights.{case_of}
 use Rattle.view_calls.proofs.reading.read_view.Goals as goal
 
 pub returns-in-Ok-None-clause-case : goal.returns-in-Ok-None-clause-case
 returns-in-Ok-None-clause-case g c =
-    let none : asked_by (texts c.args.words.now) ≡ None = sym (rw c.in-Ok-None.field-0-is at c.in-Ok-None.ensures.asked) in
+    let none : viewed_by (texts c.args.words.now) ≡ None = sym (rw c.in-Ok-None.field-0-is at c.in-Ok-None.ensures.viewed) in
     usage_case asking (texts c.args.words.now) (g.H.Shelf.files c.args.shelf.now) none
 
 pub returns-clause-shelf : goal.returns-clause-shelf
 returns-clause-shelf g c =
-    let some : asked_by (texts c.args.words.now) ≡ Some c.in-Ok-Some.asked = sym (rw c.in-Ok-Some.field-0-is at c.in-Ok-Some.ensures.asked) in
-    subst (λ asked. TouchesShelf gprs.MayRead asked (g.H.Shelf.failed c.args.shelf.now) (g.H.Shelf.failed c.read_asked.new.shelf) c.read_asked.result) (sym some) c.read_asked.ensures.shelf
+    let some : viewed_by (texts c.args.words.now) ≡ Some c.in-Ok-Some.viewed = sym (rw c.in-Ok-Some.field-0-is at c.in-Ok-Some.ensures.viewed) in
+    subst (λ viewed. TouchesShelf MayRead viewed (g.H.Shelf.failed c.args.shelf.now) (g.H.Shelf.failed c.read_viewed.new.shelf) c.read_viewed.result) (sym some) c.read_viewed.ensures.shelf
 
 pub returns-clause-case : goal.returns-clause-case
 returns-clause-case g c =
-    let some : asked_by (texts c.args.words.now) ≡ Some c.in-Ok-Some.asked = sym (rw c.in-Ok-Some.field-0-is at c.in-Ok-Some.ensures.asked) in
-    asked_case asking (texts c.args.words.now) case_of (g.H.Shelf.files c.args.shelf.now) c.in-Ok-Some.asked c.read_asked.result some
-    (same_answer (g.H.Shelf.files c.args.shelf.now) c.in-Ok-Some.asked c.read_asked.result c.read_asked.ensures.case)
+    let some : viewed_by (texts c.args.words.now) ≡ Some c.in-Ok-Some.viewed = sym (rw c.in-Ok-Some.field-0-is at c.in-Ok-Some.ensures.viewed) in
+    asked_case asking (texts c.args.words.now) case_of (g.H.Shelf.files c.args.shelf.now) c.in-Ok-Some.viewed c.read_viewed.result some c.read_viewed.ensures.case
 
 pub returns-clause-unread : goal.returns-clause-unread
 returns-clause-unread g c = λ nothing.
-    let some : asked_by (texts c.args.words.now) ≡ Some c.in-Ok-Some.asked = sym (rw c.in-Ok-Some.field-0-is at c.in-Ok-Some.ensures.asked) in
+    let some : viewed_by (texts c.args.words.now) ≡ Some c.in-Ok-Some.viewed = sym (rw c.in-Ok-Some.field-0-is at c.in-Ok-Some.ensures.viewed) in
     let reads = subst (ReadsNothing commands) some nothing in cc reads

@@ -1,16 +1,17 @@
 use Rattle.std.proofs.Common.{ap}
 use Rattle.command_line.specs.Words.{texts}
 use Rattle.call_cases.specs.Answers.{change_of}
-use Rattle.call_cases.specs.Decided.{program_in, work_of, files_read}
+use Rattle.call_cases.specs.Decided.{program_in, files_read}
+use Rattle.view_calls.specs.Sights.{sight_of, viewed_in}
 use Rattle.view_calls.proofs.Showing.{run_shows, refusal_shows}
 use Rattle.view_calls.proofs.top.view_run.Goals as goal
 
 pub returns-in-Ok-clause-shows : goal.returns-in-Ok-clause-shows
 returns-in-Ok-clause-shows g c =
-    let request = c.in-Ok.request in
+    let viewing = c.in-Ok.viewing in
     run_shows (texts c.args.words.now) (g.H.Shelf.files c.args.shelf.now) (g.H.Shelf.failed c.args.shelf.now) (g.H.Shelf.failed c.read_view.new.shelf)
     (change_of g.O.Sink.written g.O.Sink.faults c.args.out.now c.show.new.out) (change_of g.E.Sink.written g.E.Sink.faults c.args.err.now c.show.new.err) c.show.result
-    (files_read request.asked (program_in request)) (work_of request) request.asked c.in-Ok.ensures.asked c.in-Ok.ensures.case c.in-Ok.ensures.shelf c.show.ensures
+    (files_read viewing.request.asked (program_in viewing.request)) (sight_of viewing) (viewed_in viewing) c.in-Ok.ensures.viewed c.in-Ok.ensures.case c.in-Ok.ensures.shelf c.show.ensures
 
 pub returns-in-Err-clause-shows : goal.returns-in-Err-clause-shows
 returns-in-Err-clause-shows g c =

@@ -2,7 +2,7 @@ use Rattle.std.proofs.Common.{◌∙◌, ap, sym}
 use Rattle.std.proofs.lemmas.Result.{IfOk-weaker}
 use Rattle.view_calls.specs.Commands.{named_verb}
 use Rattle.view_calls.proofs.FirstWords.{asked_first}
-use Rattle.view_calls.proofs.words.read_words.Goals as goal
+use Rattle.view_calls.proofs.words.read_run.Goals as goal
 
 pub returns-clause-asked : goal.returns-clause-asked
 returns-clause-asked c =
