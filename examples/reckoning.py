@@ -9,6 +9,7 @@ Beside each NAME.gp stands a NAME.py that prints what NAME.out holds. Run it in 
     cd examples/settlement && PYTHONPATH=.. python3 settlement.py
 """
 
+import sys
 from dataclasses import dataclass
 
 
@@ -203,12 +204,20 @@ def dependents(subthreads, struck, front):
     return found
 
 
+def rolled_back(every):
+    """What is redone where a run goes back to copies: all from the greatest cut on that is not after the struck position."""
+    def redone(subthreads, struck, front):
+        cut = max(p for p in range(struck + 1) if p % every == 0 or subthreads[p].settles)
+        return list(range(cut, front))
+    return redone
+
+
 def drains(subthreads, front):
     """Whether faults are taken at this front whatever their delay."""
     return front == len(subthreads) or subthreads[front].settles
 
 
-def restarts(subthreads, faults):
+def restarts(subthreads, faults, redone=dependents):
     """The restarts that the faults make: rows of front, struck position, its attempt, and what is redone."""
     attempt, begun, made = {}, {}, []
     for front in range(1, len(subthreads) + 1):
@@ -221,7 +230,7 @@ def restarts(subthreads, faults):
             if not due:
                 break
             struck = min(due)
-            redo = dependents(subthreads, struck, front)
+            redo = redone(subthreads, struck, front)
             made.append((front, struck, attempt[struck], redo))
             for p in redo:
                 attempt[p] += 1
@@ -264,10 +273,13 @@ def remainder(number, divisor):
 
 
 def publish(main, printed, records, faults=None):
-    """Runs the batch and prints its text. `printed` and `records` are read after the run: lists of numbers, and lists by name."""
+    """Runs the batch and prints its text. `printed` and `records` are read after the run: lists of numbers, and lists by name.
+
+    With the words `--every N` it is the text of a run that goes back to copies, which were taken before each Nth subthread."""
     subthreads = Order(main).subthreads
     listed = rows(faults) if faults else []
-    made = restarts(subthreads, listed)
+    redone = rolled_back(int(sys.argv[2])) if sys.argv[1:2] == ["--every"] else dependents
+    made = restarts(subthreads, listed, redone)
     print("output")
     for line in printed:
         print(*line)
