@@ -5,14 +5,19 @@ use Rattle.std.proofs.lemmas.Option.{slice_get_past}
 use Rattle.reorder_list.specs.declared.entry.Entry.{Entry}
 use Rattle.reorder_list.specs.declared.entry.State.{State}
 use Rattle.reorder_list.specs.declared.entry.State.TheVariants.{Waiting, Out, Applied}
-use Rattle.reorder_list.specs.Entries.{StandFrom, first_position, IsInRow, entry_at, is_waiting}
+use Rattle.reorder_list.specs.Entries.{StandFrom, first_position, IsInRow, entry_at, is_waiting, is_applied}
 use Rattle.reorder_list.specs.Runnable.{LetsPass, AllLetPass, IsRunnable, NoneRunnable}
-use Rattle.reorder_list.proofs.Rows.{read-at, at-place, before-first, stands-at}
+use Rattle.reorder_list.proofs.Rows.{read-at, at-place, stands-at}
 
 pub waits-is : (s : State) → is_waiting s ≡ true → s ≡ Waiting
 waits-is Waiting e = refl
 waits-is Out e = absurd (false≢true e)
 waits-is Applied e = absurd (false≢true e)
+
+pub applied-is : (s : State) → is_applied s ≡ true → s ≡ Applied
+applied-is Waiting e = absurd (false≢true e)
+applied-is Out e = absurd (false≢true e)
+applied-is Applied e = refl
 
 -- the entry that is read at a place stands at the position as far from the first
 pub read-there : (entries : List Entry) (k : ℕ) (e : Entry) → IsInRow entries → k < length entries → e ≡ get_or entries k e → entry_at entries (first_position entries + k) ≡ Some e
@@ -46,33 +51,20 @@ module _ (entries : List Entry) (row : IsInRow entries) (k : ℕ) (l : k < lengt
           | inr ne ↦ so_far q y (omega arith) there
         ]
 
--- before the first position nothing stands
-pub pass-first : (entries : List Entry) (e : Entry) → IsInRow entries → AllLetPass entries (first_position entries + 0) e
-pass-first entries e row q x low there = absurd (let both = sym (before-first (first_position entries) q entries row (omega arith)) ∙ there in cc both)
-
--- none of the first so many positions is runnable, from one on
-abbrev pub NoneBelow : List Entry → (from below : ℕ) → Type 0
-NoneBelow entries from below = (q : ℕ) → from ≤ q → q < below → ¬ IsRunnable entries q
-
-pub none-first : (entries : List Entry) (from : ℕ) → IsInRow entries → NoneBelow entries from (first_position entries + 0)
-none-first entries from row q l low runnable =
-    absurd (let both = sym (before-first (first_position entries) q entries row (omega arith)) ∙ runnable.is_there in cc both)
-
-pub none-more : (entries : List Entry) (from k : ℕ) → ((from ≤ first_position entries + k) → ¬ IsRunnable entries (first_position entries + k))
-    → NoneBelow entries from (first_position entries + k) → NoneBelow entries from (first_position entries + (k + 1))
-none-more entries from k here so_far q l low runnable =
-    elim (cases_eq q (first_position entries + k)) [
-      | inl same ↦ here (omega arith) (subst (IsRunnable entries) same runnable)
-      | inr ne ↦ so_far q l (omega arith) runnable
-    ]
-
-pub none-all : (entries : List Entry) (from k : ℕ) → IsInRow entries → length entries ≤ k → NoneBelow entries from (first_position entries + k) → NoneRunnable entries from
-none-all entries from k row past so_far q l runnable =
+-- from one position on none is runnable before the place of the first entry from another on, where none is so far
+pub none-all : (entries : List Entry) (from below k end : ℕ) → IsInRow entries → end ≤ k
+    → (end < length entries → below ≤ first_position entries + end) → NoneRunnable entries from (first_position entries + k) → NoneRunnable entries from below
+none-all entries from below k end row past later so_far q l low runnable =
     elim (cases_lt q (first_position entries + k)) [
-      | inl low ↦ so_far q l low runnable
-      | inr high ↦
-          absurd (let gone = stands-at (first_position entries) q (q - first_position entries) entries row (omega arith) ∙ slice_get_past entries (q - first_position entries) (omega arith) in
-          let both = sym gone ∙ runnable.is_there in cc both)
+      | inl seen ↦ so_far q l seen runnable
+      | inr unseen ↦
+          elim (cases_lt end (length entries)) [
+            | inl inside ↦ absurd (let high = later inside in omega arith)
+            | inr outside ↦
+                absurd (let gone = stands-at (first_position entries) q (q - first_position entries) entries row (omega arith)
+                ∙ slice_get_past entries (q - first_position entries) (omega arith) in
+                let both = sym gone ∙ runnable.is_there in cc both)
+          ]
     ]
 
 -- the position that is read at a place

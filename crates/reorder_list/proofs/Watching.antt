@@ -1,17 +1,24 @@
--- The positions that are watched, and the one before which no entry waits.
+-- The positions that are watched, and the marks before which no entry waits and each is applied.
+--
+-- A mark is a position with a test that answers one thing of each entry before it (`Below`), so what is shown of marks is shown once for any
+-- test: under a change, with one more entry, without the first, and past one more place. One that is watched holds up the entry that watches
+-- it for as long as it is not applied; a search for another begins at the mark before which each entry is applied, since those let it pass.
 use Rattle.std.proofs.Common.{◌≡◌, ◌⊎◌, ◌↔◌, inl, inr, ℕ, zero, suc, ◌+◌, ◌<◌, ◌≤◌, min, Bool, true, false, cond, nat_eq, not, IsTrue, List, [], ◌∷◌, ◌++◌, length, drop, get_or, slice_get, slice_set, Option, Some, None, IfSome, IfNone, refl, sym, ap, subst, ◌∙◌, arith}
 use Rattle.std.specs.Prelude.{is_some}
 use Rattle.std.specs.Option.{option_or, IsSomeAnd}
 use Rattle.std.specs.List.{AllZip}
-use Rattle.std.proofs.lemmas.Bool.{false≢true, both_ways, ne_eqb, cases_eq}
+use Rattle.std.proofs.lemmas.Bool.{false≢true, both_ways, ne_eqb, eqb-true, cases_eq}
 use Rattle.dependence.specs.Conflict.{Conflict}
 use Rattle.reorder_list.specs.declared.entry.Entry.{Entry}
+use Rattle.reorder_list.specs.declared.entry.State.{State}
+use Rattle.reorder_list.specs.declared.entry.State.TheVariants.{Waiting}
+use Rattle.reorder_list.specs.declared.marks.Marks.{Marks}
 use Rattle.reorder_list.specs.Entries.{StandFrom, first_position, IsInRow, ComesNext, entry_at, is_waiting, is_applied, with_change}
 use Rattle.reorder_list.specs.Places.{IsKept}
-use Rattle.reorder_list.specs.Runnable.{IsRunnable}
-use Rattle.reorder_list.specs.Watched.{IsWatch, HoldsUp, IsReady, StillWatched, AreWatched, NoneWaits, unknown_in, IsUpheld}
+use Rattle.reorder_list.specs.Runnable.{AllLetPass, IsRunnable, NoneRunnable}
+use Rattle.reorder_list.specs.Watched.{IsWatch, HoldsUp, IsReady, StillWatched, AreWatched, Below, NoneWaits, AllApplied, AreMarks, unknown_in, IsUpheld}
 use Rattle.reorder_list.proofs.Rows.{next-is, before-first}
-use Rattle.reorder_list.proofs.Readiness.{NoneBelow, one-entry, waits-is, read-there, read-position}
+use Rattle.reorder_list.proofs.Readiness.{one-entry, waits-is, applied-is, read-there, read-position}
 use Rattle.reorder_list.proofs.Changes.{KeepsPosition, changed_where, pushed, from-first, position-of}
 use Rattle.reorder_list.proofs.Staged.{changed-there}
 use Rattle.reorder_list.proofs.Kept.{kept-rest}
@@ -20,6 +27,11 @@ use Rattle.reorder_list.proofs.Unknown.{one_in, unknown-first, KeepsKnown, unkno
 -- a change keeps the footprint by locks of each entry
 abbrev pub KeepsLocks : (Entry → Entry) → Type 0
 KeepsLocks change = (e : Entry) → (change e).locks ≡ e.locks
+
+-- a change keeps what a test answers of the entries before the position
+abbrev pub KeepsBelow : (State → Bool) → Bool → (ℕ → Bool) → (Entry → Entry) → List Entry → ℕ → Type 0
+KeepsBelow says answer test change entries below =
+    (q : ℕ) → q < below → test q ≡ true → (e : Entry) → entry_at entries q ≡ Some e → says e.state ≡ answer → says (change e).state ≡ answer
 
 module _ (test : ℕ → Bool) (change : Entry → Entry) (keeps : KeepsPosition change) (locks : KeepsLocks change) (entries : List Entry) where
   same-locks : (b : Bool) (e : Entry) → (changed_where b change e).locks ≡ e.locks
@@ -48,17 +60,16 @@ module _ (test : ℕ → Bool) (change : Entry → Entry) (keeps : KeepsPosition
   pub watches-changed : (watched : List (Option ℕ)) → AreWatched entries watched → AreWatched (with_change test change entries) watched
   watches-changed watched watches = some-changed entries watched watches
 
-  -- no entry waits before the position, nor before one whose entry may wait now
-  pub waits-changed : (idle : ℕ)
-      → ((q : ℕ) → q < idle → test q ≡ true → (e : Entry) → is_waiting e.state ≡ false → is_waiting (change e).state ≡ false)
-      → NoneWaits entries idle → NoneWaits (with_change test change entries) idle
-  waits-changed idle still none q x l there =
+  -- a test answers the same before the position as it did, where it does so of each entry there that was changed
+  pub below-changed : (says : State → Bool) (answer : Bool) (below : ℕ) → KeepsBelow says answer test change entries below
+      → Below says answer entries below → Below says answer (with_change test change entries) below
+  below-changed says answer below still before q x l there =
       let y = changed-there test change entries q x keeps there in
-      ap (λ (z : Entry). is_waiting z.state) y.2 ∙ go (test q) refl y.0 (none q y.0 l y.1)
+      ap (λ (z : Entry). says z.state) y.2 ∙ go (test q) refl y.0 y.1 (before q y.0 l y.1)
     where
-      go : (b : Bool) → test q ≡ b → (e : Entry) → is_waiting e.state ≡ false → is_waiting (changed_where b change e).state ≡ false
-      go true is e w = still q l is e w
-      go false is e w = w
+      go : (b : Bool) → test q ≡ b → (e : Entry) → entry_at entries q ≡ Some e → says e.state ≡ answer → says (changed_where b change e).state ≡ answer
+      go true is e here was = still q l is e here was
+      go false is e here was = was
 
 module _ (entries : List Entry) (new : Entry) where
   -- one that was watched is no later than the one that watches
@@ -83,11 +94,12 @@ watches-pushed [] new watched row next watches = some-pushed [] new 0 [] watched
 watches-pushed (e ∷ entries) new watched row next watches =
     some-pushed (e ∷ entries) new e.pos (e ∷ entries) watched row (let is = next-is e.pos new.pos e entries row next in omega arith) watches
 
-pub waits-pushed : (entries : List Entry) (new : Entry) (idle : ℕ) → NoneWaits entries idle → NoneWaits (entries ++ new ∷ []) (min idle new.pos)
-waits-pushed entries new idle none q x l there = go (entry_at entries q) refl (sym (pushed entries new q) ∙ there)
+pub below-pushed : (says : State → Bool) (answer : Bool) (entries : List Entry) (new : Entry) (below : ℕ)
+    → Below says answer entries below → Below says answer (entries ++ new ∷ []) (min below new.pos)
+below-pushed says answer entries new below before q x l there = go (entry_at entries q) refl (sym (pushed entries new q) ∙ there)
   where
-    go : (o : Option Entry) → entry_at entries q ≡ o → option_or o (cond (nat_eq new.pos q) (Some new) None) ≡ Some x → is_waiting x.state ≡ false
-    go (Some y) is found = none q x (omega arith) (is ∙ found)
+    go : (o : Option Entry) → entry_at entries q ≡ o → option_or o (cond (nat_eq new.pos q) (Some new) None) ≡ Some x → says x.state ≡ answer
+    go (Some y) is found = before q x (omega arith) (is ∙ found)
     go None is found = absurd (let gone = rw (ne_eqb new.pos q (λ same. omega arith)) at found in cc gone)
 
 module _ (first : Entry) (entries : List Entry) (row : IsInRow (first ∷ entries)) where
@@ -108,8 +120,8 @@ module _ (first : Entry) (entries : List Entry) (row : IsInRow (first ∷ entrie
   watches-rest [] watches = absurd watches
   watches-rest (w ∷ watched) watches = some-rest entries watched watches.1
 
-  pub waits-rest : (idle : ℕ) → NoneWaits (first ∷ entries) idle → NoneWaits entries idle
-  waits-rest idle none q x l there = none q x l (there-too q x there)
+  pub below-rest : (says : State → Bool) (answer : Bool) (below : ℕ) → Below says answer (first ∷ entries) below → Below says answer entries below
+  below-rest says answer below before q x l there = before q x l (there-too q x there)
 
 -- what is watched at a place
 pub watch-at : (entries xs : List Entry) (ws : List (Option ℕ)) (k : ℕ) (e : Entry) (w : Option ℕ) → AllZip (IsWatch entries) xs ws → slice_get xs k ≡ Some e → w ≡ get_or ws k w → IsWatch entries e w
@@ -175,67 +187,98 @@ watches-length entries [] (w ∷ ws) watches = absurd watches
 watches-length entries (x ∷ xs) [] watches = absurd watches
 watches-length entries (x ∷ xs) (w ∷ ws) watches = ap suc (watches-length entries xs ws watches.1)
 
--- the place of the first entry from a position on: before it no entry waits, where none does before the position
-pub waits-first : (entries : List Entry) (idle start : ℕ) → IsInRow entries → (start ≡ 0) ⊎ (first_position entries + start ≤ idle) → NoneWaits entries idle → NoneWaits entries (first_position entries + start)
-waits-first entries idle start row where' none q e l there =
+-- a test answers the same before the place of the first entry from a position on as before the position
+pub below-first : (says : State → Bool) (answer : Bool) (entries : List Entry) (below start : ℕ) → IsInRow entries
+    → (start ≡ 0) ⊎ (first_position entries + start ≤ below) → Below says answer entries below → Below says answer entries (first_position entries + start)
+below-first says answer entries below start row where' before q e l there =
     elim where' [
       | inl same ↦ absurd (let gone = sym (before-first (first_position entries) q entries row (omega arith)) ∙ there in cc gone)
-      | inr low ↦ none q e (omega arith) there
+      | inr low ↦ before q e (omega arith) there
     ]
 
-pub waits-more : (entries : List Entry) (k : ℕ) (e : Entry) → IsInRow entries → k < length entries → e ≡ get_or entries k e → is_waiting e.state ≡ false
-    → NoneWaits entries (first_position entries + k) → NoneWaits entries (first_position entries + (k + 1))
-waits-more entries k e row l read still none q x low there =
+pub below-more : (says : State → Bool) (answer : Bool) (entries : List Entry) (k : ℕ) (e : Entry) → IsInRow entries → k < length entries
+    → e ≡ get_or entries k e → says e.state ≡ answer → Below says answer entries (first_position entries + k) → Below says answer entries (first_position entries + (k + 1))
+below-more says answer entries k e row l read still before q x low there =
     elim (cases_eq q (first_position entries + k)) [
       | inl same ↦
-          (let is = one-entry entries (first_position entries + k) x e (ap (entry_at entries) (sym same) ∙ there) (read-there entries k e row l read) in
-          ap (λ (y : Entry). is_waiting y.state) is ∙ still)
-      | inr ne ↦ none q x (omega arith) there
+          (let is = one-entry entries (first_position entries + k) x e (ap (entry_at entries) (sym same) ∙ there)
+          (read-there entries k e row l read) in
+          ap (λ (y : Entry). says y.state) is ∙ still)
+      | inr ne ↦ before q x (omega arith) there
     ]
 
-pub waits-here : (entries : List Entry) (k : ℕ) (e : Entry) → IsInRow entries → k < length entries → e ≡ get_or entries k e → NoneWaits entries (first_position entries + k) → NoneWaits entries e.pos
-waits-here entries k e row l read none = subst (NoneWaits entries) (sym (read-position entries k e row l read)) none
+pub below-here : (says : State → Bool) (answer : Bool) (entries : List Entry) (k : ℕ) (e : Entry) → IsInRow entries → k < length entries
+    → e ≡ get_or entries k e → Below says answer entries (first_position entries + k) → Below says answer entries e.pos
+below-here says answer entries k e row l read before = subst (Below says answer entries) (sym (read-position entries k e row l read)) before
+
+-- what is applied lets each later entry pass
+pub pass-applied : (entries : List Entry) (whole start : ℕ) (e : Entry) → IsInRow entries
+    → (start ≡ 0) ⊎ (first_position entries + start ≤ whole) → AllApplied entries whole → AllLetPass entries (first_position entries + start) e
+pass-applied entries whole start e row where' applied q x low there clash =
+    applied-is x.state (below-first is_applied true entries whole start row where' applied q x low there)
+
+-- one that waits stands before no mark before which each is applied
+pub waiting-kept : (entries : List Entry) (p below : ℕ) (x : Entry) (change : Entry → Entry)
+    → entry_at entries p ≡ Some x → x.state ≡ Waiting → KeepsBelow is_applied true (λ q. nat_eq q p) change entries below
+waiting-kept entries p below x change there waits q l is e here applied =
+    let same : x ≡ e = one-entry entries p x e there (ap (entry_at entries) (sym (eqb-true q p is)) ∙ here) in
+    absurd (both_ways (is_applied e.state) (ap is_applied (ap (λ (y : Entry). y.state) (sym same) ∙ waits)) applied)
 
 -- an entry that does not wait is not runnable
 pub none-start : (entries : List Entry) (from idle top start : ℕ) → IsInRow entries → ((q : ℕ) → from ≤ q → q < top → q < idle) → (start ≡ 0) ⊎ (first_position entries + start ≤ top) → NoneWaits entries idle
-    → NoneBelow entries from (first_position entries + start)
+    → NoneRunnable entries from (first_position entries + start)
 none-start entries from idle top start row within where' none q l low runnable =
     elim where' [
       | inl same ↦ absurd (let gone = sym (before-first (first_position entries) q entries row (omega arith)) ∙ runnable.is_there in cc gone)
       | inr below ↦ absurd (both_ways (is_waiting runnable.entry.state) (none q runnable.entry (within q l (omega arith)) runnable.is_there) (ap is_waiting runnable.waits))
     ]
 
--- all is upheld where entries were changed that do not wait now, or where the position goes back before them
-pub upheld-changed : (entries : List Entry) (watched : List (Option ℕ)) (idle unknown low more : ℕ) (test : ℕ → Bool) (change : Entry → Entry) (news : List Entry)
+-- all is upheld where entries were changed that are before no mark now, or of which the marks still tell the same
+pub upheld-changed : (entries : List Entry) (watched : List (Option ℕ)) (marks low : Marks) (unknown more : ℕ)
+    (test : ℕ → Bool) (change : Entry → Entry) (news : List Entry)
     → KeepsPosition change → KeepsLocks change
-    → ((q : ℕ) → q < low → test q ≡ true → (e : Entry) → is_waiting e.state ≡ false → is_waiting (change e).state ≡ false) → low ≤ idle
-    → more ≡ unknown_in news → news ≡ with_change test change entries → IsKept news → IsUpheld entries watched idle unknown → IsUpheld news watched low more
-upheld-changed entries watched idle unknown low more test change news keeps locks still less count is kept upheld =
+    → KeepsBelow is_waiting false test change entries low.idle → low.idle ≤ marks.idle
+    → KeepsBelow is_applied true test change entries low.whole → low.whole ≤ marks.whole
+    → more ≡ unknown_in news → news ≡ with_change test change entries → IsKept news
+    → IsUpheld entries watched marks unknown → IsUpheld news watched low more
+upheld-changed entries watched marks low unknown more test change news keeps locks idle less whole fewer count is kept upheld =
     record {
       kept = kept;
       watches = subst (λ es. AreWatched es watched) (sym is) (watches-changed test change keeps locks entries watched upheld.watches);
-      none_waits = subst (λ es. NoneWaits es low) (sym is)
-          (waits-changed test change keeps locks entries low still (λ q e l there. upheld.none_waits q e (omega arith) there));
+      marked = subst (λ es. AreMarks es low) (sym is)
+          (record {
+            none_waits = below-changed test change keeps locks entries is_waiting false low.idle idle
+                (λ q e l there. upheld.marked.none_waits q e (omega arith) there);
+            all_applied = below-changed test change keeps locks entries is_applied true low.whole whole
+                (λ q e l there. upheld.marked.all_applied q e (omega arith) there);
+          });
       unknowns = count;
     }
 
 -- so where the change tells of no subthread what it touches
-pub upheld-kept : (entries : List Entry) (watched : List (Option ℕ)) (idle unknown low : ℕ) (test : ℕ → Bool) (change : Entry → Entry) (news : List Entry)
+pub upheld-kept : (entries : List Entry) (watched : List (Option ℕ)) (marks low : Marks) (unknown : ℕ)
+    (test : ℕ → Bool) (change : Entry → Entry) (news : List Entry)
     → KeepsPosition change → KeepsLocks change → KeepsKnown change
-    → ((q : ℕ) → q < low → test q ≡ true → (e : Entry) → is_waiting e.state ≡ false → is_waiting (change e).state ≡ false) → low ≤ idle
-    → news ≡ with_change test change entries → IsKept news → IsUpheld entries watched idle unknown → IsUpheld news watched low unknown
-upheld-kept entries watched idle unknown low test change news keeps locks known still less is kept upheld =
-    upheld-changed entries watched idle unknown low unknown test change news keeps locks still less
+    → KeepsBelow is_waiting false test change entries low.idle → low.idle ≤ marks.idle
+    → KeepsBelow is_applied true test change entries low.whole → low.whole ≤ marks.whole
+    → news ≡ with_change test change entries → IsKept news
+    → IsUpheld entries watched marks unknown → IsUpheld news watched low unknown
+upheld-kept entries watched marks low unknown test change news keeps locks known idle less whole fewer is kept upheld =
+    upheld-changed entries watched marks low unknown unknown test change news keeps locks idle less whole fewer
     (upheld.unknowns ∙ (sym (unknown-same test change entries known) ∙ ap unknown_in (sym is))) is kept upheld
 
 -- and without the first entry
-pub upheld-rest : (first : Entry) (entries : List Entry) (watched rest : List (Option ℕ)) (idle unknown more : ℕ)
+pub upheld-rest : (first : Entry) (entries : List Entry) (watched rest : List (Option ℕ)) (marks : Marks) (unknown more : ℕ)
     → rest ≡ drop 1 watched → more + one_in first ≡ unknown
-    → IsUpheld (first ∷ entries) watched idle unknown → IsUpheld entries rest idle more
-upheld-rest first entries watched rest idle unknown more is less upheld =
+    → IsUpheld (first ∷ entries) watched marks unknown → IsUpheld entries rest marks more
+upheld-rest first entries watched rest marks unknown more is less upheld =
+    let row = upheld.kept.row in
     record {
       kept = kept-rest first entries upheld.kept;
-      watches = subst (AreWatched entries) (sym is) (watches-rest first entries upheld.kept.row watched upheld.watches);
-      none_waits = waits-rest first entries upheld.kept.row idle upheld.none_waits;
+      watches = subst (AreWatched entries) (sym is) (watches-rest first entries row watched upheld.watches);
+      marked = record {
+        none_waits = below-rest first entries row is_waiting false marks.idle upheld.marked.none_waits;
+        all_applied = below-rest first entries row is_applied true marks.whole upheld.marked.all_applied;
+      };
       unknowns = let counted = upheld.unknowns in let one = unknown-first first entries in omega arith;
     }

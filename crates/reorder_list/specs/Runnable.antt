@@ -20,9 +20,9 @@ pub record IsRunnable (entries : List Entry) (p : ℕ) : Type 0 where
   pub waits : entry.state ≡ Waiting
   pub ready : AllLetPass entries p entry
 
--- no entry from this position on is runnable
-abbrev pub NoneRunnable : List Entry → (from : ℕ) → Type 0
-NoneRunnable entries from = (q : ℕ) → from ≤ q → ¬ IsRunnable entries q
+-- no entry from the one position on and before the other is runnable
+abbrev pub NoneRunnable : List Entry → (from below : ℕ) → Type 0
+NoneRunnable entries from below = (q : ℕ) → from ≤ q → q < below → ¬ IsRunnable entries q
 
 -- the first entry from this position on that is runnable
 pub record IsFirstRunnable (entries : List Entry) (from p : ℕ) : Type 0 where

@@ -1,9 +1,11 @@
 -- What the list keeps so that it need not look at all entries for one that is runnable.
-use Rattle.std.specs.Prelude.{◌≡◌, ◌<◌, ℕ, Bool, false, not, ⊤, List, Option, Some, None, is_some, count_by}
+use Rattle.std.specs.Prelude.{◌≡◌, ◌<◌, ℕ, Bool, true, false, not, ⊤, List, Option, Some, None, is_some, count_by}
 use Rattle.std.specs.Option.{IsSomeAnd}
 use Rattle.std.specs.List.{AllZip}
 use Rattle.dependence.specs.Conflict.{Conflict}
 use Rattle.reorder_list.specs.declared.entry.Entry.{Entry}
+use Rattle.reorder_list.specs.declared.entry.State.{State}
+use Rattle.reorder_list.specs.declared.marks.Marks.{Marks}
 use Rattle.reorder_list.specs.Entries.{entry_at, is_waiting, is_applied}
 use Rattle.reorder_list.specs.Places.{IsKept}
 use Rattle.reorder_list.specs.Runnable.{AllLetPass}
@@ -33,9 +35,22 @@ StillWatched entries watch = IsSomeAnd watch (λ q. IsSomeAnd (entry_at entries 
 abbrev pub AreWatched : List Entry → List (Option ℕ) → Type 0
 AreWatched entries watched = AllZip (IsWatch entries) entries watched
 
+-- the test gives this answer of each entry before the position
+abbrev pub Below : (State → Bool) → Bool → List Entry → ℕ → Type 0
+Below test answer entries below = (q : ℕ) (e : Entry) → q < below → entry_at entries q ≡ Some e → test e.state ≡ answer
+
 -- no entry before the position waits
 abbrev pub NoneWaits : List Entry → ℕ → Type 0
-NoneWaits entries idle = (q : ℕ) (e : Entry) → q < idle → entry_at entries q ≡ Some e → is_waiting e.state ≡ false
+NoneWaits entries idle = Below is_waiting false entries idle
+
+-- each entry before the position is applied
+abbrev pub AllApplied : List Entry → ℕ → Type 0
+AllApplied entries whole = Below is_applied true entries whole
+
+-- no entry before the one mark waits, and each before the other is applied
+pub record AreMarks (entries : List Entry) (marks : Marks) : Type 0 where
+  pub none_waits : NoneWaits entries marks.idle
+  pub all_applied : AllApplied entries marks.whole
 
 -- of how many entries it is not known what the subthread touches
 abbrev pub is_unknown : Entry → Bool
@@ -44,9 +59,9 @@ is_unknown e = not (is_some e.foot)
 abbrev pub unknown_in : List Entry → ℕ
 unknown_in entries = count_by is_unknown entries
 
--- what is kept of the entries, of the positions that are watched, of the one before which none waits, and of how many are unknown
-pub record IsUpheld (entries : List Entry) (watched : List (Option ℕ)) (idle unknown : ℕ) : Type 0 where
+-- what is kept of the entries, of the positions that are watched, of the marks, and of how many are unknown
+pub record IsUpheld (entries : List Entry) (watched : List (Option ℕ)) (marks : Marks) (unknown : ℕ) : Type 0 where
   pub kept : IsKept entries
   pub watches : AreWatched entries watched
-  pub none_waits : NoneWaits entries idle
+  pub marked : AreMarks entries marks
   pub unknowns : unknown ≡ unknown_in entries

@@ -8,6 +8,7 @@
 
 mod entry;
 pub mod laws;
+mod marks;
 mod report;
 mod rol;
 mod search;

@@ -1,6 +1,6 @@
 // The list of entries from the oldest that has not retired.
 
-ghost use Rattle.std.specs.Prelude.{◌≡◌, ◌↔◌, ◌+◌, ◌<◌, ◌≤◌, ◌^◌, [], ◌∷◌, ◌++◌, IsTrue, OnOk, MatchOption, IfSome, IfNone, None, Some, length, min, slice_get, is_some};
+ghost use Rattle.std.specs.Prelude.{◌≡◌, ◌↔◌, ◌+◌, ◌<◌, ◌≤◌, ◌^◌, [], ◌∷◌, ◌++◌, IsTrue, OnOk, MatchOption, IfSome, IfNone, None, Some, length, slice_get, is_some};
 ghost use Rattle.std.specs.List.{list_any};
 ghost use Rattle.std.specs.Option.{IsSome, IsSomeAnd, option_copied};
 ghost use Rattle.reorder_list.specs.Entries.{ComesNext, IsFresh, AllKnown, is_applied, is_out_entry, lends, entry_at, with_change_at, out_entry, known_entry, applied_entry, raised_entry, histories_of};
@@ -8,7 +8,8 @@ ghost use Rattle.reorder_list.specs.Runnable.{IsRunnable, IsFirstRunnable, NoneR
 ghost use Rattle.reorder_list.specs.declared.entry.Entry.{Entry};
 ghost use Rattle.reorder_list.specs.declared.entry.State.TheVariants.{Out, Applied};
 
-use crate::search::{first_runnable, first_waiting, is_runnable, place_of};
+use crate::marks::Marks;
+use crate::search::{first_runnable, is_runnable, place_of};
 use crate::{Entry, State};
 use gp_base::{Footprint, Lines, Pos, Seq};
 use record_store::History;
@@ -23,8 +24,7 @@ pub struct Rol {
     entries: VecDeque<Entry>,
     // for each entry an earlier position in conflict with it by locks that was not applied when last looked for
     watched: VecDeque<Option<Pos>>,
-    // no entry before this position waits
-    idle: Pos,
+    marks: Marks,
     // of how many entries it is not known what the subthread touches
     unknown: usize,
 }
@@ -39,14 +39,7 @@ impl Model for Rol {
 
     ghost view = { λ r. record { entries = r.entries.items; spare = min (deque_capacity r.entries - deque_len r.entries) (deque_capacity r.watched - deque_len r.watched) } };
 
-    ghost invariant = { λ r. IsUpheld r.entries.items r.watched.items r.idle r.unknown };
-}
-
-// The earlier of two positions.
-fn earlier_of(a: Pos, b: Pos) -> Pos
-    ensures { result ≡ min a b }
-{
-    Pos(a.0.min(b.0))
+    ghost invariant = { λ r. IsUpheld r.entries.items r.watched.items r.marks r.unknown };
 }
 
 // The next attempt of an entry begins at this front and waits; the history of the last one is handed out.
@@ -108,7 +101,10 @@ impl Rol {
         Rol {
             entries: VecDeque::new(alloc),
             watched: VecDeque::new(alloc),
-            idle: Pos(0),
+            marks: Marks {
+                idle: Pos(0),
+                whole: Pos(0),
+            },
             unknown: 0,
         }
     }
@@ -160,7 +156,7 @@ impl Rol {
         ensures entries { self.new.entries ≡ self.old.entries ++ entry ∷ [] }
         ensures spare { self.old.spare ≤ self.new.spare + 1 }
     {
-        self.idle = earlier_of(self.idle, entry.pos);
+        self.marks = self.marks.lowered(entry.pos);
         self.unknown += 1;
         self.entries.push_back_reserved(entry);
         self.watched.push_back_reserved(None);
@@ -186,19 +182,21 @@ impl Rol {
         ensures { IsTrue result ↔ IsRunnable self.now.entries p }
     {
         match place_of(&self.entries, p) {
-            Some(place) => is_runnable(&self.entries, place),
+            Some(place) => is_runnable(&self.entries, place, self.marks.whole),
             None => false,
         }
     }
 
-    /// The first position from this one on whose entry is runnable. The list stays as it is.
-    pub fn next_runnable(&mut self, from: Pos) -> Option<Pos>
+    /// The first position from one on and before another whose entry is runnable. Looks at no entry from the other on. The
+    /// list stays as it is.
+    pub fn next_runnable(&mut self, from: Pos, below: Pos) -> Option<Pos>
         ensures found { IfSome result (λ p. IsFirstRunnable self.old.entries from p) }
-        ensures none { IfNone result (NoneRunnable self.old.entries from) }
+        ensures within { IfSome result (λ p. p < below) }
+        ensures none { IfNone result (NoneRunnable self.old.entries from below) }
         ensures same { self.new ≡ self.old }
     {
-        self.idle = first_waiting(&self.entries, self.idle);
-        first_runnable(&self.entries, &mut self.watched, from, self.idle)
+        self.marks = self.marks.raised(&self.entries);
+        first_runnable(&self.entries, &mut self.watched, self.marks, from, below)
     }
 
     /// The attempt of a position is out.
@@ -248,7 +246,7 @@ impl Rol {
         ensures spare { self.new.spare ≡ self.old.spare }
     {
         let place = place_of(&self.entries, p)?;
-        self.idle = earlier_of(self.idle, p);
+        self.marks = self.marks.lowered(p);
         raise_entry(alloc, &mut self.entries[place], front)
     }
 

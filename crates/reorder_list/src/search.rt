@@ -6,9 +6,10 @@ ghost use Rattle.dependence.specs.Conflict.{Conflict};
 ghost use Rattle.reorder_list.specs.Entries.{IsInRow, entry_at, first_position, is_applied};
 ghost use Rattle.reorder_list.specs.Places.{IsPlaceOf};
 ghost use Rattle.reorder_list.specs.Runnable.{LetsPass, IsRunnable, IsFirstRunnable, NoneRunnable};
-ghost use Rattle.reorder_list.specs.Watched.{HoldsUp, IsReady, StillWatched, AreWatched, NoneWaits};
+ghost use Rattle.reorder_list.specs.Watched.{HoldsUp, IsReady, StillWatched, AreWatched, NoneWaits, AllApplied, AreMarks};
 
 use crate::Entry;
+use crate::marks::Marks;
 use dependence::conflict;
 use gp_base::Pos;
 use std::collections::VecDeque;
@@ -55,15 +56,16 @@ fn blocks(earlier: &Entry, later: &Entry) -> bool
     !earlier.state.is_applied() && conflict(&earlier.locks, &later.locks)
 }
 
-// The first position before the one at a place that holds it up.
-fn blocker(entries: &VecDeque<Entry>, place: usize) -> Option<Pos>
+// The first position before the one at a place that holds it up, where each entry before another position is applied.
+fn blocker(entries: &VecDeque<Entry>, place: usize, whole: Pos) -> Option<Pos>
     requires in_row { IsInRow entries.now.items }
     requires in_range { place < length entries.now.items }
+    requires all_applied { AllApplied entries.now.items whole }
     ensures none { IfNone result (IsReady entries.now.items (first_position entries.now.items + place)) }
     ensures some { IfSome result (λ q. HoldsUp entries.now.items q (first_position entries.now.items + place)) }
 {
     let entry = &entries[place];
-    for earlier in 0..place {
+    for earlier in place_from(entries, whole)..place {
         let before = &entries[earlier];
         if blocks(before, entry) {
             return Some(before.pos);
@@ -72,13 +74,15 @@ fn blocker(entries: &VecDeque<Entry>, place: usize) -> Option<Pos>
     None
 }
 
-/// Whether the entry at a place waits and each earlier one in conflict with it by locks is applied.
-pub fn is_runnable(entries: &VecDeque<Entry>, place: usize) -> bool
+/// Whether the entry at a place waits and each earlier one in conflict with it by locks is applied. Looks at no entry
+/// before the position before which each is applied.
+pub fn is_runnable(entries: &VecDeque<Entry>, place: usize, whole: Pos) -> bool
     requires in_row { IsInRow entries.now.items }
     requires in_range { place < length entries.now.items }
+    requires all_applied { AllApplied entries.now.items whole }
     ensures { IsTrue result ↔ IsRunnable entries.now.items (first_position entries.now.items + place) }
 {
-    entries[place].state.is_waiting() && blocker(entries, place).is_none()
+    entries[place].state.is_waiting() && blocker(entries, place, whole).is_none()
 }
 
 // Whether the entry of the position that is watched is still not applied.
@@ -97,9 +101,15 @@ fn is_blocked(entries: &VecDeque<Entry>, watch: Option<Pos>) -> bool
 
 // Whether the entry at a place is runnable. Looks for another position that holds it up only where the one that is
 // watched does so no longer.
-fn is_ready(entries: &VecDeque<Entry>, watched: &mut VecDeque<Option<Pos>>, place: usize) -> bool
+fn is_ready(
+    entries: &VecDeque<Entry>,
+    watched: &mut VecDeque<Option<Pos>>,
+    place: usize,
+    whole: Pos,
+) -> bool
     requires in_row { IsInRow entries.now.items }
     requires in_range { place < length entries.now.items }
+    requires all_applied { AllApplied entries.now.items whole }
     requires watches { AreWatched entries.now.items watched.old.items }
     ensures runnable { IsTrue result ↔ IsRunnable entries.now.items (first_position entries.now.items + place) }
     ensures watches { AreWatched entries.now.items watched.new.items }
@@ -112,7 +122,7 @@ fn is_ready(entries: &VecDeque<Entry>, watched: &mut VecDeque<Option<Pos>>, plac
     if is_blocked(entries, watched[place]) {
         return false;
     }
-    let found = blocker(entries, place);
+    let found = blocker(entries, place, whole);
     watched[place] = found;
     found.is_none()
 }
@@ -133,25 +143,45 @@ pub fn first_waiting(entries: &VecDeque<Entry>, idle: Pos) -> Pos
     first
 }
 
-/// The first position from one on whose entry is runnable, where no entry waits before another one.
+/// A position before which each entry is applied, from one that is so on: that of the first entry that is not applied, or
+/// of the last.
+pub fn first_unapplied(entries: &VecDeque<Entry>, whole: Pos) -> Pos
+    requires in_row { IsInRow entries.now.items }
+    requires all_applied { AllApplied entries.now.items whole }
+    ensures { AllApplied entries.now.items result }
+{
+    let mut first = whole;
+    for place in place_from(entries, whole)..entries.len() {
+        first = entries[place].pos;
+        if !entries[place].state.is_applied() {
+            return first;
+        }
+    }
+    first
+}
+
+/// The first position from one on and before another whose entry is runnable.
 pub fn first_runnable(
     entries: &VecDeque<Entry>,
     watched: &mut VecDeque<Option<Pos>>,
+    marks: Marks,
     from: Pos,
-    idle: Pos,
+    below: Pos,
 ) -> Option<Pos>
     requires in_row { IsInRow entries.now.items }
     requires watches { AreWatched entries.now.items watched.old.items }
-    requires none_waits { NoneWaits entries.now.items idle }
+    requires marks { AreMarks entries.now.items marks }
     ensures found { IfSome result (λ p. IsFirstRunnable entries.now.items from p) }
-    ensures none { IfNone result (NoneRunnable entries.now.items from) }
+    ensures within { IfSome result (λ p. p < below) }
+    ensures none { IfNone result (NoneRunnable entries.now.items from below) }
     ensures watches { AreWatched entries.now.items watched.new.items }
     ensures len { deque_len watched.new ≡ deque_len watched.old }
     ensures capacity { deque_capacity watched.new ≡ deque_capacity watched.old }
 {
-    let start = Pos(from.0.max(idle.0));
-    for place in place_from(entries, start)..entries.len() {
-        if is_ready(entries, watched, place) {
+    let start = Pos(from.0.max(marks.idle.0));
+    let end = place_from(entries, below);
+    for place in place_from(entries, start)..end {
+        if is_ready(entries, watched, place, marks.whole) {
             return Some(entries[place].pos);
         }
     }

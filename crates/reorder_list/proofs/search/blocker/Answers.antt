@@ -3,11 +3,13 @@ use Rattle.dependence.specs.Conflict.{Conflict}
 use Rattle.reorder_list.specs.declared.entry.Entry.{Entry}
 use Rattle.reorder_list.specs.Entries.{first_position, entry_at}
 use Rattle.reorder_list.specs.Runnable.{AllLetPass}
-use Rattle.reorder_list.proofs.Readiness.{let-pass-more, one-entry, pass-first, read-there, read-position}
+use Rattle.reorder_list.proofs.Readiness.{let-pass-more, one-entry, read-there, read-position}
+use Rattle.reorder_list.proofs.Watching.{pass-applied}
 use Rattle.reorder_list.proofs.search.blocker.Goals as goal
 
 pub loop-earlier-init : goal.loop-earlier-init
-loop-earlier-init c = pass-first c.args.entries.now.items c.index-entry.result.now c.requires.in_row
+loop-earlier-init c =
+    pass-applied c.args.entries.now.items c.args.whole c.place_from-earlier.result c.index-entry.result.now c.requires.in_row c.place_from-earlier.ensures.before c.requires.all_applied
 
 pub returns-then-blocks-clause-some : goal.returns-then-blocks-clause-some
 returns-then-blocks-clause-some c =

@@ -14,11 +14,18 @@ raise_entry-requires c =
 
 pub invariant_of-self : goal.invariant_of-self
 invariant_of-self c =
-    let low = c.earlier_of-self-inside.ensures in
-    upheld-kept c.self.inside.entries.items c.self.inside.watched.items c.self.inside.idle c.self.inside.unknown c.earlier_of-self-inside.result (λ q. nat_eq q c.args.p) (raised_entry c.args.front) _ (λ e. refl) (λ e. refl) (λ e. refl)
-    (λ q l is e w. absurd (let same = eqb-true q c.args.p is in omega arith)) (omega arith)
-    (changed-entries c.self.inside.entries.items c.self.invariant.kept c.args.p c.in_ok-place.place c.in_ok-place.ensures c.index_mut.result.now c.index_mut.ensures.value (raised_entry c.args.front) c.raise_entry.new.entry c.raise_entry.ensures.entry)
-    (changed-kept c.self.inside.entries.items c.self.invariant.kept c.args.p c.in_ok-place.place c.in_ok-place.ensures c.index_mut.result.now c.index_mut.ensures.value (raised_entry c.args.front)
+    let entries = c.self.inside.entries.items in
+    let kept = c.self.invariant.kept in
+    let place = c.in_ok-place.place in
+    let old = c.index_mut.result.now in
+    let idle = c.lowered-self-inside.ensures.idle in
+    let whole = c.lowered-self-inside.ensures.whole in
+    upheld-kept entries c.self.inside.watched.items c.self.inside.marks c.lowered-self-inside.result c.self.inside.unknown
+    (λ q. nat_eq q c.args.p) (raised_entry c.args.front) _ (λ e. refl) (λ e. refl) (λ e. refl)
+    (λ q l is e here was. absurd (let same = eqb-true q c.args.p is in omega arith)) (omega arith)
+    (λ q l is e here was. absurd (let same = eqb-true q c.args.p is in omega arith)) (omega arith)
+    (changed-entries entries kept c.args.p place c.in_ok-place.ensures old c.index_mut.ensures.value (raised_entry c.args.front) c.raise_entry.new.entry c.raise_entry.ensures.entry)
+    (changed-kept entries kept c.args.p place c.in_ok-place.ensures old c.index_mut.ensures.value (raised_entry c.args.front)
     c.raise_entry.new.entry c.raise_entry.ensures.entry refl (λ some. some))
     c.self.invariant
 
