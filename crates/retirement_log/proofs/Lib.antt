@@ -1,0 +1,4 @@
+pub mod Cells
+pub mod LogRows
+pub mod Placed
+pub mod Told

@@ -1,0 +1,4 @@
+pub mod Laws
+pub mod Log
+pub mod Rows
+pub mod Telling
