@@ -3,17 +3,66 @@ ghost use Rattle.std.specs.Prelude.{◌≡◌, [], IfOk, OnOk};
 ghost use Rattle.std.specs.Io.KnownBytes.{Appends};
 ghost use Rattle.subthread.specs.Tasks.{Suits};
 ghost use Rattle.restart_log.specs.Lines.{printed};
-ghost use Rattle.whole_run.specs.Drive.{journal_in, JournalStands, ReportsRun, all_lines, WritesRetired, HasRunCause, ArePosts, IsUntaken, RanOut};
+ghost use Rattle.whole_run.specs.Drive.{journal_in, JournalStands, ReportsRun, all_lines, WritesRetired, HasRunCause, HasRunCauses, ArePosts, IsUntaken, RanOut};
+ghost use Rattle.whole_run.specs.Notes.{NotesRun};
 ghost use Rattle.engine.specs.Drive.{batch_of};
 
-use crew::Crew;
-use gp_base::{Faults, Inputs, Limits, Sink};
+use crew::{Crew, NoNotes, Notes};
+use gp_base::{Faults, Inputs, Limits, NeverSink, Sink};
 use reorder_list::{EngineStop, Report};
 use std::alloc::Global;
 use std::thread::Threads;
 use subthread::Work;
 use task_ast::Layout;
 use whole_run::{Recovery, drive_by};
+
+/// Runs a batch as `drive` does, and has notes taken of it: what is applied is noted, and each position that retires is told to
+/// `log` once its lines are written, with what its subthread leaves in the plain run. Where the run stops, a part of the last
+/// one may be missing. A fault of the log stops the run as one of the output does.
+pub fn drive_noted<R: Threads + Sync, C: Crew, O: Sink, N: Notes, L: Sink>(
+    rt: &R,
+    alloc: Global,
+    w: &Work,
+    layout: Layout,
+    inputs: Inputs,
+    faults: Faults,
+    limits: Limits,
+    crew: &mut C,
+    out: &mut O,
+    notes: &mut N,
+    log: &mut L,
+) -> Result<Report, EngineStop>
+    requires suits { Suits w.now layout inputs limits }
+    requires ready { C.ready crew.old }
+    requires work { C.work crew.old ≡ w.now }
+    requires none_out { C.out crew.old ≡ [] }
+    requires none_posted { C.posted crew.old ≡ [] }
+    ensures journal { JournalStands (batch_of w.now inputs limits faults) (journal_in result) }
+    ensures report { IfOk result (ReportsRun (batch_of w.now inputs limits faults)) }
+    ensures lines { OnOk result (Appends (O.written out.old) (O.written out.new) (printed (all_lines (batch_of w.now inputs limits faults)))) }
+    ensures partly { WritesRetired (batch_of w.now inputs limits faults) (O.written out.old) (O.written out.new) (journal_in result) }
+    ensures cause { HasRunCauses (O.faults out.old) (O.faults out.new) (L.faults log.old) (L.faults log.new) result }
+    ensures notes { NotesRun (N.tells notes.old) (N.tells notes.new) N.part (batch_of w.now inputs limits faults) (L.written log.old) (L.written log.new) result }
+    ensures ready { C.ready crew.new }
+    ensures work { C.work crew.new ≡ C.work crew.old }
+    ensures posts { ArePosts (C.posted crew.new) (journal_in result) }
+    ensures out { ¬ RanOut result → IsUntaken (C.out crew.new) (journal_in result) }
+{
+    drive_by(
+        rt,
+        alloc,
+        Recovery::Selective,
+        w,
+        layout,
+        inputs,
+        faults,
+        limits,
+        crew,
+        out,
+        notes,
+        log,
+    )
+}
 
 /// Runs a batch with a crew, which has not been posted to, and writes the printed lines to `out`: at the end exactly
 /// those of the plain run. Nothing else is written. Where the output takes no more or memory is out, the run stops: all
@@ -45,10 +94,11 @@ pub fn drive<R: Threads + Sync, C: Crew, O: Sink>(
     ensures posts { ArePosts (C.posted crew.new) (journal_in result) }
     ensures out { ¬ RanOut result → IsUntaken (C.out crew.new) (journal_in result) }
 {
-    drive_by(
+    let mut notes = NoNotes;
+    let mut nobody = NeverSink::new();
+    drive_noted(
         rt,
         alloc,
-        Recovery::Selective,
         w,
         layout,
         inputs,
@@ -56,5 +106,7 @@ pub fn drive<R: Threads + Sync, C: Crew, O: Sink>(
         limits,
         crew,
         out,
+        &mut notes,
+        &mut nobody,
     )
 }

@@ -4,5 +4,5 @@
 
 mod driver;
 
-pub use driver::drive;
+pub use driver::{drive, drive_noted};
 pub use reorder_list::{EngineStop, Report, StopWhy};

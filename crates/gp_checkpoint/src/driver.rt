@@ -6,8 +6,8 @@ ghost use Rattle.restart_log.specs.Lines.{printed};
 ghost use Rattle.whole_run.specs.Drive.{journal_in, JournalStands, ReportsRun, all_lines, WritesRetired, HasRunCause, ArePosts, IsUntaken, RanOut};
 ghost use Rattle.gp_checkpoint.specs.Drive.{batch_of};
 
-use crew::Crew;
-use gp_base::{Faults, Inputs, Limits, Sink};
+use crew::{Crew, NoNotes};
+use gp_base::{Faults, Inputs, Limits, NeverSink, Sink};
 use reorder_list::{EngineStop, Report};
 use std::alloc::Global;
 use std::thread::Threads;
@@ -48,6 +48,8 @@ pub fn ckpt_drive<R: Threads + Sync, C: Crew, O: Sink>(
     ensures posts { ArePosts (C.posted crew.new) (journal_in result) }
     ensures out { ¬ RanOut result → IsUntaken (C.out crew.new) (journal_in result) }
 {
+    let mut notes = NoNotes;
+    let mut nobody = NeverSink::new();
     drive_by(
         rt,
         alloc,
@@ -59,5 +61,7 @@ pub fn ckpt_drive<R: Threads + Sync, C: Crew, O: Sink>(
         limits,
         crew,
         out,
+        &mut notes,
+        &mut nobody,
     )
 }

@@ -1,5 +1,6 @@
--- Whether the block of a position is open, as it is counted how many positions are applied before the first that is not.
-use Rattle.std.proofs.Common.{◌≡◌, ◌↔◌, inl, inr, ℕ, ◌<◌, ◌≤◌, true, List, refl, sym, ◌∙◌, arith}
+-- Whether the block of a position is open and whether it is looked at, as it is counted how many positions are applied before the first that is
+-- not.
+use Rattle.std.proofs.Common.{◌≡◌, ◌↔◌, inl, inr, ℕ, ◌+◌, ◌<◌, ◌≤◌, true, List, refl, sym, ◌∙◌, arith}
 use Rattle.std.proofs.lemmas.Bool.{cases_lt, leb-true, le-leb, false≢true}
 use Rattle.gp_base.specs.declared.fault.Fault.{Fault}
 use Rattle.task_ast.specs.State.{State}
@@ -14,9 +15,10 @@ use Rattle.record_store.specs.Stored.{Stored}
 use Rattle.reorder_list.specs.declared.entry.Entry.{Entry}
 use Rattle.whole_run.specs.declared.recovery.Recovery.{Recovery}
 use Rattle.whole_run.specs.declared.recovery.Recovery.TheVariants.{Selective, Rollback}
+use Rattle.whole_run.specs.declared.parts.closing.TheConstants.{WINDOW}
 use Rattle.whole_run.specs.declared.parts.backing.Backup.{Backup}
-use Rattle.whole_run.specs.Gives.{BlockIsOpen}
-use Rattle.whole_run.specs.inner.Backed.{is_open, BackedBy, StandsBy}
+use Rattle.whole_run.specs.Gives.{BlockIsOpen, IsNear}
+use Rattle.whole_run.specs.inner.Backed.{is_open, window_end, BackedBy, StandsBy}
 
 -- the block of an earlier position is open where that of a later one is
 pub open-earlier : (recovery : Recovery) (run : List Subthread) (at : Stage) (p q : ℕ) → p ≤ q → BlockIsOpen recovery run at q
@@ -44,3 +46,13 @@ open-is (Rollback every) run faults start at entries store backup stands backed 
       | inl short ↦ absurd (false≢true (sym backed.whole.next ∙ whole.0 all backup.whole short))
       | inr within ↦ le-leb (multiple_at every p) backup.whole within
     ]
+
+-- a position that is looked at is before the end of the window, by the same count
+pub near-within : (recovery : Recovery) (run : List Subthread) (faults : List Fault) (start : State) (at : Stage) (entries : List Entry)
+    (store : Stored) (backup : Backup) → BackedBy run faults start recovery at entries store backup
+    → (p : ℕ) → p < 4294967295 → IsNear recovery at p → p < window_end recovery backup.whole
+near-within Selective run faults start at entries store backup backed p few near = few
+near-within (Rollback every) run faults start at entries store backup backed p few near = elim (cases_lt p (backup.whole + WINDOW)) [
+  | inl within ↦ omega arith
+  | inr far ↦ absurd (false≢true (sym backed.whole.next ∙ near backup.whole far))
+]

@@ -1,7 +1,9 @@
 -- What may be posted next, and what is reported, over the entries and the store.
-use Rattle.std.proofs.Common.{◌≡◌, ◌↔◌, inl, inr, ℕ, ◌≤◌, true, false, length, map, sym, ap, ◌∙◌, arith}
+use Rattle.std.proofs.Common.{◌≡◌, ◌↔◌, inl, inr, ℕ, ◌<◌, ◌≤◌, true, false, length, map, sym, ap, ◌∙◌, arith}
 use Rattle.std.proofs.lemmas.Bool.{cases_lt, false≢true}
 use Rattle.task_ast.specs.State.{cell_value}
+use Rattle.task_ast.specs.Plain.{tree_machine}
+use Rattle.task_ast.proofs.PlainRuns.{count_law}
 use Rattle.task_ast.specs.Names.{records_of, cells_in}
 use Rattle.task_ast.specs.Table.{numbers}
 use Rattle.dependence.specs.Journal.{Stage, MayPost}
@@ -15,13 +17,13 @@ use Rattle.reorder_list.specs.Runnable.{IsRunnable, IsFirstRunnable, NoneRunnabl
 use Rattle.reorder_list.proofs.Staged.{may-post, is-runnable}
 use Rattle.whole_run.specs.declared.parts.Parts.{Parts}
 use Rattle.whole_run.specs.View.{Batch, program_in, run_in, dependence_in, start_in, state_in}
-use Rattle.whole_run.specs.Gives.{BlockIsOpen, MayPostNow, IsNextToPost, NoneToPost}
-use Rattle.whole_run.specs.inner.Backed.{is_open, StandsBy}
+use Rattle.whole_run.specs.Gives.{BlockIsOpen, IsNear, MayPostNow, IsNextToPost, NoneToPost}
+use Rattle.whole_run.specs.inner.Backed.{is_open, window_end, StandsBy}
 use Rattle.whole_run.specs.inner.Kept.{view_of, stage_of, Kept}
 use Rattle.whole_run.proofs.Backings.{backed-state}
 use Rattle.whole_run.proofs.Events.{redoes-struck}
 use Rattle.whole_run.proofs.Kepts.{stands_by, stage_stands}
-use Rattle.whole_run.proofs.BlockCounts.{open-is, open-earlier}
+use Rattle.whole_run.proofs.BlockCounts.{open-is, open-earlier, near-within}
 use Rattle.whole_run.proofs.Recoverings.{lawful-plain}
 
 module _ (batch : Batch) (parts : Parts) (kept : Kept batch parts) where
@@ -65,7 +67,7 @@ module _ (batch : Batch) (parts : Parts) (kept : Kept batch parts) where
   -- and where it is not, none may be: the block of a later one is open only where this one is
   pub next-closed : (from p : ℕ) → IsFirstRunnable parts.rol.entries from p → is_open batch.recovery parts.backup.whole p ≡ false
       → NoneToPost (view_of batch parts) from
-  next-closed from p first closed q later may =
+  next-closed from p first closed q later near may =
       elim (cases_lt q p) [
         | inl before ↦ first.first q later before (runs q may)
         | inr behind ↦
@@ -73,8 +75,25 @@ module _ (batch : Batch) (parts : Parts) (kept : Kept batch parts) where
             ∙ (open-there p (posted-by-locks p first.runnable)).1 (open-earlier batch.recovery (run_in batch) at p q behind may.is_open))
       ]
 
-  pub next-none : (from : ℕ) → NoneRunnable parts.rol.entries from → NoneToPost (view_of batch parts) from
-  next-none from none q later may = none q later (runs q may)
+  -- no position has the greatest number
+  numbered : (p : ℕ) → p < at.progress.front → p < 4294967295
+  numbered p issued =
+      let low = stage.front_low in
+      let most = count_law (tree_machine (program_in batch) batch.inputs batch.limits) (program_in batch) batch.inputs batch.limits in
+      let few = kept.fit.few in
+      omega arith
+
+  -- so one that is looked at and was issued is before the end of the window
+  in-window : (p : ℕ) → p < at.progress.front → IsNear batch.recovery at p → p < window_end batch.recovery parts.backup.whole
+  in-window p issued near =
+      near-within batch.recovery (run_in batch) batch.faults (start_in batch) at parts.rol.entries parts.store parts.backup
+      kept.window.backed p (numbered p issued) near
+
+  -- where none before it is runnable, none of those that are looked at may be posted
+  pub next-none : (from below : ℕ) → below ≡ window_end batch.recovery parts.backup.whole → NoneRunnable parts.rol.entries from below
+      → NoneToPost (view_of batch parts) from
+  next-none from below is none q later near may =
+      none q later (let low = in-window q may.by_locks.issued near in omega arith) (runs q may)
 
   -- the cells of the store are those of its state
   pub records-are : parts.store.cells

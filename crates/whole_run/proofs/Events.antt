@@ -59,7 +59,7 @@ module _ (view : View) (e : Event) (stands : Stands view)
   grown-stands : HasWaited view.batch.recovery (run_in view.batch) (now view) e → Stands (grown view e)
   grown-stands waited =
       record {
-        accepted = stands.accepted;
+        suits = stands.suits;
         short = stands.short;
         lawful = lawful-push (run_in view.batch) view.batch.faults view.batch.recovery view.events e stands.lawful allowed;
         ready = subst (OutReady (locks_in view.batch)) (sym (now-grown view e))
@@ -107,7 +107,7 @@ learnt-onward before after halts stands same is_halt =
     subst (Onward before) (sym same)
     (record {
       batch = refl;
-      stands = record { accepted = stands.accepted; short = stands.short; lawful = stands.lawful; ready = stands.ready; ended = is_halt };
+      stands = record { suits = stands.suits; short = stands.short; lawful = stands.lawful; ready = stands.ready; ended = is_halt };
       moved = inr (record { events = refl; known = λ known. refl });
     })
 

@@ -2,6 +2,7 @@ pub mod AllHome
 pub mod Beginning
 pub mod BlockCounts
 pub mod BlockOpened
+pub mod Causes
 pub mod CheckpointLists
 pub mod Checkpoints
 pub mod Closed
@@ -25,6 +26,8 @@ pub mod Options
 pub mod Outcomes
 pub mod Posted
 pub mod Progress
+pub mod LeftAt
+pub mod Noting
 pub mod Ready
 pub mod Recoverings
 pub mod Backings

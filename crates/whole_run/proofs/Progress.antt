@@ -26,7 +26,7 @@ use Rattle.whole_run.specs.Recovering.{recovering, LawfulBy, CompleteBy}
 use Rattle.whole_run.specs.declared.calls.Halt.{Halt}
 use Rattle.whole_run.specs.declared.calls.Halt.TheVariants as halt
 use Rattle.whole_run.specs.View.{Batch, View, run_in, dependence_in, end_in, now, is_known, IsHalt, Stands}
-use Rattle.whole_run.specs.Gives.{struck_now, BlockIsOpen, NoneToPost, HasFinished}
+use Rattle.whole_run.specs.Gives.{struck_now, BlockIsOpen, IsNear, NoneToPost, HasFinished}
 use Rattle.whole_run.specs.inner.Rounds.{left, left_to_know, Rests, Onward, IsQuiet, IsIssued, AreTaken, TakeGives}
 use Rattle.whole_run.proofs.Events.{stage-stands, now-same, left-same, onward-most}
 
@@ -71,6 +71,11 @@ block-open Selective run at p earlier = tt
 block-open (Rollback every) run at p earlier =
     λ q l. earlier q (let low = cut-low (cuts_of every run) p in omega arith)
 
+-- and the position is looked at
+near-first : (recovery : Recovery) (at : Stage) (p : ℕ) → ((q : ℕ) → q < p → at.applied q ≡ true) → IsNear recovery at p
+near-first Selective at p earlier = tt
+near-first (Rollback every) at p earlier = λ q far. earlier q (omega arith)
+
 -- where nothing is out and nothing may be posted, each position below the front is applied
 module _ (view : View) (stands : Stands view) (none : NoneToPost view 0) (home : AreTaken view) where
   was-posted : (p : ℕ) → (now view).retired ≤ p → p < (now view).progress.front → ((q : ℕ) → q < p → (now view).applied q ≡ true)
@@ -85,7 +90,7 @@ module _ (view : View) (stands : Stands view) (none : NoneToPost view 0) (home :
           → Contains (now view).posted (p, present (now view) p)
       go true e = decided.0 e
       go false e =
-          absurd (none p (omega arith)
+          absurd (none p (omega arith) (near-first view.batch.recovery (now view) p earlier)
           (record {
             by_locks = record {
               issued = below;

@@ -19,10 +19,10 @@ use Rattle.whole_run.specs.declared.parts.Parts.{Parts}
 use Rattle.whole_run.specs.declared.parts.backing.Backup.{Backup}
 use Rattle.whole_run.specs.declared.calls.Halt.{Halt}
 use Rattle.whole_run.specs.Recovering.{AllowedBy}
-use Rattle.whole_run.specs.View.{Batch, View, now, program_in, run_in, dependence_in, start_in, lines_of, lines_at}
+use Rattle.whole_run.specs.View.{Batch, View, grown, now, program_in, run_in, dependence_in, start_in, lines_of, lines_at}
 use Rattle.reorder_list.specs.declared.report.StopWhy.{StopWhy}
 use Rattle.restart_log.specs.Lines.{printed}
-use Rattle.whole_run.specs.Gives.{MayRetireNow, RetireWrites}
+use Rattle.whole_run.specs.Gives.{Did, MayRetireNow, RetireGives, RetireWrites}
 use Rattle.whole_run.specs.inner.Kept.{view_of, stage_of, IsPlaceIn, IsEnd, WindowStands, Keeps, Kept}
 use Rattle.whole_run.specs.inner.Backed.{StandsBy}
 use Rattle.whole_run.specs.inner.Backing.{DropsBefore}
@@ -53,7 +53,7 @@ none-written None bytes = (0, tt)
 none-written (Some xs) bytes = (0, sym (append-nil xs))
 
 -- after an error a part was written
-pub err-writes : (view : View) (before after : Option (List ℕ)) (result : Result Bool StopWhy) → IsErr result
+pub err-writes : (view : View) (before after : Option (List ℕ)) (result : Result (Option ℕ) StopWhy) → IsErr result
     → AppendsPrefix before after (printed (lines_at view.batch (now view).retired))
     → RetireWrites view before after result
 err-writes view before after (Err why) is part = part
@@ -158,6 +158,15 @@ module _ (batch : Batch) (parts : Parts) (kept : Kept batch parts) where
       oldest_applied : e.state ≡ entry.Applied
       oldest_applied =
           (oldest-is (run_in batch) at (e ∷ others) e window.entries_are refl).0.applied.1 (may-now true_is).applied
+
+      pub gives : (after : View) → after ≡ grown (view_of batch parts) (event.Retire at.retired)
+          → RetireGives (view_of batch parts) after (Some e.pos)
+      gives after grown_is = (
+        position,
+        subst (λ p. Did (view_of batch parts) (event.Retire p) after) (sym position)
+            (record { allowed = allowed; waited = tt; grown = grown_is }),
+        may-now true_is,
+      )
 
       pub made : (before events : List Event) → before ≡ parts.events.items → events ≡ before ++ event.Retire e.pos ∷ []
           → events ≡ parts.events.items ++ event.Retire at.retired ∷ []

@@ -123,10 +123,10 @@ module _ (run : List Subthread) (faults : List Fault) (start : State) (cells : H
 
 -- the locks lie apart, and each subthread keeps to its own
 locks-apart : (view : View) → Stands view → IsApart (under_in view.batch)
-locks-apart view stands = laid_law (program_in view.batch).heads (accepted_sizes (program_in view.batch) stands.accepted)
+locks-apart view stands = laid_law (program_in view.batch).heads (accepted_sizes (program_in view.batch) stands.suits.code.accepted)
 
 names-held : (view : View) → Stands view → NamesHeld (under_in view.batch) (run_in view.batch)
-names-held view stands = sound (program_in view.batch) view.batch.inputs view.batch.limits stands.accepted
+names-held view stands = sound (program_in view.batch) view.batch.inputs view.batch.limits stands.suits.code.accepted
 
 map-same : {A B : Type 0} (f g : A → B) (xs : List A) → ((x : A) → Contains xs x → f x ≡ g x) → map f xs ≡ map g xs
 map-same f g [] same = refl

@@ -152,21 +152,25 @@ struck-kept before after e did progress ended =
     still = ap (λ (at : Stage). at.progress) (now-grown before e) ∙ progress
 
 -- a retirement
-pub retired : (before after : View) (b : Bool) → Stands before → RetireGives before after b → GoesOn before after
-retired before after true stands gives =
-    let did = gives.0 in
-    let e = event.Retire (now before).retired in
+pub retired : (before after : View) (answer : Option ℕ) → Stands before → RetireGives before after answer → GoesOn before after
+retired before after (Some p) stands gives =
+    let did = gives.1 in
+    let e = event.Retire p in
     let at = now-did before after e did in
     record {
       onward = did-onward before after e stands did;
       crew = crew-alone before after e stands did (ap (λ at. at.posted) at) (ap (λ at. at.taken) at);
     }
-retired before after false stands gives = goes-same before after stands gives.0
+retired before after None stands gives = goes-same before after stands gives.0
 
-pub retired-leaves : (before after : View) → Stands before → RetireGives before after true → left after < left before
-retired-leaves before after stands gives = did-leaves before after (event.Retire (now before).retired) stands gives.0
+pub retired-leaves : (before after : View) (p : ℕ) → Stands before → RetireGives before after (Some p) → left after < left before
+retired-leaves before after p stands gives = did-leaves before after (event.Retire p) stands gives.1
 
-pub retired-quiet : (before after : View) → struck_now before ≡ None → RetireGives before after false → IsQuiet after
+-- what retires is the oldest position
+pub retired-oldest : (before after : View) (p : ℕ) → RetireGives before after (Some p) → Did before (event.Retire (now before).retired) after
+retired-oldest before after p gives = subst (λ q. Did before (event.Retire q) after) gives.0 gives.1
+
+pub retired-quiet : (before after : View) → struck_now before ≡ None → RetireGives before after None → IsQuiet after
 retired-quiet before after none gives =
     record { none_struck = ap struck_now gives.0 ∙ none; none_retires = subst (λ v. ¬ MayRetireNow v) (sym gives.0) gives.1 }
 
@@ -273,7 +277,7 @@ none-yet before after from p none next did q l may =
     elim (cases_lt q from) [ inl old ↦ none q old h.0 | inr young ↦ next.first q young l h.0 ]
 
 pub none-at_all : (view : View) (from : ℕ) → NoneBefore view from → NoneToPost view from → NoneToPost view 0
-none-at_all view from none rest q l may = elim (cases_lt q from) [ inl old ↦ none q old may | inr young ↦ rest q young may ]
+none-at_all view from none rest q l near may = elim (cases_lt q from) [ inl old ↦ none q old may | inr young ↦ rest q young near may ]
 
 -- a count that rose later rose
 pub rose-later : (first second third : ℕ) → first ≤ second → Rose second third → Rose first third

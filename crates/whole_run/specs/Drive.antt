@@ -1,5 +1,5 @@
 -- What a whole run leaves.
-use Rattle.std.specs.Prelude.{◌≡◌, ℕ, ◌-◌, ◌≤◌, ℤ, List, ◌++◌, length, take, map, flat_map, count_by, Option, Result, Ok, Err, IfErr}
+use Rattle.std.specs.Prelude.{◌≡◌, ◌⊎◌, ℕ, ◌-◌, ◌≤◌, ℤ, List, ◌++◌, length, take, map, flat_map, count_by, Option, Result, Ok, Err, IfErr}
 use Rattle.std.specs.Io.KnownBytes.{Appends}
 use Rattle.gp_base.specs.declared.limits.Limits.{Limits}
 use Rattle.gp_base.specs.declared.feed.Inputs.{Inputs}
@@ -69,6 +69,12 @@ pub record WritesRetired (batch : Batch) (before after : Option (List ℕ)) (jou
 pub record HasRunCause (before after : ℕ) (result : Result Report EngineStop) : Type 0 where
   pub later : before ≤ after
   pub failed : IfErr result (λ stop. stop.why ≡ WriteFault → Rose before after)
+
+-- the same of the sink of the lines and of that of the log: one of their counts rose
+pub record HasRunCauses (before after before' after' : ℕ) (result : Result Report EngineStop) : Type 0 where
+  pub later : before ≤ after
+  pub later' : before' ≤ after'
+  pub failed : IfErr result (λ stop. stop.why ≡ WriteFault → Rose before after ⊎ Rose before' after')
 
 -- all posts were to this crew, in order
 abbrev pub ArePosts : (posted : List (ℕ × ℕ)) → Journal → Type 0

@@ -34,6 +34,7 @@ use Rattle.whole_run.specs.declared.recovery.Recovery.{Recovery}
 use Rattle.whole_run.specs.declared.recovery.Recovery.TheVariants.{Selective, Rollback}
 use Rattle.whole_run.specs.Recovering.{AllowedBy}
 use Rattle.whole_run.specs.inner.RingStands.{IsLearnt}
+use Rattle.whole_run.specs.declared.parts.closing.TheConstants.{WINDOW}
 use Rattle.whole_run.specs.declared.calls.Issued.{Issued}
 use Rattle.whole_run.specs.declared.calls.Issued.TheVariants.{One, Needs, Settles, Ended}
 use Rattle.whole_run.specs.declared.calls.Halt.TheVariants as halt
@@ -152,20 +153,26 @@ pub record MayRetireNow (view : View) : Type 0 where
   pub safe : IsSafeBy view.batch.recovery (now view) ⊎ ((is_known view ≡ true) × NoneLive view.batch.faults (now view).progress)
 
 -- the oldest position retired, or may not retire
-abbrev pub RetireGives : (before after : View) → Bool → Type 0
-RetireGives before after true = Did before (event.Retire (now before).retired) after × MayRetireNow before
-RetireGives before after false = (after ≡ before) × ¬ MayRetireNow before
+abbrev pub RetireGives : (before after : View) → Option ℕ → Type 0
+RetireGives before after (Some p) = (p ≡ (now before).retired) × Did before (event.Retire p) after × MayRetireNow before
+RetireGives before after None = (after ≡ before) × ¬ MayRetireNow before
 
 -- all lines of the oldest position are written where it retires, none where it may not, and a part of them where the call stops
-abbrev pub RetireWrites : View → (before after : Option (List ℕ)) → Result Bool StopWhy → Type 0
-RetireWrites view before after (Ok true) = Appends before after (printed (lines_at view.batch (now view).retired))
-RetireWrites view before after (Ok false) = after ≡ before
+abbrev pub RetireWrites : View → (before after : Option (List ℕ)) → Result (Option ℕ) StopWhy → Type 0
+RetireWrites view before after (Ok (Some p)) = Appends before after (printed (lines_at view.batch (now view).retired))
+RetireWrites view before after (Ok None) = after ≡ before
 RetireWrites view before after (Err why) = AppendsPrefix before after (printed (lines_at view.batch (now view).retired))
 
 -- the sink's count of faults does not fall, and a write fault is answered only where it rose
 pub record HasStopCause {T : Type 0} (before after : ℕ) (result : Result T StopWhy) : Type 0 where
   pub later : before ≤ after
   pub failed : IsErrOf result WriteFault → Rose before after
+
+-- the same of the sink of the lines and of that of the log: one of their counts rose
+pub record HasStopCauses {T : Type 0} (before after before' after' : ℕ) (result : Result T StopWhy) : Type 0 where
+  pub later : before ≤ after
+  pub later' : before' ≤ after'
+  pub failed : IsErrOf result WriteFault → Rose before after ⊎ Rose before' after'
 
 -- where all is rolled back, a position waits until all before its block is applied
 abbrev pub BlockIsOpen : Recovery → List Subthread → Stage → (position : ℕ) → Type 0
@@ -183,9 +190,14 @@ pub record IsNextToPost (view : View) (from position : ℕ) : Type 0 where
   pub may : MayPostNow view position
   pub first : (p : ℕ) → from ≤ p → p < position → ¬ MayPostNow view p
 
--- none from this one on may be posted
+-- the position is looked at for a post: where all is rolled back, each that is so far before it is applied
+abbrev pub IsNear : Recovery → Stage → (position : ℕ) → Type 0
+IsNear Selective at p = ⊤
+IsNear (Rollback every) at p = (q : ℕ) → q + WINDOW ≤ p → at.applied q ≡ true
+
+-- none from this one on may be posted of those that are looked at
 abbrev pub NoneToPost : View → (from : ℕ) → Type 0
-NoneToPost view from = (p : ℕ) → from ≤ p → ¬ MayPostNow view p
+NoneToPost view from = (p : ℕ) → from ≤ p → IsNear view.batch.recovery (now view) p → ¬ MayPostNow view p
 
 -- the run has ended so, which is known, and all positions have retired
 pub record HasFinished (view : View) (ending : End) : Type 0 where

@@ -2,6 +2,7 @@ pub mod Drive
 pub mod Engaged
 pub mod Gives
 pub mod Laws
+pub mod Notes
 pub mod Recovering
 pub mod Takes
 pub mod View

@@ -8,7 +8,7 @@ use Rattle.gp_base.specs.declared.journal.Event.{Event}
 use Rattle.gp_base.specs.declared.journal.Event.TheVariants as event
 use Rattle.task_ast.specs.Tree.{Program}
 use Rattle.task_ast.specs.State.{State}
-use Rattle.task_ast.specs.Shaped.{IsAccepted}
+use Rattle.task_ast.specs.Layout.{layout}
 use Rattle.task_ast.specs.Fold.{fold}
 use Rattle.task_ast.specs.Plain.{Subthread, order, opening, end}
 use Rattle.dependence.specs.Conflict.{clash_in}
@@ -23,7 +23,7 @@ use Rattle.whole_run.specs.declared.recovery.Recovery.{Recovery}
 use Rattle.whole_run.specs.Recovering.{recovering, LawfulBy}
 use Rattle.whole_run.specs.declared.calls.Halt.{Halt}
 use Rattle.whole_run.specs.declared.calls.Halt.TheVariants as halt
-use Rattle.subthread.specs.Tasks.{program_in as program_of, under_of}
+use Rattle.subthread.specs.Tasks.{program_in as program_of, under_of, Suits}
 
 -- what is run: the work that its tasks share, how it recovers from faults, the values at its start, its limits, and the faults that strike it
 pub record Batch : Type 0 where
@@ -112,9 +112,10 @@ IsHalt batch front halt.Settling = (dependence_in batch).settles front ≡ true
 abbrev pub begun : Batch → View
 begun batch = record { batch = batch; events = []; ended = None }
 
--- what stands between two calls: the journal is lawful, before what is out all that is in conflict with it by locks is applied, and a halt that is known is one
+-- what stands between two calls: the work, the inputs and the limits suit one another, the journal is lawful, before what is out all that is in conflict with
+-- it by locks is applied, and a halt that is known is one
 pub record Stands (view : View) : Type 0 where
-  pub accepted : IsAccepted (program_in view.batch)
+  pub suits : Suits view.batch.work (layout (program_in view.batch).heads) view.batch.inputs view.batch.limits
   pub short : AreShort view.batch.faults
   pub lawful : LawfulBy (run_in view.batch) view.batch.faults view.batch.recovery view.events
   pub ready : OutReady (locks_in view.batch) (now view)

@@ -6,13 +6,15 @@ ghost use Rattle.gp_base.specs.declared.journal.Event.TheVariants as event;
 ghost use Rattle.dependence.specs.Restarts.{NoneDue};
 ghost use Rattle.dependence.specs.Standing.{present};
 ghost use Rattle.subthread.specs.declared.task.Task.{Task};
-ghost use Rattle.subthread.specs.Tasks.{task_of, IsRun};
+ghost use Rattle.subthread.specs.Tasks.{task_of, effect_of, IsRun};
 ghost use Rattle.crew.specs.Out.{pair_of};
+ghost use Rattle.crew.specs.Noted.{NotesNothing};
 ghost use Rattle.whole_run.specs.View.{View, now};
 ghost use Rattle.whole_run.specs.Gives.{Did, IssueGives, struck_now, NoneLent, IsBack, IsScouted, DetectGives, RetireGives, RetireWrites, HasStopCause, MayPostNow, IsNextToPost, NoneToPost, HasFinished, IsJournalOf, IsReportOf};
+ghost use Rattle.whole_run.specs.Notes.{NotesTaken};
 ghost use Rattle.whole_run.specs.Takes.{TaskStands};
 
-use crew::Crew;
+use crew::{Crew, Notes};
 use gp_base::{End, Journal, Pos, Sink, ThreadNo};
 use reorder_list::{Report, StopWhy};
 use std::alloc::AllocError;
@@ -74,9 +76,9 @@ pub trait Calls {
         ensures gives { IfOk result (DetectGives (view self.old) (view self.new)) }
         ensures err { OnErr result (view self.new ≡ view self.old) };
 
-    /// Retires the oldest position, whose lines it writes, and answers `true`, or answers `false` where that may not
-    /// retire. After an error nothing has retired, and `out` got a part of the lines.
-    fn retire<O: Sink>(&mut self, out: &mut O) -> Result<bool, StopWhy>
+    /// Retires the oldest position, whose lines it writes, and answers it, or answers `None` where that may not retire. After
+    /// an error nothing has retired, and `out` got a part of the lines.
+    fn retire<O: Sink>(&mut self, out: &mut O) -> Result<Option<Pos>, StopWhy>
         ensures gives { IfOk result (RetireGives (view self.old) (view self.new)) }
         ensures err { OnErr result (view self.new ≡ view self.old) }
         ensures lines { RetireWrites (view self.old) (O.written out.old) (O.written out.new) result }
@@ -88,7 +90,8 @@ pub trait Calls {
         ensures none { IfNone result ((ending : EndThere) → ¬ HasFinished (view self.now) ending) };
 
     /// The first position from this one on whose present attempt may be posted: each earlier one in conflict with it by locks
-    /// is applied, and, where all is rolled back, each one before its block.
+    /// is applied, and, where all is rolled back, each one before its block. There it is looked for only among those that are
+    /// near the first that is not applied.
     fn runnable(&mut self, from: Pos) -> Option<Pos>
         ensures same { view self.new ≡ view self.old }
         ensures found { IfSome result (IsNextToPost (view self.old) from) }
@@ -122,12 +125,16 @@ pub trait Calls {
         ensures room { OnOk result (0 < room self.new) };
 
     /// Takes the run of a task of this engine that is out, and applies it where its attempt is the present one, which is
-    /// the answer: the cells of its locks then come home. Takes no memory.
-    fn accept(&mut self, done: Done) -> bool
+    /// the answer: it is noted, and the cells of its locks come home. The error is that memory is out for the notes, and
+    /// changes nothing.
+    fn accept<N: Notes>(&mut self, done: Done, notes: &mut N) -> Result<bool, AllocError>
         requires task { TaskStands (view self.old) (task_of (view self.old).batch.work done) }
         requires run { IsRun (view self.old).batch.work done }
         requires room { 0 < room self.old }
-        ensures { Did (view self.old) (event.Take done.task.pos done.task.attempt result) (view self.new) };
+        ensures did { IfOk result (λ applies. Did (view self.old) (event.Take done.task.pos done.task.attempt applies) (view self.new)) }
+        ensures err { OnErr result (view self.new ≡ view self.old) }
+        ensures noted { IfOk result (λ applies. NotesTaken applies (N.tells notes.old) (N.tells notes.new) done.task.pos (effect_of (view self.old).batch.work done)) }
+        ensures unnoted { OnErr result (NotesNothing (N.tells notes.old) (N.tells notes.new)) };
 
     /// What the run did. Takes no memory.
     fn into_journal(self) -> Journal

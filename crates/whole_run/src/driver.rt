@@ -5,13 +5,14 @@ ghost use Rattle.subthread.specs.Tasks.{Suits};
 ghost use Rattle.restart_log.specs.Lines.{printed};
 ghost use Rattle.whole_run.specs.Recovering.{HasCuts};
 ghost use Rattle.whole_run.specs.View.{begun, Stands};
-ghost use Rattle.whole_run.specs.Drive.{batch_of, journal_in, JournalStands, ReportsRun, all_lines, WritesRetired, HasRunCause, ArePosts, IsUntaken, RanOut};
+ghost use Rattle.whole_run.specs.Notes.{NotesRun};
+ghost use Rattle.whole_run.specs.Drive.{batch_of, journal_in, JournalStands, ReportsRun, all_lines, WritesRetired, HasRunCauses, ArePosts, IsUntaken, RanOut};
 
 use crate::Recovery;
 use crate::calls::Calls;
 use crate::engine::Engine;
 use crate::rounds::run_rounds;
-use crew::Crew;
+use crew::{Crew, Notes};
 use gp_base::{Faults, Inputs, Journal, Limits, Seq, Sink};
 use reorder_list::{EngineStop, Report, StopWhy};
 use std::alloc::Global;
@@ -20,11 +21,13 @@ use subthread::Work;
 use task_ast::Layout;
 
 // Goes on with a run from its beginning, and tells what it came to.
-fn finish<R: Threads + Sync, E: Calls, C: Crew, O: Sink>(
+fn finish<R: Threads + Sync, E: Calls, C: Crew, O: Sink, N: Notes, L: Sink>(
     rt: &R,
     engine: E,
     crew: &mut C,
     out: &mut O,
+    notes: &mut N,
+    log: &mut L,
 ) -> Result<Report, EngineStop>
     requires stands { Stands (E.view engine) }
     requires begun { E.view engine ≡ begun (E.view engine).batch }
@@ -36,14 +39,15 @@ fn finish<R: Threads + Sync, E: Calls, C: Crew, O: Sink>(
     ensures report { IfOk result (ReportsRun (E.view engine).batch) }
     ensures lines { OnOk result (Appends (O.written out.old) (O.written out.new) (printed (all_lines (E.view engine).batch))) }
     ensures partly { WritesRetired (E.view engine).batch (O.written out.old) (O.written out.new) (journal_in result) }
-    ensures cause { HasRunCause (O.faults out.old) (O.faults out.new) result }
+    ensures cause { HasRunCauses (O.faults out.old) (O.faults out.new) (L.faults log.old) (L.faults log.new) result }
+    ensures notes { NotesRun (N.tells notes.old) (N.tells notes.new) N.part (E.view engine).batch (L.written log.old) (L.written log.new) result }
     ensures ready { C.ready crew.new }
     ensures work { C.work crew.new ≡ C.work crew.old }
     ensures posts { ArePosts (C.posted crew.new) (journal_in result) }
     ensures out { ¬ RanOut result → IsUntaken (C.out crew.new) (journal_in result) }
 {
     let mut engine = engine;
-    match run_rounds(rt, &mut engine, crew, out) {
+    match run_rounds(rt, &mut engine, crew, out, notes, log) {
         Ok(end) => Ok(engine.into_report(end)),
         Err(why) => {
             let journal = engine.into_journal();
@@ -56,7 +60,10 @@ fn finish<R: Threads + Sync, E: Calls, C: Crew, O: Sink>(
 /// the end exactly those of the plain run. Nothing else is written. Where the output takes no more or memory is out, the run
 /// stops: all lines of each position that retired are written, and at most a part of those of the next. It always returns; some
 /// attempts that were ended may still be out with the crew.
-pub fn drive_by<R: Threads + Sync, C: Crew, O: Sink>(
+///
+/// What is applied is noted, and each position that retires is told to `log`, once its lines are written: where the run restarts
+/// selectively, with what its subthread leaves in the plain run. Where the run stops, a part of the last one may be missing.
+pub fn drive_by<R: Threads + Sync, C: Crew, O: Sink, N: Notes, L: Sink>(
     rt: &R,
     alloc: Global,
     recovery: Recovery,
@@ -67,6 +74,8 @@ pub fn drive_by<R: Threads + Sync, C: Crew, O: Sink>(
     limits: Limits,
     crew: &mut C,
     out: &mut O,
+    notes: &mut N,
+    log: &mut L,
 ) -> Result<Report, EngineStop>
     requires suits { Suits w.now layout inputs limits }
     requires cuts { HasCuts recovery }
@@ -78,14 +87,15 @@ pub fn drive_by<R: Threads + Sync, C: Crew, O: Sink>(
     ensures report { IfOk result (ReportsRun (batch_of recovery w.now inputs limits faults)) }
     ensures lines { OnOk result (Appends (O.written out.old) (O.written out.new) (printed (all_lines (batch_of recovery w.now inputs limits faults)))) }
     ensures partly { WritesRetired (batch_of recovery w.now inputs limits faults) (O.written out.old) (O.written out.new) (journal_in result) }
-    ensures cause { HasRunCause (O.faults out.old) (O.faults out.new) result }
+    ensures cause { HasRunCauses (O.faults out.old) (O.faults out.new) (L.faults log.old) (L.faults log.new) result }
+    ensures notes { NotesRun (N.tells notes.old) (N.tells notes.new) N.part (batch_of recovery w.now inputs limits faults) (L.written log.old) (L.written log.new) result }
     ensures ready { C.ready crew.new }
     ensures work { C.work crew.new ≡ C.work crew.old }
     ensures posts { ArePosts (C.posted crew.new) (journal_in result) }
     ensures out { ¬ RanOut result → IsUntaken (C.out crew.new) (journal_in result) }
 {
     match Engine::new(alloc, recovery, w, layout, inputs, faults, limits) {
-        Ok(engine) => finish(rt, engine, crew, out),
+        Ok(engine) => finish(rt, engine, crew, out, notes, log),
         Err(_) => Err(EngineStop {
             why: StopWhy::OutOfMemory,
             journal: Journal {

@@ -6,7 +6,7 @@ use crate::parts::{
     accept, all_home, detect, due, finished, into_journal, into_report, issue, post, retire,
     runnable, scouted,
 };
-use crew::Crew;
+use crew::{Crew, Notes};
 use gp_base::{End, Journal, Pos, Sink};
 use reorder_list::{Report, StopWhy};
 use std::alloc::AllocError;
@@ -38,7 +38,7 @@ impl<'a> Calls for Engine<'a> {
         detect(self.alloc, &self.plan, &mut self.parts)
     }
 
-    fn retire<O: Sink>(&mut self, out: &mut O) -> Result<bool, StopWhy> {
+    fn retire<O: Sink>(&mut self, out: &mut O) -> Result<Option<Pos>, StopWhy> {
         retire(self.alloc, &self.plan, &mut self.parts, out)
     }
 
@@ -63,8 +63,8 @@ impl<'a> Calls for Engine<'a> {
         self.parts.events.reserve(1)
     }
 
-    fn accept(&mut self, done: Done) -> bool {
-        accept(&self.plan, &mut self.parts, done)
+    fn accept<N: Notes>(&mut self, done: Done, notes: &mut N) -> Result<bool, AllocError> {
+        accept(&self.plan, &mut self.parts, done, notes)
     }
 
     fn into_journal(self) -> Journal {

@@ -1,27 +1,31 @@
 // The rounds of a run.
 ghost use Rattle.std.specs.Prelude.{◌≡◌, None, OnOk, OnErr, IfOk, IsErrOf};
 ghost use Rattle.reorder_list.specs.declared.report.StopWhy.TheVariants as stop;
+ghost use Rattle.crew.specs.Noted.{NotesRetired, NotesPart};
 ghost use Rattle.whole_run.specs.Recovering.{CompleteBy};
 ghost use Rattle.whole_run.specs.View.{run_in, end_in, now};
-ghost use Rattle.whole_run.specs.Gives.{struck_now, IsBack, IsScouted, HasStopCause, NoneToPost};
+ghost use Rattle.whole_run.specs.Gives.{struck_now, IsBack, IsScouted, HasStopCause, HasStopCauses, NoneToPost};
+ghost use Rattle.whole_run.specs.Notes.{KeepsLeftBy, KeepsNotes, KeepsAllNotes, StopsNotes};
 ghost use Rattle.whole_run.specs.Takes.{CrewStands};
 ghost use Rattle.whole_run.specs.inner.Rounds.{Agrees, Leaves, IsQuiet, IsIssued, KeepsWritten, KeepsPart, TakeGives};
 
 use crate::calls::{Calls, Issued};
-use crew::Crew;
-use gp_base::{End, Pos, Sink};
+use crew::{Crew, Notes};
+use gp_base::{End, Pos, Sink, SinkFault};
 use reorder_list::StopWhy;
 use std::alloc::AllocError;
 use std::thread::Threads;
 
 // Takes one run of a task, where one is out.
-fn take_one<R: Threads + Sync, E: Calls, C: Crew>(
+fn take_one<R: Threads + Sync, E: Calls, C: Crew, N: Notes>(
     rt: &R,
     engine: &mut E,
     crew: &mut C,
+    notes: &mut N,
 ) -> Result<bool, AllocError>
     requires agrees { Agrees (E.view engine.old) (C.ready crew.old) (C.work crew.old) (C.posted crew.old) (C.out crew.old) }
     ensures leaves { Leaves (E.view engine.old) (E.view engine.new) (C.ready crew.new) (C.work crew.new) (C.posted crew.new) }
+    ensures notes { KeepsAllNotes (E.view engine.old) (E.view engine.new) (N.tells notes.old) (N.tells notes.new) }
     ensures crew { OnOk result (CrewStands (E.view engine.new) (C.posted crew.new) (C.out crew.new)) }
     ensures retired { (now (E.view engine.new)).retired ≡ (now (E.view engine.old)).retired }
     ensures struck { struck_now (E.view engine.new) ≡ struck_now (E.view engine.old) }
@@ -32,13 +36,13 @@ fn take_one<R: Threads + Sync, E: Calls, C: Crew>(
     match crew.next(rt)? {
         None => Ok(false),
         Some(done) => {
-            engine.accept(done);
+            engine.accept(done, notes)?;
             Ok(true)
         }
     }
 }
 
-// Posts each position that may be posted.
+// Posts each position that may be posted of those that are looked at.
 fn post_all<R: Threads + Sync, E: Calls, C: Crew>(
     rt: &R,
     engine: &mut E,
@@ -46,6 +50,7 @@ fn post_all<R: Threads + Sync, E: Calls, C: Crew>(
 ) -> Result<(), AllocError>
     requires agrees { Agrees (E.view engine.old) (C.ready crew.old) (C.work crew.old) (C.posted crew.old) (C.out crew.old) }
     ensures leaves { Leaves (E.view engine.old) (E.view engine.new) (C.ready crew.new) (C.work crew.new) (C.posted crew.new) }
+    ensures left { KeepsLeftBy (E.view engine.old) (E.view engine.new) }
     ensures crew { OnOk result (CrewStands (E.view engine.new) (C.posted crew.new) (C.out crew.new)) }
     ensures retired { (now (E.view engine.new)).retired ≡ (now (E.view engine.old)).retired }
     ensures struck { struck_now (E.view engine.new) ≡ struck_now (E.view engine.old) }
@@ -60,13 +65,15 @@ fn post_all<R: Threads + Sync, E: Calls, C: Crew>(
 }
 
 // Posts what may be posted and takes runs of tasks until each position that has not retired was run at some attempt.
-fn scout_all<R: Threads + Sync, E: Calls, C: Crew>(
+fn scout_all<R: Threads + Sync, E: Calls, C: Crew, N: Notes>(
     rt: &R,
     engine: &mut E,
     crew: &mut C,
+    notes: &mut N,
 ) -> Result<(), AllocError>
     requires agrees { Agrees (E.view engine.old) (C.ready crew.old) (C.work crew.old) (C.posted crew.old) (C.out crew.old) }
     ensures leaves { Leaves (E.view engine.old) (E.view engine.new) (C.ready crew.new) (C.work crew.new) (C.posted crew.new) }
+    ensures notes { KeepsAllNotes (E.view engine.old) (E.view engine.new) (N.tells notes.old) (N.tells notes.new) }
     ensures crew { OnOk result (CrewStands (E.view engine.new) (C.posted crew.new) (C.out crew.new)) }
     ensures retired { (now (E.view engine.new)).retired ≡ (now (E.view engine.old)).retired }
     ensures struck { struck_now (E.view engine.new) ≡ struck_now (E.view engine.old) }
@@ -74,19 +81,21 @@ fn scout_all<R: Threads + Sync, E: Calls, C: Crew>(
 {
     'scouting: while !engine.scouted() {
         post_all(rt, engine, crew)?;
-        take_one(rt, engine, crew)?;
+        take_one(rt, engine, crew, notes)?;
     }
     Ok(())
 }
 
 // Takes runs of tasks until all is back that a restart waits for.
-fn bring_home<R: Threads + Sync, E: Calls, C: Crew>(
+fn bring_home<R: Threads + Sync, E: Calls, C: Crew, N: Notes>(
     rt: &R,
     engine: &mut E,
     crew: &mut C,
+    notes: &mut N,
 ) -> Result<(), AllocError>
     requires agrees { Agrees (E.view engine.old) (C.ready crew.old) (C.work crew.old) (C.posted crew.old) (C.out crew.old) }
     ensures leaves { Leaves (E.view engine.old) (E.view engine.new) (C.ready crew.new) (C.work crew.new) (C.posted crew.new) }
+    ensures notes { KeepsAllNotes (E.view engine.old) (E.view engine.new) (N.tells notes.old) (N.tells notes.new) }
     ensures crew { OnOk result (CrewStands (E.view engine.new) (C.posted crew.new) (C.out crew.new)) }
     ensures retired { (now (E.view engine.new)).retired ≡ (now (E.view engine.old)).retired }
     ensures struck { struck_now (E.view engine.new) ≡ struck_now (E.view engine.old) }
@@ -94,37 +103,54 @@ fn bring_home<R: Threads + Sync, E: Calls, C: Crew>(
     ensures home { OnOk result (IsBack (E.view engine.new)) }
 {
     'homing: while !engine.all_home() {
-        take_one(rt, engine, crew)?;
+        take_one(rt, engine, crew, notes)?;
     }
     Ok(())
 }
 
 // Makes all restarts that are due, each once it is known what all positions touch and all is back that it waits for.
-fn detect_all<R: Threads + Sync, E: Calls, C: Crew>(
+fn detect_all<R: Threads + Sync, E: Calls, C: Crew, N: Notes>(
     rt: &R,
     engine: &mut E,
     crew: &mut C,
+    notes: &mut N,
 ) -> Result<(), AllocError>
     requires agrees { Agrees (E.view engine.old) (C.ready crew.old) (C.work crew.old) (C.posted crew.old) (C.out crew.old) }
     ensures leaves { Leaves (E.view engine.old) (E.view engine.new) (C.ready crew.new) (C.work crew.new) (C.posted crew.new) }
+    ensures notes { KeepsAllNotes (E.view engine.old) (E.view engine.new) (N.tells notes.old) (N.tells notes.new) }
     ensures crew { OnOk result (CrewStands (E.view engine.new) (C.posted crew.new) (C.out crew.new)) }
     ensures retired { (now (E.view engine.new)).retired ≡ (now (E.view engine.old)).retired }
     ensures none_struck { OnOk result (struck_now (E.view engine.new) ≡ None) }
 {
     'detecting: while engine.due() {
-        scout_all(rt, engine, crew)?;
-        bring_home(rt, engine, crew)?;
+        scout_all(rt, engine, crew, notes)?;
+        bring_home(rt, engine, crew, notes)?;
         engine.detect()?;
     }
     Ok(())
 }
 
-// Retires what may retire, each position after all restarts that are due.
-fn retire_all<R: Threads + Sync, E: Calls, C: Crew, O: Sink>(
+// Tells the log that a position has retired.
+fn tell<N: Notes, L: Sink>(notes: &mut N, position: Pos, log: &mut L) -> Result<(), StopWhy>
+    ensures told { OnOk result (NotesRetired (N.tells notes.old) (N.tells notes.new) (L.written log.old) (L.written log.new) position) }
+    ensures part { OnErr result (NotesPart (N.tells notes.old) N.part (L.written log.old) (L.written log.new) position) }
+    ensures cause { HasStopCause (L.faults log.old) (L.faults log.new) result }
+{
+    match notes.retired(position, log) {
+        Ok(()) => Ok(()),
+        Err(SinkFault::Failed) => Err(StopWhy::WriteFault),
+        Err(SinkFault::OutOfMemory) => Err(StopWhy::OutOfMemory),
+    }
+}
+
+// Retires what may retire, each position after all restarts that are due, and tells the log of each.
+fn retire_all<R: Threads + Sync, E: Calls, C: Crew, O: Sink, N: Notes, L: Sink>(
     rt: &R,
     engine: &mut E,
     crew: &mut C,
     out: &mut O,
+    notes: &mut N,
+    log: &mut L,
 ) -> Result<(), StopWhy>
     requires agrees { Agrees (E.view engine.old) (C.ready crew.old) (C.work crew.old) (C.posted crew.old) (C.out crew.old) }
     ensures leaves { Leaves (E.view engine.old) (E.view engine.new) (C.ready crew.new) (C.work crew.new) (C.posted crew.new) }
@@ -132,30 +158,35 @@ fn retire_all<R: Threads + Sync, E: Calls, C: Crew, O: Sink>(
     ensures quiet { OnOk result (IsQuiet (E.view engine.new)) }
     ensures written { OnOk result (KeepsWritten (E.view engine.old) (E.view engine.new) (O.written out.old) (O.written out.new)) }
     ensures partly { OnErr result (KeepsPart (E.view engine.old) (E.view engine.new) (O.written out.old) (O.written out.new)) }
-    ensures cause { HasStopCause (O.faults out.old) (O.faults out.new) result }
+    ensures cause { HasStopCauses (O.faults out.old) (O.faults out.new) (L.faults log.old) (L.faults log.new) result }
+    ensures notes { OnOk result (KeepsNotes (E.view engine.old) (E.view engine.new) (N.tells notes.old) (N.tells notes.new) (L.written log.old) (L.written log.new)) }
+    ensures stopped { OnErr result (StopsNotes (E.view engine.old) (E.view engine.new) (N.tells notes.old) (N.tells notes.new) N.part (L.written log.old) (L.written log.new)) }
 {
     'retiring: loop {
-        detect_all(rt, engine, crew)?;
-        if !engine.retire(out)? {
+        detect_all(rt, engine, crew, notes)?;
+        let Some(position) = engine.retire(out)? else {
             return Ok(());
-        }
+        };
+        tell(notes, position, log)?;
     }
 }
 
 // Issues until it is needed what a thread does next, or a settle waits, or the end is known.
-fn issue_all<R: Threads + Sync, E: Calls, C: Crew>(
+fn issue_all<R: Threads + Sync, E: Calls, C: Crew, N: Notes>(
     rt: &R,
     engine: &mut E,
     crew: &mut C,
+    notes: &mut N,
 ) -> Result<(), AllocError>
     requires agrees { Agrees (E.view engine.old) (C.ready crew.old) (C.work crew.old) (C.posted crew.old) (C.out crew.old) }
     ensures leaves { Leaves (E.view engine.old) (E.view engine.new) (C.ready crew.new) (C.work crew.new) (C.posted crew.new) }
+    ensures notes { KeepsAllNotes (E.view engine.old) (E.view engine.new) (N.tells notes.old) (N.tells notes.new) }
     ensures crew { OnOk result (CrewStands (E.view engine.new) (C.posted crew.new) (C.out crew.new)) }
     ensures retired { (now (E.view engine.new)).retired ≡ (now (E.view engine.old)).retired }
     ensures issued { OnOk result (IsIssued (E.view engine.new)) }
 {
     'issuing: loop {
-        detect_all(rt, engine, crew)?;
+        detect_all(rt, engine, crew, notes)?;
         match engine.issue()? {
             Issued::One(_) => {}
             Issued::Needs(_) => return Ok(()),
@@ -166,11 +197,13 @@ fn issue_all<R: Threads + Sync, E: Calls, C: Crew>(
 }
 
 /// Goes on with a run to its end, and answers how it ends.
-pub fn run_rounds<R: Threads + Sync, E: Calls, C: Crew, O: Sink>(
+pub fn run_rounds<R: Threads + Sync, E: Calls, C: Crew, O: Sink, N: Notes, L: Sink>(
     rt: &R,
     engine: &mut E,
     crew: &mut C,
     out: &mut O,
+    notes: &mut N,
+    log: &mut L,
 ) -> Result<End, StopWhy>
     requires agrees { Agrees (E.view engine.old) (C.ready crew.old) (C.work crew.old) (C.posted crew.old) (C.out crew.old) }
     ensures leaves { Leaves (E.view engine.old) (E.view engine.new) (C.ready crew.new) (C.work crew.new) (C.posted crew.new) }
@@ -179,15 +212,17 @@ pub fn run_rounds<R: Threads + Sync, E: Calls, C: Crew, O: Sink>(
     ensures end { IfOk result (λ end. end ≡ end_in (E.view engine.new).batch) }
     ensures written { OnOk result (KeepsWritten (E.view engine.old) (E.view engine.new) (O.written out.old) (O.written out.new)) }
     ensures partly { OnErr result (KeepsPart (E.view engine.old) (E.view engine.new) (O.written out.old) (O.written out.new)) }
-    ensures cause { HasStopCause (O.faults out.old) (O.faults out.new) result }
+    ensures cause { HasStopCauses (O.faults out.old) (O.faults out.new) (L.faults log.old) (L.faults log.new) result }
+    ensures notes { OnOk result (KeepsNotes (E.view engine.old) (E.view engine.new) (N.tells notes.old) (N.tells notes.new) (L.written log.old) (L.written log.new)) }
+    ensures stopped { OnErr result (StopsNotes (E.view engine.old) (E.view engine.new) (N.tells notes.old) (N.tells notes.new) N.part (L.written log.old) (L.written log.new)) }
 {
     'rounds: loop {
-        retire_all(rt, engine, crew, out)?;
+        retire_all(rt, engine, crew, out, notes, log)?;
         if let Some(end) = engine.finished() {
             return Ok(end);
         }
-        issue_all(rt, engine, crew)?;
+        issue_all(rt, engine, crew, notes)?;
         post_all(rt, engine, crew)?;
-        take_one(rt, engine, crew)?;
+        take_one(rt, engine, crew, notes)?;
     }
 }

@@ -1,5 +1,5 @@
 -- What an engine keeps that undoes what faults ruin: histories beside the entries, or copies of the store at cuts.
-use Rattle.std.specs.Prelude.{◌≡◌, ◌-◌, ◌%◌, ℕ, ◌≤◌, ◌<◌, Bool, true, false, ⊤, cond, nat_le, List, length, map, All, Contains, Option, Some, None, slice_get}
+use Rattle.std.specs.Prelude.{◌≡◌, ◌+◌, ◌-◌, ◌%◌, min, ℕ, ◌≤◌, ◌<◌, Bool, true, false, ⊤, cond, nat_le, List, length, map, All, Contains, Option, Some, None, slice_get}
 use Rattle.std.specs.List.Sorted.{IsStrictlyIncreasing}
 use Rattle.gp_base.specs.declared.fault.Fault.{Fault}
 use Rattle.task_ast.specs.State.{State}
@@ -19,6 +19,7 @@ use Rattle.reorder_list.specs.Entries.{lines_of}
 use Rattle.reorder_list.specs.Stages.{HistoriesFit, buffer_of}
 use Rattle.whole_run.specs.declared.recovery.Recovery.{Recovery}
 use Rattle.whole_run.specs.declared.recovery.Recovery.TheVariants.{Selective, Rollback}
+use Rattle.whole_run.specs.declared.parts.closing.TheConstants.{WINDOW}
 use Rattle.whole_run.specs.declared.parts.backing.Backup.{Backup}
 use Rattle.whole_run.specs.declared.parts.backing.Checkpoint.{Checkpoint}
 
@@ -44,6 +45,11 @@ HasCut checkpoints cut = (checkpoint : Checkpoint) × Contains checkpoints check
 abbrev pub is_open : Recovery → (whole position : ℕ) → Bool
 is_open Selective whole p = true
 is_open (Rollback every) whole p = nat_le (p - p % every) whole
+
+-- the position from which on none is looked at for a post, by that number
+abbrev pub window_end : Recovery → (whole : ℕ) → ℕ
+window_end Selective whole = 4294967295
+window_end (Rollback every) whole = min (whole + WINDOW) 4294967295
 
 -- before a position is posted, there is a checkpoint at its cut where none of its block has retired
 abbrev pub IsOpened : Recovery → List Entry → (position : ℕ) → Backup → Type 0

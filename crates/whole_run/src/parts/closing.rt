@@ -5,13 +5,28 @@ ghost use Rattle.gp_base.specs.declared.ending.End.{End as EndThere};
 ghost use Rattle.whole_run.specs.declared.calls.Halt.TheVariants as halt;
 ghost use Rattle.whole_run.specs.Gives.{NoneLent, IsNextToPost, NoneToPost, HasFinished, IsJournalOf, IsReportOf};
 ghost use Rattle.whole_run.specs.Recovering.{HasCuts};
-ghost use Rattle.whole_run.specs.inner.Backed.{is_open};
+ghost use Rattle.whole_run.specs.inner.Backed.{is_open, window_end};
 ghost use Rattle.whole_run.specs.inner.Kept.{batch_in, view_of, Kept};
 
 use crate::parts::{Backup, Parts, Plan};
 use crate::{Halt, Recovery};
 use gp_base::{End, Journal, Pos};
 use reorder_list::Report;
+
+/// Where all is rolled back, a position is looked at for a post only where it is fewer than so many after the first that is
+/// not applied. After a rollback all of a block wait, and to look at all of them after each result would cost the square of
+/// the block. As many as this keep all workers busy.
+pub const WINDOW: u32 = 1024;
+
+// The position from which on none is looked at.
+fn window_end(recovery: Recovery, backup: &Backup) -> Pos
+    ensures { result ≡ window_end recovery backup.now.whole }
+{
+    match recovery {
+        Recovery::Selective => Pos(u32::MAX),
+        Recovery::Rollback(_) => Pos(backup.whole.saturating_add(WINDOW)),
+    }
+}
 
 // Whether the block of a position is open: all before it is applied, where all is rolled back.
 fn is_open(recovery: Recovery, backup: &Backup, position: Pos) -> bool
@@ -25,7 +40,8 @@ fn is_open(recovery: Recovery, backup: &Backup, position: Pos) -> bool
 }
 
 /// The first position from this one on whose present attempt may be posted: each earlier one in conflict with it by locks is
-/// applied, and, where all is rolled back, each one before its block.
+/// applied, and, where all is rolled back, each one before its block. There it is looked for only among those that are near the
+/// first that is not applied.
 pub fn runnable(plan: &Plan, parts: &mut Parts, from: Pos) -> Option<Pos>
     requires kept { Kept (batch_in plan.now) parts.old }
     requires closed { parts.old.ring.cleared ≡ false }
@@ -36,7 +52,8 @@ pub fn runnable(plan: &Plan, parts: &mut Parts, from: Pos) -> Option<Pos>
     ensures found { IfSome result (IsNextToPost (view_of (batch_in plan.now) parts.old) from) }
     ensures none { IfNone result (NoneToPost (view_of (batch_in plan.now) parts.old) from) }
 {
-    let position = parts.rol.next_runnable(from)?;
+    let below = window_end(plan.recovery, &parts.backup);
+    let position = parts.rol.next_runnable(from, below)?;
     is_open(plan.recovery, &parts.backup, position).then_some(position)
 }
 

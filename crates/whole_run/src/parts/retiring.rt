@@ -107,14 +107,14 @@ fn write_oldest<O: Sink>(alloc: Global, rol: &Rol, out: &mut O) -> Result<(), St
     }
 }
 
-/// Retires the oldest position, whose lines it writes, and answers `true`, or answers `false` where that may not retire.
-/// After an error nothing has retired, and `out` got a part of the lines.
+/// Retires the oldest position, whose lines it writes, and answers it, or answers `None` where that may not retire. After an
+/// error nothing has retired, and `out` got a part of the lines.
 pub fn retire<O: Sink>(
     alloc: Global,
     plan: &Plan,
     parts: &mut Parts,
     out: &mut O,
-) -> Result<bool, StopWhy>
+) -> Result<Option<Pos>, StopWhy>
     requires kept { Kept (batch_in plan.now) parts.old }
     requires closed { parts.old.ring.cleared ≡ false }
     ensures kept { Kept (batch_in plan.now) parts.new }
@@ -125,12 +125,12 @@ pub fn retire<O: Sink>(
     ensures cause { HasStopCause (O.faults out.old) (O.faults out.new) result }
 {
     if !oldest_retires(plan, parts) {
-        return Ok(false);
+        return Ok(None);
     }
     parts.events.reserve(1)?;
     write_oldest(alloc, &parts.rol, out)?;
     let entry = parts.rol.retire_front();
     drop_before(&mut parts.backup, entry.pos.0 + 1);
     parts.events.push(Event::Retire(entry.pos));
-    Ok(true)
+    Ok(Some(entry.pos))
 }

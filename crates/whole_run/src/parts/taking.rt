@@ -1,14 +1,16 @@
 // Taking the run of a task.
 
-ghost use Rattle.std.specs.Prelude.{◌≡◌, ◌<◌, true, false, All, length, map};
+ghost use Rattle.std.specs.Prelude.{◌≡◌, ◌<◌, true, false, All, length, map, IfOk, OnOk, OnErr};
 ghost use Rattle.std.specs.Option.{IsSomeAnd};
 ghost use Rattle.gp_base.specs.declared.journal.Event.TheVariants as event;
 ghost use Rattle.record_store.specs.Lent.{lock_in, whole_effect, MayComeHome};
 ghost use Rattle.record_store.specs.Stored.{Fits};
 ghost use Rattle.reorder_list.specs.Entries.{entry_at, with_change_at, known_entry};
 ghost use Rattle.reorder_list.specs.declared.entry.State.TheVariants as state;
-ghost use Rattle.subthread.specs.Tasks.{task_of, IsRun};
+ghost use Rattle.subthread.specs.Tasks.{task_of, effect_of, IsRun};
+ghost use Rattle.crew.specs.Noted.{NotesNothing};
 ghost use Rattle.whole_run.specs.Gives.{Did};
+ghost use Rattle.whole_run.specs.Notes.{NotesTaken};
 ghost use Rattle.whole_run.specs.Takes.{TaskStands};
 ghost use Rattle.whole_run.specs.inner.Kept.{batch_in, view_of, Kept};
 ghost use Rattle.whole_run.specs.inner.Taken.{awaits, learning_from, placing_from, has_attempt, IsAppliedWhere};
@@ -16,10 +18,12 @@ ghost use Rattle.whole_run.specs.inner.Taken.{awaits, learning_from, placing_fro
 use crate::Recovery;
 use crate::parts::backing::advance;
 use crate::parts::{Backup, Parts, Place, Plan};
+use crew::Notes;
 use gp_base::{Event, Footprint, Pos, RecNo, Seq, ThreadNo};
 use record_store::{Bundle, Effect, Given, Store};
 use reorder_list::Rol;
-use subthread::{Done, Task};
+use std::alloc::AllocError;
+use subthread::{Done, Task, Work};
 use task_ast::Next;
 use token_order::Ring;
 
@@ -104,10 +108,10 @@ fn apply_where(
     }
 }
 
-/// Takes the run of a task that is out, and applies it where its attempt is the present one, which is the answer: the cells
-/// of its locks then come home. Another attempt holds no lock. What its thread does next is learnt in any case, where it is
-/// awaited, and so is what the subthread touches, where it has not retired.
-pub fn accept(plan: &Plan, parts: &mut Parts, done: Done) -> bool
+// Takes the run of a task that is out, and applies it where its attempt is the present one, which is the answer: the cells of
+// its locks then come home. Another attempt holds no lock. What its thread does next is learnt in any case, where it is
+// awaited, and so is what the subthread touches, where it has not retired.
+fn take(plan: &Plan, parts: &mut Parts, done: Done) -> bool
     requires kept { Kept (batch_in plan.now) parts.old }
     requires closed { parts.old.ring.cleared ≡ false }
     requires task { TaskStands (view_of (batch_in plan.now) parts.old) (task_of (batch_in plan.now).work done) }
@@ -116,6 +120,7 @@ pub fn accept(plan: &Plan, parts: &mut Parts, done: Done) -> bool
     ensures kept { Kept (batch_in plan.now) parts.new }
     ensures closed { parts.new.ring.cleared ≡ false }
     ensures did { Did (view_of (batch_in plan.now) parts.old) (event.Take done.task.pos done.task.attempt result) (view_of (batch_in plan.now) parts.new) }
+    ensures fresh { result ≡ has_attempt done.task.attempt (entry_at parts.old.rol.entries done.task.pos) }
 {
     let Done {
         task,
@@ -151,4 +156,45 @@ pub fn accept(plan: &Plan, parts: &mut Parts, done: Done) -> bool
     );
     parts.events.push(Event::Take(pos, attempt, fresh));
     fresh
+}
+
+// Notes a run whose attempt is the present one. The error is that memory is out.
+fn note_where<N: Notes>(
+    rol: &Rol,
+    work: &Work,
+    done: &Done,
+    notes: &mut N,
+) -> Result<(), AllocError>
+    requires { IsRun work.now done.now }
+    ensures noted { OnOk result (NotesTaken (has_attempt done.now.task.attempt (entry_at rol.now.entries done.now.task.pos)) (N.tells notes.old) (N.tells notes.new) done.now.task.pos (effect_of work.now done.now)) }
+    ensures unnoted { OnErr result (NotesNothing (N.tells notes.old) (N.tells notes.new)) }
+{
+    if is_present(rol, done.task.pos, done.task.attempt) {
+        return notes.took(work, done);
+    }
+    Ok(())
+}
+
+/// Takes the run of a task that is out, and applies it where its attempt is the present one, which is the answer. What is
+/// applied is noted first; the error is that memory is out for that, and changes nothing.
+pub fn accept<N: Notes>(
+    plan: &Plan,
+    parts: &mut Parts,
+    done: Done,
+    notes: &mut N,
+) -> Result<bool, AllocError>
+    requires kept { Kept (batch_in plan.now) parts.old }
+    requires closed { parts.old.ring.cleared ≡ false }
+    requires task { TaskStands (view_of (batch_in plan.now) parts.old) (task_of (batch_in plan.now).work done) }
+    requires run { IsRun (batch_in plan.now).work done }
+    requires room { 0 < parts.old.events.spare }
+    ensures kept { Kept (batch_in plan.now) parts.new }
+    ensures closed { parts.new.ring.cleared ≡ false }
+    ensures did { IfOk result (λ applies. Did (view_of (batch_in plan.now) parts.old) (event.Take done.task.pos done.task.attempt applies) (view_of (batch_in plan.now) parts.new)) }
+    ensures err { OnErr result (view_of (batch_in plan.now) parts.new ≡ view_of (batch_in plan.now) parts.old) }
+    ensures noted { IfOk result (λ applies. NotesTaken applies (N.tells notes.old) (N.tells notes.new) done.task.pos (effect_of (batch_in plan.now).work done)) }
+    ensures unnoted { OnErr result (NotesNothing (N.tells notes.old) (N.tells notes.new)) }
+{
+    note_where(&parts.rol, plan.work, &done, notes)?;
+    Ok(take(plan, parts, done))
 }

@@ -1,9 +1,11 @@
 use Rattle.std.proofs.Common.{ap, subst}
 use Rattle.std.specs.Result.{OnOk}
 use Rattle.std.specs.Io.KnownBytes.{Appends}
+use Rattle.reorder_list.specs.declared.report.StopWhy.TheVariants.{OutOfMemory}
 use Rattle.restart_log.specs.Lines.{printed}
 use Rattle.whole_run.specs.Drive.{batch_of, all_lines}
-use Rattle.whole_run.proofs.Beginning.{no-journal, no-lines}
+use Rattle.whole_run.specs.Notes.{NotesRun}
+use Rattle.whole_run.proofs.Beginning.{no-journal, no-lines, no-notes}
 use Rattle.whole_run.proofs.driver.drive_by.Goals as goal
 
 pub returns-in-Ok-clause-lines : goal.returns-in-Ok-clause-lines
@@ -21,3 +23,15 @@ pub returns-in-Err-clause-partly : goal.returns-in-Err-clause-partly
 returns-in-Err-clause-partly g c =
     no-lines (batch_of c.args.recovery c.args.w.now c.args.inputs c.args.limits c.args.faults) (g.O.Sink.written c.args.out.now)
     c.new-in-Err.result c.new-in-Err-2.result c.new-in-Err.ensures
+
+pub returns-in-Ok-clause-notes : goal.returns-in-Ok-clause-notes
+returns-in-Ok-clause-notes g c =
+    subst (λ batch. NotesRun (g.N.Notes.tells c.args.notes.now) (g.N.Notes.tells c.finish.new.notes) g.N.Notes.part batch
+    (g.L.Sink.written c.args.log.now) (g.L.Sink.written c.finish.new.log) c.finish.result)
+    (ap (λ v. v.batch) c.in-Ok.ensures) c.finish.ensures.notes
+
+pub returns-in-Err-clause-notes : goal.returns-in-Err-clause-notes
+returns-in-Err-clause-notes g c =
+    no-notes (batch_of c.args.recovery c.args.w.now c.args.inputs c.args.limits c.args.faults) (g.N.Notes.tells c.args.notes.now)
+    g.N.Notes.part (g.L.Sink.written c.args.log.now) OutOfMemory c.new-in-Err.result c.new-in-Err-2.result c.new-in-Err.ensures
+    c.new-in-Err-2.ensures

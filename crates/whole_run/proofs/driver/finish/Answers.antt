@@ -4,6 +4,7 @@ use Rattle.restart_log.specs.Lines.{printed}
 use Rattle.whole_run.specs.Drive.{JournalStands, ReportsRun, all_lines, WritesRetired}
 use Rattle.whole_run.specs.inner.Rounds.{Wrote}
 use Rattle.whole_run.proofs.Crews.{crew-begun}
+use Rattle.whole_run.proofs.Noting.{notes-finished, notes-stopped}
 use Rattle.whole_run.proofs.Outcomes.{complete-home, journal-stands, run-reported, wrote-none, part-written, all-written, posts-told, untaken-told}
 use Rattle.whole_run.proofs.Written.{wrote-whole}
 use Rattle.whole_run.proofs.driver.finish.Goals as goal
@@ -108,3 +109,22 @@ returns-in-Ok-clause-work g c =
 pub returns-in-Err-clause-work : goal.returns-in-Err-clause-work
 returns-in-Err-clause-work g c =
     c.run_rounds.ensures.leaves.work_is ∙ (ap (λ batch. batch.work) c.run_rounds.ensures.leaves.onward.batch ∙ sym c.requires.work)
+
+pub returns-in-Ok-clause-notes : goal.returns-in-Ok-clause-notes
+returns-in-Ok-clause-notes g c =
+    let view = g.E.Calls.view in
+    let tells = g.N.Notes.tells in
+    let log = g.L.Sink.written in
+    notes-finished (view c.args.engine) (view c.run_rounds.new.engine) (tells c.args.notes.now) (tells c.run_rounds.new.notes)
+    g.N.Notes.part (log c.args.log.now) (log c.run_rounds.new.log) c.into_report.result c.requires.begun
+    c.run_rounds.ensures.leaves.onward.batch c.into_report.ensures.journal c.in-Ok.ensures.notes
+
+pub returns-in-Err-clause-notes : goal.returns-in-Err-clause-notes
+returns-in-Err-clause-notes g c =
+    let view = g.E.Calls.view in
+    let tells = g.N.Notes.tells in
+    let log = g.L.Sink.written in
+    notes-stopped (view c.args.engine) (view c.run_rounds.new.engine) (tells c.args.notes.now) (tells c.run_rounds.new.notes)
+    g.N.Notes.part (log c.args.log.now) (log c.run_rounds.new.log)
+    (record { why = c.in-Err.why; journal = c.into_journal-journal.result }) c.requires.begun
+    c.run_rounds.ensures.leaves.onward.batch c.into_journal-journal.ensures c.in-Err.ensures.stopped

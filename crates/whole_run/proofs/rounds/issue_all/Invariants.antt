@@ -1,6 +1,7 @@
 use Rattle.std.proofs.Common.{◌≡◌}
 use Rattle.whole_run.specs.View.{now}
 use Rattle.whole_run.specs.Takes.{CrewStands}
+use Rattle.whole_run.specs.Notes.{KeepsAllNotes}
 use Rattle.whole_run.specs.inner.Rounds.{left, Leaves}
 use Rattle.whole_run.proofs.rounds.issue_all.Given as goal
 
@@ -10,6 +11,7 @@ invariant-issuing g l = record {
       (g.C.Crew.posted l.crew);
   crew : CrewStands (g.E.Calls.view l.engine) (g.C.Crew.posted l.crew) (g.C.Crew.out l.crew);
   retired : (now (g.E.Calls.view l.engine)).retired ≡ (now (g.E.Calls.view l.fn.engine)).retired;
+  notes : KeepsAllNotes (g.E.Calls.view l.fn.engine) (g.E.Calls.view l.engine) (g.N.Notes.tells l.fn.notes) (g.N.Notes.tells l.notes);
 }
 
 abbrev pub decreases-issuing : goal.decreases-issuing

@@ -6,9 +6,19 @@ use Rattle.whole_run.specs.Gives.{struck_now}
 use Rattle.whole_run.specs.Takes.{CrewStands}
 use Rattle.whole_run.specs.inner.Rounds.{left}
 use Rattle.whole_run.proofs.Events.{did-leaves, did-onward, now-did}
+use Rattle.whole_run.specs.Notes.{KeepsLeftBy}
 use Rattle.whole_run.proofs.Crews.{crew-posted}
+use Rattle.whole_run.proofs.Noting.{keeps-left-same, keeps-left-then, did-keeps-left}
 use Rattle.whole_run.proofs.Turns.{leaves-still, leaves-on, leaves-same, none-yet, none-at_all, retired-same, struck-kept}
 use Rattle.whole_run.proofs.rounds.post_all.Goals as goal
+use Rattle.whole_run.proofs.rounds.post_all.Goals.{After-runnable}
+
+-- what was applied is so while the next is looked for
+seen : (g : _) (c : After-runnable g) → KeepsLeftBy (g.E.Calls.view c.args.engine.now) (g.E.Calls.view c.runnable.new.self)
+seen g c =
+    let view = g.E.Calls.view in
+    keeps-left-then (view c.args.engine.now) (view c.posting.engine) (view c.runnable.new.self) c.posting.invariant.left
+    (keeps-left-same (view c.posting.engine) (view c.runnable.new.self) c.runnable.ensures.same)
 
 pub posting-init : goal.posting-init
 posting-init g c =
@@ -17,6 +27,7 @@ posting-init g c =
       crew = c.requires.agrees.crew;
       retired = refl;
       struck = refl;
+      left = keeps-left-same (g.E.Calls.view c.args.engine.now) (g.E.Calls.view c.args.engine.now) refl;
       none = λ q l. absurd (omega arith);
     }
 
@@ -82,6 +93,10 @@ posting-preserved g c =
       none =
           none-yet before (view c.post.new.self) c.posting.from p (rw c.runnable.ensures.same held.none)
           (rw c.runnable.ensures.same c.in-Some.ensures.found) made.did;
+      left =
+          keeps-left-then (view c.args.engine.now) before (view c.post.new.self)
+          (seen g (goal.at.posting-preserved g c).After-runnable)
+          (did-keeps-left before (view c.post.new.self) e stood made.did tt);
     }
 
 pub returns-clause-leaves : goal.returns-clause-leaves
@@ -102,3 +117,13 @@ pub returns-clause-none : goal.returns-clause-none
 returns-clause-none g c =
     rw c.runnable.ensures.same
     (none-at_all (g.E.Calls.view c.posting.engine) c.posting.from c.posting.invariant.none c.in_default.ensures.none)
+
+pub returns-in_err-post-clause-left : goal.returns-in_err-post-clause-left
+returns-in_err-post-clause-left g c =
+    let view = g.E.Calls.view in
+    keeps-left-then (view c.args.engine.now) (view c.runnable.new.self) (view c.post.new.self)
+    (seen g (goal.at.returns-in_err-post-clause-left g c).After-runnable)
+    (keeps-left-same (view c.runnable.new.self) (view c.post.new.self) c.in_err-post.ensures.err)
+
+pub returns-clause-left : goal.returns-clause-left
+returns-clause-left g c = seen g (goal.at.returns-clause-left g c).After-runnable

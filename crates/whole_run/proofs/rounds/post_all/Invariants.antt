@@ -2,6 +2,7 @@ use Rattle.std.proofs.Common.{◌≡◌}
 use Rattle.whole_run.specs.View.{now}
 use Rattle.whole_run.specs.Gives.{struck_now}
 use Rattle.whole_run.specs.Takes.{CrewStands}
+use Rattle.whole_run.specs.Notes.{KeepsLeftBy}
 use Rattle.whole_run.specs.inner.Rounds.{left, Leaves}
 use Rattle.whole_run.proofs.Turns.{NoneBefore}
 use Rattle.whole_run.proofs.rounds.post_all.Given as goal
@@ -14,6 +15,7 @@ invariant-posting g l = record {
   retired : (now (g.E.Calls.view l.engine)).retired ≡ (now (g.E.Calls.view l.fn.engine)).retired;
   struck : struck_now (g.E.Calls.view l.engine) ≡ struck_now (g.E.Calls.view l.fn.engine);
   none : NoneBefore (g.E.Calls.view l.engine) l.from;
+  left : KeepsLeftBy (g.E.Calls.view l.fn.engine) (g.E.Calls.view l.engine);
 }
 
 abbrev pub decreases-posting : goal.decreases-posting

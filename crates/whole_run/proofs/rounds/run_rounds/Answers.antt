@@ -1,6 +1,8 @@
 use Rattle.std.proofs.Common.{◌∙◌, refl, arith}
 use Rattle.whole_run.specs.Gives.{HasFinished}
 use Rattle.whole_run.specs.inner.Rounds.{KeepsPart, KeepsWritten}
+use Rattle.whole_run.specs.Notes.{KeepsNotes, StopsNotes}
+use Rattle.whole_run.proofs.Noting.{keeps-notes-left, keeps-notes-then, keeps-stops, stops-then}
 use Rattle.whole_run.proofs.Progress.{completed, ends-so, round-falls}
 use Rattle.whole_run.proofs.Turns.{agrees-then, leaves-still, leaves-then, on-err}
 use Rattle.whole_run.proofs.Written.{wrote-same, written-whole}
@@ -45,9 +47,68 @@ written₄ g c start wrote =
     (c.take_one.ensures.retired ∙ (c.post_all.ensures.retired ∙ c.issue_all.ensures.retired)) refl
     (c.in_ok-retire_all.ensures.written start (c.rounds.invariant.written start wrote))
 
+-- the notes after the retirements of a round
+noted₁ : (g : _) (c : In_ok-retire_all g)
+    → KeepsNotes (g.E.Calls.view c.args.engine.now) (g.E.Calls.view c.retire_all.new.engine) (g.N.Notes.tells c.args.notes.now)
+    (g.N.Notes.tells c.retire_all.new.notes) (g.L.Sink.written c.args.log.now) (g.L.Sink.written c.retire_all.new.log)
+noted₁ g c =
+    let view = g.E.Calls.view in
+    let tells = g.N.Notes.tells in
+    let log = g.L.Sink.written in
+    keeps-notes-then (view c.args.engine.now) (view c.rounds.engine) (view c.retire_all.new.engine) (tells c.args.notes.now)
+    (tells c.rounds.notes) (tells c.retire_all.new.notes) (log c.args.log.now) (log c.rounds.log) (log c.retire_all.new.log)
+    c.rounds.invariant.leaves.onward.batch c.rounds.invariant.notes c.in_ok-retire_all.ensures.notes
+
+-- after its issues
+noted₂ : (g : _) (c : After-issue_all g)
+    → KeepsNotes (g.E.Calls.view c.args.engine.now) (g.E.Calls.view c.retire_all.new.engine) (g.N.Notes.tells c.args.notes.now)
+    (g.N.Notes.tells c.retire_all.new.notes) (g.L.Sink.written c.args.log.now) (g.L.Sink.written c.retire_all.new.log)
+    → KeepsNotes (g.E.Calls.view c.args.engine.now) (g.E.Calls.view c.issue_all.new.engine) (g.N.Notes.tells c.args.notes.now)
+    (g.N.Notes.tells c.issue_all.new.notes) (g.L.Sink.written c.args.log.now) (g.L.Sink.written c.retire_all.new.log)
+noted₂ g c first =
+    let view = g.E.Calls.view in
+    let tells = g.N.Notes.tells in
+    let log = g.L.Sink.written in
+    keeps-notes-then (view c.args.engine.now) (view c.retire_all.new.engine) (view c.issue_all.new.engine) (tells c.args.notes.now)
+    (tells c.retire_all.new.notes) (tells c.issue_all.new.notes) (log c.args.log.now) (log c.retire_all.new.log) (log c.retire_all.new.log)
+    (c.retire_all.ensures.leaves.onward.batch ∙ c.rounds.invariant.leaves.onward.batch) first
+    (c.issue_all.ensures.notes (log c.retire_all.new.log))
+
+-- after its posts
+noted₃ : (g : _) (c : After-post_all g)
+    → KeepsNotes (g.E.Calls.view c.args.engine.now) (g.E.Calls.view c.issue_all.new.engine) (g.N.Notes.tells c.args.notes.now)
+    (g.N.Notes.tells c.issue_all.new.notes) (g.L.Sink.written c.args.log.now) (g.L.Sink.written c.retire_all.new.log)
+    → KeepsNotes (g.E.Calls.view c.args.engine.now) (g.E.Calls.view c.post_all.new.engine) (g.N.Notes.tells c.args.notes.now)
+    (g.N.Notes.tells c.issue_all.new.notes) (g.L.Sink.written c.args.log.now) (g.L.Sink.written c.retire_all.new.log)
+noted₃ g c first =
+    let view = g.E.Calls.view in
+    let tells = g.N.Notes.tells in
+    let log = g.L.Sink.written in
+    keeps-notes-then (view c.args.engine.now) (view c.issue_all.new.engine) (view c.post_all.new.engine) (tells c.args.notes.now)
+    (tells c.issue_all.new.notes) (tells c.issue_all.new.notes) (log c.args.log.now) (log c.retire_all.new.log) (log c.retire_all.new.log)
+    (c.issue_all.ensures.leaves.onward.batch ∙ (c.retire_all.ensures.leaves.onward.batch ∙ c.rounds.invariant.leaves.onward.batch)) first
+    (keeps-notes-left (view c.issue_all.new.engine) (view c.post_all.new.engine) (tells c.issue_all.new.notes) c.post_all.ensures.left
+    (log c.retire_all.new.log))
+
+-- after its result
+noted₄ : (g : _) (c : After-take_one g)
+    → KeepsNotes (g.E.Calls.view c.args.engine.now) (g.E.Calls.view c.post_all.new.engine) (g.N.Notes.tells c.args.notes.now)
+    (g.N.Notes.tells c.issue_all.new.notes) (g.L.Sink.written c.args.log.now) (g.L.Sink.written c.retire_all.new.log)
+    → KeepsNotes (g.E.Calls.view c.args.engine.now) (g.E.Calls.view c.take_one.new.engine) (g.N.Notes.tells c.args.notes.now)
+    (g.N.Notes.tells c.take_one.new.notes) (g.L.Sink.written c.args.log.now) (g.L.Sink.written c.retire_all.new.log)
+noted₄ g c first =
+    let view = g.E.Calls.view in
+    let tells = g.N.Notes.tells in
+    let log = g.L.Sink.written in
+    keeps-notes-then (view c.args.engine.now) (view c.post_all.new.engine) (view c.take_one.new.engine) (tells c.args.notes.now)
+    (tells c.issue_all.new.notes) (tells c.take_one.new.notes) (log c.args.log.now) (log c.retire_all.new.log) (log c.retire_all.new.log)
+    (c.post_all.ensures.leaves.onward.batch
+    ∙ (c.issue_all.ensures.leaves.onward.batch ∙ (c.retire_all.ensures.leaves.onward.batch ∙ c.rounds.invariant.leaves.onward.batch)))
+    first (c.take_one.ensures.notes (log c.retire_all.new.log))
+
 pub rounds-init : goal.rounds-init
 rounds-init g c =
-    record { leaves = leaves-still c.requires.agrees; crew = c.requires.agrees.crew; written = λ start wrote. wrote; later = omega arith }
+    record { leaves = leaves-still c.requires.agrees; crew = c.requires.agrees.crew; written = λ start wrote. wrote; later = omega arith; later' = omega arith; notes = λ selective start are. are }
 
 pub returns-in_err-retire_all-clause-leaves : goal.returns-in_err-retire_all-clause-leaves
 returns-in_err-retire_all-clause-leaves g c = leaves-then c.rounds.invariant.leaves c.retire_all.ensures.leaves
@@ -141,7 +202,8 @@ rounds-smaller g c =
 
 pub rounds-preserved : goal.rounds-preserved
 rounds-preserved g c =
-    let there = (goal.at.rounds-preserved g c).After-take_one in
+    let whole = goal.at.rounds-preserved g c in
+    let there = whole.After-take_one in
     record {
       leaves =
           leaves-then
@@ -151,4 +213,63 @@ rounds-preserved g c =
       crew = c.in_ok-take_one.ensures.crew;
       written = written₄ g there;
       later = let first = c.rounds.invariant.later in let second = c.retire_all.ensures.cause.later in omega arith;
+      later' = let first = c.rounds.invariant.later' in let second = c.retire_all.ensures.cause.later' in omega arith;
+      notes =
+          noted₄ g there
+          (noted₃ g whole.After-post_all (noted₂ g whole.After-issue_all (noted₁ g whole.In_ok-retire_all)));
     }
+
+pub returns-in-Some-clause-notes : goal.returns-in-Some-clause-notes
+returns-in-Some-clause-notes g c = noted₁ g (goal.at.returns-in-Some-clause-notes g c).In_ok-retire_all
+
+pub returns-in_err-retire_all-clause-stopped : goal.returns-in_err-retire_all-clause-stopped
+returns-in_err-retire_all-clause-stopped g c =
+    let view = g.E.Calls.view in
+    let tells = g.N.Notes.tells in
+    let log = g.L.Sink.written in
+    on-err c.from_residual.result
+    (StopsNotes (view c.args.engine.now) (view c.retire_all.new.engine) (tells c.args.notes.now) (tells c.retire_all.new.notes)
+    g.N.Notes.part (log c.args.log.now) (log c.retire_all.new.log))
+    (stops-then (view c.args.engine.now) (view c.rounds.engine) (view c.retire_all.new.engine) (tells c.args.notes.now)
+    (tells c.rounds.notes) (tells c.retire_all.new.notes) g.N.Notes.part (log c.args.log.now) (log c.rounds.log)
+    (log c.retire_all.new.log) c.rounds.invariant.leaves.onward.batch c.rounds.invariant.notes c.in_err-retire_all.ensures.stopped)
+
+pub returns-in_err-issue_all-clause-stopped : goal.returns-in_err-issue_all-clause-stopped
+returns-in_err-issue_all-clause-stopped g c =
+    let view = g.E.Calls.view in
+    let tells = g.N.Notes.tells in
+    let log = g.L.Sink.written in
+    let there = goal.at.returns-in_err-issue_all-clause-stopped g c in
+    on-err c.from_residual-in_err-issue_all.result
+    (StopsNotes (view c.args.engine.now) (view c.issue_all.new.engine) (tells c.args.notes.now) (tells c.issue_all.new.notes)
+    g.N.Notes.part (log c.args.log.now) (log c.retire_all.new.log))
+    (keeps-stops (view c.args.engine.now) (view c.issue_all.new.engine) (tells c.args.notes.now) (tells c.issue_all.new.notes)
+    g.N.Notes.part (log c.args.log.now) (log c.retire_all.new.log)
+    (noted₂ g there.After-issue_all (noted₁ g there.In_ok-retire_all)))
+
+pub returns-in_err-post_all-clause-stopped : goal.returns-in_err-post_all-clause-stopped
+returns-in_err-post_all-clause-stopped g c =
+    let view = g.E.Calls.view in
+    let tells = g.N.Notes.tells in
+    let log = g.L.Sink.written in
+    let there = goal.at.returns-in_err-post_all-clause-stopped g c in
+    on-err c.from_residual-in_err-post_all.result
+    (StopsNotes (view c.args.engine.now) (view c.post_all.new.engine) (tells c.args.notes.now) (tells c.issue_all.new.notes)
+    g.N.Notes.part (log c.args.log.now) (log c.retire_all.new.log))
+    (keeps-stops (view c.args.engine.now) (view c.post_all.new.engine) (tells c.args.notes.now) (tells c.issue_all.new.notes)
+    g.N.Notes.part (log c.args.log.now) (log c.retire_all.new.log)
+    (noted₃ g there.After-post_all (noted₂ g there.After-issue_all (noted₁ g there.In_ok-retire_all))))
+
+pub returns-in_err-take_one-clause-stopped : goal.returns-in_err-take_one-clause-stopped
+returns-in_err-take_one-clause-stopped g c =
+    let view = g.E.Calls.view in
+    let tells = g.N.Notes.tells in
+    let log = g.L.Sink.written in
+    let there = goal.at.returns-in_err-take_one-clause-stopped g c in
+    on-err c.from_residual-in_err-take_one.result
+    (StopsNotes (view c.args.engine.now) (view c.take_one.new.engine) (tells c.args.notes.now) (tells c.take_one.new.notes)
+    g.N.Notes.part (log c.args.log.now) (log c.retire_all.new.log))
+    (keeps-stops (view c.args.engine.now) (view c.take_one.new.engine) (tells c.args.notes.now) (tells c.take_one.new.notes)
+    g.N.Notes.part (log c.args.log.now) (log c.retire_all.new.log)
+    (noted₄ g there.After-take_one
+    (noted₃ g there.After-post_all (noted₂ g there.After-issue_all (noted₁ g there.In_ok-retire_all)))))

@@ -2,6 +2,7 @@ use Rattle.std.proofs.Common.{◌≡◌}
 use Rattle.whole_run.specs.View.{now}
 use Rattle.whole_run.specs.Gives.{struck_now}
 use Rattle.whole_run.specs.Takes.{CrewStands}
+use Rattle.whole_run.specs.Notes.{KeepsAllNotes}
 use Rattle.whole_run.specs.inner.Rounds.{left, Leaves}
 use Rattle.whole_run.proofs.rounds.scout_all.Given as goal
 
@@ -12,6 +13,7 @@ invariant-scouting g l = record {
   crew : CrewStands (g.E.Calls.view l.engine) (g.C.Crew.posted l.crew) (g.C.Crew.out l.crew);
   retired : (now (g.E.Calls.view l.engine)).retired ≡ (now (g.E.Calls.view l.fn.engine)).retired;
   struck : struck_now (g.E.Calls.view l.engine) ≡ struck_now (g.E.Calls.view l.fn.engine);
+  notes : KeepsAllNotes (g.E.Calls.view l.fn.engine) (g.E.Calls.view l.engine) (g.N.Notes.tells l.fn.notes) (g.N.Notes.tells l.notes);
 }
 
 abbrev pub decreases-scouting : goal.decreases-scouting

@@ -22,7 +22,8 @@ none-anyway P (Some p) h = tt
 pub returns-in_err-position-clause-none : goal.returns-in_err-position-clause-none
 returns-in_err-position-clause-none c =
     none-anyway (NoneToPost (view_of (batch_in c.args.plan.now) c.args.parts.now) c.args.from) c.from_residual.result
-    (next-none (batch_in c.args.plan.now) c.args.parts.now c.requires.kept c.args.from c.in_err-position.ensures.none)
+    (next-none (batch_in c.args.plan.now) c.args.parts.now c.requires.kept c.args.from c.window_end-below.result
+    c.window_end-below.ensures c.in_err-position.ensures.none)
 
 pub returns-clause-found : goal.returns-clause-found
 returns-clause-found c =

@@ -4,7 +4,7 @@ use Rattle.gp_base.specs.Sinks.{AppendsPrefix}
 use Rattle.restart_log.specs.Lines.{printed}
 use Rattle.whole_run.specs.inner.Backing.{DropsBefore}
 use Rattle.whole_run.specs.inner.Kept.{batch_in, view_of}
-use Rattle.whole_run.proofs.Retired.{none-written, err-writes, may-now, not-now, allowed, lines-are, made, kept-retired}
+use Rattle.whole_run.proofs.Retired.{none-written, err-writes, not-now, lines-are, gives, made, kept-retired}
 use Rattle.whole_run.proofs.parts.retiring.retire.Goals as goal
 
 pub returns-then-not-oldest_retires-clause-gives : goal.returns-then-not-oldest_retires-clause-gives
@@ -46,14 +46,10 @@ returns-clause-gives g c =
     let is = sym c.if-not-oldest_retires.ensures in
     let events = made (batch_in c.args.plan.now) c.args.parts.now c.requires.kept is c.retire_front-entry.result
     c.retire_front-entry.new.self.entries c.retire_front-entry.ensures.entries
-    c.reserve.new.self.items c.push.new.self.items c.reserve.ensures.items c.push.ensures.items in (
-      record {
-        allowed = allowed (batch_in c.args.plan.now) c.args.parts.now c.requires.kept is;
-        waited = tt;
-        grown = λ i. record { batch = batch_in c.args.plan.now; events = events i; ended = c.args.parts.now.ended };
-      },
-      may-now (batch_in c.args.plan.now) c.args.parts.now c.requires.kept is,
-    )
+    c.reserve.new.self.items c.push.new.self.items c.reserve.ensures.items c.push.ensures.items in
+    gives (batch_in c.args.plan.now) c.args.parts.now c.requires.kept is c.retire_front-entry.result c.retire_front-entry.new.self.entries
+    c.retire_front-entry.ensures.entries _
+    (λ i. record { batch = batch_in c.args.plan.now; events = events i; ended = c.args.parts.now.ended })
 
 pub returns-clause-lines : goal.returns-clause-lines
 returns-clause-lines g c =
