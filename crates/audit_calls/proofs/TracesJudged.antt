@@ -48,6 +48,7 @@ module _ (run : List Subthread) (faults : List Fault) where
   alone_restarts command.Check alone = refl
   alone_restarts (command.Soak batch) alone = refl
   alone_restarts (command.Ckpt every) alone = absurd alone
+  alone_restarts command.Log alone = refl
 
   alone_complete : (c : Command) (events : List Event) → RestartsAlone c → CompleteBy c run faults events → Complete (dependence_of run) faults events
   alone_complete command.Run events alone is = is
@@ -55,6 +56,7 @@ module _ (run : List Subthread) (faults : List Fault) where
   alone_complete command.Check events alone is = is
   alone_complete (command.Soak batch) events alone is = is
   alone_complete (command.Ckpt every) events alone is = absurd alone
+  alone_complete command.Log events alone is = is
 
 alone_first : (work : ToDo) → RestartsAlone work.command → restarts_of (run_of work) work.faults ≡ restarts_in work
 unfolding run_of restarts_in

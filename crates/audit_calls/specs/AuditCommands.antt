@@ -5,7 +5,7 @@ use Rattle.gp_audit.specs.Answer.{verdict_text, verdict_status}
 use Rattle.command_line.specs.AuditWords.{audited_by}
 use Rattle.command_line.specs.declared.audit_words.Audited.{Audited}
 use Rattle.call_cases.specs.RunCommands.{MayRead as MayReadFor}
-use Rattle.call_cases.specs.Commands.{Asking, Commands}
+use Rattle.call_cases.specs.Commands.{Asking, Commands, Unlogged}
 use Rattle.audit_calls.specs.Tried.{Judge, Tried, supplied}
 
 -- A file that may be read for what the words ask: one of those of the run, or that of the trace.
@@ -33,6 +33,7 @@ commands judge = record {
   text = λ tried. verdict_text tried.verdict;
   whole = IsTold;
   error = λ audited journal. [];
+  log = Unlogged;
   lawful = λ tried journal. ⊤;
   complete = λ tried journal. ⊤;
   retired = λ tried journal out. ⊤;

@@ -1,4 +1,8 @@
 -- From what the parts of a top call ensure to what is promised of the call, for each value of the record of promises.
+--
+-- A call refuses, or begins what is asked. What begins ends in one of a few ways, each with its status: RunEnds where no log is kept, LogEnds where one is. Each
+-- fact of the promise goes by these ways; both come to Ended, from which the promise follows once. A refusal goes by its kinds, and writes the same
+-- whether a log would be kept or not.
 use Rattle.std.proofs.Common.{◌≡◌, ◌⊎◌, ℕ, true, false, List, [], take, IfSome, refl, sym, subst, inl, inr, arith, append-nil}
 use Rattle.std.specs.List.{Contains}
 use Rattle.std.specs.declared.option.Option.{Option}
@@ -15,13 +19,13 @@ use Rattle.task_ast.specs.Tree.{Name}
 use Rattle.call_cases.specs.declared.reading.Refusal.{Refusal}
 use Rattle.call_cases.specs.declared.reading.Refusal.TheVariants.{Usage as RefusedUsage, BadProgram as RefusedProgram, BadInput as RefusedInput, ReadFault, OutOfMemory}
 use Rattle.call_cases.specs.Work.{Files}
-use Rattle.call_cases.specs.Commands.{Commands, AreSound, IsApart}
+use Rattle.call_cases.specs.Commands.{Commands, Log, MayLog, Unlogged, Logged, AreSound, IsApart}
 use Rattle.call_cases.specs.Case.{Case, Usage, Missing, BadProgram, BadInput, Go, IsCase, ForCase, ForRun, HasWork, IsMissing, names_read, status_of, text_of, line_of}
 use Rattle.call_cases.specs.Lines.{out_of_memory_line, write_fault_line}
 use Rattle.call_cases.specs.Refusals.{RefusesCase, RefusesWords, RefusesShelf, TakesRefusal, RefusalEnds, usage_told, program_told, input_told, read_told, refusal_no_memory, refusal_failed}
-use Rattle.call_cases.specs.Answers.{Change, unwritten, TakesAll, TakesPart, Fails, Grew, IsEmpty, IsStopLine, TakesStop, Yields, due_status, no_memory, read_fault, write_fault, LineEnds, whole, line_failed, line_no_memory, RunEnds, finished, run_no_memory, output_failed, error_failed, PutFor, StopsBy}
-use Rattle.call_cases.specs.Headline.{TellsCase, IsRefusal, HasCaseLine, error_for, RunsNothing, TellsReadFault, TellsWriteFault, IsStop, IsDue, TakesStopLines, ReadsNothing, Headline}
-use Rattle.call_cases.proofs.OneCase.{for_known, for_each, none_some}
+use Rattle.call_cases.specs.Answers.{Change, unwritten, TakesAll, TakesPart, Fails, Grew, IsEmpty, IsStopLine, TakesStop, Yields, due_status, no_memory, read_fault, write_fault, LineEnds, whole, line_failed, line_no_memory, RunEnds, finished, run_no_memory, output_failed, error_failed, LogEnds, log_finished, log_no_memory, log_write_failed, log_unbegun, PutFor, StopsBy}
+use Rattle.call_cases.specs.Headline.{Call, IsQuiet, TellsWrite, TellsStop, TellsCase, IsRefusal, HasCaseLine, error_for, RunsNothing, TellsReadFault, TellsWriteFault, IsStop, IsDue, TakesStopLines, ReadsNothing, Headline}
+use Rattle.call_cases.proofs.OneCase.{for_known, for_each, for_map, none_some}
 
 -- a prefix of the line that tells the stop, after nothing else
 stop_taken : (begun : List ℕ) (err : Change) (stop : List ℕ) → IsStopLine stop → TakesPart err stop → TakesStop begun err
@@ -118,55 +122,181 @@ module _ (text trace : List ℕ) (due : ℕ) (out err : Change) where
       stop_lines is_due err line write_fault_line for_case (inr refl) (prefix_whole err.written err.written' write_fault_line told)
   run_stopped is_due line for_case for_trace status is_apart (error_failed part fails stop) is = (trace, for_trace, stop)
 
--- what was begun to be done meets the promise
+-- what was begun to be done, and of which a log is kept
+module _ (text rows : List ℕ) (taken : Change → Type 0) (due : ℕ) (out err : Change) (journal : Journal) where
+  log_status : (grew : Type 0) (status : ℕ) → LogEnds text rows taken due out err journal status → Yields due grew (Fails out ⊎ Fails err) status
+  log_status grew status (log_finished all logged) = due_status
+  log_status grew status (log_no_memory part is) = no_memory
+  log_status grew status (log_write_failed part fails is) = write_fault fails
+  log_status grew status (log_unbegun part empty (whole all)) = no_memory
+  log_status grew status (log_unbegun part empty (line_failed line fails)) = write_fault (inr fails)
+  log_status grew status (log_unbegun part empty (line_no_memory line)) = no_memory
+
+  log_whole : (status : ℕ) → LogEnds text rows taken due out err journal status → IsApart status → TakesAll out text × TakesAll err rows × (due ≡ status)
+  log_whole status (log_finished all logged) apart = (all, logged, refl)
+  log_whole status (log_no_memory part is) apart = absurd (grind (arith, apart))
+  log_whole status (log_write_failed part fails is) apart = absurd (grind (arith, apart))
+  log_whole status (log_unbegun part empty (whole all)) apart = absurd (grind (arith, apart))
+  log_whole status (log_unbegun part empty (line_failed line fails)) apart = absurd (grind (arith, apart))
+  log_whole status (log_unbegun part empty (line_no_memory line)) apart = absurd (grind (arith, apart))
+
+  log_part : (status : ℕ) → LogEnds text rows taken due out err journal status → TakesPart out text
+  log_part status (log_finished all logged) = prefix_whole out.written out.written' text all
+  log_part status (log_no_memory part is) = part
+  log_part status (log_write_failed part fails is) = part
+  log_part status (log_unbegun part empty line) = part
+
+  log_fault : (status : ℕ) → IsApart due → LogEnds text rows taken due out err journal status → status ≡ 8 → (IsEmpty journal × TellsWriteFault out err) ⊎ Fails out ⊎ Fails err
+  log_fault status apart (log_finished all logged) is = absurd (grind (arith, apart, is))
+  log_fault status apart (log_no_memory part held) is = absurd (omega (arith, is))
+  log_fault status apart (log_write_failed part fails held) is = inr fails
+  log_fault status apart (log_unbegun part empty (whole all)) is = absurd (omega (arith, is))
+  log_fault status apart (log_unbegun part empty (line_failed line fails)) is = inl (empty, inl fails)
+  log_fault status apart (log_unbegun part empty (line_no_memory line)) is = absurd (omega (arith, is))
+
+  log_not_refused : (status : ℕ) → IsApart due → LogEnds text rows taken due out err journal status → IsRefusal status → ⊥
+  log_not_refused status apart (log_finished all logged) is = grind (arith, apart, is)
+  log_not_refused status apart (log_no_memory part held) is = grind (arith, is)
+  log_not_refused status apart (log_write_failed part fails held) is = grind (arith, is)
+  log_not_refused status apart (log_unbegun part empty (whole all)) is = grind (arith, is)
+  log_not_refused status apart (log_unbegun part empty (line_failed line fails)) is = grind (arith, is)
+  log_not_refused status apart (log_unbegun part empty (line_no_memory line)) is = grind (arith, is)
+
+  line_part : (status : ℕ) → LineEnds 1 out_of_memory_line err status → TakesPart err out_of_memory_line
+  line_part status (whole all) = prefix_whole err.written err.written' out_of_memory_line all
+  line_part status (line_failed part fails) = part
+  line_part status (line_no_memory part) = part
+
+  -- the log, or the line that tells that memory ran out before the run
+  log_stopped : (is_due : List ℕ → Type 0) (line : List ℕ) → is_due line → (status : ℕ) → IsApart due → LogEnds text rows taken due out err journal status → IsStop status
+      → (IsEmpty journal × TakesStopLines is_due err) ⊎ taken err
+  log_stopped is_due line for_case status apart (log_finished all logged) is = absurd (grind (arith, apart, is))
+  log_stopped is_due line for_case status apart (log_no_memory part held) is = inr held
+  log_stopped is_due line for_case status apart (log_write_failed part fails held) is = inr held
+  log_stopped is_due line for_case status apart (log_unbegun part empty told) is = inl (empty, stop_lines is_due err line out_of_memory_line for_case (inl refl) (line_part status told))
+
+-- How what was begun to be done ended: what its status says of what the streams took, whether a log is kept or not.
+record Ended {A T : Type 0} (commands : Commands A T) (call : Call) (work : T) : Type 0 where
+  yields : Yields (commands.status work) (Grew call.failed call.failed') (Fails call.out ⊎ Fails call.err) call.status
+  all : IsApart call.status → TakesAll call.out (commands.text work) × (commands.status work ≡ call.status)
+  part : TakesPart call.out (commands.text work)
+  not_refused : IsRefusal call.status → ⊥
+  quiet : commands.whole call.status → IsQuiet commands call commands.log
+  write_fault : call.status ≡ 8 → TellsWrite commands call commands.log
+  stopped : IsStop call.status → ForCase commands.asking call.words call.files (TellsStop commands call commands.log)
+
+-- the case of what is done to its end
+told_work : {A T : Type 0} (commands : Commands A T) (words : List (List ℕ)) (files : Option Files) (names : List Name) (work : T) (status : ℕ)
+    → IfSome files (λ told. IsCase commands.asking words told (Go names work))
+    → commands.status work ≡ status → IfSome files (λ told. (case : Case T) × IsCase commands.asking words told case × (status_of commands case ≡ status))
+told_work commands words None names work status known is = tt
+told_work commands words (Some files) names work status known is = (Go names work, known, is)
+
+-- what was begun to be done, and ended so, meets the promise
+begun_headline : {A T : Type 0} (commands : Commands A T) (sound : AreSound commands) (call : Call) (names : List Name) (work : T) (asked : A)
+    → commands.asking.reading call.words ≡ Some asked → IfSome call.files (λ told. IsCase commands.asking call.words told (Go names work)) → call.failed' ≡ call.failed
+    → (commands.is_journalled asked ≡ false → IsEmpty call.journal)
+    → (commands.has_journal work ≡ true
+    → commands.lawful work call.journal × (commands.whole call.status → commands.complete work call.journal) × commands.retired work call.journal call.out)
+    → Ended commands call work → Headline commands call
+begun_headline {A} {T} commands sound call names work asked some known same empty run ended =
+    let words = call.words in
+    let files = call.files in
+    record {
+      status = here (λ case. Yields (status_of commands case) (Grew call.failed call.failed') (Fails call.out ⊎ Fails call.err) call.status) ended.yields;
+      told = λ tells. elim tells [
+        | inl is ↦ told_work commands words files names work call.status known (ended.all (sound.apart call.status is)).1
+        | inr is ↦ absurd (ended.not_refused (inl is))
+      ];
+      usage = λ is. absurd (ended.not_refused (inl (inl is)));
+      no_command = λ none. absurd (none_some (commands.asking.reading words) asked none some);
+      text = here (λ case. commands.whole call.status → TakesAll call.out (text_of commands case)) (λ is. (ended.all (sound.apart call.status is)).0);
+      prefix = here (λ case. TakesPart call.out (text_of commands case)) ended.part;
+      refused = λ is. absurd (ended.not_refused is);
+      quiet = ended.quiet;
+      line = for_each commands.asking words files (λ case. HasCaseLine call.status → TakesAll call.err (line_of case)) (λ case is. absurd (ended.not_refused (inl is)));
+      read_fault = λ is. absurd (ended.not_refused (inr is));
+      write_fault = ended.write_fault;
+      stopped = ended.stopped;
+      untouched = λ tells. same;
+      unread = λ none. same;
+      missing = here (λ case. IsMissing case → Grew call.failed call.failed' ⊎ (call.status ≡ 1) ⊎ Fails call.err) (λ missing. absurd missing);
+      journal = λ unbegun. elim unbegun [
+        | inl is ↦ absurd (ended.not_refused is)
+        | inr nothing ↦ empty (subst (RunsNothing commands) some nothing)
+      ];
+      unbegun = here (λ case. HasWork case ⊎ IsEmpty call.journal) (inl tt);
+      lawful = here (λ case. ForRun commands case (λ w. commands.lawful w call.journal)) (λ is. (run is).0);
+      complete = λ is_whole. here (λ case. ForRun commands case (λ w. commands.complete w call.journal)) (λ is. (run is).1 is_whole);
+      retired = here (λ case. ForRun commands case (λ w. commands.retired w call.journal call.out)) (λ is. (run is).2);
+    }
+  where
+    here : (P : Case T → Type 0) → P (Go names work) → ForCase commands.asking call.words call.files P
+    here P holds = for_known commands.asking call.words call.files (Go names work) P known holds
+
+-- what was begun to be done meets the promise where no log is kept
 pub run_headline : {A T : Type 0} (commands : Commands A T) (sound : AreSound commands) (words : List (List ℕ)) (files : Option Files) (failed failed' : List Name) (out err : Change) (status : ℕ) (journal : Journal)
     (names : List Name) (work : T) (asked : A)
+    → commands.log ≡ Unlogged
     → commands.asking.reading words ≡ Some asked → IfSome files (λ told. IsCase commands.asking words told (Go names work)) → failed' ≡ failed
     → (commands.is_journalled asked ≡ false → IsEmpty journal)
     → (commands.has_journal work ≡ true → commands.lawful work journal × (commands.whole status → commands.complete work journal) × commands.retired work journal out)
     → RunEnds (commands.text work) (commands.error asked journal) (commands.status work) out err status
     → Headline commands (record { words = words; files = files; failed = failed; failed' = failed'; out = out; err = err; status = status; journal = journal })
-run_headline {T} commands sound words files failed failed' out err status journal names work asked some known same empty run ends_asked =
+run_headline {A} {T} commands sound words files failed failed' out err status journal names work asked unlogged some known same empty run ends_asked =
+    let call : Call = record { words = words; files = files; failed = failed; failed' = failed'; out = out; err = err; status = status; journal = journal } in
     let text = commands.text work in
     let error = error_for commands (commands.asking.reading words) journal in
     let due = commands.status work in
     let apart : IsApart due = sound.apart due (sound.ends work) in
     let ends : RunEnds text error due out err status = subst (λ r. RunEnds text (error_for commands r journal) due out err status) (sym some) ends_asked in
-    let not_refused : IsRefusal status → ⊥ = run_not_refused text error due out err status apart ends in
-    record {
-      status = for_known commands.asking words files (Go names work) (λ case. Yields (status_of commands case) (Grew failed failed') (Fails out ⊎ Fails err) status) known (run_status text error due out err (Grew failed failed') status ends);
-      told = λ tells. elim tells [
-        | inl is ↦ run_told commands words files names work status known (run_whole text error due out err status ends (sound.apart status is)).2
-        | inr is ↦ absurd (not_refused (inl is))
-      ];
-      usage = λ is. absurd (not_refused (inl (inl is)));
-      no_command = λ none. absurd (none_some (commands.asking.reading words) asked none some);
-      text = for_known commands.asking words files (Go names work) (λ case. commands.whole status → TakesAll out (text_of commands case)) known (λ is. (run_whole text error due out err status ends (sound.apart status is)).0);
-      prefix = for_known commands.asking words files (Go names work) (λ case. TakesPart out (text_of commands case)) known (run_part text error due out err status ends);
-      refused = λ is. absurd (not_refused is);
-      quiet = λ is. (run_whole text error due out err status ends (sound.apart status is)).1;
-      line = for_each commands.asking words files (λ case. HasCaseLine status → TakesAll err (line_of case)) (λ case is. absurd (not_refused (inl is)));
-      read_fault = λ is. absurd (not_refused (inr is));
-      write_fault = run_fault text error due out err status apart ends;
-      stopped = λ is. for_known commands.asking words files (Go names work) (λ case. TakesStopLines (IsDue case error) err) known
-          (run_stopped text error due out err (IsDue {T = T} (Go names work) error) [] (inl refl) (inr (inl (tt, refl))) status apart ends is);
-      untouched = λ tells. same;
-      unread = λ none. same;
-      missing = for_known commands.asking words files (Go names work) (λ case. IsMissing case → Grew failed failed' ⊎ (status ≡ 1) ⊎ Fails err) known (λ missing. absurd missing);
-      journal = λ unbegun. elim unbegun [
-        | inl is ↦ absurd (not_refused is)
-        | inr nothing ↦ empty (subst (RunsNothing commands) some nothing)
-      ];
-      unbegun = for_known commands.asking words files (Go names work) (λ case. HasWork case ⊎ IsEmpty journal) known (inl tt);
-      lawful = for_known commands.asking words files (Go names work) (λ case. ForRun commands case (λ w. commands.lawful w journal)) known (λ is. (run is).0);
-      complete = λ is_whole. for_known commands.asking words files (Go names work) (λ case. ForRun commands case (λ w. commands.complete w journal)) known (λ is. (run is).1 is_whole);
-      retired = for_known commands.asking words files (Go names work) (λ case. ForRun commands case (λ w. commands.retired w journal out)) known (λ is. (run is).2);
-    }
-  where
-    run_told : {A T : Type 0} (commands : Commands A T) (words : List (List ℕ)) (files : Option Files) (names : List Name) (work : T) (status : ℕ) → IfSome files (λ told. IsCase commands.asking words told (Go names work))
-        → commands.status work ≡ status → IfSome files (λ told. (case : Case T) × IsCase commands.asking words told case × (status_of commands case ≡ status))
-    run_told commands words None names work status known is = tt
-    run_told commands words (Some files) names work status known is = (Go names work, known, is)
+    begun_headline commands sound call names work asked some known same empty run (record {
+      yields = run_status text error due out err (Grew failed failed') status ends;
+      all = λ is. let found = run_whole text error due out err status ends is in (found.0, found.2);
+      part = run_part text error due out err status ends;
+      not_refused = run_not_refused text error due out err status apart ends;
+      quiet = λ is. subst (IsQuiet commands call) (sym unlogged) (run_whole text error due out err status ends (sound.apart status is)).1;
+      write_fault = λ is. subst (TellsWrite commands call) (sym unlogged) (run_fault text error due out err status apart ends is);
+      stopped = λ is. for_known commands.asking words files (Go names work) (TellsStop commands call commands.log) known
+          (subst (λ log. TellsStop commands call log (Go names work)) (sym unlogged)
+          (run_stopped text error due out err (IsDue {T = T} (Go names work) error) [] (inl refl) (inr (inl (tt, refl))) status apart ends is));
+    })
+
+-- what a stop tells of the case where this log is kept
+log_told : {A T : Type 0} (commands : Commands A T) (call : Call) (log : Log T) (names : List Name) (work : T)
+    → (IsEmpty call.journal × TakesStopLines (IsDue {T = T} (Go names work) []) call.err) ⊎ log.taken work call.journal call.err → TellsStop commands call (Logged log) (Go names work)
+log_told commands call log names work (inl unbegun) = inl unbegun
+log_told commands call log names work (inr is) = inr (tt, λ _. is)
+
+-- what was begun to be done, and keeps this log, meets the promise
+pub log_headline : {A T : Type 0} (commands : Commands A T) (sound : AreSound commands) (log : Log T) (words : List (List ℕ)) (files : Option Files)
+    (failed failed' : List Name) (out err : Change) (status : ℕ) (journal : Journal) (names : List Name) (work : T) (asked : A)
+    → commands.log ≡ Logged log
+    → commands.asking.reading words ≡ Some asked → IfSome files (λ told. IsCase commands.asking words told (Go names work)) → failed' ≡ failed
+    → (commands.is_journalled asked ≡ false → IsEmpty journal)
+    → (commands.has_journal work ≡ true → commands.lawful work journal × (commands.whole status → commands.complete work journal) × commands.retired work journal out)
+    → LogEnds (commands.text work) (log.whole work) (log.taken work journal) (commands.status work) out err journal status
+    → Headline commands (record { words = words; files = files; failed = failed; failed' = failed'; out = out; err = err; status = status; journal = journal })
+log_headline {A} {T} commands sound log words files failed failed' out err status journal names work asked logged some known same empty run ends =
+    let call : Call = record { words = words; files = files; failed = failed; failed' = failed'; out = out; err = err; status = status; journal = journal } in
+    let text = commands.text work in
+    let rows = log.whole work in
+    let taken = log.taken work journal in
+    let due = commands.status work in
+    let apart : IsApart due = sound.apart due (sound.ends work) in
+    begun_headline commands sound call names work asked some known same empty run (record {
+      yields = log_status text rows taken due out err journal (Grew failed failed') status ends;
+      all = λ is. let found = log_whole text rows taken due out err journal status ends is in (found.0, found.2);
+      part = log_part text rows taken due out err journal status ends;
+      not_refused = log_not_refused text rows taken due out err journal status apart ends;
+      quiet = λ is. subst (IsQuiet commands call) (sym logged)
+          (for_known commands.asking words files (Go names work) (λ case. ForRun commands case (λ w. TakesAll err (log.whole w))) known
+          (λ _. (log_whole text rows taken due out err journal status ends (sound.apart status is)).1));
+      write_fault = λ is. subst (TellsWrite commands call) (sym logged) (log_fault text rows taken due out err journal status apart ends is);
+      stopped = λ is. for_known commands.asking words files (Go names work) (TellsStop commands call commands.log) known
+          (subst (λ kept. TellsStop commands call kept (Go names work)) (sym logged)
+          (log_told commands call log names work (log_stopped text rows taken due out err journal (IsDue {T = T} (Go names work) []) [] (inl refl) status apart ends is)));
+    })
 
 -- what holds of a case that is known but for a part
 pub for_some : {A T : Type 0} (commands : Commands A T) (words : List (List ℕ)) (files : Option Files) (X : Type 0) (known : X → Case T) (P : Case T → Type 0) → IfSome files (λ told. (x : X) × IsCase commands.asking words told (known x)) → ((x : X) → P (known x))
@@ -330,6 +460,19 @@ module _ {A T : Type 0} (commands : Commands A T) where
   empty_retired sound (BadInput names line) journal written faults empty = tt
   empty_retired sound (Go names work) journal written faults empty = λ is. sound.unbegun work journal written faults empty
 
+  -- where a log is kept, a refusal tells what it tells where none is, with nothing else due
+  refused_write : (log : MayLog T) (call : Call) → IsEmpty call.journal → TellsWriteFault call.out call.err → TellsWrite commands call log
+  refused_write Unlogged call empty tells = tells
+  refused_write (Logged log) call empty tells = inl (empty, tells)
+
+  refused_tells : (log : MayLog T) (call : Call) → IsEmpty call.journal
+      → ((error : List ℕ) → ForCase commands.asking call.words call.files (λ case. TakesStopLines (IsDue case error) call.err))
+      → ForCase commands.asking call.words call.files (TellsStop commands call log)
+  refused_tells Unlogged call empty tells = tells (error_for commands (commands.asking.reading call.words) call.journal)
+  refused_tells (Logged log) call empty tells =
+      for_map commands.asking call.words call.files (λ case. TakesStopLines (IsDue case []) call.err) (TellsStop commands call (Logged log))
+      (λ case stops. inl (empty, stops)) (tells [])
+
 -- a refusal meets the promise
 pub refused_headline : {A T : Type 0} (commands : Commands A T) (sound : AreSound commands) (words : List (List ℕ)) (files : Option Files) (failed failed' : List Name) (written : Option (List ℕ)) (faults : ℕ) (err : Change) (status : ℕ)
     (journal : Journal) (refusal : Refusal)
@@ -337,25 +480,25 @@ pub refused_headline : {A T : Type 0} (commands : Commands A T) (sound : AreSoun
     → IfSome files (λ told. RefusesCase (IsCase commands.asking words told) refusal) → RefusesShelf commands.may_read (commands.asking.reading words) failed failed' refusal → IsEmpty journal → RefusalEnds err refusal status
     → Headline commands (record { words = words; files = files; failed = failed; failed' = failed'; out = unwritten written faults; err = err; status = status; journal = journal })
 refused_headline commands sound words files failed failed' written faults err status journal refusal no_command unread known shelf empty ends =
-    let error = error_for commands (commands.asking.reading words) journal in
     let out : Change = unwritten written faults in
+    let call : Call = record { words = words; files = files; failed = failed; failed' = failed'; out = out; err = err; status = status; journal = journal } in
     let not_whole : commands.whole status → ⊥ = λ is. refused_not_apart err refusal status ends (sound.apart status is) in
     record {
-      status = refused_status commands words files failed failed' out err error refusal status known shelf ends;
-      told = λ tells. refused_told commands words files failed failed' out err error refusal status known ends (tells_apart commands sound status tells);
+      status = refused_status commands words files failed failed' out err [] refusal status known shelf ends;
+      told = λ tells. refused_told commands words files failed failed' out err [] refusal status known ends (tells_apart commands sound status tells);
       usage = refused_usage commands.may_read (commands.asking.reading words) failed failed' err refusal status shelf ends;
       no_command = λ none. refused_words err refusal status (no_command none) ends;
       text = for_each commands.asking words files (λ case. commands.whole status → TakesAll out (text_of commands case)) (λ case is. absurd (not_whole is));
       prefix = for_each commands.asking words files (λ case. TakesPart out (text_of commands case)) (λ case. prefix_none written (text_of commands case));
       refused = λ is. Keeps-same written;
       quiet = λ is. absurd (not_whole is);
-      line = refused_line commands words files failed failed' out err error refusal status known ends;
+      line = refused_line commands words files failed failed' out err [] refusal status known ends;
       read_fault = refused_read commands words files failed failed' out err refusal status journal known shelf ends;
-      write_fault = refused_fault out err refusal status ends;
-      stopped = refused_stopped commands words files failed failed' out err error refusal status known ends;
+      write_fault = λ is. refused_write commands commands.log call empty (refused_fault out err refusal status ends is);
+      stopped = λ is. refused_tells commands commands.log call empty (λ error. refused_stopped commands words files failed failed' out err error refusal status known ends is);
       untouched = λ tells. refused_untouched commands.may_read (commands.asking.reading words) failed failed' err refusal status shelf ends (tells_apart commands sound status tells);
       unread = unread;
-      missing = refused_missing commands words files failed failed' out err error refusal status known shelf ends;
+      missing = refused_missing commands words files failed failed' out err [] refusal status known shelf ends;
       journal = λ unbegun. empty;
       unbegun = for_each commands.asking words files (λ case. HasWork case ⊎ IsEmpty journal) (λ case. inr empty);
       lawful = for_each commands.asking words files (λ case. ForRun commands case (λ work. commands.lawful work journal)) (λ case. empty_lawful commands sound case journal empty);

@@ -62,3 +62,9 @@ for_known {A} {T} asking words (Some files) known P is holds = λ case is_case. 
 pub for_each : {A T : Type 0} (asking : Asking A T) (words : List (List ℕ)) (files : Option Files) (P : Case T → Type 0) → ((case : Case T) → P case) → ForCase asking words files P
 for_each asking words None P holds = tt
 for_each asking words (Some files) P holds = λ case is_case. holds case
+
+-- what follows in each case from what holds of it
+pub for_map : {A T : Type 0} (asking : Asking A T) (words : List (List ℕ)) (files : Option Files) (P Q : Case T → Type 0) → ((case : Case T) → P case → Q case)
+    → ForCase asking words files P → ForCase asking words files Q
+for_map asking words None P Q to holds = tt
+for_map asking words (Some files) P Q to holds = λ case is_case. to case (holds case is_case)

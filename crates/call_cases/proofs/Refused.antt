@@ -237,6 +237,7 @@ shelf_files command.One files other = refl
 shelf_files command.Check files other = refl
 shelf_files (command.Soak batch) files other = absurd (other batch refl)
 shelf_files (command.Ckpt every) files other = refl
+shelf_files command.Log files other = refl
 
 pub shelf_case : (told : Option Files) (asked : Asked) (result : Result Request Refusal) → ((batch : Soak) → asked.command ≡ command.Soak batch → ⊥)
     → IfSome told (λ files. AnswersCase case_of (IsCaseOf asking asked files) result) → IfSome told (λ files. AnswersCase case_of (IsCaseOf asking asked (asking.files asked files)) result)

@@ -1,4 +1,4 @@
--- The commands of `gprs_run` are sound, and so are those that differ in what words ask for alone.
+-- The commands of `gprs_run` are sound, and so are those that differ in what words ask for, or in a log, alone.
 use Rattle.std.proofs.Common.{◌≡◌, ℕ, suc, Bool, true, false, if◌then◌else◌, List, [], refl, sym, ap, ◌∙◌, subst, inl, inr}
 use Rattle.std.specs.declared.option.Option.{Option}
 use Rattle.gp_base.specs.declared.ending.End.{End}
@@ -14,7 +14,7 @@ use Rattle.call_cases.specs.Answers.{IsEmpty, unwritten}
 use Rattle.call_cases.specs.PlainText.{plain_ran}
 use Rattle.call_cases.specs.Recovering.{LawfulBy}
 use Rattle.call_cases.specs.Journals.{run_of, IsJournalOf, TakesRetired, TakesRetiredFor, retired_in, lines_before}
-use Rattle.call_cases.specs.Commands.{Asking, Commands, IsApart, AreSound}
+use Rattle.call_cases.specs.Commands.{Asking, Commands, MayLog, IsApart, AreSound}
 use Rattle.call_cases.specs.RunCommands.{IsWhole, end_status, work_status, commands}
 
 -- the status that a work calls for is one of a whole text
@@ -52,6 +52,7 @@ empty_journal_of work journal empty =
     none_lawful command.Check = tt
     none_lawful (command.Soak batch) = tt
     none_lawful (command.Ckpt every) = tt
+    none_lawful command.Log = tt
 
 pub none_retired : (work : ToDo) (journal : Journal) → IsEmpty journal → retired_in work journal ≡ 0
 none_retired work journal empty = ap (λ j. retired_in work j) (empty_by journal empty)
@@ -65,9 +66,13 @@ retired_none work journal written faults empty = go work.command
     go command.Check = (inl (none_retired work journal empty), inr (prefix_none written (lines_before work (suc (retired_in work journal)))))
     go (command.Soak batch) = inr (Keeps-same written)
     go (command.Ckpt every) = (inl (none_retired work journal empty), inr (prefix_none written (lines_before work (suc (retired_in work journal)))))
+    go command.Log = (inl (none_retired work journal empty), inr (prefix_none written (lines_before work (suc (retired_in work journal)))))
 
 pub commands_sound : AreSound commands
 commands_sound = record { ends = λ work. work_whole work.command work; apart = whole_apart; begins = empty_journal_of; unbegun = retired_none }
 
 pub sound_for : {A T : Type 0} (commands : Commands A T) (asking : Asking A T) → AreSound commands → AreSound (record commands { asking = asking })
 sound_for commands asking sound = record { ends = sound.ends; apart = sound.apart; begins = sound.begins; unbegun = sound.unbegun }
+
+pub sound_with : {A T : Type 0} (commands : Commands A T) (log : MayLog T) → AreSound commands → AreSound (record commands { log = log })
+sound_with commands log sound = record { ends = sound.ends; apart = sound.apart; begins = sound.begins; unbegun = sound.unbegun }

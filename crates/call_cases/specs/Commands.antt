@@ -17,6 +17,17 @@ pub record Asking (A T : Type 0) : Type 0 where
   -- what is to be done with an accepted program, by the files beside it
   pub supplied : A → Program → Files → Supplied T
 
+-- a log that the error stream takes while a run goes on, a row for each position that retires: the whole log of what is to be done, and what of it was
+-- taken where this is the journal of the run
+pub record Log (T : Type 0) : Type 1 where
+  pub whole : T → List ℕ
+  pub taken : T → Journal → Change → Type 0
+
+-- no log, or this one
+pub data MayLog (T : Type 0) : Type 1 where
+  Unlogged : MayLog T
+  Logged : Log T → MayLog T
+
 -- the commands of a top call
 pub record Commands (A T : Type 0) : Type 1 where
   pub asking : Asking A T
@@ -34,6 +45,8 @@ pub record Commands (A T : Type 0) : Type 1 where
   pub whole : ℕ → Type 0
   -- what the error stream then took, by the journal of the run
   pub error : A → Journal → List ℕ
+  -- what it takes in place of that, and of the line of a stop, where a log is kept of the run
+  pub log : MayLog T
   -- The journal is one of the run of what is to be done, and it is complete. The output stands so to the subthreads that have retired in it.
   pub lawful : T → Journal → Type 0
   pub complete : T → Journal → Type 0

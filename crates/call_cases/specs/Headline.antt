@@ -4,7 +4,7 @@ use Rattle.gp_base.specs.declared.journal.Journal.{Journal}
 use Rattle.gp_base.specs.Files.{GrowsByOnly}
 use Rattle.task_ast.specs.Tree.{Name}
 use Rattle.call_cases.specs.Work.{Files}
-use Rattle.call_cases.specs.Commands.{Commands}
+use Rattle.call_cases.specs.Commands.{Commands, MayLog, Unlogged, Logged}
 use Rattle.call_cases.specs.Case.{Case, IsCase, ForCase, ForRun, HasWork, IsMissing, status_of, text_of, line_of, names_read}
 use Rattle.call_cases.specs.Lines.{read_fault_line, write_fault_line}
 use Rattle.call_cases.specs.Answers.{Change, TakesAll, TakesPart, TakesNothing, Fails, Grew, Yields, TakesStop, IsEmpty}
@@ -65,6 +65,23 @@ module _ {A T : Type 0} (commands : Commands A T) where
   ReadsNothing None = ⊤
   ReadsNothing (Some asked) = commands.makes_files asked ≡ true
 
+module _ {A T : Type 0} (commands : Commands A T) (call : Call) where
+  -- what the error stream took where what is asked was done to its end: the text that is due then, or the whole log
+  abbrev pub IsQuiet : MayLog T → Type 0
+  IsQuiet Unlogged = TakesAll call.err (error_for commands (commands.asking.reading call.words) call.journal)
+  IsQuiet (Logged log) = ForCase commands.asking call.words call.files (λ case. ForRun commands case (λ work. TakesAll call.err (log.whole work)))
+
+  -- a write failed, of which a line tells; where a log is kept, only before the run
+  abbrev pub TellsWrite : MayLog T → Type 0
+  TellsWrite Unlogged = TellsWriteFault call.out call.err
+  TellsWrite (Logged log) = (IsEmpty call.journal × TellsWriteFault call.out call.err) ⊎ Fails call.out ⊎ Fails call.err
+
+  -- the call stopped, of which a line tells; where a log is kept, only before the run, and else the error stream has that log
+  abbrev pub TellsStop : MayLog T → Case T → Type 0
+  TellsStop Unlogged case = TakesStopLines (IsDue case (error_for commands (commands.asking.reading call.words) call.journal)) call.err
+  TellsStop (Logged log) case =
+      (IsEmpty call.journal × TakesStopLines (IsDue case []) call.err) ⊎ HasWork case × ForRun commands case (λ work. log.taken work call.journal call.err)
+
 -- A file could not be read: its reads alone failed, and the line names it. It is one that the case reads, and one that the words ask for.
 pub record TellsReadFault {A T : Type 0} (commands : Commands A T) (call : Call) : Type 0 where
   pub name : Name
@@ -87,13 +104,12 @@ pub record Headline {A T : Type 0} (commands : Commands A T) (call : Call) : Typ
   pub text : ForCase commands.asking call.words call.files (λ case. commands.whole call.status → TakesAll call.out (text_of commands case))
   pub prefix : ForCase commands.asking call.words call.files (λ case. TakesPart call.out (text_of commands case))
   pub refused : IsRefusal call.status → TakesNothing call.out
-  -- The error stream grew by what is due at a whole text, as a trace, or by the line that tells the refusal or the fault.
-  pub quiet : commands.whole call.status → TakesAll call.err (error_for commands (commands.asking.reading call.words) call.journal)
+  -- The error stream grew by what is due at a whole text, as a trace, or by the line that tells the refusal or the fault; or by the log, where one is kept.
+  pub quiet : commands.whole call.status → IsQuiet commands call commands.log
   pub line : ForCase commands.asking call.words call.files (λ case. HasCaseLine call.status → TakesAll call.err (line_of case))
   pub read_fault : call.status ≡ 7 → TellsReadFault commands call
-  pub write_fault : call.status ≡ 8 → TellsWriteFault call.out call.err
-  pub stopped : IsStop call.status → ForCase commands.asking call.words call.files (λ case.
-      TakesStopLines (IsDue case (error_for commands (commands.asking.reading call.words) call.journal)) call.err)
+  pub write_fault : call.status ≡ 8 → TellsWrite commands call commands.log
+  pub stopped : IsStop call.status → ForCase commands.asking call.words call.files (TellsStop commands call commands.log)
   -- No read failed where the status tells the case, and none was made where nothing is read. Where a file that is read is not there, a read of it
   -- failed, or memory ran out before; status 8 then says that the line of that could not be written.
   pub untouched : TellsCase commands call.status → call.failed' ≡ call.failed

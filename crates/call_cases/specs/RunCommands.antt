@@ -7,7 +7,7 @@ use Rattle.task_ast.specs.Tree.{Name}
 use Rattle.restart_log.specs.Trace.{trace_text}
 use Rattle.command_line.specs.Words.{asked_by}
 use Rattle.command_line.specs.declared.asked.Command.{Command}
-use Rattle.command_line.specs.declared.asked.Command.TheVariants.{Run, One, Check, Soak, Ckpt}
+use Rattle.command_line.specs.declared.asked.Command.TheVariants.{Run, One, Check, Soak, Ckpt, Log}
 use Rattle.command_line.specs.declared.asked.Asked.{Asked}
 use Rattle.call_cases.specs.Work.{ToDo, runs, is_traced, makes_files, is_journalled}
 use Rattle.call_cases.specs.InputFiles.{supplied_by}
@@ -15,7 +15,7 @@ use Rattle.call_cases.specs.SoakFiles.{files_for}
 use Rattle.call_cases.specs.Texts.{run_text, soak_text}
 use Rattle.call_cases.specs.PlainText.{plain_ran, restarts_in}
 use Rattle.call_cases.specs.Journals.{IsJournalOf, IsCompleteOf, TakesRetired}
-use Rattle.call_cases.specs.Commands.{Asking, Commands}
+use Rattle.call_cases.specs.Commands.{Asking, Commands, Unlogged}
 
 -- the status of a run that ends so
 abbrev pub end_status : End → ℕ
@@ -38,6 +38,7 @@ work_text One work = run_text (plain_ran work) [] 0
 work_text Check work = codes "ok\n"
 work_text (Soak soak) work = soak_text soak (plain_ran work) (restarts_in work) (length work.faults)
 work_text (Ckpt every) work = run_text (plain_ran work) (restarts_in work) (length work.faults)
+work_text Log work = run_text (plain_ran work) (restarts_in work) (length work.faults)
 
 -- the trace of the journal, where one is asked for
 abbrev pub trace_for : Asked → Journal → List ℕ
@@ -66,6 +67,7 @@ commands = record {
   text = λ work. work_text work.command work;
   whole = IsWhole;
   error = trace_for;
+  log = Unlogged;
   lawful = IsJournalOf;
   complete = IsCompleteOf;
   retired = TakesRetired;

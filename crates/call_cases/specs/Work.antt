@@ -5,7 +5,7 @@ use Rattle.gp_base.specs.declared.feed.Inputs.{Inputs}
 use Rattle.gp_base.specs.declared.limits.Limits.{Limits}
 use Rattle.task_ast.specs.Tree.{Name, Program}
 use Rattle.command_line.specs.declared.asked.Command.{Command}
-use Rattle.command_line.specs.declared.asked.Command.TheVariants.{Run, Check, Soak, Ckpt}
+use Rattle.command_line.specs.declared.asked.Command.TheVariants.{Run, Check, Soak, Ckpt, Log}
 use Rattle.command_line.specs.declared.asked.Asked.{Asked}
 
 -- the files of a shelf, each by its name
@@ -60,4 +60,5 @@ abbrev pub is_journalled : Command → Bool
 is_journalled Run = true
 is_journalled (Soak soak) = true
 is_journalled (Ckpt every) = true
+is_journalled Log = true
 is_journalled command = false

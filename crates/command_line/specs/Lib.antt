@@ -1,6 +1,7 @@
 pub mod Arguments
 pub mod AuditWords
 pub mod CkptWords
+pub mod LogWords
 pub mod Numbers
 pub mod WhyWords
 pub mod Words

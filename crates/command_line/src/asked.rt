@@ -23,7 +23,8 @@ pub struct Soak {
 }
 
 /// What is to be done: that a program is run; that it is run on one thread, without faults; that it is checked alone; that
-/// a batch is made and run; or that a program is run by checkpoints, one after each so many subthreads.
+/// a batch is made and run; that a program is run by checkpoints, one after each so many subthreads; or that it is run, and a
+/// log is kept of what retires.
 #[derive(Clone, Copy, PartialEq, Eq)]
 pub enum Command {
     Run,
@@ -31,6 +32,7 @@ pub enum Command {
     Check,
     Soak(Soak),
     Ckpt(u32),
+    Log,
 }
 
 /// Who carries out the subthreads of a run: the calling thread, one after another; workers that share a wave of them out

@@ -5,6 +5,7 @@ mod arguments;
 mod asked;
 mod audit_words;
 mod ckpt_words;
+mod log_words;
 mod number;
 mod why_words;
 
@@ -13,4 +14,5 @@ pub use asked::{
 };
 pub use audit_words::{Audited, read_audit_words};
 pub use ckpt_words::{DEFAULT_EVERY, LEAST_EVERY, MOST_EVERY, read_ckpt_words};
+pub use log_words::read_log_words;
 pub use why_words::{Sought, read_why_words};

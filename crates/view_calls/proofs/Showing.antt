@@ -225,7 +225,7 @@ pub run_shows : (words : List (List ℕ)) (files : Option Files) (failed failed'
 run_shows words files failed failed' out err status names sight viewed some known same ends =
     let is_status : (status ≡ 0) ⊎ (status ≡ 5) ⊎ IsStop status = show_status sight out err status ends in
     record {
-      call = run_headline commands commands_sound words files failed failed' out (untold err) status (record { events = []; restarts = [] }) names sight viewed some known same
+      call = run_headline commands commands_sound words files failed failed' out (untold err) status (record { events = []; restarts = [] }) names sight viewed refl some known same
           (λ _. (refl, refl)) (λ _. (tt, (λ _. tt), tt)) (show_ends sight out err status ends);
       quiet = show_quiet sight out err status ends;
       line = for_known asking words files (Go names sight) (λ case. HasOwnLine status → TakesAll err (line_of case)) known (show_line sight out err status ends);

@@ -9,7 +9,7 @@ use Rattle.command_line.specs.declared.asked.Asked.{Asked}
 use Rattle.command_line.specs.declared.asked.Verb.{Verb}
 use Rattle.command_line.specs.declared.asked.Verb.TheVariants.{Run, One}
 use Rattle.command_line.specs.declared.why_words.Sought.{Sought}
-use Rattle.call_cases.specs.Commands.{Asking, Commands}
+use Rattle.call_cases.specs.Commands.{Asking, Commands, Unlogged}
 use Rattle.call_cases.specs.RunCommands as gprs
 use Rattle.view_calls.specs.declared.words.Viewed.{Viewed}
 use Rattle.view_calls.specs.Sights.{Sight, supplied, text_of, status_of}
@@ -57,6 +57,7 @@ commands = record {
   text = text_of;
   whole = IsShown;
   error = λ viewed journal. [];
+  log = Unlogged;
   lawful = λ sight journal. ⊤;
   complete = λ sight journal. ⊤;
   retired = λ sight journal out. ⊤;

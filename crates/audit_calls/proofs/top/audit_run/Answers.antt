@@ -1,4 +1,4 @@
-use Rattle.std.proofs.Common.{ap}
+use Rattle.std.proofs.Common.{ap, refl}
 use Rattle.gp_audit.specs.Answer.{verdict_text, verdict_status}
 use Rattle.command_line.specs.Words.{texts}
 use Rattle.call_cases.specs.Answers.{change_of}
@@ -17,7 +17,7 @@ returns-in-Ok-clause-headline g c = λ judge.
     let err = change_of g.E.Sink.written g.E.Sink.faults c.args.err.now c.plain_outcome.new.err in
     run_headline (commands judge) (commands_sound judge) (texts c.args.words.now) (g.H.Shelf.files c.args.shelf.now) (g.H.Shelf.failed c.args.shelf.now) (g.H.Shelf.failed c.read_trial.new.shelf) out err
     c.plain_outcome.result.status c.plain_outcome.result.journal (files_tried trial) tried (audited_in trial)
-    c.in-Ok.ensures.audited (c.in-Ok.ensures.case judge) c.in-Ok.ensures.shelf (λ none. c.plain_outcome.ensures.empty) (λ begins. cc begins)
+    refl c.in-Ok.ensures.audited (c.in-Ok.ensures.case judge) c.in-Ok.ensures.shelf (λ none. c.plain_outcome.ensures.empty) (λ begins. cc begins)
     (c.plain_outcome.ensures.ends (verdict_text tried.verdict) (verdict_status tried.verdict) out (c.put_verdict-put.ensures judge))
 
 pub returns-in-Err-clause-headline : goal.returns-in-Err-clause-headline

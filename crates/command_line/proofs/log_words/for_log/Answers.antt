@@ -1,0 +1,12 @@
+use Rattle.std.proofs.Common.{◌∙◌, ap, ap₂}
+use Rattle.std.proofs.lemmas.Result.{IfOk-weaker}
+use Rattle.clap.specs.Words.{with_rule}
+use Rattle.command_line.specs.Words.{with_limits, with_crew}
+use Rattle.command_line.specs.LogWords.{for_log}
+use Rattle.command_line.proofs.log_words.for_log.Goals as goal
+
+pub returns : goal.returns
+unfolding for_log
+returns c =
+    let struck = c.in_ok-struck.ensures.shape c.option-faults.ensures.local ∙ ap₂ with_rule c.in_ok-program.ensures c.option-faults.ensures.rule in
+    IfOk-weaker c.with_crew.result _ _ (λ parser is. is ∙ ap with_crew (c.in_ok-limited.ensures ∙ ap with_limits struck)) c.with_crew.ensures

@@ -1,0 +1,74 @@
+// The words of `log`: a run that keeps a log of what retires.
+ghost use Rattle.std.specs.Prelude.{◌≡◌, IfOk, IfSome};
+ghost use Rattle.clap.specs.Words.{app_of, found_of, rows_of};
+ghost use Rattle.command_line.specs.Words.{texts, IsWithinLimits};
+ghost use Rattle.command_line.specs.LogWords.{for_log, steals, log_in, log_of, log_by};
+
+use crate::arguments::{option, taken};
+use crate::asked::{Asked, Command, CrewKind, Verb, asked_in, on_program, with_crew, with_limits};
+use clap::ArgMatches;
+use std::alloc::{AllocError, Global};
+
+// What takes the words of `log`.
+fn for_log<'a>(alloc: Global) -> Result<clap::Command<'a>, AllocError>
+    ensures { IfOk result (λ parser. app_of parser ≡ for_log) }
+{
+    let faults = option(alloc, "faults");
+    let program = on_program(alloc, "log")?;
+    let struck = program.arg(faults)?;
+    let limited = with_limits(alloc, struck)?;
+    with_crew(alloc, limited)
+}
+
+// Whether the workers of the crew steal from one another.
+fn steals(crew: CrewKind) -> bool
+    ensures { result ≡ steals crew }
+{
+    crew == CrewKind::Steal
+}
+
+// What the matches of the command ask for, or none where a value is not one of its option, or no log is kept under the crew.
+fn log_in(alloc: Global, matches: &ArgMatches<'_>) -> Result<Option<Asked>, AllocError>
+    ensures asked { IfOk result (λ asked. asked ≡ log_in (rows_of (found_of matches.now))) }
+    ensures within { IfOk result (λ asked. IfSome asked IsWithinLimits) }
+{
+    let Some(run) = asked_in(alloc, false, Verb::Run, matches)? else {
+        return Ok(None);
+    };
+    if steals(run.crew) {
+        return Ok(None);
+    }
+    Ok(Some(Asked {
+        command: Command::Log,
+        trace: false,
+        ..run
+    }))
+}
+
+// What the words of the command ask for, or none where it does not take them.
+fn log_of(alloc: Global, words: &[String]) -> Result<Option<Asked>, AllocError>
+    ensures asked { IfOk result (λ asked. asked ≡ log_of (texts words.now)) }
+    ensures within { IfOk result (λ asked. IfSome asked IsWithinLimits) }
+{
+    let parser = for_log(alloc)?;
+    match taken(parser, words)? {
+        Some(matches) => log_in(alloc, &matches),
+        None => Ok(None),
+    }
+}
+
+/// What the words ask for, or none where they are not those of `log`: the first word is another, the command does not take the
+/// others, a number is outside its range, a crew's word names none, or its workers steal from one another. `words` are those after
+/// the program's own name. The error is that memory is out.
+pub fn read_log_words(alloc: Global, words: &[String]) -> Result<Option<Asked>, AllocError>
+    ensures asked { IfOk result (λ asked. asked ≡ log_by (texts words.now)) }
+    ensures within { IfOk result (λ asked. IfSome asked IsWithinLimits) }
+{
+    let [word, ..] = words else {
+        return Ok(None);
+    };
+    if word.as_str() != "log" {
+        return Ok(None);
+    }
+    log_of(alloc, words)
+}
