@@ -16,6 +16,7 @@ use Rattle.call_cases.specs.RunCommands as gprs
 use Rattle.call_cases.proofs.Answering.{answers_map, same_case}
 use Rattle.call_cases.proofs.RunSound as run
 use Rattle.batch_calls.specs.CkptCommands as ckpt
+use Rattle.batch_calls.specs.LogCommands as log
 use Rattle.batch_calls.specs.WaitingCommands as waiting
 
 pub waiting_sound : AreSound waiting.commands
@@ -23,6 +24,9 @@ waiting_sound = run.sound_for gprs.commands waiting.asking run.commands_sound
 
 pub ckpt_sound : AreSound ckpt.commands
 ckpt_sound = run.sound_for gprs.commands ckpt.asking run.commands_sound
+
+pub log_sound : AreSound log.commands
+log_sound = run.sound_with (record gprs.commands { asking = log.asking }) log.commands.log (run.sound_for gprs.commands log.asking run.commands_sound)
 
 -- what words ask for that are read so
 abbrev asking_by : (List (List ℕ) → Option Asked) → Asking Asked ToDo

@@ -1,4 +1,6 @@
 pub mod AskedOtherwise
+pub mod LoggedEnds
+pub mod LoggedPieces
 pub mod PlainTexts
 pub mod RanPieces
 pub mod RunEnds

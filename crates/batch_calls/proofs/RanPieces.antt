@@ -1,5 +1,5 @@
 -- Runs over a journal: from what the engine promises of a batch to what is promised of a work, and from the pieces of a text to the whole.
-use Rattle.std.proofs.Common.{◌≡◌, ◌⊎◌, ℕ, ◌-◌, ◌≤◌, zero, suc, ℤ, List, [], ◌∷◌, ◌++◌, length, take, drop, flat_map, slice_get, codes, Result, Ok, Err, inl, inr, refl, sym, ap, subst, ◌∙◌, append_assoc, append-nil, arith}
+use Rattle.std.proofs.Common.{◌≡◌, ◌⊎◌, ℕ, ◌-◌, ◌≤◌, zero, suc, ℤ, List, [], ◌∷◌, ◌++◌, length, take, drop, flat_map, slice_get, codes, Result, Ok, Err, OnOk, IfOk, IfErr, inl, inr, refl, sym, ap, subst, ◌∙◌, append_assoc, append-nil, arith}
 use Rattle.std.specs.declared.option.Option.{Option}
 use Rattle.std.specs.Io.KnownBytes.{Appends, Keeps}
 use Rattle.std.proofs.lemmas.List.{take_all, take-append-drop}
@@ -28,7 +28,7 @@ use Rattle.reorder_list.specs.declared.report.StopWhy.TheVariants as why
 use Rattle.whole_run.specs.declared.recovery.Recovery.{Recovery}
 use Rattle.whole_run.specs.Recovering as whole
 use Rattle.whole_run.specs.View.{Batch, program_in, run_in, lines_of}
-use Rattle.whole_run.specs.Drive.{JournalStands, ReportsRun, all_lines, WritesRetired}
+use Rattle.whole_run.specs.Drive.{journal_in, JournalStands, ReportsRun, all_lines, WritesRetired}
 use Rattle.whole_run.specs.Drive as drive
 use Rattle.command_line.specs.declared.asked.Command.{Command}
 use Rattle.command_line.specs.declared.asked.Command.TheVariants as command
@@ -40,16 +40,17 @@ use Rattle.call_cases.specs.Journals.{run_of, recovering_for, retired_in, lines_
 use Rattle.call_cases.specs.Answers.{Change, IsEmpty, TakesAll, TakesPart, Fails}
 use Rattle.call_cases.proofs.RunSound.{empty_journal_of, none_retired}
 use Rattle.batch_calls.specs.inner.Planned.{recovery_of}
-use Rattle.batch_calls.specs.inner.Ran.{WritesLines, Stops, why_of, RunsBatch, bytes_below, bytes_at, IsReportOf, RunsWork, RanFor, told_tail, told_soak}
+use Rattle.batch_calls.specs.inner.Ran.{WritesLines, Stops, why_of, RunsBatch, bytes_below, bytes_at, IsReportOf, RunsIf, RunsWork, RanIf, RanFor, told_tail, told_soak}
 use Rattle.call_cases.specs.Texts.{tail_text, run_text, soak_text}
 
 -- a run that recovers as a command does redoes what is said of the command, and its journals are lawful and complete as is said of it
-same_recovering : (c : Command) (run : List Subthread) → whole.recovering (recovery_of c) run ≡ recovering_by c run
+pub same_recovering : (c : Command) (run : List Subthread) → whole.recovering (recovery_of c) run ≡ recovering_by c run
 same_recovering command.Run run = refl
 same_recovering command.One run = refl
 same_recovering command.Check run = refl
 same_recovering (command.Soak batch) run = refl
 same_recovering (command.Ckpt every) run = refl
+same_recovering command.Log run = refl
 
 module _ (run : List Subthread) (faults : List Fault) (events : List Event) where
   same_lawful : (c : Command) → whole.LawfulBy run faults (recovery_of c) events → LawfulBy c run faults events
@@ -58,6 +59,7 @@ module _ (run : List Subthread) (faults : List Fault) (events : List Event) wher
   same_lawful command.Check is = is
   same_lawful (command.Soak batch) is = is
   same_lawful (command.Ckpt every) is = is
+  same_lawful command.Log is = is
 
   same_complete : (c : Command) → whole.CompleteBy run faults (recovery_of c) events → CompleteBy c run faults events
   same_complete command.Run is = is
@@ -65,6 +67,7 @@ module _ (run : List Subthread) (faults : List Fault) (events : List Event) wher
   same_complete command.Check is = is
   same_complete (command.Soak batch) is = is
   same_complete (command.Ckpt every) is = is
+  same_complete command.Log is = is
 
   -- all have retired where a journal is complete
   retired_by : (c : Command) → CompleteBy c run faults events → (stage (recovering_by c run) faults events).retired ≡ length run
@@ -73,6 +76,7 @@ module _ (run : List Subthread) (faults : List Fault) (events : List Event) wher
   retired_by command.Check complete = complete.retired
   retired_by (command.Soak batch) complete = complete.retired
   retired_by (command.Ckpt every) complete = complete.retired
+  retired_by command.Log complete = complete.retired
 
 -- a batch that is the run of a work
 module _ (batch : Batch) (work : ToDo) (program : program_in batch ≡ work.program) (inputs : batch.inputs ≡ work.inputs) (limits : batch.limits ≡ work.limits) (faults : batch.faults ≡ work.faults)
@@ -82,7 +86,7 @@ module _ (batch : Batch) (work : ToDo) (program : program_in batch ≡ work.prog
   same_run = ap (λ p. order p batch.inputs batch.limits) program ∙ ap (λ i. order work.program i batch.limits) inputs ∙ ap (λ l. order work.program work.inputs l) limits
 
   -- what holds of the batch's recovery, run and faults holds of the work's
-  crossed : (P : Recovery → List Subthread → List Fault → Type 0) → P batch.recovery (run_in batch) batch.faults → P (recovery_of work.command) (run_of work) work.faults
+  pub crossed : (P : Recovery → List Subthread → List Fault → Type 0) → P batch.recovery (run_in batch) batch.faults → P (recovery_of work.command) (run_of work) work.faults
   crossed P is =
       subst (λ f. P (recovery_of work.command) (run_of work) f) faults
       (subst (λ r. P (recovery_of work.command) r batch.faults) same_run (subst (λ r. P r (run_in batch) batch.faults) recovery is))
@@ -130,23 +134,28 @@ module _ (batch : Batch) (work : ToDo) (program : program_in batch ≡ work.prog
         (crossed (λ r run f. Appends before after (bytes_to (stage (whole.recovering r run) f journal.events).retired writes.part run)) writes.bytes),
   )
 
-  pub runs_work : (out : Change) (result : Result Report EngineStop) → RunsBatch batch out result → RunsWork work out result
-  runs_work out (Ok report) ran = record {
-    journal = journal_of report.journal ran.journal;
-    report = report_of report ran.report;
-    lines = subst (λ l. TakesAll out (printed l)) lines_same ran.lines;
-    partly = partly_of out.written out.written' report.journal ran.partly;
-    later = ran.cause.later;
+  pub runs_if : (failed : Type 0) (out : Change) (result : Result Report EngineStop) → JournalStands batch (journal_in result) → IfOk result (ReportsRun batch)
+      → OnOk result (TakesAll out (printed (all_lines batch))) → WritesRetired batch out.written out.written' (journal_in result) → out.faults ≤ out.faults'
+      → IfErr result (λ stop. stop.why ≡ WriteFault → failed) → RunsIf failed work out result
+  runs_if failed out (Ok report) stands reports lines partly later cause = record {
+    journal = journal_of report.journal stands;
+    report = report_of report reports;
+    lines = subst (λ l. TakesAll out (printed l)) lines_same lines;
+    partly = partly_of out.written out.written' report.journal partly;
+    later = later;
     cause = tt;
   }
-  runs_work out (Err stop) ran = record {
-    journal = journal_of stop.journal ran.journal;
+  runs_if failed out (Err stop) stands reports lines partly later cause = record {
+    journal = journal_of stop.journal stands;
     report = tt;
     lines = tt;
-    partly = partly_of out.written out.written' stop.journal ran.partly;
-    later = ran.cause.later;
-    cause = ran.cause.failed;
+    partly = partly_of out.written out.written' stop.journal partly;
+    later = later;
+    cause = cause;
   }
+
+  pub runs_work : (out : Change) (result : Result Report EngineStop) → RunsBatch batch out result → RunsWork work out result
+  runs_work out result ran = runs_if (Fails out) out result ran.journal ran.report ran.lines ran.partly ran.cause.later ran.cause.failed
 
 -- a stop at a fault of the output
 pub stops_by : (fault : SinkFault) (journal : Journal) (stop : EngineStop) → stop.why ≡ why_of fault → stop.journal ≡ journal → Stops fault journal stop
@@ -190,7 +199,7 @@ unfolding plain_ran run_of
 bytes_all work = ap (λ r. printed (flat_map (λ (s : Subthread). s.lines) r)) (sym (take_all (length (run_of work)) (run_of work) (le_refl (length (run_of work)))))
 
 -- all have retired where the journal is complete
-all_retired : (work : ToDo) (journal : Journal) → IsCompleteOf work journal → retired_in work journal ≡ length (run_of work)
+pub all_retired : (work : ToDo) (journal : Journal) → IsCompleteOf work journal → retired_in work journal ≡ length (run_of work)
 unfolding recovering_for
 all_retired work journal complete = retired_by (run_of work) work.faults journal.events work.command complete
 
@@ -218,10 +227,10 @@ lines_part : (a b : Option (List ℕ)) (xs ys : List ℕ) (n : ℕ) → Appends 
 lines_part a b xs ys n all =
     prefix_of_split a b (xs ++ ys) (xs ++ take n ys) (drop n ys) (ap (λ l. xs ++ l) (sym (take-append-drop n ys)) ∙ sym (append_assoc xs (take n ys) (drop n ys))) all
 
-rose_later : (a b c : ℕ) → a ≤ b → Rose b c → Rose a c
+pub rose_later : (a b c : ℕ) → a ≤ b → Rose b c → Rose a c
 rose_later a b c later rose = omega (arith, later, rose)
 
-rose_last : (a b c d : ℕ) → a ≤ b → b ≤ c → Rose c d → Rose a d
+pub rose_last : (a b c d : ℕ) → a ≤ b → b ≤ c → Rose c d → Rose a d
 rose_last a b c d first second rose = omega (arith, first, second, rose)
 
 abbrev first_line : List ℕ
@@ -237,9 +246,10 @@ takes_lines command.One work journal out writes taken = taken
 takes_lines command.Check work journal out writes taken = taken
 takes_lines (command.Soak batch) work journal out writes taken = absurd writes
 takes_lines (command.Ckpt every) work journal out writes taken = taken
+takes_lines command.Log work journal out writes taken = taken
 
--- the text of a run whose lines are written
-module _ (work : ToDo) (writes : WritesLines work.command) where
+-- the text of a run whose lines are written, and what failed where it stopped at a write
+module _ (failed : Type 0) (work : ToDo) (writes : WritesLines work.command) where
   abbrev all_text : List ℕ
   all_text = run_text (plain_ran work) (restarts_in work) (length work.faults)
 
@@ -248,7 +258,7 @@ module _ (work : ToDo) (writes : WritesLines work.command) where
 
   -- the first line was not written
   pub ran_without_first : (out : Change) (stop : EngineStop) (journal : Journal) (fault : SinkFault) → IsEmpty journal → Stops fault journal stop → TakesPart out first_line
-      → (fault ≡ Failed → Fails out) → RanFor work all_text out (Err stop)
+      → (fault ≡ Failed → failed) → RanIf failed work all_text out (Err stop)
   ran_without_first out stop journal fault empty stops part cause =
       let empty' = subst IsEmpty (sym stops.journal_is) empty in
       let none = none_retired work stop.journal empty' in
@@ -263,14 +273,14 @@ module _ (work : ToDo) (writes : WritesLines work.command) where
       }
 
   -- the lines were not all written
-  pub ran_without_lines : (before first second : Option (List ℕ)) (f f' f'' : ℕ) (stop : EngineStop) → Appends before first first_line → f ≤ f'
-      → RunsWork work (record { written = first; written' = second; faults = f'; faults' = f'' }) (Err stop)
-      → RanFor work all_text (record { written = before; written' = second; faults = f; faults' = f'' }) (Err stop)
-  ran_without_lines before first second f f' f'' stop output later runs =
+  pub ran_without_lines : (before first second : Option (List ℕ)) (f f' f'' : ℕ) (stop : EngineStop) (here : Type 0) → Appends before first first_line
+      → RunsIf here work (record { written = first; written' = second; faults = f'; faults' = f'' }) (Err stop) → (here → failed)
+      → RanIf failed work all_text (record { written = before; written' = second; faults = f; faults' = f'' }) (Err stop)
+  ran_without_lines before first second f f' f'' stop here output runs later =
       let r = retired_in work stop.journal in
       let taken = take runs.partly.0 (bytes_at work r) in
       let lines : Appends before second (first_line ++ (bytes_below work r ++ taken)) = Appends-append before first second first_line (bytes_below work r ++ taken) output runs.partly.1 in
-      let here : AppendsPrefix first second (bytes_below work r ++ bytes_at work r) = lines_part first second (bytes_below work r) (bytes_at work r) runs.partly.0 runs.partly.1 in
+      let part : AppendsPrefix first second (bytes_below work r ++ bytes_at work r) = lines_part first second (bytes_below work r) (bytes_at work r) runs.partly.0 runs.partly.1 in
       record {
         journal = runs.journal;
         report = tt;
@@ -278,16 +288,16 @@ module _ (work : ToDo) (writes : WritesLines work.command) where
         part = prefix_second before first second first_line (printed (plain_ran work).lines ++ ending) output
             (prefix_first first second (printed (plain_ran work).lines) ending
             (subst (AppendsPrefix first second) (append_assoc (bytes_below work r) (bytes_at work r) (bytes_after work r) ∙ sym (bytes_split work r))
-            (prefix_first first second (bytes_below work r ++ bytes_at work r) (bytes_after work r) here)));
+            (prefix_first first second (bytes_below work r ++ bytes_at work r) (bytes_after work r) part)));
         retired = takes_lines work.command work stop.journal (record { written = before; written' = second; faults = f; faults' = f'' }) writes (
           inr (taken, subst (Appends before second) (sym (append_assoc first_line (bytes_below work r) taken)) lines),
-          inr (prefix_second before first second first_line (bytes_below work (suc r)) output (subst (AppendsPrefix first second) (sym (bytes_next work r)) here)),
+          inr (prefix_second before first second first_line (bytes_below work (suc r)) output (subst (AppendsPrefix first second) (sym (bytes_next work r)) part)),
         );
-        cause = λ is. rose_later f f' f'' later (runs.cause is);
+        cause = λ is. later (runs.cause is);
       }
 
-  module _ (before first second third : Option (List ℕ)) (f f' f'' f''' : ℕ) (report : Report) (output : Appends before first first_line) (later : f ≤ f')
-      (runs : RunsWork work (record { written = first; written' = second; faults = f'; faults' = f'' }) (Ok report)) where
+  module _ (before first second third : Option (List ℕ)) (f f' f'' f''' : ℕ) (report : Report) (here : Type 0) (output : Appends before first first_line)
+      (runs : RunsIf here work (record { written = first; written' = second; faults = f'; faults' = f'' }) (Ok report)) where
     told : told_tail work.program report ≡ ending
     told = told_same work report runs.report
 
@@ -301,8 +311,8 @@ module _ (work : ToDo) (writes : WritesLines work.command) where
         inr (rest, subst (λ l. Appends before third ((first_line ++ l) ++ rest)) (bytes_all work ∙ ap (bytes_below work) (sym (all_retired work report.journal runs.report.complete))) all)
 
     -- the tail was not written
-    pub ran_without_tail : (stop : EngineStop) (fault : SinkFault) → Stops fault report.journal stop → AppendsPrefix second third (told_tail work.program report) → (fault ≡ Failed → Rose f'' f''')
-        → RanFor work all_text (record { written = before; written' = third; faults = f; faults' = f''' }) (Err stop)
+    pub ran_without_tail : (stop : EngineStop) (fault : SinkFault) → Stops fault report.journal stop → AppendsPrefix second third (told_tail work.program report) → (fault ≡ Failed → failed)
+        → RanIf failed work all_text (record { written = before; written' = third; faults = f; faults' = f''' }) (Err stop)
     ran_without_tail stop fault stops part cause =
         let out : Change = record { written = before; written' = third; faults = f; faults' = f''' } in
         let complete = subst (IsCompleteOf work) (sym stops.journal_is) runs.report.complete in
@@ -314,11 +324,11 @@ module _ (work : ToDo) (writes : WritesLines work.command) where
               (prefix_second first second third (printed (plain_ran work).lines) ending runs.lines (subst (AppendsPrefix second third) told part));
           retired = takes_lines work.command work stop.journal out writes
               (subst (λ j. (retired_in work j ≡ 0) ⊎ (more : List ℕ) × Appends before third (lines_before work (retired_in work j) ++ more)) (sym stops.journal_is) (holds (take part.0 (told_tail work.program report)) part.1), inl complete);
-          cause = λ is. rose_last f f' f'' f''' later runs.later (cause (stops.failed is));
+          cause = λ is. cause (stops.failed is);
         }
 
     -- all was written
-    pub ran_whole : Appends second third (told_tail work.program report) → RanFor work all_text (record { written = before; written' = third; faults = f; faults' = f''' }) (Ok report)
+    pub ran_whole : Appends second third (told_tail work.program report) → RanIf failed work all_text (record { written = before; written' = third; faults = f; faults' = f''' }) (Ok report)
     ran_whole taken =
         let out : Change = record { written = before; written' = third; faults = f; faults' = f''' } in
         record {

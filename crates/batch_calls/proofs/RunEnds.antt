@@ -14,13 +14,14 @@ use Rattle.gp_base.proofs.Written.{prefix_none}
 use Rattle.command_line.specs.declared.asked.Asked.{Asked}
 use Rattle.call_cases.specs.Work.{ToDo}
 use Rattle.call_cases.specs.PlainText.{plain_ran}
-use Rattle.call_cases.specs.RunCommands.{IsWhole, end_status, work_status, work_text, trace_for}
+use Rattle.call_cases.specs.RunCommands.{IsWhole, end_status}
 use Rattle.call_cases.specs.Lines.{out_of_memory_line, write_fault_line}
 use Rattle.call_cases.specs.Answers.{Change, unwritten, IsEmpty, LineEnds, whole, line_failed, line_no_memory, RunEnds}
 use Rattle.call_cases.proofs.Headlines.{none_taken, run_of_failed, run_of_memory, run_of_whole}
 use Rattle.call_cases.proofs.RunSound.{empty_journal_of, retired_none}
 use Rattle.batch_calls.specs.inner.Planned.{Carries}
 use Rattle.batch_calls.specs.inner.Ran.{EndsFor, RanFor, StopsWith}
+use Rattle.batch_calls.proofs.LoggedEnds.{unbegun_ends}
 
 -- a stop has a status of its own
 stopped_whole : (due status : ℕ) (line : List ℕ) (err : Change) → (due ≡ 8) ⊎ (due ≡ 1) → LineEnds due line err status → IsWhole status → ⊥
@@ -66,10 +67,8 @@ trace_without due line err kept = line_no_memory (subst (λ w. AppendsPrefix err
 pub unbegun_carries : (asked : Asked) (work : ToDo) (written : Option (List ℕ)) (faults : ℕ) (err : Change) (status : ℕ) (journal : Journal) → IsEmpty journal → LineEnds 1 out_of_memory_line err status
     → Carries asked work (unwritten written faults) err status journal
 unbegun_carries asked work written faults err status journal empty ends =
-    let out = unwritten written faults in
-    let text = work_text work.command work in
     record {
-      ends = run_of_memory text (trace_for asked journal) (work_status work.command work) out err status (prefix_none written text) ends;
+      ends = unbegun_ends work.command asked work written faults err status journal empty ends;
       unjournalled = λ is. empty;
       run = λ is. record {
         lawful = empty_journal_of work journal empty;

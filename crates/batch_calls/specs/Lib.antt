@@ -1,3 +1,4 @@
 pub mod CkptCommands
+pub mod LogCommands
 pub mod WaitingCommands
 pub mod inner

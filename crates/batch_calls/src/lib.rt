@@ -3,6 +3,8 @@
 
 mod ckpt;
 mod crews;
+mod log;
+mod logged;
 mod plain;
 pub mod plan;
 mod run;
@@ -11,5 +13,6 @@ mod top;
 mod waiting;
 
 pub use ckpt::ckpt_run;
+pub use log::log_run;
 pub use top::gprs_run;
 pub use waiting::gprs_run_pipe;

@@ -15,6 +15,7 @@ ghost use Rattle.call_cases.specs.Work.{ToDo, is_journalled};
 ghost use Rattle.batch_calls.specs.inner.Planned.{IsPlanOf, Carries, work_planned};
 ghost use Rattle.batch_calls.specs.inner.Ran.{RanFor, EndsFor, StopsWith, WritesLines, why_of, told_tail, told_soak};
 
+use crate::logged::{outcome_logged, put_logged};
 use crate::plain::{end_status, put_ok, put_one};
 use crate::plan::{Plan, put_lines};
 use crate::texts::OUTPUT;
@@ -40,8 +41,8 @@ fn why_of(fault: SinkFault) -> StopWhy
     }
 }
 
-// A run that stopped at a fault of the output, with what was done before.
-fn stopped(fault: SinkFault, journal: Journal) -> EngineStop
+/// A run that stopped at a fault of the output, with what was done before.
+pub fn stopped(fault: SinkFault, journal: Journal) -> EngineStop
     ensures why { result.why ≡ why_of fault }
     ensures journal { result.journal ≡ journal }
 {
@@ -59,8 +60,8 @@ fn stop_with<E: Sink>(err: &mut E, why: StopWhy) -> u8
     }
 }
 
-// Writes what follows the printed lines.
-fn put_tail<O: Sink>(
+/// Writes what follows the printed lines.
+pub fn put_tail<O: Sink>(
     alloc: Global,
     checked: &Checked,
     report: &Report,
@@ -203,7 +204,8 @@ fn outcome_of<E: Sink>(
 }
 
 /// Runs a plan over a journal with a crew to which nothing was posted, and writes its text, and the trace of its run where
-/// one is asked for. Where the output fails, the line of that is written to `err`.
+/// one is asked for. Where the output fails, the line of that is written to `err`. A run whose log is kept writes nothing but the
+/// log to `err`.
 pub fn carry_by<R: Threads + Sync, C: Crew, O: Sink, E: Sink>(
     rt: &R,
     alloc: Global,
@@ -230,6 +232,10 @@ pub fn carry_by<R: Threads + Sync, C: Crew, O: Sink, E: Sink>(
         Command::Soak(soak) => {
             let ran = put_soak(rt, alloc, code, plan, soak, crew, out);
             outcome_of(alloc, is_traced, ran, err)
+        }
+        Command::Log => {
+            let ran = put_logged(rt, alloc, code, plan, crew, out, err);
+            outcome_logged(ran)
         }
         Command::One | Command::Check => unreachable!(),
     }
@@ -266,7 +272,7 @@ pub fn carry_plain<O: Sink, E: Sink>(
             let put = put_ok(out);
             plain_outcome(alloc, put, err)
         }
-        Command::Run | Command::Soak(_) | Command::Ckpt(_) => unreachable!(),
+        Command::Run | Command::Soak(_) | Command::Ckpt(_) | Command::Log => unreachable!(),
     }
 }
 
@@ -274,5 +280,8 @@ pub fn carry_plain<O: Sink, E: Sink>(
 pub fn is_journalled(command: Command) -> bool
     ensures { result ≡ is_journalled command }
 {
-    matches!(command, Command::Run | Command::Soak(_) | Command::Ckpt(_))
+    matches!(
+        command,
+        Command::Run | Command::Soak(_) | Command::Ckpt(_) | Command::Log
+    )
 }

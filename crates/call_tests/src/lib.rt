@@ -1,5 +1,5 @@
 //! Tests of the top calls: the worked examples, devices that fail at each of their calls, runs that faults strike, also by
-//! checkpoints, and audits of their traces.
+//! checkpoints, logs of runs, and audits of their traces.
 #![tactic(auto)]
 
 #[cfg(test)]
@@ -10,6 +10,8 @@ mod calls;
 mod ckpt;
 #[cfg(test)]
 mod hostile;
+#[cfg(test)]
+mod log;
 #[cfg(test)]
 mod rows;
 #[cfg(test)]

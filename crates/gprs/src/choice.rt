@@ -6,14 +6,15 @@ ghost use Rattle.gprs.specs.Choice.{begins_with, call_of};
 use command_line::wants_pipe;
 use std::alloc::{AllocError, Global};
 
-/// The top calls: that which runs or checks a batch, the same by lasting workers, that which audits a trace, and that which runs
-/// a batch by checkpoints.
+/// The top calls: that which runs or checks a batch, the same by lasting workers, that which audits a trace, that which runs a
+/// batch by checkpoints, and that which keeps a log of a run.
 #[derive(Clone, Copy)]
 pub enum TopCall {
     Run,
     Pipe,
     Audit,
     Ckpt,
+    Log,
 }
 
 // Whether the first of the words is this one.
@@ -27,8 +28,8 @@ fn begins_with(name: &str, words: &[String]) -> bool
 }
 
 /// Which top call takes the words: that of an audit where the first word is `audit`, that by checkpoints where it is `ckpt`, that
-/// by lasting workers where the words are those of a command with the crew `pipe`, and else, also for words of no command, the
-/// first. The error is that memory is out.
+/// with a log where it is `log`, that by lasting workers where the words are those of a command with the crew `pipe`, and else,
+/// also for words of no command, the first. The error is that memory is out.
 pub fn call_of(alloc: Global, words: &[String]) -> Result<TopCall, AllocError>
     ensures { IfOk result (λ call. call ≡ call_of (texts words.now)) }
 {
@@ -37,6 +38,9 @@ pub fn call_of(alloc: Global, words: &[String]) -> Result<TopCall, AllocError>
     }
     if begins_with("ckpt", words) {
         return Ok(TopCall::Ckpt);
+    }
+    if begins_with("log", words) {
+        return Ok(TopCall::Log);
     }
     if wants_pipe(alloc, words)? {
         return Ok(TopCall::Pipe);

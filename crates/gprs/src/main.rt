@@ -4,7 +4,7 @@
 mod choice;
 
 use audit_calls::audit_run;
-use batch_calls::{ckpt_run, gprs_run, gprs_run_pipe};
+use batch_calls::{ckpt_run, gprs_run, gprs_run_pipe, log_run};
 use call_cases::{OUT_OF_MEMORY, end_with};
 use choice::{TopCall, call_of};
 use gp_base::{FreeGate, Shelf, Sink};
@@ -31,6 +31,7 @@ fn status_of<
         }
         TopCall::Audit => audit_run(rt, words, shelf, out, err, &FreeGate),
         TopCall::Ckpt => ckpt_run(rt, words, shelf, out, err, &FreeGate),
+        TopCall::Log => log_run(rt, words, shelf, out, err, &FreeGate),
     };
     Ok(outcome.status)
 }

@@ -8,15 +8,16 @@ use Rattle.subthread.specs.declared.task.Work.{Work}
 use Rattle.subthread.specs.Tasks.{Suits, program_in}
 use Rattle.command_line.specs.declared.asked.Asked.{Asked}
 use Rattle.command_line.specs.declared.asked.Command.{Command}
-use Rattle.command_line.specs.declared.asked.Command.TheVariants.{Ckpt}
+use Rattle.command_line.specs.declared.asked.Command.TheVariants.{Ckpt, Log}
 use Rattle.whole_run.specs.declared.recovery.Recovery.{Recovery}
 use Rattle.whole_run.specs.declared.recovery.Recovery.TheVariants.{Selective, Rollback}
 use Rattle.whole_run.specs.Recovering.{HasCuts}
 use Rattle.call_cases.specs.Work.{ToDo, work_for, is_journalled}
-use Rattle.call_cases.specs.Answers.{Change, RunEnds, IsEmpty}
+use Rattle.call_cases.specs.Answers.{Change, RunEnds, LogEnds, IsEmpty}
 use Rattle.call_cases.specs.RunCommands.{work_text, work_status, trace_for}
 use Rattle.batch_calls.specs.declared.plan.Begins.{Begins}
 use Rattle.batch_calls.specs.declared.plan.Plan.{Plan}
+use Rattle.batch_calls.specs.LogCommands.{log_for, TakesLog}
 use Rattle.batch_calls.specs.inner.Ran.{Journalled}
 
 -- how the run of a command recovers from faults
@@ -40,8 +41,13 @@ IsPlanOf code plan = IsPlanned plan.asked (plain_program (program_of plan.checke
 abbrev pub work_planned : Plan → ToDo
 work_planned plan = work_for plan.asked (plain_program (program_of plan.checked)) plan.begins.inputs plan.begins.faults.list
 
+-- how a work of this command ends: the error stream takes the log of the run, or the trace
+abbrev pub EndsBy : Command → Asked → ToDo → (out err : Change) → (status : ℕ) → Journal → Type 0
+EndsBy Log asked work out err status journal = LogEnds (work_text Log work) (log_for work) (TakesLog work journal) (work_status Log work) out err journal status
+EndsBy other asked work out err status journal = RunEnds (work_text other work) (trace_for asked journal) (work_status other work) out err status
+
 -- what is asked was done, or stopped
 pub record Carries (asked : Asked) (work : ToDo) (out err : Change) (status : ℕ) (journal : Journal) : Type 0 where
-  pub ends : RunEnds (work_text work.command work) (trace_for asked journal) (work_status work.command work) out err status
+  pub ends : EndsBy work.command asked work out err status journal
   pub unjournalled : is_journalled asked.command ≡ false → IsEmpty journal
   pub run : is_journalled asked.command ≡ true → Journalled work status journal out

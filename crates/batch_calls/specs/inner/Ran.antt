@@ -86,22 +86,31 @@ pub record RunsBatch (batch : Batch) (out : Change) (result : Result Report Engi
   pub cause : HasRunCause out.faults out.faults' result
 
 -- The run went, and its lines were written: all of them at its end, and else those of the subthreads that have retired, and a part of those of the next.
-pub record RunsWork (work : ToDo) (out : Change) (result : Result Report EngineStop) : Type 0 where
+-- Where it stopped at a write, that failed.
+pub record RunsIf (failed : Type 0) (work : ToDo) (out : Change) (result : Result Report EngineStop) : Type 0 where
   pub journal : IsJournalOf work (journal_in result)
   pub report : IfOk result (IsReportOf work)
   pub lines : OnOk result (TakesAll out (printed (plain_ran work).lines))
   pub partly : (part : ℕ) × TakesAll out (bytes_below work (retired_in work (journal_in result)) ++ take part (bytes_at work (retired_in work (journal_in result))))
   pub later : out.faults ≤ out.faults'
-  pub cause : IfErr result (λ stop. stop.why ≡ WriteFault → Fails out)
+  pub cause : IfErr result (λ stop. stop.why ≡ WriteFault → failed)
 
--- the run went and the text of the work was written, or a part of it
-pub record RanFor (work : ToDo) (text : List ℕ) (out : Change) (result : Result Report EngineStop) : Type 0 where
+-- so where all that is written is the output
+abbrev pub RunsWork : ToDo → Change → Result Report EngineStop → Type 0
+RunsWork work out result = RunsIf (Fails out) work out result
+
+-- the run went and the text of the work was written, or a part of it; where it stopped at a write, that failed
+pub record RanIf (failed : Type 0) (work : ToDo) (text : List ℕ) (out : Change) (result : Result Report EngineStop) : Type 0 where
   pub journal : IsJournalOf work (journal_in result)
   pub report : IfOk result (IsReportOf work)
   pub all : OnOk result (TakesAll out text)
   pub part : OnErr result (TakesPart out text)
   pub retired : TakesRetired work (journal_in result) out
-  pub cause : IfErr result (λ stop. stop.why ≡ WriteFault → Fails out)
+  pub cause : IfErr result (λ stop. stop.why ≡ WriteFault → failed)
+
+-- so where all that is written is the output
+abbrev pub RanFor : ToDo → List ℕ → Change → Result Report EngineStop → Type 0
+RanFor work text out result = RanIf (Fails out) work text out result
 
 -- what the journal of an answer says of the run, and of what was written
 pub record Journalled (work : ToDo) (status : ℕ) (journal : Journal) (out : Change) : Type 0 where

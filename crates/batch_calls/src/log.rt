@@ -1,0 +1,77 @@
+// The top call that keeps a log of its run.
+ghost use Rattle.std.specs.Prelude.{◌≡◌, Some, None, IfOk, IfSome};
+ghost use Rattle.command_line.specs.Words.{texts};
+ghost use Rattle.command_line.specs.LogWords.{log_by};
+ghost use Rattle.call_cases.specs.Answers.{change_of};
+ghost use Rattle.call_cases.specs.Case.{IsCase};
+ghost use Rattle.call_cases.specs.Decided.{MayRun, case_of};
+ghost use Rattle.call_cases.specs.Headline.{Headline, ReadsNothing};
+ghost use Rattle.call_cases.specs.Refusals.{AnswersCase, AnswersNoCommand, TouchesShelf};
+ghost use Rattle.call_cases.specs.RunCommands.{MayRead};
+ghost use Rattle.batch_calls.specs.LogCommands.{asking, commands};
+
+use crate::crews::carry_out;
+use call_cases::{Outcome, Refusal, Request, empty_journal, read_for, refuse};
+use command_line::read_log_words;
+use gp_base::{Gate, Shelf, Sink};
+use std::alloc::Global;
+use std::thread::Threads;
+
+// What the words ask for, as `read_request` reads it, where they are those of `log`.
+fn read_log<H: Shelf>(alloc: Global, words: &[String], shelf: &mut H) -> Result<Request, Refusal>
+    ensures no_command { log_by (texts words.now) ≡ None → AnswersNoCommand result }
+    ensures unread { ReadsNothing commands (log_by (texts words.now)) → shelf.new ≡ shelf.old }
+    ensures shelf { TouchesShelf MayRead (log_by (texts words.now)) (H.failed shelf.old) (H.failed shelf.new) result }
+    ensures case { IfSome (H.files shelf.old) (λ files. AnswersCase case_of (IsCase asking (texts words.now) files) result) }
+    ensures sound { IfOk result MayRun }
+    ensures asked { IfOk result (λ request. log_by (texts words.now) ≡ Some request.asked) }
+{
+    let asked = match read_log_words(alloc, words) {
+        Ok(Some(asked)) => asked,
+        Ok(None) => return Err(Refusal::Usage),
+        Err(_) => return Err(Refusal::OutOfMemory),
+    };
+    read_for(alloc, asked, shelf)
+}
+
+/// Runs the program that the words of `log` name, over what is handed in, as `gprs_run` runs one by `run`, and writes a log of
+/// the run to `err` while it goes on: a row for each position once it has retired and its lines are written, in order, with all that a
+/// later run needs to go on from it. The words are those after the program's name.
+///
+/// The status, and what `out` took at each status, are those that `gprs_run` has. At 0, 5 and 6 `err` took the whole log. Where a
+/// run stops at 1 or 8, `err` has no line of that: it took the rows of what has retired, and of the last of them maybe a part.
+/// Before a run begins, `err` takes the lines that it takes there. The journal is that of the run, up to where it stopped.
+pub fn log_run<R: Threads + Sync + AllocGlobal, H: Shelf, O: Sink, E: Sink, G: Gate>(
+    rt: &R,
+    words: &[String],
+    shelf: &mut H,
+    out: &mut O,
+    err: &mut E,
+    gate: &G,
+) -> Outcome
+    ensures headline { Headline commands (record {
+      words = texts words.now;
+      files = H.files shelf.old;
+      failed = H.failed shelf.old;
+      failed' = H.failed shelf.new;
+      out = change_of O.written O.faults out.old out.new;
+      err = change_of E.written E.faults err.old err.new;
+      status = result.status;
+      journal = result.journal;
+    }) }
+
+    // The shelf is not read for words of no command.
+    ensures unread { log_by (texts words.now) ≡ None → shelf.new ≡ shelf.old }
+{
+    let alloc = rt.alloc();
+    match read_log(alloc, words, shelf) {
+        Ok(request) => carry_out(rt, alloc, request, out, err, gate),
+        Err(refusal) => {
+            let status = refuse(alloc, refusal, err);
+            Outcome {
+                status,
+                journal: empty_journal(alloc),
+            }
+        }
+    }
+}

@@ -1,0 +1,135 @@
+// Carries a run out of which a log is kept, and writes its text, and the log while it goes on.
+ghost use Rattle.std.specs.Prelude.{◌≡◌, ◌⊎◌, ℕ, List, [], length};
+ghost use Rattle.task_ast.specs.View.{plain_program};
+ghost use Rattle.lock_checker.specs.Accepted.{program_of};
+ghost use Rattle.command_line.specs.declared.asked.Command.TheVariants as command;
+ghost use Rattle.call_cases.specs.Answers.{Change, Fails, change_of};
+ghost use Rattle.call_cases.specs.PlainText.{plain_ran, restarts_in};
+ghost use Rattle.call_cases.specs.Texts.{run_text};
+ghost use Rattle.call_cases.specs.Work.{ToDo, work_for};
+ghost use Rattle.batch_calls.specs.inner.Logged.{IsLogged, LogsFor, stop_status};
+ghost use Rattle.batch_calls.specs.inner.Planned.{IsPlanOf, IsPlanned, work_planned};
+ghost use Rattle.batch_calls.specs.inner.Ran.{RunsIf, RanIf};
+
+use crate::plain::end_status;
+use crate::plan::{Begins, Plan};
+use crate::run::{put_tail, stopped};
+use crate::texts::OUTPUT;
+use call_cases::{Outcome, empty_journal};
+use command_line::Asked;
+use crew::Crew;
+use engine::{EngineStop, Report, StopWhy, drive_noted};
+use gp_base::{Sink, put_all};
+use lock_checker::Checked;
+use retirement_log::LogNotes;
+use std::alloc::Global;
+use std::thread::Threads;
+use subthread::Work;
+
+// Runs the program of a plan, and writes the printed lines to `out`, and its log.
+fn put_noted<R: Threads + Sync, C: Crew, O: Sink, L: Sink>(
+    rt: &R,
+    alloc: Global,
+    asked: &Asked,
+    checked: &Checked,
+    code: &Work,
+    begins: Begins,
+    crew: &mut C,
+    out: &mut O,
+    log: &mut L,
+) -> Result<Report, EngineStop>
+    requires planned { IsPlanned asked.now (plain_program (program_of checked.now)) code.now begins }
+    requires ready { C.ready crew.old }
+    requires work { C.work crew.old ≡ code.now }
+    requires none_out { C.out crew.old ≡ [] }
+    requires none_posted { C.posted crew.old ≡ [] }
+    requires run { asked.now.command ≡ command.Log }
+    ensures lines { let taken = change_of O.written O.faults out.old out.new in let logged = change_of L.written L.faults log.old log.new in
+        RunsIf (Fails taken ⊎ Fails logged) (work_for asked.now (plain_program (program_of checked.now)) begins.inputs begins.faults.list) taken result }
+    ensures log { IsLogged (work_for asked.now (plain_program (program_of checked.now)) begins.inputs begins.faults.list) (change_of L.written L.faults log.old log.new) result }
+{
+    let Begins {
+        layout,
+        inputs,
+        faults,
+        limits,
+        ..
+    } = begins;
+    let mut notes = LogNotes::new(alloc);
+    drive_noted(
+        rt, alloc, code, layout, inputs, faults, limits, crew, out, &mut notes, log,
+    )
+}
+
+/// Runs a plan with a crew, and writes the first line, the printed lines and the tail, and to `log` a row for each position
+/// that retires.
+pub fn put_logged<R: Threads + Sync, C: Crew, O: Sink, L: Sink>(
+    rt: &R,
+    alloc: Global,
+    code: &Work,
+    plan: Plan,
+    crew: &mut C,
+    out: &mut O,
+    log: &mut L,
+) -> Result<Report, EngineStop>
+    requires planned { IsPlanOf code.now plan }
+    requires ready { C.ready crew.old }
+    requires work { C.work crew.old ≡ code.now }
+    requires none_out { C.out crew.old ≡ [] }
+    requires none_posted { C.posted crew.old ≡ [] }
+    requires run { plan.asked.command ≡ command.Log }
+    ensures text { let taken = change_of O.written O.faults out.old out.new in let logged = change_of L.written L.faults log.old log.new in
+        RanIf (Fails taken ⊎ Fails logged) (work_planned plan) (run_text (plain_ran (work_planned plan)) (restarts_in (work_planned plan)) (length plan.begins.faults.list)) taken result }
+    ensures log { IsLogged (work_planned plan) (change_of L.written L.faults log.old log.new) result }
+{
+    let Plan {
+        asked,
+        checked,
+        begins,
+    } = plan;
+    match put_all(out, OUTPUT) {
+        Ok(()) => {}
+        Err(fault) => return Err(stopped(fault, empty_journal(alloc))),
+    }
+    let report = match put_noted(rt, alloc, &asked, &checked, code, begins, crew, out, log) {
+        Ok(report) => report,
+        Err(stop) => return Err(stop),
+    };
+    match put_tail(alloc, &checked, &report, out) {
+        Ok(()) => Ok(report),
+        Err(fault) => Err(stopped(fault, report.journal)),
+    }
+}
+
+// The status of a stop.
+fn stop_status(why: StopWhy) -> u8
+    ensures { result ≡ stop_status why }
+{
+    match why {
+        StopWhy::WriteFault => 8,
+        StopWhy::OutOfMemory => 1,
+    }
+}
+
+/// How a run ended of which a log was kept. No line tells why it stopped, since that would stand in the log.
+pub fn outcome_logged(ran: Result<Report, EngineStop>) -> Outcome
+    ensures { (work : ToDo) (text : List ℕ) (out log : Change) → RanIf (Fails out ⊎ Fails log) work text out ran → IsLogged work log ran →
+        LogsFor work text out log result.status result.journal }
+{
+    match ran {
+        Ok(report) => {
+            let status = end_status(report.end);
+            Outcome {
+                status,
+                journal: report.journal,
+            }
+        }
+        Err(stop) => {
+            let status = stop_status(stop.why);
+            Outcome {
+                status,
+                journal: stop.journal,
+            }
+        }
+    }
+}
