@@ -1,0 +1,3 @@
+pub mod FitRows
+pub mod Replaying
+pub mod Texts

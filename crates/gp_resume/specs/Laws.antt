@@ -1,0 +1,66 @@
+-- From the first rows of the plain run's own log the plain run goes on.
+use Rattle.std.specs.Prelude.{◌≡◌, ℕ, zero, suc, ◌≤◌, pos, List, [], ◌++◌, length, take, drop, codes}
+use Rattle.gp_base.specs.declared.limits.Limits.{Limits}
+use Rattle.gp_base.specs.declared.feed.Inputs.{Inputs}
+use Rattle.task_ast.specs.Tree.{Program}
+use Rattle.task_ast.specs.Names.{records_of}
+use Rattle.task_ast.specs.Layout.{cut}
+use Rattle.task_ast.specs.Plain as plain
+use Rattle.task_ast.specs.Position.{before}
+use Rattle.restart_log.specs.Lines.{printed}
+use Rattle.restart_log.specs.Tail.{tail_text}
+use Rattle.crew.specs.Noted.{left_in_order}
+use Rattle.retirement_log.specs.Rows.{Row}
+use Rattle.retirement_log.specs.Log.{rows_of}
+use Rattle.gp_resume.specs.Fitting.{resumed_at}
+use Rattle.gp_resume.specs.Resumed as resumed
+use Rattle.gp_resume.specs.Resumed.{lines_of, bytes_before}
+
+module _ (program : Program) (inputs : Inputs) (limits : Limits) where
+  -- the first rows of the plain run's own log
+  abbrev pub own_rows : ℕ → List Row
+  own_rows p = take p (rows_of (left_in_order program inputs limits))
+
+  -- the text up to the lines of so many positions; it is there once one has retired
+  abbrev pub text_before : ℕ → List ℕ
+  text_before zero = []
+  text_before (suc p) = codes "output\n" ++ printed (lines_of (take (suc p) (plain.order program inputs limits)))
+
+  -- the text of the run of one thread
+  abbrev pub text_of_one : List ℕ
+  text_of_one =
+      codes "output\n" ++ (printed (lines_of (plain.order program inputs limits))
+      ++ tail_text (plain.end program inputs limits) (cut (records_of program.heads) (plain.final_records program inputs limits))
+      (length (plain.order program inputs limits)) [] 0)
+
+  -- the run that goes on from the first rows of the log is the rest of the plain run
+  pub record IsRest (p : ℕ) : Type 0 where
+    pub rest : resumed.rest program inputs limits (own_rows p) ≡ drop p (plain.order program inputs limits)
+    pub last : resumed.last program inputs limits (own_rows p) ≡ plain.last_state program inputs limits
+    pub end : resumed.end program inputs limits (own_rows p) ≡ plain.end program inputs limits
+    pub final_records : resumed.final_records program inputs limits (own_rows p) ≡ plain.final_records program inputs limits
+    pub count : resumed.count program inputs limits (own_rows p) ≡ length (plain.order program inputs limits)
+
+-- after the first rows of the plain run's log the run stands where the plain run does
+abbrev pub ReplayLaw : Type 0
+ReplayLaw =
+    (program : Program) (inputs : Inputs) (limits : Limits) (p : ℕ) → p ≤ length (plain.order program inputs limits)
+    → resumed_at program inputs limits (own_rows program inputs limits p) ≡ before program inputs limits p
+
+-- and so it goes on as the plain run does
+abbrev pub RestLaw : Type 0
+RestLaw =
+    (program : Program) (inputs : Inputs) (limits : Limits) (p : ℕ) → p ≤ length (plain.order program inputs limits)
+    → IsRest program inputs limits p
+
+-- the rows say how much of the text was there before
+abbrev pub BytesLaw : Type 0
+BytesLaw =
+    (program : Program) (inputs : Inputs) (limits : Limits) (p : ℕ) → p ≤ length (plain.order program inputs limits)
+    → bytes_before (own_rows program inputs limits p) ≡ pos (length (text_before program inputs limits p))
+
+-- and with the text that is still to come it is the text of one thread
+abbrev pub JoinedLaw : Type 0
+JoinedLaw =
+    (program : Program) (inputs : Inputs) (limits : Limits) (p : ℕ) → p ≤ length (plain.order program inputs limits)
+    → text_before program inputs limits p ++ resumed.text program inputs limits (own_rows program inputs limits p) ≡ text_of_one program inputs limits
