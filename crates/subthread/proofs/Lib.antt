@@ -11,9 +11,11 @@ pub mod HeldLocks
 pub mod Instructions
 pub mod Joined
 pub mod Leavings
+pub mod Moves
 pub mod Noted
 pub mod Placing
 pub mod Searched
+pub mod Settings
 pub mod Standing
 pub mod Struck
 pub mod Terms

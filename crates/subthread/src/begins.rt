@@ -86,6 +86,71 @@ fn jump_at(ground: &Ground, pc: usize) -> usize
     }
 }
 
+// What the synchronisation at an instruction does: a fork makes the registers of its child, and the value that a joined
+// thread returns goes into the register that takes it.
+fn begin_data(
+    alloc: Global,
+    does: &Does,
+    ground: &Ground,
+    stand: &Stand,
+    doing: &mut Doing,
+) -> Result<(), AllocError>
+    ensures made { OnOk result ((line : ℕ) → doing_of doing.new ≡ after_all ground.now (begin_actions ground.now.feeds.now (Some (PlainAt line (plain_does does.now))) (place_in ground.now stand.now)) (doing_of doing.old)) }
+    ensures cells { doing.new.cells ≡ doing.old.cells }
+{
+    match does {
+        Does::Fork(forking) => make_child(alloc, forking, ground, stand.ctl.as_slice(), doing),
+        Does::Join(_, into) => {
+            if let Some(k) = into {
+                set_number(&mut doing.regs, *k, ground.joined);
+                Ok(())
+            } else {
+                Ok(())
+            }
+        }
+        Does::Assign(_, _) => Ok(()),
+        Does::GoOn(_) => Ok(()),
+        Does::Unless(_, _) => Ok(()),
+        Does::Again(_, _) => Ok(()),
+        Does::Lock(_, _) => Ok(()),
+        Does::Unlock(_, _) => Ok(()),
+        Does::Barrier(_) => Ok(()),
+        Does::Settle(_, _) => Ok(()),
+        Does::Do(_) => Ok(()),
+    }
+}
+
+// Stands behind the synchronisation at an instruction, which may be a choice as a whole. The number of a fork's child goes
+// into the variable that takes it.
+fn go_behind(does: &Does, ground: &Ground, child: Option<ThreadNo>, stand: &mut Stand)
+    requires task { IsTask ground.now }
+    requires inside { StaysInside (plain_does does.now) stand.old.pc }
+    ensures { (line : ℕ) → place_in ground.now stand.new ≡ behind (tasks_in ground.now) (Some (PlainAt line (plain_does does.now))) child (place_in ground.now stand.old) }
+{
+    match does {
+        Does::Fork(forking) => {
+            if let (Some(c), Some(k)) = (child, forking.into) {
+                set_number(&mut stand.ctl, k, i64::from(c.0));
+                stand.pc += 1;
+            } else {
+                stand.pc += 1;
+            }
+        }
+        Does::Unless(_, n) => {
+            stand.pc = stand.pc + 1 + *n + jump_at(ground, stand.pc + *n);
+        }
+        Does::Assign(_, _) => stand.pc += 1,
+        Does::GoOn(_) => stand.pc += 1,
+        Does::Again(_, _) => stand.pc += 1,
+        Does::Lock(_, _) => stand.pc += 1,
+        Does::Unlock(_, _) => stand.pc += 1,
+        Does::Join(_, _) => stand.pc += 1,
+        Does::Barrier(_) => stand.pc += 1,
+        Does::Settle(_, _) => stand.pc += 1,
+        Does::Do(_) => stand.pc += 1,
+    }
+}
+
 // The synchronisation at an instruction.
 fn begin_at(
     alloc: Global,
@@ -100,41 +165,9 @@ fn begin_at(
     ensures begun { OnOk result ((line : ℕ) → Begun ground.now (begin_actions ground.now.feeds.now (Some (PlainAt line (plain_does does.now))) (place_in ground.now stand.old)) (behind (tasks_in ground.now) (Some (PlainAt line (plain_does does.now))) child (place_in ground.now stand.old)) (place_in ground.now stand.new) (doing_of doing.old) (doing_of doing.new)) }
     ensures cells { doing.new.cells ≡ doing.old.cells }
 {
-    match does {
-        Does::Fork(forking) => {
-            make_child(alloc, forking, ground, stand.ctl.as_slice(), doing)?;
-            if let (Some(c), Some(k)) = (child, forking.into) {
-                set_number(&mut stand.ctl, k, i64::from(c.0));
-                stand.pc += 1;
-                Ok(())
-            } else {
-                stand.pc += 1;
-                Ok(())
-            }
-        }
-        Does::Join(_, into) => {
-            if let Some(k) = into {
-                set_number(&mut doing.regs, *k, ground.joined);
-                stand.pc += 1;
-                Ok(())
-            } else {
-                stand.pc += 1;
-                Ok(())
-            }
-        }
-        Does::Unless(_, n) => {
-            stand.pc = stand.pc + 1 + *n + jump_at(ground, stand.pc + *n);
-            Ok(())
-        }
-        Does::Assign(_, _) => Ok(stand.pc += 1),
-        Does::GoOn(_) => Ok(stand.pc += 1),
-        Does::Again(_, _) => Ok(stand.pc += 1),
-        Does::Lock(_, _) => Ok(stand.pc += 1),
-        Does::Unlock(_, _) => Ok(stand.pc += 1),
-        Does::Barrier(_) => Ok(stand.pc += 1),
-        Does::Settle(_, _) => Ok(stand.pc += 1),
-        Does::Do(_) => Ok(stand.pc += 1),
-    }
+    begin_data(alloc, does, ground, stand, doing)?;
+    go_behind(does, ground, child, stand);
+    Ok(())
 }
 
 // Whether a thread starts.
@@ -173,5 +206,18 @@ pub fn begin(
         )
     } else {
         Ok(())
+    }
+}
+
+/// Stands behind the synchronisation with which a run begins, as `begin` does, and does nothing else.
+pub fn begin_control(begins: &SyncOp, ground: &Ground, child: Option<ThreadNo>, stand: &mut Stand)
+    requires { IsTask ground.now }
+    ensures { place_in ground.now stand.new ≡ code_begins (tasks_in ground.now) begins.now child (place_in ground.now stand.old) }
+{
+    if is_start(begins) {
+        return;
+    }
+    if stand.pc < ground.instrs.len() {
+        go_behind(&ground.instrs[stand.pc].does, ground, child, stand)
     }
 }

@@ -3,6 +3,7 @@
 
 mod begins;
 mod cells;
+mod control;
 mod damage;
 mod deeds;
 mod footprints;
@@ -14,10 +15,13 @@ mod notes;
 mod numbers;
 mod places;
 mod run;
+mod setting;
 mod task;
 mod values;
 mod walk;
 
+pub use control::control_of;
 pub use footprints::lock_footprint;
 pub use run::{run_counted, run_task};
+pub use setting::set_cells;
 pub use task::{Done, Task, Work};

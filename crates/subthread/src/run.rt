@@ -46,8 +46,8 @@ fn ground_of<'a>(work: &'a Work, task: &Task) -> Ground<'a>
     }
 }
 
-// The cells of the bundles at hand, of which none was written.
-fn cells_of<'a>(alloc: Global, work: &'a Work, bundles: Seq<Bundle>) -> Cells<'a>
+/// The cells of the bundles at hand, of which none was written.
+pub fn cells_of<'a>(alloc: Global, work: &'a Work, bundles: Seq<Bundle>) -> Cells<'a>
     requires rising { IsStrictlyIncreasing (map lock_in bundles) }
     requires sizes { All (λ (b : BundleThere). length b.cells ≡ length (under_lock (under_of work.now) b.lock)) bundles }
     ensures { result ≡ record { under = under_of work.now; came = bundles; written = [] } }

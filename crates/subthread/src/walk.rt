@@ -3,6 +3,7 @@ ghost use Rattle.std.specs.Prelude.{◌≡◌, is_some, map, option_map, slice_g
 ghost use Rattle.task_ast.specs.Control.{all_of};
 ghost use Rattle.task_code.specs.Reading.{fork_arguments, gift_action, step_does, step_instr};
 ghost use Rattle.task_code.specs.View.{plain_does, plain_forking, plain_gifts, plain_instrs};
+ghost use Rattle.subthread.specs.inner.Moving.{Moved};
 ghost use Rattle.subthread.specs.inner.Running.{env_in, place_in, did, body_in, Holds, IsTask, StaysInside, StepIsAtHand, AreAtHand, Stepped, Ran};
 
 use crate::deeds::{fits, perform};
@@ -16,7 +17,8 @@ use std::alloc::{AllocError, Global};
 use task_ast::{Next, SyncOp};
 use task_code::{Calc, Does, Forking};
 
-fn stop(sync: SyncOp, line: u32) -> Went
+/// A stop before a synchronisation.
+pub fn stop(sync: SyncOp, line: u32) -> Went
     ensures { result ≡ Went.Stopped (record { sync = sync; line = line }) }
 {
     Went::Stopped(Next { sync, line })
@@ -59,21 +61,17 @@ pub fn fork_values(
     }
 }
 
-// The step at an instruction. A loop turn is only found.
-fn step_at(
+/// The step at an instruction, without what a data statement does. A loop turn is only found.
+#[inline(always)]
+pub fn control_at(
     alloc: Global,
     does: &Does,
     line: u32,
     ground: &Ground,
     stand: &mut Stand,
-    doing: &mut Doing,
-    names: &mut Names,
 ) -> Result<Went, AllocError>
-    requires cells { Holds ground.now doing.old }
-    requires inside { StaysInside (plain_does does.now) stand.old.pc }
-    requires named { StepIsAtHand ground.now (step_does ground.now.feeds.now line (plain_does does.now) (place_in ground.now stand.old)) }
-    ensures steps { IfOk result (λ went. Stepped ground.now (step_does ground.now.feeds.now line (plain_does does.now) (place_in ground.now stand.old)) went (place_in ground.now stand.old) (place_in ground.now stand.new) (did doing.old names.old) (did doing.new names.new)) }
-    ensures holds { Holds ground.now doing.new }
+    requires { StaysInside (plain_does does.now) stand.old.pc }
+    ensures { IfOk result (λ went. Moved (step_does ground.now.feeds.now line (plain_does does.now) (place_in ground.now stand.old)) went (place_in ground.now stand.old) (place_in ground.now stand.new)) }
 {
     match does {
         Does::Assign(k, c) => match control_value(c, ground, stand.ctl.as_slice()) {
@@ -143,6 +141,34 @@ fn step_at(
         )),
         Does::Do(deed) => {
             if fits(deed, ground, stand.ctl.as_slice()) {
+                stand.pc += 1;
+                Ok(Went::On)
+            } else {
+                Ok(fault(line))
+            }
+        }
+    }
+}
+
+// The step at an instruction. A loop turn is only found.
+fn step_at(
+    alloc: Global,
+    does: &Does,
+    line: u32,
+    ground: &Ground,
+    stand: &mut Stand,
+    doing: &mut Doing,
+    names: &mut Names,
+) -> Result<Went, AllocError>
+    requires cells { Holds ground.now doing.old }
+    requires inside { StaysInside (plain_does does.now) stand.old.pc }
+    requires named { StepIsAtHand ground.now (step_does ground.now.feeds.now line (plain_does does.now) (place_in ground.now stand.old)) }
+    ensures steps { IfOk result (λ went. Stepped ground.now (step_does ground.now.feeds.now line (plain_does does.now) (place_in ground.now stand.old)) went (place_in ground.now stand.old) (place_in ground.now stand.new) (did doing.old names.old) (did doing.new names.new)) }
+    ensures holds { Holds ground.now doing.new }
+{
+    match does {
+        Does::Do(deed) => {
+            if fits(deed, ground, stand.ctl.as_slice()) {
                 note(deed, ground, stand.ctl.as_slice(), names)?;
                 perform(alloc, deed, ground, stand.ctl.as_slice(), doing)?;
                 stand.pc += 1;
@@ -151,6 +177,7 @@ fn step_at(
                 Ok(fault(line))
             }
         }
+        _ => control_at(alloc, does, line, ground, stand),
     }
 }
 

@@ -1,0 +1,19 @@
+use Rattle.std.proofs.Common.{refl, ◌∙◌}
+use Rattle.subthread.specs.declared.ground.Stand.{Stand}
+use Rattle.subthread.proofs.Moves.{whole_led}
+use Rattle.subthread.proofs.control.control_of.Goals as goal
+
+pub returns : goal.returns
+returns c =
+    let ground = c.control_ground-ground.result in
+    let is = c.control_ground-ground.ensures.is in
+    let at = c.args.at in
+    let before : Stand = record { pc = at.pc; ctl = c.in_ok-ctl.ctl } in
+    let middle = c.begin_control.new.stand in
+    let then = c.control_body.new.stand in
+    let led = whole_led c.args.work.now ground at c.args.thread is c.args.begins.now.sync c.args.child c.args.ctl.now
+    before refl c.in_ok-ctl.ensures middle then c.in_ok-next.next c.begin_control.ensures c.in_ok-next.ensures in
+    record {
+      next = led.next_is;
+      place = (λ i. record { at = record { task = at.task; pc = c.in_ok-pc.ensures i }; ctl = then.ctl; me = c.args.thread }) ∙ led.at_is;
+    }
