@@ -74,7 +74,7 @@ module _ {A S E : Type 0} (move : A → Move A S E) where
 -- ---- what a row says
 
 -- the cells that a row names are those that were written
-writes-back : (writes : List (ℕ × ℤ)) → map (λ cell. (natural cell.0, cell.1)) (map (λ write. let cell : ℤ × ℤ = (pos write.0, write.1) in cell) writes) ≡ writes
+pub writes-back : (writes : List (ℕ × ℤ)) → map (λ cell. (natural cell.0, cell.1)) (map (λ write. let cell : ℤ × ℤ = (pos write.0, write.1) in cell) writes) ≡ writes
 writes-back [] = refl
 writes-back (w ∷ ws) = ap (λ rest. w ∷ rest) (writes-back ws)
 
@@ -93,7 +93,7 @@ pub length-left : (program : Program) (inputs : Inputs) (limits : Limits) (k : �
 length-left program inputs limits k [] = refl
 length-left program inputs limits k (s ∷ run) = ap suc (length-left program inputs limits (suc k) run)
 
-length-rows : (k bytes : ℕ) (told : List Effect) → length (rows_from k bytes told) ≡ length told
+pub length-rows : (k bytes : ℕ) (told : List Effect) → length (rows_from k bytes told) ≡ length told
 length-rows k bytes [] = refl
 length-rows k bytes (e ∷ told) = ap suc (length-rows (suc k) (bytes + size_of e) told)
 
@@ -101,7 +101,7 @@ length-rows k bytes (e ∷ told) = ap suc (length-rows (suc k) (bytes + size_of 
 
 module _ (program : Program) (inputs : Inputs) (limits : Limits) where
   -- the row of a position leads to the next one
-  replay-step : (p bytes : ℕ) (s : Subthread) → slice_get (order program inputs limits) p ≡ Some s
+  pub replay-step : (p bytes : ℕ) (s : Subthread) → slice_get (order program inputs limits) p ≡ Some s
       → replayed program inputs limits (before program inputs limits p) (row_of p bytes (left_at program inputs limits p s)) ≡ before program inputs limits (suc p)
   replay-step p bytes s e =
       let there = step_there (move program inputs limits) (suc limits.subthreads) p (opening program inputs limits) s e in
@@ -116,7 +116,7 @@ module _ (program : Program) (inputs : Inputs) (limits : Limits) where
       ap (led_by (before program inputs limits p) (row_of p bytes (left_at program inputs limits p s))) there.moves
       ∙ (ap (λ (st : State). let y : Plain = record next { state = st } in y) same_data ∙ sym reached)
 
-  run-push : (x : Plain) (rows : List Row) (row : Row)
+  pub run-push : (x : Plain) (rows : List Row) (row : Row)
       → run_after program inputs limits x (rows ++ row ∷ []) ≡ replayed program inputs limits (run_after program inputs limits x rows) row
   run-push x [] row = refl
   run-push x (r ∷ rows) row = run-push (replayed program inputs limits x r) rows row

@@ -1,7 +1,23 @@
 //! Goes on with a run from the log of its retirements, without running the positions again that the log has.
 //!
-//! These are the definitions and their laws: which rows fit a program, the run that goes on from them, and that from the rows of
-//! the plain run's own log the plain run goes on.
+//! The rows of the log are read one after another. Each has to fit the run that the rows before it leave: the next subthread of that run takes its turn, its control
+//! is walked without its data, and the data are those of the row. Behind the last row the run goes on by a crew, one subthread after another.
 #![tactic(auto)]
 
+mod beginning;
+mod course;
+mod drive;
+mod fitting;
+mod groups;
 pub mod laws;
+mod log;
+mod numbers;
+mod reading;
+mod replay;
+mod row;
+mod running;
+mod stop;
+mod turning;
+
+pub use drive::resume_drive;
+pub use stop::ResumeStop;

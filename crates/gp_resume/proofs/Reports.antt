@@ -1,0 +1,280 @@
+-- What a run comes to that went on from the rows of a log.
+use Rattle.std.proofs.Common.{◌≡◌, inl, inr, ℕ, zero, suc, ◌+◌, ◌-◌, ◌<◌, ◌≤◌, ◌&&◌, nat_eq, Bool, false, List, [], ◌∷◌, length, map, Contains, Option, Some, None, Ok, Err, refl, sym, ap, ◌∙◌, subst, arith}
+use Rattle.std.specs.Prelude.{ℤ, pos, negsuc, ◌≤ℤ◌, Result}
+use Rattle.std.specs.List.{IsDistinct, AllByRecursion}
+use Rattle.std.specs.Io.KnownBytes.{Appends}
+use Rattle.std.proofs.lemmas.Bool.{cases_eq, ne_eqb}
+use Rattle.gp_base.specs.Sinks.{AppendsPrefix}
+use Rattle.gp_base.specs.declared.ending.End.{End}
+use Rattle.gp_base.specs.declared.feed.Inputs.{Inputs}
+use Rattle.gp_base.specs.declared.limits.Limits.{Limits}
+use Rattle.task_ast.specs.Tree.{Program}
+use Rattle.task_ast.specs.Names.{records_of, cells_in}
+use Rattle.task_ast.specs.State.{cell_value}
+use Rattle.task_ast.specs.Repeat.{Move, Goes, Ends, steps, state_after}
+use Rattle.task_ast.specs.Table.{numbers}
+use Rattle.task_ast.specs.Plain.{Subthread, Plain, tree_machine, ending_of, move, opening}
+use Rattle.task_ast.proofs.PlainSteps.{begins_of}
+use Rattle.dependence.specs.JournalTests.{same_attempt}
+use Rattle.dependence.proofs.Struck.{Contains-head, Contains-later}
+use Rattle.record_store.proofs.States.{records_law}
+use Rattle.reorder_list.specs.declared.report.Report.{Report}
+use Rattle.restart_log.specs.Lines.{printed}
+use Rattle.retirement_log.specs.Rows.{Row}
+use Rattle.subthread.specs.Tasks.{program_in}
+use Rattle.gp_resume.specs.declared.course.Plan.{Plan}
+use Rattle.gp_resume.specs.declared.course.Course.{Course}
+use Rattle.gp_resume.specs.Fitting.{FitsMove, led_by, replayed, run_after, FitFrom, Fit, resumed_at, least_bytes}
+use Rattle.gp_resume.specs.Resumed as resumed
+use Rattle.gp_resume.specs.Resumed.{lines_of, bytes_from, bytes_before}
+use Rattle.gp_resume.specs.Resuming.{AnswersLog, IsRefused, ReportsRest, IsEachOnce, AreSomeOnce}
+use Rattle.gp_resume.specs.declared.stop.ResumeStop.{ResumeStop}
+use Rattle.gp_resume.specs.declared.stop.ResumeStop.TheVariants as stop
+use Rattle.gp_resume.specs.Reading.{Rows, IsLogOf}
+use Rattle.gp_resume.specs.declared.log.Logged.{Logged}
+use Rattle.gp_resume.specs.inner.Course.{Stands}
+use Rattle.gp_resume.specs.inner.Going.{left, rest, last, firsts_from, WentOn, Replays}
+use Rattle.gp_resume.proofs.LogAnswers.{one-answer}
+
+-- ---- the first attempts of positions in a row
+
+firsts-apart : (q p n : ℕ) → q < p → AllByRecursion (λ pair. same_attempt (q, 0) pair ≡ false) (firsts_from p n)
+firsts-apart q p zero less = tt
+firsts-apart q p (suc n) less =
+    (ap (λ b. b && nat_eq 0 0) (ne_eqb q p (λ same. omega arith)), firsts-apart q (suc p) n (omega arith))
+
+firsts-distinct : (p n : ℕ) → IsDistinct same_attempt (firsts_from p n)
+unfolding IsDistinct
+firsts-distinct p zero = tt
+firsts-distinct p (suc n) = (firsts-apart p (suc p) n (omega arith), firsts-distinct (suc p) n)
+
+firsts-among : (p n q attempt : ℕ) → Contains (firsts_from p n) (q, attempt) → (p ≤ q) × (q < p + n) × (attempt ≡ 0)
+firsts-among p zero q attempt (k, less, is) = absurd (omega arith)
+firsts-among p (suc n) q attempt (zero, less, is) =
+    let first = ap (λ (pair : ℕ × ℕ). pair.0) is in
+    let second = ap (λ (pair : ℕ × ℕ). pair.1) is in
+    (omega arith, omega arith, sym second)
+firsts-among p (suc n) q attempt (suc k, less, is) =
+    let later = firsts-among (suc p) n q attempt (k, omega arith, is) in
+    let low = later.0 in
+    let high = later.1 in
+    (omega arith, omega arith, later.2)
+
+firsts-has : (p n q : ℕ) → p ≤ q → q < p + n → Contains (firsts_from p n) (q, 0)
+firsts-has p zero q low high = absurd (omega arith)
+firsts-has p (suc n) q low high =
+    elim (cases_eq q p) [
+      | inl same ↦ subst (λ r. Contains (firsts_from p (suc n)) (r, 0)) (sym same) (Contains-head (p, 0) (firsts_from (suc p) n))
+      | inr differ ↦ Contains-later (p, 0) (firsts_from (suc p) n) (q, 0) (firsts-has (suc p) n q (omega arith) (omega arith))
+    ]
+
+pub each-once : (posted : List (ℕ × ℕ)) (p n : ℕ) → posted ≡ firsts_from p n → IsEachOnce posted p (p + n)
+each-once posted p n same =
+    subst (λ pairs. IsEachOnce pairs p (p + n)) (sym same)
+    (record {
+      distinct = firsts-distinct p n;
+      these = λ q attempt. (
+        firsts-among p n q attempt,
+        λ there. subst (λ a. Contains (firsts_from p n) (q, a)) (sym there.2) (firsts-has p n q there.0 there.1),
+      );
+    })
+
+pub some-once : (posted : List (ℕ × ℕ)) (p n most : ℕ) → n ≤ most → posted ≡ firsts_from p n → AreSomeOnce posted p (p + most)
+some-once posted p n most few same =
+    subst (λ pairs. AreSomeOnce pairs p (p + most)) (sym same)
+    (record {
+      distinct = firsts-distinct p n;
+      among = λ q attempt there.
+          let is = firsts-among p n q attempt there in
+          let high = is.1 in
+          (is.0, omega arith, is.2);
+    })
+
+pub none-once : (posted : List (ℕ × ℕ)) (from to : ℕ) → posted ≡ [] → AreSomeOnce posted from to
+unfolding IsDistinct
+none-once posted from to none =
+    subst (λ pairs. AreSomeOnce pairs from to) (sym none)
+    (record { distinct = tt; among = λ q attempt there. let less = there.1 in absurd (omega arith) })
+
+-- ---- what rows leave
+
+-- the number is not negative
+abbrev IsNatural : ℤ → Type 0
+IsNatural (pos n) = Unit {0}
+IsNatural (negsuc n) = ⊥
+
+rises : (a b : ℤ) → IsNatural a → a ≤ℤ b → IsNatural b
+rises (pos a) (pos b) low up = tt
+rises (pos a) (negsuc b) low up = absurd up.le
+rises (negsuc a) b low up = absurd low
+
+natural : (z : ℤ) → IsNatural z → (n : ℕ) × (z ≡ pos n)
+natural (pos n) low = (n, refl)
+natural (negsuc n) low = absurd low
+
+module _ (program : Program) (inputs : Inputs) (limits : Limits) where
+  -- each row is of one position
+  issued-after : (x : Plain) (before : Option Row) (rows : List Row) → FitFrom program inputs limits x before rows
+      → (run_after program inputs limits x rows).table.issued ≡ x.table.issued + length rows
+  issued-after x before [] fit = omega arith
+  issued-after x before (row ∷ rows) fit =
+      go (move program inputs limits x) refl fit (λ y. issued-after y (Some row) rows)
+    where
+      go : (m : Move Plain Subthread End) → move program inputs limits x ≡ m
+          → FitsMove program x m before row × FitFrom program inputs limits (led_by x row m) (Some row) rows
+          → ((y : Plain) → FitFrom program inputs limits y (Some row) rows
+          → (run_after program inputs limits y rows).table.issued ≡ y.table.issued + length rows)
+          → (run_after program inputs limits (led_by x row m) rows).table.issued ≡ x.table.issued + suc (length rows)
+      go (Goes s y) is (fits, later) again =
+          let all = again (led_by x row (Goes s y)) later in
+          let b = begins_of (tree_machine program inputs limits) x s y is in
+          let one : y.table.issued ≡ suc x.table.issued = ap (λ (y : Plain). y.table.issued) b.left ∙ ap suc b.same.issued in
+          omega arith
+      go (Ends end) is (fits, later) again = absurd fits
+
+  pub issued-are : (rows : List Row) → Fit program inputs limits rows → (resumed_at program inputs limits rows).table.issued ≡ length rows
+  issued-are rows fit =
+      issued-after (opening program inputs limits) None rows fit ∙ (let same : 0 + length rows ≡ length rows = omega arith in same)
+
+  -- the bytes of rows are a number of bytes
+  bytes-rise : (x : Plain) (before : Option Row) (rows : List Row) → FitFrom program inputs limits x before rows → (b : ℤ)
+      → IsNatural b → IsNatural (least_bytes before) → IsNatural (bytes_from b rows)
+  bytes-rise x before [] fit b low least = low
+  bytes-rise x before (row ∷ rows) fit b low least =
+      let more = go (move program inputs limits x) fit.0 in
+      bytes-rise (replayed program inputs limits x row) (Some row) rows fit.1 row.bytes more more
+    where
+      go : (m : Move Plain Subthread End) → FitsMove program x m before row → IsNatural row.bytes
+      go (Goes s y) fits = rises (least_bytes before) row.bytes least fits.bytes
+      go (Ends end) fits = absurd fits
+
+  pub bytes-natural : (rows : List Row) → Fit program inputs limits rows → (n : ℕ) × (bytes_before rows ≡ pos n)
+  bytes-natural rows fit =
+      natural (bytes_before rows) (bytes-rise (opening program inputs limits) None rows fit (pos 0) tt tt)
+
+-- ---- how the run goes on from them
+
+module _ (plan : Plan) (rows : List Row) (fit : Fit (program_in plan.work.now) plan.inputs.value plan.limits rows) where
+  abbrev pub begun_at : Plain
+  begun_at = resumed_at (program_in plan.work.now) plan.inputs.value plan.limits rows
+
+  pub issued-is : (resumed_at (program_in plan.work.now) plan.inputs.value plan.limits rows).table.issued ≡ length rows
+  issued-is = issued-are (program_in plan.work.now) plan.inputs.value plan.limits rows fit
+
+  left-is : left plan begun_at ≡ resumed.steps_left (program_in plan.work.now) plan.inputs.value plan.limits rows
+  left-is = ap (λ n. suc plan.limits.subthreads - n) issued-is
+
+  pub rest-is : rest plan (resumed_at (program_in plan.work.now) plan.inputs.value plan.limits rows)
+      ≡ resumed.rest (program_in plan.work.now) plan.inputs.value plan.limits rows
+  rest-is = ap (λ n. steps (move (program_in plan.work.now) plan.inputs.value plan.limits) n begun_at) left-is
+
+  last-is : last plan begun_at ≡ resumed.last (program_in plan.work.now) plan.inputs.value plan.limits rows
+  last-is = ap (λ n. state_after (move (program_in plan.work.now) plan.inputs.value plan.limits) n begun_at) left-is
+
+  pub count-is : length rows + length (rest plan (resumed_at (program_in plan.work.now) plan.inputs.value plan.limits rows))
+      ≡ resumed.count (program_in plan.work.now) plan.inputs.value plan.limits rows
+  count-is = ap (λ run. length rows + length run) rest-is
+
+  module _ (end : End) (course : Course) (went : WentOn plan begun_at end course) where
+    cells-are : length course.store.cells ≡ cells_in (records_of (program_in plan.work.now).heads)
+    cells-are = went.home.cells
+
+    records-are : course.store.cells ≡ resumed.final_records (program_in plan.work.now) plan.inputs.value plan.limits rows
+    records-are =
+        records_law course.store
+        ∙ (λ i. map (cell_value ((went.state ∙ ap (λ (p : Plain). p.state) last-is) i)) (numbers 0 (cells-are i)))
+
+    pub reports : (bytes : ℕ) (report : Report) → pos bytes ≡ bytes_before rows → report.end ≡ end → report.records ≡ course.store.cells
+        → report.subthreads ≡ course.issued → report.unused ≡ 0 → report.journal.events ≡ [] → report.journal.restarts ≡ []
+        → ReportsRest (program_in plan.work.now) plan.inputs.value plan.limits rows bytes report
+    reports bytes report bytes_are end_is records_are count_is unused events restarts =
+        record {
+          bytes_are = bytes_are;
+          end = end_is ∙ went.end_is
+              ∙ ap (λ (p : Plain). ending_of (move (program_in plan.work.now) plan.inputs.value plan.limits p)) last-is;
+          records = records_are ∙ records-are;
+          subthreads = count_is ∙ went.issued ∙ ap (λ n. n + length (rest plan begun_at)) issued-is ∙ count-is;
+          unused = unused;
+          events = events;
+          restarts = restarts;
+        }
+
+  pub each-posted : (posted : List (ℕ × ℕ)) → posted ≡ firsts_from begun_at.table.issued (length (rest plan begun_at))
+      → IsEachOnce posted (length rows) (resumed.count (program_in plan.work.now) plan.inputs.value plan.limits rows)
+  each-posted posted are =
+      subst (IsEachOnce posted (length rows)) count-is
+      (each-once posted (length rows) (length (rest plan begun_at)) (are ∙ ap (λ p. firsts_from p (length (rest plan begun_at))) issued-is))
+
+  pub some-posted : (posted : List (ℕ × ℕ))
+      → (n : ℕ) × (n ≤ length (rest plan begun_at)) × (posted ≡ firsts_from begun_at.table.issued n)
+      → AreSomeOnce posted (length rows) (resumed.count (program_in plan.work.now) plan.inputs.value plan.limits rows)
+  some-posted posted (n, few, are) =
+      subst (AreSomeOnce posted (length rows)) count-is
+      (some-once posted (length rows) n (length (rest plan begun_at)) few (are ∙ ap (λ p. firsts_from p n) issued-is))
+
+-- the rows of a log are these alone
+pub same-rows : (program : Program) (inputs : Inputs) (limits : Limits) (bytes : List ℕ) (first second : List Row)
+    → IsLogOf program inputs limits bytes first → IsLogOf program inputs limits bytes second → first ≡ second
+same-rows program inputs limits bytes first second a b =
+    let same = one-answer program inputs limits bytes (Rows first) (Rows second) a b in cc same
+
+-- what went on from where the rows of a log leave the run
+module _ (plan : Plan) (log : List ℕ) (logged : Logged) (course : Course) (replays : Replays plan log logged course) where
+  -- the bytes that the rows tell of
+  pub log-bytes : (n : ℕ) × (logged.bytes ≡ pos n)
+  log-bytes =
+      let some = bytes-natural (program_in plan.work.now) plan.inputs.value plan.limits replays.rows replays.is_log.begins.fit in
+      (some.0, replays.bytes ∙ some.1)
+
+  module _ (rows : List Row) (is_log : IsLogOf (program_in plan.work.now) plan.inputs.value plan.limits log rows) where
+    same : replays.rows ≡ rows
+    same = same-rows (program_in plan.work.now) plan.inputs.value plan.limits log replays.rows rows replays.is_log is_log
+
+    stands-there : Stands plan (resumed_at (program_in plan.work.now) plan.inputs.value plan.limits rows) course
+    stands-there =
+        subst (λ rows. Stands plan (resumed_at (program_in plan.work.now) plan.inputs.value plan.limits rows) course) same replays.stands
+
+    pub all-reports : (end : End) (later : Course) → ((x : Plain) → Stands plan x course → WentOn plan x end later)
+        → (bytes : ℕ) (report : Report) → pos bytes ≡ logged.bytes → report.end ≡ end → report.records ≡ later.store.cells
+        → report.subthreads ≡ later.issued → report.unused ≡ 0 → report.journal.events ≡ [] → report.journal.restarts ≡ []
+        → ReportsRest (program_in plan.work.now) plan.inputs.value plan.limits rows bytes report
+    all-reports end later went bytes report bytes_are =
+        reports plan rows is_log.begins.fit end later (went (begun_at plan rows is_log.begins.fit) stands-there) bytes report
+        (bytes_are ∙ replays.bytes ∙ ap bytes_before same)
+
+    pub all-lines : (before after : Option (List ℕ))
+        → ((x : Plain) → Stands plan x course → Appends before after (printed (lines_of (rest plan x))))
+        → Appends before after (printed (resumed.lines (program_in plan.work.now) plan.inputs.value plan.limits rows))
+    all-lines before after wrote =
+        subst (λ run. Appends before after (printed (lines_of run))) (rest-is plan rows is_log.begins.fit)
+        (wrote (begun_at plan rows is_log.begins.fit) stands-there)
+
+    pub all-partly : (before after : Option (List ℕ))
+        → ((x : Plain) → Stands plan x course → AppendsPrefix before after (printed (lines_of (rest plan x))))
+        → AppendsPrefix before after (printed (resumed.lines (program_in plan.work.now) plan.inputs.value plan.limits rows))
+    all-partly before after wrote =
+        subst (λ run. AppendsPrefix before after (printed (lines_of run))) (rest-is plan rows is_log.begins.fit)
+        (wrote (begun_at plan rows is_log.begins.fit) stands-there)
+
+    pub all-posts : (posted : List (ℕ × ℕ))
+        → ((x : Plain) → Stands plan x course → posted ≡ firsts_from x.table.issued (length (rest plan x)))
+        → IsEachOnce posted (length rows) (resumed.count (program_in plan.work.now) plan.inputs.value plan.limits rows)
+    all-posts posted are =
+        each-posted plan rows is_log.begins.fit posted (are (begun_at plan rows is_log.begins.fit) stands-there)
+
+    pub all-some : (posted : List (ℕ × ℕ))
+        → ((x : Plain) → Stands plan x course → (n : ℕ) × (n ≤ length (rest plan x)) × (posted ≡ firsts_from x.table.issued n))
+        → AreSomeOnce posted (length rows) (resumed.count (program_in plan.work.now) plan.inputs.value plan.limits rows)
+    all-some posted are =
+        some-posted plan rows is_log.begins.fit posted (are (begun_at plan rows is_log.begins.fit) stands-there)
+
+-- ---- a run that stops
+
+-- where a log has rows, and is not refused
+pub told-answers : (A : Type 0) (program : Program) (inputs : Inputs) (limits : Limits) (bytes : List ℕ) (result : Result A ResumeStop)
+    → ¬ IsRefused result → (rows : List Row) → IsLogOf program inputs limits bytes rows → AnswersLog program inputs limits bytes result
+told-answers A program inputs limits bytes (Ok value) told rows is_log = (rows, is_log)
+told-answers A program inputs limits bytes (Err (stop.LogLine number)) told rows is_log = absurd (told tt)
+told-answers A program inputs limits bytes (Err (stop.LogFit number)) told rows is_log = absurd (told tt)
+told-answers A program inputs limits bytes (Err stop.WriteFault) told rows is_log = (rows, is_log)
+told-answers A program inputs limits bytes (Err stop.OutOfMemory) told rows is_log = tt

@@ -1,0 +1,74 @@
+use Rattle.std.proofs.Common.{◌≡◌, pos, [], SFits, w64, rules, Option, Some, refl, sym, ◌∙◌, subst}
+use Rattle.std.proofs.lemmas.Bool.{false≢true}
+use Rattle.std.proofs.lemmas.Int.{to_z-of_z}
+use Rattle.task_ast.specs.Plain.{Subthread, Plain, move}
+use Rattle.subthread.specs.Tasks.{program_in}
+use Rattle.retirement_log.specs.Rows.{Row}
+use Rattle.gp_resume.specs.declared.course.Plan.{Plan}
+use Rattle.gp_resume.specs.declared.course.Course.{Course}
+use Rattle.gp_resume.specs.declared.course.Begun.{Begun}
+use Rattle.gp_resume.specs.Fitting.{FitsIssue, FitsMove}
+use Rattle.gp_resume.specs.inner.Course.{Stands, Begins}
+use Rattle.gp_resume.specs.inner.RowsRead.{row_in}
+use Rattle.gp_resume.proofs.log.replay_row.Goals as goal
+use Rattle.gp_resume.proofs.log.replay_row.Goals.{In-Goes}
+
+-- what begins, of the run that the course stood at
+begun-of : (c : In-Goes) (x : Plain) → Stands c.args.plan.now x c.args.course.now
+    → (s : Subthread) × ((y : Plain) × Begins c.args.plan.now x s y c.in-Goes.begun c.next.new.self)
+begun-of c = rw c.in-Goes.is at c.in_ok-begun.ensures
+
+-- the move of the run is the subthread that begins
+module _ (plan : Plan) (x : Plain) (s : Subthread) (y : Plain) (begun : Begun) (course : Course) (begins : Begins plan x s y begun course)
+    (before : Option Row) (row : Row) where
+  fits-move : FitsIssue (program_in plan.work.now) x s before row
+      → FitsMove (program_in plan.work.now) x (move (program_in plan.work.now) plan.inputs.value plan.limits x) before row
+  fits-move fits = subst (λ m. FitsMove (program_in plan.work.now) x m before row) (sym begins.moves) fits
+
+  fits-issue : FitsMove (program_in plan.work.now) x (move (program_in plan.work.now) plan.inputs.value plan.limits x) before row
+      → FitsIssue (program_in plan.work.now) x s before row
+  fits-issue fits = subst (λ m. FitsMove (program_in plan.work.now) x m before row) begins.moves fits
+
+pub returns-then-not-branch-clause-fits : goal.returns-then-not-branch-clause-fits
+returns-then-not-branch-clause-fits c x before stands least =
+    let wide : SFits w64 c.args.least = search rules in
+    let plan = c.args.plan.now in
+    let next = begun-of (goal.at.returns-then-not-branch-clause-fits c).In-Goes x stands in
+    let test = c.in_ok-fits.ensures x next.0 next.1.0 before next.1.1 (to_z-of_z w64 c.args.least wide ∙ least) in (
+      λ wrong. absurd (false≢true wrong),
+      λ fits. absurd (false≢true (sym c.if-not-branch.true
+          ∙ test.1 (fits-issue plan x next.0 next.1.0 c.in-Goes.begun c.next.new.self next.1.1 before (row_in c.args.row) fits))),
+    )
+
+pub replay-requires-clause-fits : goal.replay-requires-clause-fits
+replay-requires-clause-fits c =
+    let wide : SFits w64 c.args.least = search rules in
+    let x = c.requires.stands.0 in
+    let next = begun-of (goal.at.replay-requires-clause-fits c).In-Goes x c.requires.stands.1 in
+    let last : Row = record { position = pos 0; bytes = c.args.least; regs = []; child = []; cells = [] } in
+    record {
+      before = x;
+      subthread = next.0;
+      after = next.1.0;
+      earlier = Some last;
+      begins = next.1.1;
+      fits = (c.in_ok-fits.ensures x next.0 next.1.0 (Some last) next.1.1 (to_z-of_z w64 c.args.least wide)).0 c.if-not-branch.false;
+    }
+
+pub returns-clause-fits : goal.returns-clause-fits
+returns-clause-fits c x before stands least =
+    let wide : SFits w64 c.args.least = search rules in
+    let plan = c.args.plan.now in
+    let next = begun-of (goal.at.returns-clause-fits c).In-Goes x stands in
+    let test = c.in_ok-fits.ensures x next.0 next.1.0 before next.1.1 (to_z-of_z w64 c.args.least wide ∙ least) in (
+      λ fit. fits-move plan x next.0 next.1.0 c.in-Goes.begun c.next.new.self next.1.1 before (row_in c.args.row) (test.0 c.if-not-branch.false),
+      λ fits. refl,
+    )
+
+pub returns-clause-stands : goal.returns-clause-stands
+returns-clause-stands c fit x stands =
+    let wide : SFits w64 c.args.least = search rules in
+    let next = begun-of (goal.at.returns-clause-stands c).In-Goes x stands in
+    let last : Row = record { position = pos 0; bytes = c.args.least; regs = []; child = []; cells = [] } in
+    let fits = (c.in_ok-fits.ensures x next.0 next.1.0 (Some last) next.1.1 (to_z-of_z w64 c.args.least wide)).0 c.if-not-branch.false in
+    c.in_ok-replay.ensures x next.0 next.1.0 (Some last) next.1.1 fits

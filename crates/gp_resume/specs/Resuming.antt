@@ -1,0 +1,54 @@
+-- What a call leaves that goes on from a log.
+use Rattle.std.specs.Prelude.{◌≡◌, ◌≢◌, ◌↔◌, ℕ, pos, ◌≤◌, ◌<◌, ⊤, List, [], Option, Result, Ok, Err, Contains}
+use Rattle.std.specs.List.{IsDistinct}
+use Rattle.gp_base.specs.Sinks.{Rose}
+use Rattle.gp_base.specs.declared.limits.Limits.{Limits}
+use Rattle.gp_base.specs.declared.feed.Inputs.{Inputs}
+use Rattle.task_ast.specs.Tree.{Program}
+use Rattle.dependence.specs.JournalTests.{same_attempt}
+use Rattle.reorder_list.specs.declared.report.Report.{Report}
+use Rattle.retirement_log.specs.Rows.{Row}
+use Rattle.gp_resume.specs.declared.stop.ResumeStop.{ResumeStop}
+use Rattle.gp_resume.specs.declared.stop.ResumeStop.TheVariants.{LogLine, LogFit, WriteFault, OutOfMemory}
+use Rattle.gp_resume.specs.Reading.{LogAnswer, Rows, Broken, Unfit, IsAnswer, IsLogOf}
+use Rattle.gp_resume.specs.Resumed.{bytes_before, end, final_records, count}
+
+-- The log is refused at its first row that is none or doesn't fit, and only such a row; else it has rows, unless memory is out.
+abbrev pub AnswersLog : {T : Type 0} → Program → Inputs → Limits → (bytes : List ℕ) → Result T ResumeStop → Type 0
+AnswersLog program inputs limits bytes (Ok value) = (rows : List Row) × IsLogOf program inputs limits bytes rows
+AnswersLog program inputs limits bytes (Err (LogLine number)) = IsAnswer program inputs limits bytes (Broken number)
+AnswersLog program inputs limits bytes (Err (LogFit number)) = IsAnswer program inputs limits bytes (Unfit number)
+AnswersLog program inputs limits bytes (Err WriteFault) = (rows : List Row) × IsLogOf program inputs limits bytes rows
+AnswersLog program inputs limits bytes (Err OutOfMemory) = ⊤
+
+-- the log is refused
+abbrev pub IsRefused : {T : Type 0} → Result T ResumeStop → Type 0
+IsRefused (Err (LogLine number)) = ⊤
+IsRefused (Err (LogFit number)) = ⊤
+IsRefused result = ⊥
+
+-- How the run ended that went on from these rows, whose text had so many bytes: with the end, the records and the count that it has by definition; nothing was
+-- restarted, no fault was there, and no journal was kept.
+pub record ReportsRest (program : Program) (inputs : Inputs) (limits : Limits) (rows : List Row) (bytes : ℕ) (report : Report) : Type 0 where
+  pub bytes_are : pos bytes ≡ bytes_before rows
+  pub end : report.end ≡ end program inputs limits rows
+  pub records : report.records ≡ final_records program inputs limits rows
+  pub subthreads : report.subthreads ≡ count program inputs limits rows
+  pub unused : report.unused ≡ 0
+  pub events : report.journal.events ≡ []
+  pub restarts : report.journal.restarts ≡ []
+
+-- each position from one up to another was posted once, as its first attempt
+pub record IsEachOnce (posted : List (ℕ × ℕ)) (from to : ℕ) : Type 0 where
+  pub distinct : IsDistinct same_attempt posted
+  pub these : (p attempt : ℕ) → Contains posted (p, attempt) ↔ (from ≤ p) × (p < to) × (attempt ≡ 0)
+
+-- some of them were, each once
+pub record AreSomeOnce (posted : List (ℕ × ℕ)) (from to : ℕ) : Type 0 where
+  pub distinct : IsDistinct same_attempt posted
+  pub among : (p attempt : ℕ) → Contains posted (p, attempt) → (from ≤ p) × (p < to) × (attempt ≡ 0)
+
+-- the sink's count of faults does not fall, and a write fault is told only where it rose
+pub record HasResumeCause {T : Type 0} (before after : ℕ) (result : Result T ResumeStop) : Type 0 where
+  pub later : before ≤ after
+  pub failed : result ≡ Err WriteFault → Rose before after

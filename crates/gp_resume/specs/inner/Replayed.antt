@@ -1,0 +1,19 @@
+-- Rows that are replayed.
+use Rattle.std.specs.Prelude.{Option}
+use Rattle.task_ast.specs.Plain.{Subthread, Plain}
+use Rattle.subthread.specs.Tasks.{program_in}
+use Rattle.retirement_log.specs.Rows.{Row}
+use Rattle.gp_resume.specs.declared.course.Plan.{Plan}
+use Rattle.gp_resume.specs.declared.course.Begun.{Begun}
+use Rattle.gp_resume.specs.declared.course.Course.{Course}
+use Rattle.gp_resume.specs.Fitting.{FitsIssue}
+use Rattle.gp_resume.specs.inner.Course.{Begins}
+
+-- some subthread begins so, of some run, and the row fits it after some row
+pub record FitsBegun (plan : Plan) (begun : Begun) (course : Course) (row : Row) : Type 0 where
+  pub before : Plain
+  pub subthread : Subthread
+  pub after : Plain
+  pub earlier : Option Row
+  pub begins : Begins plan before subthread after begun course
+  pub fits : FitsIssue (program_in plan.work.now) before subthread earlier row

@@ -1,0 +1,207 @@
+// A run that goes on from a log.
+
+ghost use Rattle.std.specs.Prelude.{◌≡◌, ◌⊎◌, ◌≤◌, ◌+◌, ℕ, List, [], ◌∷◌, ◌++◌, length, take, pos, Contains, IfOk, IfErr, OnOk};
+ghost use Rattle.std.specs.Io.KnownBytes.{Appends};
+ghost use Rattle.gp_base.specs.Sinks.{AppendsPrefix};
+ghost use Rattle.gp_base.specs.declared.limits.TheConstants.{MOST_FILE_BYTES};
+ghost use Rattle.task_ast.specs.Plain.{Plain, Subthread};
+ghost use Rattle.task_ast.specs.Layout.{layout};
+ghost use Rattle.record_store.specs.Stored.{IsAllHome};
+ghost use Rattle.subthread.specs.Tasks.{Suits, program_in};
+ghost use Rattle.restart_log.specs.Lines.{printed};
+ghost use Rattle.retirement_log.specs.Rows.{Row};
+ghost use Rattle.gp_resume.specs.Reading.{IsLogOf};
+ghost use Rattle.gp_resume.specs.Resumed.{lines_of, lines, count};
+ghost use Rattle.gp_resume.specs.Resuming.{AnswersLog, IsRefused, ReportsRest, IsEachOnce, AreSomeOnce, HasResumeCause};
+ghost use Rattle.gp_resume.specs.inner.Course.{IsSuited, IsBegun, Stands, StandsSomewhere, Begins};
+ghost use Rattle.gp_resume.specs.inner.Going.{rest, WentOn, firsts_from, Replays};
+
+use crate::beginning::begin;
+use crate::course::{Begun, Course, Plan, Step};
+use crate::log::{Logged, replay_log};
+use crate::running::run;
+use crate::stop::ResumeStop;
+use crew::Crew;
+use gp_base::{End, Inputs, Journal, Limits, Nums, Seq, Sink, SinkFault, Text, put_all};
+use reorder_list::Report;
+use restart_log::printed;
+use std::alloc::Global;
+use std::snapshot::Snapshot;
+use std::thread::Threads;
+use subthread::Work;
+use task_ast::Layout;
+
+// Writes all the bytes, or answers why not.
+fn put<O: Sink>(out: &mut O, bytes: &[u8]) -> Result<(), ResumeStop>
+    ensures all { OnOk result (Appends (O.written out.old) (O.written out.new) bytes.now) }
+    ensures prefix { AppendsPrefix (O.written out.old) (O.written out.new) bytes.now }
+    ensures cause { HasResumeCause (O.faults out.old) (O.faults out.new) result }
+    ensures told { ¬ IsRefused result }
+{
+    match put_all(out, bytes) {
+        Ok(()) => Ok(()),
+        Err(SinkFault::Failed) => Err(ResumeStop::WriteFault),
+        Err(SinkFault::OutOfMemory) => Err(ResumeStop::OutOfMemory),
+    }
+}
+
+// Has a crew run the subthread that begins, and writes its lines.
+fn go_one<R: Threads + Sync, C: Crew, O: Sink>(
+    rt: &R,
+    alloc: Global,
+    plan: &Plan,
+    course: &mut Course,
+    crew: &mut C,
+    out: &mut O,
+    begun: Begun,
+) -> Result<(), ResumeStop>
+    requires suits { IsSuited plan.now }
+    requires begun { IsBegun plan.now begun course.old }
+    requires ready { C.ready crew.old }
+    requires work { C.work crew.old ≡ plan.now.work.now }
+    requires none_out { C.out crew.old ≡ [] }
+    requires fresh { ¬ Contains (C.posted crew.old) (begun.pos, 0) }
+    ensures stands { OnOk result ((x : Plain) (s : Subthread) (y : Plain) → Begins plan.now x s y begun course.old → Stands plan.now y course.new) }
+    ensures lines { OnOk result ((x : Plain) (s : Subthread) (y : Plain) → Begins plan.now x s y begun course.old → Appends (O.written out.old) (O.written out.new) (printed s.lines)) }
+    ensures partly { (x : Plain) (s : Subthread) (y : Plain) → Begins plan.now x s y begun course.old → AppendsPrefix (O.written out.old) (O.written out.new) (printed s.lines) }
+    ensures ready { C.ready crew.new }
+    ensures work { C.work crew.new ≡ C.work crew.old }
+    ensures none_left { OnOk result (C.out crew.new ≡ []) }
+    ensures posted { OnOk result (C.posted crew.new ≡ C.posted crew.old ++ (begun.pos, 0) ∷ []) }
+    ensures perhaps { (C.posted crew.new ≡ C.posted crew.old) ⊎ (C.posted crew.new ≡ C.posted crew.old ++ (begun.pos, 0) ∷ []) }
+    ensures cause { HasResumeCause (O.faults out.old) (O.faults out.new) result }
+    ensures told { ¬ IsRefused result }
+{
+    let lines = run(rt, alloc, plan, course, crew, begun)?;
+    let text = printed(alloc, &lines)?;
+    put(out, &text)
+}
+
+// Goes on to the end, one subthread after another.
+fn go_on<R: Threads + Sync, C: Crew, O: Sink>(
+    rt: &R,
+    alloc: Global,
+    plan: &Plan,
+    course: &mut Course,
+    crew: &mut C,
+    out: &mut O,
+) -> Result<End, ResumeStop>
+    requires suits { IsSuited plan.now }
+    requires stands { StandsSomewhere plan.now course.old }
+    requires ready { C.ready crew.old }
+    requires work { C.work crew.old ≡ plan.now.work.now }
+    requires none_out { C.out crew.old ≡ [] }
+    requires none_posted { C.posted crew.old ≡ [] }
+    ensures end { IfOk result (λ end. (x : Plain) → Stands plan.now x course.old → WentOn plan.now x end course.new) }
+    ensures lines { OnOk result ((x : Plain) → Stands plan.now x course.old → Appends (O.written out.old) (O.written out.new) (printed (lines_of (rest plan.now x)))) }
+    ensures partly { (x : Plain) → Stands plan.now x course.old → AppendsPrefix (O.written out.old) (O.written out.new) (printed (lines_of (rest plan.now x))) }
+    ensures posts { OnOk result ((x : Plain) → Stands plan.now x course.old → C.posted crew.new ≡ firsts_from x.table.issued (length (rest plan.now x))) }
+    ensures some { (x : Plain) → Stands plan.now x course.old → (n : ℕ) × (n ≤ length (rest plan.now x)) × (C.posted crew.new ≡ firsts_from x.table.issued n) }
+    ensures cause { HasResumeCause (O.faults out.old) (O.faults out.new) result }
+    ensures told { ¬ IsRefused result }
+{
+    'going: loop {
+        match course.next(alloc, plan)? {
+            Step::Ends(end) => return Ok(end),
+            Step::Goes(begun) => go_one(rt, alloc, plan, course, crew, out, begun)?,
+        }
+    }
+}
+
+// The run as the rows of a log leave it, which is given beside how many they are and how many bytes the text had.
+fn restored(
+    alloc: Global,
+    plan: &Plan,
+    cells: Layout,
+    records: Nums,
+    log: &Text,
+) -> Result<(Course, Logged), ResumeStop>
+    requires suits { IsSuited plan.now }
+    requires layout { cells ≡ layout (program_in plan.now.work.now).heads }
+    requires records { records ≡ plan.now.inputs.value.records }
+    requires short { length log.now ≤ MOST_FILE_BYTES }
+    ensures answer { AnswersLog (program_in plan.now.work.now) plan.now.inputs.value plan.now.limits log.now result }
+    ensures replays { IfOk result (λ given. Replays plan.now log.now given.1 given.0) }
+    ensures unwritten { IfErr result (λ stop. stop ≡ ResumeStop.WriteFault → ⊥) }
+{
+    let mut course = begin(alloc, plan, cells, records)?;
+    let logged = replay_log(alloc, plan, &mut course, log)?;
+    Ok((course, logged))
+}
+
+// How many bytes the text had.
+fn text_bytes(logged: Logged) -> u64
+    requires natural { (n : ℕ) × (logged.bytes ≡ pos n) }
+    ensures { pos result ≡ logged.bytes }
+{
+    logged.bytes as u64
+}
+
+// What a run came to that ended so.
+fn report_of(alloc: Global, end: End, course: Course) -> Report
+    requires home { IsAllHome course.store }
+    ensures end { result.end ≡ end }
+    ensures records { result.records ≡ course.store.cells }
+    ensures subthreads { result.subthreads ≡ course.issued }
+    ensures unused { result.unused ≡ 0 }
+    ensures events { result.journal.events ≡ [] }
+    ensures restarts { result.journal.restarts ≡ [] }
+{
+    let Course { store, issued, .. } = course;
+    Report {
+        end,
+        records: store.into_records(),
+        subthreads: issued,
+        unused: 0,
+        journal: Journal {
+            events: Seq::new(alloc),
+            restarts: Seq::new(alloc),
+        },
+    }
+}
+
+/// Goes on with a run from a log of its retirements, without running the positions again that the log has, by a crew, which has not been
+/// posted to, and writes the printed lines of the others to `out`. Nothing else is written. Gives how many bytes the text had up to the lines of the last row, or 0
+/// where there is none, and what the run comes to, whose count has the positions of the log too.
+///
+/// `LogLine` and `LogFit` tell the first row of the log that is none, or that does not fit the program, these inputs and limits; nothing is
+/// written or posted then. `WriteFault` and `OutOfMemory` are that the output took no more, or memory is out; a part of the lines is written then. What the rows say that
+/// fit is taken as it stands: that they are those of this program's own run is not looked at.
+pub fn resume_drive<R: Threads + Sync, C: Crew, O: Sink>(
+    rt: &R,
+    alloc: Global,
+    w: &Work,
+    layout: Layout,
+    inputs: Inputs,
+    limits: Limits,
+    log: &Text,
+    crew: &mut C,
+    out: &mut O,
+) -> Result<(u64, Report), ResumeStop>
+    requires suits { Suits w.now layout inputs limits }
+    requires short { length log.now ≤ MOST_FILE_BYTES }
+    requires ready { C.ready crew.old }
+    requires work { C.work crew.old ≡ w.now }
+    requires none_out { C.out crew.old ≡ [] }
+    requires none_posted { C.posted crew.old ≡ [] }
+    ensures log { AnswersLog (program_in w.now) inputs limits log.now result }
+    ensures refused { IsRefused result → (O.written out.new ≡ O.written out.old) × (O.faults out.new ≡ O.faults out.old) × (C.posted crew.new ≡ []) }
+    ensures unread { ((rows : List Row) → IsLogOf (program_in w.now) inputs limits log.now rows → ⊥) → (O.written out.new ≡ O.written out.old) × (O.faults out.new ≡ O.faults out.old) }
+    ensures report { IfOk result (λ answer. (rows : List Row) → IsLogOf (program_in w.now) inputs limits log.now rows → ReportsRest (program_in w.now) inputs limits rows answer.0 answer.1) }
+    ensures lines { OnOk result ((rows : List Row) → IsLogOf (program_in w.now) inputs limits log.now rows → Appends (O.written out.old) (O.written out.new) (printed (lines (program_in w.now) inputs limits rows))) }
+    ensures partly { (rows : List Row) → IsLogOf (program_in w.now) inputs limits log.now rows → AppendsPrefix (O.written out.old) (O.written out.new) (printed (lines (program_in w.now) inputs limits rows)) }
+    ensures posts { OnOk result ((rows : List Row) → IsLogOf (program_in w.now) inputs limits log.now rows → IsEachOnce (C.posted crew.new) (length rows) (count (program_in w.now) inputs limits rows)) }
+    ensures some { (rows : List Row) → IsLogOf (program_in w.now) inputs limits log.now rows → AreSomeOnce (C.posted crew.new) (length rows) (count (program_in w.now) inputs limits rows) }
+    ensures cause { HasResumeCause (O.faults out.old) (O.faults out.new) result }
+{
+    let plan = Plan {
+        work: w,
+        inputs: Snapshot::of(&inputs),
+        limits,
+    };
+    let Inputs { records, feeds: _ } = inputs;
+    let (course, logged) = restored(alloc, &plan, layout, records, log)?;
+    let mut course = course;
+    let end = go_on(rt, alloc, &plan, &mut course, crew, out)?;
+    Ok((text_bytes(logged), report_of(alloc, end, course)))
+}
