@@ -7,6 +7,7 @@ mod audit_words;
 mod ckpt_words;
 mod log_words;
 mod number;
+mod resume_words;
 mod why_words;
 
 pub use asked::{
@@ -15,4 +16,5 @@ pub use asked::{
 pub use audit_words::{Audited, read_audit_words};
 pub use ckpt_words::{DEFAULT_EVERY, LEAST_EVERY, MOST_EVERY, read_ckpt_words};
 pub use log_words::read_log_words;
+pub use resume_words::{Resumed, read_resume_words};
 pub use why_words::{Sought, read_why_words};

@@ -1,0 +1,73 @@
+// The words of `resume`: which run goes on, and from which log.
+ghost use Rattle.std.specs.Prelude.{◌≡◌, IfOk, IfSome};
+ghost use Rattle.clap.specs.Words.{app_of, found_of, rows_of};
+ghost use Rattle.command_line.specs.Words.{texts, IsWithinLimits};
+ghost use Rattle.command_line.specs.ResumeWords.{for_resume, resumed_in, resumed_of, resumed_by};
+
+use crate::arguments::{found_text, positional, taken};
+use crate::asked::{Asked, Verb, asked_in, on_program, with_limits};
+use clap::ArgMatches;
+use gp_base::Name;
+use std::alloc::{AllocError, Global};
+
+/// What words ask to be gone on with: the run, as `one` asks for it, and the file of the log of what has retired in it.
+#[derive(Drop)]
+pub struct Resumed {
+    pub run: Asked,
+    pub log: Name,
+}
+
+// What takes the words of `resume`.
+fn for_resume<'a>(alloc: Global) -> Result<clap::Command<'a>, AllocError>
+    ensures { IfOk result (λ parser. app_of parser ≡ for_resume) }
+{
+    let log = positional(alloc, "log_file");
+    let program = on_program(alloc, "resume")?;
+    let logged = program.arg(log)?;
+    with_limits(alloc, logged)
+}
+
+// What the matches of the command ask for, or none where a value is not one of its option.
+fn resumed_in(alloc: Global, matches: &ArgMatches<'_>) -> Result<Option<Resumed>, AllocError>
+    ensures resumed { IfOk result (λ resumed. resumed ≡ resumed_in (rows_of (found_of matches.now))) }
+    ensures within { IfOk result (λ resumed. IfSome resumed (λ r. IsWithinLimits r.run)) }
+{
+    let Some(run) = asked_in(alloc, false, Verb::One, matches)? else {
+        return Ok(None);
+    };
+    let Some(log) = found_text(matches, "log_file") else {
+        return Ok(None);
+    };
+    Ok(Some(Resumed {
+        run,
+        log: Name::from_slice(alloc, log.as_bytes())?,
+    }))
+}
+
+// What the words of the command ask for, or none where it does not take them.
+fn resumed_of(alloc: Global, words: &[String]) -> Result<Option<Resumed>, AllocError>
+    ensures resumed { IfOk result (λ resumed. resumed ≡ resumed_of (texts words.now)) }
+    ensures within { IfOk result (λ resumed. IfSome resumed (λ r. IsWithinLimits r.run)) }
+{
+    let parser = for_resume(alloc)?;
+    match taken(parser, words)? {
+        Some(matches) => resumed_in(alloc, &matches),
+        None => Ok(None),
+    }
+}
+
+/// What the words ask to be gone on with, or none where they are not those of `resume`: the first word is another, the command
+/// does not take the others, or a number is outside its range. `words` are those after the program's own name. The error is that
+/// memory is out.
+pub fn read_resume_words(alloc: Global, words: &[String]) -> Result<Option<Resumed>, AllocError>
+    ensures resumed { IfOk result (λ resumed. resumed ≡ resumed_by (texts words.now)) }
+    ensures within { IfOk result (λ resumed. IfSome resumed (λ r. IsWithinLimits r.run)) }
+{
+    let [word, ..] = words else {
+        return Ok(None);
+    };
+    if word.as_str() != "resume" {
+        return Ok(None);
+    }
+    resumed_of(alloc, words)
+}
