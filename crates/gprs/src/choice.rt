@@ -7,7 +7,7 @@ use command_line::wants_pipe;
 use std::alloc::{AllocError, Global};
 
 /// The top calls: that which runs or checks a batch, the same by lasting workers, that which audits a trace, that which runs a
-/// batch by checkpoints, and that which keeps a log of a run.
+/// batch by checkpoints, that which keeps a log of a run, and that which goes on from such a log.
 #[derive(Clone, Copy)]
 pub enum TopCall {
     Run,
@@ -15,6 +15,7 @@ pub enum TopCall {
     Audit,
     Ckpt,
     Log,
+    Resume,
 }
 
 // Whether the first of the words is this one.
@@ -28,8 +29,8 @@ fn begins_with(name: &str, words: &[String]) -> bool
 }
 
 /// Which top call takes the words: that of an audit where the first word is `audit`, that by checkpoints where it is `ckpt`, that
-/// with a log where it is `log`, that by lasting workers where the words are those of a command with the crew `pipe`, and else,
-/// also for words of no command, the first. The error is that memory is out.
+/// with a log where it is `log`, that from a log where it is `resume`, that by lasting workers where the words are those of a
+/// command with the crew `pipe`, and else, also for words of no command, the first. The error is that memory is out.
 pub fn call_of(alloc: Global, words: &[String]) -> Result<TopCall, AllocError>
     ensures { IfOk result (λ call. call ≡ call_of (texts words.now)) }
 {
@@ -41,6 +42,9 @@ pub fn call_of(alloc: Global, words: &[String]) -> Result<TopCall, AllocError>
     }
     if begins_with("log", words) {
         return Ok(TopCall::Log);
+    }
+    if begins_with("resume", words) {
+        return Ok(TopCall::Resume);
     }
     if wants_pipe(alloc, words)? {
         return Ok(TopCall::Pipe);

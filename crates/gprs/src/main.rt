@@ -9,6 +9,7 @@ use call_cases::{OUT_OF_MEMORY, end_with};
 use choice::{TopCall, call_of};
 use gp_base::{FreeGate, Shelf, Sink};
 use process_io::{FileShelf, StdSink, words_of};
+use resume_calls::resume_run;
 use std::alloc::AllocError;
 use std::io;
 use std::process::ExitCode;
@@ -32,6 +33,7 @@ fn status_of<
         TopCall::Audit => audit_run(rt, words, shelf, out, err, &FreeGate),
         TopCall::Ckpt => ckpt_run(rt, words, shelf, out, err, &FreeGate),
         TopCall::Log => log_run(rt, words, shelf, out, err, &FreeGate),
+        TopCall::Resume => resume_run(rt, words, shelf, out, err, &FreeGate),
     };
     Ok(outcome.status)
 }

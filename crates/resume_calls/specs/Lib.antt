@@ -1,0 +1,4 @@
+pub mod Laws
+pub mod ResumeCommands
+pub mod Resumption
+pub mod inner

@@ -1,0 +1,75 @@
+// The code of a program, and what a run of it begins with.
+ghost use Rattle.std.specs.Prelude.{◌≡◌, IfOk};
+ghost use Rattle.call_cases.specs.Decided.{IsSound, program_in};
+ghost use Rattle.resume_calls.specs.inner.Resting.{IsPlanOf};
+
+use call_cases::Request;
+use gp_base::{Feed, Inputs, Limits, Seq};
+use lock_checker::Checked;
+use std::alloc::{AllocError, Global};
+use subthread::Work;
+use task_ast::Layout;
+use task_code::lower;
+
+/// A run that may begin, beside its program as code: the accepted program, and what the run begins with.
+#[derive(Drop)]
+pub struct Plan {
+    pub checked: Checked,
+    pub layout: Layout,
+    pub inputs: Inputs,
+    pub limits: Limits,
+}
+
+// The same feed again.
+fn copy_of(alloc: Global, feed: &Feed) -> Result<Feed, AllocError>
+    ensures { IfOk result (λ copy. copy ≡ feed.now) }
+{
+    let cells = feed.cells.copied(alloc)?;
+    Ok(Feed {
+        fields: feed.fields,
+        cells,
+    })
+}
+
+// The same feeds again.
+fn copies_of(alloc: Global, feeds: &[Feed]) -> Result<Seq<Feed>, AllocError>
+    ensures { IfOk result (λ copies. copies ≡ feeds.now) }
+{
+    let mut copies = Seq::new(alloc);
+    for feed in feeds {
+        copies.push(copy_of(alloc, feed)?)?;
+    }
+    Ok(copies)
+}
+
+/// The code of a request's program, and the plan of its run. The error is that memory is out.
+pub fn plan_of(alloc: Global, request: Request) -> Result<(Work, Plan), AllocError>
+    requires { IsSound request.asked (program_in request) request.inputs }
+    ensures plan { IfOk result (λ made. IsPlanOf made.0 made.1) }
+    ensures checked { IfOk result (λ made. made.1.checked ≡ request.checked) }
+    ensures inputs { IfOk result (λ made. made.1.inputs ≡ request.inputs) }
+    ensures limits { IfOk result (λ made. made.1.limits ≡ request.asked.limits) }
+{
+    let Request {
+        asked,
+        checked,
+        inputs,
+        faults: _,
+    } = request;
+    let code = lower(alloc, &checked)?;
+    let layout = checked.layout(alloc)?;
+    let feeds = copies_of(alloc, inputs.feeds.as_slice())?;
+    let limits = asked.limits;
+    let work = Work {
+        code,
+        feeds,
+        turns: limits.turns,
+    };
+    let plan = Plan {
+        checked,
+        layout,
+        inputs,
+        limits,
+    };
+    Ok((work, plan))
+}

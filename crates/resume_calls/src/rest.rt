@@ -1,0 +1,146 @@
+// Writes the text that is still to come of a run that goes on.
+ghost use Rattle.std.specs.Prelude.{◌≡◌, ◌≤◌, [], length, OnOk};
+ghost use Rattle.std.specs.Bool.{Decides};
+ghost use Rattle.std.specs.Io.KnownBytes.{Appends};
+ghost use Rattle.gp_base.specs.Sinks.{AppendsPrefix};
+ghost use Rattle.gp_base.specs.declared.limits.TheConstants.{MOST_FILE_BYTES};
+ghost use Rattle.task_ast.specs.View.{plain_program};
+ghost use Rattle.lock_checker.specs.Accepted.{program_of};
+ghost use Rattle.subthread.specs.Tasks.{Suits, program_in};
+ghost use Rattle.gp_resume.specs.Reading.{EndsNoLine};
+ghost use Rattle.gp_resume.specs.Resuming.{IsRefused, HasResumeCause};
+ghost use Rattle.call_cases.specs.Answers.{change_of};
+ghost use Rattle.call_cases.specs.RunCommands.{end_status};
+ghost use Rattle.resume_calls.specs.inner.Resting.{IsPlanOf, PutsFirst, PutsTail, Drives, Resumes};
+
+use crate::plan::Plan;
+use crew::Crew;
+use gp_base::{End, Inputs, Limits, Sink, SinkFault, Text, put_all};
+use gp_resume::{ResumeStop, resume_drive};
+use lock_checker::Checked;
+use reorder_list::Report;
+use restart_log::tail_text;
+use std::alloc::Global;
+use std::thread::Threads;
+use subthread::Work;
+use task_ast::Layout;
+
+/// The line before the printed lines.
+const OUTPUT: &[u8] = b"output\n";
+
+// The status of a run that ends so.
+fn end_status(end: End) -> u8
+    ensures { result ≡ end_status end }
+{
+    match end {
+        End::Finished => 0,
+        End::Stuck { .. } => 5,
+        End::Spent(_) => 6,
+    }
+}
+
+// Writes all the bytes, or answers why not.
+fn put<O: Sink>(out: &mut O, bytes: &[u8]) -> Result<(), ResumeStop>
+    ensures all { OnOk result (Appends (O.written out.old) (O.written out.new) bytes.now) }
+    ensures prefix { AppendsPrefix (O.written out.old) (O.written out.new) bytes.now }
+    ensures cause { HasResumeCause (O.faults out.old) (O.faults out.new) result }
+    ensures told { ¬ IsRefused result }
+{
+    match put_all(out, bytes) {
+        Ok(()) => Ok(()),
+        Err(SinkFault::Failed) => Err(ResumeStop::WriteFault),
+        Err(SinkFault::OutOfMemory) => Err(ResumeStop::OutOfMemory),
+    }
+}
+
+// Whether no line ends in the bytes of a log, so that it has no row.
+fn ends_no_line(log: &[u8]) -> bool
+    ensures { Decides result (EndsNoLine log.now) }
+{
+    !log.contains(&b'\n')
+}
+
+// Writes the first line, where the log has no row: where it has one, the line was written before.
+fn put_first<O: Sink>(log: &Text, out: &mut O) -> Result<(), ResumeStop>
+    ensures { PutsFirst log.now (change_of O.written O.faults out.old out.new) result }
+{
+    if !ends_no_line(log.as_slice()) {
+        return Ok(());
+    }
+    put(out, OUTPUT)
+}
+
+// Writes what follows the printed lines.
+fn put_tail<O: Sink>(
+    alloc: Global,
+    checked: &Checked,
+    report: &Report,
+    out: &mut O,
+) -> Result<(), ResumeStop>
+    ensures { PutsTail (plain_program (program_of checked.now)) report.now (change_of O.written O.faults out.old out.new) result }
+{
+    let tail = tail_text(alloc, checked, report)?;
+    put(out, tail.as_slice())
+}
+
+// Goes on with the run of a code by a crew to which nothing was posted, and writes the printed lines.
+fn drive_rest<R: Threads + Sync, C: Crew, O: Sink>(
+    rt: &R,
+    alloc: Global,
+    code: &Work,
+    layout: Layout,
+    inputs: Inputs,
+    limits: Limits,
+    log: &Text,
+    crew: &mut C,
+    out: &mut O,
+) -> Result<(u64, Report), ResumeStop>
+    requires suits { Suits code.now layout inputs limits }
+    requires short { length log.now ≤ MOST_FILE_BYTES }
+    requires ready { C.ready crew.old }
+    requires work { C.work crew.old ≡ code.now }
+    requires none_out { C.out crew.old ≡ [] }
+    requires none_posted { C.posted crew.old ≡ [] }
+    ensures { Drives (program_in code.now) inputs limits log.now (change_of O.written O.faults out.old out.new) result }
+{
+    resume_drive(rt, alloc, code, layout, inputs, limits, log, crew, out)
+}
+
+/// Goes on with the run of a plan from the text of its log, by a crew to which nothing was posted, and writes the text that is
+/// still to come: the first line where it was not written before, the printed lines, and the tail. The answer is the status.
+pub fn put_rest<R: Threads + Sync, C: Crew, O: Sink>(
+    rt: &R,
+    alloc: Global,
+    code: &Work,
+    plan: Plan,
+    log: &Text,
+    crew: &mut C,
+    out: &mut O,
+) -> Result<u8, ResumeStop>
+    requires planned { IsPlanOf code.now plan }
+    requires short { length log.now ≤ MOST_FILE_BYTES }
+    requires ready { C.ready crew.old }
+    requires work { C.work crew.old ≡ code.now }
+    requires none_out { C.out crew.old ≡ [] }
+    requires none_posted { C.posted crew.old ≡ [] }
+    ensures { Resumes (plain_program (program_of plan.checked)) plan.inputs plan.limits log.now (change_of O.written O.faults out.old out.new) result }
+{
+    let Plan {
+        checked,
+        layout,
+        inputs,
+        limits,
+    } = plan;
+    match put_first(log, out) {
+        Ok(()) => {}
+        Err(stop) => return Err(stop),
+    }
+    let report = match drive_rest(rt, alloc, code, layout, inputs, limits, log, crew, out) {
+        Ok((_, report)) => report,
+        Err(stop) => return Err(stop),
+    };
+    match put_tail(alloc, &checked, &report, out) {
+        Ok(()) => Ok(end_status(report.end)),
+        Err(stop) => Err(stop),
+    }
+}
