@@ -9,8 +9,8 @@ use std::alloc::{AllocError, Global};
 use std::test::Fail;
 use std::thread::Threads;
 
-// A shelf of these files, and of this trace.
-fn shelf_with(alloc: Global, files: Files<'_>, trace: &[u8]) -> Result<MemShelf, AllocError> {
+/// A shelf of these files, and of one more with this text, named `t.txt`.
+pub fn shelf_with(alloc: Global, files: Files<'_>, more: &[u8]) -> Result<MemShelf, AllocError> {
     let program = (
         Name::from_slice(alloc, b"p.gp")?,
         Text::from_slice(alloc, files.program)?,
@@ -27,11 +27,11 @@ fn shelf_with(alloc: Global, files: Files<'_>, trace: &[u8]) -> Result<MemShelf,
         Name::from_slice(alloc, b"f.csv")?,
         Text::from_slice(alloc, files.faults)?,
     );
-    let trace = (
+    let more = (
         Name::from_slice(alloc, b"t.txt")?,
-        Text::from_slice(alloc, trace)?,
+        Text::from_slice(alloc, more)?,
     );
-    let files = Seq::from_vec(vec![in alloc; program, acct, moves, faults, trace]?);
+    let files = Seq::from_vec(vec![in alloc; program, acct, moves, faults, more]?);
     Ok(MemShelf::new(alloc, files, Seq::from_slice(alloc, &[0])?))
 }
 

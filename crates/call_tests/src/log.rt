@@ -22,22 +22,22 @@ const CREWS: [&str; 7] = [
     "--crew board --workers 64",
 ];
 
-// Position 1 forks the thread that adds 3, and position 3 that which adds 4; they add at 4 and at 7.
-const ADD_LOG: &str =
+/// Position 1 forks the thread that adds 3, and position 3 that which adds 4; they add at 4 and at 7.
+pub const ADD_LOG: &str =
     "0 7 ; 0 ; ;\n1 7 ; 0 ; 0 0 ;\n2 7 ; 0 0 ; ;\n3 7 ; 0 ; 0 0 ;\n4 7 ; 0 0 ; ; 0 3\n5 7 ; 0 0 ; ;\n6 7 ; 0 0 ; ;\n7 7 ; 0 3 ; ; 0 7\n8 7 ; 0 ; ;\n9 7 ; 0 3 ; ;\n10 7 ; 0 ; ;\n";
 
 // What the run of `ADD` writes where a fault strikes position 4.
 const STRUCK: &str =
     "output\nrecords\ntotal: 7\nrestarts\n1: front 8 struck 4 try 0 redo 4 6 7\ncounts\nsubthreads 11\nrestarts 1\nredone 3\nunused 0\n";
 
-// Each position but the first prints a line.
-const MEETING: &str = "barrier meet(2);
+/// Each position but the first prints a line.
+pub const MEETING: &str = "barrier meet(2);
 task t() { print 1; barrier meet; print 2; }
 task main() { fork t(); print 3; barrier meet; print 4; }
 ";
 
-// What its run writes, and the rows of its log.
-const MET: [&str; 6] = [
+/// What its run writes, and the rows of its log.
+pub const MET: [&str; 6] = [
     "output\n",
     "3\n",
     "1\n",
@@ -46,7 +46,7 @@ const MET: [&str; 6] = [
     "records\nrestarts\ncounts\nsubthreads 5\nrestarts 0\nredone 0\nunused 0\n",
 ];
 
-const MET_LOG: [&str; 5] = [
+pub const MET_LOG: [&str; 5] = [
     "0 7 ; 0 ; ;\n",
     "1 9 ; 0 ; 0 ;\n",
     "2 11 ; 0 ; ;\n",
@@ -69,8 +69,8 @@ task main() {
 const STUCK: &str =
     "output\nstuck index thread 0 line 6\nrestarts\ncounts\nsubthreads 1\nrestarts 0\nredone 0\nunused 0\n";
 
-// The first of these pieces, as one text.
-fn first_of(alloc: Global, pieces: &[&str], count: usize) -> Result<String, AllocError> {
+/// The first of these pieces, as one text.
+pub fn first_of(alloc: Global, pieces: &[&str], count: usize) -> Result<String, AllocError> {
     let mut text = String::new(alloc);
     for piece in pieces.iter().take(count) {
         text.push_str(piece)?;
