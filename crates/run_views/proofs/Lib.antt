@@ -2,3 +2,4 @@ pub mod Chains
 pub mod Linking
 pub mod Pictures
 pub mod SeenSteps
+pub mod Takes

@@ -1,6 +1,6 @@
 -- The picture of a run and of the restarts that faults make of it, as SVG: bands of forty positions, in each a row for each thread, and in a row a
 -- lane for each attempt.
-use Rattle.std.specs.Prelude.{ℕ, zero, suc, ◌+◌, ◌-◌, ◌*◌, ◌/◌, ◌%◌, min, max, cond, nat_eq, Option, List, [], ◌∷◌, ◌++◌, length, codes, decimal}
+use Rattle.std.specs.Prelude.{ℕ, zero, suc, ◌+◌, ◌-◌, ◌*◌, ◌/◌, ◌%◌, min, max, Bool, cond, ◌&&◌, nat_eq, Option, Some, None, is_some, List, [], ◌∷◌, ◌++◌, length, codes, decimal}
 use Rattle.std.specs.Fmt.{signed_decimal}
 use Rattle.gp_base.specs.declared.ending.End.{End}
 use Rattle.gp_base.specs.declared.fault.Fault.{Fault}
@@ -14,9 +14,13 @@ use Rattle.task_ast.specs.Tree.{Program}
 use Rattle.task_ast.specs.Plain.{Subthread, order, end}
 use Rattle.dependence.specs.Restarts.{redoes, attempt_of}
 use Rattle.dependence.specs.Runs.{restarts_of}
+use Rattle.gp_audit.specs.declared.line.TraceLine.{TraceLine}
+use Rattle.gp_audit.specs.declared.line.TraceLine.TheVariants as line
 use Rattle.run_views.specs.declared.frame.Frame.{Frame}
 use Rattle.run_views.specs.declared.timeline.Fate.{Fate}
 use Rattle.run_views.specs.declared.timeline.Fate.TheVariants.{Stays, Struck, Undone}
+use Rattle.run_views.specs.declared.told.Told.{Told}
+use Rattle.run_views.specs.declared.told.Told.TheVariants.{Untold, Taken, Stale, Unrun}
 use Rattle.run_views.specs.Order.{thread_text, order_line, end_line}
 
 -- how many rows threads take: one past the greatest thread
@@ -96,11 +100,19 @@ legend = codes "<rect class='kept' x='50' y='30' width='14' height='12'/><text x
 unfoldable pub summary : Frame → (restarts : ℕ) → End → List ℕ
 summary frame restarts ending = decimal frame.positions ++ codes " subthreads, " ++ decimal restarts ++ codes " restarts, " ++ end_line ending
 
--- the head of the picture: its size and its colours, a summary, and what the colours mean
-unfoldable pub opening : Frame → (restarts : ℕ) → End → List ℕ
-opening frame restarts ending =
+-- the colours of what a trace tells, and what they mean
+unfoldable pub told_legend : List ℕ
+told_legend = codes "<style>.stale,.unrun{text-anchor:middle}rect.stale{fill:#d4d4d4}rect.unrun{fill:#fff;stroke:#8d8d8d}</style>\n<rect class='stale' x='50' y='46' width='14' height='12'/><text x='68' y='56'>its result came after the restart</text><rect class='unrun' x='250' y='46' width='14' height='12'/><text x='268' y='56'>not run</text>\n"
+
+-- the same of a picture, where it has a trace
+abbrev pub told_part : (traced : Bool) → List ℕ
+told_part traced = cond traced told_legend []
+
+-- the head of the picture: its size and its colours, a summary, and what the colours mean, and both of what a trace tells, where there is one
+unfoldable pub opening : (traced : Bool) → Frame → (restarts : ℕ) → End → List ℕ
+opening traced frame restarts ending =
     svg_start ++ sized (max 660 (width frame + 60)) (foot frame + 16 * restarts + 20) ++ colours
-    ++ words (codes "run") 50 20 (summary frame restarts ending) ++ legend
+    ++ words (codes "run") 50 20 (summary frame restarts ending) ++ legend ++ told_part traced
 
 -- the row of a thread in the band of a position, with its number
 unfoldable pub row : Frame → (position thread : ℕ) → List ℕ
@@ -126,11 +138,43 @@ mark sync.End child = []
 mark sync.BadIndex child = []
 mark sync.Spent child = []
 
+-- what is told of each attempt of each position
+abbrev pub Tells : Type 0
+Tells = (position attempt : ℕ) → Told
+
+-- what is told of an attempt with this line of a trace, where the lines before it told this
+abbrev pub told_by : (position attempt : ℕ) → Told → TraceLine → Told
+told_by p attempt before (line.Take taken of applies) = cond (nat_eq taken p && nat_eq of attempt) (cond applies Taken Stale) before
+told_by p attempt before line = before
+
+-- the same with these lines
+abbrev pub told_from : (position attempt : ℕ) → Told → List TraceLine → Told
+told_from p attempt before [] = before
+told_from p attempt before (line ∷ lines) = told_from p attempt (told_by p attempt before line) lines
+
+-- what a trace tells of an attempt: its result was applied, or came after a restart that redid the attempt, or it was not run
+abbrev pub told_of : Option (List TraceLine) → Tells
+told_of None p attempt = Untold
+told_of (Some lines) p attempt = told_from p attempt Unrun lines
+
 -- the class of an attempt by what became of it
-abbrev pub class_of : (attempt : ℕ) → Fate → List ℕ
-class_of attempt Stays = cond (nat_eq attempt 0) (codes "kept") (codes "again")
-class_of attempt (Struck number) = codes "struck"
-class_of attempt (Undone number) = codes "undone"
+abbrev pub fate_class : (attempt : ℕ) → Fate → List ℕ
+fate_class attempt Stays = cond (nat_eq attempt 0) (codes "kept") (codes "again")
+fate_class attempt (Struck number) = codes "struck"
+fate_class attempt (Undone number) = codes "undone"
+
+-- the class of one whose result came after the restart: one that was struck stays so
+abbrev pub stale_class : Fate → List ℕ
+stale_class Stays = codes "stale"
+stale_class (Struck number) = codes "struck"
+stale_class (Undone number) = codes "stale"
+
+-- the class of an attempt by what became of it and what is told of it
+abbrev pub class_of : (attempt : ℕ) → Fate → Told → List ℕ
+class_of attempt fate Untold = fate_class attempt fate
+class_of attempt fate Taken = fate_class attempt fate
+class_of attempt fate Stale = stale_class fate
+class_of attempt fate Unrun = codes "unrun"
 
 -- what became of it, in words
 abbrev pub fate_text : Fate → List ℕ
@@ -138,39 +182,50 @@ fate_text Stays = codes " kept"
 fate_text (Struck number) = codes " struck by " ++ decimal number
 fate_text (Undone number) = codes " undone by " ++ decimal number
 
--- what the box of an attempt says when it is pointed at: the line of the subthread in the order, and what became of the attempt
-unfoldable pub title : List Head → (position : ℕ) → Subthread → (attempt : ℕ) → Fate → List ℕ
-title heads p s attempt fate = order_line heads p s ++ codes "attempt " ++ decimal attempt ++ fate_text fate
+-- what is told of it, in words
+abbrev pub told_text : Told → List ℕ
+told_text Untold = []
+told_text Taken = []
+told_text Stale = codes ", its result came after the restart"
+told_text Unrun = codes ", not run"
+
+-- both
+unfoldable pub outcome_text : Fate → Told → List ℕ
+outcome_text fate told = fate_text fate ++ told_text told
+
+-- what the box of an attempt says when it is pointed at: the line of the subthread in the order, what became of the attempt, and what is told of it
+unfoldable pub title : List Head → (position : ℕ) → Subthread → (attempt : ℕ) → Fate → Told → List ℕ
+title heads p s attempt fate told = order_line heads p s ++ codes "attempt " ++ decimal attempt ++ outcome_text fate told
 
 -- the box of an attempt of the subthread at a position
-unfoldable pub attempt_box : Frame → List Head → (position : ℕ) → Subthread → (attempt : ℕ) → Fate → List ℕ
-attempt_box frame heads p s attempt fate =
-    placed (codes "<rect") (class_of attempt fate) (left p) (lane_top frame p s.thread attempt) ++ sized 32 12
-    ++ codes "><title>" ++ title heads p s attempt fate ++ codes "</title></rect>\n"
-    ++ words (class_of attempt fate) (left p + 16) (lane_top frame p s.thread attempt + 10) (mark s.begins.sync s.child)
+unfoldable pub attempt_box : Frame → List Head → (position : ℕ) → Subthread → (attempt : ℕ) → Fate → Told → List ℕ
+attempt_box frame heads p s attempt fate told =
+    placed (codes "<rect") (class_of attempt fate told) (left p) (lane_top frame p s.thread attempt) ++ sized 32 12
+    ++ codes "><title>" ++ title heads p s attempt fate told ++ codes "</title></rect>\n"
+    ++ words (class_of attempt fate told) (left p + 16) (lane_top frame p s.thread attempt + 10) (mark s.begins.sync s.child)
 
 -- what becomes of an attempt that a restart of this number redoes
 abbrev pub ended_by : (position number : ℕ) → Restart → Fate
 ended_by p number r = cond (nat_eq r.struck p) (Struck number) (Undone number)
 
 -- the boxes of a subthread from this attempt and the restart of this number on: one for each restart that redoes it, and one for the attempt that stays
-abbrev pub boxes : Frame → List Head → (position : ℕ) → Subthread → (attempt number : ℕ) → List Restart → List ℕ
-boxes frame heads p s attempt number [] = attempt_box frame heads p s attempt Stays
-boxes frame heads p s attempt number (r ∷ later) =
+abbrev pub boxes : Frame → List Head → Tells → (position : ℕ) → Subthread → (attempt number : ℕ) → List Restart → List ℕ
+boxes frame heads tells p s attempt number [] = attempt_box frame heads p s attempt Stays (tells p attempt)
+boxes frame heads tells p s attempt number (r ∷ later) =
     cond (redoes p r)
-    (attempt_box frame heads p s attempt (ended_by p number r) ++ boxes frame heads p s (suc attempt) (suc number) later)
-    (boxes frame heads p s attempt (suc number) later)
+    (attempt_box frame heads p s attempt (ended_by p number r) (tells p attempt) ++ boxes frame heads tells p s (suc attempt) (suc number) later)
+    (boxes frame heads tells p s attempt (suc number) later)
 
 -- the column of a subthread; the first of a band comes with the rows
-unfoldable pub column_of : Frame → List Head → List Restart → (position : ℕ) → Subthread → List ℕ
-column_of frame heads restarts p s =
+unfoldable pub column_of : Frame → List Head → Tells → List Restart → (position : ℕ) → Subthread → List ℕ
+column_of frame heads tells restarts p s =
     cond (nat_eq (p % 40) 0) (rows frame p frame.threads) [] ++ words (codes "column") (left p + 16) (top frame p + 12) (decimal p)
-    ++ boxes frame heads p s 0 1 restarts
+    ++ boxes frame heads tells p s 0 1 restarts
 
 -- the columns of subthreads, the first of which is at this position
-abbrev pub columns : Frame → List Head → List Restart → (position : ℕ) → List Subthread → List ℕ
-columns frame heads restarts p [] = []
-columns frame heads restarts p (s ∷ run) = column_of frame heads restarts p s ++ columns frame heads restarts (suc p) run
+abbrev pub columns : Frame → List Head → Tells → List Restart → (position : ℕ) → List Subthread → List ℕ
+columns frame heads tells restarts p [] = []
+columns frame heads tells restarts p (s ∷ run) = column_of frame heads tells restarts p s ++ columns frame heads tells restarts (suc p) run
 
 -- which attempt a restart found struck, and what a restart of this number did, in words
 unfoldable pub struck_text : Restart → List ℕ
@@ -191,14 +246,14 @@ abbrev pub restart_marks : Frame → (number : ℕ) → List Restart → List �
 restart_marks frame number [] = []
 restart_marks frame number (r ∷ restarts) = restart_mark frame number r ++ restart_marks frame (suc number) restarts
 
--- the picture of these subthreads, of how their run ends and of its restarts
-abbrev pub picture : List Head → List Subthread → End → List Restart → List ℕ
-picture heads run ending restarts =
+-- the picture of these subthreads, of how their run ends and of its restarts, and of what a trace tells, where there is one
+abbrev pub picture : (traced : Bool) → List Head → Tells → List Subthread → End → List Restart → List ℕ
+picture traced heads tells run ending restarts =
     let frame = frame_of run restarts in
-    opening frame (length restarts) ending ++ columns frame heads restarts 0 run ++ restart_marks frame 1 restarts ++ codes "</svg>\n"
+    opening traced frame (length restarts) ending ++ columns frame heads tells restarts 0 run ++ restart_marks frame 1 restarts ++ codes "</svg>\n"
 
--- the picture of a program's run with these faults
-unfoldable pub timeline_text : Program → Inputs → Limits → List Fault → List ℕ
-timeline_text program inputs limits faults =
+-- the picture of a program's run with these faults, and with what a trace tells of it, where there is one
+unfoldable pub timeline_text : Program → Inputs → Limits → List Fault → Option (List TraceLine) → List ℕ
+timeline_text program inputs limits faults trace =
     let run = order program inputs limits in
-    picture program.heads run (end program inputs limits) (restarts_of run faults)
+    picture (is_some trace) program.heads (told_of trace) run (end program inputs limits) (restarts_of run faults)

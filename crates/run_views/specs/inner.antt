@@ -1,3 +1,4 @@
 -- What describes parts of the crate alone.
 pub mod Seen
 pub mod Small
+pub mod Tellings

@@ -8,6 +8,7 @@ mod links;
 mod names;
 mod order;
 mod timeline;
+mod told;
 mod why;
 
 pub use order::order_text;

@@ -1,17 +1,19 @@
 // The picture of a run and of its restarts.
-ghost use Rattle.std.specs.Prelude.{◌≡◌, ◌<◌, ◌≤◌, ◌++◌, length, map, All, IfOk, OnOk};
+ghost use Rattle.std.specs.Prelude.{◌≡◌, ◌<◌, ◌≤◌, ◌++◌, length, map, All, IfOk, OnOk, is_some, option_map};
 ghost use Rattle.gp_base.specs.declared.limits.TheConstants.{MOST_SUBTHREADS};
 ghost use Rattle.task_ast.specs.View.{plain_program};
 ghost use Rattle.lock_checker.specs.Accepted.{program_of};
-ghost use Rattle.run_views.specs.Timeline.{svg_start, colours, legend, summary, opening, rows, row, mark, class_of, fate_text, title, attempt_box, ended_by, boxes, column_of, columns, struck_text, note, restart_mark, restart_marks, picture, timeline_text};
+ghost use Rattle.run_views.specs.Timeline.{svg_start, colours, legend, told_legend, told_part, summary, opening, rows, row, mark, fate_class, stale_class, class_of, fate_text, told_text, outcome_text, title, attempt_box, ended_by, boxes, column_of, columns, struck_text, note, restart_mark, restart_marks, picture, timeline_text};
 ghost use Rattle.run_views.specs.inner.Seen.{seen};
 ghost use Rattle.run_views.specs.inner.Small.{IsSmall};
+ghost use Rattle.run_views.specs.inner.Tellings.{found};
 
 use crate::elements::{end_words, push_numeral, push_placed, push_sized, push_words};
 use crate::frame::{Frame, frame_of, left, redoes};
 use crate::names::push_number;
 use crate::order::{child_in, push_end, push_step};
-use gp_audit::restarts_of;
+use crate::told::{Tellings, Told, tellings_of};
+use gp_audit::{TraceLine, restarts_of};
 use gp_base::{End, Faults, Inputs, Limits, Restart, Seq, Text, ThreadNo};
 use lock_checker::Checked;
 use one_thread::{PlainRun, Step, run_plain};
@@ -24,6 +26,9 @@ const COLOURS: &[u8] =
 const LEGEND: &[u8] =
     b"<rect class='kept' x='50' y='30' width='14' height='12'/><text x='68' y='40'>kept</text><rect class='struck' x='110' y='30' width='14' height='12'/><text x='128' y='40'>struck by a fault</text><rect class='undone' x='230' y='30' width='14' height='12'/><text x='248' y='40'>undone, since it depends on one that was struck</text><rect class='again' x='500' y='30' width='14' height='12'/><text x='518' y='40'>kept after a restart</text>\n";
 
+const TOLD_LEGEND: &[u8] =
+    b"<style>.stale,.unrun{text-anchor:middle}rect.stale{fill:#d4d4d4}rect.unrun{fill:#fff;stroke:#8d8d8d}</style>\n<rect class='stale' x='50' y='46' width='14' height='12'/><text x='68' y='56'>its result came after the restart</text><rect class='unrun' x='250' y='46' width='14' height='12'/><text x='268' y='56'>not run</text>\n";
+
 /// What became of an attempt: it stays, or a restart of this number struck it, or undid it.
 #[derive(Clone, Copy)]
 pub enum Fate {
@@ -32,11 +37,12 @@ pub enum Fate {
     Undone(u64),
 }
 
-// A subthread at its position, in a picture of this frame of a program with these heads.
+// A subthread at its position, in a picture of this frame of a program with these heads, and what is told of its attempts.
 #[derive(Clone, Copy)]
 struct Column<'a> {
     frame: Frame,
     heads: &'a [Head],
+    tellings: &'a Tellings,
     position: usize,
     step: &'a Step,
 }
@@ -65,6 +71,25 @@ fn push_legend(text: &mut Vec<u8>) -> Result<(), AllocError>
     text.extend_from_slice(LEGEND)
 }
 
+// Appends the colours of what a trace tells, and what they mean.
+#[tactic(auto, unfolding(crate::specs::Timeline::told_legend))]
+fn push_told_legend(text: &mut Vec<u8>) -> Result<(), AllocError>
+    ensures { OnOk result (text.new.items ≡ text.old.items ++ told_legend) }
+{
+    text.extend_from_slice(TOLD_LEGEND)
+}
+
+// The same where there is a trace.
+fn push_told(text: &mut Vec<u8>, traced: bool) -> Result<(), AllocError>
+    ensures { OnOk result (text.new.items ≡ text.old.items ++ told_part traced) }
+{
+    if traced {
+        push_told_legend(text)
+    } else {
+        Ok(())
+    }
+}
+
 // Appends how many subthreads and restarts there are, and how the run ends.
 #[tactic(auto, unfolding(crate::specs::Timeline::summary))]
 fn push_summary(
@@ -86,13 +111,14 @@ fn push_summary(
 #[tactic(auto, unfolding(crate::specs::Timeline::opening, crate::specs::Timeline::words))]
 fn push_opening(
     text: &mut Vec<u8>,
+    traced: bool,
     frame: &Frame,
     restarts: u64,
     end: End,
 ) -> Result<(), AllocError>
     requires small { IsSmall frame.now }
     requires few { restarts ≤ 1000 }
-    ensures { OnOk result (text.new.items ≡ text.old.items ++ opening frame.now restarts end) }
+    ensures { OnOk result (text.new.items ≡ text.old.items ++ opening traced frame.now restarts end) }
 {
     push_start(text)?;
     let width = (frame.width() + 60).max(660);
@@ -101,7 +127,8 @@ fn push_opening(
     push_words(text, b"run", 50, 20)?;
     push_summary(text, frame, restarts, end)?;
     end_words(text)?;
-    push_legend(text)
+    push_legend(text)?;
+    push_told(text, traced)
 }
 
 // Appends the row of a thread in the band of a position.
@@ -165,15 +192,36 @@ fn push_mark(text: &mut Vec<u8>, sync: &SyncOp, child: Option<ThreadNo>) -> Resu
     }
 }
 
-// The class of an attempt.
-fn class_of(attempt: u64, fate: Fate) -> &'static [u8]
-    ensures { result.now ≡ class_of attempt fate }
+// The class of an attempt by what became of it.
+fn fate_class(attempt: u64, fate: Fate) -> &'static [u8]
+    ensures { result.now ≡ fate_class attempt fate }
 {
     match fate {
         Fate::Stays if attempt == 0 => b"kept",
         Fate::Stays => b"again",
         Fate::Struck(_) => b"struck",
         Fate::Undone(_) => b"undone",
+    }
+}
+
+// The class of an attempt whose result came after the restart.
+fn stale_class(fate: Fate) -> &'static [u8]
+    ensures { result.now ≡ stale_class fate }
+{
+    match fate {
+        Fate::Struck(_) => b"struck",
+        Fate::Stays | Fate::Undone(_) => b"stale",
+    }
+}
+
+// The class of an attempt.
+fn class_of(attempt: u64, fate: Fate, told: Told) -> &'static [u8]
+    ensures { result.now ≡ class_of attempt fate told }
+{
+    match told {
+        Told::Untold | Told::Taken => fate_class(attempt, fate),
+        Told::Stale => stale_class(fate),
+        Told::Unrun => b"unrun",
     }
 }
 
@@ -194,6 +242,26 @@ fn push_fate(text: &mut Vec<u8>, fate: Fate) -> Result<(), AllocError>
     }
 }
 
+// Appends what is told of an attempt.
+fn push_telling(text: &mut Vec<u8>, told: Told) -> Result<(), AllocError>
+    ensures { OnOk result (text.new.items ≡ text.old.items ++ told_text told) }
+{
+    match told {
+        Told::Untold | Told::Taken => Ok(()),
+        Told::Stale => text.extend_from_slice(b", its result came after the restart"),
+        Told::Unrun => text.extend_from_slice(b", not run"),
+    }
+}
+
+// Appends both.
+#[tactic(auto, unfolding(crate::specs::Timeline::outcome_text))]
+fn push_outcome(text: &mut Vec<u8>, fate: Fate, told: Told) -> Result<(), AllocError>
+    ensures { OnOk result (text.new.items ≡ text.old.items ++ outcome_text fate told) }
+{
+    push_fate(text, fate)?;
+    push_telling(text, told)
+}
+
 // What becomes of an attempt of the position that a restart of this number redoes.
 fn ended_by(position: usize, number: u64, restart: &Restart) -> Fate
     ensures { result ≡ ended_by position number restart.now }
@@ -212,14 +280,15 @@ fn push_title(
     column: &Column<'_>,
     attempt: u64,
     fate: Fate,
+    told: Told,
 ) -> Result<(), AllocError>
     ensures { OnOk result (text.new.items ≡ text.old.items
-        ++ title column.now.heads.now column.now.position (seen column.now.step.now) attempt fate) }
+        ++ title column.now.heads.now column.now.position (seen column.now.step.now) attempt fate told) }
 {
     push_step(text, column.heads, column.position, column.step)?;
     text.extend_from_slice(b"attempt ")?;
     push_number(text, attempt)?;
-    push_fate(text, fate)
+    push_outcome(text, fate, told)
 }
 
 // Appends the box of an attempt.
@@ -234,9 +303,11 @@ fn push_box(
     requires position { column.now.position ≤ 200000 }
     requires attempt { attempt ≤ 1000 }
     ensures { OnOk result (text.new.items ≡ text.old.items
-        ++ attempt_box column.now.frame column.now.heads.now column.now.position (seen column.now.step.now) attempt fate) }
+        ++ attempt_box column.now.frame column.now.heads.now column.now.position (seen column.now.step.now) attempt fate
+        (found column.now.tellings.now column.now.position attempt)) }
 {
-    let class = class_of(attempt, fate);
+    let told = column.tellings.told(column.position as u32, attempt as u32);
+    let class = class_of(attempt, fate, told);
     let position = column.position as u64;
     let step = column.step;
     let thread = u64::from(step.thread.0);
@@ -244,7 +315,7 @@ fn push_box(
     push_placed(text, b"<rect", class, left(position), top)?;
     push_sized(text, 32, 12)?;
     text.extend_from_slice(b"><title>")?;
-    push_title(text, column, attempt, fate)?;
+    push_title(text, column, attempt, fate, told)?;
     text.extend_from_slice(b"</title></rect>\n")?;
     push_words(text, class, left(position) + 16, top + 10)?;
     push_mark(text, &step.begins.sync, child_in(&step.foot))?;
@@ -261,7 +332,7 @@ fn push_boxes(
     requires position { column.now.position ≤ 200000 }
     requires few { length restarts.now ≤ 1000 }
     ensures { OnOk result (text.new.items ≡ text.old.items
-        ++ boxes column.now.frame column.now.heads.now column.now.position (seen column.now.step.now) 0 1 restarts.now) }
+        ++ boxes column.now.frame column.now.heads.now (found column.now.tellings.now) column.now.position (seen column.now.step.now) 0 1 restarts.now) }
 {
     let mut attempt = 0;
     for (at, restart) in restarts.iter().enumerate() {
@@ -285,7 +356,7 @@ fn push_column(
     requires position { column.now.position ≤ 200000 }
     requires few { length restarts.now ≤ 1000 }
     ensures { OnOk result (text.new.items ≡ text.old.items
-        ++ column_of column.now.frame column.now.heads.now restarts.now column.now.position (seen column.now.step.now)) }
+        ++ column_of column.now.frame column.now.heads.now (found column.now.tellings.now) restarts.now column.now.position (seen column.now.step.now)) }
 {
     let position = column.position as u64;
     if position % 40 == 0 {
@@ -301,18 +372,21 @@ fn push_columns(
     text: &mut Vec<u8>,
     frame: &Frame,
     heads: &[Head],
+    tellings: &Tellings,
     order: &[Step],
     restarts: &[Restart],
 ) -> Result<(), AllocError>
     requires small { IsSmall frame.now }
     requires few { length order.now ≤ 200000 }
     requires few_restarts { length restarts.now ≤ 1000 }
-    ensures { OnOk result (text.new.items ≡ text.old.items ++ columns frame.now heads.now restarts.now 0 (map seen order.now)) }
+    ensures { OnOk result (text.new.items ≡ text.old.items
+        ++ columns frame.now heads.now (found tellings.now) restarts.now 0 (map seen order.now)) }
 {
     for (position, step) in order.iter().enumerate() {
         let column = Column {
             frame: *frame,
             heads,
+            tellings,
             position,
             step,
         };
@@ -389,43 +463,51 @@ fn push_restarts(text: &mut Vec<u8>, frame: &Frame, restarts: &[Restart]) -> Res
     Ok(())
 }
 
-// The picture of a run of a program with these heads, and of these restarts.
+// The picture of a run of a program with these heads, of these restarts, and of what is told of the attempts, by a trace or by none.
 fn picture(
     alloc: Global,
+    traced: bool,
     heads: &[Head],
+    tellings: &Tellings,
     run: &PlainRun,
     restarts: &[Restart],
 ) -> Result<Vec<u8>, AllocError>
     requires few { length run.now.order ≤ 200000 }
     requires few_restarts { length restarts.now ≤ 1000 }
     requires fronts { All (λ r. r.front ≤ 200000) restarts.now }
-    ensures { IfOk result (λ text. text.items ≡ picture heads.now (map seen run.now.order) run.now.end restarts.now) }
+    ensures { IfOk result (λ text. text.items
+        ≡ picture traced heads.now (found tellings.now) (map seen run.now.order) run.now.end restarts.now) }
 {
     let order = run.order.as_slice();
     let frame = frame_of(order, restarts);
     let mut text = Vec::new(alloc);
-    push_opening(&mut text, &frame, restarts.len() as u64, run.end)?;
-    push_columns(&mut text, &frame, heads, order, restarts)?;
+    push_opening(&mut text, traced, &frame, restarts.len() as u64, run.end)?;
+    push_columns(&mut text, &frame, heads, tellings, order, restarts)?;
     push_restarts(&mut text, &frame, restarts)?;
     text.extend_from_slice(b"</svg>\n")?;
     Ok(text)
 }
 
 /// The picture, as SVG, of a program's run and of the restarts that these faults make of it. Columns are positions, in bands of
-/// forty; rows are threads, with a lane for each attempt. The error is that memory is out.
+/// forty; rows are threads, with a lane for each attempt. Where there is a trace of the run, the boxes of attempts whose results
+/// came after the restart, and of those that were not run, tell that. The error is that memory is out.
 pub fn timeline_text(
     alloc: Global,
     c: &Checked,
     inputs: &Inputs,
     limits: Limits,
     faults: &Faults,
+    trace: Option<&[TraceLine]>,
 ) -> Result<Text, AllocError>
     requires { limits.subthreads ≤ MOST_SUBTHREADS }
-    ensures { IfOk result (λ text. text ≡ timeline_text (plain_program (program_of c.now)) inputs.now limits faults.now.list) }
+    ensures { IfOk result (λ text. text
+        ≡ timeline_text (plain_program (program_of c.now)) inputs.now limits faults.now.list (option_map (λ lines. lines.now) trace.entry)) }
 {
     let run = run_plain(alloc, c, inputs, limits)?;
     let restarts = restarts_of(alloc, &run.order, faults)?;
     let heads = c.program().heads.as_slice();
-    let text = picture(alloc, heads, &run, restarts.as_slice())?;
+    let tellings = tellings_of(alloc, trace)?;
+    let made = restarts.as_slice();
+    let text = picture(alloc, trace.is_some(), heads, &tellings, &run, made)?;
     Ok(Seq::from_vec(text))
 }

@@ -8,6 +8,7 @@ use Rattle.call_cases.specs.Work.{Files}
 use Rattle.call_cases.specs.Case.{Case, ForCase, names_read}
 use Rattle.call_cases.specs.Answers.{Change, TakesAll, TakesPart, Fails, Grew, LineEnds}
 use Rattle.call_cases.specs.Headline.{Call, HasCaseLine, IsStop, Headline}
+use Rattle.view_calls.specs.Traces.{Judge}
 use Rattle.view_calls.specs.Commands.{asking, commands}
 use Rattle.view_calls.specs.Sights.{Sight, text_of, absent_of}
 use Rattle.view_calls.specs.Lines.{line_of, absent_line, read_fault_line, out_of_memory_line, write_fault_line, fault_line, fault_status}
@@ -40,8 +41,8 @@ call_of view = record {
 }
 
 -- a file that could not be read: its reads alone failed, and it is one that the case reads
-pub record FailsToRead (view : View) (name : Name) : Type 0 where
-  pub read : ForCase asking view.words view.files (λ case. Contains (names_read case) name)
+pub record FailsToRead (judge : Judge) (view : View) (name : Name) : Type 0 where
+  pub read : ForCase (asking judge) view.words view.files (λ case. Contains (names_read case) name)
   pub alone : GrowsByOnly name view.failed view.failed'
   pub grew : Grew view.failed view.failed'
 
@@ -55,15 +56,15 @@ abbrev pub HasOwnLine : ℕ → Type 0
 HasOwnLine status = HasCaseLine status ⊎ (status ≡ 5)
 
 -- what holds of each call
-pub record Shows (view : View) : Type 0 where
+pub record Shows (judge : Judge) (view : View) : Type 0 where
   -- Status, output and reads are those of a top call with these commands.
-  pub call : Headline commands (call_of view)
+  pub call : Headline (commands judge) (call_of view)
   -- The error stream grew by nothing, or by the line that tells the refusal, the position that is not there or the fault.
   pub quiet : view.status ≡ 0 → TakesAll view.err []
-  pub line : ForCase asking view.words view.files (λ case. HasOwnLine view.status → TakesAll view.err (line_of case))
-  pub read_fault : view.status ≡ 7 → (name : Name) × FailsToRead view name × TakesAll view.err (read_fault_line name)
+  pub line : ForCase (asking judge) view.words view.files (λ case. HasOwnLine view.status → TakesAll view.err (line_of case))
+  pub read_fault : view.status ≡ 7 → (name : Name) × FailsToRead judge view name × TakesAll view.err (read_fault_line name)
   pub write_fault : view.status ≡ 8 → Fails view.err ⊎ Fails view.out × TakesAll view.err write_fault_line
-  pub stopped : IsStop view.status → ForCase asking view.words view.files (λ case. (line : List ℕ) × IsLine case line × TakesPart view.err line)
+  pub stopped : IsStop view.status → ForCase (asking judge) view.words view.files (λ case. (line : List ℕ) × IsLine case line × TakesPart view.err line)
 
 -- how this is shown: its text was written whole; or there is no such position, and a line tells that; or a part of the text was written, and the line that tells why
 pub data ShowEnds (sight : Sight) (out err : Change) : ℕ → Type 0 where

@@ -124,6 +124,39 @@ const KEPT: &str = "5 thread 2 line 0 start prints 0 holds
 redone 0
 ";
 
+// The run with the first list comes as far as its restart: the result of 7 comes behind it, and the second attempts of 4, 6 and 7 and what is
+// left of the run have not been run.
+const CUT: &str = "issue 0
+post 0 0
+take 0 0 applied
+issue 1
+post 1 0
+take 1 0 applied
+issue 2
+post 2 0
+take 2 0 applied
+issue 3
+post 3 0
+take 3 0 applied
+issue 4
+post 4 0
+take 4 0 applied
+issue 5
+post 5 0
+take 5 0 applied
+issue 6
+post 6 0
+take 6 0 applied
+issue 7
+post 7 0
+restart 8 4 0 redo 4 6 7
+take 7 0 stale
+";
+
+const UNLAWFUL: &str = "gprs_view: input cut.txt kind 1 row 24\n";
+
+const BROKEN: &str = "gprs_view: input lock.csv kind 1 row 1\n";
+
 const NO_POSITION: &str = "gprs_view: no position 11\n";
 
 const USAGE: &str = "gprs_view: usage: order | why | timeline\n";
@@ -137,7 +170,7 @@ fn words_of(alloc: Global, text: &str) -> Result<Vec<String>, AllocError> {
     Ok(words)
 }
 
-// A shelf with this program, and three lists of one fault each.
+// A shelf with this program, three lists of one fault each, and a trace.
 fn shelf_with(alloc: Global, program: &str) -> Result<MemShelf, AllocError> {
     let program = (
         Name::from_slice(alloc, b"p.gp")?,
@@ -155,7 +188,11 @@ fn shelf_with(alloc: Global, program: &str) -> Result<MemShelf, AllocError> {
         Name::from_slice(alloc, b"fork.csv")?,
         Text::from_slice(alloc, b"1,0,60,1\n")?,
     );
-    let files = Seq::from_vec(vec![in alloc; program, lock, start, fork]?);
+    let cut = (
+        Name::from_slice(alloc, b"cut.txt")?,
+        Text::from_slice(alloc, CUT.as_bytes())?,
+    );
+    let files = Seq::from_vec(vec![in alloc; program, lock, start, fork, cut]?);
     Ok(MemShelf::new(alloc, files, Seq::new(alloc)))
 }
 
@@ -192,6 +229,10 @@ fn runs_are_shown_or_refused(rt: HostRuntime) -> Result<(), Fail> {
         ("order p.gp --subthreads 0", LOOP, 2, "", USAGE),
         ("one p.gp", ADD, 2, "", USAGE),
         ("timeline p.gp --crew two", ADD, 2, "", USAGE),
+        ("timeline p.gp --trace", ADD, 2, "", USAGE),
+        ("order p.gp --trace cut.txt", ADD, 2, "", USAGE),
+        ("timeline p.gp --trace cut.txt", ADD, 4, "", UNLAWFUL),
+        ("timeline --trace lock.csv p.gp", ADD, 4, "", BROKEN),
         (
             "order p.gp",
             "task t() { }",
@@ -203,6 +244,47 @@ fn runs_are_shown_or_refused(rt: HostRuntime) -> Result<(), Fail> {
     ];
     for (words, program, status, output, error) in rows {
         assert!(rt; gives(rt.alloc(), words, program, status, output, error)?);
+    }
+    Ok(())
+}
+
+// How often a part stands in a text.
+fn count_of(text: &[u8], part: &[u8]) -> usize {
+    let mut count: usize = 0;
+    for at in 0..text.len() {
+        if text[at..].starts_with(part) {
+            count = count.saturating_add(1);
+        }
+    }
+    count
+}
+
+// What the words write, over a shelf with the program that adds.
+fn written(alloc: Global, words: &str) -> Result<MemSink, AllocError> {
+    let mut shelf = shelf_with(alloc, ADD)?;
+    let mut out = MemSink::new(alloc, 100000, Seq::new(alloc));
+    let mut err = MemSink::new(alloc, 1000, Seq::new(alloc));
+    let words = words_of(alloc, words)?;
+    view_run(alloc, &words, &mut shelf, &mut out, &mut err);
+    Ok(out)
+}
+
+#[test]
+fn a_trace_tells_how_far_a_run_came(rt: HostRuntime) -> Result<(), Fail> {
+    let traced = written(
+        rt.alloc(),
+        "timeline p.gp --faults lock.csv --trace cut.txt",
+    )?;
+    let plain = written(rt.alloc(), "timeline p.gp --faults lock.csv")?;
+    let rows: [(&[u8], usize, usize); 4] = [
+        (b"<title>", 14, 14),
+        (b", its result came after the restart</title>", 1, 0),
+        (b", not run</title>", 6, 0),
+        (b"class='struck'", 3, 3),
+    ];
+    for (part, with_trace, without) in rows {
+        assert!(rt; count_of(traced.written(), part) == with_trace);
+        assert!(rt; count_of(plain.written(), part) == without);
     }
     Ok(())
 }

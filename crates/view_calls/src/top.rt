@@ -1,27 +1,33 @@
 // The top call: all that the program does.
-ghost use Rattle.std.specs.Prelude.{◌≡◌, IfOk, OnOk, OnErr};
+ghost use Rattle.std.specs.Prelude.{◌≡◌, None, IfOk, OnOk, OnErr, option_map};
 ghost use Rattle.std.specs.Io.KnownBytes.{Appends};
 ghost use Rattle.gp_base.specs.Sinks.{AppendsPrefix, HasCause};
 ghost use Rattle.command_line.specs.Words.{texts, IsWithinLimits};
 ghost use Rattle.call_cases.specs.Answers.{change_of};
 ghost use Rattle.call_cases.specs.Decided.{work_of};
-ghost use Rattle.call_cases.specs.Headline.{ReadsNothing};
-ghost use Rattle.view_calls.specs.Commands.{viewed_by, commands};
-ghost use Rattle.view_calls.specs.Sights.{text_for, view_of, text_of, absent_of, sight_of};
+ghost use Rattle.view_calls.specs.Traces.{Judge};
+ghost use Rattle.view_calls.specs.Commands.{viewed_by};
+ghost use Rattle.view_calls.specs.Sights.{lines_in, text_for, view_of, text_of, absent_of, sight_of};
 ghost use Rattle.view_calls.specs.Shows.{Shows, ShowEnds};
 
 use crate::lines::{end_no_position, refuse, stop_with};
-use crate::reading::{Viewing, read_view};
+use crate::reading::{Trace, Viewing, read_view};
 use call_cases::Request;
 use command_line::Command;
+use gp_audit::TraceLine;
 use gp_base::{Shelf, Sink, SinkFault, Text, put_all};
 use run_views::{order_text, timeline_text, why_text};
 use std::alloc::{AllocError, Global};
 
 // The text that shows a whole run.
-fn run_text(alloc: Global, request: &Request) -> Result<Text, AllocError>
+fn run_text(
+    alloc: Global,
+    request: &Request,
+    trace: Option<&[TraceLine]>,
+) -> Result<Text, AllocError>
     requires { IsWithinLimits request.now.asked }
-    ensures { IfOk result (λ text. text ≡ text_for request.now.asked.command (work_of request.now)) }
+    ensures { IfOk result (λ text. text
+        ≡ text_for request.now.asked.command (work_of request.now) (option_map (λ lines. lines.now) trace.entry)) }
 {
     let limits = request.asked.limits;
     match request.asked.command {
@@ -31,8 +37,19 @@ fn run_text(alloc: Global, request: &Request) -> Result<Text, AllocError>
             &request.inputs,
             limits,
             &request.faults,
+            trace,
         ),
         _ => order_text(alloc, &request.checked, &request.inputs, limits),
+    }
+}
+
+// The lines of the trace, where there is one.
+fn lines_of(trace: &Option<Trace>) -> Option<&[TraceLine]>
+    ensures { option_map (λ lines. lines.now) result ≡ lines_in trace.now }
+{
+    match trace {
+        Some(trace) => Some(trace.lines.as_slice()),
+        None => None,
     }
 }
 
@@ -43,7 +60,8 @@ fn view_text(alloc: Global, viewing: &Viewing) -> Result<Option<Text>, AllocErro
 {
     let request = &viewing.request;
     let Some(position) = viewing.position else {
-        return Ok(Some(run_text(alloc, request)?));
+        let lines = lines_of(&viewing.trace);
+        return Ok(Some(run_text(alloc, request, lines)?));
     };
     why_text(
         alloc,
@@ -89,7 +107,7 @@ fn show<O: Sink, E: Sink>(alloc: Global, viewing: &Viewing, out: &mut O, err: &m
 /// Shows what the words ask for, over what is handed in, and answers the status. The words are those after the program's name.
 ///
 /// The status is 0 where the run was shown, also one that is stuck or has spent its limits, 1 where memory ran out, 2 where the
-/// words are those of no command, 3 where the program is refused, 4 where a file beside it is refused, 5 where the run has not
+/// words are those of no command, 3 where the program is refused, 4 where a file beside it is refused, or the trace, 5 where the run has not
 /// the position that is asked for, 7 where a file could not be read, and 8 where a write failed.
 ///
 /// At 0 `out` took the whole text, and `err` nothing. At 2, 3, 4, 5 and 7 `out` took nothing, and `err` one line that tells why; at 8
@@ -101,7 +119,7 @@ pub fn view_run<H: Shelf, O: Sink, E: Sink>(
     out: &mut O,
     err: &mut E,
 ) -> u8
-    ensures shows { Shows (record {
+    ensures shows { (judge : Judge) → Shows judge (record {
       words = texts words.now;
       files = H.files shelf.old;
       failed = H.failed shelf.old;
@@ -112,7 +130,7 @@ pub fn view_run<H: Shelf, O: Sink, E: Sink>(
     }) }
 
     // The shelf is not read for words of no command.
-    ensures unread { ReadsNothing commands (viewed_by (texts words.now)) → shelf.new ≡ shelf.old }
+    ensures unread { viewed_by (texts words.now) ≡ None → shelf.new ≡ shelf.old }
 {
     match read_view(alloc, words, shelf) {
         Ok(viewing) => show(alloc, &viewing, out, err),

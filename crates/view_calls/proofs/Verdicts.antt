@@ -1,0 +1,50 @@
+-- The verdict that the code gives is that of each judge.
+use Rattle.std.proofs.Common.{◌≡◌, ◌<◌, ◌≤◌, ℕ, List, length, map, ap, subst, ◌∙◌, arith}
+use Rattle.std.proofs.lemmas.List.{length-map}
+use Rattle.gp_base.specs.declared.feed.Inputs.{Inputs}
+use Rattle.gp_base.specs.declared.limits.Limits.{Limits}
+use Rattle.gp_base.specs.declared.limits.TheConstants.{MOST_SUBTHREADS}
+use Rattle.task_ast.specs.Tree.{Program}
+use Rattle.task_ast.specs.Plain.{order, tree_machine}
+use Rattle.task_ast.proofs.PlainRuns.{count_law}
+use Rattle.one_thread.specs.PlainRuns.{shown}
+use Rattle.one_thread.specs.declared.run.Step.{Step}
+use Rattle.dependence.specs.Restarts.{Dependence}
+use Rattle.gp_audit.specs.declared.line.TraceLine.{TraceLine}
+use Rattle.gp_audit.specs.declared.verdict.Verdict.{Verdict}
+use Rattle.gp_audit.specs.Steps.{dependence_by}
+use Rattle.gp_audit.specs.Verdicts.{IsVerdict}
+use Rattle.gp_audit.proofs.Fronts.{verdict_once}
+use Rattle.gp_audit.proofs.Orders.{order-is}
+use Rattle.call_cases.specs.Work.{ToDo}
+use Rattle.call_cases.specs.Journals.{run_of, dependence_for}
+use Rattle.view_calls.specs.Traces.{Judge, OneJudge}
+use Rattle.view_calls.proofs.Readings.{one_reading}
+
+-- the plain run has few steps
+pub few_steps : (program : Program) (inputs : Inputs) (limits : Limits) (steps : List Step)
+    → steps ≡ map shown (order program inputs limits) → limits.subthreads ≤ MOST_SUBTHREADS
+    → length steps < 4294967295
+few_steps program inputs limits steps are few =
+    let count : length (order program inputs limits) ≤ limits.subthreads = count_law (tree_machine program inputs limits) program inputs limits in
+    let same = ap length are ∙ length-map (order program inputs limits) shown in
+    omega (arith, count, same)
+
+-- a verdict by the steps of the plain run is the judge's
+pub verdict_judged : (judge : Judge) (work : ToDo) (lines : List TraceLine) (steps : List Step) (verdict : Verdict)
+    → steps ≡ map shown (order work.program work.inputs work.limits)
+    → IsVerdict (dependence_by steps) work.faults lines verdict → verdict ≡ judge.verdict_of (dependence_for work) work.faults lines
+unfolding run_of dependence_for
+verdict_judged judge work lines steps verdict are is =
+    verdict_once (dependence_for work) work.faults lines verdict (judge.verdict_of (dependence_for work) work.faults lines)
+    (subst (λ (dependence : Dependence). IsVerdict dependence work.faults lines verdict) (ap dependence_by are ∙ order-is (run_of work)) is)
+    (judge.judges (dependence_for work) work.faults lines)
+
+-- no two judges differ
+pub one_judge : OneJudge
+one_judge judge other = (
+  λ bytes. one_reading bytes (judge.lines_of bytes) (other.lines_of bytes) (judge.reads bytes) (other.reads bytes),
+  λ dependence faults lines.
+      verdict_once dependence faults lines (judge.verdict_of dependence faults lines) (other.verdict_of dependence faults lines) (judge.judges dependence faults lines)
+      (other.judges dependence faults lines),
+)

@@ -1,0 +1,18 @@
+use Rattle.std.proofs.Common.{List, sym, ◌∙◌}
+use Rattle.gp_audit.specs.declared.line.TraceLine.{TraceLine}
+use Rattle.call_cases.specs.Decided.{work_of}
+use Rattle.call_cases.specs.Lines.{input_line}
+use Rattle.view_calls.proofs.Readings.{lines_told, unlawful_told, input_unread}
+use Rattle.view_calls.proofs.reading.lawful_lines.Goals as goal
+
+pub returns-in-Ok-Some-clause-told : goal.returns-in-Ok-Some-clause-told
+returns-in-Ok-Some-clause-told c = λ judge names position text within is.
+    unlawful_told judge names c.args.name.now position (work_of c.args.request.now) text c.args.lines c.in-Ok-Some.number c.refused_input.result within is
+    (sym (c.in-Ok-Some.ensures judge) ∙ c.in-Ok-Some.field-0-is) c.refused_input.ensures
+
+pub returns-in-Ok-Some-clause-unread : goal.returns-in-Ok-Some-clause-unread
+returns-in-Ok-Some-clause-unread c = λ names failed. input_unread (List TraceLine) names failed (input_line c.args.name.now 1 c.in-Ok-Some.number) c.refused_input.result c.refused_input.ensures
+
+pub returns-in-Ok-None-clause-told : goal.returns-in-Ok-None-clause-told
+returns-in-Ok-None-clause-told c = λ judge names position text within is.
+    lines_told judge names c.args.name.now position (work_of c.args.request.now) text c.args.lines within is (sym (c.in-Ok-None.ensures judge) ∙ c.in-Ok-None.field-0-is)

@@ -1,0 +1,21 @@
+use Rattle.std.proofs.Common.{List}
+use Rattle.gp_audit.specs.declared.line.TraceLine.{TraceLine}
+use Rattle.call_cases.specs.Decided.{work_of}
+use Rattle.call_cases.specs.Lines.{input_line}
+use Rattle.view_calls.proofs.Readings.{read_judged, row_told, few_read, input_unread}
+use Rattle.view_calls.proofs.reading.lines_in.Goals as goal
+
+pub lawful_lines-requires-clause-few : goal.lawful_lines-requires-clause-few
+lawful_lines-requires-clause-few c = few_read c.args.text.now c.in-Ok.lines c.requires.short c.in-Ok.ensures.1
+
+pub returns-in-Ok-clause-told : goal.returns-in-Ok-clause-told
+returns-in-Ok-clause-told c = λ judge names position.
+    c.lawful_lines.ensures.told judge names position c.args.text.now c.requires.short (read_judged judge c.args.text.now c.in-Ok.lines c.in-Ok.ensures)
+
+pub returns-in-Err-Line-clause-told : goal.returns-in-Err-Line-clause-told
+returns-in-Err-Line-clause-told c = λ judge names position.
+    let broken = rw c.in-Err-Line.field-0-is at c.in-Err-Line.ensures in
+    row_told judge names c.args.name.now position (work_of c.args.request.now) c.args.text.now c.in-Err-Line.row c.refused_input.result c.requires.short broken c.refused_input.ensures
+
+pub returns-in-Err-Line-clause-unread : goal.returns-in-Err-Line-clause-unread
+returns-in-Err-Line-clause-unread c = λ names failed. input_unread (List TraceLine) names failed (input_line c.args.name.now 1 c.in-Err-Line.row) c.refused_input.result c.refused_input.ensures

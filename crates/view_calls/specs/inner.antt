@@ -1,0 +1,2 @@
+-- What describes parts of the crate alone.
+pub mod Answers
