@@ -16,7 +16,7 @@ use Rattle.record_store.proofs.Comings.{locks_lent}
 use Rattle.subthread.specs.declared.task.Task.{Task}
 use Rattle.subthread.proofs.HeldLocks.{bundle_locks}
 use Rattle.crew.specs.Out.{TakesOut}
-use Rattle.gp_resume.proofs.Marks.{marked-in, marked-back}
+use Rattle.record_store.proofs.Marks.{marked-in, marked-back}
 
 -- of one task that is out that one is taken
 pub only-taken : (task t : Task) (before after : List Task) → before ≡ task ∷ [] → TakesOut before t after → (t ≡ task) × (after ≡ [])

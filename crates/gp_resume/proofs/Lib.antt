@@ -7,7 +7,6 @@ pub mod Lefts
 pub mod Lendings
 pub mod LogAnswers
 pub mod LogRows
-pub mod Marks
 pub mod Moved
 pub mod Numerals
 pub mod Onward

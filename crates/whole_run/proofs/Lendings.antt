@@ -13,7 +13,7 @@ use Rattle.record_store.proofs.Comings.{locks_lent}
 use Rattle.subthread.specs.declared.task.Task.{Task}
 use Rattle.subthread.proofs.HeldLocks.{bundle_locks}
 use Rattle.whole_run.specs.inner.Posted.{lent_by}
-use Rattle.whole_run.proofs.Marks.{marked-in, marked-back}
+use Rattle.record_store.proofs.Marks.{marked-in, marked-back}
 
 -- what all locks of bundles meet
 pub all-locks : (P : ℕ → Type 0) (bundles : List Bundle) → ((l : ℕ) → Contains (map lock_in bundles) l → P l)

@@ -18,7 +18,6 @@ pub mod IssuesKept
 pub mod Kepts
 pub mod Lendings
 pub mod Locks
-pub mod Marks
 pub mod OpenBlocks
 pub mod OpenCuts
 pub mod Opened

@@ -41,7 +41,7 @@ use Rattle.subthread.proofs.HeldLocks.{owned_increasing}
 use Rattle.whole_run.specs.View.{Batch, program_in, run_in}
 use Rattle.whole_run.specs.inner.Kept.{IsFit}
 use Rattle.whole_run.specs.inner.Locks.{IsLent, LocksStand, HasLocks}
-use Rattle.whole_run.proofs.Marks.{marked-in, marked-out}
+use Rattle.record_store.proofs.Marks.{marked-in, marked-out}
 use Rattle.whole_run.proofs.UnderLocks.{writes-lock, one-lock, out-apart}
 
 -- an attempt is in one state

@@ -52,7 +52,7 @@ use Rattle.whole_run.proofs.Backings.{backed-state}
 use Rattle.whole_run.proofs.Kepts.{stage_stands, stands_by, keeps_then}
 use Rattle.whole_run.proofs.Lendings.{all-locks, locks-back, as-lent}
 use Rattle.whole_run.proofs.Locks.{away-there}
-use Rattle.whole_run.proofs.Marks.{length-marked}
+use Rattle.record_store.proofs.Marks.{length-marked}
 use Rattle.whole_run.proofs.Recoverings.{take-allowed}
 use Rattle.whole_run.proofs.RingTakes.{ring_stale, ring_learnt}
 use Rattle.whole_run.proofs.Windows.{window-stale, window-take, effect-fits, effect-fresh}

@@ -66,7 +66,7 @@ use Rattle.whole_run.proofs.Recoverings.{allowed-plain}
 use Rattle.whole_run.proofs.Checkpoints.{StaysShaped}
 use Rattle.whole_run.proofs.Backings.{backed-issue, backed-post, backed-stale, backed-take, backed-restart, backed-retire, unbegun-out, backed-opened, redoes-rolled, shaped-rolled, backed-rolled}
 use Rattle.whole_run.proofs.Locks.{out-is, locks-kept, locks-sent, locks-home, locks-raised, locks-retired, locks-pushed}
-use Rattle.whole_run.proofs.Marks.{length-marked}
+use Rattle.record_store.proofs.Marks.{length-marked}
 use Rattle.whole_run.proofs.Ready.{slice_get_inside, stays-ready}
 
 -- whether an entry is known before its result is applied or after
