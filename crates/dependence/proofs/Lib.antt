@@ -7,6 +7,7 @@ pub mod DependentLists
 pub mod DependentSets
 pub mod Effects
 pub mod Folds
+pub mod Found
 pub mod IssuedPositions
 pub mod JournalRows
 pub mod Journals

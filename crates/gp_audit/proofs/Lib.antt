@@ -4,7 +4,6 @@ pub mod Backwards
 pub mod Clashing
 pub mod Digits
 pub mod FirstWords
-pub mod Found
 pub mod Fronts
 pub mod Once
 pub mod Orders

@@ -12,7 +12,6 @@ pub mod Detected
 pub mod EntryLines
 pub mod Events
 pub mod Folds
-pub mod Found
 pub mod Histories
 pub mod IssuesKept
 pub mod Kepts

@@ -1,6 +1,6 @@
 use Rattle.std.proofs.Common.{◌∙◌, ◌+◌, ap, arith, subst, sym, Some}
 use Rattle.whole_run.specs.inner.Striking.{strikes}
-use Rattle.whole_run.proofs.Found.{FoundSoFar, found_more, found_same}
+use Rattle.dependence.proofs.Found.{FoundSoFar, found_more, found_same}
 use Rattle.whole_run.proofs.parts.striking.least_struck.Goals as goal
 use Rattle.whole_run.proofs.parts.striking.least_struck.Goals.{then-strikes, else-strikes}
 

@@ -1,5 +1,5 @@
 use Rattle.whole_run.specs.inner.Striking.{strikes}
-use Rattle.whole_run.proofs.Found.{FoundSoFar}
+use Rattle.dependence.proofs.Found.{FoundSoFar}
 use Rattle.whole_run.proofs.parts.striking.least_struck.Given as goal
 
 abbrev pub invariant-loop-fault : goal.invariant-loop-fault
