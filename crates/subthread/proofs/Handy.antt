@@ -1,5 +1,5 @@
 -- What stands between two calls stands after a write.
-use Rattle.std.proofs.Common.{◌≡◌, ℕ, zero, suc, ◌<◌, Bool, true, false, cond, List, [], ◌∷◌, length, map, get_or, Option, Some, None, is_some, refl, sym, ap, ◌∙◌, subst, arith, nat_eq, unwrap_or}
+use Rattle.std.proofs.Common.{◌≡◌, ℕ, zero, suc, ◌<◌, Bool, true, false, cond, List, [], ◌∷◌, length, map, Some, is_some, refl, sym, ap, ◌∙◌, subst, arith, nat_eq, unwrap_or}
 use Rattle.std.specs.Prelude.{ℤ, All, slice_set}
 use Rattle.std.specs.List.Sorted.{IsStrictlyIncreasing}
 use Rattle.std.specs.Ordering.{nat_cmp, eq_by_cmp}

@@ -1,5 +1,5 @@
 -- The record cells that actions name, as a run notes them.
-use Rattle.std.proofs.Common.{◌≡◌, ℕ, ℤ, Bool, true, false, cond, List, [], ◌∷◌, ◌++◌, map, Option, Some, None, refl, sym, ap, ◌∙◌, option_map, option_and_then, unwrap_or, nat_eq}
+use Rattle.std.proofs.Common.{◌≡◌, ℕ, ℤ, Bool, true, false, cond, List, [], ◌∷◌, ◌++◌, map, Option, Some, None, refl, ap, ◌∙◌, option_map, option_and_then, unwrap_or, nat_eq}
 use Rattle.std.specs.Prelude.{nat_lt}
 use Rattle.std.specs.Ordering.{nat_cmp, match_ordering}
 use Rattle.std.specs.declared.cmp.Ordering.TheVariants.{Less, Equal, Greater}
@@ -7,10 +7,10 @@ use Rattle.std.specs.BTreeSet.{insert_key}
 use Rattle.gp_base.specs.declared.feed.Feed.{Feed}
 use Rattle.task_ast.specs.declared.sync.SyncOp.{SyncOp}
 use Rattle.task_ast.specs.declared.sync.SyncOp.TheVariants as sync
-use Rattle.task_ast.specs.Action.{Term, Action, Set, Load, Store, Say, Choose, Child, Give, Bring, Arm, NoAction, OneAction}
+use Rattle.task_ast.specs.Action.{Term, Action, Set, Load, Store, Say, Child, Give, Arm, NoAction}
 use Rattle.task_ast.specs.Control.{all_of}
 use Rattle.task_ast.specs.Footprint.{with_cell, Named, naming, arm_naming, all_naming}
-use Rattle.task_code.specs.Instructions.{Instr, At, Does, Assign, GoOn, Unless, Again, Lock, Unlock, Fork, Join, Barrier, Settle, Do, Calc}
+use Rattle.task_code.specs.Instructions.{Instr, At, Assign, GoOn, Unless, Again, Lock, Unlock, Fork, Join, Barrier, Settle, Do, Calc}
 use Rattle.task_code.specs.Reading.{CalcEnv, Place, begin_actions, calc_term, calc_value, code_first, env_of, gift_action, instr_at}
 use Rattle.subthread.specs.inner.Running.{Notes, ArmNotes}
 use Rattle.subthread.proofs.Arms.{also, chosen}

@@ -1,16 +1,16 @@
 -- Places among bundles.
-use Rattle.std.proofs.Common.{◌≡◌, ℕ, zero, suc, ◌+◌, ◌<◌, List, [], ◌∷◌, length, map, get_or, set, Option, Some, None, refl, sym, ap, ◌∙◌, subst, arith}
+use Rattle.std.proofs.Common.{◌≡◌, ℕ, zero, suc, ◌+◌, ◌<◌, List, [], ◌∷◌, length, map, get_or, set, Some, None, sym, ap, ◌∙◌, subst, arith}
 use Rattle.std.specs.Prelude.{ℤ, All, slice_get, slice_set}
 use Rattle.std.specs.List.{Contains}
 use Rattle.std.specs.List.Sorted.{IsStrictlyIncreasing}
 use Rattle.std.proofs.lemmas.List.{length-map}
-use Rattle.std.proofs.lemmas.Option.{slice_get_within, slice_get-get_or}
+use Rattle.std.proofs.lemmas.Option.{slice_get_within}
 use Rattle.task_ast.specs.State.{number_at}
 use Rattle.task_ast.specs.Under.{under_lock}
 use Rattle.record_store.specs.declared.given.Bundle.{Bundle}
 use Rattle.record_store.specs.Lent.{lock_in}
 use Rattle.record_store.proofs.Stocked.{contains-at, apart}
-use Rattle.subthread.specs.inner.Places.{IsPlaceIn, AreSearchable, Lacks, AllLack, IsAt, StandsAt, IsFoundAt, HasPlace, value_at, with_value}
+use Rattle.subthread.specs.inner.Places.{IsPlaceIn, Lacks, AllLack, StandsAt, HasPlace, value_at, with_value}
 
 pub place_within : (bundles : List Bundle) (i k : ℕ) → HasPlace bundles i k → i < length bundles
 place_within [] i k has = absurd has

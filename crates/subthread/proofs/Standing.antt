@@ -1,16 +1,16 @@
 -- What a cell that stands at a place means for the values of bundles.
-use Rattle.std.proofs.Common.{◌≡◌, ℕ, zero, suc, ◌<◌, Bool, true, false, cond, List, [], ◌∷◌, length, map, Option, Some, None, refl, sym, ap, ◌∙◌, subst, arith, nat_eq, unwrap_or}
+use Rattle.std.proofs.Common.{◌≡◌, ℕ, zero, suc, ◌<◌, Bool, true, false, cond, List, [], ◌∷◌, length, Some, refl, sym, ap, ◌∙◌, subst, arith, nat_eq, unwrap_or}
 use Rattle.std.specs.Prelude.{ℤ, pos, slice_get, slice_set}
 use Rattle.std.specs.Ordering.{nat_cmp}
 use Rattle.std.specs.FinMap.{find}
-use Rattle.std.proofs.lemmas.Bool.{eqb-true, eqb-false, eq-eqb, ne_eqb, false≢true}
+use Rattle.std.proofs.lemmas.Bool.{eqb-true, ne_eqb}
 use Rattle.task_ast.specs.State.{number_at}
 use Rattle.task_ast.specs.Under.{under_lock}
 use Rattle.record_store.specs.declared.given.Bundle.{Bundle}
 use Rattle.record_store.specs.Given.{value_beside, value_in}
-use Rattle.record_store.specs.Lent.{put_beside, put_into, put_back}
+use Rattle.record_store.specs.Lent.{put_beside, put_back}
 use Rattle.record_store.proofs.Shelved.{beside_at, beside_none}
-use Rattle.subthread.specs.inner.Places.{Lacks, AllLack, IsAt, StandsAt, HasPlace, value_at, with_value}
+use Rattle.subthread.specs.inner.Places.{AllLack, StandsAt, HasPlace, value_at, with_value}
 
 module _ (under : List (List ℕ)) (c : ℕ) where
   pub lacks_value : (bundles : List Bundle) → AllLack under c bundles → value_in under bundles c ≡ pos 0

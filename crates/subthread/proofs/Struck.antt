@@ -1,18 +1,17 @@
 -- A mask that falls on cells in place.
-use Rattle.std.proofs.Common.{◌≡◌, ℕ, zero, suc, ◌+◌, ◌<◌, ◌≤◌, Bool, true, false, cond, List, [], ◌∷◌, length, map, drop, get_or, Option, Some, None, is_some, refl, sym, ap, ◌∙◌, subst, arith, nat_eq, unwrap_or}
-use Rattle.std.specs.Prelude.{ℤ, All}
+use Rattle.std.proofs.Common.{◌≡◌, ℕ, suc, ◌<◌, Bool, true, false, cond, List, [], ◌∷◌, length, map, get_or, Some, None, is_some, refl, sym, ap, ◌∙◌, arith, nat_eq, unwrap_or}
+use Rattle.std.specs.Prelude.{ℤ}
 use Rattle.std.specs.Int.{int_bit_xor, w64}
 use Rattle.std.specs.Ordering.{nat_cmp}
 use Rattle.std.specs.Cmp.{unsigned_tied}
 use Rattle.std.specs.FinMap.{find, is_sorted}
 use Rattle.std.specs.FinMap.Entries.{below_all}
-use Rattle.std.proofs.lemmas.Bool.{eqb-true, eqb-false, eq-eqb, ne_eqb, and_parts}
+use Rattle.std.proofs.lemmas.Bool.{eqb-true, and_parts}
 use Rattle.record_store.specs.declared.given.Bundle.{Bundle}
 use Rattle.record_store.specs.Given.{value_in}
 use Rattle.record_store.specs.Lent.{put_back, new_write}
 use Rattle.record_store.proofs.Comings.{above, each_found}
-use Rattle.record_store.proofs.Homing.{drop_next, drop_none}
-use Rattle.subthread.specs.inner.Places.{AreHandy, AllLack, StandsAt, value_at, with_value}
+use Rattle.subthread.specs.inner.Places.{AreHandy, StandsAt, value_at, with_value}
 use Rattle.task_ast.specs.Value.{is_zero}
 use Rattle.subthread.specs.inner.Hand.{turned_write, damaged_write}
 use Rattle.subthread.proofs.Standing.{stands_value, value_set, set_back}

@@ -1,20 +1,19 @@
 -- Cells that are written in place, in the words of an effect.
-use Rattle.std.proofs.Common.{◌≡◌, ℕ, zero, suc, ◌<◌, Bool, true, false, cond, List, [], ◌∷◌, ◌++◌, length, map, get_or, Option, Some, None, is_some, refl, sym, ap, ◌∙◌, subst, arith, nat_eq, unwrap_or, option_map, T}
-use Rattle.std.specs.Prelude.{ℤ, pos, slice_get}
+use Rattle.std.proofs.Common.{◌≡◌, ℕ, Bool, true, false, cond, List, map, Option, Some, None, is_some, refl, sym, ap, ◌∙◌, nat_eq, unwrap_or, option_map, T}
+use Rattle.std.specs.Prelude.{ℤ, pos}
 use Rattle.std.specs.Ordering.{nat_cmp}
 use Rattle.std.specs.Cmp.{unsigned_tied}
 use Rattle.std.specs.FinMap.{put, find, is_sorted}
 use Rattle.std.specs.FinMap.Entries.{find-put, is_sorted-put, same_entries}
 use Rattle.std.proofs.lemmas.Bool.{eqb-true, eqb-false, eq-eqb, ne_eqb, false≢true}
 use Rattle.std.proofs.lemmas.Cmp.{nat_cmp_total, ranked}
-use Rattle.task_ast.specs.Under.{under_lock}
 use Rattle.record_store.specs.declared.given.Bundle.{Bundle}
 use Rattle.record_store.specs.Given.{value_in}
 use Rattle.record_store.specs.inner.Homing.{value_over}
-use Rattle.record_store.specs.Lent.{put_beside, put_into, put_back, new_write}
+use Rattle.record_store.specs.Lent.{put_back, new_write}
 use Rattle.record_store.proofs.Comings.{found_write, over_back, in_over}
 use Rattle.record_store.proofs.Fitting.{rising_same}
-use Rattle.subthread.specs.inner.Places.{AllLack, StandsAt, HasPlace, value_at, with_value}
+use Rattle.subthread.specs.inner.Places.{StandsAt, value_at, with_value}
 use Rattle.subthread.specs.inner.Hand.{with_old}
 use Rattle.subthread.proofs.Standing.{value_set, set_back}
 

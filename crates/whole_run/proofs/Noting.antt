@@ -1,7 +1,7 @@
 -- What notes of a run are, as the run goes on, where it restarts selectively. The stage after an event and what is allowed are those of selective
 -- restarts, and a history buffer stands beside them, so that LeftAt tells of what is applied that it left the same. Notes go along: a result that
 -- applies is noted with what its attempt left, all else applies nothing, and what retires is the next of what the plain run leaves.
-use Rattle.std.proofs.Common.{◌≡◌, ◌⊎◌, inl, inr, ℕ, suc, ◌+◌, ◌<◌, ◌≤◌, Bool, true, false, cond, nat_eq, List, [], ◌∷◌, ◌++◌, length, Option, Some, refl, sym, ap, subst, ◌∙◌, arith, add-one, slice_get}
+use Rattle.std.proofs.Common.{◌≡◌, inl, inr, ℕ, suc, ◌+◌, ◌≤◌, Bool, true, false, cond, List, [], ◌∷◌, ◌++◌, length, Option, Some, refl, sym, ap, subst, ◌∙◌, arith, add-one, slice_get}
 use Rattle.std.specs.Prelude.{Ok, Err}
 use Rattle.std.proofs.lemmas.Bool.{false≢true, cases_eq, eq-eqb, ne_eqb}
 use Rattle.gp_base.specs.declared.journal.Event.{Event}
@@ -34,7 +34,6 @@ use Rattle.whole_run.specs.declared.calls.Halt.{Halt}
 use Rattle.whole_run.specs.declared.calls.Halt.TheVariants as halt
 use Rattle.whole_run.specs.declared.calls.Issued.{Issued}
 use Rattle.whole_run.specs.declared.calls.Issued.TheVariants.{One, Needs, Settles, Ended}
-use Rattle.whole_run.specs.declared.recovery.Recovery.{Recovery}
 use Rattle.whole_run.specs.declared.recovery.Recovery.TheVariants.{Selective}
 use Rattle.whole_run.specs.Recovering.{recovering, AllowedBy, LawfulBy}
 use Rattle.whole_run.specs.View.{Batch, View, program_in, run_in, dependence_in, start_in, now, state_in, begun, grown, learnt, Stands}

@@ -1,4 +1,4 @@
-use Rattle.std.proofs.Common.{◌≡◌, pos, [], SFits, w64, rules, Option, Some, refl, sym, ◌∙◌, subst}
+use Rattle.std.proofs.Common.{pos, [], SFits, w64, rules, Option, Some, refl, sym, ◌∙◌, subst}
 use Rattle.std.proofs.lemmas.Bool.{false≢true}
 use Rattle.std.proofs.lemmas.Int.{to_z-of_z}
 use Rattle.task_ast.specs.Plain.{Subthread, Plain, move}

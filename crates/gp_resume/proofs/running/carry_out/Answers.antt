@@ -1,4 +1,4 @@
-use Rattle.std.proofs.Common.{◌≡◌, sym, subst, ap, ◌∙◌}
+use Rattle.std.proofs.Common.{sym, ap, ◌∙◌}
 use Rattle.subthread.specs.Tasks.{task_of}
 use Rattle.crew.specs.Out.{TakesOut}
 use Rattle.gp_resume.proofs.Lendings.{only-taken}

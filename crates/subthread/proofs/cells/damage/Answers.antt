@@ -1,4 +1,4 @@
-use Rattle.std.proofs.Common.{◌≡◌, sym, ◌∙◌, SFits, w64, rules, map}
+use Rattle.std.proofs.Common.{sym, ◌∙◌, SFits, w64, rules, map}
 use Rattle.std.proofs.lemmas.Int.{to_z-of_z}
 use Rattle.record_store.specs.Lent.{new_write}
 use Rattle.subthread.proofs.Struck.{spared}

@@ -1,4 +1,4 @@
-use Rattle.std.proofs.Common.{◌≡◌, ap, sym, ◌∙◌, SFits, w64, rules, is_some, cond}
+use Rattle.std.proofs.Common.{ap, sym, ◌∙◌, SFits, w64, rules, is_some, cond}
 use Rattle.std.specs.Ordering.{nat_cmp}
 use Rattle.std.specs.FinMap.{put}
 use Rattle.std.proofs.lemmas.Int.{to_z-of_z}

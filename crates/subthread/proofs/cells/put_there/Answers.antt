@@ -1,4 +1,4 @@
-use Rattle.std.proofs.Common.{◌≡◌, ap, sym, ◌∙◌, SFits, w64, rules, subst, ◌<◌, length, set, get_or}
+use Rattle.std.proofs.Common.{sym, ◌∙◌, SFits, w64, rules, subst, ◌<◌, length, set}
 use Rattle.std.specs.Prelude.{slice_set}
 use Rattle.std.proofs.lemmas.Int.{to_z-of_z}
 use Rattle.record_store.specs.declared.given.Bundle.{Bundle}

@@ -1,9 +1,9 @@
-use Rattle.std.proofs.Common.{◌≡◌, ◌∷◌, [], ap, sym, ◌∙◌, subst, SFits, w64, rules, length}
+use Rattle.std.proofs.Common.{◌≡◌, [], ap, sym, ◌∙◌, subst, SFits, w64, rules}
 use Rattle.std.specs.Option.{IsSome}
 use Rattle.std.proofs.lemmas.Bool.{false≢true}
 use Rattle.std.proofs.lemmas.Int.{to_z-of_z}
 use Rattle.record_store.specs.Lent.{put_back}
-use Rattle.subthread.specs.inner.Places.{AreHandy, StandsAt, with_value}
+use Rattle.subthread.specs.inner.Places.{AreHandy, with_value}
 use Rattle.subthread.proofs.Placing.{place_within}
 use Rattle.subthread.proofs.Standing.{stands_has}
 use Rattle.subthread.proofs.Handy.{none_back, first_back, searchable_rest, first_found, no_entry}

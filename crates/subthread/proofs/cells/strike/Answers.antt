@@ -1,4 +1,4 @@
-use Rattle.std.proofs.Common.{◌≡◌, ◌<◌, ◌+◌, ◌∷◌, ℕ, true, length, drop, get_or, ap, sym, ◌∙◌, subst, SFits, w64, rules, refl, is_some}
+use Rattle.std.proofs.Common.{◌≡◌, ◌+◌, ◌∷◌, ℕ, true, drop, ap, sym, ◌∙◌, subst, SFits, w64, rules, is_some}
 use Rattle.std.specs.Int.{int_bit_xor}
 use Rattle.std.proofs.lemmas.Int.{to_z-of_z}
 use Rattle.std.proofs.lemmas.Bool.{and_parts}
@@ -8,7 +8,7 @@ use Rattle.std.specs.FinMap.{is_sorted, find}
 use Rattle.std.specs.FinMap.Entries.{below_all}
 use Rattle.record_store.specs.Lent.{put_back}
 use Rattle.record_store.proofs.Homing.{drop_next, drop_none}
-use Rattle.subthread.specs.inner.Places.{AreHandy, StandsAt, value_at, with_value}
+use Rattle.subthread.specs.inner.Places.{StandsAt, value_at, with_value}
 use Rattle.subthread.proofs.Placing.{place_within}
 use Rattle.subthread.proofs.Standing.{stands_has}
 use Rattle.subthread.proofs.Struck.{then, then_next, handy_struck, came_struck, found_at, all_struck, turned}

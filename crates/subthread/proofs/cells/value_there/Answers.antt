@@ -1,5 +1,5 @@
-use Rattle.std.proofs.Common.{◌≡◌, ap, sym, ◌∙◌, SFits, w64, rules, Some, None, unwrap_or}
-use Rattle.std.specs.Prelude.{ℤ, pos, slice_get}
+use Rattle.std.proofs.Common.{ap, sym, ◌∙◌, SFits, w64, rules, unwrap_or}
+use Rattle.std.specs.Prelude.{pos, slice_get}
 use Rattle.std.proofs.lemmas.Int.{to_z-of_z}
 use Rattle.record_store.specs.declared.given.Bundle.{Bundle}
 use Rattle.subthread.proofs.Placing.{value_is}

@@ -1,5 +1,4 @@
-use Rattle.std.proofs.Common.{◌≡◌, Some, None, sym, ap, ◌∙◌, subst, map, slice_get}
-use Rattle.record_store.specs.Lent.{lock_in}
+use Rattle.std.proofs.Common.{Some, None, sym, subst}
 use Rattle.task_ast.specs.Under.{under_lock}
 use Rattle.subthread.specs.inner.Places.{IsPlaceIn, IsFoundAt}
 use Rattle.subthread.proofs.Placing.{none_over, none_bundled, none_placed, stands_so}

@@ -1,6 +1,3 @@
-use Rattle.std.proofs.Common.{true, ◌≡◌, map, ap, sym, ◌∙◌, subst, All, rules}
-use Rattle.task_ast.specs.Under.{is_under}
-use Rattle.record_store.specs.Lent.{lock_in}
 use Rattle.subthread.proofs.Among.{all_among}
 use Rattle.subthread.proofs.cells.Cells.finish.Goals as goal
 

@@ -1,4 +1,4 @@
-use Rattle.std.proofs.Common.{ap, sym, ◌∙◌, map}
+use Rattle.std.proofs.Common.{ap, ◌∙◌, map}
 use Rattle.record_store.specs.Lent.{put_back, new_write}
 use Rattle.subthread.proofs.Handy.{none_back}
 use Rattle.subthread.proofs.cells.Cells.new.Goals as goal

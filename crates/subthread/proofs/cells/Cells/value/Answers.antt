@@ -1,7 +1,7 @@
-use Rattle.std.proofs.Common.{◌≡◌, ◌<◌, length, ap, sym, ◌∙◌, SFits, w64, rules, subst, map}
+use Rattle.std.proofs.Common.{ap, sym, ◌∙◌, SFits, w64, rules, subst, map}
 use Rattle.std.proofs.lemmas.Int.{to_z-of_z}
 use Rattle.record_store.specs.Given.{value_in}
-use Rattle.subthread.specs.inner.Places.{StandsAt, AllLack, value_at}
+use Rattle.subthread.specs.inner.Places.{StandsAt, AllLack}
 use Rattle.subthread.proofs.Placing.{place_within}
 use Rattle.subthread.proofs.Standing.{stands_has, stands_value}
 use Rattle.subthread.proofs.Among.{under_now}

@@ -2,7 +2,7 @@ use Rattle.std.proofs.Common.{◌≡◌, ◌<◌, length, ap, sym, ◌∙◌, SF
 use Rattle.std.proofs.lemmas.Int.{to_z-of_z}
 use Rattle.std.proofs.lemmas.List.{with_items_is}
 use Rattle.record_store.specs.Lent.{lock_in, put_back, new_write}
-use Rattle.subthread.specs.inner.Places.{StandsAt, AllLack, AreHandy, value_at, with_value}
+use Rattle.subthread.specs.inner.Places.{StandsAt, AllLack, value_at, with_value}
 use Rattle.subthread.specs.inner.Hand.{Hand, with_old}
 use Rattle.subthread.proofs.Among.{under_now}
 use Rattle.task_ast.specs.Under.{is_under}
@@ -11,7 +11,7 @@ use Rattle.subthread.proofs.Standing.{stands_has}
 use Rattle.subthread.proofs.Written.{came_same, written_then}
 use Rattle.subthread.proofs.Handy.{handy_with}
 use Rattle.subthread.proofs.cells.Cells.write.Goals as goal
-use Rattle.subthread.proofs.cells.Cells.write.Goals.{After-deref-2, After-deref_mut, After-self-1}
+use Rattle.subthread.proofs.cells.Cells.write.Goals.{After-deref-2, After-self-1}
 
 stands : (c : After-deref-2) → StandsAt c.self.inside.under.now c.args.cell c.in-Some.at c.in-Some.place c.self.inside.bundles.items
 stands c = subst (StandsAt c.self.inside.under.now c.args.cell c.in-Some.at c.in-Some.place) c.deref.ensures.value c.in-Some.ensures
