@@ -39,14 +39,16 @@ use Rattle.subthread.specs.declared.task.Task.{Task}
 use Rattle.subthread.specs.declared.task.Done.{Done}
 use Rattle.subthread.specs.Footprints.{IsNumbered}
 use Rattle.subthread.specs.Tasks.{program_in, machine_of, under_of, task_of, effect_of, place_of, place_left, body_from, actions_from, IsRun, Fits}
-use Rattle.subthread.proofs.HeldLocks.{owned_increasing, bundle_locks, bundle_sizes}
+use Rattle.subthread.proofs.Among.{same_locks_back}
+use Rattle.subthread.proofs.HeldLocks.{owned_below, owned_increasing, bundle_locks, bundle_sizes}
+use Rattle.subthread.proofs.Lendings.{lent-away, lent-as, home-again}
 use Rattle.gp_resume.specs.declared.course.Plan.{Plan}
 use Rattle.gp_resume.specs.declared.course.Spot.{Spot}
 use Rattle.gp_resume.specs.declared.course.Begun.{Begun}
 use Rattle.gp_resume.specs.declared.course.Course.{Course}
 use Rattle.gp_resume.specs.inner.Course.{IsSuited, IsHome, AreNumbered, Begins, IsSameRun, Stands, spot_place, run_in}
 use Rattle.gp_resume.specs.inner.Handed.{task_begun, IsLeft}
-use Rattle.gp_resume.proofs.Lendings.{owned-below, locks-back, each-home, lent-away, lent-as, home-again}
+use Rattle.gp_resume.proofs.Lendings.{each-home}
 
 -- a join that may begin names a thread that is there, and of these there are few
 joins-numbered : (table : Table) (op : SyncOp) → Reached table → MayBegin table op → IsNumbered op
@@ -176,7 +178,7 @@ module _ (plan : Plan) (suits : IsSuited plan) (x : Plain) (s : Subthread) (y : 
       each-home store begun.held begins.home.home
       (λ l holds.
       let below = All-contains (λ l. l < 0 + length y.table.owners) (owned_from 0 y.table.owners s.thread) l
-      (owned-below 0 y.table.owners s.thread) (subst (λ held. Contains held l) (begins.held ∙ step.held) holds) in
+      (owned_below 0 y.table.owners s.thread) (subst (λ held. Contains held l) (begins.held ∙ step.held) holds) in
       let owners = begins.after.locks.owners in
       let locks = begins.home.locks in
       omega arith)
@@ -274,7 +276,7 @@ module _ (plan : Plan) (suits : IsSuited plan) (x : Plain) (s : Subthread) (y : 
 
     locks-came : map lock_in done.task.given.bundles ≡ begun.held
     locks-came =
-        sym (locks-back (under_of plan.work.now) done.old done.task.given.bundles)
+        sym (same_locks_back (under_of plan.work.now) done.old done.task.given.bundles)
         ∙ ap (map lock_in) came
         ∙ bundle_locks store.under (state_of store) begun.held
 
@@ -289,7 +291,7 @@ module _ (plan : Plan) (suits : IsSuited plan) (x : Plain) (s : Subthread) (y : 
           within = subst (λ under. All (λ w. is_under under (map lock_in done.task.given.bundles) w.0 ≡ true) done.old)
               (sym begins.home.under)
               (subst (λ ls. All (λ w. is_under (under_of plan.work.now) ls w.0 ≡ true) done.old)
-              (locks-back (under_of plan.work.now) done.old done.task.given.bundles) run.within);
+              (same_locks_back (under_of plan.work.now) done.old done.task.given.bundles) run.within);
         }
 
     -- its thread and its child are there

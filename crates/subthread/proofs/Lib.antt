@@ -11,6 +11,7 @@ pub mod HeldLocks
 pub mod Instructions
 pub mod Joined
 pub mod Leavings
+pub mod Lendings
 pub mod Moves
 pub mod Noted
 pub mod Placing

@@ -1,12 +1,12 @@
 -- A lock is away exactly where an entry that is out holds it.
-use Rattle.std.proofs.Common.{◌≡◌, ◌⊎◌, inl, inr, ℕ, ℤ, suc, ◌+◌, ◌<◌, Bool, true, false, cond, nat_eq, List, [], ◌∷◌, ◌++◌, length, get_or, Contains, Option, Some, None, refl, sym, ap, subst, ◌∙◌, arith, slice_get, ◌==◌}
+use Rattle.std.proofs.Common.{◌≡◌, ◌⊎◌, inl, inr, ℕ, ℤ, suc, ◌+◌, ◌<◌, Bool, true, false, cond, nat_eq, List, [], ◌∷◌, ◌++◌, length, get_or, Contains, Option, Some, None, refl, sym, ap, subst, ◌∙◌, arith, slice_get}
 use Rattle.std.specs.Prelude.{All, option_map}
 use Rattle.std.specs.List.{list_any}
 use Rattle.std.specs.List.Sorted.{IsStrictlyIncreasing}
 use Rattle.std.specs.Option.{option_or}
 use Rattle.std.specs.Bool.{Decides}
 use Rattle.std.proofs.lemmas.Bool.{cases_lt, eqb-true, eqb-false, eq-eqb, ne_eqb, false≢true, false_from_ne_true}
-use Rattle.std.proofs.lemmas.List.Elements.{All-nil, All-cons, All-contains}
+use Rattle.std.proofs.lemmas.List.Elements.{All-contains}
 use Rattle.std.proofs.lemmas.Option.{slice_get_within, slice_get-get_or, get_or_from_slice_get}
 use Rattle.gp_base.specs.declared.fault.Fault.{Fault}
 use Rattle.gp_base.specs.declared.footprint.Loc.TheVariants as loc
@@ -37,7 +37,7 @@ use Rattle.reorder_list.specs.Runnable.{IsRunnable}
 use Rattle.reorder_list.specs.Stages.{EntriesStand}
 use Rattle.reorder_list.proofs.Changes.{KeepsPosition, changed_where, changed, pushed, from-first}
 use Rattle.reorder_list.proofs.Staged.{changed-there}
-use Rattle.subthread.proofs.HeldLocks.{owned_increasing}
+use Rattle.subthread.proofs.HeldLocks.{owned_below, owned_increasing}
 use Rattle.whole_run.specs.View.{Batch, program_in, run_in}
 use Rattle.whole_run.specs.inner.Kept.{IsFit}
 use Rattle.whole_run.specs.inner.Locks.{IsLent, LocksStand, HasLocks}
@@ -57,21 +57,6 @@ one-entry entries p q x y x_there y_there same = let both = sym x_there ∙ (ap 
 
 -- ---- the locks of the run exist
 
-owned-below : (n : ℕ) (owners : List (Option ℕ)) (t : ℕ) → All (λ l. l < n + length owners) (owned_from n owners t)
-owned-below n [] t = All-nil (λ l. l < n + 0)
-owned-below n (None ∷ owners) t =
-    subst (λ m. All (λ l. l < m) (owned_from (suc n) owners t))
-    (let next : suc n + length owners ≡ n + suc (length owners) = omega arith in next) (owned-below (suc n) owners t)
-owned-below n (Some owner ∷ owners) t =
-    go (t == owner)
-    (subst (λ m. All (λ l. l < m) (owned_from (suc n) owners t))
-    (let next : suc n + length owners ≡ n + suc (length owners) = omega arith in next) (owned-below (suc n) owners t))
-  where
-    go : (b : Bool) → All (λ l. l < n + suc (length owners)) (owned_from (suc n) owners t)
-        → All (λ l. l < n + suc (length owners)) (cond b (n ∷ owned_from (suc n) owners t) (owned_from (suc n) owners t))
-    go true rest = All-cons (λ l. l < n + suc (length owners)) n (owned_from (suc n) owners t) (omega arith) rest
-    go false rest = rest
-
 -- what a subthread holds is among the lock cells of the program
 pub held-exist : (batch : Batch) → IsFit batch → (p : ℕ) (s : Subthread) → slice_get (run_in batch) p ≡ Some s → (l : ℕ) → Contains s.held l
     → l < cells_in (locks_of (program_in batch).heads)
@@ -80,7 +65,7 @@ held-exist batch fit p s there l holds =
     let owners = (before (program_in batch) batch.inputs batch.limits (suc p)).table.owners in
     let all = (before_stands (program_in batch) batch.inputs batch.limits fit.suits.code.accepted (suc p)).owners in
     let below =
-    All-contains (λ l. l < 0 + length owners) (owned_from 0 owners s.thread) l (owned-below 0 owners s.thread)
+    All-contains (λ l. l < 0 + length owners) (owned_from 0 owners s.thread) l (owned_below 0 owners s.thread)
     (subst (λ held. Contains held l) step.held holds) in
     omega arith
 

@@ -34,8 +34,10 @@ use Rattle.reorder_list.proofs.Changes.{position-of, from-first, changed_where, 
 use Rattle.subthread.specs.declared.task.Done.{Done}
 use Rattle.subthread.specs.Tasks.{task_of, effect_of, IsRun}
 use Rattle.subthread.specs.Joining.{Runs, IsGiven}
+use Rattle.subthread.proofs.Among.{same_locks_back}
 use Rattle.subthread.proofs.HeldLocks.{bundle_locks}
 use Rattle.subthread.proofs.Joined.{runs_law}
+use Rattle.subthread.proofs.Lendings.{all-locks, as-lent}
 use Rattle.task_ast.specs.Layout.{layout}
 use Rattle.whole_run.specs.declared.parts.Parts.{Parts}
 use Rattle.whole_run.specs.declared.parts.Place.{Place}
@@ -50,7 +52,6 @@ use Rattle.whole_run.specs.inner.Backing.{AdvancesBy}
 use Rattle.whole_run.specs.inner.Taken.{is_number, awaits, learning_from, placing_from, has_attempt, history_by, IsAppliedWhere}
 use Rattle.whole_run.proofs.Backings.{backed-state}
 use Rattle.whole_run.proofs.Kepts.{stage_stands, stands_by, keeps_then}
-use Rattle.whole_run.proofs.Lendings.{all-locks, locks-back, as-lent}
 use Rattle.whole_run.proofs.Locks.{away-there}
 use Rattle.record_store.proofs.Marks.{length-marked}
 use Rattle.whole_run.proofs.Recoverings.{take-allowed}
@@ -231,7 +232,7 @@ module _ (batch : Batch) (parts : Parts) (kept : Kept batch parts) (done : Done)
     -- they have the locks of the entry
     locks-held : locks ≡ here.held
     locks-held =
-        sym (locks-back under done.old done.task.given.bundles) ∙ (ap (map lock_in) came
+        sym (same_locks_back under done.old done.task.given.bundles) ∙ (ap (map lock_in) came
         ∙ (bundle_locks under (state_of parts.store) done.task.held ∙ (task.is_task.is_of.held ∙ sym entry-held)))
       where
         same : stands.subthread ≡ s
@@ -254,7 +255,7 @@ module _ (batch : Batch) (parts : Parts) (kept : Kept batch parts) (done : Done)
 
     came-within : All (λ w. is_under under locks w.0 ≡ true) done.old
     came-within =
-        subst (λ ls. All (λ w. is_under under ls w.0 ≡ true) done.old) (locks-back under done.old done.task.given.bundles) run.within
+        subst (λ ls. All (λ w. is_under under ls w.0 ≡ true) done.old) (same_locks_back under done.old done.task.given.bundles) run.within
 
     -- so they may come home
     pub comes : MayComeHome parts.store done.task.given.bundles done.old

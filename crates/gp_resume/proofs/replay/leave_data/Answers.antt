@@ -9,9 +9,9 @@ use Rattle.record_store.specs.Given.{bundle_of}
 use Rattle.record_store.specs.Lent.{marked, lock_in, put_back, new_write, whole_effect}
 use Rattle.record_store.specs.Stored.{Stored, state_of, IsAtHome}
 use Rattle.subthread.proofs.HeldLocks.{bundle_locks, bundle_sizes}
+use Rattle.subthread.proofs.Lendings.{came-locks, may-come, home-again}
 use Rattle.gp_resume.specs.Fitting.{StandsUnder}
 use Rattle.gp_resume.specs.inner.RowsRead.{write_in, with_cells}
-use Rattle.gp_resume.proofs.Lendings.{came-locks, may-come, home-again}
 use Rattle.gp_resume.proofs.Replays.{all-under}
 use Rattle.gp_resume.proofs.replay.leave_data.Goals as goal
 
