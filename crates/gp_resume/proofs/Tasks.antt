@@ -27,9 +27,8 @@ use Rattle.task_ast.proofs.IssuedTables.{get_set_here, get_set_other}
 use Rattle.task_ast.proofs.PlainSteps.{begins_of, begins_inside, is_step}
 use Rattle.task_ast.proofs.SeatLimits.{most_threads_law}
 use Rattle.task_ast.proofs.WholeFolds.{undamaged}
-use Rattle.task_code.specs.Reading.{Place, code_machine}
+use Rattle.task_code.specs.Reading.{Place}
 use Rattle.task_code.specs.Relation.{Rests}
-use Rattle.task_code.proofs.Machines.{follows as follows_code}
 use Rattle.record_store.specs.declared.given.Bundle.{Bundle}
 use Rattle.record_store.specs.Given.{given_of, joined_by, found_of, bundle_of}
 use Rattle.record_store.specs.Lent.{marked, lock_in, put_back, whole_effect, MayComeHome}
@@ -49,6 +48,7 @@ use Rattle.gp_resume.specs.declared.course.Course.{Course}
 use Rattle.gp_resume.specs.inner.Course.{IsSuited, IsHome, AreNumbered, Begins, IsSameRun, Stands, spot_place, run_in}
 use Rattle.gp_resume.specs.inner.Handed.{task_begun, IsLeft}
 use Rattle.gp_resume.proofs.Lendings.{each-home}
+use Rattle.gp_resume.proofs.TurnsTaken.{follows-code}
 
 -- a join that may begin names a thread that is there, and of these there are few
 joins-numbered : (table : Table) (op : SyncOp) → Reached table → MayBegin table op → IsNumbered op
@@ -121,10 +121,7 @@ module _ (plan : Plan) (suits : IsSuited plan) (x : Plain) (s : Subthread) (y : 
   step = is_step tree x begins.before.locks.points s y (begins_of tree x s y begins.moves)
 
   follows : Follows (Rests program) tree code
-  follows =
-      subst (Follows (Rests program) tree)
-      (λ i. code_machine (sym suits.code.made i) (sym suits.feeds_are i) (sym suits.turns_are i))
-      (follows_code program plan.inputs.value plan.limits)
+  follows = follows-code plan suits
 
   abbrev point : Point
   point = from_in (program_in plan.work.now) plan.inputs.value plan.limits x s.begins.sync s.thread
