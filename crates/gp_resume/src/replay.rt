@@ -16,11 +16,10 @@ ghost use Rattle.gp_resume.specs.inner.RowsRead.{row_in, write_in, with_cells};
 
 use crate::course::{Begun, Course, Plan};
 use crate::row::LogRow;
-use crate::running::room_for;
 use gp_base::{At, LockNo, Nums, RecNo, Seq, ThreadNo};
 use record_store::{Effect, Store};
 use std::alloc::{AllocError, Global};
-use subthread::{Work, control_of, set_cells};
+use subthread::{Work, control_of, room_for, set_cells};
 use task_ast::Next;
 
 // The cells of a row, each with its value. A number that is too large for a cell is taken as a want of memory; a row that fits has none.

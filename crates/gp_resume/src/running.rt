@@ -1,36 +1,23 @@
 // A subthread that a crew runs.
 
-ghost use Rattle.std.specs.Prelude.{◌≡◌, ◌⊎◌, ◌<◌, ◌≤◌, true, [], ◌∷◌, ◌++◌, length, map, All, Contains, OnOk, OnErr, IfOk};
+ghost use Rattle.std.specs.Prelude.{◌≡◌, ◌⊎◌, ◌<◌, true, [], ◌∷◌, ◌++◌, length, All, Contains, OnOk, OnErr, IfOk};
 ghost use Rattle.std.specs.List.Sorted.{IsStrictlyIncreasing};
 ghost use Rattle.task_ast.specs.Plain.{Plain, Subthread};
-ghost use Rattle.record_store.specs.Given.{joined_by};
 ghost use Rattle.record_store.specs.Lent.{marked, MayComeHome};
 ghost use Rattle.record_store.specs.Stored.{FitsChild, IsAtHome};
 ghost use Rattle.subthread.specs.Footprints.{IsNumbered};
 ghost use Rattle.subthread.specs.Tasks.{Fits, IsRun, task_of};
 ghost use Rattle.crew.specs.Out.{pair_of};
 ghost use Rattle.gp_resume.specs.inner.Course.{IsSuited, IsBegun, Stands, Begins};
-ghost use Rattle.gp_resume.specs.inner.Handed.{bare_task, lent_by, task_begun, IsLeft};
+ghost use Rattle.gp_resume.specs.inner.Handed.{bare_task, task_begun, IsLeft};
 
 use crate::course::{Begun, Course, Plan};
 use crew::Crew;
-use gp_base::{Lines, Room, Seq, ThreadNo};
-use record_store::{Bundle, Given, Store};
+use gp_base::{Lines, Seq};
+use record_store::{Given, Store};
 use std::alloc::{AllocError, Global};
 use std::thread::Threads;
-use subthread::{Done, Task};
-use task_ast::SyncOp;
-
-// The thread that is joined.
-fn joined_by(begins: &SyncOp) -> Option<ThreadNo>
-    requires numbered { IsNumbered begins.now }
-    ensures { result ≡ joined_by begins.now }
-{
-    match begins {
-        SyncOp::Join(thread) if *thread >= 0 => Some(ThreadNo(*thread as u32)),
-        _ => None,
-    }
-}
+use subthread::{Done, Task, joined_by, lend, room_for};
 
 // The task of the subthread that begins, which has no cells yet.
 fn bare_task(alloc: Global, store: &Store, begun: Begun) -> Result<Task, AllocError>
@@ -64,32 +51,6 @@ fn bare_task(alloc: Global, store: &Store, begun: Begun) -> Result<Task, AllocEr
         held,
         mask: 0,
     })
-}
-
-/// Room for the cells of so many locks. The error is that memory is out.
-pub fn room_for(alloc: Global, locks: usize) -> Result<Room<Bundle>, AllocError>
-    ensures empty { IfOk result (λ room. room.items ≡ []) }
-    ensures room { IfOk result (λ room. locks ≤ room.spare) }
-{
-    let mut room = Room::new(alloc);
-    room.reserve(locks)?;
-    Ok(room)
-}
-
-// Lends a task the cells of its locks, which are at home.
-fn lend(store: &mut Store, task: Task, room: Room<Bundle>) -> Task
-    requires home { All (IsAtHome store.old) task.held }
-    requires rising { IsStrictlyIncreasing task.held }
-    requires empty { room.items ≡ [] }
-    requires room { length task.held ≤ room.spare }
-    ensures task { result ≡ lent_by store.old task }
-    ensures store { store.new ≡ record store.old { away = marked task.held true store.old.away } }
-{
-    let mut task = task;
-    let mut room = room;
-    store.lend(&task.held, &mut room);
-    task.given.bundles = room.into_seq();
-    task
 }
 
 // The task of the subthread that begins, with the cells of its locks.

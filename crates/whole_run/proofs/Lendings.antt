@@ -6,9 +6,9 @@ use Rattle.record_store.specs.Given.{bundle_of}
 use Rattle.record_store.specs.Lent.{marked, lock_in, AreAsLent}
 use Rattle.record_store.specs.Stored.{Stored, state_of, IsAtHome, IsAway}
 use Rattle.subthread.specs.declared.task.Task.{Task}
+use Rattle.subthread.specs.Lending.{lent_by}
 use Rattle.subthread.proofs.HeldLocks.{bundle_locks}
 use Rattle.subthread.proofs.Lendings.{lent-away, lent-as, sent-back}
-use Rattle.whole_run.specs.inner.Posted.{lent_by}
 
 module _ (store later : Stored) (task back : Task) (home : All (IsAtHome store) task.held) (back_is : back ≡ lent_by store task)
     (later_is : later ≡ record store { away = marked task.held true store.away }) where

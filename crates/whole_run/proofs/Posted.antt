@@ -35,6 +35,7 @@ use Rattle.reorder_list.specs.Runnable.{IsRunnable}
 use Rattle.reorder_list.specs.Stages.{IsEntry}
 use Rattle.reorder_list.proofs.Changes.{all-there, position-of}
 use Rattle.reorder_list.proofs.Staged.{is-runnable}
+use Rattle.subthread.specs.Lending.{lent_by}
 use Rattle.subthread.specs.declared.task.Task.{Task}
 use Rattle.subthread.specs.Footprints.{IsNumbered}
 use Rattle.subthread.specs.Tasks.{Fits, place_of}
@@ -51,7 +52,7 @@ use Rattle.whole_run.specs.Takes.{TaskStands}
 use Rattle.whole_run.specs.inner.Backed.{StandsBy, IsOpened}
 use Rattle.whole_run.specs.inner.Kept.{view_of, stage_of, IsPlaceIn, IsPlaced, Keeps, Kept}
 use Rattle.whole_run.specs.inner.Locks.{HasLocks}
-use Rattle.whole_run.specs.inner.Posted.{bare_in, lent_by, task_in}
+use Rattle.whole_run.specs.inner.Posted.{bare_in, task_in}
 use Rattle.whole_run.proofs.Backings.{backed-state}
 use Rattle.whole_run.proofs.Kepts.{stage_then, stands_by, stage_stands, keeps_then}
 use Rattle.whole_run.proofs.Locks.{held-exist, held-rises, home-there}

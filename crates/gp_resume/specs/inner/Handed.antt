@@ -3,12 +3,12 @@ use Rattle.std.specs.Prelude.{◌≡◌, pos, false, [], map, slice_set}
 use Rattle.task_ast.specs.State.{RegistersOf}
 use Rattle.task_ast.specs.Effect.{after}
 use Rattle.task_ast.specs.Table.{learning}
-use Rattle.record_store.specs.Given.{bundle_of, joined_by, joined_value}
+use Rattle.record_store.specs.Given.{joined_by, joined_value}
 use Rattle.record_store.specs.Lent.{lock_in, marked, whole_effect}
 use Rattle.record_store.specs.Stored.{Stored, state_of, SameShape}
 use Rattle.subthread.specs.declared.task.Task.{Task}
 use Rattle.subthread.specs.declared.task.Done.{Done}
-use Rattle.subthread.specs.Tasks.{with_bundles}
+use Rattle.subthread.specs.Lending.{lent_by}
 use Rattle.gp_resume.specs.declared.course.Begun.{Begun}
 use Rattle.gp_resume.specs.declared.course.Course.{Course}
 
@@ -31,10 +31,6 @@ bare_task store begun =
       held = begun.held;
       mask = pos 0;
     }
-
--- a task with the cells that the store lends for its locks
-abbrev pub lent_by : Stored → Task → Task
-lent_by store task = with_bundles (map (bundle_of store.under (state_of store)) task.held) task
 
 -- it is given what the store gives
 abbrev pub task_begun : Stored → Begun → Task

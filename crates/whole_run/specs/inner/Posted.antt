@@ -1,13 +1,13 @@
 -- The task of an entry's present attempt.
-use Rattle.std.specs.Prelude.{ℕ, List, [], map}
+use Rattle.std.specs.Prelude.{ℕ, List, []}
 use Rattle.gp_base.specs.declared.fault.Fault.{Fault}
 use Rattle.task_ast.specs.State.{RegistersOf}
 use Rattle.dependence.specs.Restarts.{mask_of}
-use Rattle.record_store.specs.Given.{bundle_of, joined_by, joined_value}
+use Rattle.record_store.specs.Given.{joined_by, joined_value}
 use Rattle.record_store.specs.Stored.{Stored, state_of}
 use Rattle.reorder_list.specs.declared.entry.Entry.{Entry}
 use Rattle.subthread.specs.declared.task.Task.{Task}
-use Rattle.subthread.specs.Tasks.{with_bundles}
+use Rattle.subthread.specs.Lending.{lent_by}
 
 -- it is given registers as the store has them, and no cells yet; it has the mask of the fault that strikes the attempt
 abbrev pub bare_in : List Fault → Stored → (position : ℕ) → Entry → Task
@@ -24,10 +24,6 @@ bare_in faults store p e =
       held = e.held;
       mask = mask_of faults p e.attempt;
     }
-
--- a task with the cells that the store lends for its locks
-abbrev pub lent_by : Stored → Task → Task
-lent_by store task = with_bundles (map (bundle_of store.under (state_of store)) task.held) task
 
 -- it is given what the store gives
 abbrev pub task_in : List Fault → Stored → (position : ℕ) → Entry → Task

@@ -6,30 +6,29 @@ ghost use Rattle.std.specs.List.Sorted.{IsStrictlyIncreasing};
 ghost use Rattle.gp_base.specs.declared.journal.Event.TheVariants as event;
 ghost use Rattle.dependence.specs.Restarts.{mask_of};
 ghost use Rattle.dependence.specs.Standing.{present};
-ghost use Rattle.record_store.specs.Given.{joined_by};
 ghost use Rattle.record_store.specs.Lent.{lock_in, marked, AreAsLent};
 ghost use Rattle.record_store.specs.Stored.{IsAtHome, IsAway};
 ghost use Rattle.reorder_list.specs.Entries.{entry_at};
 ghost use Rattle.subthread.specs.declared.task.Task.{Task};
 ghost use Rattle.subthread.specs.Footprints.{IsNumbered};
+ghost use Rattle.subthread.specs.Lending.{lent_by};
 ghost use Rattle.subthread.specs.Tasks.{Fits};
 ghost use Rattle.crew.specs.Out.{pair_of};
 ghost use Rattle.whole_run.specs.View.{now};
 ghost use Rattle.whole_run.specs.Gives.{Did, MayPostNow};
 ghost use Rattle.whole_run.specs.Takes.{TaskStands};
 ghost use Rattle.whole_run.specs.inner.Kept.{batch_in, view_of, Kept};
-ghost use Rattle.whole_run.specs.inner.Posted.{bare_in, lent_by};
+ghost use Rattle.whole_run.specs.inner.Posted.{bare_in};
 
 use crate::parts::backing::open_block;
 use crate::parts::{Parts, Plan};
 use crew::Crew;
-use gp_base::{Event, Fault, Pos, Room, Seq, ThreadNo};
+use gp_base::{Event, Fault, Pos, Room, Seq};
 use record_store::{Bundle, Given, Store};
 use reorder_list::{Entry, Rol};
 use std::alloc::{AllocError, AllocFailed, Global};
 use std::thread::Threads;
-use subthread::Task;
-use task_ast::SyncOp;
+use subthread::{Task, joined_by, lend, room_for};
 
 /// The mask of the fault that strikes an attempt, or 0.
 fn mask_of(faults: &[Fault], pos: Pos, attempt: u32) -> i64
@@ -41,17 +40,6 @@ fn mask_of(faults: &[Fault], pos: Pos, attempt: u32) -> i64
         }
     }
     0
-}
-
-/// The thread that is joined.
-fn joined_by(begins: &SyncOp) -> Option<ThreadNo>
-    requires numbered { IsNumbered begins.now }
-    ensures { result ≡ joined_by begins.now }
-{
-    match begins {
-        SyncOp::Join(thread) if *thread >= 0 => Some(ThreadNo(*thread as u32)),
-        _ => None,
-    }
 }
 
 /// The task of an entry's present attempt, which has no cells yet.
@@ -101,32 +89,6 @@ fn bare_at(
         Some(entry) => bare_in(alloc, faults, store, pos, entry),
         None => unreachable!(),
     }
-}
-
-/// Room for the cells of so many locks.
-fn room_for(alloc: Global, locks: usize) -> Result<Room<Bundle>, AllocError>
-    ensures empty { IfOk result (λ room. room.items ≡ []) }
-    ensures room { IfOk result (λ room. locks ≤ room.spare) }
-{
-    let mut room = Room::new(alloc);
-    room.reserve(locks)?;
-    Ok(room)
-}
-
-/// Lends a task the cells of its locks, which are at home.
-fn lend(store: &mut Store, task: Task, room: Room<Bundle>) -> Task
-    requires home { All (IsAtHome store.old) task.held }
-    requires rising { IsStrictlyIncreasing task.held }
-    requires empty { room.items ≡ [] }
-    requires room { length task.held ≤ room.spare }
-    ensures task { result ≡ lent_by store.old task }
-    ensures store { store.new ≡ record store.old { away = marked task.held true store.old.away } }
-{
-    let mut task = task;
-    let mut room = room;
-    store.lend(&task.held, &mut room);
-    task.given.bundles = room.into_seq();
-    task
 }
 
 /// Hands a task to a crew. The error is that memory is out; the task comes back.
