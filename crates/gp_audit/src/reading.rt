@@ -5,9 +5,9 @@ ghost use Rattle.gp_audit.specs.Lines.{line_text, before_space, attempt_before, 
 ghost use Rattle.gp_audit.specs.Reading.{IsRead, AnswersTrace};
 
 use crate::line::{TraceFault, TraceLine};
-use crate::numbers::{after, number_before};
+use crate::numbers::number_before;
 use crate::redo::redo_at;
-use gp_base::{Pos, Restart, Seq, Text};
+use gp_base::{Pos, Restart, Seq, Text, after};
 use std::alloc::{AllocError, Global};
 
 // A line after its first word, and what remains after it.

@@ -1,5 +1,6 @@
 //! What every crate of the runtime speaks of: lists that contracts see as lists, the small types of a run, and the
-//! outside (shelves of files, sinks of bytes, gates) with plain objects in memory.
+//! outside (shelves of files, sinks of bytes, gates) with plain objects in memory. Beside them, words and digits at the
+//! front of bytes.
 #![tactic(auto)]
 
 mod calls;
@@ -7,6 +8,7 @@ mod ending;
 mod fault;
 mod feed;
 mod footprint;
+mod front;
 mod gate;
 mod job;
 mod journal;
@@ -23,6 +25,7 @@ pub use ending::{End, Why};
 pub use fault::{Fault, Faults};
 pub use feed::{Feed, Inputs};
 pub use footprint::{Footprint, Loc};
+pub use front::{after, count_digits};
 pub use gate::{FreeGate, Gate};
 pub use job::Job;
 pub use journal::{Event, Journal, Restart};

@@ -4,8 +4,9 @@ use Rattle.std.specs.Prelude.{All, codes, flat_map}
 use Rattle.std.specs.Fmt.{signed_decimal}
 use Rattle.restart_log.specs.Lines.{spaced}
 use Rattle.retirement_log.specs.Rows.{group, row_text}
+use Rattle.gp_base.specs.Fronts.{begins_with_digit}
 use Rattle.gp_resume.specs.Reading.{IsWide, IsWideRow}
-use Rattle.gp_resume.specs.inner.Fronts.{IsOnlyFront, EndsMany, ReadsMany, EndsNumber, EndsNumbers, EndsCells, IsWideCell, Anything, begins_with_digit, spaced_number, cell_text, cells_end, head_text}
+use Rattle.gp_resume.specs.inner.Fronts.{IsOnlyFront, EndsMany, ReadsMany, EndsNumber, EndsNumbers, EndsCells, IsWideCell, Anything, spaced_number, cell_text, cells_end, head_text}
 use Rattle.gp_resume.proofs.Choices.{Choice, is-false, begins, below}
 use Rattle.gp_resume.proofs.Fronts.{NoFront, cancel, word-then, no-word, word-then-none, both, both_fit, then-some, then-none, first-none, many-start, many-more, many-end}
 use Rattle.gp_resume.proofs.Numerals.{number-front}

@@ -1,20 +1,20 @@
 -- Numbers at the front of bytes.
-use Rattle.std.proofs.Common.{◌≡◌, ◌≢◌, ◌<◌, ◌+◌, ◌^◌, ◌||◌, ◌==◌, ℕ, ℤ, pos, negsuc, true, false, List, [], ◌∷◌, ◌++◌, length, get_or, take, refl, sym, ap, ◌∙◌, subst, arith, w64, to_z, of_z}
-use Rattle.std.specs.Prelude.{option_map, Option, Some, None, MatchOption, Result, IsUtf8, FitsSigned}
+use Rattle.std.proofs.Common.{◌≡◌, ◌≢◌, ◌<◌, ◌+◌, ◌^◌, ◌||◌, ◌==◌, ℕ, ℤ, pos, negsuc, true, false, List, [], ◌∷◌, ◌++◌, length, refl, sym, ap, ◌∙◌, subst, arith, w64, to_z, of_z}
+use Rattle.std.specs.Prelude.{Some, None, Result, IsUtf8, FitsSigned}
 use Rattle.std.specs.Result.{result_ok}
 use Rattle.std.specs.Fmt.{signed_decimal}
 use Rattle.std.specs.Int.Signed.{mag}
-use denote.Ref.{Bor}
 use Rattle.std.specs.Char.{is_ascii_digit}
 use Rattle.std.specs.Str.{all_ascii_digits}
 use Rattle.std.specs.Str.Parse.{ParsesSigned}
 use Rattle.std.proofs.lemmas.Bool.{both_ways, and_parts}
-use Rattle.std.proofs.lemmas.List.{take_more}
 use Rattle.std.proofs.lemmas.Fmt.{parse-signed_decimal, IsAscii-signed}
 use Rattle.std.proofs.lemmas.Int.{to_z-of_z}
 use Rattle.std.proofs.lemmas.Str.{IsUtf8-from_ascii}
+use Rattle.gp_base.specs.Fronts.{begins_with_digit}
+use Rattle.gp_base.proofs.Digits.{cut_digits}
 use Rattle.gp_resume.specs.Reading.{IsWide}
-use Rattle.gp_resume.specs.inner.Fronts.{IsAfter, IsOnlyFront, EndsNumber, begins_with_digit, is_numeral, goes_on}
+use Rattle.gp_resume.specs.inner.Fronts.{IsOnlyFront, EndsNumber, is_numeral, goes_on}
 use Rattle.gp_resume.proofs.Printed.{printed-numeral, printed-some, same-printed}
 
 -- ---- how a wide number is printed
@@ -44,23 +44,6 @@ stops-printed n rest stops = sym (goes-on-digit (signed_decimal n) rest (printed
 
 -- ---- where digits end
 
-cut-digits : (ds es r s : List ℕ) → all_ascii_digits ds ≡ true → all_ascii_digits es ≡ true → begins_with_digit r ≡ false
-    → begins_with_digit s ≡ false
-    → ds ++ r ≡ es ++ s → (ds ≡ es) × (r ≡ s)
-cut-digits [] [] r s d e n m same = (refl, same)
-cut-digits [] (x ∷ es) r s d e n m same =
-    absurd (both_ways (begins_with_digit r) n (ap begins_with_digit same ∙ (and_parts (is_ascii_digit x) (all_ascii_digits es) e).0))
-cut-digits (x ∷ ds) [] r s d e n m same =
-    absurd (both_ways (begins_with_digit s) m (ap begins_with_digit (sym same) ∙ (and_parts (is_ascii_digit x) (all_ascii_digits ds) d).0))
-cut-digits (x ∷ ds) (y ∷ es) r s d e n m same =
-    let tails : ds ++ r ≡ es ++ s = cc in
-    let heads : x ≡ y = cc in
-    let rest =
-    cut-digits ds es r s (and_parts (is_ascii_digit x) (all_ascii_digits ds) d).1
-    (and_parts (is_ascii_digit y) (all_ascii_digits es) e).1 n m tails in
-    let front = rest.0 in
-    (cc, rest.1)
-
 -- where there is nothing in front, a numeral that is not empty would go on
 numeral-goes-on : (x : ℕ) (es r s : List ℕ) → is_numeral (x ∷ es) ≡ true → r ≡ (x ∷ es) ++ s → goes_on [] r ≡ true
 numeral-goes-on x es r s e same = ap (goes_on []) same ∙ (and_parts (is_ascii_digit x || x == 45) (all_ascii_digits es) e).0
@@ -75,7 +58,7 @@ cut-numerals (x ∷ ds) (y ∷ es) r s d e n m same =
     let tails : ds ++ r ≡ es ++ s = cc in
     let heads : x ≡ y = cc in
     let rest =
-    cut-digits ds es r s (and_parts (is_ascii_digit x || x == 45) (all_ascii_digits ds) d).1
+    cut_digits ds es r s (and_parts (is_ascii_digit x || x == 45) (all_ascii_digits ds) d).1
     (and_parts (is_ascii_digit y || y == 45) (all_ascii_digits es) e).1
     (sym (goes-on-digit (x ∷ ds) r (omega arith)) ∙ n) (sym (goes-on-digit (y ∷ es) s (omega arith)) ∙ m) tails in
     let front = rest.0 in
@@ -110,23 +93,6 @@ some-number bytes ds r n is stops l printed =
     (is ∙ ap (λ front. front ++ r) printed)
 
 -- ---- how its bytes are read
-
--- one more digit
-pub one-more-digit : (bytes : List ℕ) (k : ℕ) → k < length bytes → all_ascii_digits (take k bytes) ≡ true
-    → is_ascii_digit (get_or bytes k 0) ≡ true
-    → all_ascii_digits (take (k + 1) bytes) ≡ true
-one-more-digit bytes k l digits here = rw (take_more bytes k 0 l) (all_push (take k bytes) (get_or bytes k 0) digits here)
-  where
-    all_push : (ds : List ℕ) (d : ℕ) → all_ascii_digits ds ≡ true → is_ascii_digit d ≡ true → all_ascii_digits (ds ++ d ∷ []) ≡ true
-    all_push [] d e f = rw f refl
-    all_push (x ∷ ds) d e f = let both = and_parts (is_ascii_digit x) (all_ascii_digits ds) e in rw (both.0, all_push ds d both.1 f) refl
-
--- what `strip_prefix` answers
-pub is-after : (word bytes : List ℕ) (r : Option (Bor (List ℕ)))
-    → MatchOption r ((rest : List ℕ) → bytes ≢ word ++ rest) (λ x. bytes ≡ word ++ x.now)
-    → IsAfter word bytes (option_map (λ rest. rest.now) r)
-is-after word bytes None h = h
-is-after word bytes (Some x) h = h
 
 -- printed digits are text
 pub is-text : (n : ℤ) (bytes : List ℕ) → IsWide n → bytes ≡ signed_decimal n → IsUtf8 bytes

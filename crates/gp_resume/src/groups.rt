@@ -5,8 +5,8 @@ ghost use Rattle.restart_log.specs.Lines.{spaced};
 ghost use Rattle.gp_resume.specs.Reading.{IsWide};
 ghost use Rattle.gp_resume.specs.inner.Fronts.{IsFront, IsOnlyFront, EndsNumber, EndsNumbers, EndsCells, IsWideCell, spaced_number, cell_text};
 
-use crate::numbers::{after, number_at};
-use gp_base::{Nums, Seq};
+use crate::numbers::number_at;
+use gp_base::{Nums, Seq, after};
 use std::alloc::{AllocError, Global};
 
 /// The number behind a space, with the bytes after it.

@@ -1,32 +1,12 @@
-// Words and numbers at the front of bytes.
+// Numbers at the front of bytes.
 
 ghost use Rattle.std.specs.Prelude.{◌≡◌, ◌≤◌, true, false, length, take, drop, option_map};
-ghost use Rattle.std.specs.Str.{all_ascii_digits};
 ghost use Rattle.std.specs.Fmt.{signed_decimal};
 ghost use Rattle.gp_resume.specs.Reading.{IsWide};
-ghost use Rattle.gp_resume.specs.inner.Fronts.{IsAfter, IsNumber, IsFront, EndsNumber, begins_with_digit, is_numeral, goes_on};
+ghost use Rattle.gp_resume.specs.inner.Fronts.{IsNumber, IsFront, EndsNumber, is_numeral, goes_on};
 
+use gp_base::{after, count_digits};
 use itoa::Buffer;
-
-/// The bytes after a word, where they begin with it.
-pub fn after<'a>(word: &[u8], bytes: &'a [u8]) -> Option<&'a [u8]>
-    ensures { IsAfter word.now bytes.entry.now (option_map (λ rest. rest.now) result) }
-{
-    bytes.strip_prefix(word)
-}
-
-// How many digits the bytes begin with.
-fn count_digits(bytes: &[u8]) -> usize
-    ensures digits { all_ascii_digits (take result bytes.now) ≡ true }
-    ensures rest { begins_with_digit (drop result bytes.now) ≡ false }
-    ensures within { result ≤ length bytes.now }
-{
-    let mut count = 0;
-    while count < bytes.len() && bytes[count].is_ascii_digit() {
-        count += 1;
-    }
-    count
-}
 
 // How many bytes at the front are digits, perhaps behind a minus.
 fn count_numeral(bytes: &[u8]) -> usize

@@ -8,9 +8,9 @@ ghost use Rattle.gp_resume.specs.inner.Fronts.{IsFront, EndsNumber, EndsNumbers,
 ghost use Rattle.gp_resume.specs.inner.RowsRead.{row_in, IsRowRead};
 
 use crate::groups::{cells_at, numbers_at, spaced_at};
-use crate::numbers::{after, number_at};
+use crate::numbers::number_at;
 use crate::row::LogRow;
-use gp_base::{Nums, Seq};
+use gp_base::{Nums, Seq, after};
 use std::alloc::{AllocError, Global};
 
 /// Whether no line ends in the bytes.

@@ -3,12 +3,8 @@ use Rattle.std.specs.Prelude.{◌≡◌, ◌≢◌, ◌&&◌, ◌||◌, ◌==◌
 use Rattle.std.specs.Char.{is_ascii_digit}
 use Rattle.std.specs.Str.{all_ascii_digits}
 use Rattle.std.specs.Fmt.{signed_decimal}
+use Rattle.gp_base.specs.Fronts.{begins_with_digit}
 use Rattle.gp_resume.specs.Reading.{IsWide}
-
--- what remains of the bytes after this word, where they begin with it
-abbrev pub IsAfter : (word bytes : List ℕ) → Option (List ℕ) → Type 0
-IsAfter word bytes (Some rest) = bytes ≡ word ++ rest
-IsAfter word bytes None = (rest : List ℕ) → bytes ≢ word ++ rest
 
 -- The text of a value that fits stands at the front of the bytes, and the rest after it. Where what comes after may end such a text, it
 -- is the only one.
@@ -25,10 +21,6 @@ IsFront text fits ends bytes (Some read) = IsOnlyFront text fits ends bytes read
 IsFront {A} text fits ends bytes None = (value : A) (rest : List ℕ) → fits value → ends rest → bytes ≢ text value ++ rest
 
 -- ---- numbers
-
-abbrev pub begins_with_digit : List ℕ → Bool
-begins_with_digit [] = false
-begins_with_digit (c ∷ rest) = is_ascii_digit c
 
 -- bytes with which no number goes on
 abbrev pub EndsNumber : List ℕ → Type 0

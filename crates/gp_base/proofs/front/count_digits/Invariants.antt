@@ -1,6 +1,6 @@
 use Rattle.std.proofs.Common.{◌≡◌, ◌≤◌, ◌-◌, true, length, take}
 use Rattle.std.specs.Str.{all_ascii_digits}
-use Rattle.gp_resume.proofs.numbers.count_digits.Given as goal
+use Rattle.gp_base.proofs.front.count_digits.Given as goal
 
 abbrev pub invariant-loop-count : goal.invariant-loop-count
 invariant-loop-count l = record {

@@ -1,9 +1,9 @@
 use Rattle.std.proofs.lemmas.Bool.Decides.{Decides-eqb}
 use Rattle.std.proofs.lemmas.Slice.Eq.{strip_prefix_is}
-use Rattle.gp_resume.proofs.Numerals.{is-after}
-use Rattle.gp_resume.proofs.numbers.after.Goals as goal
+use Rattle.gp_base.proofs.Digits.{is_after}
+use Rattle.gp_base.proofs.front.after.Goals as goal
 
 pub returns : goal.returns
 returns c =
-    is-after c.args.word.now c.args.bytes.now c.strip_prefix.result
+    is_after c.args.word.now c.args.bytes.now c.strip_prefix.result
     (strip_prefix_is Decides-eqb c.args.bytes.now c.args.word.now c.strip_prefix.result c.strip_prefix.ensures.cases)
