@@ -22,7 +22,7 @@ use Rattle.dependence.proofs.RestartEnds.{attempt-push, begun-push}
 use Rattle.reorder_list.specs.declared.entry.Entry.{Entry}
 use Rattle.reorder_list.specs.Entries.{StandFrom, AllKnown, entry_at, with_change, with_change_at, out_entry, known_entry, applied_entry, raised_entry}
 use Rattle.reorder_list.specs.Runnable.{IsRunnable}
-use Rattle.reorder_list.specs.Stages.{IsEntry, EntriesStand, IsFirst, AllTaken}
+use Rattle.reorder_list.specs.Stages.{IsOf, IsEntry, EntriesStand, IsFirst, AllTaken}
 use Rattle.reorder_list.proofs.Rows.{stands-push}
 use Rattle.reorder_list.proofs.Changes.{KeepsPosition, changed_where, changed, pushed, from-first, is-there, all-there, each-there, stands-changed, same-length}
 
@@ -57,6 +57,18 @@ changed-there test change entries q x keeps there = go (entry_at entries q) refl
     go None is found = absurd (cc found)
     go (Some y) is found = (y, is, let same : changed_where (test q) change y ≡ x = cc found in sym same)
 
+-- an entry with the thread, the synchronisation, the child and the locks of another is of the same subthread
+same-of : (s : Subthread) (y z : Entry) → IsOf s y → z.thread ≡ y.thread → z.begins ≡ y.begins → z.child ≡ y.child → z.held ≡ y.held
+    → z.locks ≡ y.locks → IsOf s z
+same-of s y z is thread begins child held locks =
+    record {
+      thread = thread ∙ is.thread;
+      begins = begins ∙ is.begins;
+      child = child ∙ is.child;
+      held = held ∙ is.held;
+      locks = locks ∙ is.locks;
+    }
+
 module _ (run : List Subthread) where
   -- where a stage has the same of a position, its entry stands as before
   carried : (at later : Stage) (p : ℕ) (e : Entry) → later.progress.made ≡ at.progress.made → Contains later.posted (p, present at p) ↔ Contains at.posted (p, present at p) → later.applied p ≡ at.applied p
@@ -90,6 +102,27 @@ module _ (run : List Subthread) where
   )
 
   module _ (at : Stage) (entries : List Entry) (stand : EntriesStand run at entries) where
+    -- the entry of one position is changed so that it stands at a later stage, where the others stand as before
+    one-changed : (later : Stage) (p : ℕ) (change : Entry → Entry) → KeepsPosition change → later.retired ≡ at.retired
+        → later.progress.front ≡ at.progress.front
+        → ((y : Entry) → IsEntry run at p y → IsEntry run later p (change y))
+        → ((q : ℕ) (y : Entry) → nat_eq q p ≡ false → IsEntry run at q y → IsEntry run later q y)
+        → EntriesStand run later (with_change_at p change entries)
+    one-changed later p change keeps retired front here others =
+        record {
+          row = subst (λ n. StandFrom n (with_change_at p change entries)) (sym retired)
+              (stands-changed at.retired (λ q. nat_eq q p) change entries keeps stand.row);
+          front = (λ i. retired i + same-length (λ q. nat_eq q p) change entries i) ∙ (stand.front ∙ sym front);
+          each = λ q x there. (let y = changed-there (λ r. nat_eq r p) change entries q x keeps there in
+              subst (IsEntry run later q) (sym y.2) (go q y.0 (nat_eq q p) refl (stand.each q y.0 y.1)));
+        }
+      where
+        go : (q : ℕ) (y : Entry) (b : Bool) → nat_eq q p ≡ b → IsEntry run at q y → IsEntry run later q (changed_where b change y)
+        go q y true same is =
+            let k = eqb-true q p same in
+            subst (λ r. IsEntry run later r (change y)) (sym k) (here y (subst (λ r. IsEntry run at r y) k is))
+        go q y false other is = others q y other is
+
     -- the footprint by locks of an entry is that of its position
     pub locks-is : (q : ℕ) (x : Entry) → entry_at entries q ≡ Some x → x.locks ≡ foot_at (lock_feet_of run) q
     locks-is q x there = let is = stand.each q x there in is.is_of.locks ∙ sym (foot-there lock_foot_of run q is.subthread _ is.is_there)
@@ -206,13 +239,7 @@ module _ (run : List Subthread) where
             record {
               subthread = is.subthread;
               is_there = is.is_there;
-              is_of = record {
-                thread = is.is_of.thread;
-                begins = is.is_of.begins;
-                child = is.is_of.child;
-                held = is.is_of.held;
-                locks = is.is_of.locks;
-              };
+              is_of = same-of is.subthread y (out_entry y) is.is_of refl refl refl refl refl;
               attempt = is.attempt;
               begun = is.begun;
               waits = (λ w. absurd (cc w), λ free. absurd (free (subst (λ a. Contains (at.posted ++ (p, attempt) ∷ []) (p, a)) allowed.present (Contains-push at.posted (p, attempt)))));
@@ -223,24 +250,16 @@ module _ (run : List Subthread) where
 
         pub post-stand : EntriesStand run sent (with_change_at p out_entry entries)
         post-stand =
-            record {
-              row = stands-changed at.retired (λ q. nat_eq q p) out_entry entries (λ e. refl) stand.row;
-              front = ap (λ n. at.retired + n) (same-length (λ q. nat_eq q p) out_entry entries) ∙ stand.front;
-              each = λ q x there. (let y = changed-there (λ r. nat_eq r p) out_entry entries q x (λ e. refl) there in
-                  subst (IsEntry run sent q) (sym y.2) (go q y.0 (nat_eq q p) refl (stand.each q y.0 y.1)));
-            }
-          where
-            go : (q : ℕ) (y : Entry) (b : Bool) → nat_eq q p ≡ b → IsEntry run at q y → IsEntry run sent q (changed_where b out_entry y)
-            go q y true same is = let k = eqb-true q p same in subst (λ r. IsEntry run sent r (out_entry y)) (sym k) (sent-entry y (subst (λ r. IsEntry run at r y) k is))
-            go q y false other is =
-                carried at sent q y refl (
-                  λ h. elim (Contains-push_cases at.posted (p, attempt) (q, present at q) h) [
-                    | inl old ↦ old
-                    | inr new ↦ (let k : p ≡ q = ap (λ x. x.0) new in absurd (eqb-false q p other (sym k)))
-                  ],
-                  λ h. Contains-append_left at.posted ((p, attempt) ∷ []) (q, present at q) h,
-                )
-                refl (λ h. h, λ h. h) is
+            one-changed sent p out_entry (λ e. refl) refl refl sent-entry
+            (λ q y other is.
+            carried at sent q y refl (
+              λ h. elim (Contains-push_cases at.posted (p, attempt) (q, present at q) h) [
+                | inl old ↦ old
+                | inr new ↦ (let k : p ≡ q = ap (λ x. x.0) new in absurd (eqb-false q p other (sym k)))
+              ],
+              λ h. Contains-append_left at.posted ((p, attempt) ∷ []) (q, present at q) h,
+            )
+            refl (λ h. h, λ h. h) is)
 
       module _ (p attempt : ℕ) (s : Subthread) (foot : Footprint) (there : slice_get run p ≡ Some s) (foot_is : foot ≡ foot_of s) where
         abbrev taken : Bool → Stage
@@ -258,13 +277,7 @@ module _ (run : List Subthread) where
             record {
               subthread = is.subthread;
               is_there = is.is_there;
-              is_of = record {
-                thread = is.is_of.thread;
-                begins = is.is_of.begins;
-                child = is.is_of.child;
-                held = is.is_of.held;
-                locks = is.is_of.locks;
-              };
+              is_of = same-of is.subthread y (known_entry foot y) is.is_of refl refl refl refl refl;
               attempt = is.attempt;
               begun = is.begun;
               waits = is.waits;
@@ -275,19 +288,9 @@ module _ (run : List Subthread) where
 
         pub stale-stand : EntriesStand run (taken false) (with_change_at p (known_entry foot) entries)
         stale-stand =
-            record {
-              row = stands-changed at.retired (λ q. nat_eq q p) (known_entry foot) entries (λ e. refl) stand.row;
-              front = ap (λ n. at.retired + n) (same-length (λ q. nat_eq q p) (known_entry foot) entries) ∙ stand.front;
-              each = λ q x there. (let y = changed-there (λ r. nat_eq r p) (known_entry foot) entries q x (λ e. refl) there in
-                  subst (IsEntry run (taken false) q) (sym y.2) (go q y.0 (nat_eq q p) refl (stand.each q y.0 y.1)));
-            }
-          where
-            go : (q : ℕ) (y : Entry) (b : Bool) → nat_eq q p ≡ b → IsEntry run at q y
-                → IsEntry run (taken false) q (changed_where b (known_entry foot) y)
-            go q y true same is =
-                let k = eqb-true q p same in
-                subst (λ r. IsEntry run (taken false) r (known_entry foot y)) (sym k) (learnt-entry y (subst (λ r. IsEntry run at r y) k is))
-            go q y false other is = carried at (taken false) q y refl (λ h. h, λ h. h) refl (taken-too dependence at p attempt q false faults other) is
+            one-changed (taken false) p (known_entry foot) (λ e. refl) refl refl learnt-entry
+            (λ q y other is.
+            carried at (taken false) q y refl (λ h. h, λ h. h) refl (taken-too dependence at p attempt q false faults other) is)
 
         module _ (history : Option Effect) (lines : List (List ℤ)) (allowed : Allowed dependence faults at (event.Take p attempt true)) where
           -- it is known what the entry's subthread touches, and its result is applied
@@ -299,13 +302,7 @@ module _ (run : List Subthread) where
               record {
                 subthread = is.subthread;
                 is_there = is.is_there;
-                is_of = record {
-                  thread = is.is_of.thread;
-                  begins = is.is_of.begins;
-                  child = is.is_of.child;
-                  held = is.is_of.held;
-                  locks = is.is_of.locks;
-                };
+                is_of = same-of is.subthread y (done y) is.is_of refl refl refl refl refl;
                 attempt = is.attempt;
                 begun = is.begun;
                 waits = (λ w. absurd (cc w), λ free. absurd (free (subst (λ a. Contains at.posted (p, a)) (eqb-true attempt (present at p) (sym allowed.decided)) allowed.posted)));
@@ -316,20 +313,10 @@ module _ (run : List Subthread) where
 
           done-stand : EntriesStand run (taken true) (with_change_at p done entries)
           done-stand =
-              record {
-                row = stands-changed at.retired (λ q. nat_eq q p) done entries (λ e. refl) stand.row;
-                front = ap (λ n. at.retired + n) (same-length (λ q. nat_eq q p) done entries) ∙ stand.front;
-                each = λ q x there. (let y = changed-there (λ r. nat_eq r p) done entries q x (λ e. refl) there in
-                    subst (IsEntry run (taken true) q) (sym y.2) (go q y.0 (nat_eq q p) refl (stand.each q y.0 y.1)));
-              }
-            where
-              go : (q : ℕ) (y : Entry) (b : Bool) → nat_eq q p ≡ b → IsEntry run at q y
-                  → IsEntry run (taken true) q (changed_where b done y)
-              go q y true same is =
-                  let k = eqb-true q p same in
-                  subst (λ r. IsEntry run (taken true) r (done y)) (sym k) (taken-entry y (subst (λ r. IsEntry run at r y) k is))
-              go q y false other is =
-                  carried at (taken true) q y refl (λ h. h, λ h. h) (ap (λ b. b || at.applied q) other) (taken-too dependence at p attempt q true faults other) is
+              one-changed (taken true) p done (λ e. refl) refl refl taken-entry
+              (λ q y other is.
+              carried at (taken true) q y refl (λ h. h, λ h. h) (ap (λ b. b || at.applied q) other)
+              (taken-too dependence at p attempt q true faults other) is)
 
           pub take-stand : EntriesStand run (taken true) (with_change_at p (applied_entry history lines) (with_change_at p (known_entry foot) entries))
           take-stand =
@@ -368,13 +355,7 @@ module _ (run : List Subthread) where
             record {
               subthread = is.subthread;
               is_there = is.is_there;
-              is_of = record {
-                thread = is.is_of.thread;
-                begins = is.is_of.begins;
-                child = is.is_of.child;
-                held = is.is_of.held;
-                locks = is.is_of.locks;
-              };
+              is_of = same-of is.subthread y (raised_entry at.progress.front y) is.is_of refl refl refl refl refl;
               attempt = let a = is.attempt in omega arith;
               begun = sym (rw redo at (begun-push at.progress.made made q));
               waits = (λ w posted. (let low = (stands.posted_low q (present behind q) posted).1 in omega arith), λ free. refl);
