@@ -1,21 +1,18 @@
--- Jobs in slots, and back.
+-- Jobs in slots, and back: `todo` is the slot that holds a job.
 use Rattle.std.proofs.Common.{◌≡◌, List, [], ◌∷◌, ◌++◌, map, refl}
-use Rattle.desk_board.specs.declared.view.Slot.{Slot}
-use Rattle.desk_board.specs.declared.view.Slot.TheVariants.{Todo}
 
-module _ {J R : Type 0} where
-  abbrev laid : List J → List (Slot J R)
-  laid js = map Todo js
-
+module _ {J S : Type 0} (todo : J → S) where
   -- each slot that was laid out holds a job
-  pub holds_job : (front : List (Slot J R)) (s : Slot J R) (back : List (Slot J R)) (js : List J) → front ++ s ∷ back ≡ laid js → (j : J) × (s ≡ Todo j)
+  pub holds_job : (front : List S) (s : S) (back : List S) (js : List J) → front ++ s ∷ back ≡ map todo js → (j : J) × (s ≡ todo j)
   holds_job [] s back [] e = absurd (cc)
   holds_job [] s back (j ∷ js) e = (j, cc)
   holds_job (f ∷ fs) s back [] e = absurd (cc)
   holds_job (f ∷ fs) s back (j ∷ js) e = holds_job fs s back js (cc)
 
-  pub laid_once : (xs ys : List J) → laid xs ≡ laid ys → xs ≡ ys
-  laid_once [] [] e = refl
-  laid_once [] (y ∷ ys) e = absurd (cc)
-  laid_once (x ∷ xs) [] e = absurd (cc)
-  laid_once (x ∷ xs) (y ∷ ys) e = let tail : laid xs ≡ laid ys = cc in let rest = laid_once xs ys tail in cc
+  pub laid_once : ((a b : J) → todo a ≡ todo b → a ≡ b) → (xs ys : List J) → map todo xs ≡ map todo ys → xs ≡ ys
+  laid_once same [] [] e = refl
+  laid_once same [] (y ∷ ys) e = absurd (cc)
+  laid_once same (x ∷ xs) [] e = absurd (cc)
+  laid_once same (x ∷ xs) (y ∷ ys) e =
+      let head : todo x ≡ todo y = cc in let tail : map todo xs ≡ map todo ys = cc in
+      let first = same x y head in let rest = laid_once same xs ys tail in cc

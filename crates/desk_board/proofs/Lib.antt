@@ -1,4 +1,5 @@
 pub mod Collecting
+pub mod Counts
 pub mod DeskLists
 pub mod Draining
 pub mod FactsHold

@@ -1,6 +1,5 @@
 pub mod FactsHold
 pub mod Hands
-pub mod LaidOut
 pub mod Looks
 pub mod Seats
 pub mod Stages
