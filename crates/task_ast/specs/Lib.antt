@@ -11,6 +11,7 @@ pub mod Held
 pub mod History
 pub mod Inputs
 pub mod Layout
+pub mod LockLists
 pub mod Members
 pub mod Names
 pub mod Plain

@@ -11,7 +11,7 @@ use Rattle.token_order.specs.declared.threads.Seat.{Seat}
 use Rattle.token_order.specs.View.{table, seat_of}
 use Rattle.token_order.specs.Turned.{begun}
 use Rattle.token_order.proofs.Looking.{seat-next}
-use Rattle.token_order.proofs.Changing.{map-replaced}
+use Rattle.task_ast.proofs.ChangedSeats.{map-replaced}
 
 pub issued-as : (before : Threads) (t : ℕ) (seat begun_seat : Seat) (next : Next) (first : Next) (cleared old_seats after_seats : List Seat) (owners : List (Option ℕ)) (child : Option ℕ)
     → slice_get before.seats.items t ≡ Some seat

@@ -1,5 +1,4 @@
 pub mod Barriers
-pub mod Changing
 pub mod Holds
 pub mod Inside
 pub mod Issuing

@@ -1,59 +1,25 @@
 -- Loops over seats, as looks over the numbers of threads.
-use Rattle.std.proofs.Common.{◌≡◌, ℕ, zero, suc, ◌-◌, ◌<◌, Bool, true, false, cond, List, [], ◌∷◌, ◌++◌, length, Option, Some, None, refl, sym, ap, ◌∙◌, subst, arith, get_or}
+use Rattle.std.proofs.Common.{◌≡◌, ℕ, suc, ◌-◌, ◌<◌, true, ◌++◌, length, Option, Some, None, refl, sym, ap, ◌∙◌, subst, arith}
 use Rattle.std.specs.Prelude.{slice_get}
 use Rattle.std.specs.Option.{option_map, option_and_then}
-use Rattle.std.proofs.lemmas.Bool.{false≢true}
 use Rattle.std.proofs.lemmas.List.{append-nil, length-map}
 use Rattle.std.proofs.lemmas.Option.{slice_get-map}
 use Rattle.task_ast.specs.declared.sync.Next.{Next}
-use Rattle.task_ast.specs.Table.{Table, numbers, ring, next_of, is_end, is_known_end, has_ended}
-use Rattle.task_ast.specs.Turn.{Look, To, Unknown, NoThread, look, look_at}
+use Rattle.task_ast.specs.Table.{Table, numbers, ring, next_of, is_known_end, has_ended}
+use Rattle.task_ast.specs.Turn.{Look, NoThread, look}
+use Rattle.task_ast.proofs.Looks.{numbers-first, skipped, or_look, look-append}
 use Rattle.token_order.specs.declared.threads.Threads.{Threads}
 use Rattle.token_order.specs.declared.threads.Seat.{Seat}
 use Rattle.token_order.specs.View.{table, seat_of, look_with, look_of, start_of}
 
--- what is read at an index within the list
-pub get-at : {X : Type 0} (xs : List X) (i : ℕ) (x : X) → i < length xs → x ≡ get_or xs i x → slice_get xs i ≡ Some x
-get-at [] i x l e = absurd (omega arith)
-get-at (y ∷ ys) zero x l e = ap Some (sym e)
-get-at (y ∷ ys) (suc i) x l e = get-at ys i x (omega arith) e
-
 pub seat-next : (threads : Threads) (t : ℕ) (seat : Seat) → slice_get threads.seats.items t ≡ Some seat → next_of (table threads) t ≡ seat.next
 seat-next threads t seat e = ap (option_and_then (λ s. s.next)) (slice_get-map seat_of threads.seats.items t ∙ ap (option_map seat_of) e)
-
-numbers-first : (t to : ℕ) → t < to → numbers t (to - t) ≡ t ∷ numbers (suc t) (to - suc t)
-numbers-first t to l = let e : to - t ≡ suc (to - suc t) = omega arith in rw e refl
-
-skipped : (t : ℕ) (o : Option Next) (others : Look) → is_known_end o ≡ true → look_at t o others ≡ others
-skipped t None others e = absurd (false≢true e)
-skipped t (Some next) others e = rw e refl
-
-seen : (t : ℕ) (o : Option Next) (others : Look) → is_known_end o ≡ false → look_at t o others ≡ look_with t o
-seen t None others e = refl
-seen t (Some next) others e = rw e refl
 
 -- a thread that has ended is passed over
 pub look-past : (threads : Threads) (t to : ℕ) (seat : Seat) → t < to → slice_get threads.seats.items t ≡ Some seat → has_ended (seat_of seat) ≡ true
     → look (table threads) (numbers t (to - t)) ≡ look (table threads) (numbers (suc t) (to - suc t))
 look-past threads t to seat l at e =
     ap (look (table threads)) (numbers-first t to l) ∙ skipped t (next_of (table threads) t) _ (ap is_known_end (seat-next threads t seat at) ∙ e)
-
-abbrev or_look : Look → Look → Look
-or_look NoThread other = other
-or_look (To t next) other = To t next
-or_look (Unknown t) other = Unknown t
-
-look_at-or : (t : ℕ) (o : Option Next) (a b : Look) → look_at t o (or_look a b) ≡ or_look (look_at t o a) b
-look_at-or t None a b = refl
-look_at-or t (Some next) a b = go (is_end next.sync)
-  where
-    go : (e : Bool) → cond e (or_look a b) (To t next) ≡ or_look (cond e a (To t next)) b
-    go true = refl
-    go false = refl
-
-look-append : (table : Table) (xs ys : List ℕ) → look table (xs ++ ys) ≡ or_look (look table xs) (look table ys)
-look-append table [] ys = refl
-look-append table (t ∷ ts) ys = ap (look_at t (next_of table t)) (look-append table ts ys) ∙ look_at-or t (next_of table t) (look table ts) (look table ys)
 
 ring-parts : (token : Option ℕ) (n : ℕ) → ring token n ≡ numbers (start_of token) (n - start_of token) ++ numbers 0 (start_of token)
 ring-parts None n = let e : n - 0 ≡ n = omega arith in rw e (sym (append-nil (numbers 0 n)))
@@ -75,11 +41,6 @@ pub look-second : (table : Table) (token : Option ℕ) (n : ℕ) → look table 
 look-second table token n e =
     ap (look table) (ring-parts token n) ∙ look-append table _ _ ∙ ap (λ l. or_look l (look table (numbers 0 (start_of token)))) e
 
-pub get-or : {X : Type 0} (xs : List X) (i : ℕ) (d : X) → i < length xs → slice_get xs i ≡ Some (get_or xs i d)
-get-or [] i d l = absurd (omega arith)
-get-or (x ∷ xs) zero d l = refl
-get-or (x ∷ xs) (suc i) d l = get-or xs i d (omega arith)
-
 -- the first part, as the code walks it
 pub look-start : (threads : Threads) (start count : ℕ) (o : Option ℕ) → start ≡ start_of threads.token → count ≡ length threads.seats.items
     → look (table threads) (numbers start (count - start)) ≡ look_of (table threads) o
@@ -89,8 +50,3 @@ look-start threads start count o s n e = rw (length-map threads.seats.items seat
 pub whole : (threads : Threads) (start : ℕ) (o : Option ℕ) → start ≡ start_of threads.token → look (table threads) (numbers 0 (start - 0)) ≡ look_of (table threads) o
     → look (table threads) (numbers 0 (start_of threads.token)) ≡ look_of (table threads) o
 whole threads start o s e = let z : start - 0 ≡ start = omega arith in rw (sym s) (subst (λ n. look (table threads) (numbers 0 n) ≡ look_of (table threads) o) z e)
-
-pub all : (threads : Threads) (count : ℕ) (o : Option ℕ) → count ≡ length threads.seats.items → look (table threads) (numbers 0 (count - 0)) ≡ look_of (table threads) o
-    → look (table threads) (numbers 0 (length (table threads).seats)) ≡ look_of (table threads) o
-all threads count o s e =
-    let z : count - 0 ≡ count = omega arith in rw (length-map threads.seats.items seat_of, sym s) (subst (λ n. look (table threads) (numbers 0 n) ≡ look_of (table threads) o) z e)

@@ -17,7 +17,7 @@ use Rattle.token_order.specs.declared.rules.Turn.TheVariants as here
 use Rattle.token_order.specs.View.{table, seat_of, stand_view, look_of}
 use Rattle.token_order.specs.Turned.{Answered}
 use Rattle.token_order.proofs.Looking.{seat-next}
-use Rattle.token_order.proofs.Changing.{map-replaced}
+use Rattle.task_ast.proofs.ChangedSeats.{map-replaced}
 
 -- the same answer of another term
 pub by : {a b : Again Table Turn} (before after : Table) (r : TurnHere) → a ≡ b → Answered b before r after → Answered a before r after

@@ -1,26 +1,13 @@
--- Who owns a lock, and which locks a thread holds.
-use Rattle.std.specs.Prelude.{◌≡◌, ℕ, ◌==◌, ◌<◌, Bool, false, cond, List, [], ◌∷◌, ◌++◌, length, Option, Some, None, nat_lt, slice_get, slice_set, unwrap_or}
-use Rattle.std.specs.List.{filter}
+-- Who owns a lock, and which locks a thread holds, before and after a change.
+use Rattle.std.specs.Prelude.{◌≡◌, ℕ, ◌<◌, List, length, Option, Some, None, slice_set}
 use Rattle.std.specs.Option.{ForSome}
+use Rattle.task_ast.specs.LockLists.{is_owner, with_lock, held_at}
 use Rattle.task_ast.specs.Table.{owned_from}
 use Rattle.task_ast.specs.Turn.{owners_after}
 use Rattle.token_order.specs.declared.held.Change.{Change}
 use Rattle.token_order.specs.declared.held.Held.{Held}
 use Rattle.token_order.specs.declared.rules.Turn.{Turn}
 use Rattle.token_order.specs.declared.rules.Turn.TheVariants.{Issue}
-
--- whether the thread is the owner
-abbrev pub is_owner : ℕ → Option ℕ → Bool
-is_owner t None = false
-is_owner t (Some owner) = t == owner
-
--- a rising list with this lock, or without it
-abbrev pub with_lock : (holds : Bool) → (lock : ℕ) → List ℕ → List ℕ
-with_lock holds lock held = filter (λ x. nat_lt x lock) held ++ cond holds (lock ∷ []) [] ++ filter (λ x. nat_lt lock x) held
-
--- the locks of a thread; one that has no list yet holds none
-abbrev pub held_at : List (List ℕ) → ℕ → List ℕ
-held_at held t = unwrap_or (slice_get held t) []
 
 -- the owners after a change, where there is one
 abbrev pub owners_with : Option Change → List (Option ℕ) → List (Option ℕ)

@@ -1,9 +1,10 @@
 // The locks that each thread holds.
 
 ghost use Rattle.std.specs.Prelude.{◌≡◌, ℕ, ◌<◌, List, Option, Some, None, true, false, is_none, length, slice_set, slice_get, ◌==◌, if◌then◌else◌, replicate, IfOk, IfSome, OnOk, OnErr};
+ghost use Rattle.task_ast.specs.LockLists.{is_owner, with_lock, held_at};
 ghost use Rattle.task_ast.specs.Table.{owned_from};
 ghost use Rattle.task_ast.specs.Turn.{owners_after};
-ghost use Rattle.token_order.specs.Owning.{is_owner, with_lock, held_at, owners_with, locks_with, owners_now, HeldStands, noted};
+ghost use Rattle.token_order.specs.Owning.{owners_with, locks_with, owners_now, HeldStands, noted};
 ghost use Rattle.token_order.specs.Turned.{is_issue};
 
 use crate::rules::Turn;

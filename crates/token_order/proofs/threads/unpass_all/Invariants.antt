@@ -1,7 +1,7 @@
 use Rattle.std.proofs.Common.{◌≡◌, map}
 use Rattle.task_ast.specs.Table.{unpassed}
 use Rattle.token_order.specs.View.{seat_of}
-use Rattle.token_order.proofs.Changing.{first_mapped}
+use Rattle.task_ast.proofs.ChangedSeats.{first_mapped}
 use Rattle.token_order.proofs.threads.unpass_all.Given as goal
 
 abbrev pub invariant-loop-seat : goal.invariant-loop-seat

@@ -1,7 +1,8 @@
 use Rattle.std.proofs.Common.{None, Some, sym, ap, ◌∙◌}
 use Rattle.std.specs.Prelude.{slice_set}
 use Rattle.token_order.specs.Owning.{owners_with}
-use Rattle.token_order.proofs.Holds.{changed_since, set-set}
+use Rattle.task_ast.proofs.Holds.{set-set}
+use Rattle.token_order.proofs.Holds.{changed_since}
 use Rattle.token_order.proofs.held.Held.apply_change.Goals as goal
 use Rattle.token_order.proofs.held.Held.apply_change.Goals.{in-Some-owner+in_ok-take, in_default-owner}
 

@@ -1,6 +1,6 @@
 use Rattle.std.proofs.Common.{◌≡◌, None, rules}
 use Rattle.std.specs.Prelude.{replicate}
-use Rattle.token_order.proofs.Holds.{none_held}
+use Rattle.task_ast.proofs.Holds.{none_held}
 use Rattle.token_order.proofs.held.Held.new.Goals as goal
 
 pub returns-clause-stands : goal.returns-clause-stands

@@ -1,5 +1,5 @@
 use Rattle.std.proofs.Common.{◌≡◌, ℕ, suc, ◌-◌, length}
-use Rattle.token_order.specs.Owning.{held_at}
+use Rattle.task_ast.specs.LockLists.{held_at}
 use Rattle.token_order.proofs.held.Held.put.Given as goal
 
 -- empty lists change nothing

@@ -2,8 +2,8 @@ use Rattle.std.proofs.Common.{◌<◌, None, Some, length, sym, ap, subst, ◌�
 use Rattle.std.specs.Prelude.{slice_set}
 use Rattle.task_ast.specs.Table.{owned_from}
 use Rattle.task_ast.proofs.IssuedTables.{length_set}
-use Rattle.token_order.proofs.Looking.{get-at}
-use Rattle.token_order.proofs.Holds.{released}
+use Rattle.task_ast.proofs.Looks.{get-at}
+use Rattle.task_ast.proofs.Holds.{released}
 use Rattle.token_order.proofs.held.Held.release.Goals as goal
 
 pub returns-in_ok-put-clause-stands : goal.returns-in_ok-put-clause-stands

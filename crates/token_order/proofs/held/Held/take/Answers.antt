@@ -2,7 +2,7 @@ use Rattle.std.proofs.Common.{◌<◌, Some, length, sym, ap, subst, ◌∙◌}
 use Rattle.std.specs.Prelude.{slice_set}
 use Rattle.task_ast.specs.Table.{owned_from}
 use Rattle.task_ast.proofs.IssuedTables.{length_set}
-use Rattle.token_order.proofs.Holds.{taken}
+use Rattle.task_ast.proofs.Holds.{taken}
 use Rattle.token_order.proofs.held.Held.take.Goals as goal
 
 pub returns-clause-stands : goal.returns-clause-stands

@@ -2,7 +2,7 @@ use Rattle.std.proofs.Common.{ap, refl, rules}
 use Rattle.std.specs.Vec.{with_items}
 use Rattle.std.proofs.lemmas.List.{with_items_is}
 use Rattle.token_order.specs.View.{table}
-use Rattle.token_order.proofs.Looking.{get-at}
+use Rattle.task_ast.proofs.Looks.{get-at}
 use Rattle.token_order.proofs.Turning.{arrived-is}
 use Rattle.token_order.specs.declared.threads.Stand.TheVariants.{Waits}
 use Rattle.token_order.proofs.threads.Threads.arrive.Goals as goal

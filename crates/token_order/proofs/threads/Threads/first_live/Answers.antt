@@ -2,7 +2,8 @@ use Rattle.std.proofs.Common.{◌≡◌, ◌∙◌, sym, ap, arith, length, suc,
 use Rattle.task_ast.specs.Table.{numbers}
 use Rattle.task_ast.specs.Turn.{look}
 use Rattle.token_order.specs.View.{table}
-use Rattle.token_order.proofs.Looking.{get-at, look-past}
+use Rattle.task_ast.proofs.Looks.{get-at}
+use Rattle.token_order.proofs.Looking.{look-past}
 use Rattle.token_order.proofs.threads.Threads.first_live.Goals as goal
 
 pub loop-t-preserved : goal.loop-t-preserved

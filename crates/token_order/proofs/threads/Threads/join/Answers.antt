@@ -5,7 +5,8 @@ use Rattle.std.proofs.lemmas.List.{length-map}
 use Rattle.task_ast.specs.Turn.{issuing, passing, joining}
 use Rattle.token_order.specs.View.{table, seat_of}
 use Rattle.token_order.specs.Turned.{joined_in}
-use Rattle.token_order.proofs.Looking.{get-at, seat-next}
+use Rattle.task_ast.proofs.Looks.{get-at}
+use Rattle.token_order.proofs.Looking.{seat-next}
 use Rattle.token_order.proofs.Joins.{join_there}
 use Rattle.token_order.proofs.Turning.{by}
 use Rattle.token_order.proofs.threads.Threads.join.Goals as goal

@@ -1,7 +1,7 @@
 use Rattle.std.proofs.Common.{ap, refl, Some}
 use Rattle.token_order.specs.View.{table, seat_of}
-use Rattle.token_order.proofs.Looking.{get-at}
-use Rattle.token_order.proofs.Changing.{map-replaced}
+use Rattle.task_ast.proofs.Looks.{get-at}
+use Rattle.task_ast.proofs.ChangedSeats.{map-replaced}
 use Rattle.token_order.proofs.threads.Threads.learn.Goals as goal
 
 pub returns-clause-learnt : goal.returns-clause-learnt

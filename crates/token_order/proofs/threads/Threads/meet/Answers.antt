@@ -1,7 +1,7 @@
 use Rattle.std.proofs.Common.{◌∙◌, sym, ap}
 use Rattle.task_ast.specs.Turn.{is_away}
 use Rattle.token_order.specs.View.{table, stand_view}
-use Rattle.token_order.proofs.Looking.{get-at}
+use Rattle.task_ast.proofs.Looks.{get-at}
 use Rattle.token_order.proofs.Turning.{by, stand-is}
 use Rattle.token_order.proofs.Barriers.{free_goes, still_waits, is_away_so}
 use Rattle.token_order.proofs.threads.Threads.meet.Goals as goal

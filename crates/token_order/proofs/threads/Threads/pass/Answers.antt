@@ -1,8 +1,8 @@
 use Rattle.std.proofs.Common.{sym, ap, refl, true, Some}
 use Rattle.task_ast.specs.Repeat.{More}
 use Rattle.token_order.specs.View.{table, seat_of}
-use Rattle.token_order.proofs.Looking.{get-at}
-use Rattle.token_order.proofs.Changing.{map-replaced}
+use Rattle.task_ast.proofs.Looks.{get-at}
+use Rattle.task_ast.proofs.ChangedSeats.{map-replaced}
 use Rattle.token_order.proofs.threads.Threads.pass.Goals as goal
 
 pub returns-clause-passes : goal.returns-clause-passes

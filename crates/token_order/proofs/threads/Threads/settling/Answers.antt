@@ -1,5 +1,5 @@
 use Rattle.std.proofs.Common.{sym, ap, ◌∙◌, arith}
-use Rattle.token_order.proofs.Looking.{get-at}
+use Rattle.task_ast.proofs.Looks.{get-at}
 use Rattle.token_order.proofs.Settling.{at_limit, is_unknown, has_gone, other, settles}
 use Rattle.token_order.proofs.threads.Threads.settling.Goals as goal
 

@@ -8,7 +8,7 @@ use Rattle.task_ast.specs.Table.{next_of}
 use Rattle.task_ast.specs.Turn.{Ended, tried}
 use Rattle.token_order.specs.View.{table}
 use Rattle.token_order.specs.Turned.{Answered}
-use Rattle.token_order.proofs.Looking.{get-at}
+use Rattle.task_ast.proofs.Looks.{get-at}
 use Rattle.token_order.proofs.Turning.{by, turn-tries, there, last-is}
 use Rattle.token_order.proofs.threads.Threads.turn.Goals as goal
 use Rattle.token_order.proofs.threads.Threads.turn.Goals.{After-join}
