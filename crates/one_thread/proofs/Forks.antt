@@ -23,7 +23,8 @@ use Rattle.one_thread.specs.declared.walk.Walk.{Walk}
 use Rattle.one_thread.specs.declared.walk.Went.TheVariants as went
 use Rattle.one_thread.specs.inner.Walking.{setting_of, point_of, Stepped, Gives}
 use Rattle.std.proofs.Math.ListN.{drop_of_length-le}
-use Rattle.one_thread.proofs.Fitting.{from-here, and_then_some}
+use Rattle.task_ast.proofs.Arms.{from-here}
+use Rattle.one_thread.proofs.Fitting.{and_then_some}
 use Rattle.one_thread.proofs.Steps.{env_is, stays}
 
 position-map : {A B : Type 0} (p : B → Bool) (f : A → B) (xs : List A) → position p (map f xs) ≡ position (λ x. p (f x)) xs

@@ -1,159 +1,31 @@
--- The locks that threads hold, as an owner changes.
-use Rattle.std.proofs.Common.{◌≡◌, ℕ, zero, suc, ◌+◌, ◌<◌, ◌≤◌, Bool, true, false, cond, List, [], ◌∷◌, ◌++◌, length, Option, Some, None, refl, sym, ap, ◌∙◌, subst, arith, nat_lt}
-use Rattle.std.specs.Prelude.{◌==◌, slice_get, slice_set, replicate}
-use Rattle.std.specs.List.{filter}
-use Rattle.std.proofs.lemmas.Bool.{lt-ltb, le-ltb, eqb-true, eq-eqb, false≢true}
-use Rattle.task_ast.specs.Table.{owned_from}
-use Rattle.one_thread.specs.inner.Holding.{with_lock, held_at, after_change, AreHeld}
-
-abbrev is_owner : ℕ → Option ℕ → Bool
-is_owner t None = false
-is_owner t (Some u) = t == u
-
-above : (n m : ℕ) (owners : List (Option ℕ)) (t : ℕ) → n < m → filter (λ x. nat_lt n x) (owned_from m owners t) ≡ owned_from m owners t
-above n m [] t l = refl
-above n m (None ∷ owners) t l = above n (suc m) owners t (omega arith)
-above n m (Some u ∷ owners) t l = go (t == u) (above n (suc m) owners t (omega arith))
-  where
-    go : (b : Bool) → filter (λ x. nat_lt n x) (owned_from (suc m) owners t) ≡ owned_from (suc m) owners t
-        → filter (λ x. nat_lt n x) (cond b (m ∷ owned_from (suc m) owners t) (owned_from (suc m) owners t)) ≡ cond b (m ∷ owned_from (suc m) owners t) (owned_from (suc m) owners t)
-    go true same = rw (lt-ltb n m l) (ap (λ xs. m ∷ xs) same)
-    go false same = same
-
-below : (n m : ℕ) (owners : List (Option ℕ)) (t : ℕ) → n ≤ m → filter (λ x. nat_lt x n) (owned_from m owners t) ≡ []
-below n m [] t l = refl
-below n m (None ∷ owners) t l = below n (suc m) owners t (omega arith)
-below n m (Some u ∷ owners) t l = go (t == u) (below n (suc m) owners t (omega arith))
-  where
-    go : (b : Bool) → filter (λ x. nat_lt x n) (owned_from (suc m) owners t) ≡ [] → filter (λ x. nat_lt x n) (cond b (m ∷ owned_from (suc m) owners t) (owned_from (suc m) owners t)) ≡ []
-    go true same = rw (le-ltb m n l) same
-    go false same = same
-
--- a list that begins with a smaller lock
-first_stays : (holds : Bool) (m n : ℕ) (rest : List ℕ) → n < m → with_lock holds m (n ∷ rest) ≡ n ∷ with_lock holds m rest
-first_stays holds m n rest l = let le : n ≤ m = omega arith in rw (lt-ltb n m l, le-ltb m n le) refl
-
--- the lock itself
-first_changes : (holds : Bool) (n : ℕ) (b : Bool) (owners : List (Option ℕ)) (t : ℕ) →
-    with_lock holds n (cond b (n ∷ owned_from (suc n) owners t) (owned_from (suc n) owners t)) ≡ cond holds (n ∷ owned_from (suc n) owners t) (owned_from (suc n) owners t)
-first_changes true n true owners t = let le : n ≤ n = omega arith in rw (le-ltb n n le, below n (suc n) owners t (omega arith), above n (suc n) owners t (omega arith)) refl
-first_changes false n true owners t = let le : n ≤ n = omega arith in rw (le-ltb n n le, below n (suc n) owners t (omega arith), above n (suc n) owners t (omega arith)) refl
-first_changes true n false owners t = rw (below n (suc n) owners t (omega arith), above n (suc n) owners t (omega arith)) refl
-first_changes false n false owners t = rw (below n (suc n) owners t (omega arith), above n (suc n) owners t (omega arith)) refl
-
-owned_first : (n : ℕ) (o : Option ℕ) (owners : List (Option ℕ)) (t : ℕ) → owned_from n (o ∷ owners) t ≡ cond (is_owner t o) (n ∷ owned_from (suc n) owners t) (owned_from (suc n) owners t)
-owned_first n None owners t = refl
-owned_first n (Some u) owners t = refl
-
--- a thread's locks after an owner changes
-pub changed : (n l : ℕ) (owners : List (Option ℕ)) (t : ℕ) (o : Option ℕ) → l < length owners → owned_from n (slice_set owners l o) t ≡ with_lock (is_owner t o) (n + l) (owned_from n owners t)
-changed n l [] t o within = absurd (omega arith)
-changed n zero (x ∷ owners) t o within =
-    let z : n + 0 ≡ n = omega arith in
-    owned_first n o owners t ∙ sym (first_changes (is_owner t o) n (is_owner t x) owners t) ∙ ap (with_lock (is_owner t o) n) (sym (owned_first n x owners t)) ∙ ap (λ k. with_lock (is_owner t o) k (owned_from n (x ∷ owners) t)) (sym z)
-changed n (suc l) (x ∷ owners) t o within =
-    let s : suc n + l ≡ n + suc l = omega arith in
-    owned_first n x (slice_set owners l o) t ∙ go (is_owner t x) (subst (λ k. owned_from (suc n) (slice_set owners l o) t ≡ with_lock (is_owner t o) k (owned_from (suc n) owners t)) s (changed (suc n) l owners t o (omega arith)))
-    ∙ ap (with_lock (is_owner t o) (n + suc l)) (sym (owned_first n x owners t))
-  where
-    go : (b : Bool) → owned_from (suc n) (slice_set owners l o) t ≡ with_lock (is_owner t o) (n + suc l) (owned_from (suc n) owners t)
-        → cond b (n ∷ owned_from (suc n) (slice_set owners l o) t) (owned_from (suc n) (slice_set owners l o) t) ≡ with_lock (is_owner t o) (n + suc l) (cond b (n ∷ owned_from (suc n) owners t) (owned_from (suc n) owners t))
-    go true same = ap (λ xs. n ∷ xs) same ∙ sym (first_stays (is_owner t o) (n + suc l) n (owned_from (suc n) owners t) (omega arith))
-    go false same = same
-
--- a thread that was no owner and becomes none
-pub kept : (n l : ℕ) (owners : List (Option ℕ)) (t : ℕ) (old new : Option ℕ) → slice_get owners l ≡ Some old → is_owner t old ≡ false → is_owner t new ≡ false → owned_from n (slice_set owners l new) t ≡ owned_from n owners t
-kept n l [] t old new at was is = refl
-kept n zero (x ∷ owners) t old new at was is =
-    let same : x ≡ old = cc at in
-    owned_first n new owners t ∙ rw is (sym (owned_first n x owners t ∙ rw (same, was) refl))
-kept n (suc l) (x ∷ owners) t old new at was is =
-    owned_first n x (slice_set owners l new) t ∙ ap (λ r. cond (is_owner t x) (n ∷ r) r) (kept (suc n) l owners t old new at was is) ∙ sym (owned_first n x owners t)
-
-set-set : (owners : List (Option ℕ)) (l : ℕ) (a b : Option ℕ) → slice_set (slice_set owners l a) l b ≡ slice_set owners l b
-set-set [] l a b = refl
-set-set (x ∷ owners) zero a b = refl
-set-set (x ∷ owners) (suc l) a b = ap (λ xs. x ∷ xs) (set-set owners l a b)
-
-get-set : (owners : List (Option ℕ)) (l : ℕ) (a : Option ℕ) → l < length owners → slice_get (slice_set owners l a) l ≡ Some a
-get-set [] l a within = absurd (omega arith)
-get-set (x ∷ owners) zero a within = refl
-get-set (x ∷ owners) (suc l) a within = get-set owners l a (omega arith)
-
-length-set : (owners : List (Option ℕ)) (l : ℕ) (a : Option ℕ) → length (slice_set owners l a) ≡ length owners
-length-set [] l a = refl
-length-set (x ∷ owners) zero a = refl
-length-set (x ∷ owners) (suc l) a = ap suc (length-set owners l a)
-
-zero_plus : (l : ℕ) → 0 + l ≡ l
-zero_plus l = omega arith
+-- The locks that threads hold, as a lock goes from one owner to another.
+use Rattle.std.proofs.Common.{◌≡◌, ℕ, ◌<◌, List, [], length, Option, Some, None, refl, sym, ◌∙◌, subst, true, false}
+use Rattle.std.specs.Prelude.{slice_get, slice_set, replicate}
+use Rattle.task_ast.proofs.IssuedTables.{get_set_here}
+use Rattle.task_ast.proofs.Holds as locks
+use Rattle.task_ast.proofs.Holds.{kept, set-set}
+use Rattle.task_ast.specs.LockLists.{held_at}
+use Rattle.one_thread.specs.inner.Holding.{after_change, AreHeld}
 
 -- the old owner gives the lock back
 released : (owners : List (Option ℕ)) (held other : List (List ℕ)) (l : ℕ) (old : Option ℕ) → AreHeld owners held → l < length owners → slice_get owners l ≡ Some old
     → ((u : ℕ) → held_at other u ≡ after_change old false l held u) → AreHeld (slice_set owners l None) other
 released owners held other l None are within at same = record { each = λ u. same u ∙ are.each u ∙ sym (kept 0 l owners u None None at refl refl) }
-released owners held other l (Some b) are within at same = record { each = λ u. same u ∙ go u (u == b) refl }
-  where
-    go : (u : ℕ) (e : Bool) → (u == b) ≡ e → cond e (with_lock false l (held_at held b)) (held_at held u) ≡ owned_from 0 (slice_set owners l None) u
-    go u true e =
-        let is : u ≡ b = eqb-true u b e in
-        ap (with_lock false l) (are.each b) ∙ ap (λ k. with_lock false l (owned_from 0 owners k)) (sym is)
-        ∙ ap (λ k. with_lock false k (owned_from 0 owners u)) (sym (zero_plus l)) ∙ sym (changed 0 l owners u None within)
-    go u false e = are.each u ∙ sym (kept 0 l owners u (Some b) None at e refl)
+released owners held other l (Some b) are within at same = record { each = locks.released owners held other l b are.each within at same }
 
 -- the new owner takes it
-taken : (owners : List (Option ℕ)) (held other : List (List ℕ)) (l : ℕ) (new : Option ℕ) → AreHeld owners held → l < length owners → slice_get owners l ≡ Some None
+taken : (owners : List (Option ℕ)) (held other : List (List ℕ)) (l : ℕ) (new : Option ℕ) → AreHeld owners held → slice_get owners l ≡ Some None
     → ((u : ℕ) → held_at other u ≡ after_change new true l held u) → AreHeld (slice_set owners l new) other
-taken owners held other l None are within at same = record { each = λ u. same u ∙ are.each u ∙ sym (kept 0 l owners u None None at refl refl) }
-taken owners held other l (Some t) are within at same = record { each = λ u. same u ∙ go u (u == t) refl }
-  where
-    go : (u : ℕ) (e : Bool) → (u == t) ≡ e → cond e (with_lock true l (held_at held t)) (held_at held u) ≡ owned_from 0 (slice_set owners l (Some t)) u
-    go u true e =
-        let is : u ≡ t = eqb-true u t e in
-        ap (with_lock true l) (are.each t) ∙ ap (λ k. with_lock true l (owned_from 0 owners k)) (sym is)
-        ∙ ap (λ b. with_lock b l (owned_from 0 owners u)) (sym e)
-        ∙ ap (λ k. with_lock (is_owner u (Some t)) k (owned_from 0 owners u)) (sym (zero_plus l)) ∙ sym (changed 0 l owners u (Some t) within)
-    go u false e = are.each u ∙ sym (kept 0 l owners u None (Some t) at refl e)
+taken owners held other l None are at same = record { each = λ u. same u ∙ are.each u ∙ sym (kept 0 l owners u None None at refl refl) }
+taken owners held other l (Some t) are at same = record { each = locks.taken owners held other l t are.each at same }
 
 -- a lock goes from one owner to another
 pub handed : (owners : List (Option ℕ)) (held middle other : List (List ℕ)) (l : ℕ) (old new : Option ℕ) → AreHeld owners held → l < length owners → slice_get owners l ≡ Some old
     → ((u : ℕ) → held_at middle u ≡ after_change old false l held u) → ((u : ℕ) → held_at other u ≡ after_change new true l middle u) → AreHeld (slice_set owners l new) other
 handed owners held middle other l old new are within at first second =
     subst (λ os. AreHeld os other) (set-set owners l None new)
-    (taken (slice_set owners l None) middle other l new (released owners held middle l old are within at first) (let e = length-set owners l None in omega arith) (get-set owners l None within) second)
-
-nobody : (n count t : ℕ) → owned_from n (replicate count None) t ≡ []
-nobody n zero t = refl
-nobody n (suc count) t = nobody (suc n) count t
+    (taken (slice_set owners l None) middle other l new (released owners held middle l old are within at first) (get_set_here owners l None within) second)
 
 -- where nobody owns a lock, nobody holds one
-pub none_held : (locks : ℕ) (owners : List (Option ℕ)) (held : List (List ℕ)) → owners ≡ replicate locks None → held ≡ [] → AreHeld owners held
-none_held locks owners held os hs = record { each = λ t. ap (λ h. held_at h t) hs ∙ sym (ap (λ o. owned_from 0 o t) os ∙ nobody 0 locks t) }
-
--- an empty list more changes nothing
-pub held_at-more : (held : List (List ℕ)) (u : ℕ) → held_at (held ++ [] ∷ []) u ≡ held_at held u
-held_at-more [] zero = refl
-held_at-more [] (suc u) = refl
-held_at-more (h ∷ held) zero = refl
-held_at-more (h ∷ held) (suc u) = held_at-more held u
-
-get_same : (held : List (List ℕ)) (t : ℕ) (h : List ℕ) → t < length held → held_at (slice_set held t h) t ≡ h
-get_same [] t h within = absurd (omega arith)
-get_same (x ∷ held) zero h within = refl
-get_same (x ∷ held) (suc t) h within = get_same held t h (omega arith)
-
-get_other : (held : List (List ℕ)) (t u : ℕ) (h : List ℕ) → (u ≡ t → ⊥) → held_at (slice_set held t h) u ≡ held_at held u
-get_other [] t u h ne = refl
-get_other (x ∷ held) zero zero h ne = absurd (ne refl)
-get_other (x ∷ held) zero (suc u) h ne = refl
-get_other (x ∷ held) (suc t) zero h ne = refl
-get_other (x ∷ held) (suc t) (suc u) h ne = get_other held t u h (λ e. ne (ap suc e))
-
--- one list is changed
-pub one_changed : (held middle other : List (List ℕ)) (t l : ℕ) (holds : Bool) (before after : List ℕ) → ((u : ℕ) → held_at middle u ≡ held_at held u) → t < length middle
-    → before ≡ held_at middle t → after ≡ with_lock holds l before → other ≡ slice_set middle t after → (u : ℕ) → held_at other u ≡ after_change (Some t) holds l held u
-one_changed held middle other t l holds before after same within before_is after_is other_is u = ap (λ hs. held_at hs u) other_is ∙ go (u == t) refl
-  where
-    go : (e : Bool) → (u == t) ≡ e → held_at (slice_set middle t after) u ≡ cond e (with_lock holds l (held_at held t)) (held_at held u)
-    go true e = let is : u ≡ t = eqb-true u t e in ap (held_at (slice_set middle t after)) is ∙ get_same middle t after within ∙ after_is ∙ ap (with_lock holds l) (before_is ∙ same t)
-    go false e = get_other middle t u after (λ is. absurd (false≢true (sym e ∙ eq-eqb u t is))) ∙ same u
+pub none_held : (count : ℕ) (owners : List (Option ℕ)) (held : List (List ℕ)) → owners ≡ replicate count None → held ≡ [] → AreHeld owners held
+none_held count owners held os hs = record { each = locks.none_held count owners held os hs }

@@ -10,7 +10,7 @@ use Rattle.one_thread.specs.declared.seats.Table.{Table as Ring}
 use Rattle.one_thread.specs.declared.seats.Seat.{Seat}
 use Rattle.one_thread.specs.inner.View.{table_of, seat_of, token_of, begun}
 use Rattle.one_thread.proofs.Looking.{seat-next}
-use Rattle.one_thread.proofs.Changing.{map-replaced}
+use Rattle.task_ast.proofs.ChangedSeats.{map-replaced}
 
 pub issued-as : (before : Ring) (t : ℕ) (seat begun_seat : Seat) (next : Next) (first : Next) (cleared old_seats after_seats : List Seat) (owners : List (Option ℕ)) (child : Option ℕ)
     → slice_get before.seats.items t ≡ Some seat

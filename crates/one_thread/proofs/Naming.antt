@@ -8,7 +8,7 @@ use Rattle.task_ast.specs.Effect.{term_value}
 use Rattle.task_ast.specs.Footprint.{Named, with_cell, naming, arm_naming, all_naming}
 use Rattle.one_thread.specs.declared.data.Data.{Data}
 use Rattle.one_thread.specs.inner.Working.{first_unless, worked, arm_worked, recorded, all_worked, Works, Notes, ArmNotes}
-use Rattle.one_thread.proofs.Fitting.{chosen}
+use Rattle.task_ast.proofs.Arms.{chosen, some_is}
 
 ordered : {A : Type 0} (less same : Bool) (x y z : A)
     → match_ordering (cond less Less (cond same Equal Greater)) x y z ≡ cond less x (cond same y z)
@@ -22,9 +22,6 @@ keys-with c [] = refl
 keys-with c (d ∷ cells) =
     ordered (nat_lt c d) (nat_eq c d) (c ∷ d ∷ cells) (d ∷ cells) (d ∷ insert_key nat_cmp cells c)
     ∙ ap (λ l. cond (nat_lt c d) (c ∷ d ∷ cells) (cond (nat_eq c d) (d ∷ cells) (d ∷ l))) (keys-with c cells)
-
-some_is : {A : Type 0} {x y : A} → Some x ≡ Some y → x ≡ y
-some_is is = cc
 
 -- what a choice names is what both arms name
 pub notes-choice : (t : Option Term) (a b : Option Arm) (old middle new : Named)

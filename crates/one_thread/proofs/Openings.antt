@@ -16,6 +16,7 @@ use Rattle.task_ast.specs.Table.{numbers}
 use Rattle.task_ast.specs.Plain.{no_task, task_at, main_number, start_point, opening}
 use Rattle.task_ast.specs.View.{plain_task, plain_program}
 use Rattle.task_ast.proofs.Terms.{position-cons}
+use Rattle.task_ast.proofs.Arms.{some_is}
 use Rattle.one_thread.specs.declared.walk.Walk.{Walk}
 use Rattle.one_thread.specs.declared.threads.Run.{Run}
 use Rattle.one_thread.specs.inner.Holding.{AreHeld}
@@ -55,9 +56,6 @@ position-map f p (x ∷ xs) =
 
 main-is : (code : Code) (k : ℕ) → k ≡ unwrap_or (position {X = CodeTask} (λ task. is_name main task.name) code.tasks) 0 → k ≡ main_number (plain_program code)
 main-is code k is = is ∙ ap (λ o. unwrap_or o 0) (sym (position-map plain_task (is_task main) code.tasks))
-
-some_is : {A : Type 0} {x y : A} → Some x ≡ Some y → x ≡ y
-some_is is = cc
 
 names-are : (code : Code) (slots : List (List Name)) (k : ℕ) (names : List Name) → slots ≡ map slots_of code.tasks → slice_get slots k ≡ Some names → names ≡ registers_of (task_at (plain_program code) k)
 names-are code slots k names same at = go (slice_get code.tasks k) refl

@@ -26,6 +26,7 @@ use Rattle.task_ast.specs.Turn.{child_of}
 use Rattle.task_ast.specs.Plain.{Plain, Machine, tree_machine, points_with, point_by, settled_by, from_by, task_at, start_point}
 use Rattle.task_ast.specs.Plain as plain
 use Rattle.task_ast.specs.View.{plain_program}
+use Rattle.task_ast.proofs.Arms.{some_is}
 use Rattle.one_thread.specs.declared.data.Data.{Data}
 use Rattle.one_thread.specs.declared.walk.Walk.{Walk}
 use Rattle.one_thread.specs.declared.work.Told.{Told}
@@ -40,9 +41,6 @@ use Rattle.one_thread.proofs.Within.{is_cell, body_within, first_within, all-app
 use Rattle.one_thread.proofs.Mirroring.{Mirrors, all_mirrors}
 use Rattle.one_thread.proofs.Naming.{all-named}
 use Rattle.one_thread.proofs.ThreadLemmas.{registers-there}
-
-some_is : {A : Type 0} {x y : A} → Some x ≡ Some y → x ≡ y
-some_is is = cc
 
 -- ---- what the subthread finds
 joined-is : (op : SyncOp) (walks : List Walk) (state : State) → ((u : ℕ) → registers_at walks u ≡ state (RegistersOf u)) → joined_of op walks ≡ joined_ret op state

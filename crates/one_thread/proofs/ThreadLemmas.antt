@@ -8,13 +8,11 @@ use Rattle.task_ast.specs.Tree.{Name, statements}
 use Rattle.task_ast.specs.Names.{controls, declared_in}
 use Rattle.task_ast.specs.Plain.{no_task, task_at, given, start_point}
 use Rattle.task_ast.specs.View.{plain_task, plain_program, plain_stmts, plain_block}
+use Rattle.task_ast.proofs.Arms.{some_is}
 use Rattle.one_thread.specs.declared.walk.Walk.{Walk}
 use Rattle.one_thread.specs.inner.Remaining.{left_of}
 use Rattle.one_thread.specs.inner.Runs.{slots_of, registers_at, IsNew}
 use Rattle.one_thread.proofs.Lefts.{statements-block}
-
-some_is : {A : Type 0} {x y : A} → Some x ≡ Some y → x ≡ y
-some_is is = cc
 
 -- the task of a number, and the names of its registers
 task-is : (code : Code) (k : ℕ) (text : CodeTask) → slice_get code.tasks k ≡ Some text → task_at (plain_program code) k ≡ plain_task text

@@ -22,7 +22,7 @@ use Rattle.one_thread.specs.declared.seats.Table.{Table as Ring}
 use Rattle.one_thread.specs.declared.seats.Seat.{Seat}
 use Rattle.one_thread.specs.inner.View.{table_of, seat_of, stand_view, look_of, is_free_to_go, gives, gave}
 use Rattle.one_thread.proofs.Looking.{seat-next}
-use Rattle.one_thread.proofs.Changing.{map-replaced}
+use Rattle.task_ast.proofs.ChangedSeats.{map-replaced}
 
 abbrev pub LooksAt : Ring → Option ℕ → Type 0
 LooksAt ring o = look (table_of ring) (Rattle.task_ast.specs.Table.ring (table_of ring).token (length (table_of ring).seats)) ≡ look_of (table_of ring) o

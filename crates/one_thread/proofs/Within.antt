@@ -13,9 +13,7 @@ use Rattle.task_ast.specs.Action.{Term, Action, Store, Say, Choose, Child, Give,
 use Rattle.task_ast.specs.Body.{Step, Silent, Iteration, Act, Stop, Body, follow, stretch, body}
 use Rattle.task_ast.specs.Control.{Setting, Point, known, branch, going, env_at, action, arm, action_of, record_number, data_arguments, control_arguments, register_number, fork_arguments, begin_actions, first_actions, step, step_at, step_from, size, tree_body}
 use Rattle.task_ast.specs.laws.Keeps.{NamesOnly, ArmNamesOnly, AllName}
-
-some_is : {A : Type 0} {x y : A} → Some x ≡ Some y → x ≡ y
-some_is is = cc
+use Rattle.task_ast.proofs.Arms.{some_is}
 
 place-below : (size : ℕ) (i : ℤ) (c : ℕ) → place size i ≡ Some c → c < size
 place-below size (pos n) c is = go (nat_lt n size) refl is

@@ -1,9 +1,10 @@
 // Who owns each lock cell, and which lock cells each thread holds.
 ghost use Rattle.std.specs.Prelude.{◌≡◌, ℕ, replicate, IfOk, OnOk, is_none, slice_get, slice_set, None, Some};
 ghost use Rattle.std.specs.Option.{option_and_then};
+ghost use Rattle.task_ast.specs.LockLists.{with_lock, held_at};
 ghost use Rattle.task_ast.specs.Table.{owned_from};
 ghost use Rattle.task_ast.specs.Turn.{owners_after};
-ghost use Rattle.one_thread.specs.inner.Holding.{with_lock, held_at, after_change, AreHeld};
+ghost use Rattle.one_thread.specs.inner.Holding.{after_change, AreHeld};
 
 use gp_base::Seq;
 use std::alloc::{AllocError, Global};

@@ -1,15 +1,7 @@
 -- Which lock cells a thread holds.
-use Rattle.std.specs.Prelude.{◌≡◌, ◌==◌, ℕ, Bool, cond, Some, None, List, [], ◌∷◌, ◌++◌, Option, nat_lt, slice_get, unwrap_or}
-use Rattle.std.specs.List.{filter}
+use Rattle.std.specs.Prelude.{◌≡◌, ◌==◌, ℕ, Bool, cond, Some, None, List, Option}
+use Rattle.task_ast.specs.LockLists.{with_lock, held_at}
 use Rattle.task_ast.specs.Table.{owned_from}
-
--- a rising list with this lock, or without it
-abbrev pub with_lock : (holds : Bool) → (lock : ℕ) → List ℕ → List ℕ
-with_lock holds lock held = filter (λ x. nat_lt x lock) held ++ cond holds (lock ∷ []) [] ++ filter (λ x. nat_lt lock x) held
-
--- the locks of a thread; one that has no list yet holds none
-abbrev pub held_at : List (List ℕ) → ℕ → List ℕ
-held_at held t = unwrap_or (slice_get held t) []
 
 -- the locks of thread u after those of a thread, where there is one, are changed by one
 abbrev pub after_change : Option ℕ → (holds : Bool) → (lock : ℕ) → List (List ℕ) → ℕ → List ℕ

@@ -8,7 +8,7 @@ use Rattle.task_ast.specs.Control.{action, arm, all_of}
 use Rattle.task_ast.specs.View.{plain_expr, plain_exprs, plain_what, plain_block}
 use Rattle.task_ast.proofs.Views.{stmt_At, what_Print, what_When}
 use Rattle.one_thread.specs.inner.Working.{setting_in}
-use Rattle.one_thread.proofs.Fitting.{from-here, arm_some, not_arm_some, chosen_some, not_chosen_some, say_some}
+use Rattle.task_ast.proofs.Arms.{from-here, arm_some, not_arm_some, chosen_some, not_chosen_some, say_some}
 use Rattle.one_thread.proofs.data.+fitting.Goals as goal
 
 pub all_fit-returns-then-not-fits : goal.all_fit-returns-then-not-fits

@@ -8,7 +8,7 @@ use Rattle.task_ast.specs.Control.{action, arm}
 use Rattle.task_ast.specs.View.{plain_expr, plain_what, plain_block}
 use Rattle.task_ast.proofs.Views.{stmt_At, what_When}
 use Rattle.one_thread.specs.inner.Working.{setting_in, ArmNotes}
-use Rattle.one_thread.proofs.Fitting.{from-here, naming-in-order, Ahead, ahead_on, ahead_start, ahead_end}
+use Rattle.task_ast.proofs.Arms.{from-here, naming-in-order, Ahead, ahead_on, ahead_start, ahead_end}
 use Rattle.one_thread.proofs.Naming.{notes-choice}
 use Rattle.one_thread.proofs.data.+noting.Goals as goal
 

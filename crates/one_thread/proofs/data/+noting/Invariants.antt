@@ -4,7 +4,7 @@ use Rattle.task_ast.specs.Footprint.{arm_naming}
 use Rattle.task_ast.specs.Control.{arm}
 use Rattle.task_ast.specs.View.{plain_block}
 use Rattle.one_thread.specs.inner.Working.{setting_in}
-use Rattle.one_thread.proofs.Fitting.{Ahead}
+use Rattle.task_ast.proofs.Arms.{Ahead}
 use Rattle.one_thread.proofs.data.+noting.Given as goal
 
 abbrev pub invariant-note_all-loop-stmt : goal.invariant-note_all-loop-stmt

@@ -8,7 +8,8 @@ use Rattle.task_ast.specs.Control.{action, arm, all_of}
 use Rattle.task_ast.specs.View.{plain_expr, plain_exprs, plain_what, plain_block}
 use Rattle.task_ast.proofs.Views.{stmt_At, what_Print, what_When}
 use Rattle.one_thread.specs.inner.Working.{setting_in, worked, arm_worked}
-use Rattle.one_thread.proofs.Fitting.{from-here, work-in-order, Ahead, ahead_on, ahead_end, said, unsaid, first_works, second_works}
+use Rattle.task_ast.proofs.Arms.{from-here, Ahead, ahead_on, ahead_end}
+use Rattle.one_thread.proofs.Fitting.{work-in-order, said, unsaid, first_works, second_works}
 use Rattle.one_thread.proofs.data.+performing.Goals as goal
 
 pub perform_all-loop-stmt-preserved : goal.perform_all-loop-stmt-preserved

@@ -3,7 +3,7 @@ use Rattle.std.specs.Prelude.{ℤ}
 use Rattle.task_ast.specs.Control.{arm}
 use Rattle.task_ast.specs.View.{plain_block}
 use Rattle.one_thread.specs.inner.Working.{setting_in, arm_worked}
-use Rattle.one_thread.proofs.Fitting.{Ahead}
+use Rattle.task_ast.proofs.Arms.{Ahead}
 use Rattle.one_thread.proofs.data.+performing.Given as goal
 
 abbrev pub invariant-perform_all-loop-stmt : goal.invariant-perform_all-loop-stmt

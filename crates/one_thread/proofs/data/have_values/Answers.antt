@@ -5,7 +5,8 @@ use Rattle.task_ast.specs.Action.{term}
 use Rattle.task_ast.specs.Control.{all_of}
 use Rattle.task_ast.specs.View.{plain_expr, plain_exprs}
 use Rattle.std.proofs.Math.ListN.{drop_of_length-le}
-use Rattle.one_thread.proofs.Fitting.{from-here, all_some, not_all_some}
+use Rattle.task_ast.proofs.Arms.{from-here}
+use Rattle.one_thread.proofs.Fitting.{all_some, not_all_some}
 use Rattle.one_thread.proofs.data.have_values.Goals as goal
 
 pub returns-then-not-has_value : goal.returns-then-not-has_value

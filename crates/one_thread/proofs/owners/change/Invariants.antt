@@ -1,5 +1,5 @@
 use Rattle.std.proofs.Common.{◌≡◌, ℕ, suc, ◌-◌, length}
-use Rattle.one_thread.specs.inner.Holding.{held_at}
+use Rattle.task_ast.specs.LockLists.{held_at}
 use Rattle.one_thread.proofs.owners.change.Given as goal
 
 -- empty lists change nothing

@@ -3,8 +3,8 @@ use Rattle.std.proofs.lemmas.List.{length-map}
 use Rattle.task_ast.specs.Table.{with_nth}
 use Rattle.task_ast.specs.Turn.{released_at}
 use Rattle.one_thread.specs.inner.View.{seat_of}
-use Rattle.one_thread.proofs.Looking.{get-or}
-use Rattle.one_thread.proofs.Changing.{map-replaced, first_mapped, first_mapped-more, first_mapped-all, released-waiting, released-other}
+use Rattle.std.proofs.lemmas.Option.{slice_get-get_or}
+use Rattle.task_ast.proofs.ChangedSeats.{map-replaced, first_mapped, first_mapped-more, first_mapped-all, released-waiting, released-other}
 use Rattle.one_thread.proofs.turns.release.Goals as goal
 use Rattle.one_thread.proofs.turns.release.Goals.{then-is_waiting, else-is_waiting}
 
@@ -13,9 +13,9 @@ loop-seat-preserved c =
     let next : suc c.loop-seat.seat-index ≡ c.loop-seat.seat-index + 1 = omega arith in
     (elim c.if-is_waiting.branch [
       | then-is_waiting w ↦ ap (map seat_of) w.seats-is ∙ map-replaced seat_of c.loop-seat.seats c.loop-seat.seat-index (released_at c.args.barrier) (slice_index_or c.loop-seat.seats c.loop-seat.seat-index c.seat-item.result) _
-          (get-or c.loop-seat.seats c.loop-seat.seat-index c.seat-item.result (omega arith)) (released-waiting c.args.barrier _ (sym c.is_waiting.ensures ∙ w.if-is_waiting.true))
+          (slice_get-get_or c.loop-seat.seats c.loop-seat.seat-index c.seat-item.result (omega arith)) (released-waiting c.args.barrier _ (sym c.is_waiting.ensures ∙ w.if-is_waiting.true))
       | else-is_waiting w ↦ ap (map seat_of) w.seats-is ∙ map-replaced seat_of c.loop-seat.seats c.loop-seat.seat-index (released_at c.args.barrier) (slice_index_or c.loop-seat.seats c.loop-seat.seat-index c.seat-item.result) _
-          (get-or c.loop-seat.seats c.loop-seat.seat-index c.seat-item.result (omega arith)) (sym (released-other c.args.barrier _ (sym c.is_waiting.ensures ∙ w.if-is_waiting.false)))
+          (slice_get-get_or c.loop-seat.seats c.loop-seat.seat-index c.seat-item.result (omega arith)) (sym (released-other c.args.barrier _ (sym c.is_waiting.ensures ∙ w.if-is_waiting.false)))
     ])
     ∙ ap (λ ss. with_nth ss c.loop-seat.seat-index (released_at c.args.barrier)) c.loop-seat.invariant
     ∙ first_mapped-more (released_at c.args.barrier) c.loop-seat.seat-index _ ∙ ap (λ i. first_mapped (released_at c.args.barrier) i (map seat_of c.args.seats.now)) next

@@ -1,7 +1,7 @@
 use Rattle.std.proofs.Common.{◌≡◌, map}
 use Rattle.task_ast.specs.Turn.{released_at}
 use Rattle.one_thread.specs.inner.View.{seat_of}
-use Rattle.one_thread.proofs.Changing.{first_mapped}
+use Rattle.task_ast.proofs.ChangedSeats.{first_mapped}
 use Rattle.one_thread.proofs.turns.release.Given as goal
 
 abbrev pub invariant-loop-seat : goal.invariant-loop-seat

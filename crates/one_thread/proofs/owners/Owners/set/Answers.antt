@@ -1,5 +1,5 @@
 use Rattle.std.proofs.Common.{rules, ◌<◌, length}
-use Rattle.one_thread.proofs.Looking.{get-at}
+use Rattle.task_ast.proofs.Looks.{get-at}
 use Rattle.one_thread.proofs.Holds.{handed}
 use Rattle.one_thread.proofs.owners.Owners.set.Goals as goal
 

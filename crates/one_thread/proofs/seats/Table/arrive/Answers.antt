@@ -2,7 +2,7 @@ use Rattle.std.proofs.Common.{◌∙◌, ap, refl, arith, rules, map}
 use Rattle.std.specs.Vec.{with_item, with_items}
 use Rattle.std.proofs.lemmas.List.{with_items_is}
 use Rattle.one_thread.specs.inner.View.{table_of, seat_of}
-use Rattle.one_thread.proofs.Looking.{get-at}
+use Rattle.task_ast.proofs.Looks.{get-at}
 use Rattle.one_thread.proofs.Turning.{arrived-is, met-released, met-not}
 use Rattle.one_thread.specs.declared.seats.Stand.TheVariants.{Waits}
 use Rattle.one_thread.proofs.seats.Table.arrive.Goals as goal

@@ -2,7 +2,7 @@ use Rattle.std.proofs.Common.{◌∙◌, sym, arith, rules}
 use Rattle.std.specs.Vec.{with_item}
 use Rattle.std.proofs.lemmas.List.{with_items_is}
 use Rattle.std.proofs.lemmas.Bool.{lt-ltb}
-use Rattle.one_thread.proofs.Looking.{get-at}
+use Rattle.task_ast.proofs.Looks.{get-at}
 use Rattle.one_thread.proofs.Issuing.{issued-as}
 use Rattle.one_thread.proofs.seats.Table.issue.Goals as goal
 

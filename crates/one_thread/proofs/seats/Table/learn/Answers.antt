@@ -1,7 +1,7 @@
 use Rattle.std.proofs.Common.{ap, refl, Some}
 use Rattle.one_thread.specs.inner.View.{table_of, seat_of}
-use Rattle.one_thread.proofs.Looking.{get-at}
-use Rattle.one_thread.proofs.Changing.{map-replaced}
+use Rattle.task_ast.proofs.Looks.{get-at}
+use Rattle.task_ast.proofs.ChangedSeats.{map-replaced}
 use Rattle.one_thread.proofs.seats.Table.learn.Goals as goal
 
 pub returns-clause-table : goal.returns-clause-table

@@ -1,5 +1,5 @@
 use Rattle.std.proofs.Common.{◌∙◌, sym, rules, length, ◌<◌}
-use Rattle.one_thread.proofs.Looking.{get-at}
+use Rattle.task_ast.proofs.Looks.{get-at}
 use Rattle.one_thread.proofs.Turning.{HasCome, come-by, come-not, next-there, meets-goes, meets-waits, goes-on}
 use Rattle.one_thread.proofs.seats.Table.meet.Goals as goal
 use Rattle.one_thread.proofs.seats.Table.meet.Goals.{then-is_away, else-is_away}

@@ -1,4 +1,4 @@
-use Rattle.one_thread.proofs.Looking.{get-at}
+use Rattle.task_ast.proofs.Looks.{get-at}
 use Rattle.one_thread.proofs.Changing.{passed-as}
 use Rattle.one_thread.proofs.seats.Table.pass.Goals as goal
 

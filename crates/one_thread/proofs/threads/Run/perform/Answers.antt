@@ -6,7 +6,7 @@ use Rattle.one_thread.specs.inner.Subthreads.{settled, RanWith}
 use Rattle.one_thread.specs.inner.Runs.{joined_of}
 use Rattle.one_thread.specs.inner.View.{table_of}
 use Rattle.task_ast.specs.Table.{learning}
-use Rattle.one_thread.proofs.Looking.{get-at}
+use Rattle.task_ast.proofs.Looks.{get-at}
 use Rattle.one_thread.proofs.threads.Run.perform.Goals as goal
 
 pub work-requires-clause-locks : goal.work-requires-clause-locks

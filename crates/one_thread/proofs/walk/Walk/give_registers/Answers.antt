@@ -4,7 +4,7 @@ use Rattle.task_ast.specs.Names.{is_name, registers_of}
 use Rattle.task_ast.specs.Control.{control_arguments, data_arguments}
 use Rattle.task_ast.specs.View.{plain_exprs, plain_task}
 use Rattle.one_thread.specs.inner.Walking.{setting_of, point_of}
-use Rattle.one_thread.proofs.Looking.{get-at}
+use Rattle.task_ast.proofs.Looks.{get-at}
 use Rattle.one_thread.proofs.Forks.{named-is, unnamed-is, fork-untasked, fork-uncontrolled, fork-undata, gives-none, gives-all}
 use Rattle.one_thread.proofs.walk.Walk.give_registers.Goals as goal
 
