@@ -22,16 +22,16 @@ unfolding steps body stretch until_done repeated
 empty_journal = (complete-decides empty_dependence [] (Issue 0 ∷ Post 0 0 ∷ Take 0 0 true ∷ Retire 0 ∷ [])).0 refl
 
 -- two threads that add to one record; a fault on position 4 is due at front 8
-abbrev adders : Dependence
+abbrev pub adders : Dependence
 adders = dependence_of (order two_adders (zeros 1) (limits 1000 20))
 
-abbrev faults : List Fault
+abbrev pub faults : List Fault
 faults = record { pos = 4; attempt = 0; delay = 3; mask = pos 1 } ∷ []
 
-abbrev runs : ℕ → List Event
+abbrev pub runs : ℕ → List Event
 runs p = Issue p ∷ Post p 0 ∷ Take p 0 true ∷ []
 
-abbrev runs_again : ℕ → List Event
+abbrev pub runs_again : ℕ → List Event
 runs_again p = Post p 1 ∷ Take p 1 true ∷ []
 
 -- up to front 8, with position 7 posted
@@ -69,10 +69,10 @@ unfolding steps body stretch until_done repeated
 retired_early = not_from_Decides _ (lawful-decides adders faults (runs 0 ++ Retire 0 ∷ [])) refl
 
 -- a settle comes when all before it have retired, and none of them damaged
-abbrev settler : Dependence
+abbrev pub settler : Dependence
 settler = dependence_of (order settling (zeros 3) (limits 1000 20))
 
-abbrev early_fault : List Fault
+abbrev pub early_fault : List Fault
 early_fault = record { pos = 1; attempt = 0; delay = 60; mask = pos 1 } ∷ []
 
 abbrev settled : List Event

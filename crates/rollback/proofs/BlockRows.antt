@@ -1,33 +1,17 @@
--- Journals that are lawful and complete by blocks, and journals that are not lawful.
-use Rattle.std.proofs.Common.{ℕ, true, false, List, [], ◌∷◌, ◌++◌, map, pos, None, refl}
+-- Journals that are lawful and complete by blocks, and journals that are not lawful, over the runs and faults of
+-- `JournalRows`.
+use Rattle.std.proofs.Common.{ℕ, true, false, List, [], ◌∷◌, ◌++◌, map, None, refl}
 use Rattle.std.proofs.lemmas.Bool.Decides.{not_from_Decides}
-use Rattle.gp_base.specs.declared.fault.Fault.{Fault}
 use Rattle.gp_base.specs.declared.journal.Event.{Event}
 use Rattle.gp_base.specs.declared.journal.Event.TheVariants.{Issue, Post, Take, Restart, Retire}
 use Rattle.task_ast.specs.Body.{body, stretch}
 use Rattle.task_ast.specs.Repeat.{steps, repeated, until_done}
 use Rattle.task_ast.specs.Table.{numbers}
-use Rattle.task_ast.specs.Plain.{order}
-use Rattle.task_ast.proofs.RowPrograms.{two_adders, settling}
-use Rattle.task_ast.proofs.RunRows.{zeros, limits}
 use Rattle.dependence.specs.Restarts.{Dependence}
-use Rattle.dependence.specs.Runs.{dependence_of}
+use Rattle.dependence.proofs.JournalRows.{adders, faults, runs, runs_again, settler, early_fault}
 use Rattle.rollback.specs.Cuts.{is_cut}
 use Rattle.rollback.specs.Journal.{LawfulByBlocks, CompleteByBlocks}
 use Rattle.rollback.proofs.Deciding.{lawful-decides, complete-decides}
-
--- two threads that add to one record; a fault on position 4 is due at front 8
-abbrev adders : Dependence
-adders = dependence_of (order two_adders (zeros 1) (limits 1000 20))
-
-abbrev faults : List Fault
-faults = record { pos = 4; attempt = 0; delay = 3; mask = pos 1 } ∷ []
-
-abbrev runs : ℕ → List Event
-runs p = Issue p ∷ Post p 0 ∷ Take p 0 true ∷ []
-
-abbrev runs_again : ℕ → List Event
-runs_again p = Post p 1 ∷ Take p 1 true ∷ []
 
 -- all from position 4 on runs again
 abbrev struck : List Event
@@ -49,12 +33,6 @@ unfolding steps body stretch until_done repeated
 posted_early = not_from_Decides _ (lawful-decides (is_cut 4 adders) adders faults early) refl
 
 -- a settle is a cut, at which all before it retire
-abbrev settler : Dependence
-settler = dependence_of (order settling (zeros 3) (limits 1000 20))
-
-abbrev early_fault : List Fault
-early_fault = record { pos = 1; attempt = 0; delay = 60; mask = pos 1 } ∷ []
-
 abbrev settled : List Event
 settled =
     runs 0 ++ runs 1 ++ runs 2 ++ Restart 0 ∷ runs_again 0 ++ runs_again 1 ++ runs_again 2
