@@ -7,13 +7,13 @@ use Rattle.std.specs.BTreeSet.{insert_key}
 use Rattle.gp_base.specs.declared.feed.Feed.{Feed}
 use Rattle.task_ast.specs.declared.sync.SyncOp.{SyncOp}
 use Rattle.task_ast.specs.declared.sync.SyncOp.TheVariants as sync
-use Rattle.task_ast.specs.Action.{Term, Action, Set, Load, Store, Say, Child, Give, Arm, NoAction}
+use Rattle.task_ast.specs.Action.{Term, Action, Set, Load, Store, Say, Child, Give, Arm}
 use Rattle.task_ast.specs.Control.{all_of}
 use Rattle.task_ast.specs.Footprint.{with_cell, Named, naming, arm_naming, all_naming}
 use Rattle.task_code.specs.Instructions.{Instr, At, Assign, GoOn, Unless, Again, Lock, Unlock, Fork, Join, Barrier, Settle, Do, Calc}
 use Rattle.task_code.specs.Reading.{CalcEnv, Place, begin_actions, calc_term, calc_value, code_first, env_of, gift_action, instr_at}
 use Rattle.subthread.specs.inner.Running.{Notes, ArmNotes}
-use Rattle.subthread.proofs.Arms.{also, chosen}
+use Rattle.task_ast.proofs.Arms.{chosen, some_is}
 
 -- a set of numbers has with a member the cells that a list has with it
 pub inserted : (c : ℕ) (cells : List ℕ) → insert_key nat_cmp cells c ≡ with_cell c cells
@@ -26,9 +26,6 @@ inserted c (d ∷ cells) = go (nat_lt c d) (nat_eq c d) (inserted c cells)
     go true same more = refl
     go false true more = refl
     go false false more = ap (λ l. d ∷ l) more
-
-some_is : {A : Type 0} {x y : A} → Some x ≡ Some y → x ≡ y
-some_is is = cc
 
 -- ---- one statement
 
@@ -65,29 +62,6 @@ both_noted (Some t) None b old between new first second act is = absurd (cc is)
 both_noted (Some t) (Some x) None old between new first second act is = absurd (cc is)
 both_noted (Some t) (Some x) (Some y) old between new first second act is =
     second y refl ∙ ap (arm_naming y) (first x refl) ∙ ap (λ z. naming z old) (some_is is)
-
--- ---- an arm
-
--- the arm that is left names on top of what was noted what the whole arm names on top of the beginning
-abbrev pub NotesAhead : (whole left : Option Arm) → (now start : Named) → Type 0
-NotesAhead whole left now start = (arm : Arm) → whole ≡ Some arm → (rest : Arm) × (left ≡ Some rest) × (arm_naming rest now ≡ arm_naming arm start)
-
-noted_one : (o : Option Action) (r : Option Arm) (now new d : Named) (rest : Arm) → also o r ≡ Some rest → arm_naming rest now ≡ d → Notes o now new
-    → (left : Arm) × (r ≡ Some left) × (arm_naming left new ≡ d)
-noted_one None r now new d rest is same notes = absurd (cc is)
-noted_one (Some a) None now new d rest is same notes = absurd (cc is)
-noted_one (Some a) (Some left) now new d rest is same notes =
-    (left, refl, ap (arm_naming left) (notes a refl) ∙ ap (λ x. arm_naming x now) (some_is is) ∙ same)
-
-pub notes_on : (whole : Option Arm) (o : Option Action) (r : Option Arm) (now new start : Named) → Notes o now new → NotesAhead whole (also o r) now start → NotesAhead whole r new start
-notes_on whole o r now new start notes ahead arm is =
-    let so_far = ahead arm is in noted_one o r now new (arm_naming arm start) so_far.0 so_far.1 so_far.2 notes
-
-pub notes_end : (whole : Option Arm) (now start : Named) → NotesAhead whole (Some NoAction) now start → ArmNotes whole start now
-notes_end whole now start ahead arm is = let so_far = ahead arm is in ap (λ x. arm_naming x now) (some_is so_far.1) ∙ so_far.2
-
-pub notes_start : (whole : Option Arm) (start : Named) → NotesAhead whole whole start start
-notes_start whole start arm is = (arm, is, refl)
 
 -- ---- a run
 
