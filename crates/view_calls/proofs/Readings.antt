@@ -1,27 +1,16 @@
--- A trace is read in one way, and so are the answers to its file.
-use Rattle.std.proofs.Common.{◌≡◌, ◌≢◌, ◌<◌, ◌≤◌, ◌+◌, ℕ, Bool, true, false, List, [], ◌∷◌, ◌++◌, length, take, drop, Contains, IfSome, refl, sym, ap, subst, ◌∙◌, arith, append_assoc, inl, inr, nat_lt, if◌then◌else◌}
-use Rattle.std.specs.List.{All}
+-- What the file of a trace comes to is what its text is read as, and the first of its lines that is not lawful.
+use Rattle.std.proofs.Common.{◌≡◌, ◌<◌, ◌≤◌, ℕ, Bool, true, false, List, [], ◌∷◌, ◌++◌, length, IfSome, sym, ap, subst, ◌∙◌, arith, nat_lt, if◌then◌else◌}
 use Rattle.std.specs.Prelude.{IsSomeAnd}
 use Rattle.std.specs.declared.option.Option.{Option}
 use Rattle.std.specs.declared.option.Option.TheVariants.{None, Some}
 use Rattle.std.specs.declared.result.Result.{Result}
 use Rattle.std.specs.declared.result.Result.TheVariants.{Ok, Err}
 use Rattle.std.proofs.lemmas.Bool.Decides.{nat_tests}
-use Rattle.std.proofs.lemmas.Bool.{cases_lt}
-use Rattle.std.proofs.Math.Seq.{take-append_seam}
-use Rattle.std.proofs.lemmas.List.{append-nil, take-append-le, take-append-drop}
-use Rattle.std.proofs.lemmas.List.Elements.{All-contains, Contains-append_right}
 use Rattle.gp_base.specs.Files.{bytes_of}
 use Rattle.gp_base.specs.declared.limits.TheConstants.{MOST_FILE_BYTES}
 use Rattle.task_ast.specs.Tree.{Name}
 use Rattle.gp_audit.specs.declared.line.TraceLine.{TraceLine}
-use Rattle.gp_audit.specs.declared.line.TraceFault.{TraceFault}
-use Rattle.gp_audit.specs.declared.line.TraceFault.TheVariants as fault
-use Rattle.gp_audit.specs.Lines.{line_text, trace_text, IsNarrowLine}
 use Rattle.gp_audit.specs.Reading.{AnswersTrace, IsBrokenAt}
-use Rattle.gp_audit.proofs.Once.{lines_once, read_once}
-use Rattle.gp_audit.proofs.Parts.{cancel}
-use Rattle.gp_audit.proofs.Traces.{few-lines}
 use Rattle.call_cases.specs.declared.reading.Refusal.{Refusal}
 use Rattle.call_cases.specs.declared.reading.Refusal.TheVariants.{Usage, BadProgram, BadInput, ReadFault, OutOfMemory}
 use Rattle.call_cases.specs.Work.{Files, ToDo, Supplied, Spoils}
@@ -29,95 +18,11 @@ use Rattle.call_cases.specs.Journals.{dependence_for}
 use Rattle.call_cases.specs.Lines.{input_line}
 use Rattle.call_cases.specs.Refusals.{IsInputRefused, ReadsAmong, AnswersFile}
 use Rattle.call_cases.proofs.Loads.{only_one}
-use Rattle.view_calls.specs.Traces.{Reads, Judge, unlawful_in}
+use Rattle.audit_calls.specs.Tried.{Judge}
+use Rattle.audit_calls.proofs.Readings.{one_reading}
+use Rattle.view_calls.specs.Traces.{unlawful_in}
 use Rattle.view_calls.specs.Sights.{Sight, by_lines, by_rows}
 use Rattle.view_calls.specs.inner.Answers.{AnswersLines}
-
--- what was read, as an answer that memory may keep back
-abbrev pub told : Result (List TraceLine) ℕ → Result (List TraceLine) TraceFault
-told (Ok lines) = Ok lines
-told (Err row) = Err (fault.Line row)
-
-pub told_reads : (bytes : List ℕ) (result : Result (List TraceLine) ℕ) → Reads bytes result → AnswersTrace bytes (told result)
-told_reads bytes (Ok lines) is = is
-told_reads bytes (Err row) is = is
-
-pub told_lines : (result : Result (List TraceLine) ℕ) (lines : List TraceLine) → told result ≡ Ok lines → result ≡ Ok lines
-told_lines (Ok read) lines is = let same : read ≡ lines = cc is in ap Ok same
-told_lines (Err row) lines is = cc is
-
-pub told_something : (result : Result (List TraceLine) ℕ) → told result ≡ Err fault.OutOfMemory → ⊥
-told_something (Ok read) is = cc is
-told_something (Err row) is = cc is
-
--- the longer of two beginnings of a text goes on where the shorter ends
-goes_on : (xs r ys s : List ℕ) → xs ++ r ≡ ys ++ s → length xs ≤ length ys → ys ≡ xs ++ drop (length xs) ys
-goes_on xs r ys s same short =
-    let front = sym (take-append_seam xs r) ∙ (ap (λ text. take (length xs) text) same ∙ take-append-le (length xs) ys s short) in
-    sym (take-append-drop (length xs) ys) ∙ ap (λ text. text ++ drop (length xs) ys) (sym front)
-
--- where no line stands after some lines of a text, no more lines stand in it
-no_further : (xs ys : List TraceLine) (r s : List ℕ) → All IsNarrowLine xs → All IsNarrowLine ys
-    → ((l : TraceLine) (after : List ℕ) → IsNarrowLine l → r ≢ line_text l ++ after)
-    → trace_text xs ++ r ≡ trace_text ys ++ s → length (trace_text xs) ≤ length (trace_text ys) → length xs ≡ length ys
-no_further xs ys r s nx ny none same short = go once.0 once.1 (rest ∙ ap (λ text. text ++ s) once.2)
-  where
-    whole : trace_text ys ≡ trace_text xs ++ drop (length (trace_text xs)) (trace_text ys)
-    whole = goes_on (trace_text xs) r (trace_text ys) s same short
-
-    once : (zs : List TraceLine) × (ys ≡ xs ++ zs) × (drop (length (trace_text xs)) (trace_text ys) ≡ trace_text zs)
-    once = lines_once ys xs (drop (length (trace_text xs)) (trace_text ys)) ny nx whole
-
-    rest : r ≡ drop (length (trace_text xs)) (trace_text ys) ++ s
-    rest = cancel (trace_text xs) r (drop (length (trace_text xs)) (trace_text ys) ++ s)
-        (same ∙ (ap (λ text. text ++ s) whole ∙ append_assoc (trace_text xs) (drop (length (trace_text xs)) (trace_text ys)) s))
-
-    go : (zs : List TraceLine) → ys ≡ xs ++ zs → r ≡ trace_text zs ++ s → length xs ≡ length ys
-    go [] are is = ap length (sym (are ∙ append-nil xs))
-    go (z ∷ zs) are is =
-        absurd (none z (trace_text zs ++ s)
-        (All-contains IsNarrowLine ys z ny (subst (λ lines. Contains lines z) (sym are) (Contains-append_right xs (z ∷ zs) z (0, omega arith, refl))))
-        (is ∙ append_assoc (line_text z) (trace_text zs) s))
-
--- the first row that is no line has one number
-same_row : (xs ys : List TraceLine) (r s : List ℕ) → All IsNarrowLine xs → All IsNarrowLine ys
-    → ((l : TraceLine) (after : List ℕ) → IsNarrowLine l → r ≢ line_text l ++ after)
-    → ((l : TraceLine) (after : List ℕ) → IsNarrowLine l → s ≢ line_text l ++ after) → trace_text xs ++ r ≡ trace_text ys ++ s
-    → length xs ≡ length ys
-same_row xs ys r s nx ny none_r none_s same =
-    elim (cases_lt (length (trace_text xs)) (length (trace_text ys))) [
-      | inl below ↦ no_further xs ys r s nx ny none_r same (omega (arith, below))
-      | inr above ↦ sym (no_further ys xs s r ny nx none_s (sym same) (omega (arith, above)))
-    ]
-
-ok_reading : (bytes : List ℕ) (lines : List TraceLine) (other : Result (List TraceLine) ℕ) → Reads bytes (Ok lines) → Reads bytes other
-    → other ≡ Ok lines
-ok_reading bytes lines other is reads =
-    elim (read_once lines is.0 (told other) (subst (λ text. AnswersTrace text (told other)) is.1 (told_reads bytes other reads))) [
-      | inl same ↦ told_lines other lines same
-      | inr out ↦ absurd (told_something other out)
-    ]
-
--- a trace is read in one way
-pub one_reading : (bytes : List ℕ) (a b : Result (List TraceLine) ℕ) → Reads bytes a → Reads bytes b → a ≡ b
-one_reading bytes (Ok lines) b is other = sym (ok_reading bytes lines b is other)
-one_reading bytes (Err row) (Ok lines) is other = ok_reading bytes lines (Err row) other is
-one_reading bytes (Err row) (Err number) is other =
-    ap Err (is.counted ∙ (ap (λ n. n + 1) (same_row is.lines other.lines is.rest other.rest is.narrow other.narrow is.no_line other.no_line (sym is.bytes_are ∙ other.bytes_are)) ∙ sym other.counted))
-
--- no more lines than there may be bytes
-pub few_read : (text : List ℕ) (lines : List TraceLine) → length text ≤ MOST_FILE_BYTES → text ≡ trace_text lines
-    → length lines < 4294967295
-few_read text lines within is = let few = few-lines text [] lines (is ∙ sym (append-nil (trace_text lines))) in omega (arith, few)
-
--- no read failed at a refusal of a text
-pub input_unread : (T : Type 0) (names failed : List Name) (line : List ℕ) (refusal : Refusal) → IsInputRefused line refusal
-    → ReadsAmong {T = T} names failed failed (Err refusal)
-input_unread T names failed line Usage is = is
-input_unread T names failed line (BadProgram other) is = is
-input_unread T names failed line (BadInput other) is = refl
-input_unread T names failed line (ReadFault name) is = absurd is
-input_unread T names failed line OutOfMemory is = tt
 
 within_file : (text : List ℕ) → length text ≤ MOST_FILE_BYTES → nat_lt MOST_FILE_BYTES (length text) ≡ false
 within_file text within = grind (arith, nat_tests, within)

@@ -19,8 +19,8 @@ use Rattle.call_cases.specs.Answers.{Change, unwritten, TakesAll, TakesPart, Fai
 use Rattle.call_cases.specs.Headline.{IsStop, ReadsNothing}
 use Rattle.call_cases.proofs.OneCase.{for_known, for_each}
 use Rattle.call_cases.proofs.Headlines.{run_of_failed, run_of_memory, run_of_whole, run_headline, refused_headline, for_some, reads_failed}
+use Rattle.audit_calls.specs.Tried.{Judge}
 use Rattle.view_calls.specs.declared.words.Viewed.{Viewed}
-use Rattle.view_calls.specs.Traces.{Judge}
 use Rattle.view_calls.specs.Commands.{MayRead, IsShown, asking, commands}
 use Rattle.view_calls.specs.Sights.{Sight, text_of, status_by, status_of, absent_of}
 use Rattle.view_calls.specs.Lines.{absent_line, usage_line, read_fault_line, out_of_memory_line, line_of, under_own_name, refusal_line, refusal_status, fault_line, fault_status}

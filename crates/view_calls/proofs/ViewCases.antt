@@ -23,8 +23,9 @@ use Rattle.call_cases.specs.Headline.{ReadsNothing}
 use Rattle.call_cases.proofs.Answering.{refuses_map}
 use Rattle.call_cases.proofs.Further.{further_asking, further_case, further, refuses_further}
 use Rattle.call_cases.proofs.Loads.{only_one}
+use Rattle.audit_calls.specs.Tried.{Judge}
 use Rattle.view_calls.specs.declared.words.Viewed.{Viewed}
-use Rattle.view_calls.specs.Traces.{Judge, unlawful_in}
+use Rattle.view_calls.specs.Traces.{unlawful_in}
 use Rattle.view_calls.specs.Commands.{MayRead, of_run, the_trace, viewed_by, asking, commands}
 use Rattle.view_calls.specs.Sights.{Sight, by_lines, by_rows, by_bytes, by_trace, supplied}
 use Rattle.view_calls.specs.inner.Answers.{AnswersLines}

@@ -10,8 +10,8 @@ use Rattle.command_line.specs.declared.asked.Verb.TheVariants.{Run, One}
 use Rattle.command_line.specs.declared.why_words.Sought.{Sought}
 use Rattle.call_cases.specs.Commands.{Asking, Commands, Unlogged}
 use Rattle.call_cases.specs.RunCommands as gprs
+use Rattle.audit_calls.specs.Tried.{Judge}
 use Rattle.view_calls.specs.declared.words.Viewed.{Viewed}
-use Rattle.view_calls.specs.Traces.{Judge}
 use Rattle.view_calls.specs.Sights.{Sight, supplied, text_of, status_of}
 
 -- a whole run without a trace, and a position of a run

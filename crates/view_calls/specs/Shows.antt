@@ -8,7 +8,7 @@ use Rattle.call_cases.specs.Work.{Files}
 use Rattle.call_cases.specs.Case.{Case, ForCase, names_read}
 use Rattle.call_cases.specs.Answers.{Change, TakesAll, TakesPart, Fails, Grew, LineEnds}
 use Rattle.call_cases.specs.Headline.{Call, HasCaseLine, IsStop, Headline}
-use Rattle.view_calls.specs.Traces.{Judge}
+use Rattle.audit_calls.specs.Tried.{Judge}
 use Rattle.view_calls.specs.Commands.{asking, commands}
 use Rattle.view_calls.specs.Sights.{Sight, text_of, absent_of}
 use Rattle.view_calls.specs.Lines.{line_of, absent_line, read_fault_line, out_of_memory_line, write_fault_line, fault_line, fault_status}

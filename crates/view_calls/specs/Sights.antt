@@ -12,13 +12,14 @@ use Rattle.call_cases.specs.Journals.{dependence_for}
 use Rattle.call_cases.specs.Lines.{input_line}
 use Rattle.call_cases.specs.Case.{Case, Go}
 use Rattle.call_cases.specs.Decided.{program_in, work_of, files_read}
+use Rattle.audit_calls.specs.Tried.{Judge}
 use Rattle.run_views.specs.Order.{order_text}
 use Rattle.run_views.specs.Timeline.{timeline_text}
 use Rattle.run_views.specs.Why.{why_text}
 use Rattle.view_calls.specs.declared.words.Viewed.{Viewed}
 use Rattle.view_calls.specs.declared.reading.Trace.{Trace}
 use Rattle.view_calls.specs.declared.reading.Viewing.{Viewing}
-use Rattle.view_calls.specs.Traces.{Judge, unlawful_in}
+use Rattle.view_calls.specs.Traces.{unlawful_in}
 
 -- a run, with a position of it where one is asked for, and with the lines of its trace where there is one
 pub record Sight : Type 0 where

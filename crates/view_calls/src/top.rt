@@ -5,7 +5,7 @@ ghost use Rattle.gp_base.specs.Sinks.{AppendsPrefix, HasCause};
 ghost use Rattle.command_line.specs.Words.{texts, IsWithinLimits};
 ghost use Rattle.call_cases.specs.Answers.{change_of};
 ghost use Rattle.call_cases.specs.Decided.{work_of};
-ghost use Rattle.view_calls.specs.Traces.{Judge};
+ghost use Rattle.audit_calls.specs.Tried.{Judge};
 ghost use Rattle.view_calls.specs.Commands.{viewed_by};
 ghost use Rattle.view_calls.specs.Sights.{lines_in, text_for, view_of, text_of, absent_of, sight_of};
 ghost use Rattle.view_calls.specs.Shows.{Shows, ShowEnds};

@@ -5,7 +5,7 @@ use Rattle.gp_audit.specs.declared.line.TraceLine.{TraceLine}
 use Rattle.call_cases.specs.declared.reading.Refusal.{Refusal}
 use Rattle.call_cases.specs.declared.reading.Refusal.TheVariants.{BadInput, ReadFault, OutOfMemory}
 use Rattle.call_cases.specs.Work.{ToDo, Supplies, Spoils}
-use Rattle.view_calls.specs.Traces.{Judge}
+use Rattle.audit_calls.specs.Tried.{Judge}
 use Rattle.view_calls.specs.Sights.{by_bytes}
 
 -- the answer to the file of a trace with these bytes, or to none, after these files
