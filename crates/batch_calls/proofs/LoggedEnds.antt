@@ -1,5 +1,5 @@
 -- How a run ends of which a log is kept, and how a work ends by its command.
-use Rattle.std.proofs.Common.{◌≡◌, ◌⊎◌, ℕ, List, [], refl, sym, ap, ◌∙◌, subst, inl, inr, arith, Result, Ok, Err}
+use Rattle.std.proofs.Common.{◌≡◌, ◌⊎◌, ℕ, List, refl, sym, ap, ◌∙◌, subst, inl, inr, arith, Result, Ok, Err}
 use Rattle.std.specs.declared.option.Option.{Option}
 use Rattle.gp_base.specs.declared.journal.Journal.{Journal}
 use Rattle.gp_base.proofs.Written.{prefix_none}
@@ -14,7 +14,7 @@ use Rattle.command_line.proofs.KeepsNoLog.{KeepsNoLog}
 use Rattle.call_cases.specs.Work.{ToDo}
 use Rattle.call_cases.specs.PlainText.{plain_ran}
 use Rattle.call_cases.specs.Lines.{out_of_memory_line}
-use Rattle.call_cases.specs.RunCommands.{IsWhole, end_status, work_status, work_text, trace_for}
+use Rattle.call_cases.specs.RunCommands.{end_status, work_status, work_text, trace_for}
 use Rattle.call_cases.specs.Answers.{Change, Fails, unwritten, IsEmpty, LineEnds, RunEnds, LogEnds, log_finished, log_no_memory, log_write_failed, log_unbegun}
 use Rattle.call_cases.proofs.Headlines.{run_of_memory}
 use Rattle.batch_calls.specs.LogCommands.{log_for, TakesLog}

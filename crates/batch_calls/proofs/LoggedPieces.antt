@@ -1,12 +1,11 @@
 -- Runs of which a log is kept: from what notes told of a batch to the log of a work.
-use Rattle.std.proofs.Common.{◌≡◌, ◌⊎◌, ℕ, ◌+◌, ◌-◌, ◌≤◌, zero, suc, List, [], ◌∷◌, ◌++◌, length, take, codes, Result, Ok, Err, IfOk, inl, inr, refl, sym, ap, subst, ◌∙◌, arith, length-append}
+use Rattle.std.proofs.Common.{◌≡◌, ◌⊎◌, ℕ, ◌+◌, ◌-◌, ◌≤◌, zero, suc, List, [], ◌∷◌, length, take, codes, Result, Ok, Err, IfOk, inl, inr, refl, sym, ap, subst, ◌∙◌, arith, length-append}
 use Rattle.std.specs.declared.option.Option.{Option}
 use Rattle.std.specs.declared.option.Option.TheVariants.{None}
 use Rattle.std.specs.Io.KnownBytes.{Appends}
 use Rattle.std.proofs.lemmas.Bool.{false≢true}
 use Rattle.std.proofs.lemmas.List.{take_all}
 use Rattle.std.proofs.Math.Nat.{le_refl}
-use Rattle.gp_base.specs.Sinks.{Rose}
 use Rattle.gp_base.specs.declared.limits.Limits.{Limits}
 use Rattle.gp_base.specs.declared.feed.Inputs.{Inputs}
 use Rattle.gp_base.specs.declared.journal.Journal.{Journal}
@@ -17,11 +16,10 @@ use Rattle.task_ast.specs.declared.effect.Effect.{Effect}
 use Rattle.dependence.specs.Journal.{stage}
 use Rattle.reorder_list.specs.declared.report.Report.{Report}
 use Rattle.reorder_list.specs.declared.report.EngineStop.{EngineStop}
-use Rattle.reorder_list.specs.declared.report.StopWhy.TheVariants.{WriteFault}
 use Rattle.crew.specs.Noted.{left_from, left_in_order}
 use Rattle.whole_run.specs.Recovering as whole
 use Rattle.whole_run.specs.View.{Batch, program_in}
-use Rattle.whole_run.specs.Drive.{journal_in, stage_in}
+use Rattle.whole_run.specs.Drive.{stage_in}
 use Rattle.whole_run.specs.Notes.{left_below, NotesRun}
 use Rattle.whole_run.specs.declared.recovery.Recovery.TheVariants.{Selective}
 use Rattle.retirement_log.specs.Rows.{row_text, log_text}
@@ -30,9 +28,9 @@ use Rattle.retirement_log.specs.Telling.{Tells, TellsPart}
 use Rattle.retirement_log.specs.declared.notes.LogNotes.{LogNotes}
 use Rattle.call_cases.specs.Work.{ToDo}
 use Rattle.call_cases.specs.Journals.{run_of, recovering_for, retired_in, IsCompleteOf}
-use Rattle.call_cases.specs.Answers.{Change, IsEmpty, TakesAll}
+use Rattle.call_cases.specs.Answers.{Change, IsEmpty}
 use Rattle.call_cases.proofs.RunSound.{none_retired}
-use Rattle.batch_calls.specs.LogCommands.{log_for, TakesLog}
+use Rattle.batch_calls.specs.LogCommands.{TakesLog}
 use Rattle.batch_calls.specs.inner.Logged.{IsLogged}
 use Rattle.batch_calls.specs.inner.Planned.{recovery_of}
 use Rattle.batch_calls.specs.inner.Ran.{IsReportOf}

@@ -1,5 +1,5 @@
 -- What is told of attempts, by those whose results were taken.
-use Rattle.std.specs.Prelude.{ℕ, unwrap_or}
+use Rattle.std.specs.Prelude.{unwrap_or}
 use Rattle.std.specs.Ordering.{nat_cmp, ordering_then}
 use Rattle.std.specs.BTreeMap.{get}
 use Rattle.run_views.specs.declared.told.Tellings.{Tellings}

@@ -1,4 +1,4 @@
-use Rattle.std.proofs.Common.{◌⊎◌, inl, inr, ap, sym, subst, Err}
+use Rattle.std.proofs.Common.{◌⊎◌, inl, ap, sym, subst, Err}
 use Rattle.call_cases.specs.Answers.{Fails, IsEmpty, change_of}
 use Rattle.batch_calls.specs.inner.Planned.{work_planned}
 use Rattle.batch_calls.specs.inner.Ran.{WritesLines}

@@ -1,4 +1,4 @@
-use Rattle.std.proofs.Common.{◌≡◌, None, Some, sym, subst, ap, ◌∙◌}
+use Rattle.std.proofs.Common.{◌≡◌, None, Some, sym, subst}
 use Rattle.command_line.specs.Words.{texts}
 use Rattle.call_cases.specs.Refusals.{TouchesShelf}
 use Rattle.call_cases.proofs.Answering.{usage_case, asked_case}
