@@ -83,7 +83,8 @@ module _ (run : List Subthread) (struck front : ℕ) where
   link-by q (itself l) other = absurd (other refl)
   link-by q (later {p = p} d l m c) other =
       let below : nat_lt p q ≡ true = grind (arith, nat_tests, l) in
-      let found = find-some (test q) redo p (complete (clash_in (feet_of run)) struck front p d) (both (nat_lt p q) (clash_in (feet_of run) p q) below c) in
+      let found = find-some (test q) redo p (complete (clash_in (feet_of run)) struck front p d)
+      (both (nat_lt p q) (clash_in (feet_of run) p q) below c) in
       let passed = parts (nat_lt found.0 q) (clash_in (feet_of run) found.0 q) found.3 in
       let low : found.0 < q = grind (arith, nat_tests, passed.0) in
       (found.0, linked-is q ∙ found.1, low, found.2, passed.1)
@@ -113,14 +114,18 @@ module _ (heads : List Head) (run : List Subthread) (struck front : ℕ) where
 
   ends-here : (most : ℕ) → Ends most struck
   ends-here zero = ([], refl)
-  ends-here (suc most) =
-      ([], ap (λ link. option_map_or (λ r. link_text heads struck r (slice_get parties struck) (slice_get parties r) ++ down most r) link (struck_line struck)) (struck-last run struck front))
+  ends-here (suc most) = (
+    [],
+    ap (λ link. option_map_or (λ r. link_text heads struck r (slice_get parties struck) (slice_get parties r) ++ down most r) link
+        (struck_line struck)) (struck-last run struck front),
+  )
 
   ends-later : (most q r : ℕ) → linked parties (redone run struck front) q ≡ Some r → Ends most r → Ends (suc most) q
   ends-later most q r is (lines, told) =
       let line = link_text heads q r (slice_get parties q) (slice_get parties r) in (
         line ++ lines,
-        ap (λ link. option_map_or (λ x. link_text heads q x (slice_get parties q) (slice_get parties x) ++ down most x) link (struck_line q)) is
+        ap (λ link. option_map_or (λ x. link_text heads q x (slice_get parties q) (slice_get parties x) ++ down most x) link
+            (struck_line q)) is
             ∙ ap (λ l. line ++ l) told ∙ sym (append_assoc line lines (struck_line struck)),
       )
 
@@ -132,7 +137,8 @@ module _ (heads : List Head) (run : List Subthread) (struck front : ℕ) where
       go false apart = other (λ same. false≢true (sym apart ∙ eq-eqb q struck same))
 
   ends : (most q : ℕ) → q ≤ most → IsRedone run struck front q → Ends most q
-  ends zero q fits among = by-case zero q (λ apart. let low = (link-law run struck front q among apart).2 in absurd (omega (arith, low, fits)))
+  ends zero q fits among =
+      by-case zero q (λ apart. let low = (link-law run struck front q among apart).2 in absurd (omega (arith, low, fits)))
   ends (suc most) q fits among =
       by-case (suc most) q (λ apart.
       let link = link-law run struck front q among apart in

@@ -54,7 +54,8 @@ length-numbers a zero = refl
 length-numbers a (suc n) = ap suc (length-numbers (suc a) n)
 
 -- a number that fails a test is passed
-pub number-passed : (test : ℕ → Bool) (c n : ℕ) → c < n → test c ≡ false → find test (numbers c (n - c)) ≡ find test (numbers (c + 1) (n - (c + 1)))
+pub number-passed : (test : ℕ → Bool) (c n : ℕ) → c < n → test c ≡ false
+    → find test (numbers c (n - c)) ≡ find test (numbers (c + 1) (n - (c + 1)))
 number-passed test c n less is =
     ap (find test) (numbers-next c n less) ∙ ap (λ b. cond b (Some c) (find test (numbers (c + 1) (n - (c + 1))))) is
 
@@ -64,7 +65,8 @@ party-at [] q d l = absurd (omega (arith, l))
 party-at (s ∷ steps) zero d l = refl
 party-at (s ∷ steps) (suc q) d l = party-at steps q d (omega (arith, l))
 
-pub line-shown : (heads : List Head) (steps : List Step) (q r cells : ℕ) (d e : Step) (link : Link) → q < length steps → r < length steps → cells ≡ cells_in (records_of heads)
+pub line-shown : (heads : List Head) (steps : List Step) (q r cells : ℕ) (d e : Step) (link : Link) → q < length steps → r < length steps
+    → cells ≡ cells_in (records_of heads)
     → link ≡ link_of cells (party_in (get_or steps q d)) (party_in (get_or steps r e))
     → link_line heads q r link ≡ link_text heads q r (slice_get (map party_in steps) q) (slice_get (map party_in steps) r)
 line-shown heads steps q r cells d e link lq lr same is =
@@ -74,23 +76,28 @@ line-shown heads steps q r cells d e link lq lr same is =
 module _ (heads : List Head) (parties : List Party) (redo : List ℕ) (text now all : List ℕ) (most links at : ℕ) where
   abbrev after_link : Option ℕ → List ℕ
   after_link link =
-      option_map_or (λ r. link_text heads at r (slice_get parties at) (slice_get parties r) ++ chain heads parties redo (most - (links + 1)) r) link (struck_line at)
+      option_map_or (λ r. link_text heads at r (slice_get parties at) (slice_get parties r)
+      ++ chain heads parties redo (most - (links + 1)) r) link (struck_line at)
 
-  next-chain : links < most → (link : Option ℕ) → linked parties redo at ≡ link → chain heads parties redo (most - links) at ≡ after_link link
+  next-chain : links < most → (link : Option ℕ) → linked parties redo at ≡ link
+      → chain heads parties redo (most - links) at ≡ after_link link
   next-chain less link is =
       let more : most - links ≡ suc (most - (links + 1)) = omega arith in
       ap (λ m. chain heads parties redo m at) more ∙ ap after_link is
 
   -- one link more was told
   pub chain-kept : (r : ℕ) → links < most → text ++ chain heads parties redo (most - links) at ≡ all → linked parties redo at ≡ Some r
-      → now ≡ text ++ link_text heads at r (slice_get parties at) (slice_get parties r) → now ++ chain heads parties redo (most - (links + 1)) r ≡ all
+      → now ≡ text ++ link_text heads at r (slice_get parties at) (slice_get parties r)
+      → now ++ chain heads parties redo (most - (links + 1)) r ≡ all
   chain-kept r less so_far is told =
       ap (λ l. l ++ chain heads parties redo (most - (links + 1)) r) told
-      ∙ append_assoc text (link_text heads at r (slice_get parties at) (slice_get parties r)) (chain heads parties redo (most - (links + 1)) r)
+      ∙ append_assoc text (link_text heads at r (slice_get parties at) (slice_get parties r))
+      (chain heads parties redo (most - (links + 1)) r)
       ∙ sym (ap (λ l. text ++ l) (next-chain less (Some r) is)) ∙ so_far
 
   -- there is no link more
-  pub chain-ends : links < most → text ++ chain heads parties redo (most - links) at ≡ all → linked parties redo at ≡ None → now ≡ text ++ struck_line at → now ≡ all
+  pub chain-ends : links < most → text ++ chain heads parties redo (most - links) at ≡ all → linked parties redo at ≡ None
+      → now ≡ text ++ struck_line at → now ≡ all
   chain-ends less so_far is told = told ∙ sym (ap (λ l. text ++ l) (next-chain less None is)) ∙ so_far
 
 -- ---- the text of a run
@@ -106,7 +113,8 @@ lines-are : (heads : List Head) (run : List Subthread) (made : List Restart) (p 
 lines-are heads run made p s =
     ap₂ (λ line parties. line ++ restart_texts heads parties p 1 made ++ redone_line p made) (line_seen heads p s) (parties-are run)
 
-subthread-at : (run : List Subthread) (p : ℕ) (d : Step) → p < length run → (s : Subthread) × (slice_get run p ≡ Some s) × (get_or (map shown run) p d ≡ shown s)
+subthread-at : (run : List Subthread) (p : ℕ) (d : Step) → p < length run
+    → (s : Subthread) × (slice_get run p ≡ Some s) × (get_or (map shown run) p d ≡ shown s)
 subthread-at [] p d l = absurd (omega (arith, l))
 subthread-at (s ∷ run) zero d l = (s, refl, refl)
 subthread-at (s ∷ run) (suc p) d l = subthread-at run p d (omega (arith, l))
@@ -116,7 +124,8 @@ none-at [] p l = refl
 none-at (s ∷ run) zero l = absurd (omega (arith, l))
 none-at (s ∷ run) (suc p) l = none-at run p (omega (arith, l))
 
-module _ (program : Program) (inputs : Inputs) (limits : Limits) (run : PlainRun) (is : IsPlainRun program inputs limits run) (faults : List Fault) (p : ℕ) where
+module _ (program : Program) (inputs : Inputs) (limits : Limits) (run : PlainRun) (is : IsPlainRun program inputs limits run)
+    (faults : List Fault) (p : ℕ) where
   abbrev plain : List Subthread
   plain = order program inputs limits
 
@@ -124,12 +133,16 @@ module _ (program : Program) (inputs : Inputs) (limits : Limits) (run : PlainRun
   same-length = ap length is.order ∙ length-map plain shown
 
   pub cells-counted : length run.records ≡ cells_in (records_of program.heads)
-  cells-counted = ap length is.records ∙ length-map (numbers 0 (cells_in (records_of program.heads))) (cell_value (last_state program inputs limits).state)
+  cells-counted =
+      ap length is.records
+      ∙ length-map (numbers 0 (cells_in (records_of program.heads))) (cell_value (last_state program inputs limits).state)
       ∙ length-numbers 0 (cells_in (records_of program.heads))
 
   -- the text of the code's run is that of the plain run
-  pub why-shown : (heads : List Head) (made : List Restart) (d : Step) (text : List ℕ) → heads ≡ program.heads → made ≡ restarts (dependence_by run.order) faults → p < length run.order
-      → text ≡ why_lines heads (map party_in run.order) made p (seen (get_or run.order p d)) → Some text ≡ why_text program inputs limits faults p
+  pub why-shown : (heads : List Head) (made : List Restart) (d : Step) (text : List ℕ) → heads ≡ program.heads
+      → made ≡ restarts (dependence_by run.order) faults → p < length run.order
+      → text ≡ why_lines heads (map party_in run.order) made p (seen (get_or run.order p d))
+      → Some text ≡ why_text program inputs limits faults p
   unfolding why_text
   why-shown heads made d text same_heads made_is low told =
       let all : made ≡ restarts_of plain faults = made_is ∙ ap (λ r. restarts r faults) (ap dependence_by is.order ∙ order-is plain) in
@@ -146,4 +159,5 @@ module _ (program : Program) (inputs : Inputs) (limits : Limits) (run : PlainRun
   pub why-past : length run.order ≤ p → None ≡ why_text program inputs limits faults p
   unfolding why_text
   why-past past =
-      sym (ap (option_map (why_lines program.heads (map party_of plain) (restarts_of plain faults) p)) (none-at plain p (omega (arith, past, same-length))))
+      sym (ap (option_map (why_lines program.heads (map party_of plain) (restarts_of plain faults) p))
+      (none-at plain p (omega (arith, past, same-length))))

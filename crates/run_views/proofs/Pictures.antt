@@ -48,7 +48,8 @@ column-bare : (frame : Frame) (heads : List Head) (tells : Tells) (restarts : Li
     → column_of frame heads tells restarts p (bare s) ≡ column_of frame heads tells restarts p s
 unfolding column_of
 column-bare frame heads tells restarts p s =
-    ap (λ own. cond (nat_eq (p % 40) 0) (rows frame p frame.threads) [] ++ words (codes "column") (left p + 16) (top frame p + 12) (decimal p) ++ own)
+    ap (λ own. cond (nat_eq (p % 40) 0) (rows frame p frame.threads) []
+    ++ words (codes "column") (left p + 16) (top frame p + 12) (decimal p) ++ own)
     (boxes-bare frame heads tells p s 0 1 restarts)
 
 columns-seen : (frame : Frame) (heads : List Head) (tells : Tells) (restarts : List Restart) (p : ℕ) (run : List Subthread)
@@ -66,12 +67,14 @@ length-seen : (run : List Subthread) → length (map seen (map shown run)) ≡ l
 length-seen run = length-map (map shown run) seen ∙ length-map run shown
 
 frame-seen : (run : List Subthread) (restarts : List Restart) → frame_of (map seen (map shown run)) restarts ≡ frame_of run restarts
-frame-seen run restarts = λ i. record { positions = length-seen run i; threads = rows-seen run i; lanes = lanes_for restarts (length-seen run i) }
+frame-seen run restarts = λ i.
+    record { positions = length-seen run i; threads = rows-seen run i; lanes = lanes_for restarts (length-seen run i) }
 
 picture-seen : (traced : Bool) (heads : List Head) (tells : Tells) (run : List Subthread) (ending : End) (restarts : List Restart)
     → picture traced heads tells (map seen (map shown run)) ending restarts ≡ picture traced heads tells run ending restarts
 picture-seen traced heads tells run ending restarts =
-    let from : Frame → List ℕ → List ℕ = λ frame own. opening traced frame (length restarts) ending ++ own ++ restart_marks frame 1 restarts ++ codes "</svg>\n" in
+    let from : Frame → List ℕ → List ℕ = λ frame own. opening traced frame (length restarts) ending ++ own ++ restart_marks frame 1 restarts
+    ++ codes "</svg>\n" in
     ap (λ frame. from frame (columns frame heads tells restarts 0 (map seen (map shown run)))) (frame-seen run restarts)
     ∙ ap (from (frame_of run restarts)) (columns-seen (frame_of run restarts) heads tells restarts 0 run)
 
@@ -82,27 +85,39 @@ still-there f (Some x) = refl
 
 -- no restart has a front past the end of the run
 fronts-low : (dependence : Dependence) (faults : List Fault) (k : ℕ)
-    → ((progress dependence faults k).front ≤ dependence.count) × All (λ (r : Restart). r.front ≤ dependence.count) (progress dependence faults k).made
+    → ((progress dependence faults k).front ≤ dependence.count)
+    × All (λ (r : Restart). r.front ≤ dependence.count) (progress dependence faults k).made
 fronts-low dependence faults zero = (omega arith, All-nil (λ (r : Restart). r.front ≤ dependence.count))
 fronts-low dependence faults (suc k) = go (struck_next dependence faults (progress dependence faults k)) (fronts-low dependence faults k)
   where
-    go : (o : Option ℕ) → ((progress dependence faults k).front ≤ dependence.count) × All (λ (r : Restart). r.front ≤ dependence.count) (progress dependence faults k).made
-        → ((advance_by dependence (progress dependence faults k) o).front ≤ dependence.count) × All (λ (r : Restart). r.front ≤ dependence.count) (advance_by dependence (progress dependence faults k) o).made
-    go (Some p) h = (h.0, All-push (λ (r : Restart). r.front ≤ dependence.count) (progress dependence faults k).made (restart_of dependence (progress dependence faults k) p) h.1 h.0)
+    go : (o : Option ℕ)
+        → ((progress dependence faults k).front ≤ dependence.count)
+        × All (λ (r : Restart). r.front ≤ dependence.count) (progress dependence faults k).made
+        → ((advance_by dependence (progress dependence faults k) o).front ≤ dependence.count)
+        × All (λ (r : Restart). r.front ≤ dependence.count) (advance_by dependence (progress dependence faults k) o).made
+    go (Some p) h = (
+      h.0,
+      All-push (λ (r : Restart). r.front ≤ dependence.count) (progress dependence faults k).made
+          (restart_of dependence (progress dependence faults k) p) h.1 h.0,
+    )
     go None h = (omega arith, h.1)
 
-module _ (program : Program) (inputs : Inputs) (limits : Limits) (run : PlainRun) (is : IsPlainRun program inputs limits run) (few : limits.subthreads ≤ MOST_SUBTHREADS) where
+module _ (program : Program) (inputs : Inputs) (limits : Limits) (run : PlainRun) (is : IsPlainRun program inputs limits run)
+    (few : limits.subthreads ≤ MOST_SUBTHREADS) where
   -- a run has no more steps than subthreads are allowed
   pub few-steps : length run.order ≤ 200000
   few-steps =
-      let count : length (order program inputs limits) ≤ limits.subthreads = count_law (tree_machine program inputs limits) program inputs limits in
+      let count : length (order program inputs limits) ≤ limits.subthreads =
+      count_law (tree_machine program inputs limits) program inputs limits in
       let same = ap length is.order ∙ length-map (order program inputs limits) shown in
       omega (arith, count, same)
 
   module _ (faults : List Fault) (made : List Restart) (made_is : made ≡ restarts (dependence_by run.order) faults) where
     -- no more restarts than faults
     pub few-made : length faults ≤ MOST_FAULTS → length made ≤ 1000
-    few-made most = let all = few-restarts (dependence_by run.order) (steps-struck run.order) faults in let same = ap length made_is in omega (arith, all, same)
+    few-made most =
+        let all = few-restarts (dependence_by run.order) (steps-struck run.order) faults in let same = ap length made_is in
+        omega (arith, all, same)
 
     pub low-fronts : All (λ (r : Restart). r.front ≤ 200000) made
     low-fronts k d l =
@@ -112,7 +127,8 @@ module _ (program : Program) (inputs : Inputs) (limits : Limits) (run : PlainRun
         omega (arith, here, steps)
 
     -- the picture of the code's run is that of the plain run
-    pub picture-shown : (heads : List Head) → heads ≡ program.heads → (trace : Option (List TraceLine)) (traced : Bool) → traced ≡ is_some trace
+    pub picture-shown : (heads : List Head) → heads ≡ program.heads → (trace : Option (List TraceLine)) (traced : Bool)
+        → traced ≡ is_some trace
         → (tells : Tells) → ((p attempt : ℕ) → tells p attempt ≡ told_of trace p attempt)
         → picture traced heads tells (map seen run.order) run.end made ≡ timeline_text program inputs limits faults trace
     unfolding timeline_text

@@ -30,7 +30,8 @@ child_written s = go s.child (map loc.Rec (named_by s.actions).writes) (no_regis
 -- a step is seen as the subthread that it shows
 pub line_seen : (heads : List Head) (p : ℕ) (s : Subthread) → order_line heads p (seen (shown s)) ≡ order_line heads p s
 line_seen heads p s =
-    ap (λ child. order_line heads p (record { thread = s.thread; begins = s.begins; child = child; held = s.held; actions = []; lines = s.lines })) (child_written s)
+    ap (λ child. order_line heads p
+    (record { thread = s.thread; begins = s.begins; child = child; held = s.held; actions = []; lines = s.lines })) (child_written s)
 
 lines_seen : (heads : List Head) (p : ℕ) (run : List Subthread) → order_lines heads p (map seen (map shown run)) ≡ order_lines heads p run
 lines_seen heads p [] = refl
@@ -42,15 +43,20 @@ pub text_seen : (program : Program) (inputs : Inputs) (limits : Limits) (run : P
 unfolding order_text
 text_seen program inputs limits run is =
     ap₂ (λ steps ending. codes "order\n" ++ order_lines program.heads 0 (map seen steps) ++ end_line ending) is.order is.end
-    ∙ ap (λ lines. codes "order\n" ++ lines ++ end_line (end program inputs limits)) (lines_seen program.heads 0 (order program inputs limits))
+    ∙ ap (λ lines. codes "order\n" ++ lines ++ end_line (end program inputs limits))
+    (lines_seen program.heads 0 (order program inputs limits))
 
 -- the same of a text that was put together piece by piece
-pub text_shown : (program : Program) (inputs : Inputs) (limits : Limits) (run : PlainRun) (first second third text : List ℕ) (heads : List Head) (steps : List Step) → IsPlainRun program inputs limits run
-    → first ≡ codes "order\n" → heads ≡ program.heads → steps ≡ run.order → second ≡ first ++ order_lines heads 0 (map seen steps) → third ≡ second ++ end_line run.end → text ≡ third
+pub text_shown : (program : Program) (inputs : Inputs) (limits : Limits) (run : PlainRun) (first second third text : List ℕ)
+    (heads : List Head) (steps : List Step) → IsPlainRun program inputs limits run
+    → first ≡ codes "order\n" → heads ≡ program.heads → steps ≡ run.order → second ≡ first ++ order_lines heads 0 (map seen steps)
+    → third ≡ second ++ end_line run.end → text ≡ third
     → text ≡ order_text program inputs limits
 text_shown program inputs limits run first second third text heads steps is begun same_heads same_steps lines ends taken =
-    let from : List ℕ → List Head → List Step → List ℕ = λ bytes heads steps. (bytes ++ order_lines heads 0 (map seen steps)) ++ end_line run.end in
+    let from : List ℕ → List Head → List Step → List ℕ =
+    λ bytes heads steps. (bytes ++ order_lines heads 0 (map seen steps)) ++ end_line run.end in
     taken ∙ ends ∙ ap (λ l. l ++ end_line run.end) lines
-    ∙ ap (λ l. from l heads steps) begun ∙ ap (λ h. from (codes "order\n") h steps) same_heads ∙ ap (λ l. from (codes "order\n") program.heads l) same_steps
+    ∙ ap (λ l. from l heads steps) begun ∙ ap (λ h. from (codes "order\n") h steps) same_heads
+    ∙ ap (λ l. from (codes "order\n") program.heads l) same_steps
     ∙ append_assoc (codes "order\n") (order_lines program.heads 0 (map seen run.order)) (end_line run.end)
     ∙ text_seen program inputs limits run is

@@ -41,7 +41,8 @@ module _ (judge : Judge) (names : List Name) (file : Name) (position : Option �
   -- a text that is short enough comes to what it is read as
   by_reading : (text : List ℕ) (read : Result (List TraceLine) ℕ) → length text ≤ MOST_FILE_BYTES → judge.lines_of text ≡ read
       → short_or (nat_lt MOST_FILE_BYTES (length text)) (judge.lines_of text) ≡ by_rows judge names file position work read
-  by_reading text read within is = ap (λ b. short_or b (judge.lines_of text)) (within_file text within) ∙ ap (by_rows judge names file position work) is
+  by_reading text read within is =
+      ap (λ b. short_or b (judge.lines_of text)) (within_file text within) ∙ ap (by_rows judge names file position work) is
 
   by_line : (text : List ℕ) (lines : List TraceLine) (unlawful : Option ℕ) → length text ≤ MOST_FILE_BYTES → judge.lines_of text ≡ Ok lines
       → unlawful_in (judge.verdict_of (dependence_for work) work.faults lines) ≡ unlawful
@@ -53,12 +54,14 @@ module _ (judge : Judge) (names : List Name) (file : Name) (position : Option �
       → AnswersLines judge names file position work (Some text) (Ok lines)
   lines_told text lines within is judged = by_line text lines None within is judged
 
-  pub unlawful_told : (text : List ℕ) (lines : List TraceLine) (row : ℕ) (refusal : Refusal) → length text ≤ MOST_FILE_BYTES → judge.lines_of text ≡ Ok lines
+  pub unlawful_told : (text : List ℕ) (lines : List TraceLine) (row : ℕ) (refusal : Refusal) → length text ≤ MOST_FILE_BYTES
+      → judge.lines_of text ≡ Ok lines
       → unlawful_in (judge.verdict_of (dependence_for work) work.faults lines) ≡ Some row
       → IsInputRefused (input_line file 1 row) refusal → AnswersLines judge names file position work (Some text) (Err refusal)
   unlawful_told text lines row Usage within is judged refused = refused
   unlawful_told text lines row (BadProgram line) within is judged refused = refused
-  unlawful_told text lines row (BadInput line) within is judged refused = by_line text lines (Some row) within is judged ∙ ap (Spoils (names ++ file ∷ [])) (sym refused)
+  unlawful_told text lines row (BadInput line) within is judged refused =
+      by_line text lines (Some row) within is judged ∙ ap (Spoils (names ++ file ∷ [])) (sym refused)
   unlawful_told text lines row (ReadFault name) within is judged refused = absurd refused
   unlawful_told text lines row OutOfMemory within is judged refused = tt
 
@@ -67,7 +70,8 @@ module _ (judge : Judge) (names : List Name) (file : Name) (position : Option �
   row_told text row Usage within broken is = is
   row_told text row (BadProgram line) within broken is = is
   row_told text row (BadInput line) within broken is =
-      by_reading text (Err row) within (one_reading text (judge.lines_of text) (Err row) (judge.reads text) broken) ∙ ap (Spoils (names ++ file ∷ [])) (sym is)
+      by_reading text (Err row) within (one_reading text (judge.lines_of text) (Err row) (judge.reads text) broken)
+      ∙ ap (Spoils (names ++ file ∷ [])) (sym is)
   row_told text row (ReadFault name) within broken is = absurd is
   row_told text row OutOfMemory within broken is = tt
 
@@ -77,12 +81,14 @@ module _ (judge : Judge) (names : List Name) (file : Name) (position : Option �
       → AnswersLines judge names file position work (Some text) result
       → IfSome files (λ told. AnswersLines judge names file position work (bytes_of told file) result)
   file_told None text result is answers = tt
-  file_told (Some files) text result is answers = subst (λ bytes. AnswersLines judge names file position work bytes result) (sym is.0) answers
+  file_told (Some files) text result is answers =
+      subst (λ bytes. AnswersLines judge names file position work bytes result) (sym is.0) answers
 
   long_told : (bytes : Option (List ℕ)) (line : List ℕ) → line ≡ input_line file 6 0
       → IsSomeAnd bytes (λ text. MOST_FILE_BYTES < length text) → AnswersLines judge names file position work bytes (Err (BadInput line))
   long_told None line is above = absurd above
-  long_told (Some text) line is above = ap (λ b. short_or b (judge.lines_of text)) (past_file text above) ∙ ap (Spoils (names ++ file ∷ [])) (sym is)
+  long_told (Some text) line is above =
+      ap (λ b. short_or b (judge.lines_of text)) (past_file text above) ∙ ap (Spoils (names ++ file ∷ [])) (sym is)
 
   pub unread_told : (T : Type 0) (files : Option Files) (before now : List Name) (refusal : Refusal)
       → IfSome files (λ told. AnswersFile file (bytes_of told file) (Err refusal))

@@ -37,17 +37,24 @@ shown_apart status (inr is) = inr (inl is)
 module _ (judge : Judge) where
   commands_sound : AreSound (commands judge)
   commands_sound =
-      record { ends = λ sight. sight_status (absent_of sight); apart = shown_apart; begins = λ sight journal empty. tt; unbegun = λ sight journal written faults empty. tt }
+      record {
+        ends = λ sight. sight_status (absent_of sight);
+        apart = shown_apart;
+        begins = λ sight journal empty. tt;
+        unbegun = λ sight journal written faults empty. tt;
+      }
 
   -- a line ends alike whatever it says, where no bytes are told
-  untold_ends : (due : ℕ) (line other : List ℕ) (err : Change) (status : ℕ) → LineEnds due line err status → LineEnds due other (untold err) status
+  untold_ends : (due : ℕ) (line other : List ℕ) (err : Change) (status : ℕ) → LineEnds due line err status
+      → LineEnds due other (untold err) status
   untold_ends due line other err status (whole all) = whole tt
   untold_ends due line other err status (line_failed part fails) = line_failed (0, tt) fails
   untold_ends due line other err status (line_no_memory part) = line_no_memory (0, tt)
 
   -- a refusal was told
   module _ (err : Change) where
-    refusal_ends : (refusal : Refusal) (status : ℕ) → LineEnds (refusal_status refusal) (refusal_line refusal) err status → RefusalEnds (untold err) refusal status
+    refusal_ends : (refusal : Refusal) (status : ℕ) → LineEnds (refusal_status refusal) (refusal_line refusal) err status
+        → RefusalEnds (untold err) refusal status
     refusal_ends refusal status (line_failed part fails) = refusal_failed fails (gprs_lines.write_fault_line, inr (inr refl), (0, tt))
     refusal_ends refusal status (line_no_memory part) = refusal_no_memory (gprs_lines.out_of_memory_line, inr (inl refl), (0, tt))
     refusal_ends RefusedUsage status (whole all) = usage_told tt
@@ -65,7 +72,8 @@ module _ (judge : Judge) where
     refusal_quiet (ReadFault name) status (whole all) is = omega (arith, is)
     refusal_quiet OutOfMemory status (whole all) is = omega (arith, is)
 
-    refusal_fault : (out : Change) (refusal : Refusal) (status : ℕ) → LineEnds (refusal_status refusal) (refusal_line refusal) err status → status ≡ 8
+    refusal_fault : (out : Change) (refusal : Refusal) (status : ℕ) → LineEnds (refusal_status refusal) (refusal_line refusal) err status
+        → status ≡ 8
         → Fails err ⊎ Fails out × TakesAll err (fault_line Failed)
     refusal_fault out refusal status (line_failed part fails) is = inl fails
     refusal_fault out refusal status (line_no_memory part) is = absurd (omega (arith, is))
@@ -77,44 +85,67 @@ module _ (judge : Judge) where
 
     module _ (words : List (List ℕ)) (files : Option Files) where
       refusal_told : (refusal : Refusal) (status : ℕ) → IfSome files (λ told. RefusesCase (IsCase (asking judge) words told) refusal)
-          → LineEnds (refusal_status refusal) (refusal_line refusal) err status → ForCase (asking judge) words files (λ case. HasOwnLine status → TakesAll err (line_of case))
-      refusal_told refusal status known (line_failed part fails) = for_each (asking judge) words files (λ case. HasOwnLine 8 → TakesAll err (line_of case)) (λ case is. absurd (grind (arith, is)))
-      refusal_told refusal status known (line_no_memory part) = for_each (asking judge) words files (λ case. HasOwnLine 1 → TakesAll err (line_of case)) (λ case is. absurd (grind (arith, is)))
-      refusal_told RefusedUsage status known (whole all) = for_known (asking judge) words files Usage (λ case. HasOwnLine 2 → TakesAll err (line_of case)) known (λ _. all)
+          → LineEnds (refusal_status refusal) (refusal_line refusal) err status
+          → ForCase (asking judge) words files (λ case. HasOwnLine status → TakesAll err (line_of case))
+      refusal_told refusal status known (line_failed part fails) =
+          for_each (asking judge) words files (λ case. HasOwnLine 8 → TakesAll err (line_of case)) (λ case is. absurd (grind (arith, is)))
+      refusal_told refusal status known (line_no_memory part) =
+          for_each (asking judge) words files (λ case. HasOwnLine 1 → TakesAll err (line_of case)) (λ case is. absurd (grind (arith, is)))
+      refusal_told RefusedUsage status known (whole all) =
+          for_known (asking judge) words files Usage (λ case. HasOwnLine 2 → TakesAll err (line_of case)) known (λ _. all)
       refusal_told (RefusedProgram told) status known (whole all) =
-          for_some (commands judge) words files Name (λ name. BadProgram name told) (λ case. HasOwnLine 3 → TakesAll err (line_of case)) known (λ name _. all)
+          for_some (commands judge) words files Name (λ name. BadProgram name told)
+          (λ case. HasOwnLine 3 → TakesAll err (line_of case)) known (λ name _. all)
       refusal_told (RefusedInput told) status known (whole all) =
-          for_some (commands judge) words files (List Name) (λ names. BadInput names told) (λ case. HasOwnLine 4 → TakesAll err (line_of case)) known (λ names _. all)
-      refusal_told (ReadFault name) status known (whole all) = for_each (asking judge) words files (λ case. HasOwnLine 7 → TakesAll err (line_of case)) (λ case is. absurd (grind (arith, is)))
-      refusal_told OutOfMemory status known (whole all) = for_each (asking judge) words files (λ case. HasOwnLine 1 → TakesAll err (line_of case)) (λ case is. absurd (grind (arith, is)))
+          for_some (commands judge) words files (List Name) (λ names. BadInput names told)
+          (λ case. HasOwnLine 4 → TakesAll err (line_of case)) known (λ names _. all)
+      refusal_told (ReadFault name) status known (whole all) =
+          for_each (asking judge) words files (λ case. HasOwnLine 7 → TakesAll err (line_of case)) (λ case is. absurd (grind (arith, is)))
+      refusal_told OutOfMemory status known (whole all) =
+          for_each (asking judge) words files (λ case. HasOwnLine 1 → TakesAll err (line_of case)) (λ case is. absurd (grind (arith, is)))
 
       -- a part of the line of a refusal is a part of a line of the case
-      refusal_part : (refusal : Refusal) → IfSome files (λ told. RefusesCase (IsCase (asking judge) words told) refusal) → TakesPart err (refusal_line refusal)
+      refusal_part : (refusal : Refusal) → IfSome files (λ told. RefusesCase (IsCase (asking judge) words told) refusal)
+          → TakesPart err (refusal_line refusal)
           → ForCase (asking judge) words files (λ case. (line : List ℕ) × IsLine case line × TakesPart err line)
-      refusal_part RefusedUsage known part = for_known (asking judge) words files Usage (λ case. (line : List ℕ) × IsLine case line × TakesPart err line) known (usage_line, inl refl, part)
+      refusal_part RefusedUsage known part =
+          for_known (asking judge) words files Usage (λ case. (line : List ℕ) × IsLine case line × TakesPart err line) known
+          (usage_line, inl refl, part)
       refusal_part (RefusedProgram told) known part =
-          for_some (commands judge) words files Name (λ name. BadProgram name told) (λ case. (line : List ℕ) × IsLine case line × TakesPart err line) known (λ name. (under_own_name told, inl refl, part))
+          for_some (commands judge) words files Name (λ name. BadProgram name told)
+          (λ case. (line : List ℕ) × IsLine case line × TakesPart err line) known (λ name. (under_own_name told, inl refl, part))
       refusal_part (RefusedInput told) known part =
-          for_some (commands judge) words files (List Name) (λ names. BadInput names told) (λ case. (line : List ℕ) × IsLine case line × TakesPart err line) known (λ names. (under_own_name told, inl refl, part))
+          for_some (commands judge) words files (List Name) (λ names. BadInput names told)
+          (λ case. (line : List ℕ) × IsLine case line × TakesPart err line) known (λ names. (under_own_name told, inl refl, part))
       refusal_part (ReadFault name) known part = for_read files known
         where
-          for_read : (files : Option Files) → IfSome files (λ told. (case : Case Sight) × IsCase (asking judge) words told case × Contains (names_read case) name)
+          for_read : (files : Option Files)
+              → IfSome files (λ told. (case : Case Sight) × IsCase (asking judge) words told case × Contains (names_read case) name)
               → ForCase (asking judge) words files (λ case. (line : List ℕ) × IsLine case line × TakesPart err line)
           for_read None is = tt
           for_read (Some files) (case, is, reads) =
-              for_known (asking judge) words (Some files) case (λ c. (line : List ℕ) × IsLine c line × TakesPart err line) is (read_fault_line name, inr (inr (inr (name, reads, refl))), part)
+              for_known (asking judge) words (Some files) case (λ c. (line : List ℕ) × IsLine c line × TakesPart err line) is
+              (read_fault_line name, inr (inr (inr (name, reads, refl))), part)
       refusal_part OutOfMemory known part =
-          for_each (asking judge) words files (λ case. (line : List ℕ) × IsLine case line × TakesPart err line) (λ case. (out_of_memory_line, inr (inl refl), part))
+          for_each (asking judge) words files (λ case. (line : List ℕ) × IsLine case line × TakesPart err line)
+          (λ case. (out_of_memory_line, inr (inl refl), part))
 
-      refusal_stopped : (refusal : Refusal) (status : ℕ) → IfSome files (λ told. RefusesCase (IsCase (asking judge) words told) refusal) → LineEnds (refusal_status refusal) (refusal_line refusal) err status
+      refusal_stopped : (refusal : Refusal) (status : ℕ) → IfSome files (λ told. RefusesCase (IsCase (asking judge) words told) refusal)
+          → LineEnds (refusal_status refusal) (refusal_line refusal) err status
           → IsStop status → ForCase (asking judge) words files (λ case. (line : List ℕ) × IsLine case line × TakesPart err line)
       refusal_stopped refusal status known (line_failed part fails) is = refusal_part refusal known part
       refusal_stopped refusal status known (line_no_memory part) is = refusal_part refusal known part
-      refusal_stopped refusal status known (whole all) is = refusal_part refusal known (prefix_whole err.written err.written' (refusal_line refusal) all)
+      refusal_stopped refusal status known (whole all) is =
+          refusal_part refusal known (prefix_whole err.written err.written' (refusal_line refusal) all)
 
-      refusal_read : (failed failed' : List Name) (out : Change) (reading : Option Viewed) (refusal : Refusal) (status : ℕ) → IfSome files (λ told. RefusesCase (IsCase (asking judge) words told) refusal)
-          → RefusesShelf MayRead reading failed failed' refusal → LineEnds (refusal_status refusal) (refusal_line refusal) err status → status ≡ 7
-          → (name : Name) × FailsToRead judge (record { words = words; files = files; failed = failed; failed' = failed'; out = out; err = err; status = status }) name × TakesAll err (read_fault_line name)
+      refusal_read : (failed failed' : List Name) (out : Change) (reading : Option Viewed) (refusal : Refusal) (status : ℕ)
+          → IfSome files (λ told. RefusesCase (IsCase (asking judge) words told) refusal)
+          → RefusesShelf MayRead reading failed failed' refusal → LineEnds (refusal_status refusal) (refusal_line refusal) err status
+          → status ≡ 7
+          → (name : Name)
+          × FailsToRead judge
+          (record { words = words; files = files; failed = failed; failed' = failed'; out = out; err = err; status = status }) name
+          × TakesAll err (read_fault_line name)
       refusal_read failed failed' out reading refusal status known shelf (line_failed part fails) is = absurd (omega (arith, is))
       refusal_read failed failed' out reading refusal status known shelf (line_no_memory part) is = absurd (omega (arith, is))
       refusal_read failed failed' out reading RefusedUsage status known shelf (whole all) is = absurd (omega (arith, is))
@@ -125,15 +156,28 @@ module _ (judge : Judge) where
       refusal_read failed failed' out reading OutOfMemory status known shelf (whole all) is = absurd (omega (arith, is))
 
   -- a refusal meets the promise
-  pub refusal_shows : (words : List (List ℕ)) (files : Option Files) (failed failed' : List Name) (written : Option (List ℕ)) (faults : ℕ) (err : Change) (status : ℕ) (refusal : Refusal)
-      → ((asking judge).reading words ≡ None → RefusesWords refusal) → (ReadsNothing (commands judge) ((asking judge).reading words) → failed' ≡ failed)
+  pub refusal_shows : (words : List (List ℕ)) (files : Option Files) (failed failed' : List Name) (written : Option (List ℕ)) (faults : ℕ)
+      (err : Change) (status : ℕ) (refusal : Refusal)
+      → ((asking judge).reading words ≡ None → RefusesWords refusal)
+      → (ReadsNothing (commands judge) ((asking judge).reading words) → failed' ≡ failed)
       → IfSome files (λ told. RefusesCase (IsCase (asking judge) words told) refusal)
-      → RefusesShelf MayRead ((asking judge).reading words) failed failed' refusal → LineEnds (refusal_status refusal) (refusal_line refusal) err status
-      → Shows judge (record { words = words; files = files; failed = failed; failed' = failed'; out = unwritten written faults; err = err; status = status })
+      → RefusesShelf MayRead ((asking judge).reading words) failed failed' refusal
+      → LineEnds (refusal_status refusal) (refusal_line refusal) err status
+      → Shows judge
+      (record {
+        words = words;
+        files = files;
+        failed = failed;
+        failed' = failed';
+        out = unwritten written faults;
+        err = err;
+        status = status;
+      })
   refusal_shows words files failed failed' written faults err status refusal no_command unread known shelf ends =
       let out : Change = unwritten written faults in
       record {
-        call = refused_headline (commands judge) commands_sound words files failed failed' written faults (untold err) status (record { events = []; restarts = [] }) refusal no_command unread known shelf (refl, refl)
+        call = refused_headline (commands judge) commands_sound words files failed failed' written faults (untold err) status
+            (record { events = []; restarts = [] }) refusal no_command unread known shelf (refl, refl)
             (refusal_ends err refusal status ends);
         quiet = λ is. absurd (refusal_quiet err refusal status ends is);
         line = refusal_told err words files refusal status known ends;
@@ -148,14 +192,17 @@ module _ (judge : Judge) where
     text = text_of sight
 
     show_ends : (status : ℕ) → ShowEnds sight out err status → RunEnds text [] (status_of sight) out (untold err) status
-    show_ends status (shown none all kept) = subst (λ due. RunEnds text [] due out (untold err) 0) (sym (ap status_by none)) (finished all tt)
+    show_ends status (shown none all kept) =
+        subst (λ due. RunEnds text [] due out (untold err) 0) (sym (ap status_by none)) (finished all tt)
     show_ends status (absent {position = position} is all ends) =
         subst (λ due. RunEnds text [] due out (untold err) status) (sym (ap status_by is))
         (run_of_whole text [] 5 out (untold err) status all (untold_ends 5 (absent_line (Some position)) [] err status ends))
     show_ends status (unshown Failed part fails ends) =
-        run_of_failed text [] (status_of sight) out (untold err) status part (fails refl) (untold_ends 8 (fault_line Failed) gprs_lines.write_fault_line err status ends)
+        run_of_failed text [] (status_of sight) out (untold err) status part (fails refl)
+        (untold_ends 8 (fault_line Failed) gprs_lines.write_fault_line err status ends)
     show_ends status (unshown sink.OutOfMemory part fails ends) =
-        run_of_memory text [] (status_of sight) out (untold err) status part (untold_ends 1 (fault_line sink.OutOfMemory) gprs_lines.out_of_memory_line err status ends)
+        run_of_memory text [] (status_of sight) out (untold err) status part
+        (untold_ends 1 (fault_line sink.OutOfMemory) gprs_lines.out_of_memory_line err status ends)
 
     -- it stopped
     stop_status : (fault : SinkFault) (status : ℕ) → LineEnds (fault_status fault) (fault_line fault) err status → IsStop status
@@ -164,7 +211,8 @@ module _ (judge : Judge) where
     stop_status Failed status (whole all) = inr refl
     stop_status sink.OutOfMemory status (whole all) = inl refl
 
-    stop_part : (fault : SinkFault) (status : ℕ) → LineEnds (fault_status fault) (fault_line fault) err status → TakesPart err (fault_line fault)
+    stop_part : (fault : SinkFault) (status : ℕ) → LineEnds (fault_status fault) (fault_line fault) err status
+        → TakesPart err (fault_line fault)
     stop_part fault status (line_failed part fails) = part
     stop_part fault status (line_no_memory part) = part
     stop_part fault status (whole all) = prefix_whole err.written err.written' (fault_line fault) all
@@ -186,7 +234,8 @@ module _ (judge : Judge) where
 
     show_quiet : (status : ℕ) → ShowEnds sight out err status → status ≡ 0 → TakesAll err []
     show_quiet status (shown none all kept) is = kept
-    show_quiet status (absent {position = position} there all ends) is = let known = absent_status position status ends in absurd (grind (arith, is, known))
+    show_quiet status (absent {position = position} there all ends) is =
+        let known = absent_status position status ends in absurd (grind (arith, is, known))
     show_quiet status (unshown fault part fails ends) is = let stop = stop_status fault status ends in absurd (grind (arith, is, stop))
 
     show_line : (status : ℕ) → ShowEnds sight out err status → HasOwnLine status → TakesAll err (absent_line (absent_of sight))
@@ -212,26 +261,35 @@ module _ (judge : Judge) where
     absent_taken position status (line_failed part fails) = part
     absent_taken position status (line_no_memory part) = part
 
-    absent_part : (position status : ℕ) → absent_of sight ≡ Some position → LineEnds 5 (absent_line (Some position)) err status → TakesPart err (absent_line (absent_of sight))
+    absent_part : (position status : ℕ) → absent_of sight ≡ Some position → LineEnds 5 (absent_line (Some position)) err status
+        → TakesPart err (absent_line (absent_of sight))
     absent_part position status there ends = subst (λ a. TakesPart err (absent_line a)) (sym there) (absent_taken position status ends)
 
-    show_stopped : (names : List Name) (status : ℕ) → ShowEnds sight out err status → IsStop status → (line : List ℕ) × IsLine (Go names sight) line × TakesPart err line
+    show_stopped : (names : List Name) (status : ℕ) → ShowEnds sight out err status → IsStop status
+        → (line : List ℕ) × IsLine (Go names sight) line × TakesPart err line
     show_stopped names status (shown none all kept) is = absurd (grind (arith, is))
-    show_stopped names status (absent {position = position} there all ends) is = (absent_line (absent_of sight), inl refl, absent_part position status there ends)
-    show_stopped names status (unshown fault part fails ends) is = (fault_line fault, stop_line fault (Go names sight), stop_part fault status ends)
+    show_stopped names status (absent {position = position} there all ends) is =
+        (absent_line (absent_of sight), inl refl, absent_part position status there ends)
+    show_stopped names status (unshown fault part fails ends) is =
+        (fault_line fault, stop_line fault (Go names sight), stop_part fault status ends)
 
   -- what is asked to be shown meets the promise
-  pub run_shows : (words : List (List ℕ)) (files : Option Files) (failed failed' : List Name) (out err : Change) (status : ℕ) (names : List Name) (sight : Sight) (viewed : Viewed)
-      → (asking judge).reading words ≡ Some viewed → IfSome files (λ told. IsCase (asking judge) words told (Go names sight)) → failed' ≡ failed → ShowEnds sight out err status
+  pub run_shows : (words : List (List ℕ)) (files : Option Files) (failed failed' : List Name) (out err : Change) (status : ℕ)
+      (names : List Name) (sight : Sight) (viewed : Viewed)
+      → (asking judge).reading words ≡ Some viewed → IfSome files (λ told. IsCase (asking judge) words told (Go names sight))
+      → failed' ≡ failed → ShowEnds sight out err status
       → Shows judge (record { words = words; files = files; failed = failed; failed' = failed'; out = out; err = err; status = status })
   run_shows words files failed failed' out err status names sight viewed some known same ends =
       let is_status : (status ≡ 0) ⊎ (status ≡ 5) ⊎ IsStop status = show_status sight out err status ends in
       record {
-        call = run_headline (commands judge) commands_sound words files failed failed' out (untold err) status (record { events = []; restarts = [] }) names sight viewed refl some known same
+        call = run_headline (commands judge) commands_sound words files failed failed' out (untold err) status
+            (record { events = []; restarts = [] }) names sight viewed refl some known same
             (λ _. (refl, refl)) (λ _. (tt, (λ _. tt), tt)) (show_ends sight out err status ends);
         quiet = show_quiet sight out err status ends;
-        line = for_known (asking judge) words files (Go names sight) (λ case. HasOwnLine status → TakesAll err (line_of case)) known (show_line sight out err status ends);
+        line = for_known (asking judge) words files (Go names sight) (λ case. HasOwnLine status → TakesAll err (line_of case)) known
+            (show_line sight out err status ends);
         read_fault = λ is. absurd (grind (arith, is, is_status));
         write_fault = show_fault sight out err status ends;
-        stopped = λ is. for_known (asking judge) words files (Go names sight) (λ case. (line : List ℕ) × IsLine case line × TakesPart err line) known (show_stopped sight out err names status ends is);
+        stopped = λ is. for_known (asking judge) words files (Go names sight)
+            (λ case. (line : List ℕ) × IsLine case line × TakesPart err line) known (show_stopped sight out err names status ends is);
       }

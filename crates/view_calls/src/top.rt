@@ -106,12 +106,13 @@ fn show<O: Sink, E: Sink>(alloc: Global, viewing: &Viewing, out: &mut O, err: &m
 
 /// Shows what the words ask for, over what is handed in, and answers the status. The words are those after the program's name.
 ///
-/// The status is 0 where the run was shown, also one that is stuck or has spent its limits, 1 where memory ran out, 2 where the
-/// words are those of no command, 3 where the program is refused, 4 where a file beside it is refused, or the trace, 5 where the run has not
-/// the position that is asked for, 7 where a file could not be read, and 8 where a write failed.
+/// The status is 0 where the run was shown, also one that is stuck or has spent its limits, 1 where memory ran out, 2
+/// where the words are those of no command, 3 where the program is refused, 4 where a file beside it is refused, or the
+/// trace, 5 where the run has not the position that is asked for, 7 where a file could not be read, and 8 where a write
+/// failed.
 ///
-/// At 0 `out` took the whole text, and `err` nothing. At 2, 3, 4, 5 and 7 `out` took nothing, and `err` one line that tells why; at 8
-/// `err` took such a line, unless it failed itself. At each status `out` took a prefix of the text.
+/// At 0 `out` took the whole text, and `err` nothing. At 2, 3, 4, 5 and 7 `out` took nothing, and `err` one line that
+/// tells why; at 8 `err` took such a line, unless it failed itself. At each status `out` took a prefix of the text.
 pub fn view_run<H: Shelf, O: Sink, E: Sink>(
     alloc: Global,
     words: &[String],

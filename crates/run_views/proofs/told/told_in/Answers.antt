@@ -12,9 +12,13 @@ loop-line-init c = λ position attempt.
 pub loop-line-preserved : goal.loop-line-preserved
 loop-line-preserved c = λ position attempt.
     let before = found c.loop-line.tellings position attempt in
-    told-next position attempt before (found c.note.new.self position attempt) (told_from position attempt Unrun c.args.lines.now) c.loop-line.line-index c.args.lines.now c.line-item.result
-    c.loop-line-test.true (c.loop-line.invariant position attempt) (c.in_ok-note.ensures position attempt ∙ ap (told_by position attempt before) c.line-item.is)
+    told-next position attempt before (found c.note.new.self position attempt)
+    (told_from position attempt Unrun c.args.lines.now) c.loop-line.line-index c.args.lines.now c.line-item.result
+    c.loop-line-test.true (c.loop-line.invariant position attempt)
+    (c.in_ok-note.ensures position attempt ∙ ap (told_by position attempt before) c.line-item.is)
 
 pub returns : goal.returns
 returns c = λ position attempt.
-    told-last position attempt (found c.loop-line.tellings position attempt) (told_from position attempt Unrun c.args.lines.now) c.loop-line.line-index c.args.lines.now c.loop-line-test.false (c.loop-line.invariant position attempt)
+    told-last position attempt (found c.loop-line.tellings position attempt)
+    (told_from position attempt Unrun c.args.lines.now) c.loop-line.line-index c.args.lines.now c.loop-line-test.false
+    (c.loop-line.invariant position attempt)

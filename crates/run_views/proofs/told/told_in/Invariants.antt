@@ -6,4 +6,6 @@ use Rattle.run_views.proofs.told.told_in.Given as goal
 
 -- what is told so far, and what the lines that are left tell beside it, is all
 abbrev pub invariant-loop-line : goal.invariant-loop-line
-invariant-loop-line l = (position attempt : ℕ) → told_from position attempt (found l.tellings position attempt) (drop l.line-index l.lines) ≡ told_from position attempt Unrun l.lines
+invariant-loop-line l =
+    (position attempt : ℕ) → told_from position attempt (found l.tellings position attempt) (drop l.line-index l.lines)
+    ≡ told_from position attempt Unrun l.lines

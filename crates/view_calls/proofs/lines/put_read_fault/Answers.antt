@@ -5,10 +5,12 @@ use Rattle.view_calls.proofs.lines.put_read_fault.Goals as goal
 
 pub returns-clause-all : goal.returns-clause-all
 returns-clause-all g c =
-    subst (λ n. OnOk c.put_three.result (Appends (g.E.Sink.written c.args.to.now) (g.E.Sink.written c.put_three.new.to) (codes "gprs_view: read fault " ++ (n ++ codes "\n"))))
+    subst (λ n. OnOk c.put_three.result (Appends (g.E.Sink.written c.args.to.now) (g.E.Sink.written c.put_three.new.to)
+    (codes "gprs_view: read fault " ++ (n ++ codes "\n"))))
     c.as_slice.ensures c.put_three.ensures.all
 
 pub returns-clause-prefix : goal.returns-clause-prefix
 returns-clause-prefix g c =
-    subst (λ n. OnErr c.put_three.result (AppendsPrefix (g.E.Sink.written c.args.to.now) (g.E.Sink.written c.put_three.new.to) (codes "gprs_view: read fault " ++ (n ++ codes "\n"))))
+    subst (λ n. OnErr c.put_three.result (AppendsPrefix (g.E.Sink.written c.args.to.now) (g.E.Sink.written c.put_three.new.to)
+    (codes "gprs_view: read fault " ++ (n ++ codes "\n"))))
     c.as_slice.ensures c.put_three.ensures.prefix

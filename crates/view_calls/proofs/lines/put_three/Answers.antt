@@ -5,7 +5,8 @@ use Rattle.view_calls.proofs.lines.put_three.Goals as goal
 
 pub returns-in_err-put_all-clause-prefix : goal.returns-in_err-put_all-clause-prefix
 returns-in_err-put_all-clause-prefix g c =
-    let prefix = prefix_first (g.E.Sink.written c.args.to.now) (g.E.Sink.written c.put_all.new.to) c.args.first.now (c.args.second.now ++ c.args.third.now) c.in_err-put_all.ensures.prefix in
+    let prefix = prefix_first (g.E.Sink.written c.args.to.now) (g.E.Sink.written c.put_all.new.to) c.args.first.now
+    (c.args.second.now ++ c.args.third.now) c.in_err-put_all.ensures.prefix in
     search (rules, prefix)
 
 pub returns-clause-all : goal.returns-clause-all
@@ -13,7 +14,8 @@ returns-clause-all g c =
     let first = g.E.Sink.written c.put_all.new.to in
     let after = g.E.Sink.written c.put_both.new.to in
     on_ok_weaker c.put_both.result
-    (λ all. Appends-append (g.E.Sink.written c.args.to.now) first after c.args.first.now (c.args.second.now ++ c.args.third.now) c.in_ok-put_all.ensures.all all)
+    (λ all. Appends-append (g.E.Sink.written c.args.to.now) first after c.args.first.now
+    (c.args.second.now ++ c.args.third.now) c.in_ok-put_all.ensures.all all)
     c.put_both.ensures.all
 
 pub returns-clause-prefix : goal.returns-clause-prefix
@@ -21,5 +23,6 @@ returns-clause-prefix g c =
     let first = g.E.Sink.written c.put_all.new.to in
     let after = g.E.Sink.written c.put_both.new.to in
     on_err_weaker c.put_both.result
-    (λ part. prefix_second (g.E.Sink.written c.args.to.now) first after c.args.first.now (c.args.second.now ++ c.args.third.now) c.in_ok-put_all.ensures.all part)
+    (λ part. prefix_second (g.E.Sink.written c.args.to.now) first after c.args.first.now
+    (c.args.second.now ++ c.args.third.now) c.in_ok-put_all.ensures.all part)
     c.put_both.ensures.prefix

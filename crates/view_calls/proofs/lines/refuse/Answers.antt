@@ -11,4 +11,5 @@ returns-in-Usage g c =
 pub returns-in-OutOfMemory : goal.returns-in-OutOfMemory
 returns-in-OutOfMemory g c =
     let err = change_of g.E.Sink.written g.E.Sink.faults c.args.err.now c.end_with-in-OutOfMemory.new.err in
-    subst (λ r. LineEnds (refusal_status r) (refusal_line r) err c.end_with-in-OutOfMemory.result) (sym c.in-OutOfMemory.is) c.end_with-in-OutOfMemory.ensures
+    subst (λ r. LineEnds (refusal_status r) (refusal_line r) err c.end_with-in-OutOfMemory.result)
+    (sym c.in-OutOfMemory.is) c.end_with-in-OutOfMemory.ensures

@@ -7,9 +7,11 @@ use Rattle.view_calls.proofs.reading.first_unlawful.Goals as goal
 pub audit-requires-clause-few_steps : goal.audit-requires-clause-few_steps
 audit-requires-clause-few_steps c =
     let request = c.args.request.now in
-    few_steps (program_in request) request.inputs request.asked.limits c.in_ok-ran.ran.order c.in_ok-ran.ensures.order c.requires.within.few_subthreads
+    few_steps (program_in request) request.inputs request.asked.limits c.in_ok-ran.ran.order c.in_ok-ran.ensures.order
+    c.requires.within.few_subthreads
 
 pub returns : goal.returns
 returns c = λ judge.
     c.unlawful_in.ensures
-    ∙ ap unlawful_in (verdict_judged judge (work_of c.args.request.now) c.args.lines.now c.in_ok-ran.ran.order c.in_ok-verdict.verdict c.in_ok-ran.ensures.order c.in_ok-verdict.ensures)
+    ∙ ap unlawful_in (verdict_judged judge (work_of c.args.request.now) c.args.lines.now c.in_ok-ran.ran.order c.in_ok-verdict.verdict
+    c.in_ok-ran.ensures.order c.in_ok-verdict.ensures)

@@ -8,12 +8,16 @@ use Rattle.view_calls.proofs.reading.lawful_lines.Goals as goal
 
 pub returns-in-Ok-Some-clause-told : goal.returns-in-Ok-Some-clause-told
 returns-in-Ok-Some-clause-told c = λ judge names position text within is.
-    unlawful_told judge names c.args.name.now position (work_of c.args.request.now) text c.args.lines c.in-Ok-Some.number c.refused_input.result within is
+    unlawful_told judge names c.args.name.now position
+    (work_of c.args.request.now) text c.args.lines c.in-Ok-Some.number c.refused_input.result within is
     (sym (c.in-Ok-Some.ensures judge) ∙ c.in-Ok-Some.field-0-is) c.refused_input.ensures
 
 pub returns-in-Ok-Some-clause-unread : goal.returns-in-Ok-Some-clause-unread
-returns-in-Ok-Some-clause-unread c = λ names failed. input_unread (List TraceLine) names failed (input_line c.args.name.now 1 c.in-Ok-Some.number) c.refused_input.result c.refused_input.ensures
+returns-in-Ok-Some-clause-unread c = λ names failed.
+    input_unread (List TraceLine) names failed (input_line c.args.name.now 1 c.in-Ok-Some.number) c.refused_input.result
+    c.refused_input.ensures
 
 pub returns-in-Ok-None-clause-told : goal.returns-in-Ok-None-clause-told
 returns-in-Ok-None-clause-told c = λ judge names position text within is.
-    lines_told judge names c.args.name.now position (work_of c.args.request.now) text c.args.lines within is (sym (c.in-Ok-None.ensures judge) ∙ c.in-Ok-None.field-0-is)
+    lines_told judge names c.args.name.now position (work_of c.args.request.now) text c.args.lines within is
+    (sym (c.in-Ok-None.ensures judge) ∙ c.in-Ok-None.field-0-is)

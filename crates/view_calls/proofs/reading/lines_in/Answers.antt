@@ -11,12 +11,16 @@ lawful_lines-requires-clause-few c = few_read c.args.text.now c.in-Ok.lines c.re
 
 pub returns-in-Ok-clause-told : goal.returns-in-Ok-clause-told
 returns-in-Ok-clause-told c = λ judge names position.
-    c.lawful_lines.ensures.told judge names position c.args.text.now c.requires.short (read_judged judge c.args.text.now c.in-Ok.lines c.in-Ok.ensures)
+    c.lawful_lines.ensures.told judge names position c.args.text.now c.requires.short
+    (read_judged judge c.args.text.now c.in-Ok.lines c.in-Ok.ensures)
 
 pub returns-in-Err-Line-clause-told : goal.returns-in-Err-Line-clause-told
 returns-in-Err-Line-clause-told c = λ judge names position.
     let broken = rw c.in-Err-Line.field-0-is at c.in-Err-Line.ensures in
-    row_told judge names c.args.name.now position (work_of c.args.request.now) c.args.text.now c.in-Err-Line.row c.refused_input.result c.requires.short broken c.refused_input.ensures
+    row_told judge names c.args.name.now position (work_of c.args.request.now) c.args.text.now c.in-Err-Line.row c.refused_input.result
+    c.requires.short broken c.refused_input.ensures
 
 pub returns-in-Err-Line-clause-unread : goal.returns-in-Err-Line-clause-unread
-returns-in-Err-Line-clause-unread c = λ names failed. input_unread (List TraceLine) names failed (input_line c.args.name.now 1 c.in-Err-Line.row) c.refused_input.result c.refused_input.ensures
+returns-in-Err-Line-clause-unread c = λ names failed.
+    input_unread (List TraceLine) names failed (input_line c.args.name.now 1 c.in-Err-Line.row) c.refused_input.result
+    c.refused_input.ensures

@@ -13,10 +13,14 @@ returns-in-Ok-None-clause-case g c = λ judge.
 
 pub returns-clause-shelf : goal.returns-clause-shelf
 returns-clause-shelf g c =
-    let some : viewed_by (texts c.args.words.now) ≡ Some c.in-Ok-Some.viewed = sym (rw c.in-Ok-Some.field-0-is at c.in-Ok-Some.ensures.viewed) in
-    subst (λ viewed. TouchesShelf MayRead viewed (g.H.Shelf.failed c.args.shelf.now) (g.H.Shelf.failed c.read_viewed.new.shelf) c.read_viewed.result) (sym some) c.read_viewed.ensures.shelf
+    let some : viewed_by (texts c.args.words.now) ≡ Some c.in-Ok-Some.viewed =
+    sym (rw c.in-Ok-Some.field-0-is at c.in-Ok-Some.ensures.viewed) in
+    subst (λ viewed. TouchesShelf MayRead viewed (g.H.Shelf.failed c.args.shelf.now)
+    (g.H.Shelf.failed c.read_viewed.new.shelf) c.read_viewed.result) (sym some) c.read_viewed.ensures.shelf
 
 pub returns-clause-case : goal.returns-clause-case
 returns-clause-case g c = λ judge.
-    let some : viewed_by (texts c.args.words.now) ≡ Some c.in-Ok-Some.viewed = sym (rw c.in-Ok-Some.field-0-is at c.in-Ok-Some.ensures.viewed) in
-    asked_case (asking judge) (texts c.args.words.now) case_of (g.H.Shelf.files c.args.shelf.now) c.in-Ok-Some.viewed c.read_viewed.result some (c.read_viewed.ensures.case judge)
+    let some : viewed_by (texts c.args.words.now) ≡ Some c.in-Ok-Some.viewed =
+    sym (rw c.in-Ok-Some.field-0-is at c.in-Ok-Some.ensures.viewed) in
+    asked_case (asking judge) (texts c.args.words.now) case_of
+    (g.H.Shelf.files c.args.shelf.now) c.in-Ok-Some.viewed c.read_viewed.result some (c.read_viewed.ensures.case judge)

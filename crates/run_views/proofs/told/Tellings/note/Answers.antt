@@ -7,6 +7,7 @@ use Rattle.run_views.proofs.told.Tellings.note.Goals as goal
 pub returns-in_ok-insert : goal.returns-in_ok-insert
 returns-in_ok-insert c = λ position attempt.
     let before = found c.args.self.now position attempt in
-    noted c.args.self.now.taken c.insert.new.self c.args.self.now.others c.taken_as.result (c.position.inside.0, c.in-Take.attempt) c.in_ok-insert.ensures.updates.0 position attempt
+    noted c.args.self.now.taken c.insert.new.self c.args.self.now.others c.taken_as.result
+    (c.position.inside.0, c.in-Take.attempt) c.in_ok-insert.ensures.updates.0 position attempt
     ∙ ap₂ (λ q value. cond (nat_eq q position && nat_eq c.in-Take.attempt attempt) value before) c.position.view_is c.taken_as.ensures
     ∙ sym (ap (told_by position attempt before) c.in-Take.is)

@@ -11,7 +11,8 @@ returns-in-None c =
     let parties : List Party = map party_in c.args.self.now.steps.now in
     let all : List ℕ = c.args.text.now.items ++ chain c.args.self.now.heads.now parties c.args.redo.now c.args.position c.args.position in
     on_ok_weaker c.push_struck.result
-    (λ told. chain-ends c.args.self.now.heads.now parties c.args.redo.now c.loop-links.text.items c.push_struck.new.text.items all c.args.position c.loop-links.links c.loop-links.at
+    (λ told. chain-ends c.args.self.now.heads.now parties c.args.redo.now c.loop-links.text.items c.push_struck.new.text.items all
+    c.args.position c.loop-links.links c.loop-links.at
     c.loop-links-test.true c.loop-links.invariant.same (sym c.in-None.ensures.linked) told)
     c.push_struck.ensures
 
@@ -22,7 +23,9 @@ loop-links-preserved c =
     let below = c.in-Some.ensures.below in
     let low = c.loop-links.invariant.low in
     record {
-      same = chain-kept c.args.self.now.heads.now parties c.args.redo.now c.loop-links.text.items c.push_link.new.text.items all c.args.position c.loop-links.links c.loop-links.at
-          c.in-Some.earlier c.loop-links-test.true c.loop-links.invariant.same (sym c.in-Some.ensures.linked) c.in_ok-push_link-in-Some.ensures;
+      same = chain-kept c.args.self.now.heads.now parties c.args.redo.now c.loop-links.text.items c.push_link.new.text.items all
+          c.args.position c.loop-links.links c.loop-links.at
+          c.in-Some.earlier c.loop-links-test.true c.loop-links.invariant.same
+          (sym c.in-Some.ensures.linked) c.in_ok-push_link-in-Some.ensures;
       low = omega (arith, below, low);
     }
