@@ -1,6 +1,7 @@
 // Audits of traces: the worked examples, and the traces of runs that faults strike.
 
-use crate::calls::{ADD, Answer, EMPTY, Files, SOUND, alone, answer_of, sink_of, words_of};
+use crate::answers::{Answer, answered, tells};
+use crate::calls::{ADD, EMPTY, Files, SOUND, alone, answer_of, sink_of, words_of};
 use crate::struck::CREWS;
 use audit_calls::audit_run;
 use gp_base::{FreeGate, MemShelf, Name, Seq, Text};
@@ -48,12 +49,7 @@ fn audit_of<R: AllocGlobal>(
     let mut output = sink_of(alloc, SOUND.most, SOUND.output)?;
     let mut error = sink_of(alloc, SOUND.most, SOUND.error)?;
     let outcome = audit_run(rt, &words, &mut shelf, &mut output, &mut error, &FreeGate);
-    Ok(Answer {
-        status: outcome.status,
-        output,
-        error,
-        journal: outcome.journal,
-    })
+    Ok(answered(outcome, output, error))
 }
 
 // The words with these files and this trace have this status, output and line on the error stream.
@@ -65,11 +61,7 @@ fn audits<R: AllocGlobal>(
     told: (u8, &str, &str),
 ) -> Result<bool, AllocError> {
     let answer = audit_of(rt, words, files, trace.as_bytes())?;
-    Ok(
-        answer.status == told.0
-            && answer.output.written() == told.1.as_bytes()
-            && answer.error.written() == told.2.as_bytes(),
-    )
+    Ok(tells(&answer, told.0, told.1, told.2))
 }
 
 #[test]

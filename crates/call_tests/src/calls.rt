@@ -1,7 +1,8 @@
 // What no clause says: calls that succeed, and devices that fail at each of their calls.
 
+use crate::answers::{Answer, answered, tells};
 use batch_calls::gprs_run;
-use gp_base::{FreeGate, Gate, Journal, MemShelf, MemSink, Name, Seq, Shelf, Text};
+use gp_base::{FreeGate, Gate, MemShelf, MemSink, Name, Seq, Shelf, Text};
 use std::alloc::{AllocError, Global};
 use std::test::Fail;
 use std::thread::Threads;
@@ -202,15 +203,6 @@ pub const SOUND: Devices = Devices {
     error: 0,
 };
 
-/// What a call answered, and what its sinks took.
-#[derive(Drop)]
-pub struct Answer {
-    pub status: u8,
-    pub output: MemSink,
-    pub error: MemSink,
-    pub journal: Journal,
-}
-
 /// The words between spaces.
 pub fn words_of(alloc: Global, text: &str) -> Result<Vec<String>, AllocError> {
     let mut words = Vec::new(alloc);
@@ -282,12 +274,7 @@ pub fn answer_over<R: Threads + Sync + AllocGlobal, G: Gate>(
     let mut output = sink_of(alloc, devices.most, devices.output)?;
     let mut error = sink_of(alloc, devices.most, devices.error)?;
     let outcome = gprs_run(rt, &words, shelf, &mut output, &mut error, gate);
-    Ok(Answer {
-        status: outcome.status,
-        output,
-        error,
-        journal: outcome.journal,
-    })
+    Ok(answered(outcome, output, error))
 }
 
 /// What the words come to over these files, where tasks enter this gate.
@@ -323,11 +310,7 @@ pub fn gives_over<R: Threads + Sync + AllocGlobal>(
     error: &str,
 ) -> Result<bool, AllocError> {
     let answer = answer_of(rt, words, files, devices)?;
-    Ok(
-        answer.status == status
-            && answer.output.written() == output.as_bytes()
-            && answer.error.written() == error.as_bytes(),
-    )
+    Ok(tells(&answer, status, output, error))
 }
 
 /// The words with these files have this status, output and line on the error stream.

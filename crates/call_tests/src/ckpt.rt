@@ -1,9 +1,10 @@
 // The call that runs by checkpoints: the worked examples, whoever carries them out.
 
-use crate::calls::{ADD, Answer, Devices, Files, SOUND, USAGE, alone, shelf_of, sink_of, words_of};
+use crate::answers::{Answer, answered, tells};
+use crate::calls::{ADD, Devices, Files, SOUND, USAGE, alone, shelf_of, sink_of, words_of};
 use crate::rows::{ADDED, answer_over_batch, front_of};
 use crate::settles::ROUTED;
-use crate::struck::{CREWS, agrees, gate_over, posts_of};
+use crate::struck::{CREWS, entered_as_posted, gate_over};
 use batch_calls::ckpt_run;
 use gp_base::{FreeGate, Gate, MemShelf, Seq};
 use soak_batch::soak_files;
@@ -24,12 +25,7 @@ fn answer_over<R: Threads + Sync + AllocGlobal, G: Gate>(
     let mut output = sink_of(alloc, devices.most, devices.output)?;
     let mut error = sink_of(alloc, devices.most, devices.error)?;
     let outcome = ckpt_run(rt, &words, shelf, &mut output, &mut error, gate);
-    Ok(Answer {
-        status: outcome.status,
-        output,
-        error,
-        journal: outcome.journal,
-    })
+    Ok(answered(outcome, output, error))
 }
 
 // The words with these files have this status, output and line on the error stream.
@@ -44,11 +40,7 @@ fn gives<R: Threads + Sync + AllocGlobal>(
 ) -> Result<bool, AllocError> {
     let mut shelf = shelf_of(rt.alloc(), files, devices.read)?;
     let answer = answer_over(rt, words, &mut shelf, devices, &FreeGate)?;
-    Ok(
-        answer.status == status
-            && answer.output.written() == output.as_bytes()
-            && answer.error.written() == error.as_bytes(),
-    )
+    Ok(tells(&answer, status, output, error))
 }
 
 // A run that a fault strikes, with a checkpoint after each so many subthreads: what is told up to the rollbacks, these, and how
@@ -225,11 +217,7 @@ fn enters_as_posted<R: Threads + Sync + AllocGlobal>(
     let gate = gate_over(alloc, positions)?;
     let mut shelf = shelf_of(alloc, files, 0)?;
     let answer = answer_over(rt, words, &mut shelf, SOUND, &gate)?;
-    let status = answer.status;
-    let posts = posts_of(alloc, &answer.journal, positions);
-    drop(answer);
-    let posts = posts?;
-    Ok(status == 0 && agrees(&gate, &posts, positions))
+    entered_as_posted(alloc, answer, &gate, positions)
 }
 
 #[test]

@@ -1,14 +1,12 @@
 // Hostile use: texts that are cut off, devices that fail at each of their calls, files that are refused, and schedules. The fault
 // strikes the first of the two threads that add to one total.
 
-use crate::calls::{
-    ADD, Devices, EMPTY, Files, PRINTS, SOUND, USAGE, alone, answer_of, gives, gives_over,
-};
+use crate::calls::{ADD, Devices, EMPTY, Files, PRINTS, SOUND, USAGE, alone, answer_of, gives};
 use crate::rows::answer_over_batch;
 use crate::scripted::{NEWEST, ran_in_order};
 use engine::Report;
 use gp_base::MemSink;
-use std::alloc::{AllocError, Global};
+use std::alloc::AllocError;
 use std::test::Fail;
 use std::thread::Threads;
 

@@ -1,8 +1,9 @@
 // The call that goes on from a log: worked examples, logs that are refused, and runs that were stopped. The texts were reckoned by
 // hand from the rules of the order.
 
+use crate::answers::{Answer, answered, tells};
 use crate::audits::shelf_with;
-use crate::calls::{ADD, Answer, Devices, Files, SOUND, USAGE, alone, shelf_of, sink_of, words_of};
+use crate::calls::{ADD, Devices, Files, SOUND, USAGE, alone, shelf_of, sink_of, words_of};
 use crate::log::{ADD_LOG, MEETING, MET, MET_LOG, first_of};
 use crate::rows::ADDED;
 use crate::struck::{agrees, gate_over};
@@ -33,12 +34,7 @@ fn answer_over<R: Threads + Sync + AllocGlobal, G: Gate>(
     let mut output = sink_of(alloc, devices.most, devices.output)?;
     let mut error = sink_of(alloc, devices.most, devices.error)?;
     let outcome = resume_run(rt, &words, shelf, &mut output, &mut error, gate);
-    Ok(Answer {
-        status: outcome.status,
-        output,
-        error,
-        journal: outcome.journal,
-    })
+    Ok(answered(outcome, output, error))
 }
 
 // The words with these files and this log have this status, output and line on the error stream.
@@ -52,11 +48,7 @@ fn gives<R: Threads + Sync + AllocGlobal>(
 ) -> Result<bool, AllocError> {
     let mut shelf = shelf_with(rt.alloc(), files, log)?;
     let answer = answer_over(rt, words, &mut shelf, devices, &FreeGate)?;
-    Ok(
-        answer.status == told.0
-            && answer.output.written() == told.1.as_bytes()
-            && answer.error.written() == told.2.as_bytes(),
-    )
+    Ok(tells(&answer, told.0, told.1, told.2))
 }
 
 // The run of `ADD` goes on so from this log.

@@ -1,6 +1,7 @@
 // Worked examples, with the bytes that they write as a whole, and the limits of a run.
 
-use crate::calls::{ADD, Answer, SOUND, alone, answer_over, gives};
+use crate::answers::Answer;
+use crate::calls::{ADD, SOUND, alone, answer_over, gives};
 use crate::struck::CREWS;
 use gp_base::limits::{
     DEEPEST_NESTING, DEFAULT_SUBTHREADS, DEFAULT_TURNS, DEFAULT_WORKERS, LEAST_MOVES,

@@ -1,5 +1,5 @@
 // A run by a crew whose order is written down before.
-ghost use Rattle.std.specs.Prelude.{◌≡◌, [], IfOk};
+ghost use Rattle.std.specs.Prelude.{IfOk};
 ghost use Rattle.subthread.specs.Tasks.{Suits};
 
 use crate::calls::{ADD, Files, alone, shelf_of, sink_of, words_of};

@@ -1,5 +1,6 @@
 // Runs that faults strike, whoever carries them out: the worked examples, and a batch of transfers.
 
+use crate::answers::Answer;
 use crate::calls::{ADD, EDGES, EMPTY, Files, SOUND, alone, answer_of, answer_through, gives};
 use gp_base::{Event, Gate, Journal, Pos};
 use std::alloc::{AllocError, Global};
@@ -307,12 +308,8 @@ pub fn gate_over(alloc: Global, positions: usize) -> Result<Counting, AllocError
     Ok(Counting { entries })
 }
 
-/// How often the journal posts each of so many positions.
-pub fn posts_of(
-    alloc: Global,
-    journal: &Journal,
-    positions: usize,
-) -> Result<Vec<u64>, AllocError> {
+// How often the journal posts each of so many positions.
+fn posts_of(alloc: Global, journal: &Journal, positions: usize) -> Result<Vec<u64>, AllocError> {
     let mut posts = Vec::from_elem(alloc, 0u64, positions)?;
     for event in journal.events.as_slice() {
         if let Event::Post(position, _) = event {
@@ -336,6 +333,20 @@ pub fn agrees(gate: &Counting, posts: &[u64], positions: usize) -> bool {
     posted >= positions as u64
 }
 
+/// Whether a call ended with status 0, and each position entered its gate as often as its journal posts it.
+pub fn entered_as_posted(
+    alloc: Global,
+    answer: Answer,
+    gate: &Counting,
+    positions: usize,
+) -> Result<bool, AllocError> {
+    let status = answer.status;
+    let posts = posts_of(alloc, &answer.journal, positions);
+    drop(answer);
+    let posts = posts?;
+    Ok(status == 0 && agrees(gate, &posts, positions))
+}
+
 // Each position enters the gate as often as the journal posts it.
 fn enters_as_posted<R: Threads + Sync + AllocGlobal>(
     rt: &R,
@@ -346,11 +357,7 @@ fn enters_as_posted<R: Threads + Sync + AllocGlobal>(
     let alloc = rt.alloc();
     let gate = gate_over(alloc, positions)?;
     let answer = answer_through(rt, words, files, SOUND, &gate)?;
-    let status = answer.status;
-    let posts = posts_of(alloc, &answer.journal, positions);
-    drop(answer);
-    let posts = posts?;
-    Ok(status == 0 && agrees(&gate, &posts, positions))
+    entered_as_posted(alloc, answer, &gate, positions)
 }
 
 #[test]

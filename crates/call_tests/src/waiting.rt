@@ -1,8 +1,9 @@
 // The call that may wait, with lasting workers: the same rows as by the others.
 
-use crate::calls::{ADD, Answer, EMPTY, Files, alone, shelf_of, sink_of, words_of};
+use crate::answers::{Answer, answered, tells};
+use crate::calls::{ADD, EMPTY, Files, alone, shelf_of, sink_of, words_of};
 use crate::rows::ADDED;
-use crate::struck::{agrees, gate_over, posts_of};
+use crate::struck::{entered_as_posted, gate_over};
 use batch_calls::gprs_run_pipe;
 use gp_base::{FreeGate, Gate};
 use std::alloc::AllocError;
@@ -27,12 +28,7 @@ fn answer_through<
     let mut output = sink_of(alloc, 1000, 0)?;
     let mut error = sink_of(alloc, 1000, 0)?;
     let outcome = gprs_run_pipe(rt, &words, &mut shelf, &mut output, &mut error, gate);
-    Ok(Answer {
-        status: outcome.status,
-        output,
-        error,
-        journal: outcome.journal,
-    })
+    Ok(answered(outcome, output, error))
 }
 
 // The words with these files end with status 0 and write this, and nothing to the error stream.
@@ -44,11 +40,7 @@ fn writes<R: Threads + Wait + Clone + Send + Sync + Drop + AllocGlobal + 'static
 ) -> Result<bool, AllocError> {
     let gate = Arc::new(rt.alloc(), FreeGate)?;
     let answer = answer_through(rt, words, files, &gate)?;
-    Ok(
-        answer.status == 0
-            && answer.output.written() == text.as_bytes()
-            && answer.error.written().is_empty(),
-    )
+    Ok(tells(&answer, 0, text, ""))
 }
 
 #[test]
@@ -83,11 +75,7 @@ fn enters_as_posted<R: Threads + Wait + Clone + Send + Sync + Drop + AllocGlobal
     let alloc = rt.alloc();
     let gate = Arc::new(alloc, gate_over(alloc, positions)?)?;
     let answer = answer_through(rt, words, files, &gate)?;
-    let status = answer.status;
-    let posts = posts_of(alloc, &answer.journal, positions);
-    drop(answer);
-    let posts = posts?;
-    Ok(status == 0 && agrees(&gate, &posts, positions))
+    entered_as_posted(alloc, answer, &gate, positions)
 }
 
 #[test]
