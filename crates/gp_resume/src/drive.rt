@@ -31,8 +31,8 @@ use std::thread::Threads;
 use subthread::Work;
 use task_ast::Layout;
 
-// Writes all the bytes, or answers why not.
-fn put<O: Sink>(out: &mut O, bytes: &[u8]) -> Result<(), ResumeStop>
+/// Writes all the bytes, or answers why not.
+pub fn put<O: Sink>(out: &mut O, bytes: &[u8]) -> Result<(), ResumeStop>
     ensures all { OnOk result (Appends (O.written out.old) (O.written out.new) bytes.now) }
     ensures prefix { AppendsPrefix (O.written out.old) (O.written out.new) bytes.now }
     ensures cause { HasResumeCause (O.faults out.old) (O.faults out.new) result }

@@ -19,5 +19,6 @@ mod running;
 mod stop;
 mod turning;
 
-pub use drive::resume_drive;
+pub use drive::{put, resume_drive};
+pub use reading::ends_no_line;
 pub use stop::ResumeStop;

@@ -1,22 +1,17 @@
 // Writes the text that is still to come of a run that goes on.
-ghost use Rattle.std.specs.Prelude.{◌≡◌, ◌≤◌, [], length, OnOk};
-ghost use Rattle.std.specs.Bool.{Decides};
-ghost use Rattle.std.specs.Io.KnownBytes.{Appends};
-ghost use Rattle.gp_base.specs.Sinks.{AppendsPrefix};
+ghost use Rattle.std.specs.Prelude.{◌≡◌, ◌≤◌, [], length};
 ghost use Rattle.gp_base.specs.declared.limits.TheConstants.{MOST_FILE_BYTES};
 ghost use Rattle.task_ast.specs.View.{plain_program};
 ghost use Rattle.lock_checker.specs.Accepted.{program_of};
 ghost use Rattle.subthread.specs.Tasks.{Suits, program_in};
-ghost use Rattle.gp_resume.specs.Reading.{EndsNoLine};
-ghost use Rattle.gp_resume.specs.Resuming.{IsRefused, HasResumeCause};
 ghost use Rattle.call_cases.specs.Answers.{change_of};
 ghost use Rattle.call_cases.specs.RunCommands.{end_status};
 ghost use Rattle.resume_calls.specs.inner.Resting.{IsPlanOf, PutsFirst, PutsTail, Drives, Resumes};
 
 use crate::plan::Plan;
 use crew::Crew;
-use gp_base::{End, Inputs, Limits, Sink, SinkFault, Text, put_all};
-use gp_resume::{ResumeStop, resume_drive};
+use gp_base::{End, Inputs, Limits, Sink, Text};
+use gp_resume::{ResumeStop, ends_no_line, put, resume_drive};
 use lock_checker::Checked;
 use reorder_list::Report;
 use restart_log::tail_text;
@@ -37,27 +32,6 @@ fn end_status(end: End) -> u8
         End::Stuck { .. } => 5,
         End::Spent(_) => 6,
     }
-}
-
-// Writes all the bytes, or answers why not.
-fn put<O: Sink>(out: &mut O, bytes: &[u8]) -> Result<(), ResumeStop>
-    ensures all { OnOk result (Appends (O.written out.old) (O.written out.new) bytes.now) }
-    ensures prefix { AppendsPrefix (O.written out.old) (O.written out.new) bytes.now }
-    ensures cause { HasResumeCause (O.faults out.old) (O.faults out.new) result }
-    ensures told { ¬ IsRefused result }
-{
-    match put_all(out, bytes) {
-        Ok(()) => Ok(()),
-        Err(SinkFault::Failed) => Err(ResumeStop::WriteFault),
-        Err(SinkFault::OutOfMemory) => Err(ResumeStop::OutOfMemory),
-    }
-}
-
-// Whether no line ends in the bytes of a log, so that it has no row.
-fn ends_no_line(log: &[u8]) -> bool
-    ensures { Decides result (EndsNoLine log.now) }
-{
-    !log.contains(&b'\n')
 }
 
 // Writes the first line, where the log has no row: where it has one, the line was written before.
