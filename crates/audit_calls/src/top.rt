@@ -9,7 +9,7 @@ ghost use Rattle.audit_calls.specs.AuditCommands.{commands};
 
 use crate::reading::read_trial;
 use crate::verdict::put_verdict;
-use call_cases::{Outcome, empty_journal, plain_outcome, refuse};
+use call_cases::{Outcome, plain_outcome, refused_outcome};
 use gp_base::{Gate, Shelf, Sink};
 
 /// Audits the trace that the words name, as that of a run of the program that they name, over what is handed in. The words are
@@ -50,12 +50,6 @@ pub fn audit_run<R: AllocGlobal, H: Shelf, O: Sink, E: Sink, G: Gate>(
             let put = put_verdict(alloc, &trial, out);
             plain_outcome(alloc, put, err)
         }
-        Err(refusal) => {
-            let status = refuse(alloc, refusal, err);
-            Outcome {
-                status,
-                journal: empty_journal(alloc),
-            }
-        }
+        Err(refusal) => refused_outcome(alloc, refusal, err),
     }
 }

@@ -11,7 +11,7 @@ ghost use Rattle.call_cases.specs.RunCommands.{MayRead};
 ghost use Rattle.batch_calls.specs.CkptCommands.{asking, commands};
 
 use crate::crews::carry_out;
-use call_cases::{Outcome, Refusal, Request, empty_journal, read_for, refuse};
+use call_cases::{Outcome, Refusal, Request, read_for, refused_outcome};
 use command_line::read_ckpt_words;
 use gp_base::{Gate, Shelf, Sink};
 use std::alloc::Global;
@@ -65,12 +65,6 @@ pub fn ckpt_run<R: Threads + Sync + AllocGlobal, H: Shelf, O: Sink, E: Sink, G: 
     let alloc = rt.alloc();
     match read_ckpt(alloc, words, shelf) {
         Ok(request) => carry_out(rt, alloc, request, out, err, gate),
-        Err(refusal) => {
-            let status = refuse(alloc, refusal, err);
-            Outcome {
-                status,
-                journal: empty_journal(alloc),
-            }
-        }
+        Err(refusal) => refused_outcome(alloc, refusal, err),
     }
 }

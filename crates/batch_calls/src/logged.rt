@@ -11,11 +11,10 @@ ghost use Rattle.batch_calls.specs.inner.Logged.{IsLogged, LogsFor, stop_status}
 ghost use Rattle.batch_calls.specs.inner.Planned.{IsPlanOf, IsPlanned, work_planned};
 ghost use Rattle.batch_calls.specs.inner.Ran.{RunsIf, RanIf};
 
-use crate::plain::end_status;
 use crate::plan::{Begins, Plan};
 use crate::run::{put_tail, stopped};
 use crate::texts::OUTPUT;
-use call_cases::{Outcome, empty_journal};
+use call_cases::{Outcome, empty_journal, end_status};
 use command_line::Asked;
 use crew::Crew;
 use engine::{EngineStop, Report, StopWhy, drive_noted};

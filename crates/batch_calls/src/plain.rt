@@ -9,22 +9,11 @@ ghost use Rattle.call_cases.specs.Texts.{run_text};
 ghost use Rattle.call_cases.specs.PlainText.{plain_ran};
 
 use crate::texts::{OK, OUTPUT, printed};
-use call_cases::Request;
-use gp_base::{End, Sink, SinkFault, put_all};
+use call_cases::{Request, end_status};
+use gp_base::{Sink, SinkFault, put_all};
 use one_thread::run_plain;
 use restart_log::plain_tail_text;
 use std::alloc::Global;
-
-/// The status of a run that ends so.
-pub fn end_status(end: End) -> u8
-    ensures { result ≡ end_status end }
-{
-    match end {
-        End::Finished => 0,
-        End::Stuck { .. } => 5,
-        End::Spent(_) => 6,
-    }
-}
 
 /// Runs the program of a request on one thread, and writes the text of the run: the first line, the printed lines and the
 /// tail, each as one piece. The answer is the status.

@@ -11,11 +11,11 @@ ghost use Rattle.whole_run.specs.Recovering.{HasCuts};
 ghost use Rattle.batch_calls.specs.inner.Planned.{IsPlanOf, IsPlanned, recovery_of, work_planned};
 ghost use Rattle.batch_calls.specs.inner.Ran.{batch_from, RunsBatch, RunsWork};
 
-use call_cases::Request;
+use call_cases::{Request, copied_feeds};
 use command_line::{Asked, Command};
 use crew::Crew;
 use engine::{EngineStop, Report, drive};
-use gp_base::{Faults, Feed, Inputs, Limits, Seq, Sink};
+use gp_base::{Faults, Inputs, Limits, Sink};
 use gp_checkpoint::ckpt_drive;
 use lock_checker::Checked;
 use std::alloc::{AllocError, Global};
@@ -41,28 +41,6 @@ pub struct Plan {
     pub asked: Asked,
     pub checked: Checked,
     pub begins: Begins,
-}
-
-// The same feed again.
-fn copy_of(alloc: Global, feed: &Feed) -> Result<Feed, AllocError>
-    ensures { IfOk result (λ copy. copy ≡ feed.now) }
-{
-    let cells = feed.cells.copied(alloc)?;
-    Ok(Feed {
-        fields: feed.fields,
-        cells,
-    })
-}
-
-// The same feeds again.
-fn copies_of(alloc: Global, feeds: &[Feed]) -> Result<Seq<Feed>, AllocError>
-    ensures { IfOk result (λ copies. copies ≡ feeds.now) }
-{
-    let mut copies = Seq::new(alloc);
-    for feed in feeds {
-        copies.push(copy_of(alloc, feed)?)?;
-    }
-    Ok(copies)
 }
 
 // How the run of a command recovers from faults.
@@ -91,7 +69,7 @@ pub fn plan_of(alloc: Global, request: Request) -> Result<(Work, Plan), AllocErr
     } = request;
     let code = lower(alloc, &checked)?;
     let layout = checked.layout(alloc)?;
-    let feeds = copies_of(alloc, inputs.feeds.as_slice())?;
+    let feeds = copied_feeds(alloc, inputs.feeds.as_slice())?;
     let limits = asked.limits;
     let work = Work {
         code,

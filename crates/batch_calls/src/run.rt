@@ -16,11 +16,12 @@ ghost use Rattle.batch_calls.specs.inner.Planned.{IsPlanOf, Carries, work_planne
 ghost use Rattle.batch_calls.specs.inner.Ran.{RanFor, EndsFor, StopsWith, WritesLines, why_of, told_tail, told_soak};
 
 use crate::logged::{outcome_logged, put_logged};
-use crate::plain::{end_status, put_ok, put_one};
+use crate::plain::{put_ok, put_one};
 use crate::plan::{Plan, put_lines};
 use crate::texts::OUTPUT;
 use call_cases::{
-    OUT_OF_MEMORY, Outcome, Request, WRITE_FAULT, empty_journal, end_with, plain_outcome,
+    OUT_OF_MEMORY, Outcome, Request, WRITE_FAULT, empty_journal, end_status, end_with,
+    plain_outcome,
 };
 use command_line::{Command, Soak};
 use crew::Crew;

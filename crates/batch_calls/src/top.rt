@@ -6,7 +6,7 @@ ghost use Rattle.call_cases.specs.Answers.{change_of};
 ghost use Rattle.call_cases.specs.Headline.{Headline, ReadsNothing};
 
 use crate::crews::carry_out;
-use call_cases::{Outcome, empty_journal, read_request, refuse};
+use call_cases::{Outcome, read_request, refused_outcome};
 use gp_base::{Gate, Shelf, Sink};
 use std::thread::Threads;
 
@@ -44,12 +44,6 @@ pub fn gprs_run<R: Threads + Sync + AllocGlobal, H: Shelf, O: Sink, E: Sink, G: 
     let alloc = rt.alloc();
     match read_request(alloc, words, shelf) {
         Ok(request) => carry_out(rt, alloc, request, out, err, gate),
-        Err(refusal) => {
-            let status = refuse(alloc, refusal, err);
-            Outcome {
-                status,
-                journal: empty_journal(alloc),
-            }
-        }
+        Err(refusal) => refused_outcome(alloc, refusal, err),
     }
 }

@@ -15,7 +15,7 @@ ghost use Rattle.batch_calls.specs.inner.Planned.{IsPlanOf, Carries, work_planne
 use crate::crews::carry_out;
 use crate::plan::{Plan, plan_of};
 use crate::run::{carry_by, is_journalled, unbegun};
-use call_cases::{Outcome, Refusal, Request, empty_journal, read_for, refuse};
+use call_cases::{Outcome, Refusal, Request, read_for, refused_outcome};
 use command_line::{CrewKind, read_waiting_words};
 use gp_base::{Gate, Shelf, Sink};
 use pipe_crew::PipeCrew;
@@ -136,12 +136,6 @@ pub fn gprs_run_pipe<
     let alloc = rt.alloc();
     match read_waiting(alloc, words, shelf) {
         Ok(request) => carry_waiting(rt, alloc, request, out, err, gate),
-        Err(refusal) => {
-            let status = refuse(alloc, refusal, err);
-            Outcome {
-                status,
-                journal: empty_journal(alloc),
-            }
-        }
+        Err(refusal) => refused_outcome(alloc, refusal, err),
     }
 }

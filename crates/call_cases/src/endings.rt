@@ -1,11 +1,12 @@
 // How a call ends: its answer, and the line that tells why there is nothing to do.
-ghost use Rattle.std.specs.Prelude.{ℕ, List, []};
+ghost use Rattle.std.specs.Prelude.{◌≡◌, ℕ, List, []};
 ghost use Rattle.call_cases.specs.Answers.{Change, IsEmpty, PutFor, RunEnds, StopsBy, change_of};
 ghost use Rattle.call_cases.specs.Refusals.{RefusalEnds};
+ghost use Rattle.call_cases.specs.RunCommands.{end_status};
 
 use crate::lines::{OUT_OF_MEMORY, USAGE, WRITE_FAULT, end_with, read_fault_line};
 use crate::reading::Refusal;
-use gp_base::{Journal, Seq, Sink, SinkFault};
+use gp_base::{End, Journal, Seq, Sink, SinkFault};
 use std::alloc::Global;
 
 /// The answer of a call: its status, and the journal of the run.
@@ -25,6 +26,17 @@ pub fn empty_journal(alloc: Global) -> Journal
     }
 }
 
+/// The status of a run that ends so.
+pub fn end_status(end: End) -> u8
+    ensures { result ≡ end_status end }
+{
+    match end {
+        End::Finished => 0,
+        End::Stuck { .. } => 5,
+        End::Spent(_) => 6,
+    }
+}
+
 /// Tells why there is nothing to do, and answers the status. It is 8 where the write of that line fails, and 1 where memory
 /// runs out.
 pub fn refuse<E: Sink>(alloc: Global, refusal: Refusal, err: &mut E) -> u8
@@ -39,6 +51,18 @@ pub fn refuse<E: Sink>(alloc: Global, refusal: Refusal, err: &mut E) -> u8
             Err(_) => end_with(err, OUT_OF_MEMORY, 1),
         },
         Refusal::OutOfMemory => end_with(err, OUT_OF_MEMORY, 1),
+    }
+}
+
+/// How a call ended that had nothing to do: `err` took the line that tells why, and there is no journal.
+pub fn refused_outcome<E: Sink>(alloc: Global, refusal: Refusal, err: &mut E) -> Outcome
+    ensures ends { RefusalEnds (change_of E.written E.faults err.old err.new) refusal result.status }
+    ensures empty { IsEmpty result.journal }
+{
+    let status = refuse(alloc, refusal, err);
+    Outcome {
+        status,
+        journal: empty_journal(alloc),
     }
 }
 

@@ -4,13 +4,15 @@
 
 mod cases;
 mod endings;
+mod feeds;
 mod inputs;
 mod lines;
 mod reading;
 mod work;
 
 pub use cases::{one_case, some_case};
-pub use endings::{Outcome, empty_journal, plain_outcome, refuse};
+pub use endings::{Outcome, empty_journal, end_status, plain_outcome, refuse, refused_outcome};
+pub use feeds::copied_feeds;
 pub use inputs::{read_file, refused_input};
 pub use lines::{OUT_OF_MEMORY, WRITE_FAULT, end_with};
 pub use reading::{Refusal, read_asked, read_for, read_request};

@@ -3,8 +3,8 @@ ghost use Rattle.std.specs.Prelude.{◌≡◌, IfOk};
 ghost use Rattle.call_cases.specs.Decided.{IsSound, program_in};
 ghost use Rattle.resume_calls.specs.inner.Resting.{IsPlanOf};
 
-use call_cases::Request;
-use gp_base::{Feed, Inputs, Limits, Seq};
+use call_cases::{Request, copied_feeds};
+use gp_base::{Inputs, Limits};
 use lock_checker::Checked;
 use std::alloc::{AllocError, Global};
 use subthread::Work;
@@ -18,28 +18,6 @@ pub struct Plan {
     pub layout: Layout,
     pub inputs: Inputs,
     pub limits: Limits,
-}
-
-// The same feed again.
-fn copy_of(alloc: Global, feed: &Feed) -> Result<Feed, AllocError>
-    ensures { IfOk result (λ copy. copy ≡ feed.now) }
-{
-    let cells = feed.cells.copied(alloc)?;
-    Ok(Feed {
-        fields: feed.fields,
-        cells,
-    })
-}
-
-// The same feeds again.
-fn copies_of(alloc: Global, feeds: &[Feed]) -> Result<Seq<Feed>, AllocError>
-    ensures { IfOk result (λ copies. copies ≡ feeds.now) }
-{
-    let mut copies = Seq::new(alloc);
-    for feed in feeds {
-        copies.push(copy_of(alloc, feed)?)?;
-    }
-    Ok(copies)
 }
 
 /// The code of a request's program, and the plan of its run. The error is that memory is out.
@@ -58,7 +36,7 @@ pub fn plan_of(alloc: Global, request: Request) -> Result<(Work, Plan), AllocErr
     } = request;
     let code = lower(alloc, &checked)?;
     let layout = checked.layout(alloc)?;
-    let feeds = copies_of(alloc, inputs.feeds.as_slice())?;
+    let feeds = copied_feeds(alloc, inputs.feeds.as_slice())?;
     let limits = asked.limits;
     let work = Work {
         code,

@@ -5,12 +5,12 @@ ghost use Rattle.task_ast.specs.View.{plain_program};
 ghost use Rattle.lock_checker.specs.Accepted.{program_of};
 ghost use Rattle.subthread.specs.Tasks.{Suits, program_in};
 ghost use Rattle.call_cases.specs.Answers.{change_of};
-ghost use Rattle.call_cases.specs.RunCommands.{end_status};
 ghost use Rattle.resume_calls.specs.inner.Resting.{IsPlanOf, PutsFirst, PutsTail, Drives, Resumes};
 
 use crate::plan::Plan;
+use call_cases::end_status;
 use crew::Crew;
-use gp_base::{End, Inputs, Limits, Sink, Text};
+use gp_base::{Inputs, Limits, Sink, Text};
 use gp_resume::{ResumeStop, ends_no_line, put, resume_drive};
 use lock_checker::Checked;
 use reorder_list::Report;
@@ -22,17 +22,6 @@ use task_ast::Layout;
 
 /// The line before the printed lines.
 const OUTPUT: &[u8] = b"output\n";
-
-// The status of a run that ends so.
-fn end_status(end: End) -> u8
-    ensures { result ≡ end_status end }
-{
-    match end {
-        End::Finished => 0,
-        End::Stuck { .. } => 5,
-        End::Spent(_) => 6,
-    }
-}
 
 // Writes the first line, where the log has no row: where it has one, the line was written before.
 fn put_first<O: Sink>(log: &Text, out: &mut O) -> Result<(), ResumeStop>

@@ -14,7 +14,7 @@ use crate::endings::status_by;
 use crate::halted::Halted;
 use crate::reading::read_halted;
 use crate::waves::put_resumed;
-use call_cases::{Outcome, empty_journal, refuse};
+use call_cases::{Outcome, empty_journal, refused_outcome};
 use gp_base::{Gate, Shelf, Sink};
 use std::alloc::Global;
 use std::thread::Threads;
@@ -77,12 +77,6 @@ pub fn resume_run<R: Threads + Sync + AllocGlobal, H: Shelf, O: Sink, E: Sink, G
     let alloc = rt.alloc();
     match read_halted(alloc, words, shelf) {
         Ok(halted) => go_on(rt, alloc, halted, out, err, gate),
-        Err(refusal) => {
-            let status = refuse(alloc, refusal, err);
-            Outcome {
-                status,
-                journal: empty_journal(alloc),
-            }
-        }
+        Err(refusal) => refused_outcome(alloc, refusal, err),
     }
 }

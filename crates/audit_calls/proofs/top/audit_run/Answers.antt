@@ -22,8 +22,8 @@ returns-in-Ok-clause-headline g c = λ judge.
 
 pub returns-in-Err-clause-headline : goal.returns-in-Err-clause-headline
 returns-in-Err-clause-headline g c = λ judge.
-    let err = change_of g.E.Sink.written g.E.Sink.faults c.args.err.now c.refuse-status.new.err in
+    let err = change_of g.E.Sink.written g.E.Sink.faults c.args.err.now c.refused_outcome.new.err in
     refused_headline (commands judge) (commands_sound judge) (texts c.args.words.now) (g.H.Shelf.files c.args.shelf.now) (g.H.Shelf.failed c.args.shelf.now) (g.H.Shelf.failed c.read_trial.new.shelf)
-    (g.O.Sink.written c.args.out.now) (g.O.Sink.faults c.args.out.now) err c.refuse-status.result c.empty_journal.result c.in-Err.refusal
+    (g.O.Sink.written c.args.out.now) (g.O.Sink.faults c.args.out.now) err c.refused_outcome.result.status c.refused_outcome.result.journal c.in-Err.refusal
     c.in-Err.ensures.no_command (nothing_read judge (texts c.args.words.now) (λ none. ap g.H.Shelf.failed (c.in-Err.ensures.unread none))) (c.in-Err.ensures.case judge) c.in-Err.ensures.shelf
-    c.empty_journal.ensures c.refuse-status.ensures
+    c.refused_outcome.ensures.empty c.refused_outcome.ensures.ends

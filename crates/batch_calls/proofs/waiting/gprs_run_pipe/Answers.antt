@@ -23,7 +23,7 @@ returns-in-Ok-clause-headline g c =
 
 pub returns-in-Err-clause-headline : goal.returns-in-Err-clause-headline
 returns-in-Err-clause-headline g c =
-    let err = change_of g.E.Sink.written g.E.Sink.faults c.args.err.now c.refuse-status.new.err in
+    let err = change_of g.E.Sink.written g.E.Sink.faults c.args.err.now c.refused_outcome.new.err in
     refused_headline commands waiting_sound (texts c.args.words.now) (g.H.Shelf.files c.args.shelf.now) (g.H.Shelf.failed c.args.shelf.now) (g.H.Shelf.failed c.read_waiting.new.shelf)
-    (g.O.Sink.written c.args.out.now) (g.O.Sink.faults c.args.out.now) err c.refuse-status.result c.empty_journal.result c.in-Err.refusal
-    c.in-Err.ensures.no_command (λ nothing. ap g.H.Shelf.failed (c.in-Err.ensures.unread nothing)) c.in-Err.ensures.case c.in-Err.ensures.shelf c.empty_journal.ensures c.refuse-status.ensures
+    (g.O.Sink.written c.args.out.now) (g.O.Sink.faults c.args.out.now) err c.refused_outcome.result.status c.refused_outcome.result.journal c.in-Err.refusal
+    c.in-Err.ensures.no_command (λ nothing. ap g.H.Shelf.failed (c.in-Err.ensures.unread nothing)) c.in-Err.ensures.case c.in-Err.ensures.shelf c.refused_outcome.ensures.empty c.refused_outcome.ensures.ends

@@ -1,5 +1,5 @@
 use Rattle.std.proofs.Common.{◌≡◌, take}
-use Rattle.batch_calls.proofs.plan.copies_of.Given as goal
+use Rattle.call_cases.proofs.feeds.copied_feeds.Given as goal
 
 -- the feeds so far
 abbrev pub invariant-loop-feed : goal.invariant-loop-feed
