@@ -1,4 +1,7 @@
--- A trace is read in one way, and so are the answers to its file.
+-- A trace is read in one way, and so are the answers to its file. Of two readings of one text the shorter list of lines
+-- is a beginning of the longer one. Where the shorter reading stops, no line stands, so neither goes on beyond the
+-- other; and where both stop at a row that is no line, it is the same row. The answers to the file follow from what is
+-- read.
 use Rattle.std.proofs.Common.{◌≡◌, ◌≢◌, ◌<◌, ◌≤◌, ◌+◌, ℕ, true, false, List, [], ◌∷◌, ◌++◌, length, take, drop, Contains, IfSome, refl, sym, ap, subst, ◌∙◌, arith, append_assoc, inl, inr, nat_lt, if◌then◌else◌}
 use Rattle.std.specs.List.{All}
 use Rattle.std.specs.Prelude.{IsSomeAnd}
@@ -74,7 +77,8 @@ no_further xs ys r s nx ny none same short = go once.0 once.1 (rest ∙ ap (λ t
     go [] are is = ap length (sym (are ∙ append-nil xs))
     go (z ∷ zs) are is =
         absurd (none z (trace_text zs ++ s)
-        (All-contains IsNarrowLine ys z ny (subst (λ lines. Contains lines z) (sym are) (Contains-append_right xs (z ∷ zs) z (0, omega arith, refl))))
+        (All-contains IsNarrowLine ys z ny (subst (λ lines. Contains lines z) (sym are)
+        (Contains-append_right xs (z ∷ zs) z (0, omega arith, refl))))
         (is ∙ append_assoc (line_text z) (trace_text zs) s))
 
 -- the first row that is no line has one number
@@ -101,7 +105,10 @@ pub one_reading : (bytes : List ℕ) (a b : Result (List TraceLine) ℕ) → Rea
 one_reading bytes (Ok lines) b is other = sym (ok_reading bytes lines b is other)
 one_reading bytes (Err row) (Ok lines) is other = ok_reading bytes lines (Err row) other is
 one_reading bytes (Err row) (Err number) is other =
-    ap Err (is.counted ∙ (ap (λ n. n + 1) (same_row is.lines other.lines is.rest other.rest is.narrow other.narrow is.no_line other.no_line (sym is.bytes_are ∙ other.bytes_are)) ∙ sym other.counted))
+    ap Err
+    (is.counted
+    ∙ (ap (λ n. n + 1) (same_row is.lines other.lines is.rest other.rest is.narrow other.narrow is.no_line other.no_line
+    (sym is.bytes_are ∙ other.bytes_are)) ∙ sym other.counted))
 
 -- no more lines than there may be bytes
 pub few_read : (text : List ℕ) (lines : List TraceLine) → length text ≤ MOST_FILE_BYTES → text ≡ trace_text lines
@@ -126,9 +133,11 @@ past_file text above = grind (arith, nat_tests, above)
 module _ (judge : Judge) (names : List Name) (file : Name) (work : ToDo) where
   -- a text that is short enough comes to what it is read as
   by_reading : (text : List ℕ) (read : Result (List TraceLine) ℕ) → length text ≤ MOST_FILE_BYTES → Reads text read
-      → (if nat_lt MOST_FILE_BYTES (length text) then Spoils (names ++ file ∷ []) (input_line file 6 0) else by_rows judge names file work (judge.lines_of text)) ≡ by_rows judge names file work read
+      → (if nat_lt MOST_FILE_BYTES (length text) then Spoils (names ++ file ∷ [])
+      (input_line file 6 0) else by_rows judge names file work (judge.lines_of text)) ≡ by_rows judge names file work read
   by_reading text read within is =
-      ap (λ b. if b then Spoils (names ++ file ∷ []) (input_line file 6 0) else by_rows judge names file work (judge.lines_of text)) (within_file text within)
+      ap (λ b. if b then Spoils (names ++ file ∷ []) (input_line file 6 0) else by_rows judge names file work (judge.lines_of text))
+      (within_file text within)
       ∙ ap (by_rows judge names file work) (one_reading text (judge.lines_of text) read (judge.reads text) is)
 
   pub lines_told : (text : List ℕ) (lines : List TraceLine) → length text ≤ MOST_FILE_BYTES → AnswersTrace text (Ok lines)
@@ -155,7 +164,8 @@ module _ (judge : Judge) (names : List Name) (file : Name) (work : ToDo) where
       → IsSomeAnd bytes (λ text. MOST_FILE_BYTES < length text) → AnswersLines judge names file work bytes (Err (BadInput line))
   long_told None line is above = absurd above
   long_told (Some text) line is above =
-      ap (λ b. if b then Spoils (names ++ file ∷ []) (input_line file 6 0) else by_rows judge names file work (judge.lines_of text)) (past_file text above) ∙ ap (Spoils (names ++ file ∷ [])) (sym is)
+      ap (λ b. if b then Spoils (names ++ file ∷ []) (input_line file 6 0) else by_rows judge names file work (judge.lines_of text))
+      (past_file text above) ∙ ap (Spoils (names ++ file ∷ [])) (sym is)
 
   pub unread_told : (T : Type 0) (files : Option Files) (before now : List Name) (refusal : Refusal)
       → IfSome files (λ told. AnswersFile file (bytes_of told file) (Err refusal))

@@ -1,4 +1,7 @@
--- There is a judge: how a trace is read, and how its lines are judged, can be decided.
+-- There is a judge: how a trace is read, and how its lines are judged, can be decided. Each question is decided by
+-- itself, and the answers are put together: whether a text begins with another, whether with a number below the limit
+-- (by trying each one), and so whether with a line of each kind. Lines are read from the front, with the length of what
+-- is left as the bound of the recursion.
 use Rattle.std.proofs.Common.{◌≡◌, ◌≢◌, ◌⊎◌, inl, inr, ◌<◌, ◌≤◌, ◌+◌, ◌^◌, ℕ, zero, suc, Bool, true, false, List, [], ◌∷◌, ◌++◌, length, length-append, refl, sym, ap, subst, ◌∙◌, arith, append_assoc, append-nil}
 use Rattle.std.specs.Prelude.{codes, decimal}
 use Rattle.std.specs.Bool.{Decides}
@@ -123,7 +126,8 @@ one_number text bytes = below (λ n. (rest : List ℕ) × (bytes ≡ text n ++ r
 
 two_numbers : (text : ℕ → ℕ → List ℕ) (bytes : List ℕ)
     → Choice ((n : ℕ) × (n < 2 ^ 32) × ((m : ℕ) × (m < 2 ^ 32) × ((rest : List ℕ) × (bytes ≡ text n m ++ rest))))
-two_numbers text bytes = below (λ n. (m : ℕ) × (m < 2 ^ 32) × ((rest : List ℕ) × (bytes ≡ text n m ++ rest))) (2 ^ 32) (λ n. one_number (text n) bytes)
+two_numbers text bytes =
+    below (λ n. (m : ℕ) × (m < 2 ^ 32) × ((rest : List ℕ) × (bytes ≡ text n m ++ rest))) (2 ^ 32) (λ n. one_number (text n) bytes)
 
 abbrev IsRedoAt : List ℕ → Type 0
 IsRedoAt bytes = (redo : List ℕ) × All IsNarrow redo × ((rest : List ℕ) × (bytes ≡ redo_end redo ++ rest))
@@ -157,8 +161,22 @@ redo_at (suc fuel) (b ∷ bytes) short =
               let size = ap length tail.1 in
               let more = length-append (decimal p) tail.0 in
               same_choice
-              (λ found. (found.0, found.1, (found.2.0, (let same = found.2.1 in tail.1 ∙ ap (λ text. codes " " ++ (decimal p ++ text)) same))))
-              (λ found. (found.0, found.1, (found.2.0, cancel (codes " " ++ decimal p) tail.0 (redo_end found.0 ++ found.2.0) (sym tail.1 ∙ found.2.1))))
+              (λ found. (
+                found.0,
+                found.1,
+                (
+                  found.2.0,
+                  (let same = found.2.1 in tail.1 ∙ ap (λ text. codes " " ++ (decimal p ++ text)) same),
+                ),
+              ))
+              (λ found. (
+                found.0,
+                found.1,
+                (
+                  found.2.0,
+                  cancel (codes " " ++ decimal p) tail.0 (redo_end found.0 ++ found.2.0) (sym tail.1 ∙ found.2.1),
+                ),
+              ))
               (again tail.0 (omega (arith, size, more, short)))
           | inr not ↦ inr (λ found. not (redo_end found.0 ++ found.2.0, found.2.1))
         ]
@@ -194,14 +212,25 @@ restart_at bytes =
     let struck = found.2 in
     let attempt = struck.2 in
     let redone = attempt.2 in
-    let r : Restart = record { front = found.0; struck = struck.0; attempt = attempt.0; redo = redone.0 } in
-    (r, record { front = found.1; struck = struck.1; attempt = attempt.1; redo = redone.1 }, (redone.2.0, redone.2.1 ∙ sym (parts r redone.2.0))))
+    let r : Restart = record { front = found.0; struck = struck.0; attempt = attempt.0; redo = redone.0 } in (
+      r,
+      record { front = found.1; struck = struck.1; attempt = attempt.1; redo = redone.1 },
+      (redone.2.0, redone.2.1 ∙ sym (parts r redone.2.0)),
+    ))
     (λ found.
     let r = found.0 in
-    let narrow = found.1 in
-    (r.front, narrow.front, (r.struck, narrow.struck, (r.attempt, narrow.attempt, (r.redo, narrow.redo, (found.2.0, found.2.1 ∙ parts r found.2.0))))))
+    let narrow = found.1 in (
+      r.front,
+      narrow.front,
+      (
+        r.struck,
+        narrow.struck,
+        (r.attempt, narrow.attempt, (r.redo, narrow.redo, (found.2.0, found.2.1 ∙ parts r found.2.0))),
+      ),
+    ))
     (below (λ f. (s : ℕ) × (s < 2 ^ 32) × ((a : ℕ) × (a < 2 ^ 32) × IsRedoneAfter f s a bytes)) (2 ^ 32)
-    (λ f. below (λ s. (a : ℕ) × (a < 2 ^ 32) × IsRedoneAfter f s a bytes) (2 ^ 32) (λ s. below (λ a. IsRedoneAfter f s a bytes) (2 ^ 32) (λ a. after_head f s a bytes))))
+    (λ f. below (λ s. (a : ℕ) × (a < 2 ^ 32) × IsRedoneAfter f s a bytes) (2 ^ 32)
+    (λ s. below (λ a. IsRedoneAfter f s a bytes) (2 ^ 32) (λ a. after_head f s a bytes))))
 
 restart_line : (bytes : List ℕ)
     → Choice ((r : Restart) × IsNarrowRestart r × ((rest : List ℕ) × (bytes ≡ codes "restart " ++ (restart_end r ++ rest))))
@@ -210,7 +239,14 @@ restart_line bytes =
       | inl tail ↦
           same_choice {P = IsRestartAt tail.0}
           (λ found. (found.0, found.1, (found.2.0, tail.1 ∙ ap (λ text. codes "restart " ++ text) found.2.1)))
-          (λ found. (found.0, found.1, (found.2.0, cancel (codes "restart ") tail.0 (restart_end found.0 ++ found.2.0) (sym tail.1 ∙ found.2.1))))
+          (λ found. (
+            found.0,
+            found.1,
+            (
+              found.2.0,
+              cancel (codes "restart ") tail.0 (restart_end found.0 ++ found.2.0) (sym tail.1 ∙ found.2.1),
+            ),
+          ))
           (restart_at tail.0)
       | inr not ↦ inr (λ found. not (restart_end found.0 ++ found.2.0, found.2.1))
     ]
@@ -269,10 +305,19 @@ read_from (suc fuel) bytes lines (b ∷ rest) short narrow is =
           let size = ap length found.2.1 in
           let more = length-append (line_text l) later in
           let some = few-lines (line_text l) [] (l ∷ []) (sym (append-nil (line_text l ++ []) ∙ append-nil (line_text l))) in
-          read_from fuel bytes (lines ++ l ∷ []) later (omega (arith, size, more, some, short)) (All-push IsNarrowLine lines l narrow found.1) (text-next bytes (b ∷ rest) later lines l is found.2.1)
+          read_from fuel bytes (lines ++ l ∷ []) later (omega (arith, size, more, some, short))
+          (All-push IsNarrowLine lines l narrow found.1) (text-next bytes (b ∷ rest) later lines l is found.2.1)
       | inr none ↦ (
         Err (length lines + 1),
-        record { lines = lines; narrow = narrow; rest = b ∷ rest; bytes_are = is; some_row = λ nothing. cc nothing; no_line = λ l after n same. none (l, n, (after, same)); counted = refl },
+        record {
+          lines = lines;
+          narrow = narrow;
+          rest = b ∷ rest;
+          bytes_are = is;
+          some_row = λ nothing. cc nothing;
+          no_line = λ l after n same. none (l, n, (after, same));
+          counted = refl;
+        },
       )
     ]
 

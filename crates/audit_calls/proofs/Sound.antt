@@ -19,4 +19,9 @@ told_apart status (inr (inr is)) = inr (inr (inr (omega (arith, is))))
 
 pub commands_sound : (judge : Judge) → AreSound (commands judge)
 commands_sound judge =
-    record { ends = λ tried. verdict_told tried.verdict; apart = told_apart; begins = λ tried journal empty. tt; unbegun = λ tried journal written faults empty. tt }
+    record {
+      ends = λ tried. verdict_told tried.verdict;
+      apart = told_apart;
+      begins = λ tried journal empty. tt;
+      unbegun = λ tried journal written faults empty. tt;
+    }

@@ -50,7 +50,8 @@ module _ (run : List Subthread) (faults : List Fault) where
   alone_restarts (command.Ckpt every) alone = absurd alone
   alone_restarts command.Log alone = refl
 
-  alone_complete : (c : Command) (events : List Event) → RestartsAlone c → CompleteBy c run faults events → Complete (dependence_of run) faults events
+  alone_complete : (c : Command) (events : List Event) → RestartsAlone c → CompleteBy c run faults events
+      → Complete (dependence_of run) faults events
   alone_complete command.Run events alone is = is
   alone_complete command.One events alone is = is
   alone_complete command.Check events alone is = is
@@ -63,18 +64,21 @@ unfolding run_of restarts_in
 alone_first work alone = sym (alone_restarts (run_of work) work.faults work.command alone)
 
 -- what a headline says of the journal of a run that ended
-module _ (call : Call) (files : Files) (names : List Name) (work : ToDo) (headline : Headline run.commands call) (known : call.files ≡ Some files)
+module _ (call : Call) (files : Files) (names : List Name) (work : ToDo) (headline : Headline run.commands call)
+    (known : call.files ≡ Some files)
     (is : IsCase run.asking call.words files (Go names work)) (runs : is_journalled work.command ≡ true) where
   journal_of : IsJournalOf work call.journal
   journal_of =
-      subst (λ told. ForCase run.asking call.words told (λ case. ForRun run.commands case (λ w. IsJournalOf w call.journal))) known headline.lawful (Go names work) is runs
+      subst (λ told. ForCase run.asking call.words told (λ case. ForRun run.commands case (λ w. IsJournalOf w call.journal))) known
+      headline.lawful (Go names work) is runs
 
   alone : RestartsAlone work.command
   alone = restarts_alone call.words files names work is
 
   complete_of : run.IsWhole call.status → IsCompleteOf work call.journal
   complete_of whole =
-      subst (λ told. ForCase run.asking call.words told (λ case. ForRun run.commands case (λ w. IsCompleteOf w call.journal))) known (headline.complete whole) (Go names work) is runs
+      subst (λ told. ForCase run.asking call.words told (λ case. ForRun run.commands case (λ w. IsCompleteOf w call.journal))) known
+      (headline.complete whole) (Go names work) is runs
 
   whole_run : run.IsWhole call.status → IsWholeRun (run_of work) work.faults call.journal
   whole_run whole = record {
@@ -85,15 +89,18 @@ module _ (call : Call) (files : Files) (names : List Name) (work : ToDo) (headli
 
   -- what a judge reads in its trace, and how these lines are judged
   judged : (judge : Judge) → run.IsWhole call.status → IsNarrowRun (run_of work) work.faults
-      → (lines : List TraceLine) × (judge.lines_of (trace_text call.journal) ≡ Ok lines) × ((verdict : Verdict) → IsVerdict (dependence_for work) work.faults lines verdict → verdict ≡ Lawful)
+      → (lines : List TraceLine) × (judge.lines_of (trace_text call.journal) ≡ Ok lines)
+      × ((verdict : Verdict) → IsVerdict (dependence_for work) work.faults lines verdict → verdict ≡ Lawful)
   unfolding dependence_for
   judged judge whole narrow =
-      elim (audit-is-lawful (run_of work) work.faults call.journal narrow (whole_run whole) (told read) (told_reads text read (judge.reads text))) [
+      elim (audit-is-lawful (run_of work) work.faults call.journal narrow (whole_run whole) (told read)
+      (told_reads text read (judge.reads text))) [
         | inl out ↦ absurd (told_something read out)
         | inr found ↦ (
           found.0,
           told_lines read found.0 found.1,
-          λ verdict is_verdict. found.2 verdict (subst (λ (dependence : Dependence). IsVerdict dependence work.faults found.0 verdict) (sym (order-is (run_of work))) is_verdict),
+          λ verdict is_verdict. found.2 verdict (subst (λ (dependence : Dependence). IsVerdict dependence work.faults found.0 verdict)
+              (sym (order-is (run_of work))) is_verdict),
         )
       ]
     where
@@ -117,8 +124,11 @@ same_verdict : (judge : Judge) (work other : ToDo) (lines : List TraceLine) → 
     → (tried judge other lines).verdict ≡ Lawful
 same_verdict judge work other lines same lawful =
     let verdict = judge.verdict_of (dependence_for other) other.faults lines in
-    let faults = subst (λ fs. IsVerdict (dependence_for other) fs lines verdict) (sym same.faults) (judge.judges (dependence_for other) other.faults lines) in
-    lawful verdict (subst (λ (dependence : Dependence). IsVerdict dependence work.faults lines verdict) (sym (same_dependence work other same)) faults)
+    let faults =
+    subst (λ fs. IsVerdict (dependence_for other) fs lines verdict) (sym same.faults)
+    (judge.judges (dependence_for other) other.faults lines) in
+    lawful verdict (subst (λ (dependence : Dependence). IsVerdict dependence work.faults lines verdict)
+    (sym (same_dependence work other same)) faults)
 
 pub trace_law : TraceLaw
 trace_law judge call files names work headline known is runs whole narrow within audited files' names' work' case is' same holds is_case =
@@ -127,6 +137,11 @@ trace_law judge call files names work headline known is runs whole narrow within
     let answers : AnswersLines judge names' audited.trace work' (bytes_of files' audited.trace) (Ok found.0) =
     subst (λ bytes. AnswersLines judge names' audited.trace work' bytes (Ok found.0)) (sym holds)
     (lines_told judge names' audited.trace work' text found.0 within (subst (Reads text) found.1 (judge.reads text))) in
-    let one = one_case_of (asking judge) audited files' (Go (names' ++ audited.trace ∷ []) (tried judge work' found.0)) case (lines_case judge audited files' names' work' found.0 is' answers) is_case in
-    let verdict = same_verdict judge work work' found.0 same found.2 in
-    (sym (ap (status_of (commands judge)) one) ∙ ap verdict_status verdict, sym (ap (text_of (commands judge)) one) ∙ ap verdict_text verdict)
+    let one =
+    one_case_of (asking judge) audited files' (Go (names' ++ audited.trace ∷ []) (tried judge work' found.0)) case
+    (lines_case judge audited files' names' work' found.0 is' answers) is_case in
+    let verdict = same_verdict judge work work' found.0 same found.2 in (
+      sym (ap (status_of (commands judge)) one) ∙ ap verdict_status verdict,
+      sym (ap (text_of (commands judge)) one)
+          ∙ ap verdict_text verdict,
+    )

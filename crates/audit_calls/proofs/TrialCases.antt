@@ -1,4 +1,6 @@
--- The case of an audit goes on where that of its run would begin.
+-- The case of an audit goes on where that of its run would begin. The case comes to what is read, and that is followed
+-- from the inside out: the rows of the trace, whether it is too long, its bytes, and so on up to the words; at each of
+-- these the two cases are the same, mostly by computing both.
 use Rattle.std.proofs.Common.{◌≡◌, ℕ, Bool, true, false, List, [], ◌∷◌, ◌++◌, length, IfSome, refl, subst, nat_lt, if◌then◌else◌}
 use Rattle.std.specs.List.{Contains}
 use Rattle.std.specs.declared.option.Option.{Option}
@@ -37,18 +39,22 @@ traced_case (Spoils names line) = BadInput names line
 
 module _ (judge : Judge) (audited : Audited) where
   below_rows : (program : Name) (names : List Name) (work : ToDo) (rows : Result (List TraceLine) ℕ)
-      → supplied_case program (by_rows judge names audited.trace work rows) ≡ traced_case (by_rows judge (program ∷ names) audited.trace work rows)
+      → supplied_case program (by_rows judge names audited.trace work rows)
+      ≡ traced_case (by_rows judge (program ∷ names) audited.trace work rows)
   below_rows program names work (Ok lines) = refl
   below_rows program names work (Err row) = refl
 
   below_long : (program : Name) (names : List Name) (work : ToDo) (long : Bool) (rows : Result (List TraceLine) ℕ)
-      → supplied_case program (if long then Spoils (names ++ audited.trace ∷ []) (input_line audited.trace 6 0) else by_rows judge names audited.trace work rows)
-      ≡ traced_case (if long then Spoils ((program ∷ names) ++ audited.trace ∷ []) (input_line audited.trace 6 0) else by_rows judge (program ∷ names) audited.trace work rows)
+      → supplied_case program (if long then Spoils (names ++ audited.trace ∷ [])
+      (input_line audited.trace 6 0) else by_rows judge names audited.trace work rows)
+      ≡ traced_case (if long then Spoils ((program ∷ names) ++ audited.trace ∷ []) (input_line audited.trace 6 0) else by_rows judge
+      (program ∷ names) audited.trace work rows)
   below_long program names work true rows = refl
   below_long program names work false rows = below_rows program names work rows
 
   below_bytes : (program : Name) (names : List Name) (work : ToDo) (bytes : Option (List ℕ))
-      → supplied_case program (by_trace judge names audited.trace work bytes) ≡ traced_case (by_trace judge (program ∷ names) audited.trace work bytes)
+      → supplied_case program (by_trace judge names audited.trace work bytes)
+      ≡ traced_case (by_trace judge (program ∷ names) audited.trace work bytes)
   below_bytes program names work None = refl
   below_bytes program names work (Some text) = below_long program names work (nat_lt MOST_FILE_BYTES (length text)) (judge.lines_of text)
 
@@ -61,7 +67,8 @@ module _ (judge : Judge) (audited : Audited) where
 
   keeps_long : (names : List Name) (work : ToDo) (long : Bool) (rows : Result (List TraceLine) ℕ) (name : Name)
       → Contains (names ++ audited.trace ∷ []) name
-      → Contains (names_read (traced_case (if long then Spoils (names ++ audited.trace ∷ []) (input_line audited.trace 6 0) else by_rows judge names audited.trace work rows))) name
+      → Contains (names_read (traced_case (if long then Spoils (names ++ audited.trace ∷ [])
+      (input_line audited.trace 6 0) else by_rows judge names audited.trace work rows))) name
   keeps_long names work true rows name is = is
   keeps_long names work false rows name is = keeps_rows names work rows name is
 
@@ -75,11 +82,13 @@ module _ (judge : Judge) (audited : Audited) where
     after names work = traced_case (by_trace judge names audited.trace work (bytes_of files audited.trace))
 
     goes_on : (program : Program)
-        → supplied_case audited.run.program (supplied judge audited program files) ≡ further_case after (supplied_case audited.run.program (supplied_by audited.run program files))
+        → supplied_case audited.run.program (supplied judge audited program files)
+        ≡ further_case after (supplied_case audited.run.program (supplied_by audited.run program files))
     goes_on program = go (supplied_by audited.run program files)
       where
         go : (given : Supplied ToDo)
-            → supplied_case audited.run.program (then_load given (λ names work. by_trace judge names audited.trace work (bytes_of files audited.trace)))
+            → supplied_case audited.run.program (then_load given
+            (λ names work. by_trace judge names audited.trace work (bytes_of files audited.trace)))
             ≡ further_case after (supplied_case audited.run.program given)
         go (Supplies names work) = below_bytes audited.run.program names work (bytes_of files audited.trace)
         go (Lacks names name) = refl
@@ -93,35 +102,44 @@ module _ (judge : Judge) (audited : Audited) where
 
     pub case_after : (names : List Name) (work : ToDo) → IsCaseOf run.asking audited.run files (Go names work)
         → IsCaseOf (asking judge) audited files (after names work)
-    case_after names work is = to_audit (after names work) (further run.asking (λ (a : Audited). a.run) audited_by (supplied judge) audited files after goes_on (Go names work) is)
+    case_after names work is =
+        to_audit (after names work) (further run.asking (λ (a : Audited). a.run) audited_by
+        (supplied judge) audited files after goes_on (Go names work) is)
 
     reads_on : (names : List Name) (work : ToDo) (name : Name) → Contains names name → Contains (names_read (after names work)) name
-    reads_on names work name is = keeps_bytes names work (bytes_of files audited.trace) name (Contains-append_left names (audited.trace ∷ []) name is)
+    reads_on names work name is =
+        keeps_bytes names work (bytes_of files audited.trace) name (Contains-append_left names (audited.trace ∷ []) name is)
 
     -- what the run is refused for, the audit is
     run_refused : (refusal : Refusal) → RefusesCase (IsCaseOf run.asking audited.run files) refusal
         → RefusesCase (IsCaseOf (asking judge) audited files) refusal
     run_refused refusal is =
-        refuses_map (IsCaseOf (further_asking run.asking (λ (a : Audited). a.run) audited_by (supplied judge)) audited files) (IsCaseOf (asking judge) audited files) to_audit refusal
+        refuses_map (IsCaseOf (further_asking run.asking (λ (a : Audited). a.run) audited_by (supplied judge)) audited files)
+        (IsCaseOf (asking judge) audited files) to_audit refusal
         (refuses_further run.asking (λ (a : Audited). a.run) audited_by (supplied judge) audited files after goes_on reads_on refusal is)
 
     pub lines_case : (names : List Name) (work : ToDo) (lines : List TraceLine) → IsCaseOf run.asking audited.run files (Go names work)
         → AnswersLines judge names audited.trace work (bytes_of files audited.trace) (Ok lines)
         → IsCaseOf (asking judge) audited files (Go (names ++ audited.trace ∷ []) (tried judge work lines))
-    lines_case names work lines is answers = subst (λ given. IsCaseOf (asking judge) audited files (traced_case given)) answers (case_after names work is)
+    lines_case names work lines is answers =
+        subst (λ given. IsCaseOf (asking judge) audited files (traced_case given)) answers (case_after names work is)
 
     trace_refused : (names : List Name) (work : ToDo) (refusal : Refusal) → IsCaseOf run.asking audited.run files (Go names work)
         → AnswersLines judge names audited.trace work (bytes_of files audited.trace) (Err refusal)
         → RefusesCase (IsCaseOf (asking judge) audited files) refusal
     trace_refused names work refused.Usage is answers = absurd answers
     trace_refused names work (refused.BadProgram line) is answers = absurd answers
-    trace_refused names work (refused.BadInput line) is answers =
-        (names ++ audited.trace ∷ [], subst (λ given. IsCaseOf (asking judge) audited files (traced_case given)) answers (case_after names work is))
+    trace_refused names work (refused.BadInput line) is answers = (
+      names ++ audited.trace ∷ [],
+      subst (λ given. IsCaseOf (asking judge) audited files (traced_case given)) answers
+          (case_after names work is),
+    )
     trace_refused names work (refused.ReadFault name) is answers = (
       after names work,
       case_after names work is,
       subst (λ told. Contains (names_read (after names work)) told) answers
-          (keeps_bytes names work (bytes_of files audited.trace) audited.trace (Contains-append_right names (audited.trace ∷ []) audited.trace (0, omega arith, refl))),
+          (keeps_bytes names work (bytes_of files audited.trace) audited.trace
+          (Contains-append_right names (audited.trace ∷ []) audited.trace (0, omega arith, refl))),
     )
     trace_refused names work refused.OutOfMemory is answers = tt
 
@@ -138,7 +156,8 @@ module _ (judge : Judge) (audited : Audited) where
       → IfSome files (λ told. IsCaseOf (asking judge) audited told (Go (names ++ audited.trace ∷ []) (tried judge work lines)))
   lines_judged None known names work lines same is answers = tt
   lines_judged (Some files) known names work lines same is answers =
-      lines_case files names work lines is (subst (λ k. IfSome k (λ told. AnswersLines judge names audited.trace work (bytes_of told audited.trace) (Ok lines))) same answers)
+      lines_case files names work lines is (subst
+      (λ k. IfSome k (λ told. AnswersLines judge names audited.trace work (bytes_of told audited.trace) (Ok lines))) same answers)
 
   pub trace_refuses : (files known : Option Files) (names : List Name) (work : ToDo) (refusal : Refusal) → known ≡ files
       → IfSome files (λ told. IsCaseOf run.asking audited.run told (Go names work))
@@ -146,7 +165,9 @@ module _ (judge : Judge) (audited : Audited) where
       → IfSome files (λ told. RefusesCase (IsCaseOf (asking judge) audited told) refusal)
   trace_refuses None known names work refusal same is answers = tt
   trace_refuses (Some files) known names work refusal same is answers =
-      trace_refused files names work refusal is (subst (λ k. IfSome k (λ told. AnswersLines judge names audited.trace work (bytes_of told audited.trace) (Err refusal))) same answers)
+      trace_refused files names work refusal is
+      (subst (λ k. IfSome k (λ told. AnswersLines judge names audited.trace work (bytes_of told audited.trace) (Err refusal))) same
+      answers)
 
 -- what the shelf tells of a refusal
 module _ (audited : Audited) (before now : List Name) where

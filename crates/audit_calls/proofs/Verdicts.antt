@@ -34,7 +34,8 @@ pub few_steps : (program : Program) (inputs : Inputs) (limits : Limits) (steps :
     → steps ≡ map shown (order program inputs limits) → limits.subthreads ≤ MOST_SUBTHREADS
     → length steps < 4294967295
 few_steps program inputs limits steps are few =
-    let count : length (order program inputs limits) ≤ limits.subthreads = count_law (tree_machine program inputs limits) program inputs limits in
+    let count : length (order program inputs limits) ≤ limits.subthreads =
+    count_law (tree_machine program inputs limits) program inputs limits in
     let same = ap length are ∙ length-map (order program inputs limits) shown in
     omega (arith, count, same)
 
@@ -54,13 +55,20 @@ pub stopped_memory : (text : List ℕ) (due : ℕ) (written : Option (List ℕ))
     → PutFor text due (unwritten written faults) result
 stopped_memory text due written faults result fault is out =
     subst (PutFor text due (unwritten written faults)) (sym is)
-    (record { status = tt; all = tt; part = prefix_none written text; cause = λ failed. let never : OutOfMemory ≡ Failed = sym out ∙ failed in cc never })
+    (record {
+      status = tt;
+      all = tt;
+      part = prefix_none written text;
+      cause = λ failed. let never : OutOfMemory ≡ Failed = sym out
+          ∙ failed in cc never;
+    })
 
 -- no two judges differ
 pub one_judge : OneJudge
 one_judge judge other = (
   λ bytes. one_reading bytes (judge.lines_of bytes) (other.lines_of bytes) (judge.reads bytes) (other.reads bytes),
   λ dependence faults lines.
-      verdict_once dependence faults lines (judge.verdict_of dependence faults lines) (other.verdict_of dependence faults lines) (judge.judges dependence faults lines)
+      verdict_once dependence faults lines (judge.verdict_of dependence faults lines) (other.verdict_of dependence faults lines)
+      (judge.judges dependence faults lines)
       (other.judges dependence faults lines),
 )

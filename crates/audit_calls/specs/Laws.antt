@@ -21,7 +21,8 @@ use Rattle.audit_calls.specs.AuditCommands.{asking, commands}
 abbrev pub OneJudge : Type 0
 OneJudge =
     (judge other : Judge) → ((bytes : List ℕ) → judge.lines_of bytes ≡ other.lines_of bytes)
-    × ((dependence : Dependence) (faults : List Fault) (lines : List TraceLine) → judge.verdict_of dependence faults lines ≡ other.verdict_of dependence faults lines)
+    × ((dependence : Dependence) (faults : List Fault) (lines : List TraceLine)
+    → judge.verdict_of dependence faults lines ≡ other.verdict_of dependence faults lines)
 
 -- the same program is run, from the same inputs, with the same faults, under the same limits
 pub record IsSameRun (work other : ToDo) : Type 0 where
@@ -30,8 +31,8 @@ pub record IsSameRun (work other : ToDo) : Type 0 where
   pub faults : work.faults ≡ other.faults
   pub limits : work.limits ≡ other.limits
 
--- A call of `gprs_run`, over these files, whose run ended at 0, 5 or 6, left a journal. Where the trace of that journal stands in a file, an audit of that
--- file as the trace of the same run comes to the status 0 and the text `lawful`.
+-- A call of `gprs_run`, over these files, whose run ended at 0, 5 or 6, left a journal. Where the trace of that journal
+-- stands in a file, an audit of that file as the trace of the same run comes to the status 0 and the text `lawful`.
 abbrev pub TraceLaw : Type 0
 TraceLaw =
     (judge : Judge) (call : Call) (files : Files) (names : List Name) (work : ToDo) → Headline run.commands call → call.files ≡ Some files

@@ -47,8 +47,11 @@ module _ (judge : Judge) where
   -- what comes of the file of a trace with these bytes, or of none
   abbrev pub by_trace : (names : List Name) → (file : Name) → ToDo → Option (List ℕ) → Supplied Tried
   by_trace names file work None = Lacks names file
-  by_trace names file work (Some bytes) = if nat_lt MOST_FILE_BYTES (length bytes) then Spoils (names ++ file ∷ []) (input_line file 6 0) else by_rows names file work (judge.lines_of bytes)
+  by_trace names file work (Some bytes) =
+      if nat_lt MOST_FILE_BYTES (length bytes) then Spoils (names ++ file ∷ [])
+      (input_line file 6 0) else by_rows names file work (judge.lines_of bytes)
 
   -- what there is to be judged, by the files beside a program: those that its run would read, and then that of the trace
   abbrev pub supplied : Audited → Program → Files → Supplied Tried
-  supplied audited program files = then_load (supplied_by audited.run program files) (λ names work. by_trace names audited.trace work (bytes_of files audited.trace))
+  supplied audited program files =
+      then_load (supplied_by audited.run program files) (λ names work. by_trace names audited.trace work (bytes_of files audited.trace))

@@ -20,12 +20,15 @@ value_new size [] row entry e none =
 value_new size (r ∷ rows) row entry e none = go (entry_of size r) (value_new size rows row entry e) none
   where
     pick : (b : Bool) (v : ℤ) → (value_at size rows entry.index ≡ None → value_at size (rows ++ row ∷ []) entry.index ≡ Some entry.value)
-        → (if b then Some v else value_at size rows entry.index) ≡ None → (if b then Some v else value_at size (rows ++ row ∷ []) entry.index) ≡ Some entry.value
+        → (if b then Some v else value_at size rows entry.index) ≡ None
+        → (if b then Some v else value_at size (rows ++ row ∷ []) entry.index) ≡ Some entry.value
     pick true v later none = cc none
     pick false v later none = later none
 
-    go : (o : Result Entry FileKind) → (value_at size rows entry.index ≡ None → value_at size (rows ++ row ∷ []) entry.index ≡ Some entry.value)
-        → value_or o entry.index (value_at size rows entry.index) ≡ None → value_or o entry.index (value_at size (rows ++ row ∷ []) entry.index) ≡ Some entry.value
+    go : (o : Result Entry FileKind)
+        → (value_at size rows entry.index ≡ None → value_at size (rows ++ row ∷ []) entry.index ≡ Some entry.value)
+        → value_or o entry.index (value_at size rows entry.index) ≡ None
+        → value_or o entry.index (value_at size (rows ++ row ∷ []) entry.index) ≡ Some entry.value
     go (Ok old) later none = pick (old.index == entry.index) old.value later none
     go (Err kind) later none = later none
 
@@ -36,12 +39,14 @@ value_other size [] row entry other e ne =
     rw (e, there) refl
 value_other size (r ∷ rows) row entry other e ne = ap (value_or (entry_of size r) other) (value_other size rows row entry other e ne)
 
-cells_are : (size n : ℕ) (rows : List Row) (cells : List (Option ℤ)) → n ≤ length cells → ((i : ℕ) → i < n → get_or cells i None ≡ value_at size rows i)
+cells_are : (size n : ℕ) (rows : List Row) (cells : List (Option ℤ)) → n ≤ length cells
+    → ((i : ℕ) → i < n → get_or cells i None ≡ value_at size rows i)
     → map (λ cell. unwrap_or cell (pos 0)) (take n cells) ≡ cells_below size n rows
 cells_are size zero rows cells room same = refl
 cells_are size (suc n) rows cells room same =
     rw (take-suc cells n None, map-append (λ cell. unwrap_or cell (pos 0)) (take n cells) (get_or cells n None ∷ []), same n (omega arith))
-    (ap (λ below. below ++ unwrap_or (value_at size rows n) (pos 0) ∷ []) (cells_are size n rows cells (omega arith) (λ i lt. same i (omega arith))))
+    (ap (λ below. below ++ unwrap_or (value_at size rows n) (pos 0) ∷ [])
+    (cells_are size n rows cells (omega arith) (λ i lt. same i (omega arith))))
 
 -- the values of all cells
 pub all_cells : (size : ℕ) (rows : List Row) (cells : List (Option ℤ)) → AreCells size rows cells
@@ -59,11 +64,13 @@ no_rows size cells empty =
 
 -- the cells after one more row
 same_set : (size : ℕ) (rows : List Row) (row : Row) (entry : Entry) (cells : List (Option ℤ)) → length cells ≡ size → entry.index < size
-    → entry_of size row ≡ Ok entry → value_at size rows entry.index ≡ None → ((i : ℕ) → i < size → get_or cells i None ≡ value_at size rows i)
+    → entry_of size row ≡ Ok entry → value_at size rows entry.index ≡ None
+    → ((i : ℕ) → i < size → get_or cells i None ≡ value_at size rows i)
     → (i : ℕ) → i < size → get_or (slice_set cells entry.index (Some entry.value)) i None ≡ value_at size (rows ++ row ∷ []) i
 same_set size rows row entry cells room lt e free same i small = go (cases_Bool (entry.index == i))
   where
-    go : ((entry.index == i) ≡ true) ⊎ ((entry.index == i) ≡ false) → get_or (slice_set cells entry.index (Some entry.value)) i None ≡ value_at size (rows ++ row ∷ []) i
+    go : ((entry.index == i) ≡ true) ⊎ ((entry.index == i) ≡ false)
+        → get_or (slice_set cells entry.index (Some entry.value)) i None ≡ value_at size (rows ++ row ∷ []) i
     go (inl here) =
         let at : i ≡ entry.index = grind (arith, nat_tests, here) in
         let inside : entry.index < length cells = omega arith in
@@ -80,12 +87,15 @@ pub put_cell : (size : ℕ) (rows : List Row) (row : Row) (entry : Entry) (value
 put_cell size rows row entry value cells (room, same) e v lt none =
     let here = rw room at e in
     let inside = rw room at lt in
-    let free : value_at size rows entry.index ≡ None = sym (same entry.index inside) ∙ none in
-    (ap (entry_rule size rows) here ∙ rw free refl, rw v (simp length-set room, same_set size rows row entry cells room inside here free same))
+    let free : value_at size rows entry.index ≡ None = sym (same entry.index inside) ∙ none in (
+      ap (entry_rule size rows) here ∙ rw free refl,
+      rw v (simp length-set room, same_set size rows row entry cells room inside here free same),
+    )
 
 -- a row whose index stood in an earlier one
 pub is_twice : (size : ℕ) (rows : List Row) (row : Row) (entry : Entry) (cells : List (Option ℤ)) → AreCells size rows cells
-    → entry_of (length cells) row ≡ Ok entry → entry.index < length cells → IsSome (get_or cells entry.index None) → record_rule size rows row ≡ Some Twice
+    → entry_of (length cells) row ≡ Ok entry → entry.index < length cells → IsSome (get_or cells entry.index None)
+    → record_rule size rows row ≡ Some Twice
 is_twice size rows row entry cells (room, same) e lt some =
     let here = rw room at e in
     let taken = rw (same entry.index (rw room at lt)) at some in

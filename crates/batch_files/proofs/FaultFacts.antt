@@ -28,11 +28,13 @@ put_fault rows row fault list (is, count) e apart few =
     let more : filter_map (λ row. result_ok (fault_of row)) (row ∷ []) ≡ fault ∷ [] = rw e refl in (
       ap (strike_rule rows) e ∙ rw (rw is at apart, room) refl,
       (
-        ap (λ before. before ++ fault ∷ []) is ∙ sym (filter_map-append (λ row. result_ok (fault_of row)) rows (row ∷ []) ∙ ap (λ last. faults_of rows ++ last) more),
+        ap (λ before. before ++ fault ∷ []) is ∙ sym
+            (filter_map-append (λ row. result_ok (fault_of row)) rows (row ∷ []) ∙ ap (λ last. faults_of rows ++ last) more),
         omega (arith, count, length-append list (fault ∷ []), length-append rows (row ∷ [])),
       ),
     )
 
 -- two faults strike the same attempt where their positions and their attempts are equal
 pub strikes_same_equiv : IsEquivalence strikes_same
-strikes_same_equiv = and_equiv (on_equiv (λ (fault : Fault). fault.pos) nat_eq_equiv) (on_equiv (λ (fault : Fault). fault.attempt) nat_eq_equiv)
+strikes_same_equiv =
+    and_equiv (on_equiv (λ (fault : Fault). fault.pos) nat_eq_equiv) (on_equiv (λ (fault : Fault). fault.attempt) nat_eq_equiv)

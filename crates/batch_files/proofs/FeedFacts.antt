@@ -12,14 +12,16 @@ use Rattle.batch_files.specs.Feeds.{AreCells, cells_of, feed_rule, number_before
 use Rattle.batch_files.specs.declared.fault.FileKind.TheVariants.{Number, TooMany}
 
 -- the numbers up to a field, and one more
-pub numbers_more : (row : Row) (i : ℕ) (number : ℤ) (numbers : List ℤ) → number_at row i ≡ Some number → numbers_of (take i row) ≡ Some numbers
+pub numbers_more : (row : Row) (i : ℕ) (number : ℤ) (numbers : List ℤ) → number_at row i ≡ Some number
+    → numbers_of (take i row) ≡ Some numbers
     → numbers_of (take (suc i) row) ≡ Some (numbers ++ number ∷ [])
 unfolding field_at
 numbers_more [] i number numbers e so_far = cc e
 numbers_more (f ∷ fs) zero number numbers e so_far =
     let none : [] ≡ numbers = cc so_far in
     rw (e, ← none) refl
-numbers_more (f ∷ fs) (suc i) number numbers e so_far = go (signed_number f) (numbers_of (take i fs)) refl (λ rest. numbers_more fs i number rest e) so_far
+numbers_more (f ∷ fs) (suc i) number numbers e so_far =
+    go (signed_number f) (numbers_of (take i fs)) refl (λ rest. numbers_more fs i number rest e) so_far
   where
     go : (first : Option ℤ) (rest : Option (List ℤ)) → numbers_of (take i fs) ≡ rest
         → ((ns : List ℤ) → numbers_of (take i fs) ≡ Some ns → numbers_of (take (suc i) fs) ≡ Some (ns ++ number ∷ []))
@@ -44,7 +46,8 @@ length-numbers : (row : Row) (numbers : List ℤ) → numbers_of row ≡ Some nu
 length-numbers [] numbers e = let none : [] ≡ numbers = cc e in ap length (sym none)
 length-numbers (f ∷ fs) numbers e = go (signed_number f) (numbers_of fs) (λ ns. length-numbers fs ns) refl e
   where
-    go : (first : Option ℤ) (rest : Option (List ℤ)) → ((ns : List ℤ) → numbers_of fs ≡ Some ns → length ns ≡ length fs) → numbers_of fs ≡ rest
+    go : (first : Option ℤ) (rest : Option (List ℤ)) → ((ns : List ℤ) → numbers_of fs ≡ Some ns → length ns ≡ length fs)
+        → numbers_of fs ≡ rest
         → number_before first rest ≡ Some numbers → length numbers ≡ length (f ∷ fs)
     go (Some n) (Some ns) later is e =
         let whole : n ∷ ns ≡ numbers = cc e in
@@ -53,12 +56,14 @@ length-numbers (f ∷ fs) numbers e = go (signed_number f) (numbers_of fs) (λ n
     go None rest later is e = cc e
 
 -- the cells after one more row
-cells_more : (rows : List Row) (row : Row) (numbers : List ℤ) → numbers_of row ≡ Some numbers → cells_of (rows ++ row ∷ []) ≡ cells_of rows ++ numbers
+cells_more : (rows : List Row) (row : Row) (numbers : List ℤ) → numbers_of row ≡ Some numbers
+    → cells_of (rows ++ row ∷ []) ≡ cells_of rows ++ numbers
 cells_more rows row numbers e =
     flat_map-append (λ row. unwrap_or (numbers_of row) []) rows (row ∷ []) ∙ rw (e, append-nil numbers) refl
 
 -- how many cells there are after one more row
-count_more : (fields room : ℕ) (rows : List Row) (row : Row) (cells numbers : List ℤ) → AreCells fields room rows cells → length row ≡ fields
+count_more : (fields room : ℕ) (rows : List Row) (row : Row) (cells numbers : List ℤ) → AreCells fields room rows cells
+    → length row ≡ fields
     → numbers_of row ≡ Some numbers → length (cells ++ numbers) ≡ (length rows + 1) * fields
 count_more fields room rows row cells numbers (is, count, fits) full e =
     let more = length-numbers row numbers e in
@@ -66,7 +71,8 @@ count_more fields room rows row cells numbers (is, count, fits) full e =
     omega (arith, length-append cells numbers, more, count, full, product)
 
 -- a row for which there is room
-pub put_row : (fields room : ℕ) (rows : List Row) (row : Row) (cells numbers : List ℤ) → AreCells fields room rows cells → length row ≡ fields
+pub put_row : (fields room : ℕ) (rows : List Row) (row : Row) (cells numbers : List ℤ) → AreCells fields room rows cells
+    → length row ≡ fields
     → numbers_of row ≡ Some numbers → length (cells ++ numbers) ≤ room
     → (feed_rule fields room rows row ≡ None) × AreCells fields room (rows ++ row ∷ []) (cells ++ numbers)
 put_row fields room rows row cells numbers held full e fits =
@@ -79,7 +85,8 @@ put_row fields room rows row cells numbers held full e fits =
     )
 
 -- a row for which there is none
-pub too_many : (fields room : ℕ) (rows : List Row) (row : Row) (cells numbers : List ℤ) → AreCells fields room rows cells → length row ≡ fields
+pub too_many : (fields room : ℕ) (rows : List Row) (row : Row) (cells numbers : List ℤ) → AreCells fields room rows cells
+    → length row ≡ fields
     → numbers_of row ≡ Some numbers → room < length (cells ++ numbers) → feed_rule fields room rows row ≡ Some TooMany
 too_many fields room rows row cells numbers held full e past =
     let count = count_more fields room rows row cells numbers held full e in
@@ -88,7 +95,8 @@ too_many fields room rows row cells numbers held full e past =
     rw (whole, e, no_room) refl
 
 -- a row with a field that is no number
-pub no_number : (fields room : ℕ) (rows : List Row) (row : Row) → length row ≡ fields → numbers_of row ≡ None → feed_rule fields room rows row ≡ Some Number
+pub no_number : (fields room : ℕ) (rows : List Row) (row : Row) → length row ≡ fields → numbers_of row ≡ None
+    → feed_rule fields room rows row ≡ Some Number
 no_number fields room rows row full e =
     let whole : (length row == fields) ≡ true = grind (arith, nat_tests, full) in
     rw (whole, e) refl

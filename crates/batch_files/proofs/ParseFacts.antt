@@ -38,7 +38,8 @@ are_within : (high : ℕ) (ds : List ℕ) → all_ascii_digits ds ≡ true → 0
     → (is_digits ds && nat_le (digits_value 10 ds) high) ≡ true
 are_within high ds all some fits = grind (arith, nat_tests)
 
-map_if : {X Y : Type 0} (f : X → Y) (test : Bool) (x : X) → (if test then Some (f x) else None) ≡ option_map f (if test then Some x else None)
+map_if : {X Y : Type 0} (f : X → Y) (test : Bool) (x : X)
+    → (if test then Some (f x) else None) ≡ option_map f (if test then Some x else None)
 map_if f true x = refl
 map_if f false x = refl
 

@@ -16,7 +16,8 @@ use Rattle.batch_files.proofs.RowFacts.{no_more, reached_records, records_after}
 use Rattle.batch_files.proofs.BrokenFacts.{broken_here, broken_more}
 
 -- rows were read from the start of a text to a state, none of which breaks the rule, and what was kept is theirs
-pub record Passed (rule : Rule) (text : List ℕ) (state : State) (left : Option (List ℕ)) (number : ℕ) (Kept : List Row → Type 0) : Type 0 where
+pub record Passed (rule : Rule) (text : List ℕ) (state : State) (left : Option (List ℕ)) (number : ℕ)
+    (Kept : List Row → Type 0) : Type 0 where
   pub rows : List Row
   pub rest : List ℕ
   pub known : left ≡ Some rest
@@ -38,7 +39,8 @@ passed_start rule text Kept empty = record {
 }
 
 -- one more row was put in
-pub passed_more : {R : Type 0} (rem : R → Option (List ℕ)) (a b : Reader R) (rule : Rule) (text : List ℕ) (number : ℕ) (Kept Now : List Row → Type 0) (row : Row) (done : Unit {0})
+pub passed_more : {R : Type 0} (rem : R → Option (List ℕ)) (a b : Reader R) (rule : Rule) (text : List ℕ) (number : ℕ)
+    (Kept Now : List Row → Type 0) (row : Row) (done : Unit {0})
     → a.config ≡ default_config → Passed rule text a.state (source_of rem a) number Kept → ReadRecord rem a b true row
     → ((rows : List Row) → Kept rows → PutsRow (rule rows row) (Now (rows ++ row ∷ [])) (Ok done))
     → Passed rule text b.state (source_of rem b) (number + 1) Now
@@ -56,7 +58,8 @@ passed_more rem a b rule text number Kept Now row done config p read put =
     }
 
 -- the rows of a file, where one more was read
-with_rest : {R : Type 0} (rem : R → Option (List ℕ)) (a b : Reader R) (rule : Rule) (bytes : List ℕ) (number : ℕ) (Kept : List Row → Type 0) (row : Row)
+with_rest : {R : Type 0} (rem : R → Option (List ℕ)) (a b : Reader R) (rule : Rule) (bytes : List ℕ) (number : ℕ)
+    (Kept : List Row → Type 0) (row : Row)
     → a.config ≡ default_config → (p : Passed rule (strip_bom bytes) a.state (source_of rem a) number Kept) → ReadRecord rem a b true row
     → (rest : List Row) × (rows_of bytes ≡ p.rows ++ row ∷ rest)
 with_rest rem a b rule bytes number Kept row config p read =
@@ -65,12 +68,14 @@ with_rest rem a b rule bytes number Kept row config p read =
     (records_after default_config b.state m.0, all ∙ append_assoc p.rows (row ∷ []) (records_after default_config b.state m.0))
 
 told : (fault : RowFault) (broken : Option Broken) (number : ℕ) (here : Option FileKind) (Put : Type 0)
-    → PutsRow here Put (Err fault) → ((kind : FileKind) → here ≡ Some kind → broken ≡ Some (kind, number)) → Tells (fault_at fault number) broken
+    → PutsRow here Put (Err fault) → ((kind : FileKind) → here ≡ Some kind → broken ≡ Some (kind, number))
+    → Tells (fault_at fault number) broken
 told (row_fault.Breaks kind) broken number here Put put first = first kind put
 told row_fault.OutOfMemory broken number here Put put first = tt
 
 -- a row was refused
-pub passed_bad : {R : Type 0} (rem : R → Option (List ℕ)) (a b : Reader R) (rule : Rule) (bytes : List ℕ) (number : ℕ) (Kept Now : List Row → Type 0) (row : Row) (fault : RowFault)
+pub passed_bad : {R : Type 0} (rem : R → Option (List ℕ)) (a b : Reader R) (rule : Rule) (bytes : List ℕ) (number : ℕ)
+    (Kept Now : List Row → Type 0) (row : Row) (fault : RowFault)
     → a.config ≡ default_config → Passed rule (strip_bom bytes) a.state (source_of rem a) number Kept → ReadRecord rem a b true row
     → ((rows : List Row) → Kept rows → PutsRow (rule rows row) (Now (rows ++ row ∷ [])) (Err fault))
     → Tells (fault_at fault number) (first_broken rule [] (rows_of bytes))
@@ -80,7 +85,8 @@ passed_bad rem a b rule bytes number Kept Now row fault config p read put =
     (λ kind breaks. rw all.1 (broken_here rule p.rows all.0 row kind p.whole breaks) ∙ ap (λ n. Some (kind, n)) (sym p.numbered))
 
 -- the rows came to their end
-pub passed_end : {R : Type 0} (rem : R → Option (List ℕ)) (a b : Reader R) (rule : Rule) (bytes : List ℕ) (number : ℕ) (Kept : List Row → Type 0) (row : Row)
+pub passed_end : {R : Type 0} (rem : R → Option (List ℕ)) (a b : Reader R) (rule : Rule) (bytes : List ℕ) (number : ℕ)
+    (Kept : List Row → Type 0) (row : Row)
     → a.config ≡ default_config → Passed rule (strip_bom bytes) a.state (source_of rem a) number Kept → ReadRecord rem a b false row
     → (first_broken rule [] (rows_of bytes) ≡ None) × Kept (rows_of bytes)
 passed_end rem a b rule bytes number Kept row config p read =

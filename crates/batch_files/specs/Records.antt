@@ -9,7 +9,8 @@ use Rattle.batch_files.specs.declared.fault.FileKind.TheVariants.{Fields, Number
 use Rattle.batch_files.specs.declared.records.Entry.{Entry}
 
 abbrev pub entry_with : (size : ℕ) → (index value : Option ℤ) → Result Entry FileKind
-entry_with size (Some index) (Some value) = ok_or (option_map (λ below. record { index = below; value = value }) (natural_below size index)) Range
+entry_with size (Some index) (Some value) =
+    ok_or (option_map (λ below. record { index = below; value = value }) (natural_below size index)) Range
 entry_with size index value = Err Number
 
 -- the index and the value of a row, or the first rule that the row breaks by itself

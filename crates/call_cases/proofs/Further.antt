@@ -1,4 +1,5 @@
--- The case of a call that goes on where another one would begin: what it asks for has all that the other's words ask for, and something is read after that.
+-- The case of a call that goes on where another one would begin: what it asks for has all that the other's words ask
+-- for, and something is read after that.
 use Rattle.std.proofs.Common.{◌≡◌, ℕ, List, refl, subst}
 use Rattle.std.specs.List.{Contains}
 use Rattle.std.specs.declared.option.Option.{Option}
@@ -23,16 +24,20 @@ further_case next (BadInput names line) = BadInput names line
 further_case next (Go names work) = next names work
 
 -- the words of such a call, where it asks with each of its own for this of the other
-abbrev pub further_asking : {A B S T : Type 0} → Asking A S → (B → A) → (List (List ℕ) → Option B) → (B → Program → Files → Supplied T) → Asking B T
-further_asking asking asks_for reading supplied = record { reading = reading; program = λ b. asking.program (asks_for b); files = λ b. asking.files (asks_for b); supplied = supplied }
+abbrev pub further_asking : {A B S T : Type 0} → Asking A S → (B → A) → (List (List ℕ) → Option B) → (B → Program → Files → Supplied T)
+    → Asking B T
+further_asking asking asks_for reading supplied =
+    record { reading = reading; program = λ b. asking.program (asks_for b); files = λ b. asking.files (asks_for b); supplied = supplied }
 
-module _ {A B S T : Type 0} (asking : Asking A S) (asks_for : B → A) (reading : List (List ℕ) → Option B) (supplied : B → Program → Files → Supplied T) (b : B) (files : Files) (next : List Name → S → Case T)
+module _ {A B S T : Type 0} (asking : Asking A S) (asks_for : B → A) (reading : List (List ℕ) → Option B)
+    (supplied : B → Program → Files → Supplied T) (b : B) (files : Files) (next : List Name → S → Case T)
     (goes_on : (program : Program) → supplied_case (asking.program (asks_for b)) (supplied b program files)
     ≡ further_case next (supplied_case (asking.program (asks_for b)) (asking.supplied (asks_for b) program files))) where
   abbrev more : Asking B T
   more = further_asking asking asks_for reading supplied
 
-  same_checked : (program : Program) (fault : Option (CheckKind × ℕ)) → program_case more files b program fault ≡ further_case next (program_case asking files (asks_for b) program fault)
+  same_checked : (program : Program) (fault : Option (CheckKind × ℕ))
+      → program_case more files b program fault ≡ further_case next (program_case asking files (asks_for b) program fault)
   same_checked program (Some fault) = refl
   same_checked program None = goes_on program
 
@@ -45,7 +50,8 @@ module _ {A B S T : Type 0} (asking : Asking A S) (asks_for : B → A) (reading 
   further case (no_program absent) = no_program absent
   further case (of_text meaning there means) = subst (IsCaseOf more b files) (same_meant meaning) (of_text meaning there means)
 
-  module _ (reads_on : (names : List Name) (work : S) (name : Name) → Contains names name → Contains (names_read (next names work)) name) where
+  module _ (reads_on : (names : List Name) (work : S) (name : Name) → Contains names name
+      → Contains (names_read (next names work)) name) where
     still_read : (case : Case S) (name : Name) → Contains (names_read case) name → Contains (names_read (further_case next case)) name
     still_read Usage name is = is
     still_read (Missing names other) name is = is
@@ -54,7 +60,8 @@ module _ {A B S T : Type 0} (asking : Asking A S) (asks_for : B → A) (reading 
     still_read (Go names work) name is = reads_on names work name is
 
     -- a refusal of the other is one of this
-    pub refuses_further : (refusal : Refusal) → RefusesCase (IsCaseOf asking (asks_for b) files) refusal → RefusesCase (IsCaseOf more b files) refusal
+    pub refuses_further : (refusal : Refusal) → RefusesCase (IsCaseOf asking (asks_for b) files) refusal
+        → RefusesCase (IsCaseOf more b files) refusal
     refuses_further RefusedUsage is = further Usage is
     refuses_further (RefusedProgram line) (name, is) = (name, further (BadProgram name line) is)
     refuses_further (RefusedInput line) (names, is) = (names, further (BadInput names line) is)

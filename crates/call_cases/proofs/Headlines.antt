@@ -1,8 +1,8 @@
 -- From what the parts of a top call ensure to what is promised of the call, for each value of the record of promises.
 --
--- A call refuses, or begins what is asked. What begins ends in one of a few ways, each with its status: RunEnds where no log is kept, LogEnds where one is. Each
--- fact of the promise goes by these ways; both come to Ended, from which the promise follows once. A refusal goes by its kinds, and writes the same
--- whether a log would be kept or not.
+-- A call refuses, or begins what is asked. What begins ends in one of a few ways, each with its status: RunEnds where
+-- no log is kept, LogEnds where one is. Each fact of the promise goes by these ways; both come to Ended, from which the
+-- promise follows once. A refusal goes by its kinds, and writes the same whether a log would be kept or not.
 use Rattle.std.proofs.Common.{◌≡◌, ◌⊎◌, ℕ, true, false, List, [], take, IfSome, refl, sym, subst, inl, inr, arith, append-nil}
 use Rattle.std.specs.List.{Contains}
 use Rattle.std.specs.declared.option.Option.{Option}
@@ -34,7 +34,13 @@ stop_taken begun err stop is_stop (n, taken) = record { first = 0; stop = stop; 
 -- a prefix of what comes first, and no line
 begun_taken : (begun : List ℕ) (err : Change) → TakesPart err begun → TakesStop begun err
 begun_taken begun err (n, taken) =
-    record { first = n; stop = out_of_memory_line; is_stop = inl refl; second = 0; taken = subst (TakesAll err) (sym (append-nil (take n begun))) taken }
+    record {
+      first = n;
+      stop = out_of_memory_line;
+      is_stop = inl refl;
+      second = 0;
+      taken = subst (TakesAll err) (sym (append-nil (take n begun))) taken;
+    }
 
 -- nothing is taken
 pub none_taken : (known : Option (List ℕ)) → Appends known known []
@@ -43,42 +49,56 @@ none_taken (Some written) = sym (append-nil written)
 
 -- a text that was not written whole, and the line that tells why
 module _ (text trace : List ℕ) (due : ℕ) (out err : Change) where
-  pub run_of_failed : (status : ℕ) → TakesPart out text → Fails out → LineEnds 8 write_fault_line err status → RunEnds text trace due out err status
+  pub run_of_failed : (status : ℕ) → TakesPart out text → Fails out → LineEnds 8 write_fault_line err status
+      → RunEnds text trace due out err status
   run_of_failed status part fails (whole all) = output_failed part fails all
-  run_of_failed status part fails (line_failed taken failed) = error_failed part failed (stop_taken trace err write_fault_line (inr refl) taken)
+  run_of_failed status part fails (line_failed taken failed) =
+      error_failed part failed (stop_taken trace err write_fault_line (inr refl) taken)
   run_of_failed status part fails (line_no_memory taken) = run_no_memory part (stop_taken trace err write_fault_line (inr refl) taken)
 
   pub run_of_memory : (status : ℕ) → TakesPart out text → LineEnds 1 out_of_memory_line err status → RunEnds text trace due out err status
-  run_of_memory status part (whole all) = run_no_memory part (stop_taken trace err out_of_memory_line (inl refl) (prefix_whole err.written err.written' out_of_memory_line all))
+  run_of_memory status part (whole all) =
+      run_no_memory part (stop_taken trace err out_of_memory_line (inl refl) (prefix_whole err.written err.written' out_of_memory_line all))
   run_of_memory status part (line_failed taken failed) = error_failed part failed (stop_taken trace err out_of_memory_line (inl refl) taken)
   run_of_memory status part (line_no_memory taken) = run_no_memory part (stop_taken trace err out_of_memory_line (inl refl) taken)
 
   -- a text that was written whole, and the trace after it
   pub run_of_whole : (status : ℕ) → TakesAll out text → LineEnds due trace err status → RunEnds text trace due out err status
   run_of_whole status taken (whole all) = finished taken all
-  run_of_whole status taken (line_failed part failed) = error_failed (prefix_whole out.written out.written' text taken) failed (begun_taken trace err part)
-  run_of_whole status taken (line_no_memory part) = run_no_memory (prefix_whole out.written out.written' text taken) (begun_taken trace err part)
+  run_of_whole status taken (line_failed part failed) =
+      error_failed (prefix_whole out.written out.written' text taken) failed (begun_taken trace err part)
+  run_of_whole status taken (line_no_memory part) =
+      run_no_memory (prefix_whole out.written out.written' text taken) (begun_taken trace err part)
 
 -- a text that is all there is to write, and the line that tells where it was not written
 module _ (text : List ℕ) (due : ℕ) (out err : Change) where
-  pub put_whole : (put : Result ℕ SinkFault) (status : ℕ) → PutFor text due out put → put ≡ Ok status → err.written' ≡ err.written → RunEnds text [] due out err status
+  pub put_whole : (put : Result ℕ SinkFault) (status : ℕ) → PutFor text due out put → put ≡ Ok status → err.written' ≡ err.written
+      → RunEnds text [] due out err status
   put_whole put status is ok kept =
       let here = subst (PutFor text due out) ok is in
-      subst (λ s. RunEnds text [] due out err s) (sym here.status) (finished here.all (subst (λ w. Appends err.written w []) (sym kept) (none_taken err.written)))
+      subst (λ s. RunEnds text [] due out err s) (sym here.status)
+      (finished here.all (subst (λ w. Appends err.written w []) (sym kept) (none_taken err.written)))
 
-  pub put_stopped : (put : Result ℕ SinkFault) (fault : SinkFault) (status : ℕ) → PutFor text due out put → put ≡ Err fault → StopsBy fault err status → RunEnds text [] due out err status
-  put_stopped put Failed status is failed ends = let here = subst (PutFor text due out) failed is in run_of_failed text [] due out err status here.part (here.cause refl) ends
-  put_stopped put sink.OutOfMemory status is failed ends = let here = subst (PutFor text due out) failed is in run_of_memory text [] due out err status here.part ends
+  pub put_stopped : (put : Result ℕ SinkFault) (fault : SinkFault) (status : ℕ) → PutFor text due out put → put ≡ Err fault
+      → StopsBy fault err status → RunEnds text [] due out err status
+  put_stopped put Failed status is failed ends =
+      let here = subst (PutFor text due out) failed is in
+      run_of_failed text [] due out err status here.part (here.cause refl) ends
+  put_stopped put sink.OutOfMemory status is failed ends =
+      let here = subst (PutFor text due out) failed is in
+      run_of_memory text [] due out err status here.part ends
 
 -- a prefix of a line that is due, or of the line that tells the stop
 due_lines : (is_due : List ℕ → Type 0) (err : Change) (due : List ℕ) → is_due due → TakesPart err due → TakesStopLines is_due err
 due_lines is_due err due for_case part = (due, for_case, begun_taken due err part)
 
-stop_lines : (is_due : List ℕ → Type 0) (err : Change) (due stop : List ℕ) → is_due due → IsStopLine stop → TakesPart err stop → TakesStopLines is_due err
+stop_lines : (is_due : List ℕ → Type 0) (err : Change) (due stop : List ℕ) → is_due due → IsStopLine stop → TakesPart err stop
+    → TakesStopLines is_due err
 stop_lines is_due err due stop for_case for_stop part = (due, for_case, stop_taken due err stop for_stop part)
 
 -- the case that an answer tells, and its status
-told_case : {A T : Type 0} (commands : Commands A T) (words : List (List ℕ)) (files : Option Files) (known : Case T) → IfSome files (λ told. IsCase commands.asking words told known)
+told_case : {A T : Type 0} (commands : Commands A T) (words : List (List ℕ)) (files : Option Files) (known : Case T)
+    → IfSome files (λ told. IsCase commands.asking words told known)
     → IfSome files (λ told. (case : Case T) × IsCase commands.asking words told case × (status_of commands case ≡ status_of commands known))
 told_case commands words None known is = tt
 told_case commands words (Some files) known is = (known, is, refl)
@@ -91,7 +111,8 @@ module _ (text trace : List ℕ) (due : ℕ) (out err : Change) where
   run_status grew status (output_failed part fails told) = write_fault (inl fails)
   run_status grew status (error_failed part fails stop) = write_fault (inr fails)
 
-  run_whole : (status : ℕ) → RunEnds text trace due out err status → IsApart status → TakesAll out text × TakesAll err trace × (due ≡ status)
+  run_whole : (status : ℕ) → RunEnds text trace due out err status → IsApart status
+      → TakesAll out text × TakesAll err trace × (due ≡ status)
   run_whole status (finished all traced) is = (all, traced, refl)
   run_whole status (run_no_memory part stop) is = absurd (grind (arith, is))
   run_whole status (output_failed part fails told) is = absurd (grind (arith, is))
@@ -115,7 +136,8 @@ module _ (text trace : List ℕ) (due : ℕ) (out err : Change) where
   run_not_refused status is_apart (output_failed part fails told) is = grind (arith, is)
   run_not_refused status is_apart (error_failed part fails stop) is = grind (arith, is)
 
-  run_stopped : (is_due : List ℕ → Type 0) (line : List ℕ) → is_due line → is_due trace → (status : ℕ) → IsApart due → RunEnds text trace due out err status → IsStop status → TakesStopLines is_due err
+  run_stopped : (is_due : List ℕ → Type 0) (line : List ℕ) → is_due line → is_due trace → (status : ℕ) → IsApart due
+      → RunEnds text trace due out err status → IsStop status → TakesStopLines is_due err
   run_stopped is_due line for_case for_trace status is_apart (finished all traced) is = absurd (grind (arith, is_apart, is))
   run_stopped is_due line for_case for_trace status is_apart (run_no_memory part stop) is = (trace, for_trace, stop)
   run_stopped is_due line for_case for_trace status is_apart (output_failed part fails told) is =
@@ -124,7 +146,8 @@ module _ (text trace : List ℕ) (due : ℕ) (out err : Change) where
 
 -- what was begun to be done, and of which a log is kept
 module _ (text rows : List ℕ) (taken : Change → Type 0) (due : ℕ) (out err : Change) (journal : Journal) where
-  log_status : (grew : Type 0) (status : ℕ) → LogEnds text rows taken due out err journal status → Yields due grew (Fails out ⊎ Fails err) status
+  log_status : (grew : Type 0) (status : ℕ) → LogEnds text rows taken due out err journal status
+      → Yields due grew (Fails out ⊎ Fails err) status
   log_status grew status (log_finished all logged) = due_status
   log_status grew status (log_no_memory part is) = no_memory
   log_status grew status (log_write_failed part fails is) = write_fault fails
@@ -132,7 +155,8 @@ module _ (text rows : List ℕ) (taken : Change → Type 0) (due : ℕ) (out err
   log_status grew status (log_unbegun part empty (line_failed line fails)) = write_fault (inr fails)
   log_status grew status (log_unbegun part empty (line_no_memory line)) = no_memory
 
-  log_whole : (status : ℕ) → LogEnds text rows taken due out err journal status → IsApart status → TakesAll out text × TakesAll err rows × (due ≡ status)
+  log_whole : (status : ℕ) → LogEnds text rows taken due out err journal status → IsApart status
+      → TakesAll out text × TakesAll err rows × (due ≡ status)
   log_whole status (log_finished all logged) apart = (all, logged, refl)
   log_whole status (log_no_memory part is) apart = absurd (grind (arith, apart))
   log_whole status (log_write_failed part fails is) apart = absurd (grind (arith, apart))
@@ -146,7 +170,8 @@ module _ (text rows : List ℕ) (taken : Change → Type 0) (due : ℕ) (out err
   log_part status (log_write_failed part fails is) = part
   log_part status (log_unbegun part empty line) = part
 
-  log_fault : (status : ℕ) → IsApart due → LogEnds text rows taken due out err journal status → status ≡ 8 → (IsEmpty journal × TellsWriteFault out err) ⊎ Fails out ⊎ Fails err
+  log_fault : (status : ℕ) → IsApart due → LogEnds text rows taken due out err journal status → status ≡ 8
+      → (IsEmpty journal × TellsWriteFault out err) ⊎ Fails out ⊎ Fails err
   log_fault status apart (log_finished all logged) is = absurd (grind (arith, apart, is))
   log_fault status apart (log_no_memory part held) is = absurd (omega (arith, is))
   log_fault status apart (log_write_failed part fails held) is = inr fails
@@ -168,12 +193,14 @@ module _ (text rows : List ℕ) (taken : Change → Type 0) (due : ℕ) (out err
   line_part status (line_no_memory part) = part
 
   -- the log, or the line that tells that memory ran out before the run
-  log_stopped : (is_due : List ℕ → Type 0) (line : List ℕ) → is_due line → (status : ℕ) → IsApart due → LogEnds text rows taken due out err journal status → IsStop status
+  log_stopped : (is_due : List ℕ → Type 0) (line : List ℕ) → is_due line → (status : ℕ) → IsApart due
+      → LogEnds text rows taken due out err journal status → IsStop status
       → (IsEmpty journal × TakesStopLines is_due err) ⊎ taken err
   log_stopped is_due line for_case status apart (log_finished all logged) is = absurd (grind (arith, apart, is))
   log_stopped is_due line for_case status apart (log_no_memory part held) is = inr held
   log_stopped is_due line for_case status apart (log_write_failed part fails held) is = inr held
-  log_stopped is_due line for_case status apart (log_unbegun part empty told) is = inl (empty, stop_lines is_due err line out_of_memory_line for_case (inl refl) (line_part status told))
+  log_stopped is_due line for_case status apart (log_unbegun part empty told) is =
+      inl (empty, stop_lines is_due err line out_of_memory_line for_case (inl refl) (line_part status told))
 
 -- How what was begun to be done ended: what its status says of what the streams took, whether a log is kept or not.
 record Ended {A T : Type 0} (commands : Commands A T) (call : Call) (work : T) : Type 0 where
@@ -186,41 +213,53 @@ record Ended {A T : Type 0} (commands : Commands A T) (call : Call) (work : T) :
   stopped : IsStop call.status → ForCase commands.asking call.words call.files (TellsStop commands call commands.log)
 
 -- the case of what is done to its end
-told_work : {A T : Type 0} (commands : Commands A T) (words : List (List ℕ)) (files : Option Files) (names : List Name) (work : T) (status : ℕ)
+told_work : {A T : Type 0} (commands : Commands A T) (words : List (List ℕ)) (files : Option Files)
+    (names : List Name) (work : T) (status : ℕ)
     → IfSome files (λ told. IsCase commands.asking words told (Go names work))
-    → commands.status work ≡ status → IfSome files (λ told. (case : Case T) × IsCase commands.asking words told case × (status_of commands case ≡ status))
+    → commands.status work ≡ status
+    → IfSome files (λ told. (case : Case T) × IsCase commands.asking words told case × (status_of commands case ≡ status))
 told_work commands words None names work status known is = tt
 told_work commands words (Some files) names work status known is = (Go names work, known, is)
 
 -- what was begun to be done, and ended so, meets the promise
-begun_headline : {A T : Type 0} (commands : Commands A T) (sound : AreSound commands) (call : Call) (names : List Name) (work : T) (asked : A)
-    → commands.asking.reading call.words ≡ Some asked → IfSome call.files (λ told. IsCase commands.asking call.words told (Go names work)) → call.failed' ≡ call.failed
+begun_headline : {A T : Type 0} (commands : Commands A T) (sound : AreSound commands) (call : Call)
+    (names : List Name) (work : T) (asked : A)
+    → commands.asking.reading call.words ≡ Some asked → IfSome call.files (λ told. IsCase commands.asking call.words told (Go names work))
+    → call.failed' ≡ call.failed
     → (commands.is_journalled asked ≡ false → IsEmpty call.journal)
     → (commands.has_journal work ≡ true
-    → commands.lawful work call.journal × (commands.whole call.status → commands.complete work call.journal) × commands.retired work call.journal call.out)
+    → commands.lawful work call.journal × (commands.whole call.status → commands.complete work call.journal)
+    × commands.retired work call.journal call.out)
     → Ended commands call work → Headline commands call
 begun_headline {A} {T} commands sound call names work asked some known same empty run ended =
     let words = call.words in
     let files = call.files in
     record {
-      status = here (λ case. Yields (status_of commands case) (Grew call.failed call.failed') (Fails call.out ⊎ Fails call.err) call.status) ended.yields;
+      status =
+          here (λ case. Yields (status_of commands case) (Grew call.failed call.failed') (Fails call.out ⊎ Fails call.err) call.status)
+          ended.yields;
       told = λ tells. elim tells [
         | inl is ↦ told_work commands words files names work call.status known (ended.all (sound.apart call.status is)).1
         | inr is ↦ absurd (ended.not_refused (inl is))
       ];
       usage = λ is. absurd (ended.not_refused (inl (inl is)));
       no_command = λ none. absurd (none_some (commands.asking.reading words) asked none some);
-      text = here (λ case. commands.whole call.status → TakesAll call.out (text_of commands case)) (λ is. (ended.all (sound.apart call.status is)).0);
+      text =
+          here (λ case. commands.whole call.status → TakesAll call.out (text_of commands case))
+          (λ is. (ended.all (sound.apart call.status is)).0);
       prefix = here (λ case. TakesPart call.out (text_of commands case)) ended.part;
       refused = λ is. absurd (ended.not_refused is);
       quiet = ended.quiet;
-      line = for_each commands.asking words files (λ case. HasCaseLine call.status → TakesAll call.err (line_of case)) (λ case is. absurd (ended.not_refused (inl is)));
+      line =
+          for_each commands.asking words files (λ case. HasCaseLine call.status → TakesAll call.err (line_of case))
+          (λ case is. absurd (ended.not_refused (inl is)));
       read_fault = λ is. absurd (ended.not_refused (inr is));
       write_fault = ended.write_fault;
       stopped = ended.stopped;
       untouched = λ tells. same;
       unread = λ none. same;
-      missing = here (λ case. IsMissing case → Grew call.failed call.failed' ⊎ (call.status ≡ 1) ⊎ Fails call.err) (λ missing. absurd missing);
+      missing =
+          here (λ case. IsMissing case → Grew call.failed call.failed' ⊎ (call.status ≡ 1) ⊎ Fails call.err) (λ missing. absurd missing);
       journal = λ unbegun. elim unbegun [
         | inl is ↦ absurd (ended.not_refused is)
         | inr nothing ↦ empty (subst (RunsNothing commands) some nothing)
@@ -235,21 +274,45 @@ begun_headline {A} {T} commands sound call names work asked some known same empt
     here P holds = for_known commands.asking call.words call.files (Go names work) P known holds
 
 -- what was begun to be done meets the promise where no log is kept
-pub run_headline : {A T : Type 0} (commands : Commands A T) (sound : AreSound commands) (words : List (List ℕ)) (files : Option Files) (failed failed' : List Name) (out err : Change) (status : ℕ) (journal : Journal)
+pub run_headline : {A T : Type 0} (commands : Commands A T) (sound : AreSound commands) (words : List (List ℕ)) (files : Option Files)
+    (failed failed' : List Name) (out err : Change) (status : ℕ) (journal : Journal)
     (names : List Name) (work : T) (asked : A)
     → commands.log ≡ Unlogged
-    → commands.asking.reading words ≡ Some asked → IfSome files (λ told. IsCase commands.asking words told (Go names work)) → failed' ≡ failed
+    → commands.asking.reading words ≡ Some asked → IfSome files (λ told. IsCase commands.asking words told (Go names work))
+    → failed' ≡ failed
     → (commands.is_journalled asked ≡ false → IsEmpty journal)
-    → (commands.has_journal work ≡ true → commands.lawful work journal × (commands.whole status → commands.complete work journal) × commands.retired work journal out)
+    → (commands.has_journal work ≡ true → commands.lawful work journal × (commands.whole status → commands.complete work journal)
+    × commands.retired work journal out)
     → RunEnds (commands.text work) (commands.error asked journal) (commands.status work) out err status
-    → Headline commands (record { words = words; files = files; failed = failed; failed' = failed'; out = out; err = err; status = status; journal = journal })
-run_headline {A} {T} commands sound words files failed failed' out err status journal names work asked unlogged some known same empty run ends_asked =
-    let call : Call = record { words = words; files = files; failed = failed; failed' = failed'; out = out; err = err; status = status; journal = journal } in
+    → Headline commands (record {
+      words = words;
+      files = files;
+      failed = failed;
+      failed' = failed';
+      out = out;
+      err = err;
+      status = status;
+      journal = journal;
+    })
+run_headline {A} {T} commands sound words files failed failed' out err status journal names work asked unlogged some known
+    same empty run ends_asked =
+    let call : Call =
+    record {
+      words = words;
+      files = files;
+      failed = failed;
+      failed' = failed';
+      out = out;
+      err = err;
+      status = status;
+      journal = journal;
+    } in
     let text = commands.text work in
     let error = error_for commands (commands.asking.reading words) journal in
     let due = commands.status work in
     let apart : IsApart due = sound.apart due (sound.ends work) in
-    let ends : RunEnds text error due out err status = subst (λ r. RunEnds text (error_for commands r journal) due out err status) (sym some) ends_asked in
+    let ends : RunEnds text error due out err status =
+    subst (λ r. RunEnds text (error_for commands r journal) due out err status) (sym some) ends_asked in
     begun_headline commands sound call names work asked some known same empty run (record {
       yields = run_status text error due out err (Grew failed failed') status ends;
       all = λ is. let found = run_whole text error due out err status ends is in (found.0, found.2);
@@ -259,26 +322,51 @@ run_headline {A} {T} commands sound words files failed failed' out err status jo
       write_fault = λ is. subst (TellsWrite commands call) (sym unlogged) (run_fault text error due out err status apart ends is);
       stopped = λ is. for_known commands.asking words files (Go names work) (TellsStop commands call commands.log) known
           (subst (λ log. TellsStop commands call log (Go names work)) (sym unlogged)
-          (run_stopped text error due out err (IsDue {T = T} (Go names work) error) [] (inl refl) (inr (inl (tt, refl))) status apart ends is));
+          (run_stopped text error due out err (IsDue {T = T} (Go names work) error) [] (inl refl)
+          (inr (inl (tt, refl))) status apart ends is));
     })
 
 -- what a stop tells of the case where this log is kept
 log_told : {A T : Type 0} (commands : Commands A T) (call : Call) (log : Log T) (names : List Name) (work : T)
-    → (IsEmpty call.journal × TakesStopLines (IsDue {T = T} (Go names work) []) call.err) ⊎ log.taken work call.journal call.err → TellsStop commands call (Logged log) (Go names work)
+    → (IsEmpty call.journal × TakesStopLines (IsDue {T = T} (Go names work) []) call.err) ⊎ log.taken work call.journal call.err
+    → TellsStop commands call (Logged log) (Go names work)
 log_told commands call log names work (inl unbegun) = inl unbegun
 log_told commands call log names work (inr is) = inr (tt, λ _. is)
 
 -- what was begun to be done, and keeps this log, meets the promise
-pub log_headline : {A T : Type 0} (commands : Commands A T) (sound : AreSound commands) (log : Log T) (words : List (List ℕ)) (files : Option Files)
+pub log_headline : {A T : Type 0} (commands : Commands A T) (sound : AreSound commands) (log : Log T)
+    (words : List (List ℕ)) (files : Option Files)
     (failed failed' : List Name) (out err : Change) (status : ℕ) (journal : Journal) (names : List Name) (work : T) (asked : A)
     → commands.log ≡ Logged log
-    → commands.asking.reading words ≡ Some asked → IfSome files (λ told. IsCase commands.asking words told (Go names work)) → failed' ≡ failed
+    → commands.asking.reading words ≡ Some asked → IfSome files (λ told. IsCase commands.asking words told (Go names work))
+    → failed' ≡ failed
     → (commands.is_journalled asked ≡ false → IsEmpty journal)
-    → (commands.has_journal work ≡ true → commands.lawful work journal × (commands.whole status → commands.complete work journal) × commands.retired work journal out)
+    → (commands.has_journal work ≡ true → commands.lawful work journal × (commands.whole status → commands.complete work journal)
+    × commands.retired work journal out)
     → LogEnds (commands.text work) (log.whole work) (log.taken work journal) (commands.status work) out err journal status
-    → Headline commands (record { words = words; files = files; failed = failed; failed' = failed'; out = out; err = err; status = status; journal = journal })
-log_headline {A} {T} commands sound log words files failed failed' out err status journal names work asked logged some known same empty run ends =
-    let call : Call = record { words = words; files = files; failed = failed; failed' = failed'; out = out; err = err; status = status; journal = journal } in
+    → Headline commands (record {
+      words = words;
+      files = files;
+      failed = failed;
+      failed' = failed';
+      out = out;
+      err = err;
+      status = status;
+      journal = journal;
+    })
+log_headline {A} {T} commands sound log words files failed failed' out err status journal names work asked logged some
+    known same empty run ends =
+    let call : Call =
+    record {
+      words = words;
+      files = files;
+      failed = failed;
+      failed' = failed';
+      out = out;
+      err = err;
+      status = status;
+      journal = journal;
+    } in
     let text = commands.text work in
     let rows = log.whole work in
     let taken = log.taken work journal in
@@ -292,85 +380,136 @@ log_headline {A} {T} commands sound log words files failed failed' out err statu
       quiet = λ is. subst (IsQuiet commands call) (sym logged)
           (for_known commands.asking words files (Go names work) (λ case. ForRun commands case (λ w. TakesAll err (log.whole w))) known
           (λ _. (log_whole text rows taken due out err journal status ends (sound.apart status is)).1));
-      write_fault = λ is. subst (TellsWrite commands call) (sym logged) (log_fault text rows taken due out err journal status apart ends is);
+      write_fault =
+          λ is. subst (TellsWrite commands call) (sym logged) (log_fault text rows taken due out err journal status apart ends is);
       stopped = λ is. for_known commands.asking words files (Go names work) (TellsStop commands call commands.log) known
           (subst (λ kept. TellsStop commands call kept (Go names work)) (sym logged)
-          (log_told commands call log names work (log_stopped text rows taken due out err journal (IsDue {T = T} (Go names work) []) [] (inl refl) status apart ends is)));
+          (log_told commands call log names work (log_stopped text rows taken due out err journal (IsDue {T = T} (Go names work) []) []
+          (inl refl) status apart ends is)));
     })
 
 -- what holds of a case that is known but for a part
-pub for_some : {A T : Type 0} (commands : Commands A T) (words : List (List ℕ)) (files : Option Files) (X : Type 0) (known : X → Case T) (P : Case T → Type 0) → IfSome files (λ told. (x : X) × IsCase commands.asking words told (known x)) → ((x : X) → P (known x))
+pub for_some : {A T : Type 0} (commands : Commands A T) (words : List (List ℕ)) (files : Option Files) (X : Type 0) (known : X → Case T)
+    (P : Case T → Type 0) → IfSome files (λ told. (x : X) × IsCase commands.asking words told (known x)) → ((x : X) → P (known x))
     → ForCase commands.asking words files P
 for_some commands words None X known P is holds = tt
 for_some commands words (Some files) X known P (x, is) holds = for_known commands.asking words (Some files) (known x) P is (holds x)
 
-told_some : {A T : Type 0} (commands : Commands A T) (words : List (List ℕ)) (files : Option Files) (X : Type 0) (known : X → Case T) (status : ℕ) → IfSome files (λ told. (x : X) × IsCase commands.asking words told (known x)) → ((x : X) → status_of commands (known x) ≡ status)
+told_some : {A T : Type 0} (commands : Commands A T) (words : List (List ℕ)) (files : Option Files) (X : Type 0) (known : X → Case T)
+    (status : ℕ) → IfSome files (λ told. (x : X) × IsCase commands.asking words told (known x))
+    → ((x : X) → status_of commands (known x) ≡ status)
     → IfSome files (λ told. (case : Case T) × IsCase commands.asking words told case × (status_of commands case ≡ status))
 told_some commands words None X known status is same = tt
 told_some commands words (Some files) X known status (x, is) same = (known x, is, same x)
 
 -- a refusal
-module _ {A T : Type 0} (commands : Commands A T) (words : List (List ℕ)) (files : Option Files) (before now : List Name) (out err : Change) (error : List ℕ) where
-  refused_status : (refusal : Refusal) (status : ℕ) → IfSome files (λ told. RefusesCase (IsCase commands.asking words told) refusal) → RefusesShelf commands.may_read (commands.asking.reading words) before now refusal
-      → RefusalEnds err refusal status → ForCase commands.asking words files (λ case. Yields (status_of commands case) (Grew before now) (Fails out ⊎ Fails err) status)
-  refused_status refusal status known shelf (usage_told line) = for_known commands.asking words files Usage (λ case. Yields (status_of commands case) (Grew before now) (Fails out ⊎ Fails err) 2) known due_status
+module _ {A T : Type 0} (commands : Commands A T) (words : List (List ℕ)) (files : Option Files) (before now : List Name)
+    (out err : Change) (error : List ℕ) where
+  refused_status : (refusal : Refusal) (status : ℕ) → IfSome files (λ told. RefusesCase (IsCase commands.asking words told) refusal)
+      → RefusesShelf commands.may_read (commands.asking.reading words) before now refusal
+      → RefusalEnds err refusal status
+      → ForCase commands.asking words files (λ case. Yields (status_of commands case) (Grew before now) (Fails out ⊎ Fails err) status)
+  refused_status refusal status known shelf (usage_told line) =
+      for_known commands.asking words files Usage
+      (λ case. Yields (status_of commands case) (Grew before now) (Fails out ⊎ Fails err) 2) known due_status
   refused_status refusal status known shelf (program_told {line} all) =
-      for_some commands words files Name (λ name. BadProgram name line) (λ case. Yields (status_of commands case) (Grew before now) (Fails out ⊎ Fails err) 3) known (λ name. due_status)
+      for_some commands words files Name (λ name. BadProgram name line)
+      (λ case. Yields (status_of commands case) (Grew before now) (Fails out ⊎ Fails err) 3) known (λ name. due_status)
   refused_status refusal status known shelf (input_told {line} all) =
-      for_some commands words files (List Name) (λ names. BadInput names line) (λ case. Yields (status_of commands case) (Grew before now) (Fails out ⊎ Fails err) 4) known (λ names. due_status)
-  refused_status refusal status known shelf (read_told {name} all) = for_each commands.asking words files (λ case. Yields (status_of commands case) (Grew before now) (Fails out ⊎ Fails err) 7) (λ case. read_fault shelf.1)
-  refused_status refusal status known shelf (refusal_no_memory taken) = for_each commands.asking words files (λ case. Yields (status_of commands case) (Grew before now) (Fails out ⊎ Fails err) 1) (λ case. no_memory)
-  refused_status refusal status known shelf (refusal_failed fails taken) = for_each commands.asking words files (λ case. Yields (status_of commands case) (Grew before now) (Fails out ⊎ Fails err) 8) (λ case. write_fault (inr fails))
+      for_some commands words files (List Name) (λ names. BadInput names line)
+      (λ case. Yields (status_of commands case) (Grew before now) (Fails out ⊎ Fails err) 4) known (λ names. due_status)
+  refused_status refusal status known shelf (read_told {name} all) =
+      for_each commands.asking words files (λ case. Yields (status_of commands case) (Grew before now) (Fails out ⊎ Fails err) 7)
+      (λ case. read_fault shelf.1)
+  refused_status refusal status known shelf (refusal_no_memory taken) =
+      for_each commands.asking words files (λ case. Yields (status_of commands case) (Grew before now) (Fails out ⊎ Fails err) 1)
+      (λ case. no_memory)
+  refused_status refusal status known shelf (refusal_failed fails taken) =
+      for_each commands.asking words files (λ case. Yields (status_of commands case) (Grew before now) (Fails out ⊎ Fails err) 8)
+      (λ case. write_fault (inr fails))
 
-  refused_line : (refusal : Refusal) (status : ℕ) → IfSome files (λ told. RefusesCase (IsCase commands.asking words told) refusal) → RefusalEnds err refusal status
+  refused_line : (refusal : Refusal) (status : ℕ) → IfSome files (λ told. RefusesCase (IsCase commands.asking words told) refusal)
+      → RefusalEnds err refusal status
       → ForCase commands.asking words files (λ case. HasCaseLine status → TakesAll err (line_of case))
-  refused_line refusal status known (usage_told all) = for_known commands.asking words files Usage (λ case. HasCaseLine 2 → TakesAll err (line_of case)) known (λ _. all)
+  refused_line refusal status known (usage_told all) =
+      for_known commands.asking words files Usage (λ case. HasCaseLine 2 → TakesAll err (line_of case)) known (λ _. all)
   refused_line refusal status known (program_told {line} all) =
-      for_some commands words files Name (λ name. BadProgram name line) (λ case. HasCaseLine 3 → TakesAll err (line_of case)) known (λ name _. all)
+      for_some commands words files Name (λ name. BadProgram name line)
+      (λ case. HasCaseLine 3 → TakesAll err (line_of case)) known (λ name _. all)
   refused_line refusal status known (input_told {line} all) =
-      for_some commands words files (List Name) (λ names. BadInput names line) (λ case. HasCaseLine 4 → TakesAll err (line_of case)) known (λ names _. all)
-  refused_line refusal status known (read_told all) = for_each commands.asking words files (λ case. HasCaseLine 7 → TakesAll err (line_of case)) (λ case is. absurd (grind (arith, is)))
-  refused_line refusal status known (refusal_no_memory taken) = for_each commands.asking words files (λ case. HasCaseLine 1 → TakesAll err (line_of case)) (λ case is. absurd (grind (arith, is)))
-  refused_line refusal status known (refusal_failed fails taken) = for_each commands.asking words files (λ case. HasCaseLine 8 → TakesAll err (line_of case)) (λ case is. absurd (grind (arith, is)))
+      for_some commands words files (List Name) (λ names. BadInput names line)
+      (λ case. HasCaseLine 4 → TakesAll err (line_of case)) known (λ names _. all)
+  refused_line refusal status known (read_told all) =
+      for_each commands.asking words files (λ case. HasCaseLine 7 → TakesAll err (line_of case)) (λ case is. absurd (grind (arith, is)))
+  refused_line refusal status known (refusal_no_memory taken) =
+      for_each commands.asking words files (λ case. HasCaseLine 1 → TakesAll err (line_of case)) (λ case is. absurd (grind (arith, is)))
+  refused_line refusal status known (refusal_failed fails taken) =
+      for_each commands.asking words files (λ case. HasCaseLine 8 → TakesAll err (line_of case)) (λ case is. absurd (grind (arith, is)))
 
-  refused_told : (refusal : Refusal) (status : ℕ) → IfSome files (λ told. RefusesCase (IsCase commands.asking words told) refusal) → RefusalEnds err refusal status → IsApart status ⊎ HasCaseLine status
+  refused_told : (refusal : Refusal) (status : ℕ) → IfSome files (λ told. RefusesCase (IsCase commands.asking words told) refusal)
+      → RefusalEnds err refusal status → IsApart status ⊎ HasCaseLine status
       → IfSome files (λ told. (case : Case T) × IsCase commands.asking words told case × (status_of commands case ≡ status))
   refused_told refusal status known (usage_told all) tells = told_case commands words files Usage known
-  refused_told refusal status known (program_told {line} all) tells = told_some commands words files Name (λ name. BadProgram name line) 3 known (λ name. refl)
-  refused_told refusal status known (input_told {line} all) tells = told_some commands words files (List Name) (λ names. BadInput names line) 4 known (λ names. refl)
+  refused_told refusal status known (program_told {line} all) tells =
+      told_some commands words files Name (λ name. BadProgram name line) 3 known (λ name. refl)
+  refused_told refusal status known (input_told {line} all) tells =
+      told_some commands words files (List Name) (λ names. BadInput names line) 4 known (λ names. refl)
   refused_told refusal status known (read_told all) tells = absurd (grind (arith, tells))
   refused_told refusal status known (refusal_no_memory taken) tells = absurd (grind (arith, tells))
   refused_told refusal status known (refusal_failed fails taken) tells = absurd (grind (arith, tells))
 
   -- where a file that is read is not there
-  refused_missing : (refusal : Refusal) (status : ℕ) → IfSome files (λ told. RefusesCase (IsCase commands.asking words told) refusal) → RefusesShelf commands.may_read (commands.asking.reading words) before now refusal
-      → RefusalEnds err refusal status → ForCase commands.asking words files (λ case. IsMissing case → Grew before now ⊎ (status ≡ 1) ⊎ Fails err)
-  refused_missing refusal status known shelf (usage_told all) = for_known commands.asking words files Usage (λ case. IsMissing case → Grew before now ⊎ ◌≡◌ {A = ℕ} 2 1 ⊎ Fails err) known (λ missing. absurd missing)
+  refused_missing : (refusal : Refusal) (status : ℕ) → IfSome files (λ told. RefusesCase (IsCase commands.asking words told) refusal)
+      → RefusesShelf commands.may_read (commands.asking.reading words) before now refusal
+      → RefusalEnds err refusal status
+      → ForCase commands.asking words files (λ case. IsMissing case → Grew before now ⊎ (status ≡ 1) ⊎ Fails err)
+  refused_missing refusal status known shelf (usage_told all) =
+      for_known commands.asking words files Usage (λ case. IsMissing case → Grew before now ⊎ ◌≡◌ {A = ℕ} 2 1 ⊎ Fails err) known
+      (λ missing. absurd missing)
   refused_missing refusal status known shelf (program_told {line} all) =
-      for_some commands words files Name (λ name. BadProgram name line) (λ case. IsMissing case → Grew before now ⊎ ◌≡◌ {A = ℕ} 3 1 ⊎ Fails err) known (λ name missing. absurd missing)
+      for_some commands words files Name (λ name. BadProgram name line)
+      (λ case. IsMissing case → Grew before now ⊎ ◌≡◌ {A = ℕ} 3 1 ⊎ Fails err) known (λ name missing. absurd missing)
   refused_missing refusal status known shelf (input_told {line} all) =
-      for_some commands words files (List Name) (λ names. BadInput names line) (λ case. IsMissing case → Grew before now ⊎ ◌≡◌ {A = ℕ} 4 1 ⊎ Fails err) known (λ names missing. absurd missing)
-  refused_missing refusal status known shelf (read_told all) = for_each commands.asking words files (λ case. IsMissing case → Grew before now ⊎ ◌≡◌ {A = ℕ} 7 1 ⊎ Fails err) (λ case missing. inl shelf.1)
-  refused_missing refusal status known shelf (refusal_no_memory taken) = for_each commands.asking words files (λ case. IsMissing case → Grew before now ⊎ ◌≡◌ {A = ℕ} 1 1 ⊎ Fails err) (λ case missing. inr (inl refl))
-  refused_missing refusal status known shelf (refusal_failed fails taken) = for_each commands.asking words files (λ case. IsMissing case → Grew before now ⊎ ◌≡◌ {A = ℕ} 8 1 ⊎ Fails err) (λ case missing. inr (inr fails))
+      for_some commands words files (List Name) (λ names. BadInput names line)
+      (λ case. IsMissing case → Grew before now ⊎ ◌≡◌ {A = ℕ} 4 1 ⊎ Fails err) known (λ names missing. absurd missing)
+  refused_missing refusal status known shelf (read_told all) =
+      for_each commands.asking words files (λ case. IsMissing case → Grew before now ⊎ ◌≡◌ {A = ℕ} 7 1 ⊎ Fails err)
+      (λ case missing. inl shelf.1)
+  refused_missing refusal status known shelf (refusal_no_memory taken) =
+      for_each commands.asking words files (λ case. IsMissing case → Grew before now ⊎ ◌≡◌ {A = ℕ} 1 1 ⊎ Fails err)
+      (λ case missing. inr (inl refl))
+  refused_missing refusal status known shelf (refusal_failed fails taken) =
+      for_each commands.asking words files (λ case. IsMissing case → Grew before now ⊎ ◌≡◌ {A = ℕ} 8 1 ⊎ Fails err)
+      (λ case missing. inr (inr fails))
 
   -- a refusal whose line was not written whole
-  refused_stop : (refusal : Refusal) → IfSome files (λ told. RefusesCase (IsCase commands.asking words told) refusal) → TakesRefusal refusal err → ForCase commands.asking words files (λ case. TakesStopLines (IsDue case error) err)
+  refused_stop : (refusal : Refusal) → IfSome files (λ told. RefusesCase (IsCase commands.asking words told) refusal)
+      → TakesRefusal refusal err → ForCase commands.asking words files (λ case. TakesStopLines (IsDue case error) err)
   refused_stop refusal known (line, inr for_stop, part) =
-      for_each commands.asking words files (λ case. TakesStopLines (IsDue case error) err) (λ case. stop_lines (IsDue case error) err (line_of case) line (inl refl) for_stop part)
-  refused_stop RefusedUsage known (line, inl tells, part) = for_known commands.asking words files Usage (λ case. TakesStopLines (IsDue case error) err) known (due_lines (IsDue {T = T} Usage error) err line (inl tells) part)
+      for_each commands.asking words files (λ case. TakesStopLines (IsDue case error) err)
+      (λ case. stop_lines (IsDue case error) err (line_of case) line (inl refl) for_stop part)
+  refused_stop RefusedUsage known (line, inl tells, part) =
+      for_known commands.asking words files Usage (λ case. TakesStopLines (IsDue case error) err) known
+      (due_lines (IsDue {T = T} Usage error) err line (inl tells) part)
   refused_stop (RefusedProgram told) known (line, inl tells, part) =
-      for_some commands words files Name (λ name. BadProgram name told) (λ case. TakesStopLines (IsDue case error) err) known (λ name. due_lines (IsDue {T = T} (BadProgram name told) error) err line (inl tells) part)
+      for_some commands words files Name (λ name. BadProgram name told) (λ case. TakesStopLines (IsDue case error) err) known
+      (λ name. due_lines (IsDue {T = T} (BadProgram name told) error) err line (inl tells) part)
   refused_stop (RefusedInput told) known (line, inl tells, part) =
-      for_some commands words files (List Name) (λ names. BadInput names told) (λ case. TakesStopLines (IsDue case error) err) known (λ names. due_lines (IsDue {T = T} (BadInput names told) error) err line (inl tells) part)
+      for_some commands words files (List Name) (λ names. BadInput names told) (λ case. TakesStopLines (IsDue case error) err) known
+      (λ names. due_lines (IsDue {T = T} (BadInput names told) error) err line (inl tells) part)
   refused_stop (ReadFault name) known (line, inl tells, part) = for_read files known
     where
-      for_read : (files : Option Files) → IfSome files (λ told. (case : Case T) × IsCase commands.asking words told case × Contains (names_read case) name) → ForCase commands.asking words files (λ case. TakesStopLines (IsDue case error) err)
+      for_read : (files : Option Files)
+          → IfSome files (λ told. (case : Case T) × IsCase commands.asking words told case × Contains (names_read case) name)
+          → ForCase commands.asking words files (λ case. TakesStopLines (IsDue case error) err)
       for_read None is = tt
-      for_read (Some files) (case, is, reads) = for_known commands.asking words (Some files) case (λ c. TakesStopLines (IsDue c error) err) is (due_lines (IsDue case error) err line (inr (inr (name, reads, tells))) part)
+      for_read (Some files) (case, is, reads) =
+          for_known commands.asking words (Some files) case (λ c. TakesStopLines (IsDue c error) err) is
+          (due_lines (IsDue case error) err line (inr (inr (name, reads, tells))) part)
   refused_stop OutOfMemory known (line, inl tells, part) = absurd tells
 
-  refused_stopped : (refusal : Refusal) (status : ℕ) → IfSome files (λ told. RefusesCase (IsCase commands.asking words told) refusal) → RefusalEnds err refusal status → IsStop status
+  refused_stopped : (refusal : Refusal) (status : ℕ) → IfSome files (λ told. RefusesCase (IsCase commands.asking words told) refusal)
+      → RefusalEnds err refusal status → IsStop status
       → ForCase commands.asking words files (λ case. TakesStopLines (IsDue case error) err)
   refused_stopped refusal status known (usage_told all) is = absurd (grind (arith, is))
   refused_stopped refusal status known (program_told all) is = absurd (grind (arith, is))
@@ -388,7 +527,8 @@ refused_not_apart err refusal status (refusal_no_memory taken) is = grind (arith
 refused_not_apart err refusal status (refusal_failed fails taken) is = grind (arith, is)
 
 -- words of no command
-refused_words : (err : Change) (refusal : Refusal) (status : ℕ) → RefusesWords refusal → RefusalEnds err refusal status → Yields 2 ⊥ (Fails err) status
+refused_words : (err : Change) (refusal : Refusal) (status : ℕ) → RefusesWords refusal → RefusalEnds err refusal status
+    → Yields 2 ⊥ (Fails err) status
 refused_words err refusal status is (usage_told all) = due_status
 refused_words err refusal status is (program_told all) = absurd is
 refused_words err refusal status is (input_told all) = absurd is
@@ -405,7 +545,8 @@ refused_fault out err refusal status (refusal_no_memory taken) is = absurd (omeg
 refused_fault out err refusal status (refusal_failed fails taken) is = inl fails
 
 module _ {A : Type 0} (may_read : A → Name → Type 0) (asked : Option A) (before now : List Name) (err : Change) where
-  refused_usage : (refusal : Refusal) (status : ℕ) → RefusesShelf may_read asked before now refusal → RefusalEnds err refusal status → status ≡ 2 → asked ≡ None
+  refused_usage : (refusal : Refusal) (status : ℕ) → RefusesShelf may_read asked before now refusal → RefusalEnds err refusal status
+      → status ≡ 2 → asked ≡ None
   refused_usage refusal status shelf (usage_told all) is = shelf.0
   refused_usage refusal status shelf (program_told all) is = absurd (omega (arith, is))
   refused_usage refusal status shelf (input_told all) is = absurd (omega (arith, is))
@@ -414,7 +555,8 @@ module _ {A : Type 0} (may_read : A → Name → Type 0) (asked : Option A) (bef
   refused_usage refusal status shelf (refusal_failed fails taken) is = absurd (omega (arith, is))
 
   -- the shelf at a status that tells the case
-  refused_untouched : (refusal : Refusal) (status : ℕ) → RefusesShelf may_read asked before now refusal → RefusalEnds err refusal status → IsApart status ⊎ HasCaseLine status → now ≡ before
+  refused_untouched : (refusal : Refusal) (status : ℕ) → RefusesShelf may_read asked before now refusal → RefusalEnds err refusal status
+      → IsApart status ⊎ HasCaseLine status → now ≡ before
   refused_untouched refusal status shelf (usage_told all) tells = shelf.1
   refused_untouched refusal status shelf (program_told all) tells = shelf
   refused_untouched refusal status shelf (input_told all) tells = shelf
@@ -424,21 +566,36 @@ module _ {A : Type 0} (may_read : A → Name → Type 0) (asked : Option A) (bef
 
 module _ {A T : Type 0} (commands : Commands A T) where
   -- the case reads a file whose read failed
-  pub reads_failed : (words : List (List ℕ)) (files : Option Files) (name : Name) → IfSome files (λ told. (case : Case T) × IsCase commands.asking words told case × Contains (names_read case) name)
+  pub reads_failed : (words : List (List ℕ)) (files : Option Files) (name : Name)
+      → IfSome files (λ told. (case : Case T) × IsCase commands.asking words told case × Contains (names_read case) name)
       → ForCase commands.asking words files (λ case. Contains (names_read case) name)
   reads_failed words None name is = tt
-  reads_failed words (Some files) name (case, is, reads) = for_known commands.asking words (Some files) case (λ c. Contains (names_read c) name) is reads
+  reads_failed words (Some files) name (case, is, reads) =
+      for_known commands.asking words (Some files) case (λ c. Contains (names_read c) name) is reads
 
-  refused_read : (words : List (List ℕ)) (files : Option Files) (failed failed' : List Name) (out err : Change) (refusal : Refusal) (status : ℕ) (journal : Journal)
-      → IfSome files (λ told. RefusesCase (IsCase commands.asking words told) refusal) → RefusesShelf commands.may_read (commands.asking.reading words) failed failed' refusal → RefusalEnds err refusal status → status ≡ 7
-      → TellsReadFault commands (record { words = words; files = files; failed = failed; failed' = failed'; out = out; err = err; status = status; journal = journal })
+  refused_read : (words : List (List ℕ)) (files : Option Files) (failed failed' : List Name) (out err : Change) (refusal : Refusal)
+      (status : ℕ) (journal : Journal)
+      → IfSome files (λ told. RefusesCase (IsCase commands.asking words told) refusal)
+      → RefusesShelf commands.may_read (commands.asking.reading words) failed failed' refusal → RefusalEnds err refusal status → status ≡ 7
+      → TellsReadFault commands (record {
+        words = words;
+        files = files;
+        failed = failed;
+        failed' = failed';
+        out = out;
+        err = err;
+        status = status;
+        journal = journal;
+      })
   refused_read words files failed failed' out err refusal status journal known shelf (usage_told all) is = absurd (omega (arith, is))
   refused_read words files failed failed' out err refusal status journal known shelf (program_told all) is = absurd (omega (arith, is))
   refused_read words files failed failed' out err refusal status journal known shelf (input_told all) is = absurd (omega (arith, is))
   refused_read words files failed failed' out err refusal status journal known shelf (read_told {name} all) is =
       record { name = name; read = reads_failed words files name known; asked = shelf.2; alone = shelf.0; grew = shelf.1; line = all }
-  refused_read words files failed failed' out err refusal status journal known shelf (refusal_no_memory taken) is = absurd (omega (arith, is))
-  refused_read words files failed failed' out err refusal status journal known shelf (refusal_failed fails taken) is = absurd (omega (arith, is))
+  refused_read words files failed failed' out err refusal status journal known shelf (refusal_no_memory taken) is =
+      absurd (omega (arith, is))
+  refused_read words files failed failed' out err refusal status journal known shelf (refusal_failed fails taken) is =
+      absurd (omega (arith, is))
 
   -- a status that tells the case is that of a whole end or of a line
   tells_apart : AreSound commands → (status : ℕ) → TellsCase commands status → IsApart status ⊎ HasCaseLine status
@@ -446,14 +603,16 @@ module _ {A T : Type 0} (commands : Commands A T) where
   tells_apart sound status (inr is) = inr is
 
   -- a journal of no event is one of each case
-  empty_lawful : AreSound commands → (case : Case T) (journal : Journal) → IsEmpty journal → ForRun commands case (λ work. commands.lawful work journal)
+  empty_lawful : AreSound commands → (case : Case T) (journal : Journal) → IsEmpty journal
+      → ForRun commands case (λ work. commands.lawful work journal)
   empty_lawful sound Usage journal empty = tt
   empty_lawful sound (Missing names name) journal empty = tt
   empty_lawful sound (BadProgram name line) journal empty = tt
   empty_lawful sound (BadInput names line) journal empty = tt
   empty_lawful sound (Go names work) journal empty = λ is. sound.begins work journal empty
 
-  empty_retired : AreSound commands → (case : Case T) (journal : Journal) (written : Option (List ℕ)) (faults : ℕ) → IsEmpty journal → ForRun commands case (λ work. commands.retired work journal (unwritten written faults))
+  empty_retired : AreSound commands → (case : Case T) (journal : Journal) (written : Option (List ℕ)) (faults : ℕ) → IsEmpty journal
+      → ForRun commands case (λ work. commands.retired work journal (unwritten written faults))
   empty_retired sound Usage journal written faults empty = tt
   empty_retired sound (Missing names name) journal written faults empty = tt
   empty_retired sound (BadProgram name line) journal written faults empty = tt
@@ -474,34 +633,72 @@ module _ {A T : Type 0} (commands : Commands A T) where
       (λ case stops. inl (empty, stops)) (tells [])
 
 -- a refusal meets the promise
-pub refused_headline : {A T : Type 0} (commands : Commands A T) (sound : AreSound commands) (words : List (List ℕ)) (files : Option Files) (failed failed' : List Name) (written : Option (List ℕ)) (faults : ℕ) (err : Change) (status : ℕ)
+pub refused_headline : {A T : Type 0} (commands : Commands A T) (sound : AreSound commands) (words : List (List ℕ)) (files : Option Files)
+    (failed failed' : List Name) (written : Option (List ℕ)) (faults : ℕ) (err : Change) (status : ℕ)
     (journal : Journal) (refusal : Refusal)
-    → (commands.asking.reading words ≡ None → RefusesWords refusal) → (ReadsNothing commands (commands.asking.reading words) → failed' ≡ failed)
-    → IfSome files (λ told. RefusesCase (IsCase commands.asking words told) refusal) → RefusesShelf commands.may_read (commands.asking.reading words) failed failed' refusal → IsEmpty journal → RefusalEnds err refusal status
-    → Headline commands (record { words = words; files = files; failed = failed; failed' = failed'; out = unwritten written faults; err = err; status = status; journal = journal })
-refused_headline commands sound words files failed failed' written faults err status journal refusal no_command unread known shelf empty ends =
+    → (commands.asking.reading words ≡ None → RefusesWords refusal)
+    → (ReadsNothing commands (commands.asking.reading words) → failed' ≡ failed)
+    → IfSome files (λ told. RefusesCase (IsCase commands.asking words told) refusal)
+    → RefusesShelf commands.may_read (commands.asking.reading words) failed failed' refusal → IsEmpty journal
+    → RefusalEnds err refusal status
+    → Headline commands (record {
+      words = words;
+      files = files;
+      failed = failed;
+      failed' = failed';
+      out = unwritten written faults;
+      err = err;
+      status = status;
+      journal = journal;
+    })
+refused_headline commands sound words files failed failed' written faults err status journal refusal no_command unread
+    known shelf empty ends =
     let out : Change = unwritten written faults in
-    let call : Call = record { words = words; files = files; failed = failed; failed' = failed'; out = out; err = err; status = status; journal = journal } in
+    let call : Call =
+    record {
+      words = words;
+      files = files;
+      failed = failed;
+      failed' = failed';
+      out = out;
+      err = err;
+      status = status;
+      journal = journal;
+    } in
     let not_whole : commands.whole status → ⊥ = λ is. refused_not_apart err refusal status ends (sound.apart status is) in
     record {
       status = refused_status commands words files failed failed' out err [] refusal status known shelf ends;
-      told = λ tells. refused_told commands words files failed failed' out err [] refusal status known ends (tells_apart commands sound status tells);
+      told =
+          λ tells. refused_told commands words files failed failed' out err [] refusal status known ends
+          (tells_apart commands sound status tells);
       usage = refused_usage commands.may_read (commands.asking.reading words) failed failed' err refusal status shelf ends;
       no_command = λ none. refused_words err refusal status (no_command none) ends;
-      text = for_each commands.asking words files (λ case. commands.whole status → TakesAll out (text_of commands case)) (λ case is. absurd (not_whole is));
-      prefix = for_each commands.asking words files (λ case. TakesPart out (text_of commands case)) (λ case. prefix_none written (text_of commands case));
+      text =
+          for_each commands.asking words files (λ case. commands.whole status → TakesAll out (text_of commands case))
+          (λ case is. absurd (not_whole is));
+      prefix =
+          for_each commands.asking words files (λ case. TakesPart out (text_of commands case))
+          (λ case. prefix_none written (text_of commands case));
       refused = λ is. Keeps-same written;
       quiet = λ is. absurd (not_whole is);
       line = refused_line commands words files failed failed' out err [] refusal status known ends;
       read_fault = refused_read commands words files failed failed' out err refusal status journal known shelf ends;
       write_fault = λ is. refused_write commands commands.log call empty (refused_fault out err refusal status ends is);
-      stopped = λ is. refused_tells commands commands.log call empty (λ error. refused_stopped commands words files failed failed' out err error refusal status known ends is);
-      untouched = λ tells. refused_untouched commands.may_read (commands.asking.reading words) failed failed' err refusal status shelf ends (tells_apart commands sound status tells);
+      stopped =
+          λ is. refused_tells commands commands.log call empty
+          (λ error. refused_stopped commands words files failed failed' out err error refusal status known ends is);
+      untouched =
+          λ tells. refused_untouched commands.may_read (commands.asking.reading words) failed failed' err refusal status shelf ends
+          (tells_apart commands sound status tells);
       unread = unread;
       missing = refused_missing commands words files failed failed' out err [] refusal status known shelf ends;
       journal = λ unbegun. empty;
       unbegun = for_each commands.asking words files (λ case. HasWork case ⊎ IsEmpty journal) (λ case. inr empty);
-      lawful = for_each commands.asking words files (λ case. ForRun commands case (λ work. commands.lawful work journal)) (λ case. empty_lawful commands sound case journal empty);
+      lawful =
+          for_each commands.asking words files (λ case. ForRun commands case (λ work. commands.lawful work journal))
+          (λ case. empty_lawful commands sound case journal empty);
       complete = λ is. absurd (not_whole is);
-      retired = for_each commands.asking words files (λ case. ForRun commands case (λ work. commands.retired work journal out)) (λ case. empty_retired commands sound case journal written faults empty);
+      retired =
+          for_each commands.asking words files (λ case. ForRun commands case (λ work. commands.retired work journal out))
+          (λ case. empty_retired commands sound case journal written faults empty);
     }

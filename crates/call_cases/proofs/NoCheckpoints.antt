@@ -34,19 +34,22 @@ module _ (asked : Asked) (files : Files) where
   faults_supply program inputs (Lacks names name) = tt
   faults_supply program inputs (Spoils names line) = tt
 
-  inputs_supply : (program : Program) (supplied : Supplied Inputs) → SuppliesBy asked.command (then_load supplied (with_faults files asked program))
+  inputs_supply : (program : Program) (supplied : Supplied Inputs)
+      → SuppliesBy asked.command (then_load supplied (with_faults files asked program))
   inputs_supply program (Supplies names inputs) = faults_supply program inputs (load_faults files names asked.faults)
   inputs_supply program (Lacks names name) = tt
   inputs_supply program (Spoils names line) = tt
 
-  supplied_goes : (supplied : Supplied ToDo) → SuppliesBy asked.command supplied → GoesBy asked.command (supplied_case asked.program supplied)
+  supplied_goes : (supplied : Supplied ToDo) → SuppliesBy asked.command supplied
+      → GoesBy asked.command (supplied_case asked.program supplied)
   supplied_goes (Supplies names work) is = is
   supplied_goes (Lacks names name) is = tt
   supplied_goes (Spoils names line) is = tt
 
   checked_goes : (program : Program) (fault : Option (CheckKind × ℕ)) → GoesBy asked.command (program_case asking files asked program fault)
   checked_goes program (Some fault) = tt
-  checked_goes program None = supplied_goes (supplied_by asked program files) (inputs_supply program (supplied_for asked.command program.heads files))
+  checked_goes program None =
+      supplied_goes (supplied_by asked program files) (inputs_supply program (supplied_for asked.command program.heads files))
 
   meant_goes : (meaning : Meaning) → GoesBy asked.command (meant_case asking files asked meaning)
   meant_goes (LexFails fault) = tt
@@ -74,5 +77,6 @@ case_alone words files case (asks {asked} some is) =
     goes_alone asked.command case (subst (λ a. IfSome a (λ asked. RestartsAlone asked.command)) some (words_restart words))
     (case_goes asked (asking.files asked files) case is)
 
-pub restarts_alone : (words : List (List ℕ)) (files : Files) (names : List Name) (work : ToDo) → IsCase asking words files (Go names work) → RestartsAlone work.command
+pub restarts_alone : (words : List (List ℕ)) (files : Files) (names : List Name) (work : ToDo) → IsCase asking words files (Go names work)
+    → RestartsAlone work.command
 restarts_alone words files names work is = case_alone words files (Go names work) is

@@ -22,10 +22,13 @@ pub none_some : {A : Type 0} (o : Option A) (x : A) → o ≡ None → o ≡ Som
 none_some o x none some = let e : None ≡ Some x = sym none ∙ some in cc
 
 -- what is asked has one case over the same files
-pub one_case_of : {A T : Type 0} (asking : Asking A T) (asked : A) (files : Files) (a b : Case T) → IsCaseOf asking asked files a → IsCaseOf asking asked files b → a ≡ b
+pub one_case_of : {A T : Type 0} (asking : Asking A T) (asked : A) (files : Files) (a b : Case T) → IsCaseOf asking asked files a
+    → IsCaseOf asking asked files b → a ≡ b
 one_case_of asking asked files a b (no_program absent) (no_program absent') = refl
-one_case_of asking asked files a b (no_program absent) (of_text {text} meaning there means) = absurd (none_some (bytes_of files (asking.program asked)) text absent there)
-one_case_of asking asked files a b (of_text {text} meaning there means) (no_program absent) = absurd (none_some (bytes_of files (asking.program asked)) text absent there)
+one_case_of asking asked files a b (no_program absent) (of_text {text} meaning there means) =
+    absurd (none_some (bytes_of files (asking.program asked)) text absent there)
+one_case_of asking asked files a b (of_text {text} meaning there means) (no_program absent) =
+    absurd (none_some (bytes_of files (asking.program asked)) text absent there)
 one_case_of asking asked files a b (of_text {text} meaning there means) (of_text {text = text'} meaning' there' means') =
     let texts = same_some (bytes_of files (asking.program asked)) text' text there' there in
     ap (meant_case asking files asked) (one_meaning text meaning meaning' means (subst (λ u. Means u meaning') texts means'))
@@ -53,18 +56,22 @@ some_case A T asking words files = go (asking.reading words) refl
     go (Some asked) some = let found = some_case_of asking asked (asking.files asked files) in (found.0, asks some found.1)
 
 -- what holds of a case that is known holds of the case
-pub for_known : {A T : Type 0} (asking : Asking A T) (words : List (List ℕ)) (files : Option Files) (known : Case T) (P : Case T → Type 0) → IfSome files (λ told. IsCase asking words told known) → P known →
+pub for_known : {A T : Type 0} (asking : Asking A T) (words : List (List ℕ)) (files : Option Files) (known : Case T) (P : Case T → Type 0)
+    → IfSome files (λ told. IsCase asking words told known) → P known →
     ForCase asking words files P
 for_known asking words None known P is holds = tt
-for_known {A} {T} asking words (Some files) known P is holds = λ case is_case. subst P (one_case A T asking words files known case is is_case) holds
+for_known {A} {T} asking words (Some files) known P is holds =
+    λ case is_case. subst P (one_case A T asking words files known case is is_case) holds
 
 -- what holds of each case
-pub for_each : {A T : Type 0} (asking : Asking A T) (words : List (List ℕ)) (files : Option Files) (P : Case T → Type 0) → ((case : Case T) → P case) → ForCase asking words files P
+pub for_each : {A T : Type 0} (asking : Asking A T) (words : List (List ℕ)) (files : Option Files) (P : Case T → Type 0)
+    → ((case : Case T) → P case) → ForCase asking words files P
 for_each asking words None P holds = tt
 for_each asking words (Some files) P holds = λ case is_case. holds case
 
 -- what follows in each case from what holds of it
-pub for_map : {A T : Type 0} (asking : Asking A T) (words : List (List ℕ)) (files : Option Files) (P Q : Case T → Type 0) → ((case : Case T) → P case → Q case)
+pub for_map : {A T : Type 0} (asking : Asking A T) (words : List (List ℕ)) (files : Option Files) (P Q : Case T → Type 0)
+    → ((case : Case T) → P case → Q case)
     → ForCase asking words files P → ForCase asking words files Q
 for_map asking words None P Q to holds = tt
 for_map asking words (Some files) P Q to holds = λ case is_case. to case (holds case is_case)

@@ -15,7 +15,8 @@ use Rattle.call_cases.specs.inner.Loading.{IsReadable, AreReadable}
 use Rattle.std.proofs.Common.{map}
 
 -- where no fault is found at a place, no rule fails there, and none is found later
-no_fault : (line : ℕ) (kinds : List CheckKind) (later : Option (CheckKind × ℕ)) → fault_at line kinds later ≡ None → (kinds ≡ []) × (later ≡ None)
+no_fault : (line : ℕ) (kinds : List CheckKind) (later : Option (CheckKind × ℕ)) → fault_at line kinds later ≡ None
+    → (kinds ≡ []) × (later ≡ None)
 no_fault line [] later none = (refl, none)
 no_fault line (k ∷ kinds) later none = cc
 
@@ -37,16 +38,26 @@ holds_not false kind none = refl
 -- a head at which no rule fails
 readable_head : (program : Program) (before : List Head) (h : Head) → (head_visit program before h).fails ≡ [] → IsReadable h
 readable_head program before h none =
-    let all = no_parts (((fails_if (lacks_array program.heads h) UnknownName ++ fails_if (is_among (head_name h) (map head_name before)) DoubleName) ++ fails_if (count_of h == 0) WrongCount) ++ fails_if (sizes_differ program.heads h) SizesDiffer)
+    let all =
+    no_parts (((fails_if (lacks_array program.heads h) UnknownName
+    ++ fails_if (is_among (head_name h) (map head_name before)) DoubleName) ++ fails_if (count_of h == 0) WrongCount)
+    ++ fails_if (sizes_differ program.heads h) SizesDiffer)
     (fails_if (passes_limit before h) TooMany) none in
-    let sizes = no_parts ((fails_if (lacks_array program.heads h) UnknownName ++ fails_if (is_among (head_name h) (map head_name before)) DoubleName) ++ fails_if (count_of h == 0) WrongCount) (fails_if (sizes_differ program.heads h) SizesDiffer) all.0 in
-    let counts = no_parts (fails_if (lacks_array program.heads h) UnknownName ++ fails_if (is_among (head_name h) (map head_name before)) DoubleName) (fails_if (count_of h == 0) WrongCount) sizes.0 in
+    let sizes =
+    no_parts ((fails_if (lacks_array program.heads h) UnknownName
+    ++ fails_if (is_among (head_name h) (map head_name before)) DoubleName) ++ fails_if (count_of h == 0) WrongCount)
+    (fails_if (sizes_differ program.heads h) SizesDiffer) all.0 in
+    let counts =
+    no_parts (fails_if (lacks_array program.heads h) UnknownName ++ fails_if (is_among (head_name h) (map head_name before)) DoubleName)
+    (fails_if (count_of h == 0) WrongCount) sizes.0 in
     go h (holds_not (count_of h == 0) WrongCount counts.1) (holds_not (passes_limit before h) TooMany all.1)
   where
     go : (h : Head) → (count_of h == 0) ≡ false → passes_limit before h ≡ false → IsReadable h
     go (LockHead name size line) some few = tt
     go (BarrierHead name number line) some few = tt
-    go (RecHead name size by from line) some few = let most : cells_in (records_of before) + natural size ≤ MOST_CELLS = grind (arith, nat_tests, few) in omega (arith, most)
+    go (RecHead name size by from line) some few =
+        let most : cells_in (records_of before) + natural size ≤ MOST_CELLS = grind (arith, nat_tests, few) in
+        omega (arith, most)
     go (FeedHead name fields from line) some few = (grind (arith, nat_tests, some), grind (arith, nat_tests, few))
 
 readable_heads : (program : Program) (before heads : List Head) → first_fault (head_visits program before heads) ≡ None → AreReadable heads

@@ -20,7 +20,8 @@ reads_supplied program (Lacks names name) = first program (names ++ name ∷ [])
 reads_supplied program (Spoils names line) = first program names
 
 module _ {A T : Type 0} (asking : Asking A T) (files : Files) (asked : A) where
-  reads_checked : (program : Program) (fault : Option (CheckKind × ℕ)) → Contains (names_read (program_case asking files asked program fault)) (asking.program asked)
+  reads_checked : (program : Program) (fault : Option (CheckKind × ℕ))
+      → Contains (names_read (program_case asking files asked program fault)) (asking.program asked)
   reads_checked program (Some fault) = first (asking.program asked) []
   reads_checked program None = reads_supplied (asking.program asked) (asking.supplied asked program files)
 
@@ -29,6 +30,7 @@ module _ {A T : Type 0} (asking : Asking A T) (files : Files) (asked : A) where
   reads_meant (ParseFails fault) = first (asking.program asked) []
   reads_meant (Stands program) = reads_checked program (check_fault program)
 
-pub reads_program : {A T : Type 0} (asking : Asking A T) (files : Files) (asked : A) (case : Case T) → IsCaseOf asking asked files case → Contains (names_read case) (asking.program asked)
+pub reads_program : {A T : Type 0} (asking : Asking A T) (files : Files) (asked : A) (case : Case T) → IsCaseOf asking asked files case
+    → Contains (names_read case) (asking.program asked)
 reads_program asking files asked case (no_program absent) = first (asking.program asked) []
 reads_program asking files asked case (of_text meaning there means) = reads_meant asking files asked meaning

@@ -44,7 +44,8 @@ empty_by journal empty = ap (λ e. journal_by e journal.restarts) empty.0 ∙ ap
 
 pub empty_journal_of : (work : ToDo) (journal : Journal) → IsEmpty journal → IsJournalOf work journal
 empty_journal_of work journal empty =
-    subst (IsJournalOf work) (sym (empty_by journal empty)) (record { lawful = none_lawful work.command; first = (_, refl); counted = refl })
+    subst (IsJournalOf work) (sym (empty_by journal empty))
+    (record { lawful = none_lawful work.command; first = (_, refl); counted = refl })
   where
     none_lawful : (c : Command) → LawfulBy c (run_of work) work.faults []
     none_lawful command.Run = tt
@@ -57,21 +58,26 @@ empty_journal_of work journal empty =
 pub none_retired : (work : ToDo) (journal : Journal) → IsEmpty journal → retired_in work journal ≡ 0
 none_retired work journal empty = ap (λ j. retired_in work j) (empty_by journal empty)
 
-pub retired_none : (work : ToDo) (journal : Journal) (written : Option (List ℕ)) (faults : ℕ) → IsEmpty journal → TakesRetired work journal (unwritten written faults)
+pub retired_none : (work : ToDo) (journal : Journal) (written : Option (List ℕ)) (faults : ℕ) → IsEmpty journal
+    → TakesRetired work journal (unwritten written faults)
 retired_none work journal written faults empty = go work.command
   where
     go : (c : Command) → TakesRetiredFor c work journal (unwritten written faults)
     go command.Run = (inl (none_retired work journal empty), inr (prefix_none written (lines_before work (suc (retired_in work journal)))))
     go command.One = (inl (none_retired work journal empty), inr (prefix_none written (lines_before work (suc (retired_in work journal)))))
-    go command.Check = (inl (none_retired work journal empty), inr (prefix_none written (lines_before work (suc (retired_in work journal)))))
+    go command.Check =
+        (inl (none_retired work journal empty), inr (prefix_none written (lines_before work (suc (retired_in work journal)))))
     go (command.Soak batch) = inr (Keeps-same written)
-    go (command.Ckpt every) = (inl (none_retired work journal empty), inr (prefix_none written (lines_before work (suc (retired_in work journal)))))
+    go (command.Ckpt every) =
+        (inl (none_retired work journal empty), inr (prefix_none written (lines_before work (suc (retired_in work journal)))))
     go command.Log = (inl (none_retired work journal empty), inr (prefix_none written (lines_before work (suc (retired_in work journal)))))
 
 pub commands_sound : AreSound commands
-commands_sound = record { ends = λ work. work_whole work.command work; apart = whole_apart; begins = empty_journal_of; unbegun = retired_none }
+commands_sound =
+    record { ends = λ work. work_whole work.command work; apart = whole_apart; begins = empty_journal_of; unbegun = retired_none }
 
-pub sound_for : {A T : Type 0} (commands : Commands A T) (asking : Asking A T) → AreSound commands → AreSound (record commands { asking = asking })
+pub sound_for : {A T : Type 0} (commands : Commands A T) (asking : Asking A T) → AreSound commands
+    → AreSound (record commands { asking = asking })
 sound_for commands asking sound = record { ends = sound.ends; apart = sound.apart; begins = sound.begins; unbegun = sound.unbegun }
 
 pub sound_with : {A T : Type 0} (commands : Commands A T) (log : MayLog T) → AreSound commands → AreSound (record commands { log = log })

@@ -14,10 +14,14 @@ use Rattle.call_cases.specs.inner.Loading.{Counts, Grows}
 below_length : (size n : ℕ) (rows : List Row) → length (cells_below size n rows) ≡ n
 below_length size zero rows = refl
 below_length size (suc n) rows =
-    length-append (cells_below size n rows) (unwrap_or (value_at size rows n) (pos 0) ∷ []) ∙ ap (λ k. k + 1) (below_length size n rows) ∙ add-one n
+    length-append (cells_below size n rows) (unwrap_or (value_at size rows n) (pos 0) ∷ []) ∙ ap (λ k. k + 1) (below_length size n rows)
+    ∙ add-one n
 
-meant_length : (size : ℕ) (rows : List Row) (broken : Option Broken) (cells : List ℤ) → unless_broken broken (cells_below size size rows) ≡ Ok cells → length cells ≡ size
-meant_length size rows None cells is = let same : cells_below size size rows ≡ cells = cc is in ap length (sym same) ∙ below_length size size rows
+meant_length : (size : ℕ) (rows : List Row) (broken : Option Broken) (cells : List ℤ)
+    → unless_broken broken (cells_below size size rows) ≡ Ok cells → length cells ≡ size
+meant_length size rows None cells is =
+    let same : cells_below size size rows ≡ cells = cc is in
+    ap length (sym same) ∙ below_length size size rows
 meant_length size rows (Some broken) cells is = cc is
 
 -- the cells of a record, where its file has any, are as many as its size
@@ -25,7 +29,8 @@ pub record_length : (size : ℕ) (bytes : List ℕ) (cells : List ℤ) → recor
 record_length size bytes cells is = meant_length size (rows_of bytes) (first_broken (record_rule size) [] (rows_of bytes)) cells is
 
 -- one head more
-cells_more : (heads : List Head) (head : Head) → cells_in (records_of (heads ++ head ∷ [])) ≡ cells_in (records_of heads) + cells_in (records_of (head ∷ []))
+cells_more : (heads : List Head) (head : Head)
+    → cells_in (records_of (heads ++ head ∷ [])) ≡ cells_in (records_of heads) + cells_in (records_of (head ∷ []))
 cells_more [] head = omega arith
 cells_more (LockHead name size line ∷ heads) head = cells_more heads head
 cells_more (BarrierHead name number line ∷ heads) head = cells_more heads head
@@ -39,20 +44,26 @@ fields_more (BarrierHead name number line ∷ heads) head = fields_more heads he
 fields_more (RecHead name size by from line ∷ heads) head = fields_more heads head
 fields_more (FeedHead name fields from line ∷ heads) head = ap (λ l. natural fields ∷ l) (fields_more heads head)
 
-take_more : (heads : List Head) (i : ℕ) (head : Head) → i < length heads → head ≡ get_or heads i head → take (i + 1) heads ≡ take i heads ++ head ∷ []
+take_more : (heads : List Head) (i : ℕ) (head : Head) → i < length heads → head ≡ get_or heads i head
+    → take (i + 1) heads ≡ take i heads ++ head ∷ []
 take_more heads i head below is = ap (λ k. take k heads) (add-one i) ∙ go heads i head below is
   where
-    go : (heads : List Head) (i : ℕ) (head : Head) → i < length heads → head ≡ get_or heads i head → take (suc i) heads ≡ take i heads ++ head ∷ []
+    go : (heads : List Head) (i : ℕ) (head : Head) → i < length heads → head ≡ get_or heads i head
+        → take (suc i) heads ≡ take i heads ++ head ∷ []
     go [] i head below is = absurd (omega (arith, below))
     go (h ∷ heads) zero head below is = ap (λ x. x ∷ []) (sym is)
     go (h ∷ heads) (suc i) head below is = ap (λ l. h ∷ l) (go heads i head (omega (arith, below)) is)
 
-pub counts_more : (heads : List Head) (i : ℕ) (head : Head) (before after : Inputs) → i < length heads → head ≡ get_or heads i head → Counts (take i heads) before → Grows head before after → Counts (take (i + 1) heads) after
+pub counts_more : (heads : List Head) (i : ℕ) (head : Head) (before after : Inputs) → i < length heads → head ≡ get_or heads i head
+    → Counts (take i heads) before → Grows head before after → Counts (take (i + 1) heads) after
 counts_more heads i head before after below is counts grows =
     let more = take_more heads i head below is in
     record {
-      records = grows.records ∙ ap (λ n. n + cells_in (records_of (head ∷ []))) counts.records ∙ sym (cells_more (take i heads) head) ∙ ap (λ l. cells_in (records_of l)) (sym more);
-      feeds = grows.feeds ∙ ap (λ l. l ++ fields_of (head ∷ [])) counts.feeds ∙ sym (fields_more (take i heads) head) ∙ ap fields_of (sym more);
+      records =
+          grows.records ∙ ap (λ n. n + cells_in (records_of (head ∷ []))) counts.records ∙ sym (cells_more (take i heads) head)
+          ∙ ap (λ l. cells_in (records_of l)) (sym more);
+      feeds =
+          grows.feeds ∙ ap (λ l. l ++ fields_of (head ∷ [])) counts.feeds ∙ sym (fields_more (take i heads) head) ∙ ap fields_of (sym more);
     }
 
 pub counts_all : (heads : List Head) (n : ℕ) (inputs : Inputs) → length heads ≤ n → Counts (take n heads) inputs → Counts heads inputs

@@ -45,16 +45,20 @@ module _ {A T : Type 0} (asking : Asking A T) (files : Files) (asked : A) where
 -- the case of what is asked, over these files
 pub data IsCaseOf {A T : Type 0} (asking : Asking A T) (asked : A) (files : Files) : Case T → Type 0 where
   no_program : bytes_of files (asking.program asked) ≡ None → IsCaseOf asking asked files (Missing [] (asking.program asked))
-  of_text : {text : List ℕ} (meaning : Meaning) → bytes_of files (asking.program asked) ≡ Some text → Means text meaning → IsCaseOf asking asked files (meant_case asking files asked meaning)
+  of_text : {text : List ℕ} (meaning : Meaning) → bytes_of files (asking.program asked) ≡ Some text → Means text meaning
+      → IsCaseOf asking asked files (meant_case asking files asked meaning)
 
 -- the case of a call with these words, where the shelf has these files
 pub data IsCase {A T : Type 0} (asking : Asking A T) (words : List (List ℕ)) (files : Files) : Case T → Type 0 where
   no_command : asking.reading words ≡ None → IsCase asking words files Usage
-  asks : {asked : A} {case : Case T} → asking.reading words ≡ Some asked → IsCaseOf asking asked (asking.files asked files) case → IsCase asking words files case
+  asks : {asked : A} {case : Case T} → asking.reading words ≡ Some asked → IsCaseOf asking asked (asking.files asked files) case
+      → IsCase asking words files case
 
 -- a call has one case at most
 abbrev pub OneCase : (A T : Type 0) → Type 0
-OneCase A T = (asking : Asking A T) (words : List (List ℕ)) (files : Files) (a b : Case T) → IsCase asking words files a → IsCase asking words files b → a ≡ b
+OneCase A T =
+    (asking : Asking A T) (words : List (List ℕ)) (files : Files) (a b : Case T) → IsCase asking words files a → IsCase asking words files b
+    → a ≡ b
 
 -- a call has a case
 abbrev pub SomeCase : (A T : Type 0) → Type 0

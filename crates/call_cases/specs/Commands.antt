@@ -1,5 +1,6 @@
--- The record of promises of a top call: what its words ask for, which is a value of A, what is to be done for that, which is a value of T, and how
--- what the call leaves stands to it. Each top call is promised to do what one value of this record says.
+-- The record of promises of a top call: what its words ask for, which is a value of A, what is to be done for that,
+-- which is a value of T, and how what the call leaves stands to it. Each top call is promised to do what one value of
+-- this record says.
 use Rattle.std.specs.Prelude.{◌≡◌, ◌⊎◌, ◌<◌, ℕ, Bool, List, Option}
 use Rattle.gp_base.specs.declared.journal.Journal.{Journal}
 use Rattle.task_ast.specs.Tree.{Name, Program}
@@ -17,8 +18,8 @@ pub record Asking (A T : Type 0) : Type 0 where
   -- what is to be done with an accepted program, by the files beside it
   pub supplied : A → Program → Files → Supplied T
 
--- a log that the error stream takes while a run goes on, a row for each position that retires: the whole log of what is to be done, and what of it was
--- taken where this is the journal of the run
+-- a log that the error stream takes while a run goes on, a row for each position that retires: the whole log of what is
+-- to be done, and what of it was taken where this is the journal of the run
 pub record Log (T : Type 0) : Type 1 where
   pub whole : T → List ℕ
   pub taken : T → Journal → Change → Type 0
@@ -47,7 +48,8 @@ pub record Commands (A T : Type 0) : Type 1 where
   pub error : A → Journal → List ℕ
   -- what it takes in place of that, and of the line of a stop, where a log is kept of the run
   pub log : MayLog T
-  -- The journal is one of the run of what is to be done, and it is complete. The output stands so to the subthreads that have retired in it.
+  -- The journal is one of the run of what is to be done, and it is complete. The output stands so to the subthreads
+  -- that have retired in it.
   pub lawful : T → Journal → Type 0
   pub complete : T → Journal → Type 0
   pub retired : T → Journal → Change → Type 0
@@ -56,10 +58,11 @@ pub record Commands (A T : Type 0) : Type 1 where
 abbrev pub IsApart : ℕ → Type 0
 IsApart status = (status ≡ 0) ⊎ (status ≡ 5) ⊎ (status ≡ 6) ⊎ (8 < status)
 
--- What each value of the record meets: what is done to its end has a status of such an end, which is no status of a refusal or of a stop; and a journal of
--- no event is a lawful one, with nothing written.
+-- What each value of the record meets: what is done to its end has a status of such an end, which is no status of a
+-- refusal or of a stop; and a journal of no event is a lawful one, with nothing written.
 pub record AreSound {A T : Type 0} (commands : Commands A T) : Type 0 where
   pub ends : (work : T) → commands.whole (commands.status work)
   pub apart : (status : ℕ) → commands.whole status → IsApart status
   pub begins : (work : T) (journal : Journal) → IsEmpty journal → commands.lawful work journal
-  pub unbegun : (work : T) (journal : Journal) (written : Option (List ℕ)) (faults : ℕ) → IsEmpty journal → commands.retired work journal (unwritten written faults)
+  pub unbegun : (work : T) (journal : Journal) (written : Option (List ℕ)) (faults : ℕ) → IsEmpty journal
+      → commands.retired work journal (unwritten written faults)

@@ -55,8 +55,8 @@ IsAcceptedIn asked text (Err refusal) = ⊥
 abbrev pub accepted_case : Asked → Program → Files → Case ToDo
 accepted_case asked program files = program_case asking files asked program None
 
--- What may be run: the inputs are those of the program, the number of the command lies within its range, and there is a worker and no more than there
--- may be.
+-- What may be run: the inputs are those of the program, the number of the command lies within its range, and there is a
+-- worker and no more than there may be.
 pub record IsSound (asked : Asked) (program : Program) (inputs : Inputs) : Type 0 where
   pub inputs_are : AreInputsOf program inputs
   pub ranges : IsWithinRanges asked.command

@@ -32,10 +32,11 @@ IsRefusal status = HasCaseLine status ⊎ (status ≡ 7)
 abbrev pub IsStop : ℕ → Type 0
 IsStop status = (status ≡ 1) ⊎ (status ≡ 8)
 
--- what the error stream is to take for the case: the line of the case, or of a file that it reads, or, where there is something to be done, what it takes
--- at the end of that
+-- what the error stream is to take for the case: the line of the case, or of a file that it reads, or, where there is
+-- something to be done, what it takes at the end of that
 abbrev pub IsDue : {T : Type 0} → Case T → (error : List ℕ) → List ℕ → Type 0
-IsDue case error due = (due ≡ line_of case) ⊎ HasWork case × (due ≡ error) ⊎ (name : Name) × Contains (names_read case) name × (due ≡ read_fault_line name)
+IsDue case error due =
+    (due ≡ line_of case) ⊎ HasWork case × (due ≡ error) ⊎ (name : Name) × Contains (names_read case) name × (due ≡ read_fault_line name)
 
 -- the error stream took a prefix of what is due, and then a prefix of the line that tells the stop
 abbrev pub TakesStopLines : (is_due : List ℕ → Type 0) → Change → Type 0
@@ -69,7 +70,8 @@ module _ {A T : Type 0} (commands : Commands A T) (call : Call) where
   -- what the error stream took where what is asked was done to its end: the text that is due then, or the whole log
   abbrev pub IsQuiet : MayLog T → Type 0
   IsQuiet Unlogged = TakesAll call.err (error_for commands (commands.asking.reading call.words) call.journal)
-  IsQuiet (Logged log) = ForCase commands.asking call.words call.files (λ case. ForRun commands case (λ work. TakesAll call.err (log.whole work)))
+  IsQuiet (Logged log) =
+      ForCase commands.asking call.words call.files (λ case. ForRun commands case (λ work. TakesAll call.err (log.whole work)))
 
   -- a write failed, of which a line tells; where a log is kept, only before the run
   abbrev pub TellsWrite : MayLog T → Type 0
@@ -80,7 +82,8 @@ module _ {A T : Type 0} (commands : Commands A T) (call : Call) where
   abbrev pub TellsStop : MayLog T → Case T → Type 0
   TellsStop Unlogged case = TakesStopLines (IsDue case (error_for commands (commands.asking.reading call.words) call.journal)) call.err
   TellsStop (Logged log) case =
-      (IsEmpty call.journal × TakesStopLines (IsDue case []) call.err) ⊎ HasWork case × ForRun commands case (λ work. log.taken work call.journal call.err)
+      (IsEmpty call.journal × TakesStopLines (IsDue case []) call.err) ⊎ HasWork case
+      × ForRun commands case (λ work. log.taken work call.journal call.err)
 
 -- A file could not be read: its reads alone failed, and the line names it. It is one that the case reads, and one that the words ask for.
 pub record TellsReadFault {A T : Type 0} (commands : Commands A T) (call : Call) : Type 0 where
@@ -94,9 +97,12 @@ pub record TellsReadFault {A T : Type 0} (commands : Commands A T) (call : Call)
 -- what holds of each call of a top call with these commands
 pub record Headline {A T : Type 0} (commands : Commands A T) (call : Call) : Type 0 where
   -- The status is that of the case. It yields to running out of memory, and to a fault that was counted in this call.
-  pub status : ForCase commands.asking call.words call.files (λ case. Yields (status_of commands case) (Grew call.failed call.failed') (Fails call.out ⊎ Fails call.err) call.status)
+  pub status : ForCase commands.asking call.words call.files
+      (λ case. Yields (status_of commands case) (Grew call.failed call.failed') (Fails call.out ⊎ Fails call.err) call.status)
   -- There is a case, where the status is one of those that tell it.
-  pub told : TellsCase commands call.status → IfSome call.files (λ files. (case : Case T) × IsCase commands.asking call.words files case × (status_of commands case ≡ call.status))
+  pub told : TellsCase commands call.status
+      → IfSome call.files (λ files. (case : Case T) × IsCase commands.asking call.words files case
+      × (status_of commands case ≡ call.status))
   -- These two hold of a shelf that does not tell its files, too.
   pub usage : call.status ≡ 2 → commands.asking.reading call.words ≡ None
   pub no_command : commands.asking.reading call.words ≡ None → Yields 2 ⊥ (Fails call.err) call.status
@@ -104,21 +110,27 @@ pub record Headline {A T : Type 0} (commands : Commands A T) (call : Call) : Typ
   pub text : ForCase commands.asking call.words call.files (λ case. commands.whole call.status → TakesAll call.out (text_of commands case))
   pub prefix : ForCase commands.asking call.words call.files (λ case. TakesPart call.out (text_of commands case))
   pub refused : IsRefusal call.status → TakesNothing call.out
-  -- The error stream grew by what is due at a whole text, as a trace, or by the line that tells the refusal or the fault; or by the log, where one is kept.
+  -- The error stream grew by what is due at a whole text, as a trace, or by the line that tells the refusal or the
+  -- fault; or by the log, where one is kept.
   pub quiet : commands.whole call.status → IsQuiet commands call commands.log
   pub line : ForCase commands.asking call.words call.files (λ case. HasCaseLine call.status → TakesAll call.err (line_of case))
   pub read_fault : call.status ≡ 7 → TellsReadFault commands call
   pub write_fault : call.status ≡ 8 → TellsWrite commands call commands.log
   pub stopped : IsStop call.status → ForCase commands.asking call.words call.files (TellsStop commands call commands.log)
-  -- No read failed where the status tells the case, and none was made where nothing is read. Where a file that is read is not there, a read of it
-  -- failed, or memory ran out before; status 8 then says that the line of that could not be written.
+  -- No read failed where the status tells the case, and none was made where nothing is read. Where a file that is read
+  -- is not there, a read of it failed, or memory ran out before; status 8 then says that the line of that could not be
+  -- written.
   pub untouched : TellsCase commands call.status → call.failed' ≡ call.failed
   pub unread : ReadsNothing commands (commands.asking.reading call.words) → call.failed' ≡ call.failed
-  pub missing : ForCase commands.asking call.words call.files (λ case. IsMissing case → Grew call.failed call.failed' ⊎ (call.status ≡ 1) ⊎ Fails call.err)
+  pub missing : ForCase commands.asking call.words call.files
+      (λ case. IsMissing case → Grew call.failed call.failed' ⊎ (call.status ≡ 1) ⊎ Fails call.err)
   -- The journal is empty where no run begins. Else it is a journal of the run, and complete where the text is whole.
   pub journal : IsRefusal call.status ⊎ RunsNothing commands (commands.asking.reading call.words) → IsEmpty call.journal
   pub unbegun : ForCase commands.asking call.words call.files (λ case. HasWork case ⊎ IsEmpty call.journal)
   pub lawful : ForCase commands.asking call.words call.files (λ case. ForRun commands case (λ work. commands.lawful work call.journal))
-  pub complete : commands.whole call.status → ForCase commands.asking call.words call.files (λ case. ForRun commands case (λ work. commands.complete work call.journal))
-  -- The output holds all lines of each subthread that has retired; where the journal is not complete, it holds nothing past those of the next one.
-  pub retired : ForCase commands.asking call.words call.files (λ case. ForRun commands case (λ work. commands.retired work call.journal call.out))
+  pub complete : commands.whole call.status
+      → ForCase commands.asking call.words call.files (λ case. ForRun commands case (λ work. commands.complete work call.journal))
+  -- The output holds all lines of each subthread that has retired; where the journal is not complete, it holds nothing
+  -- past those of the next one.
+  pub retired : ForCase commands.asking call.words call.files
+      (λ case. ForRun commands case (λ work. commands.retired work call.journal call.out))

@@ -25,7 +25,8 @@ use Rattle.call_cases.specs.Lines.{input_line, kind_number}
 abbrev pub are_rows : (fields : ℕ) → List ℤ → Bool
 are_rows fields cells = nat_lt 0 fields && ((length cells % fields) == 0 && nat_le (length cells) MOST_FEED_CELLS)
 
-pub rows_facts : (fields : ℕ) (cells : List ℤ) → are_rows fields cells ≡ true → (0 < fields) × (length cells % fields ≡ 0) × (length cells ≤ MOST_FEED_CELLS)
+pub rows_facts : (fields : ℕ) (cells : List ℤ) → are_rows fields cells ≡ true
+    → (0 < fields) × (length cells % fields ≡ 0) × (length cells ≤ MOST_FEED_CELLS)
 rows_facts fields cells is = grind (arith, nat_tests, is)
 
 -- the feed of these cells, by whether they are such rows
@@ -62,9 +63,12 @@ by_rows names file (Ok value) next = next (names ++ file ∷ []) value
 by_rows names file (Err broken) next = Spoils (names ++ file ∷ []) (input_line file (kind_number broken.0) broken.1)
 
 -- what comes of a file with these bytes, or of none, after these files
-abbrev pub by_file : {S T : Type 0} → List Name → Name → Option (List ℕ) → (List ℕ → Result S Broken) → (List Name → S → Supplied T) → Supplied T
+abbrev pub by_file : {S T : Type 0} → List Name → Name → Option (List ℕ) → (List ℕ → Result S Broken) → (List Name → S → Supplied T)
+    → Supplied T
 by_file names file None meant next = Lacks names file
-by_file names file (Some bytes) meant next = if nat_lt MOST_FILE_BYTES (length bytes) then Spoils (names ++ file ∷ []) (input_line file 6 0) else by_rows names file (meant bytes) next
+by_file names file (Some bytes) meant next =
+    if nat_lt MOST_FILE_BYTES (length bytes) then Spoils (names ++ file ∷ [])
+    (input_line file 6 0) else by_rows names file (meant bytes) next
 
 -- the cells of a record of this size, by the bytes of its file, and the inputs with them
 abbrev pub record_rows : (size : ℕ) → List ℕ → Result (List ℤ) Broken
@@ -137,7 +141,8 @@ supplied_for command heads files = if runs command then load files [] nothing he
 
 -- what is to be done for what is asked on a program, after these files, from these inputs
 abbrev pub with_faults : Files → Asked → Program → List Name → Inputs → Supplied ToDo
-with_faults files asked program names inputs = then_load (load_faults files names asked.faults) (λ names faults. Supplies names (work_for asked program inputs faults))
+with_faults files asked program names inputs =
+    then_load (load_faults files names asked.faults) (λ names faults. Supplies names (work_for asked program inputs faults))
 
 -- what is to be done for what is asked on a program, by the files beside it: those that it names, and then that of the faults
 abbrev pub supplied_by : Asked → Program → Files → Supplied ToDo

@@ -46,13 +46,15 @@ lines_before work p = codes "output\n" ++ printed (flat_map (λ (s : Subthread).
 
 -- the output holds all lines of those that have retired, where some have
 abbrev pub HoldsRetired : ToDo → Journal → Change → Type 0
-HoldsRetired work journal out = (retired_in work journal ≡ 0) ⊎ (rest : List ℕ) × TakesAll out (lines_before work (retired_in work journal) ++ rest)
+HoldsRetired work journal out =
+    (retired_in work journal ≡ 0) ⊎ (rest : List ℕ) × TakesAll out (lines_before work (retired_in work journal) ++ rest)
 
--- the output holds all lines of those that have retired, and nothing past those of the next one before the journal is complete; a batch that the program
--- makes writes nothing before
+-- the output holds all lines of those that have retired, and nothing past those of the next one before the journal is
+-- complete; a batch that the program makes writes nothing before
 abbrev pub TakesRetiredFor : Command → ToDo → Journal → Change → Type 0
 TakesRetiredFor (command.Soak soak) work journal out = IsCompleteOf work journal ⊎ TakesNothing out
-TakesRetiredFor other work journal out = HoldsRetired work journal out × (IsCompleteOf work journal ⊎ TakesPart out (lines_before work (suc (retired_in work journal))))
+TakesRetiredFor other work journal out =
+    HoldsRetired work journal out × (IsCompleteOf work journal ⊎ TakesPart out (lines_before work (suc (retired_in work journal))))
 
 abbrev pub TakesRetired : ToDo → Journal → Change → Type 0
 TakesRetired work journal out = TakesRetiredFor work.command work journal out

@@ -28,7 +28,8 @@ write_fault_line = codes "gprs: write fault\n"
 
 -- a fault by its kind, at a place of this sort, where the stage of reading comes to it
 abbrev pub fault_line : (stage : List ℕ) → (kind : ℕ) → (place : List ℕ) → (at : ℕ) → List ℕ
-fault_line stage kind place at = codes "gprs: " ++ stage ++ codes " " ++ decimal kind ++ codes " at " ++ place ++ codes " " ++ decimal at ++ codes "\n"
+fault_line stage kind place at =
+    codes "gprs: " ++ stage ++ codes " " ++ decimal kind ++ codes " at " ++ place ++ codes " " ++ decimal at ++ codes "\n"
 
 -- a fault of lexing
 abbrev pub lex_line : LexFault → List ℕ

@@ -35,13 +35,14 @@ abbrev pub AnswersNoCommand : {R : Type 0} → Result R Refusal → Type 0
 AnswersNoCommand (Ok request) = ⊥
 AnswersNoCommand (Err refusal) = RefusesWords refusal
 
--- The reads failed only where the refusal names a file whose read failed, one that may be read for what the words ask, and no other name was added. Words of
--- no command are told as such, and no other words.
+-- The reads failed only where the refusal names a file whose read failed, one that may be read for what the words ask,
+-- and no other name was added. Words of no command are told as such, and no other words.
 abbrev pub RefusesShelf : {A : Type 0} → (may_read : A → Name → Type 0) → Option A → List Name → List Name → Refusal → Type 0
 RefusesShelf may_read asked before now RefusedUsage = (asked ≡ None) × (now ≡ before)
 RefusesShelf may_read asked before now (RefusedProgram line) = now ≡ before
 RefusesShelf may_read asked before now (RefusedInput line) = now ≡ before
-RefusesShelf may_read asked before now (ReadFault name) = GrowsByOnly name before now × Grew before now × IsSomeAnd asked (λ a. may_read a name)
+RefusesShelf may_read asked before now (ReadFault name) =
+    GrowsByOnly name before now × Grew before now × IsSomeAnd asked (λ a. may_read a name)
 RefusesShelf may_read asked before now OutOfMemory = ⊤
 
 -- the same of an answer; no read failed where there is something to be done

@@ -44,8 +44,8 @@ work_text Log work = run_text (plain_ran work) (restarts_in work) (length work.f
 abbrev pub trace_for : Asked → Journal → List ℕ
 trace_for asked journal = if is_traced asked then trace_text journal else []
 
--- A file that may be read for what the words ask for: the program's, that of the faults, and, where the program is run, those that it names, which a shelf
--- that does not tell its files leaves open.
+-- A file that may be read for what the words ask for: the program's, that of the faults, and, where the program is run,
+-- those that it names, which a shelf that does not tell its files leaves open.
 pub data MayRead (asked : Asked) : Name → Type 0 where
   the_program : MayRead asked asked.program
   the_faults : {name : Name} → asked.faults ≡ Some name → MayRead asked name

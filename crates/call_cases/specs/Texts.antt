@@ -7,7 +7,8 @@ use Rattle.restart_log.specs.Tail as tail
 use Rattle.restart_log.specs.Soak as soak
 use Rattle.command_line.specs.declared.asked.Soak.{Soak}
 
--- how a run went: what it printed, how it ended, the cells of all records, each record by its name with its cells, and the number of its subthreads
+-- how a run went: what it printed, how it ended, the cells of all records, each record by its name with its cells, and
+-- the number of its subthreads
 pub record Ran : Type 0 where
   pub lines : List (List ℤ)
   pub end : End
@@ -25,4 +26,5 @@ run_text ran restarts faults = codes "output\n" ++ (printed ran.lines ++ tail_te
 
 -- the summary of such a run of a batch that the program made
 abbrev pub soak_text : Soak → Ran → List Restart → ℕ → List ℕ
-soak_text batch ran restarts faults = soak.soak_text batch.moves batch.start ran.end ran.cells ran.subthreads restarts (faults - length restarts)
+soak_text batch ran restarts faults =
+    soak.soak_text batch.moves batch.start ran.end ran.cells ran.subthreads restarts (faults - length restarts)

@@ -21,7 +21,8 @@ pub data Supplied (T : Type 0) : Type 0 where
   -- the last of these files is refused with this line
   Spoils : List Name → List ℕ → Supplied T
 
--- What is to be done: a command on an accepted program, from these inputs, with these faults, under these limits, and whether the run is traced.
+-- What is to be done: a command on an accepted program, from these inputs, with these faults, under these limits, and
+-- whether the run is traced.
 pub record ToDo : Type 0 where
   pub command : Command
   pub program : Program

@@ -17,7 +17,8 @@ simple_app Check = refl
 simple_app Soak = refl
 
 -- what a parse says, by the command's own word
-pub parsed_by : (parser app : App) (words : List Text) (found parse : Option ArgMatches) → parser ≡ app → parse ≡ found → IsParsedAs parser words parse → IsParsedAs app words found
+pub parsed_by : (parser app : App) (words : List Text) (found parse : Option ArgMatches) → parser ≡ app → parse ≡ found
+    → IsParsedAs parser words parse → IsParsedAs app words found
 parsed_by parser app words found parse same some h = rw (← same, ← some) h
 
 choice : {X : Type 0} (kinds : Kinds) (taken : Option X) → (kinds ≡ [] → ⊥) → (if is_faultless kinds then taken else None) ≡ None
@@ -26,7 +27,8 @@ choice (k ∷ ks) taken refused = refl
 
 -- what the rows of a parse are read as, where the command takes the words, and where it does not
 module _ {X : Type 0} (read : List Row → Option X) (app : App) (words : List Text) where
-  pub read_taken : (matches : ArgMatches) → IsParsedAs app words (Some matches) → read (rows_of (found_of matches)) ≡ if is_faultless (fault_of app words) then read (matches_of app words) else None
+  pub read_taken : (matches : ArgMatches) → IsParsedAs app words (Some matches)
+      → read (rows_of (found_of matches)) ≡ if is_faultless (fault_of app words) then read (matches_of app words) else None
   read_taken matches h = ap read h.1 ∙ sym (ap (λ (kinds : Kinds). if is_faultless kinds then read (matches_of app words) else None) h.0)
 
   pub read_refused : IsParsedAs app words None → None ≡ if is_faultless (fault_of app words) then read (matches_of app words) else None
@@ -36,12 +38,14 @@ pub asked_taken : (waits : Bool) (verb : Verb) (words : List Text) (matches : Ar
     → asked_in waits verb (rows_of (found_of matches)) ≡ asked_of waits verb words
 asked_taken waits verb words matches h = read_taken (asked_in waits verb) (app_for verb) words matches h
 
-pub asked_refused : (waits : Bool) (verb : Verb) (words : List Text) → IsParsedAs (app_for verb) words None → None ≡ asked_of waits verb words
+pub asked_refused : (waits : Bool) (verb : Verb) (words : List Text) → IsParsedAs (app_for verb) words None
+    → None ≡ asked_of waits verb words
 asked_refused waits verb words h = read_refused (asked_in waits verb) (app_for verb) words h
 
 -- the first of the words names the command
 pub asked_first : (waits : Bool) (words : List (String Global)) (word : String Global) (verb : Verb) → 1 ≤ length words
-    → word ≡ get_or words 0 word → named_verb (string_bytes word) ≡ Some verb → asked_of waits verb (texts words) ≡ asked_among waits (texts words)
+    → word ≡ get_or words 0 word → named_verb (string_bytes word) ≡ Some verb
+    → asked_of waits verb (texts words) ≡ asked_among waits (texts words)
 asked_first waits [] word verb some first named = absurd (omega arith)
 asked_first waits (w ∷ words) word verb some first named =
     ap (option_and_then (λ c. asked_of waits c (texts (w ∷ words)))) (sym named ∙ ap (λ s. named_verb (string_bytes s)) first)

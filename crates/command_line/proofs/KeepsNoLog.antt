@@ -39,7 +39,8 @@ ckpt_keeps_none (word ∷ words) =
     let rows = matches_of for_ckpt (word ∷ words) in
     let asked = ckpt_with (every_in rows) (asked_in false Run rows) in
     let taken = is_faultless (fault_of for_ckpt (word ∷ words)) in
-    if_taken KeepsNone (if taken then asked else None) (if_taken KeepsNone asked (go (every_in rows) (asked_in false Run rows)) taken) (bytes_eq word (codes "ckpt"))
+    if_taken KeepsNone (if taken then asked else None) (if_taken KeepsNone asked (go (every_in rows) (asked_in false Run rows)) taken)
+    (bytes_eq word (codes "ckpt"))
   where
     go : (every : Option ℕ) (run : Option Asked) → IfSome (ckpt_with every run) KeepsNone
     go (Some every) (Some run) = tt
@@ -57,9 +58,11 @@ log_asks [] = tt
 log_asks (word ∷ words) =
     let asked = log_with (asked_in false Run (matches_of for_log (word ∷ words))) in
     let taken = is_faultless (fault_of for_log (word ∷ words)) in
-    if_taken IsLogged (if taken then asked else None) (if_taken IsLogged asked (go (asked_in false Run (matches_of for_log (word ∷ words)))) taken) (bytes_eq word (codes "log"))
+    if_taken IsLogged (if taken then asked else None)
+    (if_taken IsLogged asked (go (asked_in false Run (matches_of for_log (word ∷ words)))) taken) (bytes_eq word (codes "log"))
   where
-    kept : (run : Asked) (b : Bool) → steals run.crew ≡ b → IfSome (if b then None else Some (record run { command = Log; trace = false })) IsLogged
+    kept : (run : Asked) (b : Bool) → steals run.crew ≡ b
+        → IfSome (if b then None else Some (record run { command = Log; trace = false })) IsLogged
     kept run true is = tt
     kept run false is = record { command = refl; crew = is }
 

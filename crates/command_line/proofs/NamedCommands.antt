@@ -19,13 +19,15 @@ module _ (P : Command → Type 0) where
   soak_command soak None = tt
   soak_command soak (Some batch) = soak batch
 
-  verb_command : P command.Run → P command.One → P command.Check → ((batch : Soak) → P (command.Soak batch)) → (v : Verb) (rows : List Row) → IfSome (command_in v rows) P
+  verb_command : P command.Run → P command.One → P command.Check → ((batch : Soak) → P (command.Soak batch)) → (v : Verb) (rows : List Row)
+      → IfSome (command_in v rows) P
   verb_command run one check soak verb.Run rows = run
   verb_command run one check soak verb.One rows = one
   verb_command run one check soak verb.Check rows = check
   verb_command run one check soak verb.Soak rows = soak_command soak (soak_in rows)
 
-  with_command : (c : Option Command) (program faults : Option Text) (limits : Option Limits) (crew : Option CrewKind) (workers : Option ℕ) (trace : Option Text)
+  with_command : (c : Option Command) (program faults : Option Text) (limits : Option Limits) (crew : Option CrewKind)
+      (workers : Option ℕ) (trace : Option Text)
       → IfSome c P → IfSome (asked_with c program faults limits crew workers trace) (λ asked. P asked.command)
   with_command None program faults limits crew workers trace is = tt
   with_command (Some c) None faults limits crew workers trace is = tt
@@ -34,10 +36,12 @@ module _ (P : Command → Type 0) where
   with_command (Some c) (Some program) faults (Some limits) (Some crew) None trace is = tt
   with_command (Some c) (Some program) faults (Some limits) (Some crew) (Some workers) trace is = is
 
-  module _ (run : P command.Run) (one : P command.One) (check : P command.Check) (soak : (batch : Soak) → P (command.Soak batch)) (waits : Bool) where
+  module _ (run : P command.Run) (one : P command.One) (check : P command.Check)
+      (soak : (batch : Soak) → P (command.Soak batch)) (waits : Bool) where
     taken_command : (v : Verb) (rows : List Row) (b : Bool) → IfSome (if b then asked_in waits v rows else None) (λ asked. P asked.command)
     taken_command v rows true =
-        with_command (command_in v rows) (program_in v rows) (faults_in v rows) (limits_in rows) (crew_in waits rows) (workers_in rows) (text_of (codes "trace") rows)
+        with_command (command_in v rows) (program_in v rows) (faults_in v rows) (limits_in rows) (crew_in waits rows) (workers_in rows)
+        (text_of (codes "trace") rows)
         (verb_command run one check soak v rows)
     taken_command v rows false = tt
 

@@ -11,7 +11,8 @@ use Rattle.command_line.specs.declared.ckpt_words.TheConstants.{LEAST_EVERY, MOS
 
 -- what takes the words of `ckpt`: those of `run` without a trace, and after how many subthreads there is a checkpoint
 unfoldable pub for_ckpt : App
-for_ckpt = with_crew (with_limits (with_rule (with_rule (on_program (codes "ckpt")) (option_of (codes "every"))) (option_of (codes "faults"))))
+for_ckpt =
+    with_crew (with_limits (with_rule (with_rule (on_program (codes "ckpt")) (option_of (codes "every"))) (option_of (codes "faults"))))
 
 -- after how many subthreads there is a checkpoint: a number in its range, or the default
 abbrev pub every_in : List Row → Option ℕ

@@ -59,7 +59,8 @@ abbrev pub for_run : App
 for_run = with_crew (with_limits (with_rule (with_rule (on_program (codes "run")) (option_of (codes "faults"))) (flag_of (codes "trace"))))
 
 abbrev pub for_soak : App
-for_soak = with_crew (with_rule (with_rule (without_help (new_app (codes "soak"))) (positional (codes "moves"))) (positional (codes "start")))
+for_soak =
+    with_crew (with_rule (with_rule (without_help (new_app (codes "soak"))) (positional (codes "moves"))) (positional (codes "start")))
 
 -- what takes the words of a command
 unfoldable pub app_for : Verb → App
@@ -74,7 +75,9 @@ soak_with (Some moves) (Some start) = Some (record { moves = moves; start = star
 soak_with moves start = None
 
 abbrev pub soak_in : List Row → Option Soak
-soak_in rows = soak_with (number_of LEAST_MOVES MOST_MOVES (text_of (codes "moves") rows)) (number_of 0 18446744073709551615 (text_of (codes "start") rows))
+soak_in rows =
+    soak_with (number_of LEAST_MOVES MOST_MOVES (text_of (codes "moves") rows))
+    (number_of 0 18446744073709551615 (text_of (codes "start") rows))
 
 -- what is to be done
 abbrev pub command_in : Verb → List Row → Option Command
@@ -110,9 +113,18 @@ abbrev pub workers_in : List Row → Option ℕ
 workers_in rows = number_or 1 MOST_WORKERS DEFAULT_WORKERS (text_of (codes "workers") rows)
 
 -- what is asked for, where all that has to be there is
-abbrev pub asked_with : Option Command → (program faults : Option Text) → Option Limits → Option CrewKind → (workers : Option ℕ) → Option Text → Option Asked
+abbrev pub asked_with : Option Command → (program faults : Option Text) → Option Limits → Option CrewKind → (workers : Option ℕ)
+    → Option Text → Option Asked
 asked_with (Some command) (Some program) faults (Some limits) (Some crew) (Some workers) trace =
-    Some (record { command = command; program = program; faults = faults; limits = limits; crew = crew; workers = workers; trace = is_on trace })
+    Some (record {
+      command = command;
+      program = program;
+      faults = faults;
+      limits = limits;
+      crew = crew;
+      workers = workers;
+      trace = is_on trace;
+    })
 asked_with command program faults limits crew workers trace = None
 
 -- what the texts that were found ask for
@@ -146,7 +158,8 @@ is_pipe kind = false
 abbrev pub wants_pipe : List Text → Bool
 wants_pipe words = option_map_or (λ asked. is_pipe asked.crew) (asked_waiting words) false
 
--- the number of a command lies within its range: how many moves a batch has that is made, and after how many subthreads there is a checkpoint
+-- the number of a command lies within its range: how many moves a batch has that is made, and after how many subthreads
+-- there is a checkpoint
 abbrev pub IsWithinRanges : Command → Type 0
 IsWithinRanges (command.Soak soak) = (LEAST_MOVES ≤ soak.moves) × (soak.moves ≤ MOST_MOVES)
 IsWithinRanges (command.Ckpt every) = (LEAST_EVERY ≤ every) × (every ≤ MOST_EVERY)

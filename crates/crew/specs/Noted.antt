@@ -21,8 +21,8 @@ module _ (program : Program) (inputs : Inputs) (limits : Limits) where
   abbrev pub left_in_order : List Effect
   left_in_order = left_from 0 (order program inputs limits)
 
--- what notes tell: the known bytes of the log as it began and as it is, what the last result of each position left that was noted, and what the positions
--- left that have retired, in order from the first
+-- what notes tell: the known bytes of the log as it began and as it is, what the last result of each position left that
+-- was noted, and what the positions left that have retired, in order from the first
 abbrev pub Telling : Type 1
 Telling = (start written : Option (List ℕ)) → (left : ℕ → Option Effect) → (told : List Effect) → Type 0
 
@@ -39,7 +39,8 @@ NotesResult before after p e =
 -- nothing was noted
 abbrev pub NotesNothing : (before after : Telling) → Type 0
 NotesNothing before after =
-    (start written : Option (List ℕ)) (left : ℕ → Option Effect) (told : List Effect) → before start written left told → after start written left told
+    (start written : Option (List ℕ)) (left : ℕ → Option Effect) (told : List Effect) → before start written left told
+    → after start written left told
 
 -- the next position, of which it was noted what it left, was told to the log, which then has these bytes
 abbrev pub NotesRetired : (before after : Telling) → (written later : Option (List ℕ)) → ℕ → Type 0
@@ -48,7 +49,8 @@ NotesRetired before after written later p =
     → p ≡ length told → left p ≡ Some e → after start later left (told ++ e ∷ [])
 
 -- it was not told whole
-abbrev pub NotesPart : (before : Telling) → (part : (start written : Option (List ℕ)) → List Effect → Type 0) → (written later : Option (List ℕ)) → ℕ → Type 0
+abbrev pub NotesPart : (before : Telling) → (part : (start written : Option (List ℕ)) → List Effect → Type 0)
+    → (written later : Option (List ℕ)) → ℕ → Type 0
 NotesPart before part written later p =
     (start : Option (List ℕ)) (left : ℕ → Option Effect) (told : List Effect) (e : Effect) → before start written left told
     → p ≡ length told → left p ≡ Some e → part start later (told ++ e ∷ [])

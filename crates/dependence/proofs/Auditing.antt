@@ -72,7 +72,8 @@ module _ (dependence : Dependence) (faults : List Fault) where
       (Decides-and _ _ (Decides-eqb p at.progress.front)
       (Decides-and _ _ (Decides-ltb p dependence.count)
       (Decides-and _ _ (none-decides (least_struck (is_due at.progress) faults))
-      (Decides-and _ _ (follow-decides at (dependence.before p)) (implies-decides (dependence.settles p) (nat_eq at.retired p) (Decides-eqb at.retired p))))))
+      (Decides-and _ _ (follow-decides at (dependence.before p))
+      (implies-decides (dependence.settles p) (nat_eq at.retired p) (Decides-eqb at.retired p))))))
   allowed-decides at (event.Post p attempt) =
       Decides-like _
       (λ h. record { issued = h.0; unretired = h.1.0; present = h.1.1.0; unposted = h.1.1.1.0; ready = h.1.1.1.1 })
@@ -88,18 +89,21 @@ module _ (dependence : Dependence) (faults : List Fault) where
       ready : Decides (all_below passes p) ((earlier : ℕ) → earlier < p → dependence.clash earlier p ≡ true → at.applied earlier ≡ true)
       ready =
           Decides-below_and passes (λ earlier. dependence.clash earlier p ≡ true → at.applied earlier ≡ true) (all_below passes)
-          (λ earlier. implies-decides (dependence.clash earlier p) (at.applied earlier) (true-decides (at.applied earlier))) refl (λ _. refl) p
+          (λ earlier. implies-decides (dependence.clash earlier p) (at.applied earlier) (true-decides (at.applied earlier))) refl
+          (λ _. refl) p
   allowed-decides at (event.Take p attempt applies) =
       Decides-like _
       (λ h. record { posted = h.0; untaken = h.1.0; decided = h.1.1 })
       (λ may. (may.posted, (may.untaken, may.decided)))
       (Decides-and _ _ (contains-decides (p, attempt) at.posted)
-      (Decides-and _ _ (Decides-not _ (contains-decides (p, attempt) at.taken)) (booleans_Decides applies (nat_eq attempt (attempt_of at.progress.made p)))))
+      (Decides-and _ _ (Decides-not _ (contains-decides (p, attempt) at.taken))
+      (booleans_Decides applies (nat_eq attempt (attempt_of at.progress.made p)))))
   allowed-decides at (event.Restart number) =
       Decides-like _
       (λ h. record { numbered = h.0; some_struck = h.1 })
       (λ may. (may.numbered, may.some_struck))
-      (Decides-and _ _ (Decides-eqb number (length at.progress.made)) (Decides-not _ (none-decides (struck_next dependence faults at.progress))))
+      (Decides-and _ _ (Decides-eqb number (length at.progress.made))
+      (Decides-not _ (none-decides (struck_next dependence faults at.progress))))
   allowed-decides at (event.Retire p) =
       Decides-like _
       (λ h. record { oldest = h.0; issued = h.1.0; applied = h.1.1.0; none_due = h.1.1.1.0; safe = h.1.1.1.1 })
@@ -110,9 +114,11 @@ module _ (dependence : Dependence) (faults : List Fault) where
       (Decides-and _ _ (none-decides (least_struck (is_due at.progress) faults))
       (Decides-or _ _ (le-decides (begun_of at.progress.made p + LONGEST_DELAY) at.progress.front) (drained-decides at.progress))))))
 
-  lawful_from-decides : (at : Stage) (events : List Event) → Decides (is_lawful_from dependence faults at events) (LawfulFrom dependence faults at events)
+  lawful_from-decides : (at : Stage) (events : List Event)
+      → Decides (is_lawful_from dependence faults at events) (LawfulFrom dependence faults at events)
   lawful_from-decides at [] = (λ _. tt, λ _. refl)
-  lawful_from-decides at (event ∷ rest) = Decides-and _ _ (allowed-decides at event) (lawful_from-decides (happens dependence faults at event) rest)
+  lawful_from-decides at (event ∷ rest) =
+      Decides-and _ _ (allowed-decides at event) (lawful_from-decides (happens dependence faults at event) rest)
 
   pub lawful-decides : (events : List Event) → Decides (is_lawful dependence faults events) (Lawful dependence faults events)
   lawful-decides events = lawful_from-decides initial_stage events
@@ -130,4 +136,5 @@ module _ (dependence : Dependence) (faults : List Fault) where
       (λ h. record { lawful = h.0; final = h.1.0; retired = h.1.1 })
       (λ complete. (complete.lawful, (complete.final, complete.retired)))
       (Decides-and _ _ (lawful-decides events)
-      (Decides-and _ _ (final-decides (stage dependence faults events).progress) (Decides-eqb (stage dependence faults events).retired dependence.count)))
+      (Decides-and _ _ (final-decides (stage dependence faults events).progress)
+      (Decides-eqb (stage dependence faults events).retired dependence.count)))

@@ -1,4 +1,7 @@
--- What stands of a history buffer while positions are applied and undone.
+-- What stands of a history buffer while positions are applied and undone. The state of a buffer is the fold of the
+-- members of a set. A position that is applied late enters the set: by the law of insertion the fold with it is the
+-- fold so far and then the position, and each other member finds what it found before. A part that is closed under
+-- later conflict leaves the set: by the law of removal its histories undo it, and the rest finds what it found.
 use Rattle.std.proofs.Common.{◌≡◌, inl, inr, ℕ, zero, suc, ◌+◌, ◌<◌, ◌≤◌, Bool, true, false, cond, [], nat_eq, ◌&&◌, ◌||◌, Some, None, refl, sym, ◌∙◌, ap, arith, add-one}
 use Rattle.std.proofs.lemmas.Bool.{false≢true, both_ways, cases_eq, cases_lt, eq-eqb, ne_eqb, and_parts, and_from, or_right}
 use Rattle.task_ast.specs.State.{Place, State}
@@ -41,7 +44,8 @@ module _ (Writes Sees : ℕ → Place → Type 0) (Clash : ℕ → ℕ → Type 
           | inl l ↦ ap (λ s. s place) (fold_same Writes Sees Clash members kept opening set more q (unchanged q (omega arith)))
           | inr l ↦
               (let later : p < q = omega arith in
-              sym (outside Writes Sees Clash members kept p (fold members opening set q) place (λ w. both_ways (set p) out (stands.closed p q later e (kept.writes_first p q place w t))))
+              sym (outside Writes Sees Clash members kept p (fold members opening set q) place
+              (λ w. both_ways (set p) out (stands.closed p q later e (kept.writes_first p q place w t))))
               ∙ ap (λ s. s place) (insertion Writes Sees Clash members kept opening set p q stands.closed out later))
         ]
 
@@ -49,22 +53,30 @@ module _ (Writes Sees : ℕ → Place → Type 0) (Clash : ℕ → ℕ → Type 
     here_agrees : Agree (Sees p) buffer.state (fold members opening more p)
     here_agrees place t =
         ap (λ s. s place) stands.state_is
-        ∙ (late-finds p below out place t ∙ ap (λ s. s place) (fold_same Writes Sees Clash members kept opening set more p (unchanged p (omega arith))))
+        ∙ (late-finds p below out place t ∙ ap (λ s. s place)
+        (fold_same Writes Sees Clash members kept opening set more p (unchanged p (omega arith))))
 
     -- it is applied
     pub applied-stands : BufferStands Clash members opening more low front (buffer_with p (done_by (members p) buffer.state) buffer)
     applied-stands =
         record {
-          state_is = ap (applied (members p)) stands.state_is ∙ insertion Writes Sees Clash members kept opening set p front stands.closed out below;
+          state_is =
+              ap (applied (members p)) stands.state_is
+              ∙ insertion Writes Sees Clash members kept opening set p front stands.closed out below;
           histories_are = λ q l e. elim (cases_eq q p) [
-            | inl same ↦ rw (same, eq-eqb p p refl) (ap Some (history_same Writes Sees Clash members kept p buffer.state (fold members opening more p) here_agrees))
+            | inl same ↦
+                rw (same, eq-eqb p p refl)
+                (ap Some (history_same Writes Sees Clash members kept p buffer.state (fold members opening more p) here_agrees))
             | inr ne ↦ rw (ne_eqb q p ne) (stands.histories_are q l (rw (ne_eqb q p ne) at e)
-                ∙ ap Some (history_same Writes Sees Clash members kept q (fold members opening set q) (fold members opening more q) (others_agree q ne (rw (ne_eqb q p ne) at e))))
+                ∙ ap Some (history_same Writes Sees Clash members kept q (fold members opening set q) (fold members opening more q)
+                (others_agree q ne (rw (ne_eqb q p ne) at e))))
           ];
           lines_are = λ q l e. elim (cases_eq q p) [
-            | inl same ↦ rw (same, eq-eqb p p refl) (ap (λ d. d.prints) ((kept.keeps p).same buffer.state (fold members opening more p) here_agrees))
+            | inl same ↦
+                rw (same, eq-eqb p p refl) (ap (λ d. d.prints) ((kept.keeps p).same buffer.state (fold members opening more p) here_agrees))
             | inr ne ↦ rw (ne_eqb q p ne) (stands.lines_are q l (rw (ne_eqb q p ne) at e)
-                ∙ ap (λ d. d.prints) ((kept.keeps q).same (fold members opening set q) (fold members opening more q) (others_agree q ne (rw (ne_eqb q p ne) at e))))
+                ∙ ap (λ d. d.prints) ((kept.keeps q).same (fold members opening set q) (fold members opening more q)
+                (others_agree q ne (rw (ne_eqb q p ne) at e))))
           ];
           others_have_none = λ q l e. elim (cases_eq q p) [
             | inl same ↦ absurd (false≢true (sym e ∙ ap (λ b. b || set q) (eq-eqb q p same)))
@@ -78,7 +90,8 @@ module _ (Writes Sees : ℕ → Place → Type 0) (Clash : ℕ → ℕ → Type 
         }
 
     -- what another position was given that is out stays as it is
-    pub applied-finds : (q : ℕ) → (q ≡ p → ⊥) → set q ≡ false → ((r : ℕ) → r < q → Clash r q → set r ≡ true) → Agree (Sees q) (applied (members p) buffer.state) buffer.state
+    pub applied-finds : (q : ℕ) → (q ≡ p → ⊥) → set q ≡ false → ((r : ℕ) → r < q → Clash r q → set r ≡ true)
+        → Agree (Sees q) (applied (members p) buffer.state) buffer.state
     applied-finds q ne lacks other place t = outside Writes Sees Clash members kept p buffer.state place free
       where
         free : Writes p place → ⊥
@@ -109,7 +122,8 @@ module _ (Writes Sees : ℕ → Place → Type 0) (Clash : ℕ → ℕ → Type 
         go false c = refl
 
     -- only members are undone
-    same_undone : (n : ℕ) → n ≤ front → (s : State) → undone_part buffer.histories part n s ≡ undone_part (λ p. Some (history_in members opening set p)) both n s
+    same_undone : (n : ℕ) → n ≤ front → (s : State)
+        → undone_part buffer.histories part n s ≡ undone_part (λ p. Some (history_in members opening set p)) both n s
     same_undone zero l s = refl
     same_undone (suc p) l s =
         ap (undone_part buffer.histories part p) (go (part p) (set p) refl refl)
@@ -118,12 +132,14 @@ module _ (Writes Sees : ℕ → Place → Type 0) (Clash : ℕ → ℕ → Type 
         from : part p ≡ true → low ≤ p
         from e = elim (cases_lt p low) [ inl k ↦ absurd (both_ways (part p) (late p k) e) | inr k ↦ k ]
 
-        go : (b c : Bool) → part p ≡ b → set p ≡ c → cond b (undone (buffer.histories p) s) s ≡ cond (b && c) (after (history_in members opening set p) s) s
+        go : (b c : Bool) → part p ≡ b → set p ≡ c
+            → cond b (undone (buffer.histories p) s) s ≡ cond (b && c) (after (history_in members opening set p) s) s
         go false c e f = refl
         go true true e f = ap (λ h. undone h s) (stands.histories_are p (from e) f)
         go true false e f = ap (λ h. undone h s) (stands.others_have_none p (from e) f)
 
-    rest_finds : (q : ℕ) → part q ≡ false → set q ≡ true → Agree (Sees q) (fold members opening set q) (fold members opening (without set part) q)
+    rest_finds : (q : ℕ) → part q ≡ false → set q ≡ true
+        → Agree (Sees q) (fold members opening set q) (fold members opening (without set part) q)
     rest_finds q f e place t =
         rest_agrees Writes Sees Clash members kept opening set both q closed_both inside e (rw f refl) place t ∙ ap (λ s. s place) (alike q)
 
@@ -141,23 +157,28 @@ module _ (Writes Sees : ℕ → Place → Type 0) (Clash : ℕ → ℕ → Type 
           below = λ q e. below q (part q) e;
         }
       where
-        histories_are : (q : ℕ) → low ≤ q → (b : Bool) → part q ≡ b → cond b false (set q) ≡ true → cond b None (buffer.histories q) ≡ Some (history_in members opening (without set part) q)
+        histories_are : (q : ℕ) → low ≤ q → (b : Bool) → part q ≡ b → cond b false (set q) ≡ true
+            → cond b None (buffer.histories q) ≡ Some (history_in members opening (without set part) q)
         histories_are q l true f e = absurd (false≢true e)
         histories_are q l false f e =
             stands.histories_are q l e
-            ∙ ap Some (history_same Writes Sees Clash members kept q (fold members opening set q) (fold members opening (without set part) q) (rest_finds q f e))
+            ∙ ap Some (history_same Writes Sees Clash members kept q (fold members opening set q)
+            (fold members opening (without set part) q) (rest_finds q f e))
 
-        lines_are : (q : ℕ) → low ≤ q → (b : Bool) → part q ≡ b → cond b false (set q) ≡ true → cond b [] (buffer.lines q) ≡ (done_in members opening (without set part) q).prints
+        lines_are : (q : ℕ) → low ≤ q → (b : Bool) → part q ≡ b → cond b false (set q) ≡ true
+            → cond b [] (buffer.lines q) ≡ (done_in members opening (without set part) q).prints
         lines_are q l true f e = absurd (false≢true e)
         lines_are q l false f e =
             stands.lines_are q l e
-            ∙ ap (λ d. d.prints) ((kept.keeps q).same (fold members opening set q) (fold members opening (without set part) q) (rest_finds q f e))
+            ∙ ap (λ d. d.prints) ((kept.keeps q).same (fold members opening set q)
+            (fold members opening (without set part) q) (rest_finds q f e))
 
         others : (q : ℕ) → low ≤ q → (b : Bool) → part q ≡ b → cond b false (set q) ≡ false → cond b None (buffer.histories q) ≡ None
         others q l true f e = refl
         others q l false f e = stands.others_have_none q l e
 
-        closed : (q r : ℕ) → q < r → Clash q r → (b c : Bool) → part r ≡ b → part q ≡ c → cond b false (set r) ≡ true → cond c false (set q) ≡ true
+        closed : (q r : ℕ) → q < r → Clash q r → (b c : Bool) → part r ≡ b → part q ≡ c → cond b false (set r) ≡ true
+            → cond c false (set q) ≡ true
         closed q r l clash true c e f g = absurd (false≢true g)
         closed q r l clash false true e f g = absurd (both_ways (part r) e (closed_part q r l (stands.below r g) f clash))
         closed q r l clash false false e f g = stands.closed q r l g clash
@@ -167,18 +188,22 @@ module _ (Writes Sees : ℕ → Place → Type 0) (Clash : ℕ → ℕ → Type 
         below q false g = stands.below q g
 
 -- the fold asks of the members only those of the set
-pub fold_members : (members others : ℕ → Member) (opening : State) (set : ℕ → Bool) (n : ℕ) → ((p : ℕ) → p < n → set p ≡ true → members p ≡ others p)
+pub fold_members : (members others : ℕ → Member) (opening : State) (set : ℕ → Bool) (n : ℕ)
+    → ((p : ℕ) → p < n → set p ≡ true → members p ≡ others p)
     → fold members opening set n ≡ fold others opening set n
 fold_members members others opening set zero same = refl
-fold_members members others opening set (suc n) same = go (set n) refl (fold_members members others opening set n (λ p l. same p (omega arith)))
+fold_members members others opening set (suc n) same =
+    go (set n) refl (fold_members members others opening set n (λ p l. same p (omega arith)))
   where
     go : (b : Bool) → set n ≡ b → fold members opening set n ≡ fold others opening set n
-        → cond b (applied (members n) (fold members opening set n)) (fold members opening set n) ≡ cond b (applied (others n) (fold others opening set n)) (fold others opening set n)
+        → cond b (applied (members n) (fold members opening set n)) (fold members opening set n)
+        ≡ cond b (applied (others n) (fold others opening set n)) (fold others opening set n)
     go true e ih = rw (same n (omega arith) e) (ap (applied (others n)) ih)
     go false e ih = ih
 
 -- members may be others where they are not in the set
-pub members-stand : (Clash : ℕ → ℕ → Type 0) (members others : ℕ → Member) (opening : State) (set : ℕ → Bool) (low front : ℕ) (buffer : Buffer) → ((p : ℕ) → set p ≡ true → members p ≡ others p)
+pub members-stand : (Clash : ℕ → ℕ → Type 0) (members others : ℕ → Member) (opening : State) (set : ℕ → Bool) (low front : ℕ)
+    (buffer : Buffer) → ((p : ℕ) → set p ≡ true → members p ≡ others p)
     → BufferStands Clash members opening set low front buffer → BufferStands Clash others opening set low front buffer
 members-stand Clash members others opening set low front buffer same stands =
     record {
@@ -195,14 +220,17 @@ members-stand Clash members others opening set low front buffer same stands =
     below p = fold_members members others opening set p (λ q l. same q)
 
 -- what a position outside of a part finds, which is not in the set, stays as it is when the part is undone
-pub undone-finds : (Writes Sees : ℕ → Place → Type 0) (Clash : ℕ → ℕ → Type 0) (members : ℕ → Member) (kept : Kept Writes Sees Clash members)
+pub undone-finds : (Writes Sees : ℕ → Place → Type 0) (Clash : ℕ → ℕ → Type 0) (members : ℕ → Member)
+    (kept : Kept Writes Sees Clash members)
     (opening : State) (set : ℕ → Bool) (low front : ℕ) (buffer : Buffer)
     → BufferStands Clash members opening set low front buffer → HasCells opening → (part : ℕ → Bool) → ((q : ℕ) → q < low → part q ≡ false)
     → ((q r : ℕ) → q < r → r < front → part q ≡ true → Clash q r → part r ≡ true)
-    → (q : ℕ) → q < front → set q ≡ false → part q ≡ false → Agree (Sees q) (undone_part buffer.histories part front buffer.state) buffer.state
+    → (q : ℕ) → q < front → set q ≡ false → part q ≡ false
+    → Agree (Sees q) (undone_part buffer.histories part front buffer.state) buffer.state
 undone-finds Writes Sees Clash members kept opening set low front buffer stands cells part late closed_part q below out free place t =
     ap (λ s. s place) after_undo.state_is
-    ∙ (late-finds Writes Sees Clash members kept opening (without set part) low front (buffer_without part front buffer) after_undo q below (rw (free, out) refl) place t
+    ∙ (late-finds Writes Sees Clash members kept opening (without set part) low front (buffer_without part front buffer) after_undo q below
+    (rw (free, out) refl) place t
     ∙ (ap (λ s. s place) (sym (alike Writes Sees Clash members kept opening set low front buffer stands cells part late closed_part q))
     ∙ (sym (fold_rest Writes Sees Clash members kept opening set (λ r. part r && set r) q
     (closed_both Writes Sees Clash members kept opening set low front buffer stands cells part late closed_part)
@@ -232,6 +260,8 @@ front-stands Clash members opening set low front buffer stands =
     more false e = rw (add-one, e) refl
 
 -- a fold that misses nobody is the fold of all
-pub fold_all : (members : ℕ → Member) (opening : State) (set : ℕ → Bool) (n : ℕ) → ((p : ℕ) → p < n → set p ≡ true) → fold members opening set n ≡ fold members opening (λ p. true) n
+pub fold_all : (members : ℕ → Member) (opening : State) (set : ℕ → Bool) (n : ℕ) → ((p : ℕ) → p < n → set p ≡ true)
+    → fold members opening set n ≡ fold members opening (λ p. true) n
 fold_all members opening set zero all = refl
-fold_all members opening set (suc n) all = rw (all n (omega arith)) (ap (applied (members n)) (fold_all members opening set n (λ p l. all p (omega arith))))
+fold_all members opening set (suc n) all =
+    rw (all n (omega arith)) (ap (applied (members n)) (fold_all members opening set n (λ p l. all p (omega arith))))

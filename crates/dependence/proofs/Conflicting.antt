@@ -65,8 +65,11 @@ conflicting-is first second = (forward, backward)
 
     backward : Conflict first second → conflicting first second ≡ true
     backward (inl h) = or_left both_write (first_writes || second_writes) ((shares-is first.writes second.writes).1 h)
-    backward (inr (inl h)) = or_right both_write (first_writes || second_writes) (or_left first_writes second_writes ((shares-is first.writes second.reads).1 h))
-    backward (inr (inr h)) = or_right both_write (first_writes || second_writes) (or_right first_writes second_writes ((shares-is first.reads second.writes).1 h))
+    backward (inr (inl h)) =
+        or_right both_write (first_writes || second_writes) (or_left first_writes second_writes ((shares-is first.writes second.reads).1 h))
+    backward (inr (inr h)) =
+        or_right both_write (first_writes || second_writes)
+        (or_right first_writes second_writes ((shares-is first.reads second.writes).1 h))
 
 Shared-swap : (left right : List Loc) → Shared left right → Shared right left
 Shared-swap left right h = (h.0, h.2, h.1)

@@ -17,14 +17,16 @@ module _ (clash : ℕ → ℕ → Bool) where
   Clash p q = clash p q ≡ true
 
   -- whether a position is a dependent does not depend on the front, once the front is past it
-  is_member-front : (first front q : ℕ) → q < front → is_member q (dependents clash first front) ≡ is_member q (dependents clash first (suc q))
+  is_member-front : (first front q : ℕ) → q < front
+      → is_member q (dependents clash first front) ≡ is_member q (dependents clash first (suc q))
   is_member-front first front q l =
       both_ways (is_member q (dependents clash first front)) (is_member q (dependents clash first (suc q)))
       (λ e. complete clash first (suc q) q (IsDependent-below Clash first front (suc q) (sound clash first front q e) (omega arith)))
       (λ e. complete clash first front q (IsDependent-below Clash first (suc q) front (sound clash first (suc q) q e) l))
 
   pub dependents-next : (first front q : ℕ) → q < front
-      → dependents clash first (q + 1) ≡ cond (is_member q (dependents clash first front)) (dependents clash first q ++ q ∷ []) (dependents clash first q)
+      → dependents clash first (q + 1) ≡ cond (is_member q (dependents clash first front)) (dependents clash first q ++ q ∷ [])
+      (dependents clash first q)
   dependents-next first front q l =
       rw (add-one, is_member-front first front q l, joins-is clash first q) refl
 
@@ -43,14 +45,17 @@ module _ (clash : ℕ → ℕ → Bool) (base first : ℕ) where
 
   pub dependents-shift : (front : ℕ) → dependents clash (base + first) (base + front) ≡ map (λ p. base + p) (dependents window first front)
   dependents-shift zero = rw add-zero (dependents-none clash (base + first) base (omega arith))
-  dependents-shift (suc n) = rw (add-suc, dependents-shift n, list_any-map (λ p. clash p (base + n)) (λ p. base + p) (dependents window first n), same) (go (nat_eq n first || list_any (λ p. window p n) (dependents window first n)))
+  dependents-shift (suc n) =
+      rw (add-suc, dependents-shift n, list_any-map (λ p. clash p (base + n)) (λ p. base + p) (dependents window first n), same)
+      (go (nat_eq n first || list_any (λ p. window p n) (dependents window first n)))
     where
       same : nat_eq (base + n) (base + first) ≡ nat_eq n first
       same = both_ways (nat_eq (base + n) (base + first)) (nat_eq n first)
           (λ e. let h = eqb-true (base + n) (base + first) e in eq-eqb n first (omega arith))
           (λ e. let h = eqb-true n first e in eq-eqb (base + n) (base + first) (omega arith))
 
-      go : (b : Bool) → cond b (map (λ p. base + p) (dependents window first n) ++ (base + n) ∷ []) (map (λ p. base + p) (dependents window first n))
+      go : (b : Bool) → cond b (map (λ p. base + p) (dependents window first n) ++ (base + n) ∷ [])
+          (map (λ p. base + p) (dependents window first n))
           ≡ map (λ p. base + p) (cond b (dependents window first n ++ n ∷ []) (dependents window first n))
       go true = sym (map-append (λ p. base + p) (dependents window first n) (n ∷ []))
       go false = refl
@@ -59,7 +64,8 @@ module _ (clash : ℕ → ℕ → Bool) (base first : ℕ) where
 IsDependent-alike : (Clash Other : ℕ → ℕ → Type 0) → ((p q : ℕ) → Clash p q → Other p q) → (first front : ℕ) {q : ℕ}
     → IsDependent Clash first front q → IsDependent Other first front q
 IsDependent-alike Clash Other alike first front (itself l) = itself l
-IsDependent-alike Clash Other alike first front (later {p = p} {q = q} d l m c) = later (IsDependent-alike Clash Other alike first front d) l m (alike p q c)
+IsDependent-alike Clash Other alike first front (later {p = p} {q = q} d l m c) =
+    later (IsDependent-alike Clash Other alike first front d) l m (alike p q c)
 
 module _ (feet : List Footprint) where
   abbrev Tested : ℕ → ℕ → Type 0
@@ -75,5 +81,7 @@ module _ (feet : List Footprint) where
       → EachIndex marks (λ q. slice_index_or marks q false ≡ is_member q (dependents (clash_in feet) first (length feet)))
   marks-are first marks marked q l =
       both_ways (slice_index_or marks q false) (is_member q (dependents (clash_in feet) first (length feet)))
-      (λ e. complete (clash_in feet) first (length feet) q (IsDependent-alike (ClashIn feet) Tested tested first (length feet) ((marked q l).0 e)))
-      (λ e. (marked q l).1 (IsDependent-alike Tested (ClashIn feet) untested first (length feet) (sound (clash_in feet) first (length feet) q e)))
+      (λ e. complete (clash_in feet) first (length feet) q
+      (IsDependent-alike (ClashIn feet) Tested tested first (length feet) ((marked q l).0 e)))
+      (λ e. (marked q l).1 (IsDependent-alike Tested (ClashIn feet) untested first (length feet)
+      (sound (clash_in feet) first (length feet) q e)))

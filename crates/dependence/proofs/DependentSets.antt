@@ -26,7 +26,8 @@ module _ (Clash : ℕ → ℕ → Type 0) (first front : ℕ) where
   IsDependent-front (later d l m c) = m
 
   -- a dependent other than the first is in conflict with an earlier one
-  pub IsDependent-inverted : {q : ℕ} → IsDependent Clash first front q → (first ≡ q) ⊎ ((p : ℕ) × (p < q) × IsDependent Clash first front p × Clash p q)
+  pub IsDependent-inverted : {q : ℕ} → IsDependent Clash first front q
+      → (first ≡ q) ⊎ ((p : ℕ) × (p < q) × IsDependent Clash first front p × Clash p q)
   IsDependent-inverted (itself l) = inl refl
   IsDependent-inverted (later {p = p} d l m c) = inr (p, l, d, c)
 
@@ -37,9 +38,11 @@ module _ (Clash : ℕ → ℕ → Type 0) (first front : ℕ) where
   IsDependent-least Other base step (later {p = p} {q = q} d l m c) = step p q (IsDependent-least Other base step d) l m c
 
 -- a dependent below another front
-pub IsDependent-below : (Clash : ℕ → ℕ → Type 0) (first front other : ℕ) {q : ℕ} → IsDependent Clash first front q → q < other → IsDependent Clash first other q
+pub IsDependent-below : (Clash : ℕ → ℕ → Type 0) (first front other : ℕ) {q : ℕ} → IsDependent Clash first front q → q < other
+    → IsDependent Clash first other q
 IsDependent-below Clash first front other (itself l) m = itself m
-IsDependent-below Clash first front other (later {p = p} d l k c) m = later (IsDependent-below Clash first front other d (omega arith)) l m c
+IsDependent-below Clash first front other (later {p = p} d l k c) m =
+    later (IsDependent-below Clash first front other d (omega arith)) l m c
 
 module _ (clash : ℕ → ℕ → Bool) (first : ℕ) where
   abbrev Clash : ℕ → ℕ → Type 0
@@ -50,11 +53,15 @@ module _ (clash : ℕ → ℕ → Bool) (first : ℕ) where
   joins n = nat_eq n first || list_any (λ p. clash p n) (dependents clash first n)
 
   -- below the next front stand the dependents below this one, and the front itself where it joins them
-  member-next : (n q : ℕ) → is_member q (dependents clash first (suc n)) ≡ (is_member q (dependents clash first n) || (joins n && nat_eq q n))
+  member-next : (n q : ℕ)
+      → is_member q (dependents clash first (suc n)) ≡ (is_member q (dependents clash first n) || (joins n && nat_eq q n))
   member-next n q = go (joins n)
     where
-      go : (b : Bool) → is_member q (cond b (dependents clash first n ++ n ∷ []) (dependents clash first n)) ≡ (is_member q (dependents clash first n) || (b && nat_eq q n))
-      go true = list_any-append (nat_eq q) (dependents clash first n) (n ∷ []) ∙ ap (λ b. is_member q (dependents clash first n) || b) (or-false (nat_eq q n))
+      go : (b : Bool) → is_member q (cond b (dependents clash first n ++ n ∷ []) (dependents clash first n))
+          ≡ (is_member q (dependents clash first n) || (b && nat_eq q n))
+      go true =
+          list_any-append (nat_eq q) (dependents clash first n) (n ∷ [])
+          ∙ ap (λ b. is_member q (dependents clash first n) || b) (or-false (nat_eq q n))
       go false = sym (or-false (is_member q (dependents clash first n)))
 
   pub sound : (front q : ℕ) → is_member q (dependents clash first front) ≡ true → IsDependent Clash first front q
@@ -65,10 +72,14 @@ module _ (clash : ℕ → ℕ → Bool) (first : ℕ) where
         | inr h ↦ (let both = and_parts (joins n) (nat_eq q n) h in joined (sound n) both.0 (eqb-true q n both.1))
       ]
     where
-      wider : ((x : ℕ) → is_member x (dependents clash first n) ≡ true → IsDependent Clash first n x) → (x : ℕ) → is_member x (dependents clash first n) ≡ true → IsDependent Clash first (suc n) x
-      wider below x m = let d = below x m in IsDependent-below Clash first n (suc n) d (let l : x < n = IsDependent-front Clash first n d in omega arith)
+      wider : ((x : ℕ) → is_member x (dependents clash first n) ≡ true → IsDependent Clash first n x) → (x : ℕ)
+          → is_member x (dependents clash first n) ≡ true → IsDependent Clash first (suc n) x
+      wider below x m =
+          let d = below x m in
+          IsDependent-below Clash first n (suc n) d (let l : x < n = IsDependent-front Clash first n d in omega arith)
 
-      joined : ((x : ℕ) → is_member x (dependents clash first n) ≡ true → IsDependent Clash first n x) → joins n ≡ true → q ≡ n → IsDependent Clash first (suc n) q
+      joined : ((x : ℕ) → is_member x (dependents clash first n) ≡ true → IsDependent Clash first n x) → joins n ≡ true → q ≡ n
+          → IsDependent Clash first (suc n) q
       joined below j same =
           rw same (elim (or_cases (nat_eq n first) (list_any (λ p. clash p n) (dependents clash first n)) j) [
             | inl h ↦ (let k : n ≡ first = eqb-true n first h in rw k (itself (omega arith)))
@@ -83,8 +94,12 @@ module _ (clash : ℕ → ℕ → Bool) (first : ℕ) where
   complete zero q d = absurd (let l : q < 0 = IsDependent-front Clash first 0 d in omega arith)
   complete (suc n) q d =
       member-next n q ∙ elim (cases_lt q n) [
-        | inl l ↦ or_left (is_member q (dependents clash first n)) (joins n && nat_eq q n) (complete n q (IsDependent-below Clash first (suc n) n d l))
-        | inr l ↦ or_right (is_member q (dependents clash first n)) (joins n && nat_eq q n) (and_from (joins n) (nat_eq q n) (joined (complete n) (same l)) (eq-eqb q n (same l)))
+        | inl l ↦
+            or_left (is_member q (dependents clash first n)) (joins n && nat_eq q n)
+            (complete n q (IsDependent-below Clash first (suc n) n d l))
+        | inr l ↦
+            or_right (is_member q (dependents clash first n)) (joins n && nat_eq q n)
+            (and_from (joins n) (nat_eq q n) (joined (complete n) (same l)) (eq-eqb q n (same l)))
       ]
     where
       same : n ≤ q → q ≡ n
@@ -95,7 +110,8 @@ module _ (clash : ℕ → ℕ → Bool) (first : ℕ) where
           elim (IsDependent-inverted Clash first (suc n) d) [
             | inl e ↦ or_left (nat_eq n first) (list_any (λ p. clash p n) (dependents clash first n)) (eq-eqb n first (sym same ∙ sym e))
             | inr e ↦ or_right (nat_eq n first) (list_any (λ p. clash p n) (dependents clash first n))
-                (let c = (is_member-is e.0 (dependents clash first n)).0 (below e.0 (IsDependent-below Clash first (suc n) n e.2 (omega arith))) in
+                (let c = (is_member-is e.0 (dependents clash first n)).0
+                (below e.0 (IsDependent-below Clash first (suc n) n e.2 (omega arith))) in
                 list_any-from_Any (λ p. clash p n) (dependents clash first n) (c.0, e.0, c.1, c.2, ap (clash e.0) (sym same) ∙ e.3))
           ]
 
@@ -113,7 +129,8 @@ module _ (clash : ℕ → ℕ → Bool) (first : ℕ) where
   )
 
   -- a number above all goes to the end of a rising list
-  rising_push : (list : List ℕ) (n : ℕ) → ((p : ℕ) → Contains list p → p < n) → IsStrictlyIncreasing list → IsStrictlyIncreasing (list ++ n ∷ [])
+  rising_push : (list : List ℕ) (n : ℕ) → ((p : ℕ) → Contains list p → p < n) → IsStrictlyIncreasing list
+      → IsStrictlyIncreasing (list ++ n ∷ [])
   rising_push list n above rising k l =
       elim (cases_lt (k + 1) (length list)) [
         | inl m ↦
@@ -134,6 +151,7 @@ module _ (clash : ℕ → ℕ → Bool) (first : ℕ) where
   dependents_rise zero = λ k l. absurd (omega arith)
   dependents_rise (suc n) = go (joins n) (dependents_rise n)
     where
-      go : (b : Bool) → IsStrictlyIncreasing (dependents clash first n) → IsStrictlyIncreasing (cond b (dependents clash first n ++ n ∷ []) (dependents clash first n))
+      go : (b : Bool) → IsStrictlyIncreasing (dependents clash first n)
+          → IsStrictlyIncreasing (cond b (dependents clash first n ++ n ∷ []) (dependents clash first n))
       go true rising = rising_push (dependents clash first n) n (λ p c. IsDependent-front Clash first n ((dependents-are n p).0 c)) rising
       go false rising = rising

@@ -1,4 +1,6 @@
--- Effects that name disjoint places commute, and a history is such an effect too.
+-- Effects that name disjoint places commute, and a history is such an effect too. Everything goes place by place: an
+-- effect leaves at a place the value that it names there, or else what stood there. Of two effects that name no common
+-- place at most one changes each place. A history names what its effect names, and there the value that stood before.
 use Rattle.std.proofs.Common.{◌≡◌, ℕ, Bool, true, false, cond, List, [], ◌∷◌, map, Option, Some, None, is_some, refl, sym, ap, ◌∙◌, ◌==◌, nat_eq, unwrap_or}
 use Rattle.std.specs.Prelude.{ℤ}
 use Rattle.std.specs.Option.{option_map}
@@ -22,7 +24,8 @@ after_is e state (RegistersOf t) = go (nat_eq t e.thread) e.child
     kept false xs ys = refl
 
     go : (b : Bool) (child : Option (ℕ × List ℤ))
-        → cond b e.regs (left_to child t (state (RegistersOf t))) ≡ unwrap_or (cond b (Some e.regs) (named_child child t)) (state (RegistersOf t))
+        → cond b e.regs (left_to child t (state (RegistersOf t)))
+        ≡ unwrap_or (cond b (Some e.regs) (named_child child t)) (state (RegistersOf t))
     go true child = refl
     go false None = refl
     go false (Some child) = kept (nat_eq t child.0) child.1 (state (RegistersOf t))
@@ -40,10 +43,12 @@ pub after_same : (e : Effect) (left right : State) (place : Place) → left plac
 after_same e left right place same = after_is e left place ∙ (ap (unwrap_or (named e place)) same ∙ sym (after_is e right place))
 
 -- effects that name no common place commute
-pub swap : (e f : Effect) → ((place : Place) → IsNamed e place → IsNamed f place → ⊥) → (state : State) → after e (after f state) ≡ after f (after e state)
+pub swap : (e f : Effect) → ((place : Place) → IsNamed e place → IsNamed f place → ⊥) → (state : State)
+    → after e (after f state) ≡ after f (after e state)
 swap e f apart state = fun_ext at
   where
-    go : (o p : Option (List ℤ)) (v : List ℤ) → (is_some o ≡ true → is_some p ≡ true → ⊥) → unwrap_or o (unwrap_or p v) ≡ unwrap_or p (unwrap_or o v)
+    go : (o p : Option (List ℤ)) (v : List ℤ) → (is_some o ≡ true → is_some p ≡ true → ⊥)
+        → unwrap_or o (unwrap_or p v) ≡ unwrap_or p (unwrap_or o v)
     go None p v free = refl
     go (Some x) None v free = refl
     go (Some x) (Some y) v free = absurd (free refl refl)
@@ -59,14 +64,17 @@ find_old : (f : ℕ → ℤ) (ws : List (ℕ × ℤ)) (c : ℕ) → find nat_cmp
 find_old f [] c = refl
 find_old f (w ∷ ws) c = rw (unsigned_tied c w.0, find_old f ws c) (go (c == w.0) refl (find nat_cmp c ws))
   where
-    go : (b : Bool) → (c == w.0) ≡ b → (o : Option ℤ) → cond b (Some (f w.0)) (option_map (λ v. f c) o) ≡ option_map (λ v. f c) (cond b (Some w.1) o)
+    go : (b : Bool) → (c == w.0) ≡ b → (o : Option ℤ)
+        → cond b (Some (f w.0)) (option_map (λ v. f c) o) ≡ option_map (λ v. f c) (cond b (Some w.1) o)
     go true e o = rw (eqb-true c w.0 e) refl
     go false e o = refl
 
 pub history_is : HistoryLaw
 history_is e state cells (CellOf c) = rw (find_old (cell_value state) e.writes c, cells c) (go (find nat_cmp c e.writes))
   where
-    go : (o : Option ℤ) → option_map one_number (option_map (λ v. cell_value state c) o) ≡ option_map (λ value. cell_value state c ∷ []) (option_map one_number o)
+    go : (o : Option ℤ)
+        → option_map one_number (option_map (λ v. cell_value state c) o)
+        ≡ option_map (λ value. cell_value state c ∷ []) (option_map one_number o)
     go None = refl
     go (Some v) = refl
 history_is e state cells (RegistersOf t) = go (nat_eq t e.thread) refl e.child
@@ -85,7 +93,8 @@ history_is e state cells (RegistersOf t) = go (nat_eq t e.thread) refl e.child
 
 pub undo_is : UndoLaw
 undo_is e state cells =
-    fun_ext (λ place. after_is (old_of e state) (after e state) place ∙ (rw (history_is e state cells place, after_is e state place) (go (named e place) (state place))))
+    fun_ext (λ place. after_is (old_of e state) (after e state) place
+    ∙ (rw (history_is e state cells place, after_is e state place) (go (named e place) (state place))))
   where
     go : (o : Option (List ℤ)) (v : List ℤ) → unwrap_or (option_map (λ value. v) o) (unwrap_or o v) ≡ v
     go None v = refl
@@ -122,7 +131,13 @@ module _ (left right : State) where
   pub old_same : (e : Effect) → ((place : Place) → IsNamed e place → left place ≡ right place) → old_of e left ≡ old_of e right
   old_same e same =
       let writes = old_writes e.writes (λ c some. same (CellOf c) (there (find nat_cmp c e.writes) some)) in
-      λ i. record { thread = e.thread; writes = writes i; regs = registers i; child = child e.child (λ c is. same (RegistersOf c.0) (of_child c is)) i; prints = [] }
+      λ i. record {
+        thread = e.thread;
+        writes = writes i;
+        regs = registers i;
+        child = child e.child (λ c is. same (RegistersOf c.0) (of_child c is)) i;
+        prints = [];
+      }
     where
       there : (o : Option ℤ) → is_some o ≡ true → is_some (option_map one_number o) ≡ true
       there None h = h
@@ -152,6 +167,8 @@ module _ (left right : State) where
 pub HasCells-after : (e : Effect) (state : State) → HasCells state → HasCells (after e state)
 HasCells-after e state cells c = go (find nat_cmp c e.writes)
   where
-    go : (o : Option ℤ) → unwrap_or (option_map one_number o) (state (CellOf c)) ≡ cell_value (λ place. unwrap_or (option_map one_number o) (state (CellOf c))) c ∷ []
+    go : (o : Option ℤ)
+        → unwrap_or (option_map one_number o) (state (CellOf c))
+        ≡ cell_value (λ place. unwrap_or (option_map one_number o) (state (CellOf c))) c ∷ []
     go None = cells c
     go (Some v) = refl

@@ -40,7 +40,8 @@ module _ (dependence : Dependence) (redoes_all : RedoesConflicts dependence) (fa
         taken = low.taken;
         applied = λ p e. applied p (is_member p (restart_of dependence at.progress struck).redo) e;
         attempt = λ p l. attempt-push at.progress.made (restart_of dependence at.progress struck) p
-            ∙ (ap (λ b. attempt_of at.progress.made p + cond b 1 0) (not_redone at.progress struck p l) ∙ (let e = low.attempt p l in omega arith));
+            ∙ (ap (λ b. attempt_of at.progress.made p + cond b 1 0) (not_redone at.progress struck p l)
+            ∙ (let e = low.attempt p l in omega arith));
         begun = λ p l. begun-push at.progress.made (restart_of dependence at.progress struck) p
             ∙ (ap (λ b. cond b at.progress.front (begun_of at.progress.made p)) (not_redone at.progress struck p l) ∙ low.begun p l);
       }
@@ -94,6 +95,7 @@ module _ (dependence : Dependence) (redoes_all : RedoesConflicts dependence) (fa
       record { posted = low.posted; taken = low.taken; applied = low.applied; attempt = low.attempt; begun = low.begun }
 
   -- a lawful list goes on naming issued positions alone
-  pub issued-from : (at : Stage) (events : List Event) → LawfulFrom dependence faults at events → NamesIssued at → NamesIssued (stage_from dependence faults at events)
+  pub issued-from : (at : Stage) (events : List Event) → LawfulFrom dependence faults at events → NamesIssued at
+      → NamesIssued (stage_from dependence faults at events)
   issued-from at [] lawful low = low
   issued-from at (e ∷ rest) lawful low = issued-from (happens dependence faults at e) rest lawful.1 (issued-happens at e lawful.0 low)

@@ -13,7 +13,8 @@ use Rattle.dependence.proofs.RestartEnds.{made-first, made-all, struck-is}
 
 module _ (dependence : Dependence) (faults : List Fault) where
   -- a beginning of a lawful list is lawful
-  pub LawfulFrom-front : (at : Stage) (events rest : List Event) → LawfulFrom dependence faults at (events ++ rest) → LawfulFrom dependence faults at events
+  pub LawfulFrom-front : (at : Stage) (events rest : List Event) → LawfulFrom dependence faults at (events ++ rest)
+      → LawfulFrom dependence faults at events
   LawfulFrom-front at [] rest lawful = tt
   LawfulFrom-front at (event ∷ events) rest lawful = (lawful.0, LawfulFrom-front (happens dependence faults at event) events rest lawful.1)
 
@@ -21,7 +22,8 @@ module _ (dependence : Dependence) (faults : List Fault) where
   pub LawfulFrom-push : (at : Stage) (events : List Event) (event : Event) → LawfulFrom dependence faults at events
       → Allowed dependence faults (stage_from dependence faults at events) event → LawfulFrom dependence faults at (events ++ event ∷ [])
   LawfulFrom-push at [] event lawful allowed = (allowed, tt)
-  LawfulFrom-push at (first ∷ events) event lawful allowed = (lawful.0, LawfulFrom-push (happens dependence faults at first) events event lawful.1 allowed)
+  LawfulFrom-push at (first ∷ events) event lawful allowed =
+      (lawful.0, LawfulFrom-push (happens dependence faults at first) events event lawful.1 allowed)
 
   pub stage_from-push : (at : Stage) (events : List Event) (event : Event)
       → stage_from dependence faults at (events ++ event ∷ []) ≡ happens dependence faults (stage_from dependence faults at events) event
@@ -32,7 +34,8 @@ module _ (dependence : Dependence) (faults : List Fault) where
   abbrev Reached : Progress → Type 0
   Reached at = (k : ℕ) × (at ≡ progress dependence faults k)
 
-  Reached-happens : (at : Stage) (event : Event) → StageStands dependence faults at → Allowed dependence faults at event → Reached at.progress → Reached (happens dependence faults at event).progress
+  Reached-happens : (at : Stage) (event : Event) → StageStands dependence faults at → Allowed dependence faults at event
+      → Reached at.progress → Reached (happens dependence faults at event).progress
   Reached-happens at (event.Issue p) stands allowed reached = (suc reached.0, issued ∙ ap (advance dependence faults) reached.1)
     where
       below : at.progress.front < dependence.count
@@ -54,7 +57,8 @@ module _ (dependence : Dependence) (faults : List Fault) where
   Reached-happens at (event.Retire p) stands allowed reached = reached
 
   module _ (clean : KeepsClean dependence faults) where
-    Reached-stage : (at : Stage) (events : List Event) → StageStands dependence faults at → LawfulFrom dependence faults at events → Reached at.progress
+    Reached-stage : (at : Stage) (events : List Event) → StageStands dependence faults at → LawfulFrom dependence faults at events
+        → Reached at.progress
         → Reached (stage_from dependence faults at events).progress
     Reached-stage at [] stands lawful reached = reached
     Reached-stage at (event ∷ rest) stands lawful reached =
@@ -76,15 +80,18 @@ module _ (dependence : Dependence) (faults : List Fault) where
     -- a restart may come next exactly where the next of all restarts has the present front
     pub restarts-next : (events : List Event) → Lawful dependence faults events
         → (struck_next dependence faults (stage dependence faults events).progress ≢ None)
-        ↔ IsSomeAnd (slice_get (restarts dependence faults) (length (stage dependence faults events).progress.made)) (λ restart. restart.front ≡ (stage dependence faults events).progress.front)
+        ↔ IsSomeAnd (slice_get (restarts dependence faults) (length (stage dependence faults events).progress.made))
+        (λ restart. restart.front ≡ (stage dependence faults events).progress.front)
     restarts-next events lawful =
         let r = reached-stage events lawful in
         subst
-        (λ at. (struck_next dependence faults at ≢ None) ↔ IsSomeAnd (slice_get (restarts dependence faults) (length at.made)) (λ restart. restart.front ≡ at.front))
+        (λ at. (struck_next dependence faults at ≢ None)
+        ↔ IsSomeAnd (slice_get (restarts dependence faults) (length at.made)) (λ restart. restart.front ≡ at.front))
         (sym r.1) (struck-is dependence clean.struck faults r.0)
 
     -- a complete list has all restarts
-    pub restarts-all : (events : List Event) → Complete dependence faults events → (stage dependence faults events).progress.made ≡ restarts dependence faults
+    pub restarts-all : (events : List Event) → Complete dependence faults events
+        → (stage dependence faults events).progress.made ≡ restarts dependence faults
     restarts-all events complete =
         let r = reached-stage events complete.lawful in
         ap (λ at. at.made) r.1 ∙ made-all dependence clean.struck faults r.0 (subst (IsFinal dependence faults) r.1 complete.final)

@@ -1,4 +1,7 @@
--- A member whose actions name only cells under the locks held keeps to its footprint.
+-- A member whose actions name only cells under the locks held keeps to its footprint. The cells that its actions name
+-- stand in its footprint, and so do the registers that it may touch. A cell under a lock has that lock as its location
+-- by locks; so members that keep to their footprints are in conflict wherever they have a place in common that one of
+-- them may write.
 use Rattle.std.proofs.Common.{◌≡◌, inl, inr, ℕ, suc, zero, ◌<◌, Bool, true, false, cond, List, [], ◌∷◌, ◌++◌, length, map, get_or, Option, Some, None, is_some, refl, sym, ap, subst, ◌∙◌, arith, nat_eq, ◌||◌, Contains, slice_get, option_map}
 use Rattle.std.specs.Prelude.{ℤ, pos, negsuc}
 use Rattle.std.specs.List.{position_or_len}
@@ -39,7 +42,8 @@ use Rattle.dependence.proofs.Naming.{to-map, names-named, writes-named}
 use Rattle.dependence.proofs.Struck.{Contains-head, Contains-later}
 
 -- a cell that passes stands under a lock that is held
-pub under-held : (under : List (List ℕ)) (held : List ℕ) (c : ℕ) → is_under under held c ≡ true → (lock : ℕ) × Contains (under_lock under lock) c × Contains held lock
+pub under-held : (under : List (List ℕ)) (held : List ℕ) (c : ℕ) → is_under under held c ≡ true
+    → (lock : ℕ) × Contains (under_lock under lock) c × Contains held lock
 under-held under held c passes =
     let h = Any-from_list_any (λ lock. is_member c (under_lock under lock)) held passes in
     (h.1, (is_member-is c (under_lock under h.1)).0 h.4, (h.0, h.2, h.3))
@@ -48,12 +52,14 @@ pub Contains-map : {A B : Type 0} (f : A → B) (xs : List A) (x : A) → Contai
 Contains-map f [] x c = absurd (let l = c.1 in omega arith)
 Contains-map f (y ∷ xs) x c = at c.0 c.1 c.2 (λ k l same. Contains-map f xs x (k, l, same))
   where
-    at : (k : ℕ) → k < length (y ∷ xs) → get_or (y ∷ xs) k x ≡ x → ((j : ℕ) → j < length xs → get_or xs j x ≡ x → Contains (map f xs) (f x)) → Contains (map f (y ∷ xs)) (f x)
+    at : (k : ℕ) → k < length (y ∷ xs) → get_or (y ∷ xs) k x ≡ x → ((j : ℕ) → j < length xs → get_or xs j x ≡ x → Contains (map f xs) (f x))
+        → Contains (map f (y ∷ xs)) (f x)
     at zero l same rest = subst (λ z. Contains (map f (y ∷ xs)) (f z)) same (Contains-head (f y) (map f xs))
     at (suc k) l same rest = Contains-append_right (f y ∷ []) (map f xs) (f x) (rest k (omega arith) same)
 
 -- `$ret` of the thread that is joined depends on its registers alone
-pub joined_same : (begins : SyncOp) (left right : State) → ((h : ℕ) → Contains (joined_registers begins) (loc.Regs h) → left (RegistersOf h) ≡ right (RegistersOf h))
+pub joined_same : (begins : SyncOp) (left right : State)
+    → ((h : ℕ) → Contains (joined_registers begins) (loc.Regs h) → left (RegistersOf h) ≡ right (RegistersOf h))
     → joined_ret begins left ≡ joined_ret begins right
 joined_same (sync.Join (pos h)) left right agree = ap (λ xs. number_at xs 0) (agree h (Contains-head (loc.Regs h) []))
 joined_same (sync.Join (negsuc h)) left right agree = refl
@@ -81,7 +87,8 @@ location-is under lock c once there = rw (first, lt-ltb lock (length under) with
     first : position_or_len (is_member c) under ≡ lock
     first =
         position_or_len_is (is_member c) under lock [] (omega (arith, within))
-        (λ k l. false_from_ne_true (is_member c (under_lock under k)) (λ e. let same = once k lock c ((is_member-is c (under_lock under k)).0 e) there in omega arith))
+        (λ k l. false_from_ne_true (is_member c (under_lock under k))
+        (λ e. let same = once k lock c ((is_member-is c (under_lock under k)).0 e) there in omega arith))
         (λ l. (is_member-is c (under_lock under lock)).1 there)
 
 module _ (m : Member) where
@@ -93,21 +100,27 @@ module _ (m : Member) where
 
   written : (c : ℕ) → is_member c (named_by m.actions).writes ≡ true → MayWrite own_location foot (CellOf c)
   written c e =
-      Contains-append_right (loc.Regs m.thread ∷ child_registers m.child) (map loc.Rec (named_by m.actions).writes) (loc.Rec c) (to-map (named_by m.actions).writes c e)
+      Contains-append_right (loc.Regs m.thread ∷ child_registers m.child) (map loc.Rec (named_by m.actions).writes) (loc.Rec c)
+      (to-map (named_by m.actions).writes c e)
 
-  touched : (c : ℕ) → (is_member c (named_by m.actions).reads || is_member c (named_by m.actions).writes) ≡ true → MayTouch own_location foot (CellOf c)
+  touched : (c : ℕ) → (is_member c (named_by m.actions).reads || is_member c (named_by m.actions).writes) ≡ true
+      → MayTouch own_location foot (CellOf c)
   touched c e =
       elim (or_cases (is_member c (named_by m.actions).reads) (is_member c (named_by m.actions).writes) e) [
-        | inl read ↦ inl (Contains-append_right (joined_registers m.begins) (map loc.Rec (named_by m.actions).reads) (loc.Rec c) (to-map (named_by m.actions).reads c read))
+        | inl read ↦
+            inl (Contains-append_right (joined_registers m.begins) (map loc.Rec (named_by m.actions).reads) (loc.Rec c)
+            (to-map (named_by m.actions).reads c read))
         | inr wrote ↦ inr (written c wrote)
       ]
 
   same : (left right : State) → Agree (MayTouch own_location foot) left right → done_by m left ≡ done_by m right
   same left right agree =
-      ap (damaged m.mask) (reads_same (λ x. is_member x (named_by m.actions).reads || is_member x (named_by m.actions).writes) m.thread m.begins m.child m.actions left right (names-named m.actions) (record {
+      ap (damaged m.mask) (reads_same (λ x. is_member x (named_by m.actions).reads || is_member x (named_by m.actions).writes) m.thread
+      m.begins m.child m.actions left right (names-named m.actions) (record {
         registers = agree (RegistersOf m.thread) (inr own);
         joined = joined_same m.begins left right
-            (λ h there. agree (RegistersOf h) (inl (Contains-append_left (joined_registers m.begins) (map loc.Rec (named_by m.actions).reads) (loc.Regs h) there)));
+            (λ h there. agree (RegistersOf h)
+            (inl (Contains-append_left (joined_registers m.begins) (map loc.Rec (named_by m.actions).reads) (loc.Regs h) there)));
         cells = λ c e. agree (CellOf c) (touched c e);
       }))
 
@@ -116,7 +129,8 @@ module _ (m : Member) where
   find_masked [] c e = refl
   find_masked (w ∷ ws) c e = go (eq_by_cmp nat_cmp c w.0) (find_masked ws c) e
     where
-      go : (b : Bool) → (find nat_cmp c ws ≡ None → find nat_cmp c (map (λ w. (w.0, masked m.mask w.1)) ws) ≡ None) → cond b (Some w.1) (find nat_cmp c ws) ≡ None
+      go : (b : Bool) → (find nat_cmp c ws ≡ None → find nat_cmp c (map (λ w. (w.0, masked m.mask w.1)) ws) ≡ None)
+          → cond b (Some w.1) (find nat_cmp c ws) ≡ None
           → cond b (Some (masked m.mask w.1)) (find nat_cmp c (map (λ w. (w.0, masked m.mask w.1)) ws)) ≡ None
       go true rest none = absurd (false≢true (sym (ap is_some none)))
       go false rest none = rest none
@@ -125,21 +139,27 @@ module _ (m : Member) where
   masked_child child = option_map (λ c. (c.0, all_masked m.mask c.1)) child
 
   child_place : (child : Option ℕ) (given : List ℤ) (t : ℕ) (rest : List Loc)
-      → is_some (named_child (masked_child (option_map (λ c. (c, given)) child)) t) ≡ true → Contains (child_registers child ++ rest) (loc.Regs t)
+      → is_some (named_child (masked_child (option_map (λ c. (c, given)) child)) t) ≡ true
+      → Contains (child_registers child ++ rest) (loc.Regs t)
   child_place None given t rest e = absurd (false≢true e)
   child_place (Some c) given t rest e = go (nat_eq t c) refl e
     where
-      go : (b : Bool) → nat_eq t c ≡ b → is_some (cond b (Some (all_masked m.mask given)) None) ≡ true → Contains (loc.Regs c ∷ rest) (loc.Regs t)
+      go : (b : Bool) → nat_eq t c ≡ b → is_some (cond b (Some (all_masked m.mask given)) None) ≡ true
+          → Contains (loc.Regs c ∷ rest) (loc.Regs t)
       go true same some = rw (eqb-true t c same) (Contains-head (loc.Regs c) rest)
       go false same some = absurd (false≢true some)
 
   within : (state : State) (place : Place) → IsNamed (done_by m state) place → MayWrite own_location foot place
   within state (CellOf c) some =
-      written c (writes_within (λ x. is_member x (named_by m.actions).writes) m.thread m.begins m.child m.actions state (writes-named m.actions) c
-      (λ none. false≢true (sym (ap (λ o. is_some (option_map one_number o)) (find_masked (effect m.thread m.begins m.child m.actions state).writes c none)) ∙ some)))
+      written c (writes_within (λ x. is_member x (named_by m.actions).writes) m.thread m.begins m.child m.actions state
+      (writes-named m.actions) c
+      (λ none. false≢true (sym (ap (λ o. is_some (option_map one_number o))
+      (find_masked (effect m.thread m.begins m.child m.actions state).writes c none)) ∙ some)))
   within state (RegistersOf t) some = go (nat_eq t m.thread) refl some
     where
-      go : (b : Bool) → nat_eq t m.thread ≡ b → is_some (cond b (Some (done_by m state).regs) (named_child (done_by m state).child t)) ≡ true → MayWrite own_location foot (RegistersOf t)
+      go : (b : Bool) → nat_eq t m.thread ≡ b
+          → is_some (cond b (Some (done_by m state).regs) (named_child (done_by m state).child t)) ≡ true
+          → MayWrite own_location foot (RegistersOf t)
       go true is some_is = subst (λ u. MayWrite own_location foot (RegistersOf u)) (sym (eqb-true t m.thread is)) own
       go false is there_is =
           Contains-later (loc.Regs m.thread) (child_registers m.child ++ map loc.Rec (named_by m.actions).writes) (loc.Regs t)
@@ -187,9 +207,13 @@ module _ (heads : List Head) where
       elim (cases_lt lock (length locks)) [
         | inl l ↦
             (let all = length-numbers 0 (cells_in (locks_of heads)) in
-            let is : under_lock (layout heads).under lock ≡ cells_under heads lock = get_or-map (cells_under heads) locks lock 0 [] l ∙ ap (cells_under heads) (get-numbers 0 (cells_in (locks_of heads)) lock 0 (omega arith) ∙ omega arith) in
+            let is : under_lock (layout heads).under lock ≡ cells_under heads lock =
+            get_or-map (cells_under heads) locks lock 0 [] l
+            ∙ ap (cells_under heads) (get-numbers 0 (cells_in (locks_of heads)) lock 0 (omega arith) ∙ omega arith) in
             subst (λ cells. Contains cells c) is member)
-        | inr l ↦ absurd (let all = length-map locks (cells_under heads) in let none = ap length (get_or_past (layout heads).under lock [] (omega arith)) in let m = member.1 in omega arith)
+        | inr l ↦
+            absurd (let all = length-map locks (cells_under heads) in
+            let none = ap length (get_or_past (layout heads).under lock [] (omega arith)) in let m = member.1 in omega arith)
       ]
 
   pub laid-apart : IsLaidOut heads → IsApart (layout heads).under
@@ -207,4 +231,5 @@ pub under-writes : (under : List (List ℕ)) → IsApart under → (held : List 
 under-writes under once held m c passes =
     let h = under-held under held c passes in
     subst (Contains (loc.Regs m.thread ∷ child_registers m.child ++ map loc.Lock held)) (sym (location-is under h.0 c once h.1))
-    (Contains-append_right (loc.Regs m.thread ∷ child_registers m.child) (map loc.Lock held) (loc.Lock h.0) (Contains-map loc.Lock held h.0 h.2))
+    (Contains-append_right (loc.Regs m.thread ∷ child_registers m.child) (map loc.Lock held) (loc.Lock h.0)
+    (Contains-map loc.Lock held h.0 h.2))

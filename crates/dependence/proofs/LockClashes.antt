@@ -18,10 +18,12 @@ use Rattle.dependence.proofs.Struck.{Contains-head, Contains-later}
 use Rattle.dependence.proofs.Naming.{named-passes, from-map}
 use Rattle.dependence.proofs.Keeping.{under-held, Contains-map}
 
-split-first : (x : Loc) (xs ys : List Loc) (l : Loc) → (Contains (xs ++ ys) l → Contains xs l ⊎ Contains ys l) → (k : ℕ) → k < length (x ∷ (xs ++ ys))
+split-first : (x : Loc) (xs ys : List Loc) (l : Loc) → (Contains (xs ++ ys) l → Contains xs l ⊎ Contains ys l) → (k : ℕ)
+    → k < length (x ∷ (xs ++ ys))
     → get_or (x ∷ (xs ++ ys)) k l ≡ l → Contains (x ∷ xs) l ⊎ Contains ys l
 split-first x xs ys l rest zero less e = inl (subst (Contains (x ∷ xs)) e (Contains-head x xs))
-split-first x xs ys l rest (suc k) less e = elim (rest (k, omega arith, e)) [ inl left ↦ inl (Contains-later x xs l left) | inr right ↦ inr right ]
+split-first x xs ys l rest (suc k) less e =
+    elim (rest (k, omega arith, e)) [ inl left ↦ inl (Contains-later x xs l left) | inr right ↦ inr right ]
 
 pub split-append : (xs ys : List Loc) (l : Loc) → Contains (xs ++ ys) l → Contains xs l ⊎ Contains ys l
 split-append [] ys l h = inr h
@@ -61,7 +63,8 @@ joined_are sync.Spent = no_registers
 -- registers that stand there, or a record cell under a lock that is written
 Lies : List (List ℕ) → (writes there : List Loc) → Loc → Type 0
 Lies under writes there l =
-    ((t : ℕ) × (l ≡ loc.Regs t) × Contains there l) ⊎ ((c : ℕ) × (lock : ℕ) × (l ≡ loc.Rec c) × Contains (under_lock under lock) c × Contains writes (loc.Lock lock))
+    ((t : ℕ) × (l ≡ loc.Regs t) × Contains there l)
+    ⊎ ((c : ℕ) × (lock : ℕ) × (l ≡ loc.Rec c) × Contains (under_lock under lock) c × Contains writes (loc.Lock lock))
 
 record LiesIn (under : List (List ℕ)) (foot locks : Footprint) : Type 0 where
   reads : (l : Loc) → Contains foot.reads l → Lies under locks.writes locks.reads l
@@ -71,10 +74,15 @@ module _ (under : List (List ℕ)) (s : Subthread) (names : AllName (is_under un
   own : List Loc
   own = loc.Regs s.thread ∷ child_registers s.child
 
-  under-locks : (c : ℕ) → is_under under s.held c ≡ true → (lock : ℕ) × Contains (under_lock under lock) c × Contains (lock_foot_of s).writes (loc.Lock lock)
+  under-locks : (c : ℕ) → is_under under s.held c ≡ true
+      → (lock : ℕ) × Contains (under_lock under lock) c × Contains (lock_foot_of s).writes (loc.Lock lock)
   under-locks c passes =
-      let h = under-held under s.held c passes in
-      (h.0, h.1, Contains-append_right (loc.Regs s.thread ∷ child_registers s.child) (map loc.Lock s.held) (loc.Lock h.0) (Contains-map loc.Lock s.held h.0 h.2))
+      let h = under-held under s.held c passes in (
+        h.0,
+        h.1,
+        Contains-append_right (loc.Regs s.thread ∷ child_registers s.child) (map loc.Lock s.held) (loc.Lock h.0)
+            (Contains-map loc.Lock s.held h.0 h.2),
+      )
 
   lies : LiesIn under (foot_of s) (lock_foot_of s)
   unfolding Lies
@@ -109,7 +117,8 @@ idle-lies under =
     }
 
 -- each position of the run does so
-run-lies : (under : List (List ℕ)) (run : List Subthread) → ((k : ℕ) (s : Subthread) → slice_get run k ≡ Some s → AllName (is_under under s.held) s.actions)
+run-lies : (under : List (List ℕ)) (run : List Subthread)
+    → ((k : ℕ) (s : Subthread) → slice_get run k ≡ Some s → AllName (is_under under s.held) s.actions)
     → (p : ℕ) → LiesIn under (foot_at (feet_of run) p) (foot_at (lock_feet_of run) p)
 run-lies under [] all p = idle-lies under
 run-lies under (s ∷ rest) all zero = lies under s (all 0 s refl)
@@ -133,15 +142,29 @@ module _ (under : List (List ℕ)) (once : IsApart under) where
       let lock : a.1 ≡ b.1 = once a.1 b.1 b.0 (subst (Contains (under_lock under a.1)) cell a.3) b.3 in
       inr (loc.Lock b.1, subst (λ k. Contains first (loc.Lock k)) lock a.4, b.4)
 
-  clash-by-locks : (foot other locks others : Footprint) → LiesIn under foot locks → LiesIn under other others → Conflict foot other → Conflict locks others
+  clash-by-locks : (foot other locks others : Footprint) → LiesIn under foot locks → LiesIn under other others → Conflict foot other
+      → Conflict locks others
   clash-by-locks foot other locks others a b (inl c) =
-      elim (shared locks.writes others.writes locks.writes others.writes c.0 (a.writes c.0 c.1) (b.writes c.0 c.2)) [ inl same ↦ inl same | inr same ↦ inl same ]
+      elim (shared locks.writes others.writes locks.writes others.writes c.0 (a.writes c.0 c.1) (b.writes c.0 c.2)) [
+        | inl same ↦
+            inl same
+        | inr same ↦ inl same
+      ]
   clash-by-locks foot other locks others a b (inr (inl c)) =
-      elim (shared locks.writes others.writes locks.writes others.reads c.0 (a.writes c.0 c.1) (b.reads c.0 c.2)) [ inl same ↦ inr (inl same) | inr same ↦ inl same ]
+      elim (shared locks.writes others.writes locks.writes others.reads c.0 (a.writes c.0 c.1) (b.reads c.0 c.2)) [
+        | inl same ↦
+            inr (inl same)
+        | inr same ↦ inl same
+      ]
   clash-by-locks foot other locks others a b (inr (inr c)) =
-      elim (shared locks.writes others.writes locks.reads others.writes c.0 (a.reads c.0 c.1) (b.writes c.0 c.2)) [ inl same ↦ inr (inr same) | inr same ↦ inl same ]
+      elim (shared locks.writes others.writes locks.reads others.writes c.0 (a.reads c.0 c.1) (b.writes c.0 c.2)) [
+        | inl same ↦
+            inr (inr same)
+        | inr same ↦ inl same
+      ]
 
 pub locks-clash : LocksClashLaw
 locks-clash under run p q once held clash =
-    clash-by-locks under once (foot_at (feet_of run) p) (foot_at (feet_of run) q) (foot_at (lock_feet_of run) p) (foot_at (lock_feet_of run) q)
+    clash-by-locks under once (foot_at (feet_of run) p) (foot_at (feet_of run) q) (foot_at (lock_feet_of run) p)
+    (foot_at (lock_feet_of run) q)
     (run-lies under run held p) (run-lies under run held q) clash

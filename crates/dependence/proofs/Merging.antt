@@ -48,7 +48,8 @@ below-or x y not_below apart =
     ]
 
 -- one more location rises where the one before it is below it
-pub rises-more : (locations : List Loc) (many : ℕ) (x y : Loc) → 1 ≤ many → RisesTo locations many → slice_get locations (many - 1) ≡ Some x → slice_get locations many ≡ Some y
+pub rises-more : (locations : List Loc) (many : ℕ) (x y : Loc) → 1 ≤ many → RisesTo locations many → slice_get locations (many - 1) ≡ Some x
+    → slice_get locations many ≡ Some y
     → IsBelow x y → RisesTo locations (many + 1)
 rises-more locations many x y some so_far at_x at_y below j k v w l within at_v at_w =
     elim (cases_eq k many) [
@@ -70,7 +71,8 @@ rises-more locations many x y some so_far at_x at_y below j k v w l within at_v 
         ]
 
 -- one more that is below the location
-pub below-more : (locations : List Loc) (many : ℕ) (x loc : Loc) → AreBelow locations many loc → slice_get locations many ≡ Some x → IsBelow x loc → AreBelow locations (many + 1) loc
+pub below-more : (locations : List Loc) (many : ℕ) (x loc : Loc) → AreBelow locations many loc → slice_get locations many ≡ Some x
+    → IsBelow x loc → AreBelow locations (many + 1) loc
 below-more locations many x loc so_far at_x below k v l at_v =
     elim (cases_eq k many) [
       | inl same ↦
@@ -81,12 +83,14 @@ below-more locations many x loc so_far at_x below k v l at_v =
     ]
 
 -- those below a location are below the next one of a list that rises
-pub below-next : (left right : List Loc) (many i : ℕ) (x y : Loc) → Rises left → slice_get left i ≡ Some x → slice_get left (i + 1) ≡ Some y → AreBelow right many x → AreBelow right many y
+pub below-next : (left right : List Loc) (many i : ℕ) (x y : Loc) → Rises left → slice_get left i ≡ Some x → slice_get left (i + 1) ≡ Some y
+    → AreBelow right many x → AreBelow right many y
 below-next left right many i x y rises at_x at_y below k v l at_v =
     below-then v x y (below k v l at_v) (rises i (i + 1) x y (omega arith) (slice_get_within left (i + 1) y at_y) at_x at_y)
 
 -- a location that stands neither before the place nor there does not stand in a list that rises
-pub stands-nowhere : (right : List Loc) (place : ℕ) (x : Loc) → Rises right → AreBelow right place x → IsNotBelow right place x → (slice_get right place ≡ Some x → ⊥) → ¬ Contains right x
+pub stands-nowhere : (right : List Loc) (place : ℕ) (x : Loc) → Rises right → AreBelow right place x → IsNotBelow right place x
+    → (slice_get right place ≡ Some x → ⊥) → ¬ Contains right x
 stands-nowhere right place x rises below above apart found =
     elim (cases_lt found.0 place) [
       | inl l ↦ below-other x (below found.0 x l there)
@@ -107,7 +111,8 @@ stands-nowhere right place x rises below above apart found =
 abbrev pub StandNowhere : (left right : List Loc) → ℕ → Type 0
 StandNowhere left right many = (j : ℕ) (x : Loc) → j < many → slice_get left j ≡ Some x → ¬ Contains right x
 
-pub nowhere-more : (left right : List Loc) (many : ℕ) (x : Loc) → StandNowhere left right many → slice_get left many ≡ Some x → ¬ Contains right x → StandNowhere left right (many + 1)
+pub nowhere-more : (left right : List Loc) (many : ℕ) (x : Loc) → StandNowhere left right many → slice_get left many ≡ Some x
+    → ¬ Contains right x → StandNowhere left right (many + 1)
 nowhere-more left right many x so_far at_x none j v l at_v =
     elim (cases_eq j many) [
       | inl same ↦

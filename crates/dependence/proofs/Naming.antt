@@ -1,4 +1,6 @@
--- The record cells that actions name, and the locks over them.
+-- The record cells that actions name, and the locks over them. Naming only adds cells (Sub), so that what some actions
+-- name is named by all of them. Where each action names only cells that pass a test, so does what all of them name
+-- (Pass). Locations in footprints are maps of these lists, and a member of a map comes from a member.
 use Rattle.std.proofs.Common.{◌≡◌, ◌⊎◌, inl, inr, ℕ, zero, suc, Bool, true, false, cond, List, [], ◌∷◌, ◌++◌, map, Option, Some, None, refl, sym, ap, subst, ◌∙◌, nat_eq, nat_lt, ◌||◌, Contains, slice_get, get_or, length, ◌<◌, arith}
 use Rattle.std.proofs.lemmas.Bool.{or_left, or_right, or_cases, eqb-true, eq-eqb, false≢true}
 use Rattle.std.proofs.lemmas.List.Elements.{Contains-append_left, Contains-append_right}
@@ -39,7 +41,11 @@ cell-kept c x (d ∷ cells) e = go (nat_lt c d) (nat_eq c d) (cell-kept c x cell
         → is_member x (cond less (c ∷ d ∷ cells) (cond same (d ∷ cells) (d ∷ with_cell c cells))) ≡ true
     go true same ih = or_right (nat_eq x c) _ e
     go false true ih = e
-    go false false ih = elim (or_cases (nat_eq x d) (is_member x cells) e) [ inl this ↦ or_left (nat_eq x d) _ this | inr other ↦ or_right (nat_eq x d) _ (ih other) ]
+    go false false ih =
+        elim (or_cases (nat_eq x d) (is_member x cells) e) [
+          | inl this ↦ or_left (nat_eq x d) _ this
+          | inr other ↦ or_right (nat_eq x d) _ (ih other)
+        ]
 
 pub cell-cases : (c x : ℕ) (cells : List ℕ) → is_member x (with_cell c cells) ≡ true → (x ≡ c) ⊎ (is_member x cells ≡ true)
 cell-cases c x [] e = elim (or_cases (nat_eq x c) false e) [ inl this ↦ inl (eqb-true x c this) | inr other ↦ absurd (false≢true other) ]
@@ -47,7 +53,8 @@ cell-cases c x (d ∷ cells) e = go (nat_lt c d) (nat_eq c d) e (cell-cases c x 
   where
     go : (less same : Bool) → is_member x (cond less (c ∷ d ∷ cells) (cond same (d ∷ cells) (d ∷ with_cell c cells))) ≡ true
         → (is_member x (with_cell c cells) ≡ true → (x ≡ c) ⊎ (is_member x cells ≡ true)) → (x ≡ c) ⊎ (is_member x (d ∷ cells) ≡ true)
-    go true same f ih = elim (or_cases (nat_eq x c) (is_member x (d ∷ cells)) f) [ inl this ↦ inl (eqb-true x c this) | inr other ↦ inr other ]
+    go true same f ih =
+        elim (or_cases (nat_eq x c) (is_member x (d ∷ cells)) f) [ inl this ↦ inl (eqb-true x c this) | inr other ↦ inr other ]
     go false true f ih = inr f
     go false false f ih =
         elim (or_cases (nat_eq x d) (is_member x (with_cell c cells)) f) [
@@ -135,7 +142,8 @@ module _ (test : ℕ → Bool) where
   all-writes (a ∷ actions) n pass = (writes-so a n (pass_less (all-adds actions (naming a n)) pass), all-writes actions (naming a n) pass)
 
 -- the actions name the cells that they name
-pub names-named : (actions : List Action) → AllName (λ x. is_member x (named_by actions).reads || is_member x (named_by actions).writes) actions
+pub names-named : (actions : List Action)
+    → AllName (λ x. is_member x (named_by actions).reads || is_member x (named_by actions).writes) actions
 names-named actions =
     all-so (λ x. is_member x (named_by actions).reads || is_member x (named_by actions).writes) actions (record { reads = []; writes = [] })
     (record {
@@ -144,12 +152,15 @@ names-named actions =
     })
 
 pub writes-named : (actions : List Action) → AllWrite (λ x. is_member x (named_by actions).writes) actions
-writes-named actions = all-writes (λ x. is_member x (named_by actions).writes) actions (record { reads = []; writes = [] }) (record { read = λ x e. refl; written = λ x e. e })
+writes-named actions =
+    all-writes (λ x. is_member x (named_by actions).writes) actions (record { reads = []; writes = [] })
+    (record { read = λ x e. refl; written = λ x e. e })
 
 -- ---- where actions name only cells that pass, what is named passes
 
 module _ (test : ℕ → Bool) where
-  with-passing : (c x : ℕ) (cells : List ℕ) → test c ≡ true → (is_member x cells ≡ true → test x ≡ true) → is_member x (with_cell c cells) ≡ true → test x ≡ true
+  with-passing : (c x : ℕ) (cells : List ℕ) → test c ≡ true → (is_member x cells ≡ true → test x ≡ true)
+      → is_member x (with_cell c cells) ≡ true → test x ≡ true
   with-passing c x cells passes old e = elim (cell-cases c x cells e) [ inl same ↦ ap test same ∙ passes | inr before ↦ old before ]
 
   mutual
@@ -173,7 +184,8 @@ module _ (test : ℕ → Bool) where
 
   pub named-passes : (actions : List Action) → AllName test actions → Pass test test (named_by actions)
   named-passes actions names =
-      all-passes actions (record { reads = []; writes = [] }) names (record { read = λ x e. absurd (false≢true e); written = λ x e. absurd (false≢true e) })
+      all-passes actions (record { reads = []; writes = [] }) names
+      (record { read = λ x e. absurd (false≢true e); written = λ x e. absurd (false≢true e) })
 
 -- ---- locations in footprints
 
@@ -181,7 +193,8 @@ module _ (test : ℕ → Bool) where
 pub from-map : (cells : List ℕ) (l : Loc) → Contains (map loc.Rec cells) l → (c : ℕ) × (l ≡ loc.Rec c) × (is_member c cells ≡ true)
 from-map cells l h = go cells h.0 h.1 h.2
   where
-    go : (xs : List ℕ) (k : ℕ) → k < length (map loc.Rec xs) → get_or (map loc.Rec xs) k l ≡ l → (c : ℕ) × (l ≡ loc.Rec c) × (is_member c xs ≡ true)
+    go : (xs : List ℕ) (k : ℕ) → k < length (map loc.Rec xs) → get_or (map loc.Rec xs) k l ≡ l
+        → (c : ℕ) × (l ≡ loc.Rec c) × (is_member c xs ≡ true)
     go [] k less e = absurd (omega arith)
     go (x ∷ xs) zero less e = (x, sym e, or_left (nat_eq x x) _ (eq-eqb x x refl))
     go (x ∷ xs) (suc k) less e = let rest = go xs k (omega arith) e in (rest.0, rest.1, or_right (nat_eq rest.0 x) _ rest.2)
@@ -190,6 +203,7 @@ pub to-map : (cells : List ℕ) (c : ℕ) → is_member c cells ≡ true → Con
 to-map [] c e = absurd (false≢true e)
 to-map (x ∷ xs) c e =
     elim (or_cases (nat_eq c x) (is_member c xs) e) [
-      | inl this ↦ subst (λ y. Contains (map loc.Rec (x ∷ xs)) (loc.Rec y)) (sym (eqb-true c x this)) (Contains-head (loc.Rec x) (map loc.Rec xs))
+      | inl this ↦
+          subst (λ y. Contains (map loc.Rec (x ∷ xs)) (loc.Rec y)) (sym (eqb-true c x this)) (Contains-head (loc.Rec x) (map loc.Rec xs))
       | inr other ↦ Contains-later (loc.Rec x) (map loc.Rec xs) (loc.Rec c) (to-map xs c other)
     ]

@@ -1,4 +1,7 @@
--- Posting by locks: what is posted so may be posted, and what is out stays ready.
+-- Posting by locks: what is posted so may be posted, and what is out stays ready. Where each conflict of the run is one
+-- by locks too (IsWithin), a post that waits by locks has waited for all that it must. A run is so, since a record cell
+-- that two subthreads touch stands under one lock, which both hold, and registers stand in both footprints. With a
+-- subthread that holds no lock only registers are in common.
 use Rattle.std.proofs.Common.{◌≡◌, ◌⊎◌, inl, inr, ℕ, zero, suc, ◌<◌, Bool, true, false, cond, List, [], ◌∷◌, ◌++◌, length, get_or, map, Contains, Option, Some, None, refl, sym, ap, subst, ◌∙◌, arith, nat_eq, ◌&&◌, ◌||◌, slice_get, ◌+◌}
 use Rattle.std.proofs.lemmas.Bool.{both_ways, or_right}
 use Rattle.std.proofs.lemmas.List.Elements.{Contains-push_cases, Contains-append_left}
@@ -33,8 +36,10 @@ post-by-locks dependence locks at p attempt within may =
       ready = λ earlier less clash. may.ready earlier less (within earlier p clash);
     }
 
-module _ (dependence : Dependence) (locks : ℕ → ℕ → Bool) (faults : List Fault) (at : Stage) (redoes_all : RedoesConflicts dependence) (stands : StageStands dependence faults at) (was : OutReady locks at) where
-  post-ready : (p attempt : ℕ) → MayPost (by_locks locks dependence) at p attempt → OutReady locks (happens dependence faults at (event.Post p attempt))
+module _ (dependence : Dependence) (locks : ℕ → ℕ → Bool) (faults : List Fault) (at : Stage) (redoes_all : RedoesConflicts dependence)
+    (stands : StageStands dependence faults at) (was : OutReady locks at) where
+  post-ready : (p attempt : ℕ) → MayPost (by_locks locks dependence) at p attempt
+      → OutReady locks (happens dependence faults at (event.Post p attempt))
   post-ready p attempt may q a r out less clash =
       elim (Contains-push_cases at.posted (p, attempt) (q, a) out.posted) [
         | inl old ↦ was q a r (record { posted = old; untaken = out.untaken; present = out.present }) less clash
@@ -44,9 +49,14 @@ module _ (dependence : Dependence) (locks : ℕ → ℕ → Bool) (faults : List
   take-ready : (p attempt : ℕ) (applies : Bool) → OutReady locks (happens dependence faults at (event.Take p attempt applies))
   take-ready p attempt applies q a r out less clash =
       or_right (applies && nat_eq r p) (at.applied r)
-      (was q a r (record { posted = out.posted; untaken = λ h. out.untaken (Contains-append_left at.taken ((p, attempt) ∷ []) (q, a) h); present = out.present }) less clash)
+      (was q a r (record {
+        posted = out.posted;
+        untaken = λ h. out.untaken (Contains-append_left at.taken ((p, attempt) ∷ []) (q, a) h);
+        present = out.present;
+      }) less clash)
 
-  restart-ready : (o : Option ℕ) → ((p attempt q : ℕ) → IsOut at p attempt → q < p → locks q p ≡ true → dependence.clash q p ≡ true) → OutReady locks (restarted dependence at o)
+  restart-ready : (o : Option ℕ) → ((p attempt q : ℕ) → IsOut at p attempt → q < p → locks q p ≡ true → dependence.clash q p ≡ true)
+      → OutReady locks (restarted dependence at o)
   restart-ready None home q a r out less clash = was q a r out less clash
   restart-ready (Some p) home q a r out less clash = go (is_redone q) refl
     where
@@ -71,15 +81,19 @@ module _ (dependence : Dependence) (locks : ℕ → ℕ → Bool) (faults : List
 
           still : (b : Bool) → is_redone r ≡ b → cond b false (at.applied r) ≡ true
           still true g = absurd (both_ways (is_redone q) f ((is_member-is q (dependence.redo p at.progress.front)).1
-              (redoes_all.closed p at.progress.front r q ((is_member-is r (dependence.redo p at.progress.front)).0 g) less (stands.posted_low q a out.posted).0 (home q a r old less clash))))
+              (redoes_all.closed p at.progress.front r q ((is_member-is r (dependence.redo p at.progress.front)).0 g) less
+              (stands.posted_low q a out.posted).0 (home q a r old less clash))))
           still false g = was q a r old less clash
 
   happens-ready : (e : Event) → KeepsReady locks dependence at e → OutReady locks (happens dependence faults at e)
-  happens-ready (event.Issue p) keeps q a r out less clash = was q a r (record { posted = out.posted; untaken = out.untaken; present = out.present }) less clash
+  happens-ready (event.Issue p) keeps q a r out less clash =
+      was q a r (record { posted = out.posted; untaken = out.untaken; present = out.present }) less clash
   happens-ready (event.Post p attempt) keeps q a r out less clash = post-ready p attempt keeps q a r out less clash
   happens-ready (event.Take p attempt applies) keeps q a r out less clash = take-ready p attempt applies q a r out less clash
-  happens-ready (event.Restart number) keeps q a r out less clash = restart-ready (struck_next dependence faults at.progress) keeps q a r out less clash
-  happens-ready (event.Retire p) keeps q a r out less clash = was q a r (record { posted = out.posted; untaken = out.untaken; present = out.present }) less clash
+  happens-ready (event.Restart number) keeps q a r out less clash =
+      restart-ready (struck_next dependence faults at.progress) keeps q a r out less clash
+  happens-ready (event.Retire p) keeps q a r out less clash =
+      was q a r (record { posted = out.posted; untaken = out.untaken; present = out.present }) less clash
 
 pub out-ready : OutReadyLaw
 out-ready dependence locks faults at e redoes stands allowed keeps was = happens-ready dependence locks faults at redoes stands was e keeps
@@ -111,7 +125,8 @@ has-registers s =
     record {
       reads = λ t h. Contains-append_left (joined_registers s.begins.sync) (map loc.Rec (named_by s.actions).reads) (loc.Regs t) h;
       writes = λ t h. elim (split-append (loc.Regs s.thread ∷ child_registers s.child) (map loc.Lock s.held) (loc.Regs t) h) [
-        | inl left ↦ Contains-append_left (loc.Regs s.thread ∷ child_registers s.child) (map loc.Rec (named_by s.actions).writes) (loc.Regs t) left
+        | inl left ↦
+            Contains-append_left (loc.Regs s.thread ∷ child_registers s.child) (map loc.Rec (named_by s.actions).writes) (loc.Regs t) left
         | inr right ↦ absurd (no_register s.held t right)
       ];
     }
@@ -135,26 +150,34 @@ no-locks s none =
       ];
     }
 
-run-no-locks : (run : List Subthread) (p : ℕ) (s : Subthread) → slice_get run p ≡ Some s → s.held ≡ [] → OnlyRegisters (foot_at (lock_feet_of run) p)
+run-no-locks : (run : List Subthread) (p : ℕ) (s : Subthread) → slice_get run p ≡ Some s → s.held ≡ []
+    → OnlyRegisters (foot_at (lock_feet_of run) p)
 run-no-locks [] p s is none = absurd (let e : None ≡ Some s = is in cc e)
-run-no-locks (r ∷ rest) zero s is none = no-locks r (let e : ◌≡◌ {A = Option Subthread} (Some r) (Some s) = is in let same : r ≡ s = cc e in ap (λ s. s.held) same ∙ none)
+run-no-locks (r ∷ rest) zero s is none =
+    no-locks r (let e : ◌≡◌ {A = Option Subthread} (Some r) (Some s) = is in let same : r ≡ s = cc e in ap (λ s. s.held) same ∙ none)
 run-no-locks (r ∷ rest) (suc p) s is none = run-no-locks rest p s is none
 
 -- a location of both is a register, and stands in both footprints
-shared-register : (first second firsts seconds : List Loc) → AreRegisters second → ((t : ℕ) → Contains first (loc.Regs t) → Contains firsts (loc.Regs t))
+shared-register : (first second firsts seconds : List Loc) → AreRegisters second
+    → ((t : ℕ) → Contains first (loc.Regs t) → Contains firsts (loc.Regs t))
     → ((t : ℕ) → Contains second (loc.Regs t) → Contains seconds (loc.Regs t)) → Shared first second → Shared firsts seconds
 shared-register first second firsts seconds are left right c =
     let is = are c.0 c.2 in
     (loc.Regs is.0, left is.0 (subst (Contains first) is.1 c.1), right is.0 (subst (Contains second) is.1 c.2))
 
-conflict-without-locks : (foot other locks others : Footprint) → HasRegisters foot locks → HasRegisters other others → OnlyRegisters others → Conflict locks others → Conflict foot other
-conflict-without-locks foot other locks others a b only (inl c) = inl (shared-register locks.writes others.writes foot.writes other.writes only.writes a.writes b.writes c)
-conflict-without-locks foot other locks others a b only (inr (inl c)) = inr (inl (shared-register locks.writes others.reads foot.writes other.reads only.reads a.writes b.reads c))
-conflict-without-locks foot other locks others a b only (inr (inr c)) = inr (inr (shared-register locks.reads others.writes foot.reads other.writes only.writes a.reads b.writes c))
+conflict-without-locks : (foot other locks others : Footprint) → HasRegisters foot locks → HasRegisters other others → OnlyRegisters others
+    → Conflict locks others → Conflict foot other
+conflict-without-locks foot other locks others a b only (inl c) =
+    inl (shared-register locks.writes others.writes foot.writes other.writes only.writes a.writes b.writes c)
+conflict-without-locks foot other locks others a b only (inr (inl c)) =
+    inr (inl (shared-register locks.writes others.reads foot.writes other.reads only.reads a.writes b.reads c))
+conflict-without-locks foot other locks others a b only (inr (inr c)) =
+    inr (inr (shared-register locks.reads others.writes foot.reads other.writes only.writes a.reads b.writes c))
 
 pub no-locks-clash : NoLocksLaw
 no-locks-clash run p q s is none clash =
     (conflicting-is (foot_at (feet_of run) q) (foot_at (feet_of run) p)).1
-    (conflict-without-locks (foot_at (feet_of run) q) (foot_at (feet_of run) p) (foot_at (lock_feet_of run) q) (foot_at (lock_feet_of run) p)
+    (conflict-without-locks (foot_at (feet_of run) q) (foot_at (feet_of run) p) (foot_at (lock_feet_of run) q)
+    (foot_at (lock_feet_of run) p)
     (run-registers run q) (run-registers run p) (run-no-locks run p s is none)
     ((conflicting-is (foot_at (lock_feet_of run) q) (foot_at (lock_feet_of run) p)).0 clash))

@@ -1,4 +1,6 @@
--- What stands after a lawful journal, from any stage at which it stands.
+-- What stands after a lawful journal, from any stage at which it stands. There is one lemma for each kind of event that
+-- is allowed, and a premise for restarts: none redoes what has retired. For a run that premise holds, since no fault of
+-- what has retired is live, and a restart redoes nothing earlier than what is struck.
 use Rattle.std.proofs.Common.{◌≡◌, inl, inr, ℕ, ◌+◌, ◌<◌, ◌≤◌, Bool, true, false, cond, List, [], ◌∷◌, ◌++◌, Contains, Option, Some, None, refl, sym, ap, subst, ◌∙◌, arith, nat_eq, nat_lt, nat_le, ◌&&◌, ◌||◌}
 use Rattle.std.proofs.lemmas.Bool.{false≢true, false_from_ne_true, both_ways, eqb-true, eq-eqb, ne_eqb, ltb-true, le-leb, and_parts, and_from, or_right, cases_eq}
 use Rattle.std.proofs.lemmas.List.Elements.{All-contains, Contains-push_cases, Contains-push, Contains-append_left}
@@ -18,7 +20,8 @@ use Rattle.dependence.proofs.RestartEnds.{attempt-push}
 use Rattle.dependence.proofs.Struck.{none-among, none-left, struck-live, names-live}
 
 module _ (dependence : Dependence) (redoes_all : RedoesConflicts dependence) (faults : List Fault) (short : AreShort faults) where
-  issue-stands : (at : Stage) (p : ℕ) → StageStands dependence faults at → Allowed dependence faults at (event.Issue p) → StageStands dependence faults (happens dependence faults at (event.Issue p))
+  issue-stands : (at : Stage) (p : ℕ) → StageStands dependence faults at → Allowed dependence faults at (event.Issue p)
+      → StageStands dependence faults (happens dependence faults at (event.Issue p))
   issue-stands at p stands allowed =
       record {
         front_low = (let a = allowed.next in let b = allowed.left in omega arith);
@@ -33,14 +36,17 @@ module _ (dependence : Dependence) (redoes_all : RedoesConflicts dependence) (fa
         retired_clean = stands.retired_clean;
       }
 
-  post-stands : (at : Stage) (p attempt : ℕ) → StageStands dependence faults at → Allowed dependence faults at (event.Post p attempt) → StageStands dependence faults (happens dependence faults at (event.Post p attempt))
+  post-stands : (at : Stage) (p attempt : ℕ) → StageStands dependence faults at → Allowed dependence faults at (event.Post p attempt)
+      → StageStands dependence faults (happens dependence faults at (event.Post p attempt))
   post-stands at p attempt stands allowed =
       record {
         front_low = stands.front_low;
         retired_low = stands.retired_low;
         posted_low = λ q a h. elim (Contains-push_cases at.posted (p, attempt) (q, a) h) [
           | inl old ↦ stands.posted_low q a old
-          | inr new ↦ (let e : p ≡ q = ap (λ x. x.0) new in let f : attempt ≡ a = ap (λ x. x.1) new in let l = allowed.issued in let g = allowed.present in let k = ap (present at) e in (omega arith, omega arith))
+          | inr new ↦
+              (let e : p ≡ q = ap (λ x. x.0) new in let f : attempt ≡ a = ap (λ x. x.1) new in let l = allowed.issued in
+              let g = allowed.present in let k = ap (present at) e in (omega arith, omega arith))
         ];
         taken_posted = λ q a h. Contains-append_left at.posted ((p, attempt) ∷ []) (q, a) (stands.taken_posted q a h);
         applied_posted = λ q low e. Contains-append_left at.posted ((p, attempt) ∷ []) (q, present at q) (stands.applied_posted q low e);
@@ -58,7 +64,9 @@ module _ (dependence : Dependence) (redoes_all : RedoesConflicts dependence) (fa
         retired_clean = stands.retired_clean;
       }
 
-  take-stands : (at : Stage) (p attempt : ℕ) (applies : Bool) → StageStands dependence faults at → Allowed dependence faults at (event.Take p attempt applies) → StageStands dependence faults (happens dependence faults at (event.Take p attempt applies))
+  take-stands : (at : Stage) (p attempt : ℕ) (applies : Bool) → StageStands dependence faults at
+      → Allowed dependence faults at (event.Take p attempt applies)
+      → StageStands dependence faults (happens dependence faults at (event.Take p attempt applies))
   take-stands at p attempt applies stands allowed =
       record {
         front_low = stands.front_low;
@@ -73,7 +81,9 @@ module _ (dependence : Dependence) (redoes_all : RedoesConflicts dependence) (fa
         taken_applied = λ q h. elim (Contains-push_cases at.taken (p, attempt) (q, present at q) h) [
           | inl old ↦ still q (stands.taken_applied q old)
           | inr new ↦ (let e : p ≡ q = ap (λ x. x.0) new in let f : attempt ≡ present at q = ap (λ x. x.1) new in
-              let b : (applies && nat_eq q p) ≡ true = and_from applies (nat_eq q p) (allowed.decided ∙ eq-eqb attempt (present at p) (f ∙ ap (present at) (sym e))) (eq-eqb q p (sym e)) in
+              let b : (applies && nat_eq q p) ≡ true =
+              and_from applies (nat_eq q p) (allowed.decided
+              ∙ eq-eqb attempt (present at p) (f ∙ ap (present at) (sym e))) (eq-eqb q p (sym e)) in
               rw b refl)
         ];
         ready = λ q r h l c. still r (stands.ready q r h l c);
@@ -92,7 +102,8 @@ module _ (dependence : Dependence) (redoes_all : RedoesConflicts dependence) (fa
           let f : attempt ≡ present at q = eqb-true attempt (present at p) (sym allowed.decided ∙ parts.0) ∙ ap (present at) same in
           λ i. (same i, f i)
 
-      applied_posted : (q : ℕ) → at.retired ≤ q → (b : Bool) → (applies && nat_eq q p) ≡ b → (b || at.applied q) ≡ true → Contains at.posted (q, present at q)
+      applied_posted : (q : ℕ) → at.retired ≤ q → (b : Bool) → (applies && nat_eq q p) ≡ b → (b || at.applied q) ≡ true
+          → Contains at.posted (q, present at q)
       applied_posted q low true b e = subst (Contains at.posted) (here q b) allowed.posted
       applied_posted q low false b e = stands.applied_posted q low e
 
@@ -101,7 +112,8 @@ module _ (dependence : Dependence) (redoes_all : RedoesConflicts dependence) (fa
       applied_taken q true b e h = subst (Contains (at.taken ++ (p, attempt) ∷ [])) (here q b) (Contains-push at.taken (p, attempt))
       applied_taken q false b e h = Contains-append_left at.taken ((p, attempt) ∷ []) (q, present at q) (stands.applied_taken q e h)
 
-  restart-stands : (at : Stage) (o : Option ℕ) → struck_next dependence faults at.progress ≡ o → KeepsRetired dependence faults at → StageStands dependence faults at → StageStands dependence faults (restarted dependence at o)
+  restart-stands : (at : Stage) (o : Option ℕ) → struck_next dependence faults at.progress ≡ o → KeepsRetired dependence faults at
+      → StageStands dependence faults at → StageStands dependence faults (restarted dependence at o)
   restart-stands at None e keeps stands = stands
   restart-stands at (Some p) e keeps stands =
       record {
@@ -138,11 +150,13 @@ module _ (dependence : Dependence) (redoes_all : RedoesConflicts dependence) (fa
       late : (q : ℕ) → q < at.retired → is_redone q ≡ false
       late q l = false_from_ne_true (is_redone q) (λ t. keeps p q e l ((is_member-is q (dependence.redo p at.progress.front)).0 t))
 
-      applied_posted : (q : ℕ) → at.retired ≤ q → (b : Bool) → is_redone q ≡ b → cond b false (at.applied q) ≡ true → Contains at.posted (q, later q)
+      applied_posted : (q : ℕ) → at.retired ≤ q → (b : Bool) → is_redone q ≡ b → cond b false (at.applied q) ≡ true
+          → Contains at.posted (q, later q)
       applied_posted q low true f g = absurd (false≢true g)
       applied_posted q low false f g = rw (kept q f) (stands.applied_posted q low g)
 
-      applied_taken : (q : ℕ) → (b : Bool) → is_redone q ≡ b → cond b false (at.applied q) ≡ true → Contains at.posted (q, later q) → Contains at.taken (q, later q)
+      applied_taken : (q : ℕ) → (b : Bool) → is_redone q ≡ b → cond b false (at.applied q) ≡ true → Contains at.posted (q, later q)
+          → Contains at.taken (q, later q)
       applied_taken q true f g h = absurd (false≢true g)
       applied_taken q false f g h = rw (kept q f) (stands.applied_taken q g (subst (λ a. Contains at.posted (q, a)) (kept q f) h))
 
@@ -150,7 +164,8 @@ module _ (dependence : Dependence) (redoes_all : RedoesConflicts dependence) (fa
       taken_applied q true f h = absurd (not_posted q f (stands.taken_posted q (later q) h))
       taken_applied q false f h = stands.taken_applied q (subst (λ a. Contains at.taken (q, a)) (kept q f) h)
 
-      ready : (q r : ℕ) → (b : Bool) → is_redone q ≡ b → Contains at.posted (q, later q) → r < q → dependence.clash r q ≡ true → cond (is_redone r) false (at.applied r) ≡ true
+      ready : (q r : ℕ) → (b : Bool) → is_redone q ≡ b → Contains at.posted (q, later q) → r < q → dependence.clash r q ≡ true
+          → cond (is_redone r) false (at.applied r) ≡ true
       ready q r true f h l c = absurd (not_posted q f h)
       ready q r false f h l c = go (is_redone r) refl
         where
@@ -159,10 +174,12 @@ module _ (dependence : Dependence) (redoes_all : RedoesConflicts dependence) (fa
 
           go : (b : Bool) → is_redone r ≡ b → cond b false (at.applied r) ≡ true
           go true g = absurd (both_ways (is_redone q) f ((is_member-is q (dependence.redo p at.progress.front)).1
-              (redoes_all.closed p at.progress.front r q ((is_member-is r (dependence.redo p at.progress.front)).0 g) l (stands.posted_low q (present at q) old).0 c)))
+              (redoes_all.closed p at.progress.front r q ((is_member-is r (dependence.redo p at.progress.front)).0 g) l
+              (stands.posted_low q (present at q) old).0 c)))
           go false g = stands.ready q r old l c
 
-  retire-stands : (at : Stage) (p : ℕ) → StageStands dependence faults at → Allowed dependence faults at (event.Retire p) → StageStands dependence faults (happens dependence faults at (event.Retire p))
+  retire-stands : (at : Stage) (p : ℕ) → StageStands dependence faults at → Allowed dependence faults at (event.Retire p)
+      → StageStands dependence faults (happens dependence faults at (event.Retire p))
   retire-stands at p stands allowed =
       record {
         front_low = stands.front_low;
@@ -173,29 +190,46 @@ module _ (dependence : Dependence) (redoes_all : RedoesConflicts dependence) (fa
         applied_taken = stands.applied_taken;
         taken_applied = stands.taken_applied;
         ready = stands.ready;
-        retired_applied = λ q l. elim (cases_eq q p) [ inl e ↦ ap at.applied e ∙ allowed.applied | inr ne ↦ (let a = allowed.oldest in stands.retired_applied q (omega arith)) ];
-        retired_clean = λ q l n. elim (cases_eq q p) [ inl e ↦ clean (subst (λ x. NamesAttempt faults x (present at x)) e n) | inr ne ↦ (let a = allowed.oldest in stands.retired_clean q (omega arith) n) ];
+        retired_applied =
+            λ q l. elim (cases_eq q p) [
+              | inl e ↦ ap at.applied e
+                  ∙ allowed.applied
+              | inr ne ↦ (let a = allowed.oldest in stands.retired_applied q (omega arith))
+            ];
+        retired_clean =
+            λ q l n. elim (cases_eq q p) [
+              | inl e ↦ clean (subst (λ x. NamesAttempt faults x (present at x)) e n)
+              | inr ne ↦ (let a = allowed.oldest in stands.retired_clean q (omega arith) n)
+            ];
       }
     where
       clean : NamesAttempt faults p (present at p) → ⊥
       clean n =
           elim allowed.safe [
             | inl long ↦ both_ways (is_due at.progress n.0) (none-among (is_due at.progress) faults n.0 allowed.none_due n.1)
-                (and_from (is_live at.progress n.0) (nat_le (begun_of at.progress.made (n.0).pos + (n.0).delay) at.progress.front) (names-live faults at.progress p allowed.issued n)
-                (let s = All-contains (λ (fault : Fault). fault.delay ≤ LONGEST_DELAY) faults n.0 short n.1 in let g = ap (begun_of at.progress.made) n.2 in le-leb _ _ (omega arith)))
-            | inr drained ↦ both_ways (is_live at.progress n.0) (none-among (is_live at.progress) faults n.0 drained.1 n.1) (names-live faults at.progress p allowed.issued n)
+                (and_from (is_live at.progress n.0) (nat_le (begun_of at.progress.made (n.0).pos + (n.0).delay) at.progress.front)
+                (names-live faults at.progress p allowed.issued n)
+                (let s = All-contains (λ (fault : Fault). fault.delay ≤ LONGEST_DELAY) faults n.0 short n.1 in
+                let g = ap (begun_of at.progress.made) n.2 in le-leb _ _ (omega arith)))
+            | inr drained ↦
+                both_ways (is_live at.progress n.0) (none-among (is_live at.progress) faults n.0 drained.1 n.1)
+                (names-live faults at.progress p allowed.issued n)
           ]
 
-  pub happens-stands : (at : Stage) (event : Event) → KeepsRetired dependence faults at → StageStands dependence faults at → Allowed dependence faults at event → StageStands dependence faults (happens dependence faults at event)
+  pub happens-stands : (at : Stage) (event : Event) → KeepsRetired dependence faults at → StageStands dependence faults at
+      → Allowed dependence faults at event → StageStands dependence faults (happens dependence faults at event)
   happens-stands at (event.Issue p) keeps stands allowed = issue-stands at p stands allowed
   happens-stands at (event.Post p attempt) keeps stands allowed = post-stands at p attempt stands allowed
   happens-stands at (event.Take p attempt applies) keeps stands allowed = take-stands at p attempt applies stands allowed
-  happens-stands at (event.Restart number) keeps stands allowed = restart-stands at (struck_next dependence faults at.progress) refl keeps stands
+  happens-stands at (event.Restart number) keeps stands allowed =
+      restart-stands at (struck_next dependence faults at.progress) refl keeps stands
   happens-stands at (event.Retire p) keeps stands allowed = retire-stands at p stands allowed
 
   -- from any stage at which it stands, where no restart redoes what has retired
-  pub stands-from : ((other : Stage) → StageStands dependence faults other → KeepsRetired dependence faults other) → (at : Stage) (events : List Event)
-      → StageStands dependence faults at → LawfulFrom dependence faults at events → StageStands dependence faults (stage_from dependence faults at events)
+  pub stands-from : ((other : Stage) → StageStands dependence faults other → KeepsRetired dependence faults other)
+      → (at : Stage) (events : List Event)
+      → StageStands dependence faults at → LawfulFrom dependence faults at events
+      → StageStands dependence faults (stage_from dependence faults at events)
   stands-from keeps at [] stands lawful = stands
   stands-from keeps at (event ∷ rest) stands lawful =
       stands-from keeps (happens dependence faults at event) rest (happens-stands at event (keeps at stands) stands lawful.0) lawful.1
@@ -219,14 +253,17 @@ initial-stands dependence faults =
     none h = let l = h.1 in omega arith
 
 -- what has retired has no live fault, so that no restart from a live one on redoes it
-pub keeps-retired : (dependence : Dependence) (faults : List Fault) (at : Stage) → RedoesLater dependence → StageStands dependence faults at → KeepsRetired dependence faults at
+pub keeps-retired : (dependence : Dependence) (faults : List Fault) (at : Stage) → RedoesLater dependence → StageStands dependence faults at
+    → KeepsRetired dependence faults at
 keeps-retired dependence faults at later stands struck p e l redone =
     let low = later struck at.progress.front p redone in
     stands.retired_clean struck (omega arith) (struck-live dependence faults at.progress struck e).1
 
 -- where all that was issued has retired, no fault is live
-pub none-live : (dependence : Dependence) (faults : List Fault) (at : Stage) → StageStands dependence faults at → at.retired ≡ at.progress.front → NoneLive faults at.progress
-none-live dependence faults at stands all = none-left (is_live at.progress) faults (λ fault member. go fault member (is_live at.progress fault) refl)
+pub none-live : (dependence : Dependence) (faults : List Fault) (at : Stage) → StageStands dependence faults at
+    → at.retired ≡ at.progress.front → NoneLive faults at.progress
+none-live dependence faults at stands all =
+    none-left (is_live at.progress) faults (λ fault member. go fault member (is_live at.progress fault) refl)
   where
     go : (fault : Fault) → Contains faults fault → (b : Bool) → is_live at.progress fault ≡ b → b ≡ false
     go fault member false e = refl
@@ -236,9 +273,11 @@ none-live dependence faults at stands all = none-left (is_live at.progress) faul
         absurd (stands.retired_clean fault.pos (omega arith) (fault, member, refl, eqb-true _ _ l.1))
 
 -- nothing is struck where an issue is allowed
-pub issue-passes : (dependence : Dependence) (faults : List Fault) (at : Stage) (p : ℕ) → StageStands dependence faults at → Allowed dependence faults at (event.Issue p)
+pub issue-passes : (dependence : Dependence) (faults : List Fault) (at : Stage) (p : ℕ) → StageStands dependence faults at
+    → Allowed dependence faults at (event.Issue p)
     → struck_next dependence faults at.progress ≡ None
-issue-passes dependence faults at p stands allowed = rw (allowed.none_due, ne_eqb at.progress.front dependence.count apart) (go (dependence.settles at.progress.front) refl)
+issue-passes dependence faults at p stands allowed =
+    rw (allowed.none_due, ne_eqb at.progress.front dependence.count apart) (go (dependence.settles at.progress.front) refl)
   where
     apart : at.progress.front ≡ dependence.count → ⊥
     apart e = let same = allowed.next in let left = allowed.left in omega arith
@@ -258,7 +297,9 @@ module _ (run : List Subthread) where
   run-redoes =
       record {
         below = λ struck front p h. IsDependent-front Clash struck front ((dependents-are clash struck front p).0 h);
-        closed = λ struck front p q h l m c. (dependents-are clash struck front q).1 (IsDependent.later ((dependents-are clash struck front p).0 h) l m c);
+        closed =
+            λ struck front p q h l m c. (dependents-are clash struck front q).1
+            (IsDependent.later ((dependents-are clash struck front p).0 h) l m c);
       }
 
   pub run-later : RedoesLater (dependence_of run)
@@ -270,10 +311,16 @@ module _ (run : List Subthread) where
   -- a run keeps clean what has retired
   pub run-clean : (faults : List Fault) → AreShort faults → KeepsClean (dependence_of run) faults
   run-clean faults short =
-      record { struck = run-struck; conflicts = run-redoes; short = short; retired = λ at. keeps-retired (dependence_of run) faults at run-later }
+      record {
+        struck = run-struck;
+        conflicts = run-redoes;
+        short = short;
+        retired = λ at. keeps-retired (dependence_of run) faults at run-later;
+      }
 
   pub run-stands : (faults : List Fault) (events : List Event) → AreShort faults → Lawful (dependence_of run) faults events
       → StageStands (dependence_of run) faults (stage (dependence_of run) faults events)
   run-stands faults events short lawful =
-      stands-from (dependence_of run) run-redoes faults short (λ at. keeps-retired (dependence_of run) faults at run-later) initial_stage events
+      stands-from (dependence_of run) run-redoes faults short
+      (λ at. keeps-retired (dependence_of run) faults at run-later) initial_stage events
       (initial-stands (dependence_of run) faults) lawful

@@ -41,11 +41,13 @@ struck-by test (x ∷ xs) p e = go (test x) refl e (struck-by test xs)
     go false t f ih = deeper p (ih p f)
 
 -- where no position is struck, no fault passes
-none-struck : (test : Fault → Bool) (faults : List Fault) → least_struck test faults ≡ None → (k : ℕ) (d : Fault) → k < length faults → test (get_or faults k d) ≡ false
+none-struck : (test : Fault → Bool) (faults : List Fault) → least_struck test faults ≡ None → (k : ℕ) (d : Fault) → k < length faults
+    → test (get_or faults k d) ≡ false
 none-struck test [] e k d l = absurd (omega arith)
 none-struck test (x ∷ xs) e zero d l = go (test x) refl e
   where
-    go : (b : Bool) → test x ≡ b → cond b (Some (option_map_or (min x.pos) (least_struck test xs) x.pos)) (least_struck test xs) ≡ None → test x ≡ false
+    go : (b : Bool) → test x ≡ b → cond b (Some (option_map_or (min x.pos) (least_struck test xs) x.pos)) (least_struck test xs) ≡ None
+        → test x ≡ false
     go true t f = absurd (cc f)
     go false t f = t
 none-struck test (x ∷ xs) e (suc j) d l = go (test x) refl e (λ f. none-struck test xs f j d (omega arith))
@@ -55,11 +57,13 @@ none-struck test (x ∷ xs) e (suc j) d l = go (test x) refl e (λ f. none-struc
     go true t f ih = absurd (cc f)
     go false t f ih = ih f
 
-pub none-among : (test : Fault → Bool) (faults : List Fault) (fault : Fault) → least_struck test faults ≡ None → Contains faults fault → test fault ≡ false
+pub none-among : (test : Fault → Bool) (faults : List Fault) (fault : Fault) → least_struck test faults ≡ None → Contains faults fault
+    → test fault ≡ false
 none-among test faults fault e h = ap test (sym h.2) ∙ none-struck test faults e h.0 fault h.1
 
 -- where no fault passes, no position is struck
-pub none-left : (test : Fault → Bool) (faults : List Fault) → ((fault : Fault) → Contains faults fault → test fault ≡ false) → least_struck test faults ≡ None
+pub none-left : (test : Fault → Bool) (faults : List Fault) → ((fault : Fault) → Contains faults fault → test fault ≡ false)
+    → least_struck test faults ≡ None
 none-left test faults none = go (least_struck test faults) refl
   where
     go : (o : Option ℕ) → least_struck test faults ≡ o → o ≡ None
@@ -74,7 +78,8 @@ struck-live dependence faults at p e = go (least_struck (is_due at) faults) refl
     Live : Type 0
     Live = (p < at.front) × NamesAttempt faults p (attempt_of at.made p)
 
-    found : (test : Fault → Bool) → ((fault : Fault) → test fault ≡ true → is_live at fault ≡ true) → least_struck test faults ≡ Some p → Live
+    found : (test : Fault → Bool) → ((fault : Fault) → test fault ≡ true → is_live at fault ≡ true) → least_struck test faults ≡ Some p
+        → Live
     found test live f =
         let s = struck-by test faults p f in
         let l = and_parts (nat_lt (s.0).pos at.front) (nat_eq (s.0).attempt (attempt_of at.made (s.0).pos)) (live s.0 s.2) in
@@ -82,7 +87,8 @@ struck-live dependence faults at p e = go (least_struck (is_due at) faults) refl
         let same : (s.0).pos ≡ p = s.3 in
         (omega arith, (s.0, s.1, s.3, eqb-true _ _ l.1 ∙ ap (attempt_of at.made) s.3))
 
-    go : (o : Option ℕ) → least_struck (is_due at) faults ≡ o → option_or o (cond (drains dependence at.front) (least_struck (is_live at) faults) None) ≡ Some p → Live
+    go : (o : Option ℕ) → least_struck (is_due at) faults ≡ o
+        → option_or o (cond (drains dependence at.front) (least_struck (is_live at) faults) None) ≡ Some p → Live
     go (Some q) f g = found (is_due at) (λ fault d. (and_parts (is_live at fault) _ d).0) (f ∙ g)
     go None f g = at_drain (drains dependence at.front) g
       where
@@ -91,7 +97,9 @@ struck-live dependence faults at p e = go (least_struck (is_due at) faults) refl
         at_drain false h = absurd (cc h)
 
 -- a fault that names the present attempt of a position below the front is live
-pub names-live : (faults : List Fault) (at : Progress) (p : ℕ) → p < at.front → (n : NamesAttempt faults p (attempt_of at.made p)) → is_live at n.0 ≡ true
+pub names-live : (faults : List Fault) (at : Progress) (p : ℕ) → p < at.front → (n : NamesAttempt faults p (attempt_of at.made p))
+    → is_live at n.0 ≡ true
 names-live faults at p l n =
     let same : (n.0).pos ≡ p = n.2 in
-    and_from (nat_lt (n.0).pos at.front) (nat_eq (n.0).attempt (attempt_of at.made (n.0).pos)) (lt-ltb _ _ (omega arith)) (eq-eqb _ _ (n.3 ∙ ap (attempt_of at.made) (sym n.2)))
+    and_from (nat_lt (n.0).pos at.front) (nat_eq (n.0).attempt (attempt_of at.made (n.0).pos)) (lt-ltb _ _ (omega arith))
+    (eq-eqb _ _ (n.3 ∙ ap (attempt_of at.made) (sym n.2)))

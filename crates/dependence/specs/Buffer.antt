@@ -22,7 +22,8 @@ pub record Buffer : Type 0 where
 
 -- the state is the fold of the set; each of its positions from `low` on has its history and its lines, and the others have no history;
 -- with a position, the set has each earlier one in conflict with it
-pub record BufferStands (Clash : ℕ → ℕ → Type 0) (members : ℕ → Member) (opening : State) (set : ℕ → Bool) (low front : ℕ) (buffer : Buffer) : Type 0 where
+pub record BufferStands (Clash : ℕ → ℕ → Type 0) (members : ℕ → Member) (opening : State) (set : ℕ → Bool) (low front : ℕ)
+    (buffer : Buffer) : Type 0 where
   pub state_is : buffer.state ≡ fold members opening set front
   pub histories_are : (p : ℕ) → low ≤ p → set p ≡ true → buffer.histories p ≡ Some (history_in members opening set p)
   pub lines_are : (p : ℕ) → low ≤ p → set p ≡ true → buffer.lines p ≡ (done_in members opening set p).prints
@@ -70,37 +71,47 @@ buffer_without part front buffer =
 -- a position that is applied late leaves what it would have left in its place
 abbrev pub AppliedLaw : Type 0
 AppliedLaw =
-    (location : Place → Loc) (feet : ℕ → Footprint) (members : ℕ → Member) (opening : State) (set : ℕ → Bool) (low front : ℕ) (buffer : Buffer) (p : ℕ)
-    → KeepToFeet location feet members → BufferStands (InConflict feet) members opening set low front buffer → low ≤ p → MayApply (InConflict feet) set front p
-    → BufferStands (InConflict feet) members opening (with_position set p) low front (buffer_with p (done_by (members p) buffer.state) buffer)
+    (location : Place → Loc) (feet : ℕ → Footprint) (members : ℕ → Member) (opening : State) (set : ℕ → Bool) (low front : ℕ)
+    (buffer : Buffer) (p : ℕ)
+    → KeepToFeet location feet members → BufferStands (InConflict feet) members opening set low front buffer → low ≤ p
+    → MayApply (InConflict feet) set front p
+    → BufferStands (InConflict feet) members opening (with_position set p) low front
+    (buffer_with p (done_by (members p) buffer.state) buffer)
 
 -- what a position finds that is not in the set, at what it may touch, is what it finds in the fold below it
 abbrev pub FoundLaw : Type 0
 FoundLaw =
-    (location : Place → Loc) (feet : ℕ → Footprint) (members : ℕ → Member) (opening : State) (set : ℕ → Bool) (low front : ℕ) (buffer : Buffer) (p : ℕ)
+    (location : Place → Loc) (feet : ℕ → Footprint) (members : ℕ → Member) (opening : State) (set : ℕ → Bool) (low front : ℕ)
+    (buffer : Buffer) (p : ℕ)
     → KeepToFeet location feet members → BufferStands (InConflict feet) members opening set low front buffer → p < front → set p ≡ false
     → Agree (MayTouch location (feet p)) buffer.state (fold members opening set p)
 
 -- of two positions that may be applied, the one finds the same after the other
 abbrev pub ApartLaw : Type 0
 ApartLaw =
-    (location : Place → Loc) (feet : ℕ → Footprint) (members : ℕ → Member) (opening : State) (set : ℕ → Bool) (low front : ℕ) (buffer : Buffer) (p q : ℕ)
-    → KeepToFeet location feet members → BufferStands (InConflict feet) members opening set low front buffer → low ≤ p → MayApply (InConflict feet) set front p
+    (location : Place → Loc) (feet : ℕ → Footprint) (members : ℕ → Member) (opening : State) (set : ℕ → Bool) (low front : ℕ)
+    (buffer : Buffer) (p q : ℕ)
+    → KeepToFeet location feet members → BufferStands (InConflict feet) members opening set low front buffer → low ≤ p
+    → MayApply (InConflict feet) set front p
     → q ≢ p → MayApply (InConflict feet) set front q
     → Agree (MayTouch location (feet q)) (buffer_with p (done_by (members p) buffer.state) buffer).state buffer.state
 
 -- what is left after a part was undone stands as if that part had never been
 abbrev pub UndoneLaw : Type 0
 UndoneLaw =
-    (location : Place → Loc) (feet : ℕ → Footprint) (members : ℕ → Member) (opening : State) (set part : ℕ → Bool) (low front : ℕ) (buffer : Buffer)
-    → KeepToFeet location feet members → HasCells opening → BufferStands (InConflict feet) members opening set low front buffer → MayUndo (InConflict feet) low front part
+    (location : Place → Loc) (feet : ℕ → Footprint) (members : ℕ → Member) (opening : State) (set part : ℕ → Bool)
+    (low front : ℕ) (buffer : Buffer)
+    → KeepToFeet location feet members → HasCells opening → BufferStands (InConflict feet) members opening set low front buffer
+    → MayUndo (InConflict feet) low front part
     → BufferStands (InConflict feet) members opening (without set part) low front (buffer_without part front buffer)
 
 -- a position that is neither in the set nor in the part finds the same after the part was undone
 abbrev pub UntouchedLaw : Type 0
 UntouchedLaw =
-    (location : Place → Loc) (feet : ℕ → Footprint) (members : ℕ → Member) (opening : State) (set part : ℕ → Bool) (low front : ℕ) (buffer : Buffer) (p : ℕ)
-    → KeepToFeet location feet members → HasCells opening → BufferStands (InConflict feet) members opening set low front buffer → MayUndo (InConflict feet) low front part
+    (location : Place → Loc) (feet : ℕ → Footprint) (members : ℕ → Member) (opening : State) (set part : ℕ → Bool) (low front : ℕ)
+    (buffer : Buffer) (p : ℕ)
+    → KeepToFeet location feet members → HasCells opening → BufferStands (InConflict feet) members opening set low front buffer
+    → MayUndo (InConflict feet) low front part
     → p < front → set p ≡ false → part p ≡ false
     → Agree (MayTouch location (feet p)) (buffer_without part front buffer).state buffer.state
 
@@ -108,10 +119,12 @@ UntouchedLaw =
 abbrev pub MembersLaw : Type 0
 MembersLaw =
     (feet : ℕ → Footprint) (members others : ℕ → Member) (opening : State) (set : ℕ → Bool) (low front : ℕ) (buffer : Buffer)
-    → ((p : ℕ) → set p ≡ true → members p ≡ others p) → BufferStands (InConflict feet) members opening set low front buffer → BufferStands (InConflict feet) others opening set low front buffer
+    → ((p : ℕ) → set p ≡ true → members p ≡ others p) → BufferStands (InConflict feet) members opening set low front buffer
+    → BufferStands (InConflict feet) others opening set low front buffer
 
 -- one more position below the front
 abbrev pub OneMoreLaw : Type 0
 OneMoreLaw =
     (feet : ℕ → Footprint) (members : ℕ → Member) (opening : State) (set : ℕ → Bool) (low front : ℕ) (buffer : Buffer)
-    → BufferStands (InConflict feet) members opening set low front buffer → BufferStands (InConflict feet) members opening set low (front + 1) buffer
+    → BufferStands (InConflict feet) members opening set low front buffer
+    → BufferStands (InConflict feet) members opening set low (front + 1) buffer

@@ -68,7 +68,8 @@ RunsAgainLaw =
     (dependence : Dependence) (faults : List Fault) (events : List Event) (p attempt : ℕ)
     → Lawful dependence faults (events ++ event.Post p (suc attempt) ∷ [])
     → let made = (stage dependence faults events).progress.made in
-    (number : ℕ) × (restart : Restart) × (slice_get made number ≡ Some restart) × (redoes p restart ≡ true) × (attempt_of (take number made) p ≡ attempt)
+    (number : ℕ) × (restart : Restart) × (slice_get made number ≡ Some restart) × (redoes p restart ≡ true)
+    × (attempt_of (take number made) p ≡ attempt)
 
 -- there are no more restarts than faults, and so no attempt has a greater number
 abbrev pub AttemptsLaw : Type 0

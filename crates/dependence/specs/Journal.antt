@@ -102,7 +102,8 @@ happens dependence faults at (event.Retire p) = record at { retired = p + 1 }
 -- each event is allowed after those before it
 abbrev pub LawfulFrom : Dependence → List Fault → Stage → List Event → Type 0
 LawfulFrom dependence faults at [] = ⊤
-LawfulFrom dependence faults at (event ∷ rest) = Allowed dependence faults at event × LawfulFrom dependence faults (happens dependence faults at event) rest
+LawfulFrom dependence faults at (event ∷ rest) =
+    Allowed dependence faults at event × LawfulFrom dependence faults (happens dependence faults at event) rest
 
 abbrev pub Lawful : Dependence → List Fault → List Event → Type 0
 Lawful dependence faults events = LawfulFrom dependence faults initial_stage events

@@ -34,7 +34,8 @@ is_allowed dependence faults at (event.Issue p) =
     && (may_follow at (dependence.before p) && (not (dependence.settles p) || nat_eq at.retired p))))
 is_allowed dependence faults at (event.Post p attempt) =
     nat_lt p at.progress.front && (nat_le at.retired p && (nat_eq attempt (attempt_of at.progress.made p)
-    && (not (list_any (same_attempt (p, attempt)) at.posted) && all_below (λ earlier. not (dependence.clash earlier p) || at.applied earlier) p)))
+    && (not (list_any (same_attempt (p, attempt)) at.posted)
+    && all_below (λ earlier. not (dependence.clash earlier p) || at.applied earlier) p)))
 is_allowed dependence faults at (event.Take p attempt applies) =
     list_any (same_attempt (p, attempt)) at.posted
     && (not (list_any (same_attempt (p, attempt)) at.taken) && beq applies (nat_eq attempt (attempt_of at.progress.made p)))
@@ -46,7 +47,8 @@ is_allowed dependence faults at (event.Retire p) =
 
 abbrev pub is_lawful_from : Dependence → List Fault → Stage → List Event → Bool
 is_lawful_from dependence faults at [] = true
-is_lawful_from dependence faults at (event ∷ rest) = is_allowed dependence faults at event && is_lawful_from dependence faults (happens dependence faults at event) rest
+is_lawful_from dependence faults at (event ∷ rest) =
+    is_allowed dependence faults at event && is_lawful_from dependence faults (happens dependence faults at event) rest
 
 -- `Lawful` as a test
 abbrev pub is_lawful : Dependence → List Fault → List Event → Bool
@@ -59,4 +61,5 @@ is_final dependence faults at = nat_eq at.front dependence.count && is_none (str
 abbrev pub is_complete : Dependence → List Fault → List Event → Bool
 is_complete dependence faults events =
     is_lawful dependence faults events
-    && (is_final dependence faults (stage dependence faults events).progress && nat_eq (stage dependence faults events).retired dependence.count)
+    && (is_final dependence faults (stage dependence faults events).progress
+    && nat_eq (stage dependence faults events).retired dependence.count)

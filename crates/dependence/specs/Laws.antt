@@ -66,7 +66,9 @@ RunLaw = (run : List Subthread) → RedoesStruck (dependence_of run)
 
 -- a beginning of a lawful list is lawful
 abbrev pub FrontLaw : Type 0
-FrontLaw = (dependence : Dependence) (faults : List Fault) (events rest : List Event) → Lawful dependence faults (events ++ rest) → Lawful dependence faults events
+FrontLaw =
+    (dependence : Dependence) (faults : List Fault) (events rest : List Event) → Lawful dependence faults (events ++ rest)
+    → Lawful dependence faults events
 
 -- after as many steps as there are fronts and faults no fault is left to take
 abbrev pub RestartsEndLaw : Type 0
@@ -98,7 +100,8 @@ abbrev pub RestartsNextLaw : Type 0
 RestartsNextLaw =
     (dependence : Dependence) (faults : List Fault) (events : List Event) → KeepsClean dependence faults → Lawful dependence faults events
     → let at = (stage dependence faults events).progress in
-    (struck_next dependence faults at ≢ None) ↔ IsSomeAnd (slice_get (restarts dependence faults) (length at.made)) (λ restart. restart.front ≡ at.front)
+    (struck_next dependence faults at ≢ None)
+    ↔ IsSomeAnd (slice_get (restarts dependence faults) (length at.made)) (λ restart. restart.front ≡ at.front)
 
 -- an event that is allowed goes on a lawful list
 abbrev pub GrowLaw : Type 0
@@ -114,10 +117,14 @@ StageLaw =
 
 -- the tests say which lists are lawful and complete
 abbrev pub LawfulTestLaw : Type 0
-LawfulTestLaw = (dependence : Dependence) (faults : List Fault) (events : List Event) → (is_lawful dependence faults events ≡ true) ↔ Lawful dependence faults events
+LawfulTestLaw =
+    (dependence : Dependence) (faults : List Fault) (events : List Event)
+    → (is_lawful dependence faults events ≡ true) ↔ Lawful dependence faults events
 
 abbrev pub CompleteTestLaw : Type 0
-CompleteTestLaw = (dependence : Dependence) (faults : List Fault) (events : List Event) → (is_complete dependence faults events ≡ true) ↔ Complete dependence faults events
+CompleteTestLaw =
+    (dependence : Dependence) (faults : List Fault) (events : List Event)
+    → (is_complete dependence faults events ≡ true) ↔ Complete dependence faults events
 
 -- there are no more restarts than faults
 abbrev pub FewLaw : Type 0

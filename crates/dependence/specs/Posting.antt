@@ -28,10 +28,12 @@ posting_of run = by_locks (clash_in (lock_feet_of run)) (dependence_of run)
 abbrev pub OutReady : (locks : ℕ → ℕ → Bool) → Stage → Type 0
 OutReady locks at = (p attempt q : ℕ) → IsOut at p attempt → q < p → locks q p ≡ true → at.applied q ≡ true
 
--- what an event needs for that: a post has waited by locks, and at a restart what is out is in conflict by locks only where it is so in the run
+-- what an event needs for that: a post has waited by locks, and at a restart what is out is in conflict by locks only
+-- where it is so in the run
 abbrev pub KeepsReady : (locks : ℕ → ℕ → Bool) → Dependence → Stage → Event → Type 0
 KeepsReady locks dependence at (event.Post p attempt) = MayPost (by_locks locks dependence) at p attempt
-KeepsReady locks dependence at (event.Restart number) = (p attempt q : ℕ) → IsOut at p attempt → q < p → locks q p ≡ true → dependence.clash q p ≡ true
+KeepsReady locks dependence at (event.Restart number) =
+    (p attempt q : ℕ) → IsOut at p attempt → q < p → locks q p ≡ true → dependence.clash q p ≡ true
 KeepsReady locks dependence at _ = ⊤
 
 -- what may be posted by locks may be posted
@@ -50,7 +52,8 @@ OutReadyLaw =
 -- a run whose subthreads name only cells under the locks that they hold is so
 abbrev pub RunWithinLaw : Type 0
 RunWithinLaw =
-    (under : List (List ℕ)) (run : List Subthread) → IsApart under → NamesHeld under run → IsWithin (clash_in (lock_feet_of run)) (dependence_of run)
+    (under : List (List ℕ)) (run : List Subthread) → IsApart under → NamesHeld under run
+    → IsWithin (clash_in (lock_feet_of run)) (dependence_of run)
 
 -- with a subthread that holds no lock, a conflict by locks is one in the run
 abbrev pub NoLocksLaw : Type 0

@@ -43,13 +43,15 @@ buffer_restarted run at (Some p) buffer =
 -- a result that applies does what its attempt does; issues, posts and retirements leave the buffer as it is
 abbrev pub buffer_happens : List Subthread → List Fault → Stage → Event → Buffer → Buffer
 buffer_happens run faults at (event.Take p attempt true) buffer = buffer_with p (done_by (members_at run faults at p) buffer.state) buffer
-buffer_happens run faults at (event.Restart number) buffer = buffer_restarted run at (struck_next (dependence_of run) faults at.progress) buffer
+buffer_happens run faults at (event.Restart number) buffer =
+    buffer_restarted run at (struck_next (dependence_of run) faults at.progress) buffer
 buffer_happens run faults at _ buffer = buffer
 
 -- the buffer after these events
 abbrev pub buffer_from : List Subthread → List Fault → Stage → List Event → Buffer → Buffer
 buffer_from run faults at [] buffer = buffer
-buffer_from run faults at (e ∷ rest) buffer = buffer_from run faults (happens (dependence_of run) faults at e) rest (buffer_happens run faults at e buffer)
+buffer_from run faults at (e ∷ rest) buffer =
+    buffer_from run faults (happens (dependence_of run) faults at e) rest (buffer_happens run faults at e buffer)
 
 abbrev pub buffer_after : List Subthread → List Fault → State → List Event → Buffer
 buffer_after run faults start events = buffer_from run faults initial_stage events (initial_buffer start)

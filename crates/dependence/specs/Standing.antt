@@ -56,7 +56,8 @@ pub record StageStands (dependence : Dependence) (faults : List Fault) (at : Sta
 -- the restart that may come next redoes nothing that has retired
 abbrev pub KeepsRetired : Dependence → List Fault → Stage → Type 0
 KeepsRetired dependence faults at =
-    (struck p : ℕ) → struck_next dependence faults at.progress ≡ Some struck → p < at.retired → ¬ Contains (dependence.redo struck at.progress.front) p
+    (struck p : ℕ) → struck_next dependence faults at.progress ≡ Some struck → p < at.retired
+    → ¬ Contains (dependence.redo struck at.progress.front) p
 
 -- what restarts redo, and delays, are such that what has retired stays clean
 pub record KeepsClean (dependence : Dependence) (faults : List Fault) : Type 0 where
@@ -89,12 +90,14 @@ abbrev pub StandsLaw : Type 0
 StandsLaw =
     (dependence : Dependence) (faults : List Fault) (at : Stage) (events : List Event) → RedoesConflicts dependence → AreShort faults
     → ((other : Stage) → StageStands dependence faults other → KeepsRetired dependence faults other)
-    → StageStands dependence faults at → LawfulFrom dependence faults at events → StageStands dependence faults (stage_from dependence faults at events)
+    → StageStands dependence faults at → LawfulFrom dependence faults at events
+    → StageStands dependence faults (stage_from dependence faults at events)
 
 -- what has retired is redone by no restart that begins at the position that is struck
 abbrev pub RetiredLaw : Type 0
 RetiredLaw =
-    (dependence : Dependence) (faults : List Fault) (at : Stage) → RedoesLater dependence → StageStands dependence faults at → KeepsRetired dependence faults at
+    (dependence : Dependence) (faults : List Fault) (at : Stage) → RedoesLater dependence → StageStands dependence faults at
+    → KeepsRetired dependence faults at
 
 -- where all that was issued has retired, no fault is live
 abbrev pub NoneLiveLaw : Type 0
@@ -105,7 +108,8 @@ NoneLiveLaw =
 -- so nothing is struck where an issue is allowed, that of a settle too
 abbrev pub PassesLaw : Type 0
 PassesLaw =
-    (dependence : Dependence) (faults : List Fault) (at : Stage) (p : ℕ) → StageStands dependence faults at → Allowed dependence faults at (event.Issue p)
+    (dependence : Dependence) (faults : List Fault) (at : Stage) (p : ℕ) → StageStands dependence faults at
+    → Allowed dependence faults at (event.Issue p)
     → struck_next dependence faults at.progress ≡ None
 
 -- a run keeps clean what has retired
@@ -124,6 +128,7 @@ IssuedLaw =
     (dependence : Dependence) (faults : List Fault) (at : Stage) (events : List Event) → RedoesConflicts dependence → NamesIssued at
     → LawfulFrom dependence faults at events → NamesIssued (stage_from dependence faults at events)
 
--- a restart of a run redoes the position that is struck, and with each position every later one in conflict, none of them before the one that is struck
+-- a restart of a run redoes the position that is struck, and with each position every later one in conflict, none of
+-- them before the one that is struck
 abbrev pub RunRedoesLaw : Type 0
 RunRedoesLaw = (run : List Subthread) → RedoesConflicts (dependence_of run) × RedoesLater (dependence_of run)

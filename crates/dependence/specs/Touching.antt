@@ -67,7 +67,8 @@ lock_location under (CellOf c) = unwrap_or (option_map loc.Lock (position (is_me
 -- a cell under a lock has that lock as its location
 abbrev pub LocationLaw : Type 0
 LocationLaw =
-    (under : List (List ℕ)) (lock c : ℕ) → IsApart under → Contains (under_lock under lock) c → lock_location under (CellOf c) ≡ loc.Lock lock
+    (under : List (List ℕ)) (lock c : ℕ) → IsApart under → Contains (under_lock under lock) c
+    → lock_location under (CellOf c) ≡ loc.Lock lock
 
 -- a member keeps to its footprint
 abbrev pub KeepsLaw : Type 0

@@ -12,13 +12,15 @@ use Rattle.desk_board.specs.Told.{hand_ended}
 use Rattle.desk_board.proofs.Tallies.{times_cons, times_more, one_same, one_other}
 
 -- a pass that has ended stays as it is
-pub still_ended : (h : Hand) (m : ℕ) (o : Option ℕ) → h.ticket ≡ o → is_some o ≡ true → IfSome h.ticket (λ t. m ≤ t) → (t : ℕ) × (m ≤ t) × (h ≡ hand_ended t h)
+pub still_ended : (h : Hand) (m : ℕ) (o : Option ℕ) → h.ticket ≡ o → is_some o ≡ true → IfSome h.ticket (λ t. m ≤ t)
+    → (t : ℕ) × (m ≤ t) × (h ≡ hand_ended t h)
 still_ended h m None e some past = absurd (true≢false (sym some))
 still_ended h m (Some t) e some past = (t, subst (λ (o : Option ℕ). IfSome o (λ z. m ≤ z)) e past, λ i. record h { ticket = e i })
 
 module _ {S : Type 0} where
   -- the slot that was taken last
-  pub front : (carried : List (ℕ × S)) (k : ℕ) (x : S) (xs : List (ℕ × S)) → carried ≡ (k, x) ∷ xs → (y : S) × (carried ≡ (k, y) ∷ rest carried)
+  pub front : (carried : List (ℕ × S)) (k : ℕ) (x : S) (xs : List (ℕ × S)) → carried ≡ (k, x) ∷ xs
+      → (y : S) × (carried ≡ (k, y) ∷ rest carried)
   front carried k x xs e = (x, e ∙ ap (λ (l : List (ℕ × S)). (k, x) ∷ rest l) (sym e))
 
   abbrev front_or : S → List (ℕ × S) → S
@@ -39,7 +41,8 @@ times_from_Contains k xs c = times_from k xs c.0 c.1 c.2
 pub Contains_from_times : (k : ℕ) (xs : List ℕ) → 1 ≤ times k xs → Contains xs k
 Contains_from_times k [] h = absurd (omega arith)
 Contains_from_times k (x ∷ xs) h = dite (ℕ_discrete x k) (λ e. (0, omega arith, e))
-    (λ ne. let r = Contains_from_times k xs (omega (arith, times_cons k x xs, one_other k x ne)) in (suc r.0, (let l = r.1 in omega arith), r.2))
+    (λ ne. let r = Contains_from_times k xs (omega (arith, times_cons k x xs, one_other k x ne)) in
+    (suc r.0, (let l = r.1 in omega arith), r.2))
 
 pub times_none : (k : ℕ) (xs : List ℕ) → ¬ (Contains xs k) → times k xs ≡ 0
 times_none k xs not = dite (ℕ_discrete (times k xs) 0) (λ e. e) (λ ne. absurd (not (Contains_from_times k xs (omega arith))))
@@ -58,4 +61,5 @@ pub contains_last : (k : ℕ) (xs : List ℕ) → Contains (xs ++ k ∷ []) k
 contains_last k xs = Contains_from_times k (xs ++ k ∷ []) (omega (arith, times_more k xs))
 
 pub seen_now : (k n : ℕ) (seen : List ℕ) → 0 < n → Contains (cond (eqb n 0) seen (seen ++ k ∷ [])) k
-seen_now k n seen h = subst (λ (b : Bool). Contains (cond b seen (seen ++ k ∷ [])) k) (sym (ne_eqb n 0 (λ e. omega arith))) (contains_last k seen)
+seen_now k n seen h =
+    subst (λ (b : Bool). Contains (cond b seen (seen ++ k ∷ [])) k) (sym (ne_eqb n 0 (λ e. omega arith))) (contains_last k seen)

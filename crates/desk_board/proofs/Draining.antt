@@ -14,8 +14,12 @@ past_le k (x ∷ xs) all = let h = all 0 x (omega arith) in let t = past_le k xs
 
 past_more : (k : ℕ) (xs : List ℕ) → All (λ d. d < k) xs → past (xs ++ k ∷ []) ≡ k + 1
 past_more k [] all = omega arith
-past_more k (x ∷ xs) all = let h = all 0 x (omega arith) in let t = past_more k xs (λ i d l. all (suc i) d (omega arith)) in omega (arith, h, t)
+past_more k (x ∷ xs) all =
+    let h = all 0 x (omega arith) in
+    let t = past_more k xs (λ i d l. all (suc i) d (omega arith)) in
+    omega (arith, h, t)
 
 -- a draw leaves fewer desks above those drawn
-pub fewer : {J : Type 0} (jobs : List J) (job : J) (k : ℕ) (xs : List ℕ) → slice_get jobs k ≡ Some job → All (λ d. d < k) xs → length jobs - past (xs ++ k ∷ []) < length jobs - past xs
+pub fewer : {J : Type 0} (jobs : List J) (job : J) (k : ℕ) (xs : List ℕ) → slice_get jobs k ≡ Some job → All (λ d. d < k) xs
+    → length jobs - past (xs ++ k ∷ []) < length jobs - past xs
 fewer jobs job k xs has all = let l = slice_get_within jobs k job has in omega (arith, l, past_more k xs all, past_le k xs all)

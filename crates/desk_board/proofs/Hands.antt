@@ -38,6 +38,7 @@ live_both h g = go h.ticket g.ticket
     go None (Some t) = omega arith
     go (Some t) b = omega arith
 
-pub ended_either : (a b : Option ℕ) (m c : ℕ) → IfSome a (λ t. (m ≤ t) × (m ≤ c)) → IfSome b (λ t. (m ≤ t) × (m ≤ c)) → IfSome (ticket_either a b) (λ t. (m ≤ t) × (m ≤ c))
+pub ended_either : (a b : Option ℕ) (m c : ℕ) → IfSome a (λ t. (m ≤ t) × (m ≤ c)) → IfSome b (λ t. (m ≤ t) × (m ≤ c))
+    → IfSome (ticket_either a b) (λ t. (m ≤ t) × (m ≤ c))
 ended_either None b m c x y = y
 ended_either (Some t) b m c x y = x

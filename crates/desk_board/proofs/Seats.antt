@@ -1,4 +1,7 @@
--- Views that are cut and put together keep the rule; and it holds of a new board.
+-- Views that are cut and put together keep the rule; and it holds of a new board. What the rule sums over all views
+-- (shares, the clerk, the desks that were drawn, are held or taken) a cut or a joining leaves as it is, since the views
+-- have together after it what they had before (Adds). So for each way of cutting and joining it is enough that the new
+-- views are sound by themselves.
 use Rattle.std.proofs.Common.{◌≡◌, ◌≢◌, ℕ, zero, suc, ◌+◌, ◌≤◌, List, [], ◌∷◌, ◌++◌, map, length, replicate, get_or, set, sym, refl, ap, ap₂, ◌∙◌, subst, ⊎_elim, arith}
 use Rattle.std.specs.Prelude.{sum_by, All, slice_get, Option, Some, None}
 use Rattle.std.proofs.lemmas.Option.{slice_get_within}
@@ -49,10 +52,14 @@ module _ {J W R : Type 0} (fits : W → J → Type 0) (is_run : W → J → R �
     pub takens : (k : ℕ) → times k v'.book.taken + times k u'.book.taken ≡ times k v.book.taken + times k u.book.taken
 
   -- the views change, and nothing that is summed over them
-  revised : (s : St) (r : Rule s) (views' : List V) → sum_by (λ x. x.hand.share) views' ≡ sum_by (λ x. x.hand.share) s.views → sum_by (λ x. x.book.clerk) views' ≡ sum_by (λ x. x.book.clerk) s.views
-      → sum_by (λ x. live x.hand) views' ≤ sum_by (λ x. live x.hand) s.views → ((k : ℕ) → sum_by (λ x. times k x.hand.drawn) views' ≡ sum_by (λ x. times k x.hand.drawn) s.views)
-      → ((k : ℕ) → sum_by (λ x. times k x.hand.held) views' ≡ sum_by (λ x. times k x.hand.held) s.views) → ((k : ℕ) → sum_by (λ x. times k x.book.taken) views' ≡ sum_by (λ x. times k x.book.taken) s.views)
-      → ((j : ℕ) (x : V) → get_elem? views' j ≡ some x → ViewOk (about_of plan) s.words x) → Rule record { words = s.words; homes = s.homes; views = views' }
+  revised : (s : St) (r : Rule s) (views' : List V) → sum_by (λ x. x.hand.share) views' ≡ sum_by (λ x. x.hand.share) s.views
+      → sum_by (λ x. x.book.clerk) views' ≡ sum_by (λ x. x.book.clerk) s.views
+      → sum_by (λ x. live x.hand) views' ≤ sum_by (λ x. live x.hand) s.views
+      → ((k : ℕ) → sum_by (λ x. times k x.hand.drawn) views' ≡ sum_by (λ x. times k x.hand.drawn) s.views)
+      → ((k : ℕ) → sum_by (λ x. times k x.hand.held) views' ≡ sum_by (λ x. times k x.hand.held) s.views)
+      → ((k : ℕ) → sum_by (λ x. times k x.book.taken) views' ≡ sum_by (λ x. times k x.book.taken) s.views)
+      → ((j : ℕ) (x : V) → get_elem? views' j ≡ some x → ViewOk (about_of plan) s.words x)
+      → Rule record { words = s.words; homes = s.homes; views = views' }
   revised s r views' share clerk lives drawns helds takens oks = record {
     all_fit = r.all_fit;
     few = r.few;
@@ -62,36 +69,58 @@ module _ {J W R : Type 0} (fits : W → J → Type 0) (is_run : W → J → R �
     clerks = clerk ∙ r.clerks;
     low = (let low = r.low in omega (arith, low, lives));
     beyond = λ j l. drawns j ∙ r.beyond j l;
-    each_desk = λ j job has. let was = r.each_desk j job has in (was.0, stage_stays is_run plan.with.value j job _ _ _ _ _ _ _ _ _ _ _ _ (omega arith) (λ l. l) refl refl (drawns j) (helds j) (takens j) was.0 was.1);
+    each_desk =
+        λ j job has. let was = r.each_desk j job has in (
+          was.0,
+          stage_stays is_run plan.with.value j job _ _ _ _ _ _ _ _ _ _ _ _ (omega arith) (λ l. l) refl refl (drawns j) (helds j)
+              (takens j) was.0 was.1,
+        );
     each_view = oks;
   }
 
-  split_tally : (f : V → ℕ) (vs : List V) (id : ℕ) (v left right : V) → get_elem? vs id ≡ some v → sum_by f (set vs id left ++ right ∷ []) + f v ≡ sum_by f vs + (f left + f right)
+  split_tally : (f : V → ℕ) (vs : List V) (id : ℕ) (v left right : V) → get_elem? vs id ≡ some v
+      → sum_by f (set vs id left ++ right ∷ []) + f v ≡ sum_by f vs + (f left + f right)
   split_tally f vs id v left right at = omega (arith, tally_more f (set vs id left) right, tally_set f vs id v left at)
 
-  join_tally : (f : V → ℕ) (vs : List V) (id : ℕ) (v : V) (other : ℕ) (u both spent : V) → get_elem? vs id ≡ some v → get_elem? (set vs id both) other ≡ some u
+  join_tally : (f : V → ℕ) (vs : List V) (id : ℕ) (v : V) (other : ℕ) (u both spent : V) → get_elem? vs id ≡ some v
+      → get_elem? (set vs id both) other ≡ some u
       → sum_by f (set (set vs id both) other spent) + (f v + f u) ≡ sum_by f vs + (f both + f spent)
-  join_tally f vs id v other u both spent at there = omega (arith, tally_set f (set vs id both) other u spent there, tally_set f vs id v both at)
+  join_tally f vs id v other u both spent at there =
+      omega (arith, tally_set f (set vs id both) other u spent there, tally_set f vs id v both at)
 
-  pub forks : (id : ℕ) (v left right : V) → Adds v blank left right → ((words : List ℕ) → ViewOk (about_of plan) words v → ViewOk (about_of plan) words left × ViewOk (about_of plan) words right) → Splits Rule id v left right
+  pub forks : (id : ℕ) (v left right : V) → Adds v blank left right
+      → ((words : List ℕ) → ViewOk (about_of plan) words v → ViewOk (about_of plan) words left × ViewOk (about_of plan) words right)
+      → Splits Rule id v left right
   forks id v left right adds ok s r at = let oks = ok s.words (r.each_view id v at) in
       revised s r (set s.views id left ++ right ∷ [])
-      (let e = adds.share in omega (arith, e, split_tally (λ x. x.hand.share) s.views id v left right at)) (let e = adds.clerk in omega (arith, e, split_tally (λ x. x.book.clerk) s.views id v left right at))
-      (let e = adds.lives in omega (arith, e, split_tally (λ x. live x.hand) s.views id v left right at)) (λ k. let e = adds.drawns k in omega (arith, e, split_tally (λ x. times k x.hand.drawn) s.views id v left right at))
-      (λ k. let e = adds.helds k in omega (arith, e, split_tally (λ x. times k x.hand.held) s.views id v left right at)) (λ k. let e = adds.takens k in omega (arith, e, split_tally (λ x. times k x.book.taken) s.views id v left right at))
-      (λ j x e. ⊎_elim (views_after fits is_run plan s r s.words id left (omega arith) (λ k h. h) oks.0 j x) (λ (t : right ≡ x). subst (ViewOk (about_of plan) s.words) t oks.1) (at_snoc (set s.views id left) right x j e))
+      (let e = adds.share in omega (arith, e, split_tally (λ x. x.hand.share) s.views id v left right at))
+      (let e = adds.clerk in omega (arith, e, split_tally (λ x. x.book.clerk) s.views id v left right at))
+      (let e = adds.lives in omega (arith, e, split_tally (λ x. live x.hand) s.views id v left right at))
+      (λ k. let e = adds.drawns k in omega (arith, e, split_tally (λ x. times k x.hand.drawn) s.views id v left right at))
+      (λ k. let e = adds.helds k in omega (arith, e, split_tally (λ x. times k x.hand.held) s.views id v left right at))
+      (λ k. let e = adds.takens k in omega (arith, e, split_tally (λ x. times k x.book.taken) s.views id v left right at))
+      (λ j x e. ⊎_elim (views_after fits is_run plan s r s.words id left (omega arith) (λ k h. h) oks.0 j x)
+      (λ (t : right ≡ x). subst (ViewOk (about_of plan) s.words) t oks.1) (at_snoc (set s.views id left) right x j e))
 
-  pub merges : (id : ℕ) (v : V) (other : ℕ) (u both spent : V) → ((s : St) → Rule s → get_elem? s.views id ≡ some v → other ≢ id → get_elem? (set s.views id both) other ≡ some u → Adds v u both spent)
-      → ((s : St) → Rule s → get_elem? s.views id ≡ some v → get_elem? s.views other ≡ some u → ViewOk (about_of plan) s.words both × ViewOk (about_of plan) s.words spent) → Joins Rule id v other u both spent
+  pub merges : (id : ℕ) (v : V) (other : ℕ) (u both spent : V)
+      → ((s : St) → Rule s → get_elem? s.views id ≡ some v → other ≢ id → get_elem? (set s.views id both) other ≡ some u
+      → Adds v u both spent)
+      → ((s : St) → Rule s → get_elem? s.views id ≡ some v → get_elem? s.views other ≡ some u
+      → ViewOk (about_of plan) s.words both × ViewOk (about_of plan) s.words spent) → Joins Rule id v other u both spent
   merges id v other u both spent added ok s r at apart there =
       let was : get_elem? s.views other ≡ some u = ⊎_elim (λ t. absurd (apart t.0)) (λ t. t.1) (at_set s.views id other both u there) in
       let oks = ok s r at was in let adds = added s r at apart there in
       revised s r (set (set s.views id both) other spent)
-      (let e = adds.share in omega (arith, e, join_tally (λ x. x.hand.share) s.views id v other u both spent at there)) (let e = adds.clerk in omega (arith, e, join_tally (λ x. x.book.clerk) s.views id v other u both spent at there))
-      (let e = adds.lives in omega (arith, e, join_tally (λ x. live x.hand) s.views id v other u both spent at there)) (λ k. let e = adds.drawns k in omega (arith, e, join_tally (λ x. times k x.hand.drawn) s.views id v other u both spent at there))
-      (λ k. let e = adds.helds k in omega (arith, e, join_tally (λ x. times k x.hand.held) s.views id v other u both spent at there)) (λ k. let e = adds.takens k in omega (arith, e, join_tally (λ x. times k x.book.taken) s.views id v other u both spent at there))
+      (let e = adds.share in omega (arith, e, join_tally (λ x. x.hand.share) s.views id v other u both spent at there))
+      (let e = adds.clerk in omega (arith, e, join_tally (λ x. x.book.clerk) s.views id v other u both spent at there))
+      (let e = adds.lives in omega (arith, e, join_tally (λ x. live x.hand) s.views id v other u both spent at there))
+      (λ k. let e = adds.drawns k in omega (arith, e, join_tally (λ x. times k x.hand.drawn) s.views id v other u both spent at there))
+      (λ k. let e = adds.helds k in omega (arith, e, join_tally (λ x. times k x.hand.held) s.views id v other u both spent at there))
+      (λ k. let e = adds.takens k in omega (arith, e, join_tally (λ x. times k x.book.taken) s.views id v other u both spent at there))
       (λ j x e. ⊎_elim (λ (t : (j ≡ other) × (spent ≡ x)). subst (ViewOk (about_of plan) s.words) t.1 oks.1)
-      (λ (t : (j ≢ other) × (get_elem? (set s.views id both) j ≡ some x)). views_after fits is_run plan s r s.words id both (omega arith) (λ k h. h) oks.0 j x t.1) (at_set (set s.views id both) other j spent x e))
+      (λ (t : (j ≢ other) × (get_elem? (set s.views id both) j ≡ some x)).
+      views_after fits is_run plan s r s.words id both (omega arith) (λ k h. h) oks.0 j x t.1)
+      (at_set (set s.views id both) other j spent x e))
 
   blank_ok : (words : List ℕ) → ViewOk (about_of plan) words (blank {J = J} {W = W})
   blank_ok words = record {
@@ -194,8 +223,12 @@ module _ {J W R : Type 0} (fits : W → J → Type 0) (is_run : W → J → R �
   }) (λ s r at was. let ok = r.each_view id v at in let ok' = r.each_view other u was in (
     record {
       same = ok.same;
-      idle = λ z. (let a = ok.idle (omega arith) in let b = ok'.idle (omega arith) in (ap₂ (λ xs ys. xs ++ ys) a.0 b.0, ap₂ (λ xs ys. xs ++ ys) a.1 b.1));
-      own = λ k. (let a = ok.own k in let b = ok'.own k in omega (arith, a, b, times_append k v.hand.held u.hand.held, times_append k v.hand.drawn u.hand.drawn));
+      idle =
+          λ z. (let a = ok.idle (omega arith) in let b = ok'.idle (omega arith) in
+          (ap₂ (λ xs ys. xs ++ ys) a.0 b.0, ap₂ (λ xs ys. xs ++ ys) a.1 b.1));
+      own =
+          λ k. (let a = ok.own k in let b = ok'.own k in
+          omega (arith, a, b, times_append k v.hand.held u.hand.held, times_append k v.hand.drawn u.hand.drawn));
       ended = ended_either v.hand.ticket u.hand.ticket (length jobs) (get_or s.words 0 0) ok.ended ok'.ended;
       others = ok.others;
       seen = ok.seen;
@@ -203,12 +236,18 @@ module _ {J W R : Type 0} (fits : W → J → Type 0) (is_run : W → J → R �
     blank_ok s.words,
   ))
 
-  pub gathers : (id : ℕ) (v : V) (other : ℕ) (u : V) → u.book ≡ no_book → u.hand.share ≡ 64 → Joins Rule id v other u (gathered_both v u) blank
+  pub gathers : (id : ℕ) (v : V) (other : ℕ) (u : V) → u.book ≡ no_book → u.hand.share ≡ 64
+      → Joins Rule id v other u (gathered_both v u) blank
   gathers id v other u plain whole = merges id v other u (gathered_both v u) blank
       (λ s r at apart there. let w : V = gathered_both v u in let vs : List V = set (set s.views id w) other blank in
       let mine : get_elem? vs id ≡ some w = set_else (set s.views id w) other id blank (λ e. apart (sym e)) ∙ found_set s.views id v w at in
-      let p = tally_part (λ (x : V). x.hand.share) vs id w mine in let t = join_tally (λ (x : V). x.hand.share) s.views id v other u w blank at there in let all = r.shares in
-      let none : v.hand.share ≡ 0 = omega (arith, p, t, all, whole) in let idle = (r.each_view id v at).idle none in let l = live_share v.hand in record {
+      let p = tally_part (λ (x : V). x.hand.share) vs id w mine in
+      let t = join_tally (λ (x : V). x.hand.share) s.views id v other u w blank at there in
+      let all = r.shares in
+      let none : v.hand.share ≡ 0 = omega (arith, p, t, all, whole) in
+      let idle = (r.each_view id v at).idle none in
+      let l = live_share v.hand in
+      record {
         share = omega (arith, none);
         clerk = (let e = ap (λ (b : Book). b.clerk) plain in omega (arith, e));
         lives = omega arith;
@@ -228,14 +267,20 @@ module _ {J W R : Type 0} (fits : W → J → Type 0) (is_run : W → J → R �
         blank_ok s.words,
       ))
 
-  laid : (js : List J) (k : ℕ) (job : J) → slice_get js k ≡ Some job → get_elem? (map some (map (λ (j : J). let x : Slot J R = Todo j in x) js)) k ≡ some (some (Todo job))
+  laid : (js : List J) (k : ℕ) (job : J) → slice_get js k ≡ Some job
+      → get_elem? (map some (map (λ (j : J). let x : Slot J R = Todo j in x) js)) k ≡ some (some (Todo job))
   laid [] k job e = absurd (let h = slice_get_within [] k job e in omega arith)
-  laid (j ∷ js) zero job e = ap (λ (o : Option J). let x : maybe.Option (maybe.Option (Slot J R)) = elim o [ None ↦ some (some (Todo j)) | Some y ↦ some (some (Todo y)) ] in x) e
+  laid (j ∷ js) zero job e =
+      ap (λ (o : Option J). let x : maybe.Option (maybe.Option (Slot J R)) =
+      elim o [ None ↦ some (some (Todo j)) | Some y ↦ some (some (Todo y)) ] in x) e
   laid (j ∷ js) (suc k) job e = laid js k job e
 
-  pub starts : (words : List ℕ) (slots : List (Slot J R)) → All (fits plan.with.value) jobs → length jobs ≤ 65536 → words ≡ replicate (length jobs + 1) 0 → slots ≡ map Todo jobs → Rule (opening words slots (first_view plan))
+  pub starts : (words : List ℕ) (slots : List (Slot J R)) → All (fits plan.with.value) jobs → length jobs ≤ 65536
+      → words ≡ replicate (length jobs + 1) 0 → slots ≡ map Todo jobs → Rule (opening words slots (first_view plan))
   starts words slots all_fit few blank_words laid_out =
-      let blank_word : (i : ℕ) → i ≤ length jobs → get_or words i 0 ≡ 0 = λ i l. ap (λ (ws : List ℕ). get_or ws i 0) blank_words ∙ get_or-replicate (length jobs + 1) i 0 0 (omega arith) in record {
+      let blank_word : (i : ℕ) → i ≤ length jobs → get_or words i 0 ≡ 0 =
+      λ i l. ap (λ (ws : List ℕ). get_or ws i 0) blank_words ∙ get_or-replicate (length jobs + 1) i 0 0 (omega arith) in
+      record {
         all_fit = all_fit;
         few = few;
         wide = ap length blank_words ∙ length-replicate (length jobs + 1) 0;
@@ -246,7 +291,14 @@ module _ {J W R : Type 0} (fits : W → J → Type 0) (is_run : W → J → R �
         beyond = λ k l. refl;
         each_desk = λ k job has. let inside = slice_get_within jobs k job has in (
           waiting,
-          (omega (arith, blank_word 0 (omega arith)), blank_word (k + 1) (omega arith), ap (λ (xs : List (Slot J R)). get_elem? (map some xs) k) laid_out ∙ laid jobs k job has, refl, refl, refl),
+          (
+            omega (arith, blank_word 0 (omega arith)),
+            blank_word (k + 1) (omega arith),
+            ap (λ (xs : List (Slot J R)). get_elem? (map some xs) k) laid_out ∙ laid jobs k job has,
+            refl,
+            refl,
+            refl,
+          ),
         );
         each_view = λ j v e. first_ok words j v e;
       }

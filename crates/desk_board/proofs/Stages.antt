@@ -10,12 +10,20 @@ module _ {J W R : Type 0} (is_run : W → J → R → Type 0) (with : W) where
   Stands = AtStage is_run with
 
   -- a desk that a step does not touch
-  pub stage_stays : (k : ℕ) (job : J) (c c' w w' : ℕ) (home home' : maybe.Option (maybe.Option (Slot J R))) (d d' h h' t t' : ℕ) → c ≤ c' → (c ≤ k → c' ≤ k) → w' ≡ w → home' ≡ home → d' ≡ d → h' ≡ h → t' ≡ t
+  pub stage_stays : (k : ℕ) (job : J) (c c' w w' : ℕ) (home home' : maybe.Option (maybe.Option (Slot J R))) (d d' h h' t t' : ℕ) → c ≤ c'
+      → (c ≤ k → c' ≤ k) → w' ≡ w → home' ≡ home → d' ≡ d → h' ≡ h → t' ≡ t
       → (stage : Stage) → Stands k job c w home d h t stage → Stands k job c' w' home' d' h' t' stage
-  stage_stays k job c c' w w' home home' d d' h h' t t' up down ew eo ed eh et waiting x = (down x.0, ew ∙ x.1, eo ∙ x.2, ed ∙ x.3, eh ∙ x.4, et ∙ x.5)
-  stage_stays k job c c' w w' home home' d d' h h' t t' up down ew eo ed eh et drawn x = let l = x.0 in (omega arith, ew ∙ x.1, eo ∙ x.2, ed ∙ x.3, eh ∙ x.4, et ∙ x.5)
-  stage_stays k job c c' w w' home home' d d' h h' t t' up down ew eo ed eh et done x = let l = x.0 in (omega arith, ew ∙ x.1, (x.2.0, eo ∙ x.2.1, x.2.2), ed ∙ x.3, eh ∙ x.4, et ∙ x.5)
-  stage_stays k job c c' w w' home home' d d' h h' t t' up down ew eo ed eh et collected x = let l = x.0 in (omega arith, ew ∙ x.1, eo ∙ x.2, ed ∙ x.3, eh ∙ x.4, et ∙ x.5)
+  stage_stays k job c c' w w' home home' d d' h h' t t' up down ew eo ed eh et waiting x =
+      (down x.0, ew ∙ x.1, eo ∙ x.2, ed ∙ x.3, eh ∙ x.4, et ∙ x.5)
+  stage_stays k job c c' w w' home home' d d' h h' t t' up down ew eo ed eh et drawn x =
+      let l = x.0 in
+      (omega arith, ew ∙ x.1, eo ∙ x.2, ed ∙ x.3, eh ∙ x.4, et ∙ x.5)
+  stage_stays k job c c' w w' home home' d d' h h' t t' up down ew eo ed eh et done x =
+      let l = x.0 in
+      (omega arith, ew ∙ x.1, (x.2.0, eo ∙ x.2.1, x.2.2), ed ∙ x.3, eh ∙ x.4, et ∙ x.5)
+  stage_stays k job c c' w w' home home' d d' h h' t t' up down ew eo ed eh et collected x =
+      let l = x.0 in
+      (omega arith, ew ∙ x.1, eo ∙ x.2, ed ∙ x.3, eh ∙ x.4, et ∙ x.5)
 
   module _ (k : ℕ) (job : J) (c w : ℕ) (home : maybe.Option (maybe.Option (Slot J R))) (d h t : ℕ) where
     pub is_waiting : c ≤ k → (stage : Stage) → Stands k job c w home d h t stage → Stands k job c w home d h t waiting

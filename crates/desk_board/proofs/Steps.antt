@@ -1,4 +1,7 @@
--- The steps on a word keep the rule: draw, put back, look, collect.
+-- The steps on a word keep the rule: draw, put back, look, collect. A step touches one view and at most one desk. Every
+-- other desk stands as before, since no list of the views has it more or less often (Alike); what a view says of the
+-- words stays true, since the counter does not fall and a desk that is done stays so. Of the desk that is touched the
+-- rule is shown anew.
 use Rattle.std.proofs.Common.{◌≡◌, ◌≢◌, ℕ, ◌+◌, ◌%◌, ◌^◌, ◌<◌, ◌≤◌, eqb, Bool, true, false, cond, List, [], ◌∷◌, ◌++◌, length, get_or, set, sym, refl, ap, ◌∙◌, subst, ⊎_elim, arith, eq-eqb, length-set, get_or-set_other, get_or-set_same, lt_of_not-le, true≢false}
 use Rattle.std.specs.Prelude.{sum_by, All, slice_get, Option, Some, None, IfSome}
 use Rattle.std.proofs.lemmas.Option.{slice_get_within, get_or_from_slice_get}
@@ -45,12 +48,15 @@ module _ {J W R : Type 0} (fits : W → J → Type 0) (is_run : W → J → R �
   same_tally : (f : V → ℕ) (vs : List V) (id : ℕ) (v w : V) → get_elem? vs id ≡ some v → f w ≡ f v → sum_by f (set vs id w) ≡ sum_by f vs
   same_tally f vs id v w at e = omega (arith, tally_set f vs id v w at, e)
 
-  more_tally : (f : V → ℕ) (vs : List V) (id : ℕ) (v w : V) → get_elem? vs id ≡ some v → f w ≡ f v + 1 → sum_by f (set vs id w) ≡ sum_by f vs + 1
+  more_tally : (f : V → ℕ) (vs : List V) (id : ℕ) (v w : V) → get_elem? vs id ≡ some v → f w ≡ f v + 1
+      → sum_by f (set vs id w) ≡ sum_by f vs + 1
   more_tally f vs id v w at e = omega (arith, tally_set f vs id v w at, e)
 
   -- each list has desk j as often as before
   abbrev Alike : ℕ → V → V → Type 0
-  Alike j v w = (times j w.hand.drawn ≡ times j v.hand.drawn) × (times j w.hand.held ≡ times j v.hand.held) × (times j w.book.taken ≡ times j v.book.taken)
+  Alike j v w =
+      (times j w.hand.drawn ≡ times j v.hand.drawn) × (times j w.hand.held ≡ times j v.hand.held)
+      × (times j w.book.taken ≡ times j v.book.taken)
 
   abbrev desk_at : List ℕ → Homes → List V → ℕ → J → Type 0
   desk_at words homes views k job = DeskOk is_run plan.with.value (record { words = words; homes = homes; views = views }) k job
@@ -58,18 +64,23 @@ module _ {J W R : Type 0} (fits : W → J → Type 0) (is_run : W → J → R �
   -- a step that touches desk k alone
   desks_after : (s : St) (r : Rule s) (words' : List ℕ) (homes' : Homes) (id : ℕ) (v w : V) (k : ℕ) → get_elem? s.views id ≡ some v
       → get_or s.words 0 0 ≤ get_or words' 0 0 → ((j : ℕ) → j ≢ k → j < length jobs → get_or s.words 0 0 ≤ j → get_or words' 0 0 ≤ j)
-      → ((j : ℕ) → j ≢ k → get_or words' (j + 1) 0 ≡ get_or s.words (j + 1) 0) → ((j : ℕ) → j ≢ k → get_elem? homes' j ≡ get_elem? s.homes j) → ((j : ℕ) → j ≢ k → Alike j v w)
+      → ((j : ℕ) → j ≢ k → get_or words' (j + 1) 0 ≡ get_or s.words (j + 1) 0)
+      → ((j : ℕ) → j ≢ k → get_elem? homes' j ≡ get_elem? s.homes j) → ((j : ℕ) → j ≢ k → Alike j v w)
       → ((job : J) → slice_get jobs k ≡ Some job → desk_at words' homes' (set s.views id w) k job)
       → (j : ℕ) (job : J) → slice_get jobs j ≡ Some job → desk_at words' homes' (set s.views id w) j job
   desks_after s r words' homes' id v w k at up down ws hs alike here j job has = dite (ℕ_discrete j k)
       (λ e. subst (λ (z : ℕ). (y : J) → slice_get jobs z ≡ Some y → desk_at words' homes' (set s.views id w) z y) (sym e) here job has)
       (λ ne. let was = r.each_desk j job has in let a = alike j ne in (
         was.0,
-        stage_stays is_run plan.with.value j job _ _ _ _ _ _ _ _ _ _ _ _ up (down j ne (slice_get_within jobs j job has)) (ws j ne) (hs j ne)
-            (same_tally (λ x. times j x.hand.drawn) s.views id v w at a.0) (same_tally (λ x. times j x.hand.held) s.views id v w at a.1) (same_tally (λ x. times j x.book.taken) s.views id v w at a.2) was.0 was.1,
+        stage_stays is_run plan.with.value j job _ _ _ _ _ _ _ _ _ _ _ _ up
+            (down j ne (slice_get_within jobs j job has)) (ws j ne) (hs j ne)
+            (same_tally (λ x. times j x.hand.drawn) s.views id v w at a.0) (same_tally (λ x. times j x.hand.held) s.views id v w at a.1)
+            (same_tally (λ x. times j x.book.taken) s.views id v w at a.2) was.0 was.1,
       ))
 
-  view_stays : (words words' : List ℕ) (v : V) → get_or words 0 0 ≤ get_or words' 0 0 → ((k : ℕ) → 1 ≤ get_or words (k + 1) 0 → 1 ≤ get_or words' (k + 1) 0) → ViewOk (about_of plan) words v → ViewOk (about_of plan) words' v
+  view_stays : (words words' : List ℕ) (v : V) → get_or words 0 0 ≤ get_or words' 0 0
+      → ((k : ℕ) → 1 ≤ get_or words (k + 1) 0 → 1 ≤ get_or words' (k + 1) 0) → ViewOk (about_of plan) words v
+      → ViewOk (about_of plan) words' v
   view_stays words words' v up more ok = record {
     same = ok.same;
     idle = ok.idle;
@@ -79,42 +90,56 @@ module _ {J W R : Type 0} (fits : W → J → Type 0) (is_run : W → J → R �
     seen = λ k h. more k (ok.seen k h);
   }
 
-  pub views_after : (s : St) (r : Rule s) (words' : List ℕ) (id : ℕ) (w : V) → get_or s.words 0 0 ≤ get_or words' 0 0 → ((k : ℕ) → 1 ≤ get_or s.words (k + 1) 0 → 1 ≤ get_or words' (k + 1) 0) → ViewOk (about_of plan) words' w
+  pub views_after : (s : St) (r : Rule s) (words' : List ℕ) (id : ℕ) (w : V) → get_or s.words 0 0 ≤ get_or words' 0 0
+      → ((k : ℕ) → 1 ≤ get_or s.words (k + 1) 0 → 1 ≤ get_or words' (k + 1) 0) → ViewOk (about_of plan) words' w
       → (j : ℕ) (x : V) → get_elem? (set s.views id w) j ≡ some x → ViewOk (about_of plan) words' x
   views_after s r words' id w up more mine j x e = ⊎_elim (λ (t : (j ≡ id) × (w ≡ x)). subst (ViewOk (about_of plan) words') t.1 mine)
-      (λ (t : (j ≢ id) × (get_elem? s.views j ≡ some x)). view_stays s.words words' x up more (r.each_view j x t.1)) (at_set s.views id j w x e)
+      (λ (t : (j ≢ id) × (get_elem? s.views j ≡ some x)). view_stays s.words words' x up more (r.each_view j x t.1))
+      (at_set s.views id j w x e)
 
   -- the desks that a seat has drawn lie below the counter
   below_counter : (s : St) (r : Rule s) (id : ℕ) (v : V) → get_elem? s.views id ≡ some v → All (λ d. d < get_or s.words 0 0) v.hand.drawn
   below_counter s r id v at = all_from_times (λ d. d < get_or s.words 0 0) v.hand.drawn (λ d h.
       let p : times d v.hand.drawn ≤ sum_by (λ x. times d x.hand.drawn) s.views = tally_part (λ x. times d x.hand.drawn) s.views id v at in
       dite (dec_le (length jobs) d) (λ l. absurd (let z = r.beyond d l in omega arith))
-      (λ n. let g = got jobs d (lt_of_not-le n) in let was = r.each_desk d g.0 g.1 in is_below is_run plan.with.value d g.0 _ _ _ _ _ _ (omega arith) was.0 was.1))
+      (λ n. let g = got jobs d (lt_of_not-le n) in let was = r.each_desk d g.0 g.1 in
+      is_below is_run plan.with.value d g.0 _ _ _ _ _ _ (omega arith) was.0 was.1))
 
   -- all views together have no desk twice as drawn
   pub drawn_by_all : (s : St) (r : Rule s) (k : ℕ) → drawns s.views k ≤ 1
   drawn_by_all s r k = dite (dec_le (length jobs) k) (λ l. let z = r.beyond k l in omega arith)
-      (λ n. let g = got jobs k (lt_of_not-le n) in let was = r.each_desk k g.0 g.1 in drawn_at_most is_run plan.with.value k g.0 _ _ _ _ _ _ was.0 was.1)
+      (λ n. let g = got jobs k (lt_of_not-le n) in let was = r.each_desk k g.0 g.1 in
+      drawn_at_most is_run plan.with.value k g.0 _ _ _ _ _ _ was.0 was.1)
 
   -- no view has a desk twice as drawn
   pub none_twice : (s : St) (r : Rule s) (id : ℕ) (v : V) → get_elem? s.views id ≡ some v → NoneTwice v.hand.drawn
   none_twice s r id v at k = omega (arith, drawn_by_all s r k, tally_part (λ (x : V). times k x.hand.drawn) s.views id v at)
 
-  told_about : (s : St) (r : Rule s) (id : ℕ) (v : V) (about : About J W) → get_elem? s.views id ≡ some v → v.about ≡ Some about → about ≡ about_of plan
+  told_about : (s : St) (r : Rule s) (id : ℕ) (v : V) (about : About J W) → get_elem? s.views id ≡ some v → v.about ≡ Some about
+      → about ≡ about_of plan
   told_about s r id v about at is = subst (λ (o : Option (About J W)). IfSome o (λ a. a ≡ about_of plan)) is (r.each_view id v at).same
 
   job_fits : (s : St) (r : Rule s) (k : ℕ) (job : J) → slice_get jobs k ≡ Some job → fits plan.with.value job
-  job_fits s r k job has = subst (fits plan.with.value) (get_or_from_slice_get jobs k job job has) (r.all_fit k job (slice_get_within jobs k job has))
+  job_fits s r k job has =
+      subst (fits plan.with.value) (get_or_from_slice_get jobs k job job has) (r.all_fit k job (slice_get_within jobs k job has))
 
   -- a ticket below the number of jobs
-  draws_desk : (s : St) (r : Rule s) (id : ℕ) (v : V) (carried : List (ℕ × Slot J R)) (job : J) → get_elem? s.views id ≡ some v → v.hand.ticket ≡ None → 1 ≤ v.hand.share → slice_get jobs (get_or s.words 0 0) ≡ Some job
-      → (get_elem? s.homes (get_or s.words 0 0) ≡ some (some (Todo job))) × Rule (stepped s 0 (get_or s.words 0 0 + 1) id carried (record v { hand = hand_drew (get_or s.words 0 0) v.hand }) (takes (get_or s.words 0 0) (Todo job)))
+  draws_desk : (s : St) (r : Rule s) (id : ℕ) (v : V) (carried : List (ℕ × Slot J R)) (job : J) → get_elem? s.views id ≡ some v
+      → v.hand.ticket ≡ None → 1 ≤ v.hand.share → slice_get jobs (get_or s.words 0 0) ≡ Some job
+      → (get_elem? s.homes (get_or s.words 0 0) ≡ some (some (Todo job)))
+      × Rule (stepped s 0 (get_or s.words 0 0 + 1) id carried (record v { hand = hand_drew (get_or s.words 0 0) v.hand })
+      (takes (get_or s.words 0 0) (Todo job)))
   draws_desk s r id v carried job at fresh part has =
-      let n : ℕ = get_or s.words 0 0 in let w : V = record v { hand = hand_drew n v.hand } in let inside : n < length jobs = slice_get_within jobs n job has in
+      let n : ℕ = get_or s.words 0 0 in
+      let w : V = record v { hand = hand_drew n v.hand } in
+      let inside : n < length jobs = slice_get_within jobs n job has in
       let words' : List ℕ = set s.words 0 (n + 1) in let homes' : Homes = set s.homes n none in let wide = r.wide in let deep = r.deep in
-      let was = r.each_desk n job has in let st = is_waiting is_run plan.with.value n job _ _ _ _ _ _ (omega arith) was.0 was.1 in let old = r.each_view id v at in
+      let was = r.each_desk n job has in
+      let st = is_waiting is_run plan.with.value n job _ _ _ _ _ _ (omega arith) was.0 was.1 in
+      let old = r.each_view id v at in
       let counter : get_or words' 0 0 ≡ n + 1 = get_or-set_same s.words 0 (n + 1) 0 (omega arith) in
-      let words_same : (j : ℕ) → get_or words' (j + 1) 0 ≡ get_or s.words (j + 1) 0 = λ j. get_or-set_other s.words 0 (j + 1) (n + 1) 0 (λ e. omega arith) in
+      let words_same : (j : ℕ) → get_or words' (j + 1) 0 ≡ get_or s.words (j + 1) 0 =
+      λ j. get_or-set_other s.words 0 (j + 1) (n + 1) 0 (λ e. omega arith) in
       let is_live = live_none v.hand fresh in let lives : live w.hand ≡ live v.hand = refl in
       let parts : live v.hand ≤ sum_by (λ x. live x.hand) s.views = tally_part (λ x. live x.hand) s.views id v at in
       let all_lives = same_tally (λ x. live x.hand) s.views id v w at lives in let low = r.low in (
@@ -126,11 +151,30 @@ module _ {J W R : Type 0} (fits : W → J → Type 0) (is_run : W → J → R �
           deep = length-set s.homes n none ∙ deep;
           shares = same_tally (λ x. x.hand.share) s.views id v w at refl ∙ r.shares;
           clerks = same_tally (λ x. x.book.clerk) s.views id v w at refl ∙ r.clerks;
-          low = (let most = tally_le (λ (x : V). live x.hand) (λ x. x.hand.share) s.views (λ x. live_share x.hand) in let all = r.shares in omega (arith, counter, all_lives, most, all));
-          beyond = λ j l. same_tally (λ x. times j x.hand.drawn) s.views id v w at (times_else j n v.hand.drawn (λ e. omega arith)) ∙ r.beyond j l;
-          each_desk = desks_after s r words' homes' id v w n at (omega arith) (λ j ne l a. omega arith) (λ j ne. words_same j) (λ j ne. set_else s.homes n j none ne)
+          low =
+              (let most = tally_le (λ (x : V). live x.hand) (λ x. x.hand.share) s.views (λ x. live_share x.hand) in let all = r.shares in
+              omega (arith, counter, all_lives, most, all));
+          beyond =
+              λ j l. same_tally (λ x. times j x.hand.drawn) s.views id v w at (times_else j n v.hand.drawn (λ e. omega arith))
+              ∙ r.beyond j l;
+          each_desk =
+              desks_after s r words' homes' id v w n at (omega arith) (λ j ne l a. omega arith) (λ j ne. words_same j)
+              (λ j ne. set_else s.homes n j none ne)
               (λ j ne. (times_else j n v.hand.drawn ne, times_else j n v.hand.held ne, refl))
-              (λ y e. (drawn, (omega arith, words_same n ∙ st.1, set_here s.homes n none (omega arith), more_tally (λ x. times n x.hand.drawn) s.views id v w at (times_more n v.hand.drawn) ∙ ap (λ (z : ℕ). z + 1) st.3, more_tally (λ x. times n x.hand.held) s.views id v w at (times_more n v.hand.held) ∙ ap (λ (z : ℕ). z + 1) st.4, same_tally (λ x. times n x.book.taken) s.views id v w at refl ∙ st.5)));
+              (λ y e. (
+                drawn,
+                (
+                  omega arith,
+                  words_same n
+                      ∙ st.1,
+                  set_here s.homes n none (omega arith),
+                  more_tally (λ x. times n x.hand.drawn) s.views id v w at (times_more n v.hand.drawn)
+                      ∙ ap (λ (z : ℕ). z + 1) st.3,
+                  more_tally (λ x. times n x.hand.held) s.views id v w at (times_more n v.hand.held)
+                      ∙ ap (λ (z : ℕ). z + 1) st.4,
+                  same_tally (λ x. times n x.book.taken) s.views id v w at refl ∙ st.5,
+                ),
+              ));
           each_view = views_after s r words' id w (omega arith) (λ k h. omega (arith, words_same k, h)) record {
             same = old.same;
             idle = λ z. absurd (omega arith);
@@ -143,14 +187,19 @@ module _ {J W R : Type 0} (fits : W → J → Type 0) (is_run : W → J → R �
       )
 
   -- a ticket past the last job
-  ends_pass : (s : St) (r : Rule s) (id : ℕ) (v : V) (carried : List (ℕ × Slot J R)) → get_elem? s.views id ≡ some v → v.hand.ticket ≡ None → 1 ≤ v.hand.share → length jobs ≤ get_or s.words 0 0
+  ends_pass : (s : St) (r : Rule s) (id : ℕ) (v : V) (carried : List (ℕ × Slot J R)) → get_elem? s.views id ≡ some v → v.hand.ticket ≡ None
+      → 1 ≤ v.hand.share → length jobs ≤ get_or s.words 0 0
       → Rule (stepped s 0 (get_or s.words 0 0 + 1) id carried (record v { hand = hand_ended (get_or s.words 0 0) v.hand }) keeps)
   ends_pass s r id v carried at fresh part past =
       let n : ℕ = get_or s.words 0 0 in let w : V = record v { hand = hand_ended n v.hand } in
       let words' : List ℕ = set s.words 0 (n + 1) in let wide = r.wide in let old = r.each_view id v at in
       let counter : get_or words' 0 0 ≡ n + 1 = get_or-set_same s.words 0 (n + 1) 0 (omega arith) in
-      let words_same : (j : ℕ) → get_or words' (j + 1) 0 ≡ get_or s.words (j + 1) 0 = λ j. get_or-set_other s.words 0 (j + 1) (n + 1) 0 (λ e. omega arith) in
-      let is_live = live_none v.hand fresh in let lives = tally_set (λ (x : V). live x.hand) s.views id v w at in let low = r.low in record {
+      let words_same : (j : ℕ) → get_or words' (j + 1) 0 ≡ get_or s.words (j + 1) 0 =
+      λ j. get_or-set_other s.words 0 (j + 1) (n + 1) 0 (λ e. omega arith) in
+      let is_live = live_none v.hand fresh in
+      let lives = tally_set (λ (x : V). live x.hand) s.views id v w at in
+      let low = r.low in
+      record {
         all_fit = r.all_fit;
         few = r.few;
         wide = length-set s.words 0 (n + 1) ∙ wide;
@@ -159,7 +208,9 @@ module _ {J W R : Type 0} (fits : W → J → Type 0) (is_run : W → J → R �
         clerks = same_tally (λ x. x.book.clerk) s.views id v w at refl ∙ r.clerks;
         low = omega (arith, counter, is_live, lives, low, part);
         beyond = λ j l. same_tally (λ x. times j x.hand.drawn) s.views id v w at refl ∙ r.beyond j l;
-        each_desk = desks_after s r words' s.homes id v w (length jobs) at (omega arith) (λ j ne l a. absurd (omega arith)) (λ j ne. words_same j) (λ j ne. refl) (λ j ne. (refl, refl, refl))
+        each_desk =
+            desks_after s r words' s.homes id v w (length jobs) at (omega arith) (λ j ne l a. absurd (omega arith)) (λ j ne. words_same j)
+            (λ j ne. refl) (λ j ne. (refl, refl, refl))
             (λ y e. absurd (let i = slice_get_within jobs (length jobs) y e in omega arith));
         each_view = views_after s r words' id w (omega arith) (λ k h. omega (arith, words_same k, h)) record {
           same = old.same;
@@ -171,7 +222,8 @@ module _ {J W R : Type 0} (fits : W → J → Type 0) (is_run : W → J → R �
         };
       }
 
-  pub draws : (slots id : ℕ) (me : Known) → me.0.hand.ticket ≡ None → 1 ≤ me.0.hand.share → Allows Rule slots id me 0 (λ n. (n + 1) % 2 ^ 64) (drew fits (step slots 0 1 0 none) me)
+  pub draws : (slots id : ℕ) (me : Known) → me.0.hand.ticket ≡ None → 1 ≤ me.0.hand.share
+      → Allows Rule slots id me 0 (λ n. (n + 1) % 2 ^ 64) (drew fits (step slots 0 1 0 none) me)
   draws slots id me fresh part s r deep at in_range =
       let n : ℕ = get_or s.words 0 0 in let v = me.0 in let few = r.few in let low = r.low in let is_live = live_none v.hand fresh in
       let parts : live v.hand ≤ sum_by (λ x. live x.hand) s.views = tally_part (λ x. live x.hand) s.views id v at in
@@ -182,30 +234,53 @@ module _ {J W R : Type 0} (fits : W → J → Type 0) (is_run : W → J → R �
         keeps,
         tt,
         subst (λ (x : ℕ). Rule (stepped s 0 x id me.1 w keeps)) next (ends_pass s r id v me.1 at fresh part past),
-        λ about is. subst (λ (a : About J W). DrewFrom fits a me n (w, me.1)) (sym (told_about s r id v about at is)) ((λ l. absurd (omega arith)), λ _. refl),
+        λ about is. subst (λ (a : About J W). DrewFrom fits a me n (w, me.1)) (sym (told_about s r id v about at is))
+            ((λ l. absurd (omega arith)), λ _. refl),
       ))
-      (λ no. let w : V = record v { hand = hand_drew n v.hand } in let g = got jobs n (lt_of_not-le no) in let did = draws_desk s r id v me.1 g.0 at fresh part g.1 in (
+      (λ no. let w : V = record v { hand = hand_drew n v.hand } in let g = got jobs n (lt_of_not-le no) in
+      let did = draws_desk s r id v me.1 g.0 at fresh part g.1 in (
         w,
         takes n (Todo g.0),
         did.0,
         subst (λ (x : ℕ). Rule (stepped s 0 x id me.1 w (takes n (Todo g.0)))) next did.1,
-        λ about is. subst (λ (a : About J W). DrewFrom fits a me n (w, (n, Todo g.0) ∷ me.1)) (sym (told_about s r id v about at is)) ((λ _. (g.0, g.1, job_fits s r n g.0 g.1, refl, below_counter s r id v at, none_twice (stepped s 0 (n + 1) id me.1 w (takes n (Todo g.0))) did.1 id w (found_set s.views id v w at))), λ l. absurd (no l)),
+        λ about is. subst (λ (a : About J W). DrewFrom fits a me n (w, (n, Todo g.0) ∷ me.1)) (sym (told_about s r id v about at is)) (
+          (λ _. (
+            g.0,
+            g.1,
+            job_fits s r n g.0 g.1,
+            refl,
+            below_counter s r id v at,
+            none_twice (stepped s 0 (n + 1) id me.1 w (takes n (Todo g.0))) did.1 id w (found_set s.views id v w at),
+          )),
+          λ l.
+              absurd (no l),
+        ),
       ))
 
-  finishes_desk : (slots id : ℕ) (v : V) (carried : List (ℕ × Slot J R)) (k : ℕ) (run : R) (about : About J W) (job : J) → v.about ≡ Some about → slice_get about.jobs k ≡ Some job → is_run about.with job run → 1 ≤ times k v.hand.held
-      → Allows Rule slots id (v, (k, Done run) ∷ carried) (k + 1) (λ _. 1) (λ _. finished (step slots (k + 1) 1 0 none) (v, (k, Done run) ∷ carried) 1)
+  finishes_desk : (slots id : ℕ) (v : V) (carried : List (ℕ × Slot J R)) (k : ℕ) (run : R) (about : About J W) (job : J)
+      → v.about ≡ Some about → slice_get about.jobs k ≡ Some job → is_run about.with job run → 1 ≤ times k v.hand.held
+      → Allows Rule slots id (v, (k, Done run) ∷ carried) (k + 1) (λ _. 1)
+      (λ _. finished (step slots (k + 1) 1 0 none) (v, (k, Done run) ∷ carried) 1)
   finishes_desk slots id v carried k run about job is has ran mine s r deep' at in_range =
-      let w : V = record v { hand = hand_finished k v.hand } in let words' : List ℕ = set s.words (k + 1) 1 in let homes' : Homes = set s.homes k (some (Done run)) in
+      let w : V = record v { hand = hand_finished k v.hand } in
+      let words' : List ℕ = set s.words (k + 1) 1 in
+      let homes' : Homes = set s.homes k (some (Done run)) in
       let wide = r.wide in let deep = r.deep in let old = r.each_view id v at in
-      let known : (slice_get jobs k ≡ Some job) × is_run plan.with.value job run = subst (λ (a : About J W). (slice_get a.jobs k ≡ Some job) × is_run a.with job run) (told_about s r id v about at is) (has, ran) in
+      let known : (slice_get jobs k ≡ Some job) × is_run plan.with.value job run =
+      subst (λ (a : About J W). (slice_get a.jobs k ≡ Some job) × is_run a.with job run) (told_about s r id v about at is) (has, ran) in
       let inside : k < length jobs = slice_get_within jobs k job known.0 in
       let helds : times k v.hand.held ≤ sum_by (λ x. times k x.hand.held) s.views = tally_part (λ x. times k x.hand.held) s.views id v at in
       let was = r.each_desk k job known.0 in let st = is_drawn is_run plan.with.value k job _ _ _ _ _ _ (omega arith) was.0 was.1 in
       let counter : get_or words' 0 0 ≡ get_or s.words 0 0 = get_or-set_other s.words (k + 1) 0 1 0 (λ e. omega arith) in
       let here : get_or words' (k + 1) 0 ≡ 1 = get_or-set_same s.words (k + 1) 1 0 (omega arith) in
-      let else_same : (j : ℕ) → j ≢ k → get_or words' (j + 1) 0 ≡ get_or s.words (j + 1) 0 = λ j ne. get_or-set_other s.words (k + 1) (j + 1) 1 0 (λ e. ne (omega arith)) in
-      let rises : (j : ℕ) → 1 ≤ get_or s.words (j + 1) 0 → 1 ≤ get_or words' (j + 1) 0 = λ j h. dite (ℕ_discrete j k) (λ e. subst (λ (z : ℕ). 1 ≤ get_or words' (z + 1) 0) (sym e) (omega (arith, here))) (λ ne. omega (arith, else_same j ne, h)) in
-      let low = r.low in let lives = same_tally (λ x. live x.hand) s.views id v w at refl in let moved = tally_set (λ (x : V). times k x.hand.held) s.views id v w at in
+      let else_same : (j : ℕ) → j ≢ k → get_or words' (j + 1) 0 ≡ get_or s.words (j + 1) 0 =
+      λ j ne. get_or-set_other s.words (k + 1) (j + 1) 1 0 (λ e. ne (omega arith)) in
+      let rises : (j : ℕ) → 1 ≤ get_or s.words (j + 1) 0 → 1 ≤ get_or words' (j + 1) 0 =
+      λ j h. dite (ℕ_discrete j k) (λ e. subst (λ (z : ℕ). 1 ≤ get_or words' (z + 1) 0) (sym e) (omega (arith, here)))
+      (λ ne. omega (arith, else_same j ne, h)) in
+      let low = r.low in
+      let lives = same_tally (λ x. live x.hand) s.views id v w at refl in
+      let moved = tally_set (λ (x : V). times k x.hand.held) s.views id v w at in
       let gone : times k w.hand.held ≡ 0 = without_same k v.hand.held in let once = st.4 in let under = st.0 in (
         w,
         gives,
@@ -219,7 +294,9 @@ module _ {J W R : Type 0} (fits : W → J → Type 0) (is_run : W → J → R �
           clerks = same_tally (λ x. x.book.clerk) s.views id v w at refl ∙ r.clerks;
           low = omega (arith, counter, low, lives);
           beyond = λ j l. same_tally (λ x. times j x.hand.drawn) s.views id v w at refl ∙ r.beyond j l;
-          each_desk = desks_after s r words' homes' id v w k at (omega (arith, counter)) (λ j ne l a. omega (arith, counter, a)) else_same (λ j ne. set_else s.homes k j (some (Done run)) ne)
+          each_desk =
+              desks_after s r words' homes' id v w k at (omega (arith, counter)) (λ j ne l a. omega (arith, counter, a)) else_same
+              (λ j ne. set_else s.homes k j (some (Done run)) ne)
               (λ j ne. (refl, without_else j k v.hand.held ne, refl))
               (λ y e. let same : job ≡ y = cc in (
                 done,
@@ -241,15 +318,20 @@ module _ {J W R : Type 0} (fits : W → J → Type 0) (is_run : W → J → R �
             seen = λ j h. rises j (old.seen j h);
           };
         },
-        λ j e. let same : k ≡ j = omega arith in subst (λ (z : ℕ). (w, carried) ≡ (let m : Known = (record v { hand = hand_finished z v.hand }, carried) in m)) same refl,
+        λ j e. let same : k ≡ j = omega arith in
+            subst (λ (z : ℕ). (w, carried) ≡ (let m : Known = (record v { hand = hand_finished z v.hand }, carried) in m)) same refl,
       )
 
-  pub finishes : (slots id : ℕ) (me : Known) (v : V) (carried : List (ℕ × Slot J R)) (k : ℕ) (run : R) (about : About J W) → me ≡ (v, (k, Done run) ∷ carried) → v.about ≡ Some about → IsRunAt is_run about k run → 1 ≤ times k v.hand.held
+  pub finishes : (slots id : ℕ) (me : Known) (v : V) (carried : List (ℕ × Slot J R)) (k : ℕ) (run : R) (about : About J W)
+      → me ≡ (v, (k, Done run) ∷ carried) → v.about ≡ Some about → IsRunAt is_run about k run → 1 ≤ times k v.hand.held
       → Allows Rule slots id me (k + 1) (λ _. 1) (λ _. finished (step slots (k + 1) 1 0 none) me 1)
-  finishes slots id me v carried k run about is of ran held = subst (λ (m : Known). Allows Rule slots id m (k + 1) (λ _. 1) (λ _. finished (step slots (k + 1) 1 0 none) m 1)) (sym is) (finishes_desk slots id v carried k run about ran.0 of ran.1 ran.2 held)
+  finishes slots id me v carried k run about is of ran held =
+      subst (λ (m : Known). Allows Rule slots id m (k + 1) (λ _. 1) (λ _. finished (step slots (k + 1) 1 0 none) m 1)) (sym is)
+      (finishes_desk slots id v carried k run about ran.0 of ran.1 ran.2 held)
 
   -- no desk is touched: the words are read, and one book changes
-  reads : (s : St) (r : Rule s) (i id : ℕ) (v : V) (book : Book) → get_elem? s.views id ≡ some v → book.clerk ≡ v.book.clerk → book.taken ≡ v.book.taken → ((k : ℕ) → 0 < times k book.seen → 1 ≤ get_or s.words (k + 1) 0)
+  reads : (s : St) (r : Rule s) (i id : ℕ) (v : V) (book : Book) → get_elem? s.views id ≡ some v → book.clerk ≡ v.book.clerk
+      → book.taken ≡ v.book.taken → ((k : ℕ) → 0 < times k book.seen → 1 ≤ get_or s.words (k + 1) 0)
       → Rule record { words = set s.words i (get_or s.words i 0); homes = s.homes; views = set s.views id (record v { book = book }) }
   reads s r i id v book at clerk taken saw = let w : V = record v { book = book } in let old = r.each_view id v at in
       subst (λ (ws : List ℕ). Rule record { words = ws; homes = s.homes; views = set s.views id w }) (sym (set-get_or s.words i 0)) record {
@@ -261,7 +343,9 @@ module _ {J W R : Type 0} (fits : W → J → Type 0) (is_run : W → J → R �
         clerks = same_tally (λ x. x.book.clerk) s.views id v w at clerk ∙ r.clerks;
         low = (let low = r.low in let lives = same_tally (λ x. live x.hand) s.views id v w at refl in omega (arith, low, lives));
         beyond = λ j l. same_tally (λ x. times j x.hand.drawn) s.views id v w at refl ∙ r.beyond j l;
-        each_desk = desks_after s r s.words s.homes id v w (length jobs) at (omega arith) (λ j ne l a. a) (λ j ne. refl) (λ j ne. refl) (λ j ne. (refl, refl, ap (times j) taken))
+        each_desk =
+            desks_after s r s.words s.homes id v w (length jobs) at (omega arith) (λ j ne l a. a) (λ j ne. refl) (λ j ne. refl)
+            (λ j ne. (refl, refl, ap (times j) taken))
             (λ y e. absurd (let i = slice_get_within jobs (length jobs) y e in omega arith));
         each_view = views_after s r s.words id w (omega arith) (λ k h. h) record {
           same = old.same;
@@ -273,15 +357,20 @@ module _ {J W R : Type 0} (fits : W → J → Type 0) (is_run : W → J → R �
         };
       }
 
-  pub looks : (slots id : ℕ) (me : Known) (k : ℕ) (about : About J W) → me.0.about ≡ Some about → k < length about.jobs → Allows Rule slots id me (k + 1) (λ n. n) (looked (step slots (k + 1) 0 0 none) me)
+  pub looks : (slots id : ℕ) (me : Known) (k : ℕ) (about : About J W) → me.0.about ≡ Some about → k < length about.jobs
+      → Allows Rule slots id me (k + 1) (λ n. n) (looked (step slots (k + 1) 0 0 none) me)
   looks slots id me k about is inside' s r deep at in_range =
       let v = me.0 in let n : ℕ = get_or s.words (k + 1) 0 in let old = r.each_view id v at in
       let inside : k < length jobs = subst (λ (a : About J W). k < length a.jobs) (told_about s r id v about at is) inside' in
       let g = got jobs k inside in let was = r.each_desk k g.0 g.1 in
-      let saw : (b : Bool) → eqb n 0 ≡ b → (j : ℕ) → 0 < times j (cond b v.book.seen (v.book.seen ++ k ∷ [])) → 1 ≤ get_or s.words (j + 1) 0 = λ b. elim b as (λ z. eqb n 0 ≡ z → (j : ℕ) → 0 < times j (cond z v.book.seen (v.book.seen ++ k ∷ [])) → 1 ≤ get_or s.words (j + 1) 0) [
+      let saw : (b : Bool) → eqb n 0 ≡ b → (j : ℕ) → 0 < times j (cond b v.book.seen (v.book.seen ++ k ∷ []))
+      → 1 ≤ get_or s.words (j + 1) 0 =
+      λ b. elim b as (λ z. eqb n 0 ≡ z → (j : ℕ) → 0 < times j (cond z v.book.seen (v.book.seen ++ k ∷ []))
+      → 1 ≤ get_or s.words (j + 1) 0) [
         | true ↦ λ e j h. old.seen j h
         | false ↦ λ e j h. dite (ℕ_discrete j k)
-            (λ same. subst (λ (z : ℕ). 1 ≤ get_or s.words (z + 1) 0) (sym same) (dite (ℕ_discrete n 0) (λ z. absurd (true≢false (sym (eq-eqb n 0 z) ∙ e))) (λ z. omega arith)))
+            (λ same. subst (λ (z : ℕ). 1 ≤ get_or s.words (z + 1) 0) (sym same)
+            (dite (ℕ_discrete n 0) (λ z. absurd (true≢false (sym (eq-eqb n 0 z) ∙ e))) (λ z. omega arith)))
             (λ ne. old.seen j (omega (arith, h, times_else j k v.book.seen ne)))
       ] in (
         record v { book = book_looked k n v.book },
@@ -289,23 +378,32 @@ module _ {J W R : Type 0} (fits : W → J → Type 0) (is_run : W → J → R �
         tt,
         reads s r (k + 1) id v (book_looked k n v.book) at refl refl (saw (eqb n 0) refl),
         λ j e. let same : k ≡ j = omega arith in (
-          subst (λ (z : ℕ). (let m : Known = (record v { book = book_looked k n v.book }, me.1) in m) ≡ (record v { book = book_looked z n v.book }, me.1)) same refl,
+          subst (λ (z : ℕ). (let m : Known = (record v { book = book_looked k n v.book }, me.1) in m)
+              ≡ (record v { book = book_looked z n v.book }, me.1)) same refl,
           word_low is_run plan.with.value k g.0 _ _ _ _ _ _ was.0 was.1,
           λ whole. let alone : sum_by (λ (x : V). times k x.hand.held) s.views ≡ times k v.hand.held =
-              tally_alone (λ x. x.hand.share) (λ x. times k x.hand.held) s.views id v at (r.shares ∙ sym whole.0) (λ i y a z. ap (times k) ((r.each_view i y a).idle z).1) in
+              tally_alone (λ x. x.hand.share) (λ x. times k x.hand.held) s.views id v at (r.shares ∙ sym whole.0)
+              (λ i y a z. ap (times k) ((r.each_view i y a).idle z).1) in
               let none : times k v.hand.held ≡ 0 = ap (times k) whole.2 in
-              let past = (subst (λ (o : Option ℕ). IfSome o (λ t. (length jobs ≤ t) × (length jobs ≤ get_or s.words 0 0))) whole.1.1 old.ended).1 in
+              let past =
+              (subst (λ (o : Option ℕ). IfSome o (λ t. (length jobs ≤ t) × (length jobs ≤ get_or s.words 0 0)))
+              whole.1.1 old.ended).1 in
               past_done is_run plan.with.value k g.0 _ _ _ _ _ _ (omega arith) (alone ∙ none) was.0 was.1,
-          λ about' is' whole d l. let below : d < length jobs = subst (λ (a : About J W). d < length a.jobs) (told_about s r id v about' at is') l in
+          λ about' is' whole d l. let below : d < length jobs =
+              subst (λ (a : About J W). d < length a.jobs) (told_about s r id v about' at is') l in
               let alone : drawns s.views d ≡ times d v.hand.drawn =
-              tally_alone (λ x. x.hand.share) (λ x. times d x.hand.drawn) s.views id v at (r.shares ∙ sym whole.0) (λ i y a z. ap (times d) ((r.each_view i y a).idle z).0) in
-              let past = (subst (λ (o : Option ℕ). IfSome o (λ t. (length jobs ≤ t) × (length jobs ≤ get_or s.words 0 0))) whole.1.1 old.ended).1 in
+              tally_alone (λ x. x.hand.share) (λ x. times d x.hand.drawn) s.views id v at (r.shares ∙ sym whole.0)
+              (λ i y a z. ap (times d) ((r.each_view i y a).idle z).0) in
+              let past =
+              (subst (λ (o : Option ℕ). IfSome o (λ t. (length jobs ≤ t) × (length jobs ≤ get_or s.words 0 0)))
+              whole.1.1 old.ended).1 in
               let y = got jobs d below in let then = r.each_desk d y.0 y.1 in
               sym alone ∙ drawn_past is_run plan.with.value d y.0 _ _ _ _ _ _ (omega arith) then.0 then.1,
         ),
       )
 
-  pub collects : (slots id : ℕ) (me : Known) (k : ℕ) (about : About J W) → me.0.about ≡ Some about → k < length about.jobs → me.0.book.clerk ≡ 1 → 0 < times k me.0.book.seen → times k me.0.book.taken ≡ 0
+  pub collects : (slots id : ℕ) (me : Known) (k : ℕ) (about : About J W) → me.0.about ≡ Some about → k < length about.jobs
+      → me.0.book.clerk ≡ 1 → 0 < times k me.0.book.seen → times k me.0.book.taken ≡ 0
       → Allows Rule slots id me (k + 1) (λ _. 2) (λ _. took is_run (step slots (k + 1) 2 0 none) me 2)
   collects slots id me k about is inside' clerk saw fresh s r deep' at in_range =
       let v = me.0 in let w : V = record v { book = book_took k v.book } in let old = r.each_view id v at in
@@ -313,12 +411,16 @@ module _ {J W R : Type 0} (fits : W → J → Type 0) (is_run : W → J → R �
       let words' : List ℕ = set s.words (k + 1) 2 in let homes' : Homes = set s.homes k none in let wide = r.wide in let deep = r.deep in
       let g = got jobs k inside in let was = r.each_desk k g.0 g.1 in
       let alone : sum_by (λ (x : V). times k x.book.taken) s.views ≡ times k v.book.taken =
-      tally_alone (λ x. x.book.clerk) (λ x. times k x.book.taken) s.views id v at (r.clerks ∙ sym clerk) (λ i y a z. ap (times k) ((r.each_view i y a).others z)) in
+      tally_alone (λ x. x.book.clerk) (λ x. times k x.book.taken) s.views id v at (r.clerks ∙ sym clerk)
+      (λ i y a z. ap (times k) ((r.each_view i y a).others z)) in
       let st = is_done is_run plan.with.value k g.0 _ _ _ _ _ _ (old.seen k saw) (alone ∙ fresh) was.0 was.1 in let run = st.2.0 in
       let counter : get_or words' 0 0 ≡ get_or s.words 0 0 = get_or-set_other s.words (k + 1) 0 2 0 (λ e. omega arith) in
       let here : get_or words' (k + 1) 0 ≡ 2 = get_or-set_same s.words (k + 1) 2 0 (omega arith) in
-      let else_same : (j : ℕ) → j ≢ k → get_or words' (j + 1) 0 ≡ get_or s.words (j + 1) 0 = λ j ne. get_or-set_other s.words (k + 1) (j + 1) 2 0 (λ e. ne (omega arith)) in
-      let rises : (j : ℕ) → 1 ≤ get_or s.words (j + 1) 0 → 1 ≤ get_or words' (j + 1) 0 = λ j h. dite (ℕ_discrete j k) (λ e. subst (λ (z : ℕ). 1 ≤ get_or words' (z + 1) 0) (sym e) (omega (arith, here))) (λ ne. omega (arith, else_same j ne, h)) in
+      let else_same : (j : ℕ) → j ≢ k → get_or words' (j + 1) 0 ≡ get_or s.words (j + 1) 0 =
+      λ j ne. get_or-set_other s.words (k + 1) (j + 1) 2 0 (λ e. ne (omega arith)) in
+      let rises : (j : ℕ) → 1 ≤ get_or s.words (j + 1) 0 → 1 ≤ get_or words' (j + 1) 0 =
+      λ j h. dite (ℕ_discrete j k) (λ e. subst (λ (z : ℕ). 1 ≤ get_or words' (z + 1) 0) (sym e) (omega (arith, here)))
+      (λ ne. omega (arith, else_same j ne, h)) in
       let low = r.low in let lives = same_tally (λ x. live x.hand) s.views id v w at refl in let under = st.0 in (
         w,
         takes k (Done run),
@@ -332,7 +434,9 @@ module _ {J W R : Type 0} (fits : W → J → Type 0) (is_run : W → J → R �
           clerks = same_tally (λ x. x.book.clerk) s.views id v w at refl ∙ r.clerks;
           low = omega (arith, counter, low, lives);
           beyond = λ j l. same_tally (λ x. times j x.hand.drawn) s.views id v w at refl ∙ r.beyond j l;
-          each_desk = desks_after s r words' homes' id v w k at (omega (arith, counter)) (λ j ne l a. omega (arith, counter, a)) else_same (λ j ne. set_else s.homes k j none ne)
+          each_desk =
+              desks_after s r words' homes' id v w k at (omega (arith, counter)) (λ j ne l a. omega (arith, counter, a)) else_same
+              (λ j ne. set_else s.homes k j none ne)
               (λ j ne. (refl, refl, times_else j k v.book.taken ne))
               (λ y e. (
                 collected,
@@ -355,5 +459,6 @@ module _ {J W R : Type 0} (fits : W → J → Type 0) (is_run : W → J → R �
           };
         },
         λ j about' e is'. let same : k ≡ j = omega arith in
-            subst (λ (z : ℕ × About J W). TookFrom is_run z.1 z.0 me (w, (k, Done run) ∷ me.1)) (λ i. (same i, sym (told_about s r id v about' at is') i)) (g.0, run, g.1, st.2.2, refl),
+            subst (λ (z : ℕ × About J W). TookFrom is_run z.1 z.0 me (w, (k, Done run) ∷ me.1))
+            (λ i. (same i, sym (told_about s r id v about' at is') i)) (g.0, run, g.1, st.2.2, refl),
       )

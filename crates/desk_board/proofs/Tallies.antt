@@ -27,7 +27,8 @@ module _ {A : Type 0} where
   tally_none f (a ∷ zs) h = omega (arith, h 0 a refl, tally_none f zs (λ j y e. h (suc j) y e), sum_by-cons f a zs)
 
   -- where one value has all of g, and f is 0 wherever g is, it has all of f
-  pub tally_alone : (g f : A → ℕ) (xs : List A) (i : ℕ) (x : A) → get_elem? xs i ≡ some x → sum_by g xs ≡ g x → ((j : ℕ) (y : A) → get_elem? xs j ≡ some y → g y ≡ 0 → f y ≡ 0) → sum_by f xs ≡ f x
+  pub tally_alone : (g f : A → ℕ) (xs : List A) (i : ℕ) (x : A) → get_elem? xs i ≡ some x → sum_by g xs ≡ g x
+      → ((j : ℕ) (y : A) → get_elem? xs j ≡ some y → g y ≡ 0 → f y ≡ 0) → sum_by f xs ≡ f x
   tally_alone g f [] i x e all h = absurd (some-ne-none x (sym e))
   tally_alone g f (a ∷ zs) zero x e all h =
       let is = ap f (some-injective a x e) in let gis = ap g (some-injective a x e) in
@@ -77,17 +78,23 @@ without_no k d xs ne = ap (λ b. cond (not b) (d ∷ without k xs) (without k xs
 pub without_same : (k : ℕ) (xs : List ℕ) → times k (without k xs) ≡ 0
 without_same k [] = refl
 without_same k (d ∷ xs) = dite (ℕ_discrete d k) (λ e. ap (times k) (without_yes k d xs e) ∙ without_same k xs)
-    (λ ne. ap (times k) (without_no k d xs ne) ∙ (let one = one_other k d ne in omega (arith, one, times_cons k d (without k xs), without_same k xs)))
+    (λ ne. ap (times k) (without_no k d xs ne)
+    ∙ (let one = one_other k d ne in omega (arith, one, times_cons k d (without k xs), without_same k xs)))
 
 pub without_else : (j k : ℕ) (xs : List ℕ) → j ≢ k → times j (without k xs) ≡ times j xs
 without_else j k [] ne = refl
 without_else j k (d ∷ xs) ne = dite (ℕ_discrete d k)
-    (λ e. ap (times j) (without_yes k d xs e) ∙ (let one = one_other j d (λ s. ne (sym s ∙ e)) in omega (arith, one, times_cons j d xs, without_else j k xs ne)))
+    (λ e. ap (times j) (without_yes k d xs e)
+    ∙ (let one = one_other j d (λ s. ne (sym s ∙ e)) in omega (arith, one, times_cons j d xs, without_else j k xs ne)))
     (λ no. ap (times j) (without_no k d xs no) ∙ (omega (arith, times_cons j d xs, times_cons j d (without k xs), without_else j k xs ne)))
 
 pub without_le : (j k : ℕ) (xs : List ℕ) → times j (without k xs) ≤ times j xs
-without_le j k xs = dite (ℕ_discrete j k) (λ e. subst (λ (z : ℕ). times z (without k xs) ≤ times z xs) (sym e) (omega (arith, without_same k xs))) (λ ne. omega (arith, without_else j k xs ne))
+without_le j k xs =
+    dite (ℕ_discrete j k) (λ e. subst (λ (z : ℕ). times z (without k xs) ≤ times z xs) (sym e) (omega (arith, without_same k xs)))
+    (λ ne. omega (arith, without_else j k xs ne))
 
 pub all_from_times : (P : ℕ → Type 0) (xs : List ℕ) → ((d : ℕ) → 0 < times d xs → P d) → All P xs
 all_from_times P [] h = All-nil P
-all_from_times P (d ∷ xs) h = All-cons P d xs (h d (omega (arith, times_cons d d xs, one_same d d refl))) (all_from_times P xs (λ e p. h e (omega (arith, p, times_cons e d xs))))
+all_from_times P (d ∷ xs) h =
+    All-cons P d xs (h d (omega (arith, times_cons d d xs, one_same d d refl)))
+    (all_from_times P xs (λ e p. h e (omega (arith, p, times_cons e d xs))))

@@ -35,7 +35,8 @@ module _ {J W R : Type 0} where
 --   drawn: it is in some one list of drawn desks exactly where its ticket was taken; word: its word is 0, 1 or 2, and 0 until
 --   it is drawn; waits: until then its job lies there; done: where the word is 1, a run of its job lies there;
 --   out: else nothing lies there
-pub record DeskFacts {J W R : Type 0} (is_run : W → J → R → Type 0) (with : W) (s : State (Slot J R) (View J W)) (k : ℕ) (job : J) : Type 0 where
+pub record DeskFacts {J W R : Type 0} (is_run : W → J → R → Type 0) (with : W) (s : State (Slot J R) (View J W)) (k : ℕ)
+    (job : J) : Type 0 where
   pub drawn : (k < tickets s → drawns s.views k ≡ 1) × (tickets s ≤ k → drawns s.views k ≡ 0)
   pub word : (word_of s k ≤ 2) × (tickets s ≤ k → word_of s k ≡ 0)
   pub waits : tickets s ≤ k → LiesAt s k (Todo job)
@@ -58,15 +59,19 @@ pub record ViewFacts {J W R : Type 0} (m : ℕ) (s : State (Slot J R) (View J W)
 --   shares: the shares add up to 64; drawn_once: no two views have drawn one desk;
 --   taken: the clerk, and nobody else, has taken exactly the desks whose word is 2, each once;
 --   tickets: at most as many tickets past the last desk were taken as there are shares that have ended
-pub record BoardFacts {J W R : Type 0} (fits : W → J → Type 0) (is_run : W → J → R → Type 0) (plan : Plan J W) (s : State (Slot J R) (View J W)) : Type 0 where
-  pub jobs : All (fits plan.with.value) plan.jobs.value.items × ((i : ℕ) (v : View J W) → IsView s i v → IfSome v.about (λ a. a ≡ about_of plan))
+pub record BoardFacts {J W R : Type 0} (fits : W → J → Type 0) (is_run : W → J → R → Type 0) (plan : Plan J W)
+    (s : State (Slot J R) (View J W)) : Type 0 where
+  pub jobs : All (fits plan.with.value) plan.jobs.value.items
+      × ((i : ℕ) (v : View J W) → IsView s i v → IfSome v.about (λ a. a ≡ about_of plan))
   pub shares : sum_by (λ v. v.hand.share) s.views ≡ 64
   pub drawn_once : (k i j : ℕ) (v u : View J W) → IsView s i v → IsView s j u → Contains v.hand.drawn k → Contains u.hand.drawn k → i ≡ j
-  pub taken : (i : ℕ) (v : View J W) → IsView s i v → v.book.clerk ≡ 1 → (k : ℕ) → k < length plan.jobs.value.items → (times k v.book.taken ≤ 1) × (Contains v.book.taken k ↔ (word_of s k ≡ 2))
+  pub taken : (i : ℕ) (v : View J W) → IsView s i v → v.book.clerk ≡ 1 → (k : ℕ) → k < length plan.jobs.value.items
+      → (times k v.book.taken ≤ 1) × (Contains v.book.taken k ↔ (word_of s k ≡ 2))
   pub tickets : tickets s + sum_by (λ v. live v.hand) s.views ≤ length plan.jobs.value.items + 64
   pub desks : (k : ℕ) (job : J) → slice_get plan.jobs.value.items k ≡ Some job → DeskFacts is_run plan.with.value s k job
   pub views : (i : ℕ) (v : View J W) → IsView s i v → ViewFacts (length plan.jobs.value.items) s v
 
 -- the rule gives the facts
 abbrev pub FactsLaw : {J W R : Type 0} → (W → J → Type 0) → (W → J → R → Type 0) → Type 0
-FactsLaw {J} {W} {R} fits is_run = (plan : Plan J W) (s : State (Slot J R) (View J W)) → Kept fits is_run plan s → BoardFacts fits is_run plan s
+FactsLaw {J} {W} {R} fits is_run =
+    (plan : Plan J W) (s : State (Slot J R) (View J W)) → Kept fits is_run plan s → BoardFacts fits is_run plan s

@@ -30,11 +30,13 @@ module _ {J W R : Type 0} {g : Ghosts J W R} where
 
   -- the pass belongs to this board; where it has ended, its ticket is past the last desk
   abbrev pub IsPassOf : Board J W R → Pass J W R g → Type 0
-  IsPassOf board pass = IsOf board.table.shared.table_id (about board) pass.seat × IfSome (hand pass).ticket (λ t. length (about board).jobs ≤ t)
+  IsPassOf board pass =
+      IsOf board.table.shared.table_id (about board) pass.seat × IfSome (hand pass).ticket (λ t. length (about board).jobs ≤ t)
 
   -- the clerk belongs to this board, and has seen none but its desks
   abbrev pub IsClerkOf : Board J W R → Clerk J W R g → Type 0
-  IsClerkOf board clerk = IsOf board.table.shared.table_id (about board) clerk.seat × All (λ k. k < length (about board).jobs) (book clerk).seen
+  IsClerkOf board clerk =
+      IsOf board.table.shared.table_id (about board) clerk.seat × All (λ k. k < length (about board).jobs) (book clerk).seen
 
   -- the desk belongs to this board
   abbrev pub IsDeskOf : Board J W R → Desk J W R g → Type 0

@@ -74,7 +74,9 @@ module _ {J W R : Type 0} (is_run : W → J → R → Type 0) (with : W) where
     abbrev pub AtStage : Stage → Type 0
     AtStage waiting = (counter ≤ k) × (word ≡ 0) × (home ≡ some (some (Todo job))) × (drawns ≡ 0) × (helds ≡ 0) × (takens ≡ 0)
     AtStage drawn = (k < counter) × (word ≡ 0) × (home ≡ some none) × (drawns ≡ 1) × (helds ≡ 1) × (takens ≡ 0)
-    AtStage done = (k < counter) × (word ≡ 1) × ((run : R) × (home ≡ some (some (Done run))) × is_run with job run) × (drawns ≡ 1) × (helds ≡ 0) × (takens ≡ 0)
+    AtStage done =
+        (k < counter) × (word ≡ 1) × ((run : R) × (home ≡ some (some (Done run))) × is_run with job run) × (drawns ≡ 1)
+        × (helds ≡ 0) × (takens ≡ 0)
     AtStage collected = (k < counter) × (word ≡ 2) × (home ≡ some none) × (drawns ≡ 1) × (helds ≡ 0) × (takens ≡ 1)
 
 -- what holds of one view
@@ -100,7 +102,8 @@ module _ {J W R : Type 0} (is_run : W → J → R → Type 0) where
 --   few: so the counter can't wrap; wide, deep: there is a word and a slot for each desk; shares: the passes share 64 parts;
 --   clerks: there is one clerk; low: a ticket past the last desk ends a pass, so there are at most 64 of them;
 --   beyond: nobody has drawn a desk that isn't there
-pub record Kept {J W R : Type 0} (fits : W → J → Type 0) (is_run : W → J → R → Type 0) (plan : Plan J W) (s : State (Slot J R) (View J W)) : Type 0 where
+pub record Kept {J W R : Type 0} (fits : W → J → Type 0) (is_run : W → J → R → Type 0) (plan : Plan J W)
+    (s : State (Slot J R) (View J W)) : Type 0 where
   pub all_fit : All (fits plan.with.value) plan.jobs.value.items
   pub few : length plan.jobs.value.items ≤ 65536
   pub wide : length s.words ≡ length plan.jobs.value.items + 1

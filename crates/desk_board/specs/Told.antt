@@ -66,7 +66,10 @@ Known J W R = Me (Slot J R) (View J W)
 module _ {J W R : Type 0} where
   -- a ticket below the number of jobs gives that desk with its job, above every desk drawn before; another ends the pass
   abbrev pub DrewFrom : (W → J → Type 0) → About J W → Known J W R → ℕ → Known J W R → Type 0
-  DrewFrom fits about m found m' = (found < length about.jobs → (job : J) × (slice_get about.jobs found ≡ Some job) × fits about.with job × (m' ≡ (record m.0 { hand = hand_drew found m.0.hand }, (found, Todo job) ∷ m.1)) × All (λ d. d < found) m.0.hand.drawn × NoneTwice (hand_drew found m.0.hand).drawn)
+  DrewFrom fits about m found m' =
+      (found < length about.jobs → (job : J) × (slice_get about.jobs found ≡ Some job) × fits about.with job
+      × (m' ≡ (record m.0 { hand = hand_drew found m.0.hand }, (found, Todo job) ∷ m.1)) × All (λ d. d < found) m.0.hand.drawn
+      × NoneTwice (hand_drew found m.0.hand).drawn)
       × (length about.jobs ≤ found → m' ≡ (record m.0 { hand = hand_ended found m.0.hand }, m.1))
 
   -- a ticket was taken
@@ -79,11 +82,16 @@ module _ {J W R : Type 0} where
 
   -- a desk's word was read; where the clerk has gathered, its run is back, and each desk was drawn once
   abbrev pub looked : Step (Slot J R) → Known J W R → ℕ → Known J W R → Type 0
-  looked st m found m' = (k : ℕ) → st.word ≡ k + 1 → (m' ≡ (record m.0 { book = book_looked k found m.0.book }, m.1)) × (found ≤ 2) × (IsWhole m.0.hand → 1 ≤ found) × ((about : About J W) → m.0.about ≡ Some about → IsWhole m.0.hand → EachOnce (length about.jobs) m.0.hand.drawn)
+  looked st m found m' =
+      (k : ℕ) → st.word ≡ k + 1 → (m' ≡ (record m.0 { book = book_looked k found m.0.book }, m.1)) × (found ≤ 2)
+      × (IsWhole m.0.hand → 1 ≤ found) × ((about : About J W) → m.0.about ≡ Some about → IsWhole m.0.hand
+      → EachOnce (length about.jobs) m.0.hand.drawn)
 
   -- the run of desk k's job was taken
   abbrev pub TookFrom : (W → J → R → Type 0) → About J W → ℕ → Known J W R → Known J W R → Type 0
-  TookFrom is_run about k m m' = (job : J) × (run : R) × (slice_get about.jobs k ≡ Some job) × is_run about.with job run × (m' ≡ (record m.0 { book = book_took k m.0.book }, (k, Done run) ∷ m.1))
+  TookFrom is_run about k m m' =
+      (job : J) × (run : R) × (slice_get about.jobs k ≡ Some job) × is_run about.with job run
+      × (m' ≡ (record m.0 { book = book_took k m.0.book }, (k, Done run) ∷ m.1))
 
   -- a run was collected
   abbrev pub took : (W → J → R → Type 0) → Step (Slot J R) → Known J W R → ℕ → Known J W R → Type 0
@@ -95,7 +103,8 @@ ticket_either a b = elim a [ None ↦ b | Some t ↦ Some t ]
 
 -- what two passes have together
 abbrev pub hand_both : Hand → Hand → Hand
-hand_both h g = record { share = h.share + g.share; drawn = h.drawn ++ g.drawn; held = h.held ++ g.held; ticket = ticket_either h.ticket g.ticket }
+hand_both h g =
+    record { share = h.share + g.share; drawn = h.drawn ++ g.drawn; held = h.held ++ g.held; ticket = ticket_either h.ticket g.ticket }
 
 -- a part of 1 goes to a new pass, which ended where this one did
 abbrev pub hand_kept : Hand → Hand

@@ -1,4 +1,7 @@
--- What is kept stands after the event of a line that may come next.
+-- What is kept stands after the event of a line that may come next. There is one lemma for each kind of line. What is
+-- kept of each position is compared with the stage after the event: a result that applies takes its position out of
+-- those that wait; a restart raises the positions that it redoes, whose numbers rise, and those of them that were
+-- applied wait again.
 use Rattle.std.proofs.Common.{◌≡◌, ◌≢◌, ◌⊎◌, ◌↔◌, inl, inr, ℕ, zero, suc, ◌+◌, ◌<◌, ◌≤◌, Bool, true, false, not, cond, nat_eq, ◌&&◌, ◌||◌, List, [], ◌∷◌, ◌++◌, length, length-append, length-set, get_or, get_or-set_same, get_or-set_other, Contains, Some, refl, sym, ap, ◌∙◌, subst, arith}
 use Rattle.std.specs.Prelude.{slice_get, slice_set, filter}
 use Rattle.std.specs.List.Sorted.{IsStrictlyIncreasing}
@@ -28,19 +31,22 @@ use Rattle.gp_audit.proofs.ToldEvents.{LineAllowed}
 
 module _ {A : Type 0} where
   -- what stands in a list with one more at its end
-  pub push_cases : (xs : List A) (x : A) (q : ℕ) (y : A) → slice_get (xs ++ x ∷ []) q ≡ Some y → (slice_get xs q ≡ Some y) ⊎ ((q ≡ length xs) × (x ≡ y))
+  pub push_cases : (xs : List A) (x : A) (q : ℕ) (y : A) → slice_get (xs ++ x ∷ []) q ≡ Some y
+      → (slice_get xs q ≡ Some y) ⊎ ((q ≡ length xs) × (x ≡ y))
   push_cases [] x zero y e = inr (refl, cc e)
   push_cases [] x (suc q) y e = absurd (cc e)
   push_cases (z ∷ zs) x zero y e = inl e
   push_cases (z ∷ zs) x (suc q) y e = elim (push_cases zs x q y e) [ inl h ↦ inl h | inr h ↦ inr (ap suc h.0, h.1) ]
 
   -- what stands in a list where one place was set
-  set_cases : (xs : List A) (p : ℕ) (x : A) (q : ℕ) (y : A) → slice_get (slice_set xs p x) q ≡ Some y → ((q ≡ p) × (x ≡ y)) ⊎ ((q ≢ p) × (slice_get xs q ≡ Some y))
+  set_cases : (xs : List A) (p : ℕ) (x : A) (q : ℕ) (y : A) → slice_get (slice_set xs p x) q ≡ Some y
+      → ((q ≡ p) × (x ≡ y)) ⊎ ((q ≢ p) × (slice_get xs q ≡ Some y))
   set_cases [] p x q y e = absurd (cc e)
   set_cases (z ∷ zs) zero x zero y e = inl (refl, cc e)
   set_cases (z ∷ zs) zero x (suc q) y e = inr ((λ f. absurd (omega arith)), e)
   set_cases (z ∷ zs) (suc p) x zero y e = inr ((λ f. absurd (omega arith)), e)
-  set_cases (z ∷ zs) (suc p) x (suc q) y e = elim (set_cases zs p x q y e) [ inl h ↦ inl (ap suc h.0, h.1) | inr h ↦ inr ((λ f. h.0 (omega arith)), h.1) ]
+  set_cases (z ∷ zs) (suc p) x (suc q) y e =
+      elim (set_cases zs p x q y e) [ inl h ↦ inl (ap suc h.0, h.1) | inr h ↦ inr ((λ f. h.0 (omega arith)), h.1) ]
 
 Contains-cases : {A : Type 0} (x : A) (xs : List A) (y : A) → Contains (x ∷ xs) y → (x ≡ y) ⊎ Contains xs y
 Contains-cases x xs y c = go c.0 c.1 c.2
@@ -60,8 +66,10 @@ filtered-from : {A : Type 0} (test : A → Bool) (xs : List A) (x : A) → Conta
 filtered-from test [] x c e = c
 filtered-from test (y ∷ ys) x c e = go (test y) refl (λ later. filtered-from test ys x later e) (Contains-cases y ys x c)
   where
-    go : (b : Bool) → test y ≡ b → (Contains ys x → Contains (filter test ys) x) → (y ≡ x) ⊎ Contains ys x → Contains (cond b (y ∷ filter test ys) (filter test ys)) x
-    go true f rest (inl same) = subst (λ z. Contains (y ∷ filter test ys) z) same (Contains-append_left (y ∷ []) (filter test ys) y (0, omega arith, refl))
+    go : (b : Bool) → test y ≡ b → (Contains ys x → Contains (filter test ys) x) → (y ≡ x) ⊎ Contains ys x
+        → Contains (cond b (y ∷ filter test ys) (filter test ys)) x
+    go true f rest (inl same) =
+        subst (λ z. Contains (y ∷ filter test ys) z) same (Contains-append_left (y ∷ []) (filter test ys) y (0, omega arith, refl))
     go true f rest (inr later) = Contains-append_right (y ∷ []) (filter test ys) x (rest later)
     go false f rest (inl same) = absurd (false≢true (sym f ∙ (ap test same ∙ e)))
     go false f rest (inr later) = rest later
@@ -79,43 +87,58 @@ after_first p redo rising k c = go c.0 c.1 c.2
   where
     all_above : (i : ℕ) → i < length redo → p < get_or redo i 0
     all_above zero l = rising 0 (omega arith)
-    all_above (suc i) l = let before = all_above i (omega arith) in let rises = rising_tail p redo rising i (omega arith) in let more : suc i ≡ i + 1 = omega arith in let next = ap (λ x. get_or redo x 0) more in omega arith
+    all_above (suc i) l =
+        let before = all_above i (omega arith) in
+        let rises = rising_tail p redo rising i (omega arith) in
+        let more : suc i ≡ i + 1 = omega arith in
+        let next = ap (λ x. get_or redo x 0) more in
+        omega arith
 
     go : (i : ℕ) → i < length redo → get_or redo i k ≡ k → p < k
     go i l e = let above = all_above i l in let same = get_or_default redo i k 0 l in omega arith
 
 pub raised_length : (front : ℕ) (redo : List ℕ) (seen : List Seen) → length (all_raised front redo seen) ≡ length seen
 raised_length front [] seen = refl
-raised_length front (p ∷ redo) seen = raised_length front redo (changed_at (raised_seen front) p seen) ∙ length-set seen p (raised_seen front (seen_at seen p))
+raised_length front (p ∷ redo) seen =
+    raised_length front redo (changed_at (raised_seen front) p seen) ∙ length-set seen p (raised_seen front (seen_at seen p))
 
 -- what holds after a position was raised before the others
 raised_step : (front p : ℕ) (redo : List ℕ) (seen : List Seen) (q : ℕ) (s : Seen) → ((k : ℕ) → Contains redo k → p < k)
-    → (s ≡ cond (is_member q redo) (raised_seen front (seen_at (changed_at (raised_seen front) p seen) q)) (seen_at (changed_at (raised_seen front) p seen) q)) × (q < length (changed_at (raised_seen front) p seen))
+    → (s ≡ cond (is_member q redo) (raised_seen front (seen_at (changed_at (raised_seen front) p seen) q))
+    (seen_at (changed_at (raised_seen front) p seen) q)) × (q < length (changed_at (raised_seen front) p seen))
     → (s ≡ cond (is_member q (p ∷ redo)) (raised_seen front (seen_at seen q)) (seen_at seen q)) × (q < length seen)
 raised_step front p redo seen q s above later = go (nat_eq q p) refl
   where
     within : q < length seen
     within = let wide = length-set seen p (raised_seen front (seen_at seen p)) in let w = later.1 in omega arith
 
-    go : (b : Bool) → nat_eq q p ≡ b → (s ≡ cond (b || is_member q redo) (raised_seen front (seen_at seen q)) (seen_at seen q)) × (q < length seen)
+    go : (b : Bool) → nat_eq q p ≡ b
+        → (s ≡ cond (b || is_member q redo) (raised_seen front (seen_at seen q)) (seen_at seen q)) × (q < length seen)
     go true same =
         let is = eqb-true q p same in
-        let none : is_member q redo ≡ false = false_from_ne_true _ (λ t. let c = (is_member-is q redo).0 t in let l = above q c in omega arith) in
-        let here : seen_at (changed_at (raised_seen front) p seen) q ≡ raised_seen front (seen_at seen q) = subst (λ x. seen_at (changed_at (raised_seen front) x seen) q ≡ raised_seen front (seen_at seen q)) is (get_or-set_same seen q (raised_seen front (seen_at seen q)) (first_seen q) within) in
+        let none : is_member q redo ≡ false =
+        false_from_ne_true _ (λ t. let c = (is_member-is q redo).0 t in let l = above q c in omega arith) in
+        let here : seen_at (changed_at (raised_seen front) p seen) q ≡ raised_seen front (seen_at seen q) =
+        subst (λ x. seen_at (changed_at (raised_seen front) x seen) q ≡ raised_seen front (seen_at seen q)) is
+        (get_or-set_same seen q (raised_seen front (seen_at seen q)) (first_seen q) within) in
         ((rw none at later.0) ∙ here, within)
     go false other =
         let ne : q ≢ p = (λ is. false≢true (sym other ∙ eq-eqb q p is)) in
-        let there : seen_at (changed_at (raised_seen front) p seen) q ≡ seen_at seen q = get_or-set_other seen p q (raised_seen front (seen_at seen p)) (first_seen q) ne in
+        let there : seen_at (changed_at (raised_seen front) p seen) q ≡ seen_at seen q =
+        get_or-set_other seen p q (raised_seen front (seen_at seen p)) (first_seen q) ne in
         (rw there at later.0, within)
 
 -- the positions that were raised, where they rise
-pub raised_at : (front : ℕ) (redo : List ℕ) (seen : List Seen) (q : ℕ) (s : Seen) → ((k : ℕ) → Contains redo k → k < length seen) → IsStrictlyIncreasing redo
-    → slice_get (all_raised front redo seen) q ≡ Some s → (s ≡ cond (is_member q redo) (raised_seen front (seen_at seen q)) (seen_at seen q)) × (q < length seen)
+pub raised_at : (front : ℕ) (redo : List ℕ) (seen : List Seen) (q : ℕ) (s : Seen) → ((k : ℕ) → Contains redo k → k < length seen)
+    → IsStrictlyIncreasing redo
+    → slice_get (all_raised front redo seen) q ≡ Some s
+    → (s ≡ cond (is_member q redo) (raised_seen front (seen_at seen q)) (seen_at seen q)) × (q < length seen)
 raised_at front [] seen q s low rising e = (sym (get_or_from_slice_get seen q s (first_seen q) e), slice_get_within seen q s e)
 raised_at front (p ∷ redo) seen q s low rising e =
     raised_step front p redo seen q s (after_first p redo rising)
     (raised_at front redo (changed_at (raised_seen front) p seen) q s
-    (λ k c. let l = low k (Contains-append_right (p ∷ []) redo k c) in let wide = length-set seen p (raised_seen front (seen_at seen p)) in omega arith) (rising_tail p redo rising) e)
+    (λ k c. let l = low k (Contains-append_right (p ∷ []) redo k c) in let wide = length-set seen p (raised_seen front (seen_at seen p)) in
+    omega arith) (rising_tail p redo rising) e)
 
 -- what waits again is redone
 waits-redone : (front : ℕ) (redo : List ℕ) (seen : List Seen) (q : ℕ) → Contains (waits_again front redo seen) q → Contains redo q
@@ -132,12 +155,14 @@ waits-redone front (p ∷ redo) seen q c =
     only false h = absurd (let l = h.1 in omega arith)
 
 -- what is redone and was applied waits again
-redone-waits : (front : ℕ) (redo : List ℕ) (seen : List Seen) (q : ℕ) → Contains redo q → (seen_at seen q).applied ≡ true → Contains (waits_again front redo seen) q
+redone-waits : (front : ℕ) (redo : List ℕ) (seen : List Seen) (q : ℕ) → Contains redo q → (seen_at seen q).applied ≡ true
+    → Contains (waits_again front redo seen) q
 redone-waits front [] seen q c applied = c
 redone-waits front (p ∷ redo) seen q c applied = go (nat_eq q p) refl (redone-waits front redo (changed_at (raised_seen front) p seen) q)
   where
     go : (b : Bool) → nat_eq q p ≡ b
-        → (Contains redo q → (seen_at (changed_at (raised_seen front) p seen) q).applied ≡ true → Contains (waits_again front redo (changed_at (raised_seen front) p seen)) q)
+        → (Contains redo q → (seen_at (changed_at (raised_seen front) p seen) q).applied ≡ true
+        → Contains (waits_again front redo (changed_at (raised_seen front) p seen)) q)
         → Contains (where_applied (seen_at seen p).applied p ++ waits_again front redo (changed_at (raised_seen front) p seen)) q
     go true e later =
         let same : p ≡ q = sym (eqb-true q p e) in
@@ -146,26 +171,31 @@ redone-waits front (p ∷ redo) seen q c applied = go (nat_eq q p) refl (redone-
         (subst (λ b. Contains (where_applied b p) q) (sym here) (0, omega arith, same))
     go false e later =
         let ne : q ≢ p = (λ is. false≢true (sym e ∙ eq-eqb q p is)) in
-        let there : seen_at (changed_at (raised_seen front) p seen) q ≡ seen_at seen q = get_or-set_other seen p q (raised_seen front (seen_at seen p)) (first_seen q) ne in
+        let there : seen_at (changed_at (raised_seen front) p seen) q ≡ seen_at seen q =
+        get_or-set_other seen p q (raised_seen front (seen_at seen p)) (first_seen q) ne in
         let rest : Contains redo q = elim (Contains-cases p redo q c) [ inl same ↦ absurd (ne (sym same)) | inr more ↦ more ] in
         Contains-append_right (where_applied (seen_at seen p).applied p) (waits_again front redo (changed_at (raised_seen front) p seen)) q
         (later rest (ap (λ (s : Seen). s.applied) there ∙ applied))
 
-module _ (at : Stage) (a : Audited) (shows : Shows at a) (stands : StageStands (dependence_by a.steps) a.faults at) (names : NamesIssued at) where
+module _ (at : Stage) (a : Audited) (shows : Shows at a) (stands : StageStands (dependence_by a.steps) a.faults at)
+    (names : NamesIssued at) where
   abbrev dependence : Dependence
   dependence = dependence_by a.steps
 
   none-posted : (p attempt : ℕ) → at.progress.front ≤ p → ¬ Contains at.posted (p, attempt)
   none-posted p attempt l c = let low = names.posted p attempt c in omega arith
 
-  issued : (p : ℕ) → MayIssue dependence a.faults at p → Shows (happens dependence a.faults at (event.Issue p)) (after_line a (line.Issue p))
+  issued : (p : ℕ) → MayIssue dependence a.faults at p
+      → Shows (happens dependence a.faults at (event.Issue p)) (after_line a (line.Issue p))
   issued p may =
       record {
         front = length-append a.seen (first_seen p ∷ []) ∙ (let front = shows.front in omega arith);
         retired = shows.retired;
         each = λ q s e. elim (push_cases a.seen (first_seen p) q s e) [
           | inl old ↦ same q s (shows.each q s old)
-          | inr new ↦ subst (IsSeen (happens dependence a.faults at (event.Issue p)) q) new.1 (subst (λ x. IsSeen (happens dependence a.faults at (event.Issue p)) x (first_seen p)) (sym (here q new.0)) fresh)
+          | inr new ↦
+              subst (IsSeen (happens dependence a.faults at (event.Issue p)) q) new.1
+              (subst (λ x. IsSeen (happens dependence a.faults at (event.Issue p)) x (first_seen p)) (sym (here q new.0)) fresh)
         ];
         out = shows.out;
         waiting = λ q. (to q, from q);
@@ -183,7 +213,9 @@ module _ (at : Stage) (a : Audited) (shows : Shows at a) (stands : StageStands (
       from q h =
           elim (cases_lt q at.progress.front) [
             | inl l ↦ Contains-append_left a.waiting (p ∷ []) q ((shows.waiting q).1 (l, h.1))
-            | inr l ↦ (let low = h.0 in let next = may.next in let same : p ≡ q = omega arith in subst (Contains (a.waiting ++ p ∷ [])) same (Contains-push a.waiting p))
+            | inr l ↦
+                (let low = h.0 in let next = may.next in let same : p ≡ q = omega arith in
+                subst (Contains (a.waiting ++ p ∷ [])) same (Contains-push a.waiting p))
           ]
 
       same : (q : ℕ) (s : Seen) → IsSeen at q s → IsSeen (happens dependence a.faults at (event.Issue p)) q s
@@ -205,7 +237,8 @@ module _ (at : Stage) (a : Audited) (shows : Shows at a) (stands : StageStands (
             taken = (λ e. absurd (false≢true e), λ w. absurd (let low = names.taken p w.0 w.1 in omega arith));
           }
 
-  posted : (p attempt : ℕ) → MayPost dependence at p attempt → Shows (happens dependence a.faults at (event.Post p attempt)) (after_line a (line.Post p attempt))
+  posted : (p attempt : ℕ) → MayPost dependence at p attempt
+      → Shows (happens dependence a.faults at (event.Post p attempt)) (after_line a (line.Post p attempt))
   posted p attempt may =
       record {
         front = length-set a.seen p (posted_seen (seen_at a.seen p)) ∙ shows.front;
@@ -241,7 +274,10 @@ module _ (at : Stage) (a : Audited) (shows : Shows at a) (stands : StageStands (
             begun = is.begun;
             posted = (
               λ e. Contains-append_left at.posted ((p, attempt) ∷ []) (q, present at q) (is.posted.0 e),
-              λ c. elim (Contains-push_cases at.posted (p, attempt) (q, present at q) c) [ inl old ↦ is.posted.1 old | inr new ↦ absurd (ne (sym (ap (λ x. x.0) new))) ],
+              λ c. elim (Contains-push_cases at.posted (p, attempt) (q, present at q) c) [
+                | inl old ↦ is.posted.1 old
+                | inr new ↦ absurd (ne (sym (ap (λ x. x.0) new)))
+              ],
             );
             applied = is.applied;
             taken = is.taken;
@@ -251,7 +287,9 @@ module _ (at : Stage) (a : Audited) (shows : Shows at a) (stands : StageStands (
       to q b c =
           elim (Contains-push_cases a.out (p, attempt) (q, b) c) [
             | inl old ↦ (let h = (shows.out q b).0 old in (Contains-append_left at.posted ((p, attempt) ∷ []) (q, b) h.0, h.1))
-            | inr new ↦ subst (λ x. Contains after.posted x × ¬ Contains at.taken x) new (Contains-push at.posted (p, attempt), λ t. may.unposted (stands.taken_posted p attempt t))
+            | inr new ↦
+                subst (λ x. Contains after.posted x × ¬ Contains at.taken x) new
+                (Contains-push at.posted (p, attempt), λ t. may.unposted (stands.taken_posted p attempt t))
           ]
 
       from : (q b : ℕ) → Contains after.posted (q, b) × ¬ Contains at.taken (q, b) → Contains (a.out ++ (p, attempt) ∷ []) (q, b)
@@ -262,7 +300,8 @@ module _ (at : Stage) (a : Audited) (shows : Shows at a) (stands : StageStands (
           ]
 
   -- what waits after a result
-  left_shows : (p q : ℕ) (applies : Bool) → Contains (left_waiting applies p a.waiting) q ↔ ((q < at.progress.front) × (((applies && nat_eq q p) || at.applied q) ≡ false))
+  left_shows : (p q : ℕ) (applies : Bool)
+      → Contains (left_waiting applies p a.waiting) q ↔ ((q < at.progress.front) × (((applies && nat_eq q p) || at.applied q) ≡ false))
   left_shows p q false = shows.waiting q
   left_shows p q true = (to, from (nat_eq q p) refl)
     where
@@ -273,11 +312,13 @@ module _ (at : Stage) (a : Audited) (shows : Shows at a) (stands : StageStands (
           let other : nat_eq q p ≡ false = false_from_ne_true (nat_eq q p) (λ e. false≢true (sym (ap not e) ∙ f.1)) in
           (h.0, rw (other, h.1) refl)
 
-      from : (b : Bool) → nat_eq q p ≡ b → (q < at.progress.front) × ((b || at.applied q) ≡ false) → Contains (filter (λ x. not (nat_eq x p)) a.waiting) q
+      from : (b : Bool) → nat_eq q p ≡ b → (q < at.progress.front) × ((b || at.applied q) ≡ false)
+          → Contains (filter (λ x. not (nat_eq x p)) a.waiting) q
       from true e h = absurd (false≢true (sym h.1))
       from false e h = filtered-from (λ x. not (nat_eq x p)) a.waiting q ((shows.waiting q).1 h) (ap not e)
 
-  taken : (p attempt : ℕ) (applies : Bool) → MayTake at p attempt applies → Shows (happens dependence a.faults at (event.Take p attempt applies)) (after_line a (line.Take p attempt applies))
+  taken : (p attempt : ℕ) (applies : Bool) → MayTake at p attempt applies
+      → Shows (happens dependence a.faults at (event.Take p attempt applies)) (after_line a (line.Take p attempt applies))
   taken p attempt applies may =
       record {
         front = length-set a.seen p (taken_seen applies (seen_at a.seen p)) ∙ shows.front;
@@ -323,26 +364,40 @@ module _ (at : Stage) (a : Audited) (shows : Shows at a) (stands : StageStands (
             applied = rw (ne_eqb q p ne, and-false applies) is.applied;
             taken = (
               λ e. (let w = is.taken.0 e in (w.0, Contains-append_left at.taken ((p, attempt) ∷ []) (q, w.0) w.1)),
-              λ w. elim (Contains-push_cases at.taken (p, attempt) (q, w.0) w.1) [ inl old ↦ is.taken.1 (w.0, old) | inr new ↦ absurd (ne (sym (ap (λ x. x.0) new))) ],
+              λ w. elim (Contains-push_cases at.taken (p, attempt) (q, w.0) w.1) [
+                | inl old ↦ is.taken.1 (w.0, old)
+                | inr new ↦ absurd (ne (sym (ap (λ x. x.0) new)))
+              ],
             );
           }
 
-      to : (q b : ℕ) → Contains (filter (λ pair. not (same_attempt (p, attempt) pair)) a.out) (q, b) → Contains at.posted (q, b) × ¬ Contains after.taken (q, b)
+      to : (q b : ℕ) → Contains (filter (λ pair. not (same_attempt (p, attempt) pair)) a.out) (q, b)
+          → Contains at.posted (q, b) × ¬ Contains after.taken (q, b)
       to q b c =
           let f = filtered (λ pair. not (same_attempt (p, attempt) pair)) a.out (q, b) c in
-          let h = (shows.out q b).0 f.0 in
-          (h.0, λ t. elim (Contains-push_cases at.taken (p, attempt) (q, b) t) [ inl old ↦ h.1 old | inr new ↦ false≢true (sym (ap not ((same_attempt-decides (p, attempt) (q, b)).1 new)) ∙ f.1) ])
+          let h = (shows.out q b).0 f.0 in (
+            h.0,
+            λ t. elim (Contains-push_cases at.taken (p, attempt) (q, b) t) [
+              | inl old ↦ h.1 old
+              | inr new ↦ false≢true (sym (ap not ((same_attempt-decides (p, attempt) (q, b)).1 new)) ∙ f.1)
+            ],
+          )
 
-      from : (q b : ℕ) → Contains at.posted (q, b) × ¬ Contains after.taken (q, b) → Contains (filter (λ pair. not (same_attempt (p, attempt) pair)) a.out) (q, b)
+      from : (q b : ℕ) → Contains at.posted (q, b) × ¬ Contains after.taken (q, b)
+          → Contains (filter (λ pair. not (same_attempt (p, attempt) pair)) a.out) (q, b)
       from q b h =
-          filtered-from (λ pair. not (same_attempt (p, attempt) pair)) a.out (q, b) ((shows.out q b).1 (h.0, λ t. h.1 (Contains-append_left at.taken ((p, attempt) ∷ []) (q, b) t)))
+          filtered-from (λ pair. not (same_attempt (p, attempt) pair)) a.out (q, b)
+          ((shows.out q b).1 (h.0, λ t. h.1 (Contains-append_left at.taken ((p, attempt) ∷ []) (q, b) t)))
           (differs (same_attempt (p, attempt) (q, b)) refl)
         where
           differs : (d : Bool) → same_attempt (p, attempt) (q, b) ≡ d → not d ≡ true
-          differs true e = absurd (h.1 (subst (Contains after.taken) ((same_attempt-decides (p, attempt) (q, b)).0 e) (Contains-push at.taken (p, attempt))))
+          differs true e =
+              absurd (h.1 (subst (Contains after.taken) ((same_attempt-decides (p, attempt) (q, b)).0 e)
+              (Contains-push at.taken (p, attempt))))
           differs false e = refl
 
-  restart_shows : (r : Restart) (struck : ℕ) → struck_next dependence a.faults at.progress ≡ Some struck → r ≡ restart_of dependence at.progress struck
+  restart_shows : (r : Restart) (struck : ℕ) → struck_next dependence a.faults at.progress ≡ Some struck
+      → r ≡ restart_of dependence at.progress struck
       → Shows (restarted dependence at (Some struck)) (after_line a (line.Restart r))
   restart_shows r struck some is =
       record {
@@ -362,7 +417,10 @@ module _ (at : Stage) (a : Audited) (shows : Shows at a) (stands : StageStands (
       redo_is = ap (λ x. x.redo) is
 
       low : (k : ℕ) → Contains r.redo k → k < length a.seen
-      low k c = let l = (steps-redo a.steps).below struck at.progress.front k (subst (λ x. Contains x k) redo_is c) in let front = shows.front in omega arith
+      low k c =
+          let l = (steps-redo a.steps).below struck at.progress.front k (subst (λ x. Contains x k) redo_is c) in
+          let front = shows.front in
+          omega arith
 
       rising : IsStrictlyIncreasing r.redo
       rising = subst IsStrictlyIncreasing (sym redo_is) (dependents_rise _ struck at.progress.front)
@@ -373,8 +431,11 @@ module _ (at : Stage) (a : Audited) (shows : Shows at a) (stands : StageStands (
       attempt_now : (q : ℕ) (b : Bool) → is_member q r.redo ≡ b → present after q ≡ present at q + cond b 1 0
       attempt_now q b e = attempt-push at.progress.made made q ∙ ap (λ x. present at q + cond x 1 0) (ap (is_member q) (sym redo_is) ∙ e)
 
-      begun_now : (q : ℕ) (b : Bool) → is_member q r.redo ≡ b → begun_of after.progress.made q ≡ cond b at.progress.front (begun_of at.progress.made q)
-      begun_now q b e = begun-push at.progress.made made q ∙ ap (λ x. cond x at.progress.front (begun_of at.progress.made q)) (ap (is_member q) (sym redo_is) ∙ e)
+      begun_now : (q : ℕ) (b : Bool) → is_member q r.redo ≡ b
+          → begun_of after.progress.made q ≡ cond b at.progress.front (begun_of at.progress.made q)
+      begun_now q b e =
+          begun-push at.progress.made made q ∙ ap (λ x. cond x at.progress.front (begun_of at.progress.made q))
+          (ap (is_member q) (sym redo_is) ∙ e)
 
       applied_now : (q : ℕ) (b : Bool) → is_member q r.redo ≡ b → after.applied q ≡ cond b false (at.applied q)
       applied_now q b e = ap (λ x. cond x false (at.applied q)) (ap (is_member q) (sym redo_is) ∙ e)
@@ -383,7 +444,8 @@ module _ (at : Stage) (a : Audited) (shows : Shows at a) (stands : StageStands (
       not_applied : (q : ℕ) → Contains r.redo q → after.applied q ≡ false
       not_applied q c = applied_now q true ((is_member-is q r.redo).1 c)
 
-      to : (q : ℕ) → Contains (a.waiting ++ waits_again (length a.seen) r.redo a.seen) q → (q < at.progress.front) × (after.applied q ≡ false)
+      to : (q : ℕ) → Contains (a.waiting ++ waits_again (length a.seen) r.redo a.seen) q
+          → (q < at.progress.front) × (after.applied q ≡ false)
       to q c =
           elim (Contains-append_cases a.waiting (waits_again (length a.seen) r.redo a.seen) q c) [
             | inl old ↦ (let h = (shows.waiting q).0 old in (h.0, still (is_member q r.redo) refl h.1))
@@ -395,17 +457,20 @@ module _ (at : Stage) (a : Audited) (shows : Shows at a) (stands : StageStands (
           still true e f = applied_now q true e
           still false e f = applied_now q false e ∙ f
 
-      from : (q : ℕ) → (q < at.progress.front) × (after.applied q ≡ false) → Contains (a.waiting ++ waits_again (length a.seen) r.redo a.seen) q
+      from : (q : ℕ) → (q < at.progress.front) × (after.applied q ≡ false)
+          → Contains (a.waiting ++ waits_again (length a.seen) r.redo a.seen) q
       from q h = go (is_member q r.redo) refl (at.applied q) refl
         where
-          go : (b : Bool) → is_member q r.redo ≡ b → (v : Bool) → at.applied q ≡ v → Contains (a.waiting ++ waits_again (length a.seen) r.redo a.seen) q
+          go : (b : Bool) → is_member q r.redo ≡ b → (v : Bool) → at.applied q ≡ v
+              → Contains (a.waiting ++ waits_again (length a.seen) r.redo a.seen) q
           go b e false f = Contains-append_left a.waiting (waits_again (length a.seen) r.redo a.seen) q ((shows.waiting q).1 (h.0, f))
           go true e true f =
               Contains-append_right a.waiting (waits_again (length a.seen) r.redo a.seen) q
               (redone-waits (length a.seen) r.redo a.seen q ((is_member-is q r.redo).0 e) ((seen-is at a shows q h.0).applied ∙ f))
           go false e true f = absurd (false≢true (sym h.1 ∙ (applied_now q false e ∙ f)))
 
-      now : (q : ℕ) → q < at.progress.front → (b : Bool) → is_member q r.redo ≡ b → IsSeen after q (cond b (raised_seen (length a.seen) (seen_at a.seen q)) (seen_at a.seen q))
+      now : (q : ℕ) → q < at.progress.front → (b : Bool) → is_member q r.redo ≡ b
+          → IsSeen after q (cond b (raised_seen (length a.seen) (seen_at a.seen q)) (seen_at a.seen q))
       now q issued true e =
           let was = seen-is at a shows q issued in
           let attempt = attempt_now q true e in
@@ -422,18 +487,33 @@ module _ (at : Stage) (a : Audited) (shows : Shows at a) (stands : StageStands (
           record {
             attempt = was.attempt ∙ sym attempt;
             begun = was.begun ∙ sym (begun_now q false e);
-            posted = (λ f. subst (λ n. Contains at.posted (q, n)) (sym attempt) (was.posted.0 f), λ c. was.posted.1 (subst (λ n. Contains at.posted (q, n)) attempt c));
+            posted = (
+              λ f. subst (λ n. Contains at.posted (q, n)) (sym attempt) (was.posted.0 f),
+              λ c.
+                  was.posted.1 (subst (λ n. Contains at.posted (q, n)) attempt c),
+            );
             applied = was.applied ∙ sym (applied_now q false e);
             taken = was.taken;
           }
 
-  retired : (p : ℕ) → MayRetire dependence a.faults at p → Shows (happens dependence a.faults at (event.Retire p)) (after_line a (line.Retire p))
-  retired p may = record { front = shows.front; retired = refl; each = λ q s e. (let is = shows.each q s e in record { attempt = is.attempt; begun = is.begun; posted = is.posted; applied = is.applied; taken = is.taken }); out = shows.out; waiting = shows.waiting }
+  retired : (p : ℕ) → MayRetire dependence a.faults at p
+      → Shows (happens dependence a.faults at (event.Retire p)) (after_line a (line.Retire p))
+  retired p may =
+      record {
+        front = shows.front;
+        retired = refl;
+        each = λ q s e. (let is = shows.each q s e in
+            record { attempt = is.attempt; begun = is.begun; posted = is.posted; applied = is.applied; taken = is.taken });
+        out = shows.out;
+        waiting = shows.waiting;
+      }
 
   -- after the event of a line that may come next
-  pub line-shows : (l : TraceLine) (made : ℕ) → LineAllowed dependence a.faults at l → Shows (happens dependence a.faults at (event_of made l)) (after_line a l)
+  pub line-shows : (l : TraceLine) (made : ℕ) → LineAllowed dependence a.faults at l
+      → Shows (happens dependence a.faults at (event_of made l)) (after_line a l)
   line-shows (line.Issue p) made may = issued p may
   line-shows (line.Post p attempt) made may = posted p attempt may
   line-shows (line.Take p attempt applies) made may = taken p attempt applies may
   line-shows (line.Retire p) made may = retired p may
-  line-shows (line.Restart r) made may = subst (λ o. Shows (restarted dependence at o) (after_line a (line.Restart r))) (sym may.1) (restart_shows r may.0 may.1 may.2)
+  line-shows (line.Restart r) made may =
+      subst (λ o. Shows (restarted dependence at o) (after_line a (line.Restart r))) (sym may.1) (restart_shows r may.0 may.1 may.2)

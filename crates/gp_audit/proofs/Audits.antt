@@ -1,4 +1,6 @@
--- An audit, line after line.
+-- An audit, line after line. After each line what is kept shows the stage of the lines so far (Told). A line that may
+-- come next is one that the rules allow, and leads on so (Shown, After); one that may not makes the lines unlawful; and
+-- all is there exactly where the journal is complete.
 use Rattle.std.proofs.Common.{◌≡◌, ◌↔◌, ℕ, ◌<◌, ◌≤◌, Bool, true, false, cond, min, List, [], ◌∷◌, ◌++◌, length, get_or, Contains, inl, inr, Option, Some, None, refl, sym, ap, ◌∙◌, subst, arith}
 use Rattle.std.specs.Prelude.{slice_get}
 use Rattle.std.specs.List.{All, list_any}
@@ -34,7 +36,8 @@ use Rattle.gp_audit.proofs.StepOrder.{steps-struck, steps-redo, steps-later, ste
 use Rattle.gp_audit.proofs.ToldEvents.{lawful-push, push-lawful, stage-push}
 
 -- the position that is struck was issued
-struck-low : (test : Fault → Bool) (n : ℕ) → ((fault : Fault) → test fault ≡ true → fault.pos < n) → (faults : List Fault) (p : ℕ) → least_struck test faults ≡ Some p → p < n
+struck-low : (test : Fault → Bool) (n : ℕ) → ((fault : Fault) → test fault ≡ true → fault.pos < n) → (faults : List Fault) (p : ℕ)
+    → least_struck test faults ≡ Some p → p < n
 struck-low test n low [] p e = absurd (cc e)
 struck-low test n low (x ∷ xs) p e = go (test x) refl (least_struck test xs) refl e (struck-low test n low xs)
   where
@@ -68,15 +71,19 @@ struck_in-low a p e = go (least_of a false) refl e
 -- what a line that may come next names was issued
 pub takes-low : (a : Audited) (p attempt : ℕ) (applies : Bool) → IsNoteworthy a → takes a p attempt applies ≡ true → p < length a.seen
 takes-low a p attempt applies noteworthy e =
-    All-contains (λ pair. pair.0 < length a.seen) a.out (p, attempt) noteworthy.out ((contains-decides (p, attempt) a.out).0 (and_parts (list_any (same_attempt (p, attempt)) a.out) _ e).0)
+    All-contains (λ pair. pair.0 < length a.seen) a.out (p, attempt) noteworthy.out
+    ((contains-decides (p, attempt) a.out).0 (and_parts (list_any (same_attempt (p, attempt)) a.out) _ e).0)
 
 pub restart-short : (a : Audited) (r : Restart) (o : Option ℕ) → IsRestart a r o → length r.redo ≤ length a.seen
 restart-short a r None h = absurd h
-restart-short a r (Some p) h = subst (λ (x : Restart). length x.redo ≤ length a.seen) (sym h) (few-dependents (clash_in (feet_in a.steps)) p (length a.seen))
+restart-short a r (Some p) h =
+    subst (λ (x : Restart). length x.redo ≤ length a.seen) (sym h) (few-dependents (clash_in (feet_in a.steps)) p (length a.seen))
 
 pub restart-low : (a : Audited) (r : Restart) (o : Option ℕ) → IsRestart a r o → All (λ p. p < length a.seen) r.redo
 restart-low a r None h = absurd h
-restart-low a r (Some p) h = subst (λ (x : Restart). All (λ p. p < length a.seen) x.redo) (sym h) (all-below-front (clash_in (feet_in a.steps)) p (length a.seen) (length a.seen) (omega arith))
+restart-low a r (Some p) h =
+    subst (λ (x : Restart). All (λ p. p < length a.seen) x.redo) (sym h)
+    (all-below-front (clash_in (feet_in a.steps)) p (length a.seen) (length a.seen) (omega arith))
 
 pub told-start : (steps : List Step) (faults : List Fault) → Told (nothing_seen steps faults) []
 told-start steps faults =
@@ -94,7 +101,8 @@ told-start steps faults =
     none : (p : ℕ) (s : Seen) → slice_get [] p ≡ Some s → ⊥
     none p s e = let l = slice_get_within [] p s e in omega arith
 
-keep : (a : Audited) (l : TraceLine) (lines : List TraceLine) → LawfulLines (dependence_by a.steps) a.faults lines → Shows (stage (dependence_by a.steps) a.faults (events_of lines)) (after_line a l) → Told (after_line a l) lines
+keep : (a : Audited) (l : TraceLine) (lines : List TraceLine) → LawfulLines (dependence_by a.steps) a.faults lines
+    → Shows (stage (dependence_by a.steps) a.faults (events_of lines)) (after_line a l) → Told (after_line a l) lines
 keep a (line.Issue p) lines lawful shows = record { lawful = lawful; shows = shows }
 keep a (line.Post p attempt) lines lawful shows = record { lawful = lawful; shows = shows }
 keep a (line.Take p attempt applies) lines lawful shows = record { lawful = lawful; shows = shows }
@@ -117,7 +125,8 @@ module _ (a : Audited) (lines : List TraceLine) (told : Told a lines) (short : A
 
   stands : StageStands dependence a.faults at
   stands =
-      stands-from dependence (steps-redo a.steps) a.faults short (λ other. keeps-retired dependence a.faults other (steps-later a.steps)) initial_stage (events_of lines)
+      stands-from dependence (steps-redo a.steps) a.faults short
+      (λ other. keeps-retired dependence a.faults other (steps-later a.steps)) initial_stage (events_of lines)
       (initial-stands dependence a.faults) told.lawful.lawful
 
   names : NamesIssued at
@@ -134,7 +143,11 @@ module _ (a : Audited) (lines : List TraceLine) (told : Told a lines) (short : A
       }
     where
       out-low : (pair : ℕ × ℕ) → Contains a.out pair → pair.0 < length a.seen
-      out-low pair c = let there = ((told.shows.out pair.0 pair.1).0 c).0 in let low = names.posted pair.0 pair.1 there in let front = told.shows.front in omega arith
+      out-low pair c =
+          let there = ((told.shows.out pair.0 pair.1).0 c).0 in
+          let low = names.posted pair.0 pair.1 there in
+          let front = told.shows.front in
+          omega arith
 
       attempts : (p : ℕ) → (seen_at a.seen p).attempt ≤ MOST_FAULTS
       attempts p =
@@ -143,17 +156,22 @@ module _ (a : Audited) (lines : List TraceLine) (told : Told a lines) (short : A
                 let is = (seen-is at a told.shows p (omega arith)).attempt in
                 let most = (few-attempts dependence a.faults (steps-struck a.steps) (events_of lines) told.lawful.lawful).1 p in
                 omega arith)
-            | inr past ↦ (let none : (seen_at a.seen p).attempt ≡ 0 = ap (λ (s : Seen). s.attempt) (get_or_past a.seen p (first_seen p) past) in omega arith)
+            | inr past ↦
+                (let none : (seen_at a.seen p).attempt ≡ 0 = ap (λ (s : Seen). s.attempt) (get_or_past a.seen p (first_seen p) past) in
+                omega arith)
           ]
 
   pub told-next : (l : TraceLine) → Takes a l → Told (after_line a l) (lines ++ l ∷ [])
   told-next l takes =
       let allowed = (takes-is at a told.shows stands l).0 takes in
       keep a l (lines ++ l ∷ []) (lawful-push dependence a.faults (steps-clean a.steps a.faults short) lines l told.lawful allowed)
-      (subst (λ stage. Shows stage (after_line a l)) (sym (stage-push dependence a.faults (steps-clean a.steps a.faults short) lines l)) (line-shows at a told.shows stands names l _ allowed))
+      (subst (λ stage. Shows stage (after_line a l)) (sym (stage-push dependence a.faults (steps-clean a.steps a.faults short) lines l))
+      (line-shows at a told.shows stands names l _ allowed))
 
   pub told-stops : (l : TraceLine) → ¬ Takes a l → ¬ LawfulLines dependence a.faults (lines ++ l ∷ [])
-  told-stops l none all = none ((takes-is at a told.shows stands l).1 (push-lawful dependence a.faults (steps-clean a.steps a.faults short) lines l told.lawful all))
+  told-stops l none all =
+      none ((takes-is at a told.shows stands l).1
+      (push-lawful dependence a.faults (steps-clean a.steps a.faults short) lines l told.lawful all))
 
   pub told-whole : (is_whole a ≡ true) ↔ Complete dependence a.faults (events_of lines)
   told-whole =
@@ -161,5 +179,6 @@ module _ (a : Audited) (lines : List TraceLine) (told : Told a lines) (short : A
       (λ e. (let h = whole.0 e in record { lawful = told.lawful.lawful; final = h.0; retired = h.1 }), λ c. whole.1 (c.final, c.retired))
 
 -- what holds of an audit's run, of the run and the lines that it was given
-pub of-given : (P : List Step → List Fault → List TraceLine → Type 0) (s t : List Step) (f g : List Fault) (lines all : List TraceLine) → s ≡ t → f ≡ g → lines ≡ all → P s f lines → P t g all
+pub of-given : (P : List Step → List Fault → List TraceLine → Type 0) (s t : List Step) (f g : List Fault) (lines all : List TraceLine)
+    → s ≡ t → f ≡ g → lines ≡ all → P s f lines → P t g all
 of-given P s t f g lines all es ef el h = subst (λ x. P x g all) es (subst (λ x. P s x all) ef (subst (λ x. P s f x) el h))

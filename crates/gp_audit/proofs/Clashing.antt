@@ -21,4 +21,5 @@ pub clash-is : (steps : List Step) (p q : ℕ) (d e : Step) (b : Bool) → p < l
     → IsTrue b ↔ Conflict (get_or steps p d).foot (get_or steps q e).foot → b ≡ clash_in (feet_in steps) p q
 clash-is steps p q d e b lp lq is =
     rw (get_or-map (λ (s : Step). s.foot) steps p d idle_foot lp, get_or-map (λ (s : Step). s.foot) steps q e idle_foot lq)
-    (same_test b (conflicting (get_or steps p d).foot (get_or steps q e).foot) is (conflicting-is (get_or steps p d).foot (get_or steps q e).foot))
+    (same_test b (conflicting (get_or steps p d).foot (get_or steps q e).foot) is
+    (conflicting-is (get_or steps p d).foot (get_or steps q e).foot))

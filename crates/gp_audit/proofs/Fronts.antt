@@ -40,10 +40,13 @@ module _ (dependence : Dependence) (faults : List Fault) where
   lawful-front xs ys lawful =
       let events = events-append 0 xs ys in
       record {
-        lawful = LawfulFrom-front dependence faults initial_stage (events_of xs) events.0 (subst (Lawful dependence faults) events.1 lawful.lawful);
+        lawful =
+            LawfulFrom-front dependence faults initial_stage (events_of xs) events.0
+            (subst (Lawful dependence faults) events.1 lawful.lawful);
         first = (
           restarts_told ys ++ lawful.first.0,
-          lawful.first.1 ∙ (ap (λ rs. rs ++ lawful.first.0) (told-append xs ys) ∙ append_assoc (restarts_told xs) (restarts_told ys) lawful.first.0),
+          lawful.first.1 ∙ (ap (λ rs. rs ++ lawful.first.0) (told-append xs ys)
+              ∙ append_assoc (restarts_told xs) (restarts_told ys) lawful.first.0),
         );
       }
 
@@ -52,7 +55,8 @@ module _ (dependence : Dependence) (faults : List Fault) where
       first.unlawful (lawful-front (first.before ++ first.line ∷ []) first.later
       (subst (LawfulLines dependence faults) (first.lines_are ∙ sym (append_assoc first.before (first.line ∷ []) first.later)) lawful))
 
-  not_before : (lines : List TraceLine) (n m : ℕ) → IsFirstUnlawful dependence faults lines n → IsFirstUnlawful dependence faults lines m → n < m → ⊥
+  not_before : (lines : List TraceLine) (n m : ℕ) → IsFirstUnlawful dependence faults lines n → IsFirstUnlawful dependence faults lines m
+      → n < m → ⊥
   not_before lines n m a b l =
       let na = a.numbered in
       let nb = b.numbered in
@@ -61,7 +65,8 @@ module _ (dependence : Dependence) (faults : List Fault) where
       (append_assoc a.before (a.line ∷ []) a.later ∙ (sym a.lines_are ∙ b.lines_are)) (omega arith) in
       a.unlawful (lawful-front (a.before ++ a.line ∷ []) within.0 (subst (LawfulLines dependence faults) within.1 b.lawful))
 
-  pub verdict_once : (lines : List TraceLine) (v w : Verdict) → IsVerdict dependence faults lines v → IsVerdict dependence faults lines w → v ≡ w
+  pub verdict_once : (lines : List TraceLine) (v w : Verdict) → IsVerdict dependence faults lines v → IsVerdict dependence faults lines w
+      → v ≡ w
   verdict_once lines IsLawful IsLawful a b = refl
   verdict_once lines IsLawful (Unlawful n) a b = absurd (never lines n a.0 b)
   verdict_once lines IsLawful Incomplete a b = absurd (b.1 a.1)

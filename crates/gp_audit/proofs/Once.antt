@@ -21,22 +21,33 @@ redo_once [] [] r s nx ny same = (refl, cancel (codes "\n") r s same)
 redo_once [] (y ∷ ys) r s nx ny same = absurd (let e = ap (λ l. get_or l 0 0) (same ∙ first_apart y ys s) in omega arith)
 redo_once (x ∷ xs) [] r s nx ny same = absurd (let e = ap (λ l. get_or l 0 0) (sym (first_apart x xs r) ∙ same) in omega arith)
 redo_once (x ∷ xs) (y ∷ ys) r s nx ny same =
-    let bare = cancel (codes " ") (decimal x ++ (redo_end xs ++ r)) (decimal y ++ (redo_end ys ++ s)) (sym (first_apart x xs r) ∙ (same ∙ first_apart y ys s)) in
-    let first = number_once x y (redo_end xs ++ r) (redo_end ys ++ s) (All-head IsNarrow x xs nx) (All-head IsNarrow y ys ny) (rest_apart xs r) (rest_apart ys s) bare in
+    let bare =
+    cancel (codes " ") (decimal x ++ (redo_end xs ++ r)) (decimal y ++ (redo_end ys ++ s))
+    (sym (first_apart x xs r) ∙ (same ∙ first_apart y ys s)) in
+    let first =
+    number_once x y (redo_end xs ++ r) (redo_end ys ++ s) (All-head IsNarrow x xs nx) (All-head IsNarrow y ys ny) (rest_apart xs r)
+    (rest_apart ys s) bare in
     let rest = redo_once xs ys r s (All-tail IsNarrow x xs nx) (All-tail IsNarrow y ys ny) first.1 in
     let heads = first.0 in
     let tails = rest.0 in
     ((λ i. heads i ∷ tails i), rest.1)
 
-restart_once : (a b : Restart) (r s : List ℕ) → IsNarrowRestart a → IsNarrowRestart b → restart_end a ++ r ≡ restart_end b ++ s → (a ≡ b) × (r ≡ s)
+restart_once : (a b : Restart) (r s : List ℕ) → IsNarrowRestart a → IsNarrowRestart b → restart_end a ++ r ≡ restart_end b ++ s
+    → (a ≡ b) × (r ≡ s)
 restart_once a b r s na nb same =
     let whole = sym (parts a r) ∙ (same ∙ parts b s) in
     let ra = redo_end a.redo ++ r in
     let rb = redo_end b.redo ++ s in
-    let first = before_once (codes " ") space a.front b.front ((attempt_before a.struck a.attempt ++ codes "redo") ++ ra) ((attempt_before b.struck b.attempt ++ codes "redo") ++ rb) na.front nb.front
-    (sym (append_assoc (before_space a.front) (attempt_before a.struck a.attempt ++ codes "redo") ra) ∙ (whole ∙ append_assoc (before_space b.front) (attempt_before b.struck b.attempt ++ codes "redo") rb)) in
-    let second = attempt_once a.struck a.attempt b.struck b.attempt (codes "redo" ++ ra) (codes "redo" ++ rb) na.struck na.attempt nb.struck nb.attempt
-    (sym (append_assoc (attempt_before a.struck a.attempt) (codes "redo") ra) ∙ (first.1 ∙ append_assoc (attempt_before b.struck b.attempt) (codes "redo") rb)) in
+    let first =
+    before_once (codes " ") space a.front b.front ((attempt_before a.struck a.attempt ++ codes "redo") ++ ra)
+    ((attempt_before b.struck b.attempt ++ codes "redo") ++ rb) na.front nb.front
+    (sym (append_assoc (before_space a.front) (attempt_before a.struck a.attempt ++ codes "redo") ra)
+    ∙ (whole ∙ append_assoc (before_space b.front) (attempt_before b.struck b.attempt ++ codes "redo") rb)) in
+    let second =
+    attempt_once a.struck a.attempt b.struck b.attempt (codes "redo" ++ ra)
+    (codes "redo" ++ rb) na.struck na.attempt nb.struck nb.attempt
+    (sym (append_assoc (attempt_before a.struck a.attempt) (codes "redo") ra)
+    ∙ (first.1 ∙ append_assoc (attempt_before b.struck b.attempt) (codes "redo") rb)) in
     let last = redo_once a.redo b.redo r s na.redo nb.redo (cancel (codes "redo") ra rb second.2) in
     let fronts = first.0 in
     let strucks = second.0 in
@@ -89,7 +100,8 @@ line_once (line.Restart a) m r s nl nm same =
     (ap line.Restart once.0 ∙ sym h.1, once.1)
 
 -- where lines begin a text of lines, they are the first of those
-pub lines_once : (xs ys : List TraceLine) (rest : List ℕ) → All IsNarrowLine xs → All IsNarrowLine ys → trace_text xs ≡ trace_text ys ++ rest
+pub lines_once : (xs ys : List TraceLine) (rest : List ℕ) → All IsNarrowLine xs → All IsNarrowLine ys
+    → trace_text xs ≡ trace_text ys ++ rest
     → (zs : List TraceLine) × (xs ≡ ys ++ zs) × (rest ≡ trace_text zs)
 lines_once xs [] rest nx ny same = (xs, refl, sym same)
 lines_once [] (y ∷ ys) rest nx ny same = absurd (none y same)
@@ -101,7 +113,9 @@ lines_once [] (y ∷ ys) rest nx ny same = absurd (none y same)
     none (line.Restart r) e = absurd (let n = ap length e in omega arith)
     none (line.Retire p) e = absurd (let n = ap length e in omega arith)
 lines_once (x ∷ xs) (y ∷ ys) rest nx ny same =
-    let one = line_once x y (trace_text xs) (trace_text ys ++ rest) (All-head IsNarrowLine x xs nx) (All-head IsNarrowLine y ys ny) (same ∙ append_assoc (line_text y) (trace_text ys) rest) in
+    let one =
+    line_once x y (trace_text xs) (trace_text ys ++ rest) (All-head IsNarrowLine x xs nx) (All-head IsNarrowLine y ys ny)
+    (same ∙ append_assoc (line_text y) (trace_text ys) rest) in
     let more = lines_once xs ys rest (All-tail IsNarrowLine x xs nx) (All-tail IsNarrowLine y ys ny) one.1 in
     let heads = one.0 in
     let tails = more.1 in
@@ -116,7 +130,8 @@ no_text (line.Restart r ∷ zs) e = absurd (let n = ap length e in omega arith)
 no_text (line.Retire p ∷ zs) e = absurd (let n = ap length e in omega arith)
 
 -- the text of lines is read as these lines
-pub read_once : (lines : List TraceLine) → All IsNarrowLine lines → (result : Result (List TraceLine) TraceFault) → AnswersTrace (trace_text lines) result
+pub read_once : (lines : List TraceLine) → All IsNarrowLine lines → (result : Result (List TraceLine) TraceFault)
+    → AnswersTrace (trace_text lines) result
     → (result ≡ Ok lines) ⊎ (result ≡ Err fault.OutOfMemory)
 read_once lines narrow (Ok read) h =
     let once = lines_once lines read [] narrow h.0 (h.1 ∙ sym (append-nil (trace_text read))) in
@@ -131,4 +146,5 @@ read_once lines narrow (Err (fault.Line row)) h = absurd (broken once.0 once.1 o
     broken [] are text = h.some_row text
     broken (z ∷ zs) are text =
         h.no_line z (trace_text zs)
-        (All-contains IsNarrowLine lines z narrow (subst (λ xs. Contains xs z) (sym are) (Contains-append_right h.lines (z ∷ zs) z (0, omega arith, refl)))) text
+        (All-contains IsNarrowLine lines z narrow
+        (subst (λ xs. Contains xs z) (sym are) (Contains-append_right h.lines (z ∷ zs) z (0, omega arith, refl)))) text

@@ -29,7 +29,8 @@ last-is : (run : List Subthread) (t p : ℕ) → last_step (map shown run) t p �
 last-is run t zero = refl
 last-is run t (suc p) = rw (get-map run p, same-step t (slice_get run p), last-is run t p) refl
 
-before-is : (run : List Subthread) (p : ℕ) → before_step (map shown run) p (slice_get (map shown run) p) ≡ before_one run p (slice_get run p)
+before-is : (run : List Subthread) (p : ℕ)
+    → before_step (map shown run) p (slice_get (map shown run) p) ≡ before_one run p (slice_get run p)
 before-is run p = ap (before_step (map shown run) p) (get-map run p) ∙ go (slice_get run p)
   where
     go : (o : Option Subthread) → before_step (map shown run) p (option_map shown o) ≡ before_one run p o

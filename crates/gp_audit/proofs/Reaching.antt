@@ -14,17 +14,21 @@ module _ (at : Progress) (a : Audited) (reaches : Reaches at a) where
   abbrev dependence : Dependence
   dependence = dependence_by a.steps
 
-  strikes-is : (any : Bool) (fault : Fault) → strikes any a.seen fault ≡ (is_live at fault && (any || nat_le (begun_of at.made fault.pos + fault.delay) at.front))
+  strikes-is : (any : Bool) (fault : Fault)
+      → strikes any a.seen fault ≡ (is_live at fault && (any || nat_le (begun_of at.made fault.pos + fault.delay) at.front))
   strikes-is any fault = go (slice_get a.seen fault.pos) refl
     where
       go : (o : Option Seen) → slice_get a.seen fault.pos ≡ o
-          → strikes_one any (length a.seen) fault o ≡ (is_live at fault && (any || nat_le (begun_of at.made fault.pos + fault.delay) at.front))
+          → strikes_one any (length a.seen) fault o
+          ≡ (is_live at fault && (any || nat_le (begun_of at.made fault.pos + fault.delay) at.front))
       go None e = rw late refl
         where
           late : nat_lt fault.pos at.front ≡ false
           late =
               elim (cases_lt fault.pos at.front) [
-                | inl l ↦ absurd (let front = reaches.front in let some = slice_get-get_or a.seen fault.pos (first_seen fault.pos) (omega arith) in let bad = sym e ∙ some in cc)
+                | inl l ↦
+                    absurd (let front = reaches.front in
+                    let some = slice_get-get_or a.seen fault.pos (first_seen fault.pos) (omega arith) in let bad = sym e ∙ some in cc)
                 | inr l ↦ le-ltb _ _ l
               ]
       go (Some s) e =

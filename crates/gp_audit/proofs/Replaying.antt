@@ -1,4 +1,6 @@
--- What is kept goes on as the restarts of the faults do.
+-- What is kept goes on as the restarts of the faults do. What is kept replays some restarts where it has, of each
+-- position, the attempt and the beginning that they give it (Replays). The next front, and the restart of the position
+-- that is struck, are each one step of the restarts by definition (Advances).
 use Rattle.std.proofs.Common.{◌≡◌, ◌≢◌, inl, inr, ℕ, suc, ◌+◌, ◌<◌, ◌≤◌, min, Bool, true, false, cond, nat_eq, List, [], ◌∷◌, ◌++◌, length, length-append, count_by, Option, Some, None, refl, sym, ap, subst, ◌∙◌, arith}
 use Rattle.std.specs.Prelude.{slice_get}
 use Rattle.std.proofs.lemmas.Option.{slice_get-get_or, slice_get_within}
@@ -47,7 +49,9 @@ module _ (a : Audited) (made : List Restart) (replays : Replays a made) where
   few-attempts p =
       elim (cases_lt p (length a.seen)) [
         | inl l ↦ (let is = (attempt-is p l).attempt in let few = count_by-le-length (redoes p) made in omega arith)
-        | inr past ↦ (let none : (seen_at a.seen p).attempt ≡ 0 = ap (λ (s : Seen). s.attempt) (get_or_past a.seen p (first_seen p) past) in omega arith)
+        | inr past ↦
+            (let none : (seen_at a.seen p).attempt ≡ 0 = ap (λ (s : Seen). s.attempt) (get_or_past a.seen p (first_seen p) past) in
+            omega arith)
       ]
 
   -- at the end of the run, and where no fault is due, nothing changes
@@ -85,7 +89,9 @@ module _ (a : Audited) (made : List Restart) (replays : Replays a made) where
             within = omega arith;
             each = λ q s e. elim (push_cases a.seen (first_seen p) q s e) [
               | inl old ↦ replays.each q s old
-              | inr new ↦ subst (IsAttempt made q) new.1 (subst (λ x. IsAttempt made x (first_seen p)) (sym new.0) (record { attempt = sym (replays.attempt p (omega arith)); begun = sym (replays.begun p (omega arith)) }))
+              | inr new ↦
+                  subst (IsAttempt made q) new.1 (subst (λ x. IsAttempt made x (first_seen p)) (sym new.0)
+                  (record { attempt = sym (replays.attempt p (omega arith)); begun = sym (replays.begun p (omega arith)) }))
             ];
             attempt = λ q l. replays.attempt q (omega arith);
             begun = λ q l. replays.begun q (omega arith);
@@ -115,7 +121,13 @@ module _ (a : Audited) (made : List Restart) (replays : Replays a made) where
         record {
           steps = refl;
           faults = refl;
-          replays = record { within = omega arith; each = each; attempt = λ q l. past-attempt q (omega arith); begun = λ q l. past-begun q (omega arith) };
+          replays =
+              record {
+                within = omega arith;
+                each = each;
+                attempt = λ q l. past-attempt q (omega arith);
+                begun = λ q l. past-begun q (omega arith);
+              };
           progress =
               (λ i. record { front = long i; made = made ++ same i ∷ [] })
               ∙ ap (advance_by dependence at) (sym struck ∙ struck-next);
@@ -123,14 +135,17 @@ module _ (a : Audited) (made : List Restart) (replays : Replays a made) where
       where
         past-attempt : (q : ℕ) → length a.seen ≤ q → attempt_of (made ++ restart ∷ []) q ≡ 0
         past-attempt q l =
-            let pushed : attempt_of (made ++ restart ∷ []) q ≡ attempt_of made q + 0 = attempt-push made restart q ∙ ap (λ b. attempt_of made q + cond b 1 0) (none-past q l) in
+            let pushed : attempt_of (made ++ restart ∷ []) q ≡ attempt_of made q + 0 =
+            attempt-push made restart q ∙ ap (λ b. attempt_of made q + cond b 1 0) (none-past q l) in
             let before = replays.attempt q l in
             omega arith
 
         past-begun : (q : ℕ) → length a.seen ≤ q → begun_of (made ++ restart ∷ []) q ≡ q + 1
-        past-begun q l = begun-push made restart q ∙ (ap (λ b. cond b (length a.seen) (begun_of made q)) (none-past q l) ∙ replays.begun q l)
+        past-begun q l =
+            begun-push made restart q ∙ (ap (λ b. cond b (length a.seen) (begun_of made q)) (none-past q l) ∙ replays.begun q l)
 
-        now : (q : ℕ) → q < length a.seen → (b : Bool) → redoes q restart ≡ b → IsAttempt (made ++ restart ∷ []) q (cond b (raised_seen (length a.seen) (seen_at a.seen q)) (seen_at a.seen q))
+        now : (q : ℕ) → q < length a.seen → (b : Bool) → redoes q restart ≡ b
+            → IsAttempt (made ++ restart ∷ []) q (cond b (raised_seen (length a.seen) (seen_at a.seen q)) (seen_at a.seen q))
         now q l true e =
             let was = attempt-is q l in
             let pushed = attempt-push made restart q ∙ ap (λ b. attempt_of made q + cond b 1 0) e in
@@ -140,28 +155,35 @@ module _ (a : Audited) (made : List Restart) (replays : Replays a made) where
             }
         now q l false e =
             let was = attempt-is q l in
-            let pushed : attempt_of (made ++ restart ∷ []) q ≡ attempt_of made q = (let h = attempt-push made restart q ∙ ap (λ b. attempt_of made q + cond b 1 0) e in omega arith) in
+            let pushed : attempt_of (made ++ restart ∷ []) q ≡ attempt_of made q =
+            (let h = attempt-push made restart q ∙ ap (λ b. attempt_of made q + cond b 1 0) e in omega arith) in
             record {
               attempt = was.attempt ∙ sym pushed;
               begun = was.begun ∙ sym (begun-push made restart q ∙ ap (λ b. cond b (length a.seen) (begun_of made q)) e);
             }
 
-        each : (q : ℕ) (s : Seen) → slice_get (all_raised (length a.seen) restart.redo a.seen) q ≡ Some s → IsAttempt (made ++ restart ∷ []) q s
+        each : (q : ℕ) (s : Seen) → slice_get (all_raised (length a.seen) restart.redo a.seen) q ≡ Some s
+            → IsAttempt (made ++ restart ∷ []) q s
         each q s e =
-            let at = raised_at (length a.seen) restart.redo a.seen q s (λ k c. (steps-redo a.steps).below p (length a.seen) k c) (dependents_rise dependence.clash p (length a.seen)) e in
+            let at =
+            raised_at (length a.seen) restart.redo a.seen q s (λ k c. (steps-redo a.steps).below p (length a.seen) k c)
+            (dependents_rise dependence.clash p (length a.seen)) e in
             subst (IsAttempt (made ++ restart ∷ []) q) (sym at.0) (now q at.1 (redoes q restart) refl)
 
 -- what is kept after the next front, and after the next restart
-pub issue-advances : (a : Audited) (made : List Restart) (a' : Audited) (p : ℕ) → Replays a made → struck_in a ≡ None → is_last a ≡ false → p ≡ length a.seen
+pub issue-advances : (a : Audited) (made : List Restart) (a' : Audited) (p : ℕ) → Replays a made → struck_in a ≡ None → is_last a ≡ false
+    → p ≡ length a.seen
     → a' ≡ after_line a (line.Issue p) → Advances a made a' made
 issue-advances a made a' p replays none more here issued =
     subst (λ x. Advances a made x made) (sym (issued ∙ ap (λ x. after_line a (line.Issue x)) here)) (issues-next a made replays none more)
 
-pub restart-advances : (a : Audited) (made : List Restart) (a' : Audited) (made' : List Restart) (p : ℕ) (r : Restart) → Replays a made → struck_in a ≡ Some p → r ≡ restart_at a p
+pub restart-advances : (a : Audited) (made : List Restart) (a' : Audited) (made' : List Restart) (p : ℕ) (r : Restart) → Replays a made
+    → struck_in a ≡ Some p → r ≡ restart_at a p
     → a' ≡ after_line a (line.Restart r) → made' ≡ made ++ r ∷ [] → Advances a made a' made'
 restart-advances a made a' made' p r replays struck is restarted pushed =
     subst (λ x. Advances a made x made') (sym (restarted ∙ ap (λ x. after_line a (line.Restart x)) is))
-    (subst (λ x. Advances a made (after_line a (line.Restart (restart_at a p))) x) (sym (pushed ∙ ap (λ x. made ++ x ∷ []) is)) (restarts-next a made replays p struck))
+    (subst (λ x. Advances a made (after_line a (line.Restart (restart_at a p))) x) (sym (pushed ∙ ap (λ x. made ++ x ∷ []) is))
+    (restarts-next a made replays p struck))
 
 -- before the first event
 pub nothing-replays : (steps : List Step) (faults : List Fault) → Replays (nothing_seen steps faults) []

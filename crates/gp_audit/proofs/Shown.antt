@@ -1,4 +1,6 @@
--- What is kept tells what may come next.
+-- What is kept tells what may come next. Each test on what is kept is shown to answer what the rules ask of the stage:
+-- which faults are due or live, what is struck, whether the front drains, whether a thread may go on. From these come
+-- the tests of the five kinds of lines, and then that of any line.
 use Rattle.std.proofs.Common.{◌≡◌, ◌⊎◌, ◌↔◌, inl, inr, ℕ, zero, suc, ◌+◌, ◌<◌, ◌≤◌, Bool, true, false, not, cond, nat_eq, nat_lt, nat_le, ◌&&◌, ◌||◌, length, Contains, Option, Some, None, refl, sym, ap, ◌∙◌, subst, arith}
 use Rattle.std.specs.Prelude.{is_none, slice_get}
 use Rattle.std.specs.Bool.{Decides}
@@ -75,7 +77,9 @@ module _ (at : Stage) (a : Audited) (shows : Shows at a) where
   none-due = rw due-is (none-decides (least_struck (is_due at.progress) a.faults))
 
   drained-is : (is_drained a ≡ true) ↔ Drained dependence a.faults at.progress
-  drained-is = rw (drains-is, live-is) (Decides-and _ _ (true-decides (drains dependence at.progress.front)) (none-decides (least_struck (is_live at.progress) a.faults)))
+  drained-is =
+      rw (drains-is, live-is) (Decides-and _ _ (true-decides (drains dependence at.progress.front))
+      (none-decides (least_struck (is_live at.progress) a.faults)))
 
   follows-is : (o : Option ℕ) → ((q : ℕ) → o ≡ Some q → q < at.progress.front) → (follows a o ≡ true) ↔ MayFollow at o
   follows-is None low = (λ _. tt, λ _. refl)
@@ -120,10 +124,12 @@ module _ (at : Stage) (a : Audited) (shows : Shows at a) where
           and_from (nat_eq p (length a.seen)) _ (eq-eqb p (length a.seen) here)
           (and_from (nat_lt p (length a.steps)) _ (lt-ltb p (length a.steps) may.left)
           (and_from (is_none (least_of a false)) _ (none-due.1 may.none_due)
-          (and_from (follows a (dependence.before p)) _ ((follows-is (dependence.before p) (low here)).1 may.follows) ((settled-is p).1 may.settled))))
+          (and_from (follows a (dependence.before p)) _ ((follows-is (dependence.before p) (low here)).1 may.follows)
+          ((settled-is p).1 may.settled))))
 
   module _ (stands : StageStands dependence a.faults at) where
-    clear-is : (p : ℕ) → p < at.progress.front → (not (is_held_up a p) ≡ true) ↔ ((earlier : ℕ) → earlier < p → dependence.clash earlier p ≡ true → at.applied earlier ≡ true)
+    clear-is : (p : ℕ) → p < at.progress.front
+        → (not (is_held_up a p) ≡ true) ↔ ((earlier : ℕ) → earlier < p → dependence.clash earlier p ≡ true → at.applied earlier ≡ true)
     clear-is p issued = (to, from)
       where
         to : not (is_held_up a p) ≡ true → (earlier : ℕ) → earlier < p → dependence.clash earlier p ≡ true → at.applied earlier ≡ true
@@ -133,7 +139,9 @@ module _ (at : Stage) (a : Audited) (shows : Shows at a) where
             go true f = refl
             go false f =
                 let waits = (shows.waiting q).1 (omega arith, f) in
-                let held = list_any-from_Any (holds_up a p) a.waiting (waits.0, q, waits.1, waits.2, and_from (nat_lt q p) _ (lt-ltb q p l) clash) in
+                let held =
+                list_any-from_Any (holds_up a p) a.waiting
+                (waits.0, q, waits.1, waits.2, and_from (nat_lt q p) _ (lt-ltb q p l) clash) in
                 absurd (false≢true (sym (ap not held) ∙ e))
 
         from : ((earlier : ℕ) → earlier < p → dependence.clash earlier p ≡ true → at.applied earlier ≡ true) → not (is_held_up a p) ≡ true
@@ -149,10 +157,12 @@ module _ (at : Stage) (a : Audited) (shows : Shows at a) where
     pub post-is : (p attempt : ℕ) → (posts a p attempt ≡ true) ↔ MayPost dependence at p attempt
     post-is p attempt = (to, from)
       where
-        unposted : p < at.progress.front → attempt ≡ present at p → (not (seen_at a.seen p).posted ≡ true) ↔ (¬ Contains at.posted (p, attempt))
+        unposted : p < at.progress.front → attempt ≡ present at p
+            → (not (seen_at a.seen p).posted ≡ true) ↔ (¬ Contains at.posted (p, attempt))
         unposted l same =
             let is = (seen-is p l).posted in
-            Decides-not _ (Decides-like _ (λ c. subst (λ x. Contains at.posted (p, x)) (sym same) c) (λ c. subst (λ x. Contains at.posted (p, x)) same c) is)
+            Decides-not _ (Decides-like _ (λ c. subst (λ x. Contains at.posted (p, x)) (sym same) c)
+            (λ c. subst (λ x. Contains at.posted (p, x)) same c) is)
 
         to : posts a p attempt ≡ true → MayPost dependence at p attempt
         to e =
@@ -166,7 +176,13 @@ module _ (at : Stage) (a : Audited) (shows : Shows at a) where
             let late = leb-true a.retired p two.0 in
             let issued : p < at.progress.front = omega arith in
             let same : attempt ≡ present at p = eqb-true attempt _ three.0 ∙ (seen-is p issued).attempt in
-            record { issued = issued; unretired = omega arith; present = same; unposted = (unposted issued same).0 four.0; ready = (clear-is p issued).0 four.1 }
+            record {
+              issued = issued;
+              unretired = omega arith;
+              present = same;
+              unposted = (unposted issued same).0 four.0;
+              ready = (clear-is p issued).0 four.1;
+            }
 
         from : MayPost dependence at p attempt → posts a p attempt ≡ true
         from may =
@@ -195,14 +211,18 @@ module _ (at : Stage) (a : Audited) (shows : Shows at a) where
         from : MayTake at p attempt applies → takes a p attempt applies ≡ true
         from may =
             let is = seen-is p (stands.posted_low p attempt may.posted).0 in
-            and_from (list_any (same_attempt (p, attempt)) a.out) _ (out.1 (may.posted, may.untaken)) ((booleans_Decides applies _).1 (may.decided ∙ ap (nat_eq attempt) (sym is.attempt)))
+            and_from (list_any (same_attempt (p, attempt)) a.out) _ (out.1 (may.posted, may.untaken))
+            ((booleans_Decides applies _).1 (may.decided ∙ ap (nat_eq attempt) (sym is.attempt)))
 
     safe-is : (p : ℕ) → p < at.progress.front → ((nat_le ((seen_at a.seen p).begun + LONGEST_DELAY) (length a.seen) || is_drained a) ≡ true)
         ↔ ((begun_of at.progress.made p + LONGEST_DELAY ≤ at.progress.front) ⊎ Drained dependence a.faults at.progress)
     safe-is p issued =
         let is = seen-is p issued in
-        let same : nat_le ((seen_at a.seen p).begun + LONGEST_DELAY) (length a.seen) ≡ nat_le (begun_of at.progress.made p + LONGEST_DELAY) at.progress.front = rw (is.begun, shows.front) refl in
-        subst (λ b. ((b || is_drained a) ≡ true) ↔ ((begun_of at.progress.made p + LONGEST_DELAY ≤ at.progress.front) ⊎ Drained dependence a.faults at.progress)) (sym same)
+        let same : nat_le ((seen_at a.seen p).begun + LONGEST_DELAY) (length a.seen)
+        ≡ nat_le (begun_of at.progress.made p + LONGEST_DELAY) at.progress.front =
+        rw (is.begun, shows.front) refl in
+        subst (λ b. ((b || is_drained a) ≡ true)
+        ↔ ((begun_of at.progress.made p + LONGEST_DELAY ≤ at.progress.front) ⊎ Drained dependence a.faults at.progress)) (sym same)
         (Decides-or _ _ (le-decides (begun_of at.progress.made p + LONGEST_DELAY) at.progress.front) drained-is)
 
     pub retire-is : (p : ℕ) → (retires a p ≡ true) ↔ MayRetire dependence a.faults at p
@@ -240,15 +260,23 @@ module _ (at : Stage) (a : Audited) (shows : Shows at a) where
     restart-same : (p : ℕ) → p < at.progress.front → restart_at a p ≡ restart_of dependence at.progress p
     restart-same p l = let is = seen-is p l in rw (shows.front, is.attempt) refl
 
-    pub restart-is : (r : Restart) → (IsRestart a r (struck_in a)) ↔ ((p : ℕ) × (struck_next dependence a.faults at.progress ≡ Some p) × (r ≡ restart_of dependence at.progress p))
+    pub restart-is : (r : Restart)
+        → (IsRestart a r (struck_in a)) ↔ ((p : ℕ) × (struck_next dependence a.faults at.progress ≡ Some p)
+        × (r ≡ restart_of dependence at.progress p))
     restart-is r = go (struck_in a) refl
       where
-        go : (o : Option ℕ) → struck_in a ≡ o → IsRestart a r o ↔ ((p : ℕ) × (struck_next dependence a.faults at.progress ≡ Some p) × (r ≡ restart_of dependence at.progress p))
+        go : (o : Option ℕ) → struck_in a ≡ o
+            → IsRestart a r o ↔ ((p : ℕ) × (struck_next dependence a.faults at.progress ≡ Some p)
+            × (r ≡ restart_of dependence at.progress p))
         go None e = (λ h. absurd h, λ h. absurd (let bad = sym (struck-is ∙ h.1) ∙ e in cc))
         go (Some p) e =
             let some : struck_next dependence a.faults at.progress ≡ Some p = sym struck-is ∙ e in
-            let low = (struck-live dependence a.faults at.progress p some).0 in
-            (λ h. (p, some, h ∙ restart-same p low), λ h. (let same : h.0 ≡ p = (let both = sym h.1 ∙ some in cc) in h.2 ∙ (ap (restart_of dependence at.progress) same ∙ sym (restart-same p low))))
+            let low = (struck-live dependence a.faults at.progress p some).0 in (
+              λ h. (p, some, h ∙ restart-same p low),
+              λ h.
+                  (let same : h.0 ≡ p = (let both = sym h.1 ∙ some in cc) in h.2
+                  ∙ (ap (restart_of dependence at.progress) same ∙ sym (restart-same p low))),
+            )
 
     -- the line may come next exactly where the rules allow its event
     pub takes-is : (l : TraceLine) → Takes a l ↔ LineAllowed dependence a.faults at l
@@ -265,10 +293,13 @@ module _ (at : Stage) (a : Audited) (shows : Shows at a) where
         to : is_whole a ≡ true → IsFinal dependence a.faults at.progress × (at.retired ≡ dependence.count)
         to e =
             let one = and_parts (is_last a) _ e in
-            let two = and_parts (is_none (struck_in a)) _ one.1 in
-            (record { passed = eqb-true _ _ (sym last-is ∙ one.0); none_left = sym struck-is ∙ (none-decides (struck_in a)).0 two.0 }, sym shows.retired ∙ eqb-true _ _ two.1)
+            let two = and_parts (is_none (struck_in a)) _ one.1 in (
+              record { passed = eqb-true _ _ (sym last-is ∙ one.0); none_left = sym struck-is ∙ (none-decides (struck_in a)).0 two.0 },
+              sym shows.retired ∙ eqb-true _ _ two.1,
+            )
 
         from : IsFinal dependence a.faults at.progress × (at.retired ≡ dependence.count) → is_whole a ≡ true
         from h =
             and_from (is_last a) _ (last-is ∙ eq-eqb _ _ h.0.passed)
-            (and_from (is_none (struck_in a)) _ ((none-decides (struck_in a)).1 (struck-is ∙ h.0.none_left)) (eq-eqb _ _ (shows.retired ∙ h.1)))
+            (and_from (is_none (struck_in a)) _ ((none-decides (struck_in a)).1 (struck-is ∙ h.0.none_left))
+            (eq-eqb _ _ (shows.retired ∙ h.1)))

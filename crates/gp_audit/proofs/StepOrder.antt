@@ -24,7 +24,9 @@ module _ (steps : List Step) where
   steps-redo =
       record {
         below = λ struck front p h. IsDependent-front Clash struck front ((dependents-are clash struck front p).0 h);
-        closed = λ struck front p q h l m c. (dependents-are clash struck front q).1 (IsDependent.later ((dependents-are clash struck front p).0 h) l m c);
+        closed =
+            λ struck front p q h l m c. (dependents-are clash struck front q).1
+            (IsDependent.later ((dependents-are clash struck front p).0 h) l m c);
       }
 
   pub steps-later : RedoesLater (dependence_by steps)
@@ -33,4 +35,9 @@ module _ (steps : List Step) where
   -- what has retired stays clean
   pub steps-clean : (faults : List Fault) → AreShort faults → KeepsClean (dependence_by steps) faults
   steps-clean faults short =
-      record { struck = steps-struck; conflicts = steps-redo; short = short; retired = λ at. keeps-retired (dependence_by steps) faults at steps-later }
+      record {
+        struck = steps-struck;
+        conflicts = steps-redo;
+        short = short;
+        retired = λ at. keeps-retired (dependence_by steps) faults at steps-later;
+      }

@@ -13,7 +13,14 @@ use Rattle.gp_audit.specs.Verdicts.{IsVerdict, events_of}
 
 -- it reads, writes and prints nothing
 one_step : List Step
-one_step = record { thread = 0; begins = record { sync = sync.Start; line = 0 }; held = []; foot = record { reads = []; writes = [] }; prints = [] } ∷ []
+one_step =
+    record {
+      thread = 0;
+      begins = record { sync = sync.Start; line = 0 };
+      held = [];
+      foot = record { reads = []; writes = [] };
+      prints = [];
+    } ∷ []
 
 abbrev dependence : Dependence
 dependence = dependence_by one_step
@@ -23,7 +30,10 @@ run = Issue 0 ∷ Post 0 0 ∷ Take 0 0 true ∷ Retire 0 ∷ []
 
 whole : IsVerdict dependence [] run IsLawful
 unfolding one_step
-whole = (record { lawful = (lawful-decides dependence [] (events_of run)).0 refl; first = ([], refl) }, (complete-decides dependence [] (events_of run)).0 refl)
+whole = (
+  record { lawful = (lawful-decides dependence [] (events_of run)).0 refl; first = ([], refl) },
+  (complete-decides dependence [] (events_of run)).0 refl,
+)
 
 abbrev early : List TraceLine
 early = Issue 0 ∷ Post 0 0 ∷ Retire 0 ∷ []

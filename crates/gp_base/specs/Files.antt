@@ -37,7 +37,8 @@ abbrev pub IsFailure : Result (List ℕ) ShelfFault → Type 0
 IsFailure result = (result ≡ Err Failed) ⊎ (result ≡ Err OutOfMemory)
 
 -- what a read answers where these bytes, or none, stand under the name: a device may fail, and memory may be short
-pub record AnswersRead (bytes : Option (List ℕ)) (at_most : ℕ) (before now : List (List ℕ)) (result : Result (List ℕ) ShelfFault) : Type 0 where
+pub record AnswersRead (bytes : Option (List ℕ)) (at_most : ℕ) (before now : List (List ℕ))
+    (result : Result (List ℕ) ShelfFault) : Type 0 where
   pub ok : IfOk result (λ text. bytes ≡ Some text)
   pub absent : bytes ≡ None → IsFailure result
   pub too_long : result ≡ Err TooLong → IsSomeAnd bytes (λ text. at_most < length text)

@@ -9,11 +9,13 @@ module _ {J W R : Type 0} (is_run : W → J → R → Type 0) (with : W) where
   Stands = AtStage is_run with
 
   -- a desk that a step does not touch
-  pub stage_stays : (job : J) (w w' : ℕ) (home home' : maybe.Option (maybe.Option (Slot J R))) (d d' h h' t t' : ℕ) → w' ≡ w → home' ≡ home → d' ≡ d → h' ≡ h → t' ≡ t
+  pub stage_stays : (job : J) (w w' : ℕ) (home home' : maybe.Option (maybe.Option (Slot J R))) (d d' h h' t t' : ℕ) → w' ≡ w → home' ≡ home
+      → d' ≡ d → h' ≡ h → t' ≡ t
       → (stage : Stage) → Stands job w home d h t stage → Stands job w' home' d' h' t' stage
   stage_stays job w w' home home' d d' h h' t t' ew eo ed eh et waiting x = (ew ∙ x.0, eo ∙ x.1, ed ∙ x.2, eh ∙ x.3, et ∙ x.4)
   stage_stays job w w' home home' d d' h h' t t' ew eo ed eh et claimed x = (ew ∙ x.0, eo ∙ x.1, ed ∙ x.2, eh ∙ x.3, et ∙ x.4)
-  stage_stays job w w' home home' d d' h h' t t' ew eo ed eh et done x = (ew ∙ x.0, (x.1.0, eo ∙ x.1.1, x.1.2), ed ∙ x.2, eh ∙ x.3, et ∙ x.4)
+  stage_stays job w w' home home' d d' h h' t t' ew eo ed eh et done x =
+      (ew ∙ x.0, (x.1.0, eo ∙ x.1.1, x.1.2), ed ∙ x.2, eh ∙ x.3, et ∙ x.4)
   stage_stays job w w' home home' d d' h h' t t' ew eo ed eh et collected x = (ew ∙ x.0, eo ∙ x.1, ed ∙ x.2, eh ∙ x.3, et ∙ x.4)
 
   module _ (job : J) (w : ℕ) (home : maybe.Option (maybe.Option (Slot J R))) (d h t : ℕ) where

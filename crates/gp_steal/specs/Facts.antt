@@ -32,7 +32,8 @@ module _ {J W R : Type 0} where
 -- what holds of desk k, whose job is this one
 --   claimed: it is in some one list of claimed desks exactly where its word is not 0; word: its word is at most 3; waits: while it is 0
 --   its job lies there; done: while it is 2, a run of its job lies there; out: else nothing lies there
-pub record DeskFacts {J W R : Type 0} (is_run : W → J → R → Type 0) (with : W) (s : State (Slot J R) (View J W)) (k : ℕ) (job : J) : Type 0 where
+pub record DeskFacts {J W R : Type 0} (is_run : W → J → R → Type 0) (with : W) (s : State (Slot J R) (View J W)) (k : ℕ)
+    (job : J) : Type 0 where
   pub claimed : (1 ≤ word_of s k → claims s.views k ≡ 1) × (word_of s k ≡ 0 → claims s.views k ≡ 0)
   pub word : word_of s k ≤ 3
   pub waits : word_of s k ≡ 0 → LiesAt s k (Todo job)
@@ -56,14 +57,19 @@ pub record ViewFacts {J W R : Type 0} (m : ℕ) (s : State (Slot J R) (View J W)
 --   jobs: every view that still counts has the jobs and the With of the board, and each job fits;
 --   shares: the shares add up to 64; claimed_once: no two views have claimed one desk;
 --   taken: the clerk, and nobody else, has taken exactly the desks whose word is 3, each once
-pub record BoardFacts {J W R : Type 0} (fits : W → J → Type 0) (is_run : W → J → R → Type 0) (plan : Plan J W) (s : State (Slot J R) (View J W)) : Type 0 where
-  pub jobs : All (fits plan.with.value) plan.jobs.value.items × ((i : ℕ) (v : View J W) → IsView s i v → IfSome v.about (λ a. a ≡ about_of plan))
+pub record BoardFacts {J W R : Type 0} (fits : W → J → Type 0) (is_run : W → J → R → Type 0) (plan : Plan J W)
+    (s : State (Slot J R) (View J W)) : Type 0 where
+  pub jobs : All (fits plan.with.value) plan.jobs.value.items
+      × ((i : ℕ) (v : View J W) → IsView s i v → IfSome v.about (λ a. a ≡ about_of plan))
   pub shares : sum_by (λ v. v.hand.share) s.views ≡ 64
-  pub claimed_once : (k i j : ℕ) (v u : View J W) → IsView s i v → IsView s j u → Contains v.hand.claimed k → Contains u.hand.claimed k → i ≡ j
-  pub taken : (i : ℕ) (v : View J W) → IsView s i v → v.book.clerk ≡ 1 → (k : ℕ) → k < length plan.jobs.value.items → (times k v.book.taken ≤ 1) × (Contains v.book.taken k ↔ (word_of s k ≡ 3))
+  pub claimed_once : (k i j : ℕ) (v u : View J W) → IsView s i v → IsView s j u → Contains v.hand.claimed k → Contains u.hand.claimed k
+      → i ≡ j
+  pub taken : (i : ℕ) (v : View J W) → IsView s i v → v.book.clerk ≡ 1 → (k : ℕ) → k < length plan.jobs.value.items
+      → (times k v.book.taken ≤ 1) × (Contains v.book.taken k ↔ (word_of s k ≡ 3))
   pub desks : (k : ℕ) (job : J) → slice_get plan.jobs.value.items k ≡ Some job → DeskFacts is_run plan.with.value s k job
   pub views : (i : ℕ) (v : View J W) → IsView s i v → ViewFacts (length plan.jobs.value.items) s v
 
 -- the rule gives the facts
 abbrev pub FactsLaw : {J W R : Type 0} → (W → J → Type 0) → (W → J → R → Type 0) → Type 0
-FactsLaw {J} {W} {R} fits is_run = (plan : Plan J W) (s : State (Slot J R) (View J W)) → Kept fits is_run plan s → BoardFacts fits is_run plan s
+FactsLaw {J} {W} {R} fits is_run =
+    (plan : Plan J W) (s : State (Slot J R) (View J W)) → Kept fits is_run plan s → BoardFacts fits is_run plan s

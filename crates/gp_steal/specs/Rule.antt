@@ -67,7 +67,8 @@ module _ {J W R : Type 0} (is_run : W → J → R → Type 0) (with : W) where
     abbrev pub AtStage : Stage → Type 0
     AtStage waiting = (word ≡ 0) × (home ≡ some (some (Todo job))) × (claims ≡ 0) × (helds ≡ 0) × (takens ≡ 0)
     AtStage claimed = (word ≡ 1) × (home ≡ some none) × (claims ≡ 1) × (helds ≡ 1) × (takens ≡ 0)
-    AtStage done = (word ≡ 2) × ((run : R) × (home ≡ some (some (Done run))) × is_run with job run) × (claims ≡ 1) × (helds ≡ 0) × (takens ≡ 0)
+    AtStage done =
+        (word ≡ 2) × ((run : R) × (home ≡ some (some (Done run))) × is_run with job run) × (claims ≡ 1) × (helds ≡ 0) × (takens ≡ 0)
     AtStage collected = (word ≡ 3) × (home ≡ some none) × (claims ≡ 1) × (helds ≡ 0) × (takens ≡ 1)
 
 -- what holds of one view
@@ -88,12 +89,14 @@ module _ {J W R : Type 0} (is_run : W → J → R → Type 0) where
   -- desk k is at one stage, where the views, taken together, have it that often
   abbrev pub DeskOk : W → State (Slot J R) (View J W) → ℕ → J → Type 0
   DeskOk with s k job = (stage : Stage)
-      × AtStage is_run with job (slice_index s.words (k + 1)) (get_elem? s.homes k) (claims s.views k) (helds s.views k) (takens s.views k) stage
+      × AtStage is_run with job (slice_index s.words (k + 1)) (get_elem? s.homes k) (claims s.views k) (helds s.views k)
+      (takens s.views k) stage
 
 -- the rule
 --   wide, deep: there is a word and a slot for each desk; still: word 0 is 0; shares: the passes share 64 parts; clerks: there is one
 --   clerk; beyond: nobody has claimed a desk that isn't there
-pub record Kept {J W R : Type 0} (fits : W → J → Type 0) (is_run : W → J → R → Type 0) (plan : Plan J W) (s : State (Slot J R) (View J W)) : Type 0 where
+pub record Kept {J W R : Type 0} (fits : W → J → Type 0) (is_run : W → J → R → Type 0) (plan : Plan J W)
+    (s : State (Slot J R) (View J W)) : Type 0 where
   pub all_fit : All (fits plan.with.value) plan.jobs.value.items
   pub few : length plan.jobs.value.items ≤ 65536
   pub wide : length s.words ≡ length plan.jobs.value.items + 1

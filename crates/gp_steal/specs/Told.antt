@@ -61,7 +61,8 @@ module _ {J W R : Type 0} where
   -- a try of desk k that found it to do has it with its job; another changes the try alone
   abbrev pub TriedFrom : (W → J → Type 0) → About J W → ℕ → Known J W R → ℕ → Known J W R → Type 0
   TriedFrom fits about k m found m' =
-      (found ≡ 0 → (job : J) × (slice_get about.jobs k ≡ Some job) × fits about.with job × (m' ≡ (record m.0 { hand = hand_claimed k m.0.hand }, (k, Todo job) ∷ m.1)) × NoneTwice (hand_claimed k m.0.hand).claimed)
+      (found ≡ 0 → (job : J) × (slice_get about.jobs k ≡ Some job) × fits about.with job
+      × (m' ≡ (record m.0 { hand = hand_claimed k m.0.hand }, (k, Todo job) ∷ m.1)) × NoneTwice (hand_claimed k m.0.hand).claimed)
       × (1 ≤ found → m' ≡ (record m.0 { hand = hand_tried k found m.0.hand }, m.1))
 
   -- a desk was tried
@@ -80,7 +81,9 @@ module _ {J W R : Type 0} where
 
   -- the run of desk k's job was taken
   abbrev pub TookFrom : (W → J → R → Type 0) → About J W → ℕ → Known J W R → Known J W R → Type 0
-  TookFrom is_run about k m m' = (job : J) × (run : R) × (slice_get about.jobs k ≡ Some job) × is_run about.with job run × (m' ≡ (record m.0 { book = book_took k m.0.book }, (k, Done run) ∷ m.1))
+  TookFrom is_run about k m m' =
+      (job : J) × (run : R) × (slice_get about.jobs k ≡ Some job) × is_run about.with job run
+      × (m' ≡ (record m.0 { book = book_took k m.0.book }, (k, Done run) ∷ m.1))
 
   -- a run was collected
   abbrev pub took : (W → J → R → Type 0) → Step (Slot J R) → Known J W R → ℕ → Known J W R → Type 0
@@ -88,7 +91,14 @@ module _ {J W R : Type 0} where
 
 -- what two passes have together
 abbrev pub hand_both : Hand → Hand → Hand
-hand_both h g = record { share = h.share + g.share; claimed = h.claimed ++ g.claimed; held = h.held ++ g.held; swept = max h.swept g.swept; tried = h.tried }
+hand_both h g =
+    record {
+      share = h.share + g.share;
+      claimed = h.claimed ++ g.claimed;
+      held = h.held ++ g.held;
+      swept = max h.swept g.swept;
+      tried = h.tried;
+    }
 
 -- a part of 1 goes to a new pass, which has claimed and swept nothing
 abbrev pub hand_kept : Hand → Hand

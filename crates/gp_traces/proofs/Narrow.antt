@@ -24,12 +24,14 @@ use Rattle.gp_traces.specs.Told.{restart_line, line_of}
 allowed-at : (dependence : Dependence) (faults : List Fault) (at : Stage) (done : List Event) (e : Event) (more : List Event)
     → LawfulFrom dependence faults at (done ++ e ∷ more) → Allowed dependence faults (stage_from dependence faults at done) e
 allowed-at dependence faults at [] e more lawful = lawful.0
-allowed-at dependence faults at (x ∷ done) e more lawful = allowed-at dependence faults (happens dependence faults at x) done e more lawful.1
+allowed-at dependence faults at (x ∷ done) e more lawful =
+    allowed-at dependence faults (happens dependence faults at x) done e more lawful.1
 
 member-there : (restarts : List Restart) (number : ℕ) (r : Restart) → slice_get restarts number ≡ Some r → Contains restarts r
 member-there restarts number r e = (number, slice_get_within restarts number r e, get_or_from_slice_get restarts number r r e)
 
-module _ (dependence : Dependence) (faults : List Fault) (clean : KeepsClean dependence faults) (wide : dependence.count < 2 ^ 32) (few : length faults ≤ MOST_FAULTS) (in_range : All IsInRange faults) where
+module _ (dependence : Dependence) (faults : List Fault) (clean : KeepsClean dependence faults) (wide : dependence.count < 2 ^ 32)
+    (few : length faults ≤ MOST_FAULTS) (in_range : All IsInRange faults) where
   -- how far the restarts have come: the front is within the run, and each restart so far has numbers of 32 bits
   record Narrow (at : Progress) : Type 0 where
     front : at.front ≤ dependence.count
@@ -47,17 +49,25 @@ module _ (dependence : Dependence) (faults : List Fault) (clean : KeepsClean dep
         front = omega arith;
         struck = omega arith;
         attempt = omega arith;
-        redo = λ k d l. (let within = clean.conflicts.below p at.front (get_or (dependence.redo p at.front) k d) (All-contains_itself (dependence.redo p at.front) k d l) in omega arith);
+        redo =
+            λ k d l. (let within = clean.conflicts.below p at.front (get_or (dependence.redo p at.front) k d)
+            (All-contains_itself (dependence.redo p at.front) k d l) in omega arith);
       }
 
   step-narrow : (at : Progress) (o : Option ℕ) → struck_next dependence faults at ≡ o → Narrow at → Narrow (advance_by dependence at o)
   step-narrow at None e narrow = record { front = omega arith; made = narrow.made }
   step-narrow at (Some p) e narrow =
-      record { front = narrow.front; made = All-push IsNarrowRestart at.made (restart_of dependence at p) narrow.made (one-restart at p narrow.front e) }
+      record {
+        front = narrow.front;
+        made = All-push IsNarrowRestart at.made (restart_of dependence at p) narrow.made
+            (one-restart at p narrow.front e);
+      }
 
   all-narrow : (steps : ℕ) → Narrow (progress dependence faults steps)
   all-narrow zero = record { front = omega arith; made = All-nil IsNarrowRestart }
-  all-narrow (suc steps) = let at = progress dependence faults steps in step-narrow at (struck_next dependence faults at) refl (all-narrow steps)
+  all-narrow (suc steps) =
+      let at = progress dependence faults steps in
+      step-narrow at (struck_next dependence faults at) refl (all-narrow steps)
 
   -- all restarts have numbers of 32 bits
   pub restarts-narrow : All IsNarrowRestart (restarts dependence faults)
@@ -69,7 +79,9 @@ module _ (dependence : Dependence) (faults : List Fault) (clean : KeepsClean dep
       at = stage dependence faults done
 
       stands : StageStands dependence faults at
-      stands = stands-from dependence clean.conflicts faults clean.short clean.retired initial_stage done (initial-stands dependence faults) lawful
+      stands =
+          stands-from dependence clean.conflicts faults clean.short clean.retired initial_stage done
+          (initial-stands dependence faults) lawful
 
       attempts : (p : ℕ) → attempt_of at.progress.made p ≤ MOST_FAULTS
       attempts p = let most = (few-attempts dependence faults clean.struck done lawful).1 p in omega arith
@@ -90,12 +102,15 @@ module _ (dependence : Dependence) (faults : List Fault) (clean : KeepsClean dep
           All-cons IsNarrowLine (line.Take p a x) [] (omega arith, omega arith) (All-nil IsNarrowLine)
       event-narrow (event.Restart number) may =
           one-line (slice_get told number) (λ r e. All-contains IsNarrowRestart told r told_narrow (member-there told number r e))
-      event-narrow (event.Retire p) may = All-cons IsNarrowLine (line.Retire p) [] (let low = stands.front_low in let issued = may.issued in omega arith) (All-nil IsNarrowLine)
+      event-narrow (event.Retire p) may =
+          All-cons IsNarrowLine (line.Retire p) []
+          (let low = stands.front_low in let issued = may.issued in omega arith) (All-nil IsNarrowLine)
 
     -- the lines of events that go on lawfully
     pub lines-narrow : (done more : List Event) → Lawful dependence faults (done ++ more) → All IsNarrowLine (flat_map (line_of told) more)
     lines-narrow done [] lawful = All-nil IsNarrowLine
     lines-narrow done (e ∷ more) lawful =
         All-append IsNarrowLine (line_of told e) (flat_map (line_of told) more)
-        (event-narrow done (LawfulFrom-front dependence faults initial_stage done (e ∷ more) lawful) e (allowed-at dependence faults initial_stage done e more lawful))
+        (event-narrow done (LawfulFrom-front dependence faults initial_stage done (e ∷ more) lawful) e
+        (allowed-at dependence faults initial_stage done e more lawful))
         (lines-narrow (done ++ e ∷ []) more (subst (Lawful dependence faults) (sym (append_assoc done (e ∷ []) more)) lawful))

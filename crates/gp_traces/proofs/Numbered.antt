@@ -33,16 +33,24 @@ module _ (dependence : Dependence) (faults : List Fault) (restarts : List Restar
       → length restarts ≡ made + count_by is_restart events → Tells made events
   tells at made [] m lawful n = record { events_are = refl; told_are = sym (drop_all made restarts (omega arith)) }
   tells at made (event.Issue p ∷ events) m lawful n =
-      let rest = tells (happens dependence faults at (event.Issue p)) made events m lawful.1 (let c = count-cons is_restart (event.Issue p) events in omega arith) in
+      let rest =
+      tells (happens dependence faults at (event.Issue p)) made events m lawful.1
+      (let c = count-cons is_restart (event.Issue p) events in omega arith) in
       record { events_are = ap (λ es. event.Issue p ∷ es) rest.events_are; told_are = rest.told_are }
   tells at made (event.Post p a ∷ events) m lawful n =
-      let rest = tells (happens dependence faults at (event.Post p a)) made events m lawful.1 (let c = count-cons is_restart (event.Post p a) events in omega arith) in
+      let rest =
+      tells (happens dependence faults at (event.Post p a)) made events m lawful.1
+      (let c = count-cons is_restart (event.Post p a) events in omega arith) in
       record { events_are = ap (λ es. event.Post p a ∷ es) rest.events_are; told_are = rest.told_are }
   tells at made (event.Take p a x ∷ events) m lawful n =
-      let rest = tells (happens dependence faults at (event.Take p a x)) made events m lawful.1 (let c = count-cons is_restart (event.Take p a x) events in omega arith) in
+      let rest =
+      tells (happens dependence faults at (event.Take p a x)) made events m lawful.1
+      (let c = count-cons is_restart (event.Take p a x) events in omega arith) in
       record { events_are = ap (λ es. event.Take p a x ∷ es) rest.events_are; told_are = rest.told_are }
   tells at made (event.Retire p ∷ events) m lawful n =
-      let rest = tells (happens dependence faults at (event.Retire p)) made events m lawful.1 (let c = count-cons is_restart (event.Retire p) events in omega arith) in
+      let rest =
+      tells (happens dependence faults at (event.Retire p)) made events m lawful.1
+      (let c = count-cons is_restart (event.Retire p) events in omega arith) in
       record { events_are = ap (λ es. event.Retire p ∷ es) rest.events_are; told_are = rest.told_are }
   tells at made (event.Restart number ∷ events) m lawful n =
       let c = count-cons is_restart (event.Restart number) events in
@@ -63,10 +71,12 @@ module _ (dependence : Dependence) (faults : List Fault) (restarts : List Restar
             events_are = subst (λ o. events_from made (restart_line o ++ later) ≡ event.Restart k ∷ events) (sym e)
                 (ap (λ es. event.Restart made ∷ es) rest.events_are ∙ ap (λ i. event.Restart i ∷ events) (sym same));
             told_are = subst (λ o. restarts_told (restart_line o ++ later) ≡ drop made restarts) (sym e)
-                (ap (λ rs. r ∷ rs) rest.told_are ∙ (ap (λ i. r ∷ drop i restarts) next ∙ (ap (λ x. x ∷ drop (made + 1) restarts) (sym here) ∙ sym (drop_more restarts made r long))));
+                (ap (λ rs. r ∷ rs) rest.told_are ∙ (ap (λ i. r ∷ drop i restarts) next
+                ∙ (ap (λ x. x ∷ drop (made + 1) restarts) (sym here) ∙ sym (drop_more restarts made r long))));
           }
 
-pub lines-lawful : (dependence : Dependence) (faults : List Fault) (restarts : List Restart) (events : List Event) → Lawful dependence faults events
+pub lines-lawful : (dependence : Dependence) (faults : List Fault) (restarts : List Restart) (events : List Event)
+    → Lawful dependence faults events
     → (rest : List Restart) × (all_restarts dependence faults ≡ restarts ++ rest) → length restarts ≡ count_by is_restart events
     → (events_of (flat_map (line_of restarts) events) ≡ events) × LawfulLines dependence faults (flat_map (line_of restarts) events)
 lines-lawful dependence faults restarts events lawful first n =

@@ -34,9 +34,11 @@ use Rattle.gp_traces.proofs.Texts.{text-is}
 
 front-narrow : (restarts rest : List Restart) → All IsNarrowRestart (restarts ++ rest) → All IsNarrowRestart restarts
 front-narrow restarts rest all k d l =
-    All-contains IsNarrowRestart (restarts ++ rest) (get_or restarts k d) all (Contains-append_left restarts rest (get_or restarts k d) (All-contains_itself restarts k d l))
+    All-contains IsNarrowRestart (restarts ++ rest) (get_or restarts k d) all
+    (Contains-append_left restarts rest (get_or restarts k d) (All-contains_itself restarts k d l))
 
-module _ (run : List Subthread) (faults : List Fault) (journal : Journal) (narrow : IsNarrowRun run faults) (whole : IsWholeRun run faults journal) where
+module _ (run : List Subthread) (faults : List Fault) (journal : Journal) (narrow : IsNarrowRun run faults)
+    (whole : IsWholeRun run faults journal) where
   short : AreShort faults
   short k d l = (narrow.in_range k d l).delay
 
@@ -46,11 +48,13 @@ module _ (run : List Subthread) (faults : List Fault) (journal : Journal) (narro
   told-narrow : All IsNarrowRestart journal.restarts
   told-narrow =
       front-narrow journal.restarts whole.first.0
-      (subst (All IsNarrowRestart) whole.first.1 (restarts-narrow (dependence_of run) faults clean narrow.subthreads narrow.few narrow.in_range))
+      (subst (All IsNarrowRestart) whole.first.1
+      (restarts-narrow (dependence_of run) faults clean narrow.subthreads narrow.few narrow.in_range))
 
   all-lines-narrow : All IsNarrowLine (lines_of journal)
   all-lines-narrow =
-      lines-narrow (dependence_of run) faults clean narrow.subthreads narrow.few narrow.in_range journal.restarts told-narrow [] journal.events whole.complete.lawful
+      lines-narrow (dependence_of run) faults clean narrow.subthreads narrow.few narrow.in_range journal.restarts told-narrow
+      [] journal.events whole.complete.lawful
 
   whole-verdict : IsVerdict (dependence_by (map shown run)) faults (lines_of journal) IsLawful
   whole-verdict =
@@ -60,9 +64,17 @@ module _ (run : List Subthread) (faults : List Fault) (journal : Journal) (narro
 
   pub audit-is-lawful : (read : Result (List TraceLine) TraceFault) → AnswersTrace (trace_text journal) read
       → (read ≡ Err fault.OutOfMemory)
-      ⊎ ((lines : List TraceLine) × (read ≡ Ok lines) × ((verdict : Verdict) → IsVerdict (dependence_by (map shown run)) faults lines verdict → verdict ≡ IsLawful))
+      ⊎ ((lines : List TraceLine) × (read ≡ Ok lines)
+      × ((verdict : Verdict) → IsVerdict (dependence_by (map shown run)) faults lines verdict → verdict ≡ IsLawful))
   audit-is-lawful read answers =
-      elim (read_once (lines_of journal) all-lines-narrow read (subst (λ bytes. AnswersTrace bytes read) (text-is journal.restarts journal.events) answers)) [
-        | inl is ↦ inr (lines_of journal, is, λ verdict is_verdict. verdict_once (dependence_by (map shown run)) faults (lines_of journal) verdict IsLawful is_verdict whole-verdict)
+      elim (read_once (lines_of journal) all-lines-narrow read
+      (subst (λ bytes. AnswersTrace bytes read) (text-is journal.restarts journal.events) answers)) [
+        | inl is ↦
+            inr (
+              lines_of journal,
+              is,
+              λ verdict is_verdict.
+                  verdict_once (dependence_by (map shown run)) faults (lines_of journal) verdict IsLawful is_verdict whole-verdict,
+            )
         | inr out ↦ inl out
       ]

@@ -31,7 +31,8 @@ TextLaw = (journal : Journal) → trace_text journal ≡ text_of (lines_of journ
 abbrev pub LinesLaw : Type 0
 LinesLaw =
     (dependence : Dependence) (faults : List Fault) (journal : Journal) → Lawful dependence faults journal.events
-    → (rest : List Restart) × (restarts dependence faults ≡ journal.restarts ++ rest) → length journal.restarts ≡ count_by is_restart journal.events
+    → (rest : List Restart) × (restarts dependence faults ≡ journal.restarts ++ rest)
+    → length journal.restarts ≡ count_by is_restart journal.events
     → (events_of (lines_of journal) ≡ journal.events) × LawfulLines dependence faults (lines_of journal)
 
 -- the steps of a plain run say of conflicts, restarts and journals what its subthreads say
@@ -53,7 +54,9 @@ pub record IsNarrowRun (run : List Subthread) (faults : List Fault) : Type 0 whe
 -- the trace of a whole run is read, unless memory is out, and an audit of its lines by the plain run answers that they are lawful
 abbrev pub AuditLaw : Type 0
 AuditLaw =
-    (run : List Subthread) (faults : List Fault) (journal : Journal) (read : Result (List TraceLine) TraceFault) → IsNarrowRun run faults → IsWholeRun run faults journal
+    (run : List Subthread) (faults : List Fault) (journal : Journal) (read : Result (List TraceLine) TraceFault) → IsNarrowRun run faults
+    → IsWholeRun run faults journal
     → AnswersTrace (trace_text journal) read
     → (read ≡ Err fault.OutOfMemory)
-    ⊎ ((lines : List TraceLine) × (read ≡ Ok lines) × ((verdict : Verdict) → IsVerdict (dependence_by (map shown run)) faults lines verdict → verdict ≡ IsLawful))
+    ⊎ ((lines : List TraceLine) × (read ≡ Ok lines)
+    × ((verdict : Verdict) → IsVerdict (dependence_by (map shown run)) faults lines verdict → verdict ≡ IsLawful))

@@ -10,8 +10,8 @@ abbrev pub begins_with : (name : List ℕ) → List (List ℕ) → Bool
 begins_with name [] = false
 begins_with name (word ∷ words) = bytes_eq word name
 
--- the call that audits, the call by checkpoints, the call with a log and the call from a log by their first words, the call by lasting workers by the crew
--- that is asked for, and that which runs and checks for all other words
+-- the call that audits, the call by checkpoints, the call with a log and the call from a log by their first words, the
+-- call by lasting workers by the crew that is asked for, and that which runs and checks for all other words
 abbrev pub call_of : List (List ℕ) → TopCall
 call_of words =
     if begins_with (codes "audit") words then Audit

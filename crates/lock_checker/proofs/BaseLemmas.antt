@@ -23,7 +23,9 @@ option_map-zero None = refl
 option_map-zero (Some n) = ap Some (zero-add n)
 
 -- the first cell of the array of this name, where the first of all arrays begins at a cell
-pub option_map-first : (there : Bool) (b s : ℕ) (o : Option ℕ) → option_map (λ n. b + n) (cond there (Some 0) (option_map (λ n. s + n) o)) ≡ (if there then Some b else option_map (λ n. (b + s) + n) o)
+pub option_map-first : (there : Bool) (b s : ℕ) (o : Option ℕ)
+    → option_map (λ n. b + n) (cond there (Some 0) (option_map (λ n. s + n) o))
+    ≡ (if there then Some b else option_map (λ n. (b + s) + n) o)
 option_map-first true b s o = ap Some (omega arith)
 option_map-first false b s o = option_map-add b s o
 
@@ -34,7 +36,8 @@ pub base_small : (arrays : List (Name × ℕ)) (x : Name) (most : ℕ) → cells
 base_small [] x most fits = tt
 base_small (array ∷ arrays) x most fits = by (is_name x array.0) (base_of arrays x) (base_small arrays x (cells_in arrays) (omega arith))
   where
-    by : (b : Bool) (o : Option ℕ) → IfSome o (λ base. base ≤ cells_in arrays) → IfSome (cond b (Some 0) (option_map (λ n. array.1 + n) o)) (λ base. base ≤ most)
+    by : (b : Bool) (o : Option ℕ) → IfSome o (λ base. base ≤ cells_in arrays)
+        → IfSome (cond b (Some 0) (option_map (λ n. array.1 + n) o)) (λ base. base ≤ most)
     by true o small = omega arith
     by false None small = tt
     by false (Some n) small = omega arith
@@ -49,16 +52,28 @@ no_rule line None none = refl
 no_rule line (Some k) none = cc
 
 -- heads without a fault keep the limits
-heads_small : (program : Program) (before heads : List Head) → first_fault (head_visits program before heads) ≡ None → cells_in (locks_of before) ≤ MOST_CELLS → cells_in (records_of before) ≤ MOST_CELLS → (cells_in (locks_of (before ++ heads)) ≤ MOST_CELLS) × (cells_in (records_of (before ++ heads)) ≤ MOST_CELLS)
-heads_small program before [] none locks records = (subst (λ l. cells_in (locks_of l) ≤ MOST_CELLS) (sym (append-nil before)) locks, subst (λ l. cells_in (records_of l) ≤ MOST_CELLS) (sym (append-nil before)) records)
+heads_small : (program : Program) (before heads : List Head) → first_fault (head_visits program before heads) ≡ None
+    → cells_in (locks_of before) ≤ MOST_CELLS → cells_in (records_of before) ≤ MOST_CELLS
+    → (cells_in (locks_of (before ++ heads)) ≤ MOST_CELLS) × (cells_in (records_of (before ++ heads)) ≤ MOST_CELLS)
+heads_small program before [] none locks records = (
+  subst (λ l. cells_in (locks_of l) ≤ MOST_CELLS) (sym (append-nil before)) locks,
+  subst (λ l. cells_in (records_of l) ≤ MOST_CELLS) (sym (append-nil before)) records,
+)
 heads_small program before (h ∷ heads) none locks records =
-    let parts = none_of (on_line (line_of h) (lowest (head_visit program before h).fails)) (first_fault (head_visits program (before ++ h ∷ []) heads)) (sym (fault_at-lowest (line_of h) (head_visit program before h).fails (first_fault (head_visits program (before ++ h ∷ []) heads))) ∙ none) in
+    let parts =
+    none_of (on_line (line_of h) (lowest (head_visit program before h).fails))
+    (first_fault (head_visits program (before ++ h ∷ []) heads))
+    (sym (fault_at-lowest (line_of h) (head_visit program before h).fails
+    (first_fault (head_visits program (before ++ h ∷ []) heads))) ∙ none) in
     let small = cells_small program before h (no_rule (line_of h) (lowest (head_visit program before h).fails) parts.0) locks records in
-    let rest = heads_small program (before ++ h ∷ []) heads parts.1 small.0 small.1 in
-    (subst (λ l. cells_in (locks_of l) ≤ MOST_CELLS) (append_assoc before (h ∷ []) heads) rest.0, subst (λ l. cells_in (records_of l) ≤ MOST_CELLS) (append_assoc before (h ∷ []) heads) rest.1)
+    let rest = heads_small program (before ++ h ∷ []) heads parts.1 small.0 small.1 in (
+      subst (λ l. cells_in (locks_of l) ≤ MOST_CELLS) (append_assoc before (h ∷ []) heads) rest.0,
+      subst (λ l. cells_in (records_of l) ≤ MOST_CELLS) (append_assoc before (h ∷ []) heads) rest.1,
+    )
 
 -- a program without a fault keeps them
-pub accepted_small : (program : Program) → check_fault program ≡ None → (cells_in (locks_of program.heads) ≤ MOST_CELLS) × (cells_in (records_of program.heads) ≤ MOST_CELLS)
+pub accepted_small : (program : Program) → check_fault program ≡ None
+    → (cells_in (locks_of program.heads) ≤ MOST_CELLS) × (cells_in (records_of program.heads) ≤ MOST_CELLS)
 accepted_small program none =
     let heads = head_visits program [] program.heads in
     let tasks = task_visits (map head_name program.heads) program.tasks in

@@ -23,7 +23,8 @@ use Rattle.lock_checker.proofs.VisitLemmas.{found_after, told_before}
 module _ (xs : List Stmt) (i : ℕ) (x : Stmt) (within : i < length xs) (is : x ≡ get_or xs i x) where
   -- what is left of a block begins with the statement at the index
   block_from : plain_block (drop i xs) ≡ plain.Then (plain_stmt x) (plain_block (drop (i + 1) xs))
-  block_from = at_drop_more plain_block xs i x within ∙ ap (λ (y : Stmt). plain.Then (plain_stmt y) (plain_block (drop (i + 1) xs))) (sym is)
+  block_from =
+      at_drop_more plain_block xs i x within ∙ ap (λ (y : Stmt). plain.Then (plain_stmt y) (plain_block (drop (i + 1) xs))) (sym is)
 
   module _ (s : Scope) (held : List Pair) where
     abbrev here : List Visit
@@ -36,22 +37,28 @@ module _ (xs : List Stmt) (i : ℕ) (x : Stmt) (within : i < length xs) (is : x 
     splits = ap (λ b. visits_in s b held) block_from
 
     -- where the statement has a fault
-    pub told_here : (fault : CheckFault) (all : Option (CheckKind × ℕ)) → first_fault (visits_in s (plain_block (drop i xs)) held) ≡ all → Told fault (first_fault (visits_of s (plain_stmt x) held)) → Told fault all
+    pub told_here : (fault : CheckFault) (all : Option (CheckKind × ℕ)) → first_fault (visits_in s (plain_block (drop i xs)) held) ≡ all
+        → Told fault (first_fault (visits_of s (plain_stmt x) held)) → Told fault all
     told_here fault all is_all told = told_before fault (visits_in s (plain_block (drop i xs)) held) here after all splits is_all told
 
     -- where it has none
     module _ (next : List Pair) (goes : HaveSame next (held_after (plain_stmt x) held)) where
-      pub found_later : first_fault (visits_of s (plain_stmt x) held) ≡ None → first_fault (visits_in s (plain_block (drop (i + 1) xs)) next) ≡ first_fault (visits_in s (plain_block (drop i xs)) held)
+      pub found_later : first_fault (visits_of s (plain_stmt x) held) ≡ None
+          → first_fault (visits_in s (plain_block (drop (i + 1) xs)) next) ≡ first_fault (visits_in s (plain_block (drop i xs)) held)
       found_later none =
           ap first_fault (in_same s (plain_block (drop (i + 1) xs)) next (held_after (plain_stmt x) held) (record { members = goes }))
           ∙ found_after (visits_in s (plain_block (drop i xs)) held) here after splits none
 
       pub ends_later : HaveSame (held_at_end (plain_block (drop (i + 1) xs)) next) (held_at_end (plain_block (drop i xs)) held)
-      ends_later q = (end_same (plain_block (drop (i + 1) xs)) (record { members = goes })).members q ∙ sym (ap (λ b. has (held_at_end b held) q) block_from)
+      ends_later q =
+          (end_same (plain_block (drop (i + 1) xs)) (record { members = goes })).members q
+          ∙ sym (ap (λ b. has (held_at_end b held) q) block_from)
 
 -- one list may stand for another with the same members
-pub moves_same : (old old' new ends ends' changes : List Pair) → HaveSame old old' → HaveSame ends ends' → Moves old changes new ends → Moves old' changes new ends'
-moves_same old old' new ends ends' changes same agree moves = (leads_same old old' new new changes moves.0 same (λ q. refl), λ q. moves.1 q ∙ agree q)
+pub moves_same : (old old' new ends ends' changes : List Pair) → HaveSame old old' → HaveSame ends ends' → Moves old changes new ends
+    → Moves old' changes new ends'
+moves_same old old' new ends ends' changes same agree moves =
+    (leads_same old old' new new changes moves.0 same (λ q. refl), λ q. moves.1 q ∙ agree q)
 
 -- a `when`
 module _ (s : Stmt) (e : Expr) (first second : List Stmt) (is : s.what ≡ When e first second) where
@@ -61,7 +68,9 @@ module _ (s : Stmt) (e : Expr) (first second : List Stmt) (is : s.what ≡ When 
   pub choice_held : (old : List Pair) → held_after (plain_stmt s) old ≡ old
   choice_held old = ap (λ st. held_after st old) whole
 
-  pub choice_visits : (scope : Scope) (old : List Pair) (a b : List Stmt) → a ≡ first → b ≡ second → later_visits scope (plain_stmt s) old ≡ (visits_in scope (plain_block a) old ++ visits_in scope (plain_block b) old) ++ visit s.line [] ∷ []
+  pub choice_visits : (scope : Scope) (old : List Pair) (a b : List Stmt) → a ≡ first → b ≡ second
+      → later_visits scope (plain_stmt s) old ≡ (visits_in scope (plain_block a) old ++ visits_in scope (plain_block b) old)
+      ++ visit s.line [] ∷ []
   choice_visits scope old a b is_a is_b =
       ap (λ st. later_visits scope st old) whole
       ∙ ap (λ l. (visits_in scope (plain_block l) old ++ visits_in scope (plain_block second) old) ++ visit s.line [] ∷ []) (sym is_a)

@@ -19,12 +19,18 @@ module _ (program : Program) (tasks : List TaskText) (i : ℕ) (t : TaskText) (w
   after = bodies_visits program (map plain_task (drop (i + 1) tasks))
 
   bodies_from : left ≡ body_visits program (plain_task t) ++ after
-  bodies_from = at_drop_more (λ l. bodies_visits program (map plain_task l)) tasks i t within ∙ ap (λ (y : TaskText). body_visits program (plain_task y) ++ after) (sym is)
+  bodies_from =
+      at_drop_more (λ l. bodies_visits program (map plain_task l)) tasks i t within
+      ∙ ap (λ (y : TaskText). body_visits program (plain_task y) ++ after) (sym is)
 
   -- where the body has no fault, the later ones tell the rest
-  pub bodies_later : first_fault (body_visits program (plain_task t)) ≡ None → first_fault (bodies_visits program (map plain_task (drop (i + 1) tasks))) ≡ first_fault (bodies_visits program (map plain_task (drop i tasks)))
+  pub bodies_later : first_fault (body_visits program (plain_task t)) ≡ None
+      → first_fault (bodies_visits program (map plain_task (drop (i + 1) tasks)))
+      ≡ first_fault (bodies_visits program (map plain_task (drop i tasks)))
   bodies_later none = found_after left (body_visits program (plain_task t)) after bodies_from none
 
   -- where it has one
-  pub body_told : (fault : CheckFault) (all : Option (CheckKind × ℕ)) → first_fault (bodies_visits program (map plain_task (drop i tasks))) ≡ all → Told fault (first_fault (body_visits program (plain_task t))) → Told fault all
+  pub body_told : (fault : CheckFault) (all : Option (CheckKind × ℕ))
+      → first_fault (bodies_visits program (map plain_task (drop i tasks))) ≡ all
+      → Told fault (first_fault (body_visits program (plain_task t))) → Told fault all
   body_told fault all is_all told = told_before fault left (body_visits program (plain_task t)) after all bodies_from is_all told

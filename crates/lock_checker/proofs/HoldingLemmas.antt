@@ -49,27 +49,42 @@ into_same (Some x) a b same = any_same (is_index x) a b same
 
 module _ (s : Scope) where
   at_same : (w : What) (a b : List Pair) → Same a b → fails_at s w a ≡ fails_at s w b
-  at_same (SetCtl x e) a b same = ap (λ t. fails_if (not (is_control s x) || has_unknown s e) UnknownName ++ fails_if (has_data e) DataInControl ++ fails_if t IndexChangedWhileHeld) (any_same (is_index x) a b same)
+  at_same (SetCtl x e) a b same =
+      ap (λ t. fails_if (not (is_control s x) || has_unknown s e) UnknownName ++ fails_if (has_data e) DataInControl
+      ++ fails_if t IndexChangedWhileHeld) (any_same (is_index x) a b same)
   at_same (While e c) a b same = refl
   at_same (If e c d) a b same = refl
-  at_same (Lock x i) a b same = ap (λ t. fails_if (not (is_lock s x) || not (is_atom s i)) UnknownName ++ fails_if t HeldTwice) (same.members (x, i))
-  at_same (Unlock x i) a b same = ap (λ t. fails_if (not (is_lock s x) || not (is_atom s i)) UnknownName ++ fails_if (not t) NotHeld) (same.members (x, i))
+  at_same (Lock x i) a b same =
+      ap (λ t. fails_if (not (is_lock s x) || not (is_atom s i)) UnknownName ++ fails_if t HeldTwice) (same.members (x, i))
+  at_same (Unlock x i) a b same =
+      ap (λ t. fails_if (not (is_lock s x) || not (is_atom s i)) UnknownName ++ fails_if (not t) NotHeld) (same.members (x, i))
   at_same (Fork t es x) a b same =
-      ap (λ u. fails_if (is_none (task_named s.program t) || (list_any (has_unknown s) es || into_unknown (is_control s) x)) UnknownName ++ fails_if (counts_differ (task_named s.program t) es) WrongCount ++ fails_if (any_misplaced (task_named s.program t) es) DataInControl ++ fails_if u IndexChangedWhileHeld)
+      ap (λ u. fails_if (is_none (task_named s.program t) || (list_any (has_unknown s) es || into_unknown (is_control s) x)) UnknownName
+      ++ fails_if (counts_differ (task_named s.program t) es) WrongCount
+      ++ fails_if (any_misplaced (task_named s.program t) es) DataInControl ++ fails_if u IndexChangedWhileHeld)
       (into_same x a b same)
   at_same (Join e x) a b same = refl
   at_same (Barrier c) a b same = refl
-  at_same (Settle x c) a b same = ap (λ t. fails_if (not (is_register s x) || not (is_control s c)) UnknownName ++ fails_if t IndexChangedWhileHeld) (any_same (is_index c) a b same)
+  at_same (Settle x c) a b same =
+      ap (λ t. fails_if (not (is_register s x) || not (is_control s c)) UnknownName ++ fails_if t IndexChangedWhileHeld)
+      (any_same (is_index c) a b same)
   at_same (SetReg x e) a b same = refl
-  at_same (Read r i x) a b same = ap (λ t. fails_if (is_none (array_over s r) || (not (is_atom s i) || not (is_register s x))) UnknownName ++ fails_if t NotHeld) (lacks_same (array_over s r) i a b same)
-  at_same (Write r i e) a b same = ap (λ t. fails_if (is_none (array_over s r) || (not (is_atom s i) || has_unknown s e)) UnknownName ++ fails_if (has_data_index e) DataInControl ++ fails_if t NotHeld) (lacks_same (array_over s r) i a b same)
+  at_same (Read r i x) a b same =
+      ap (λ t. fails_if (is_none (array_over s r) || (not (is_atom s i) || not (is_register s x))) UnknownName ++ fails_if t NotHeld)
+      (lacks_same (array_over s r) i a b same)
+  at_same (Write r i e) a b same =
+      ap (λ t. fails_if (is_none (array_over s r) || (not (is_atom s i) || has_unknown s e)) UnknownName
+      ++ fails_if (has_data_index e) DataInControl ++ fails_if t NotHeld) (lacks_same (array_over s r) i a b same)
   at_same (Print es) a b same = refl
   at_same (When e c d) a b same = refl
 
   after_same : (w : What) (a b : List Pair) → Same a b → fails_after s w a ≡ fails_after s w b
   after_same (SetCtl x e) a b same = refl
-  after_same (While e c) a b same = ap (λ t. fails_if (not t) BranchesDiffer) (same_pairs_same (held_at_end c a) a (held_at_end c b) b (end_same c same) same)
-  after_same (If e c d) a b same = ap (λ t. fails_if (not t) BranchesDiffer) (same_pairs_same (held_at_end c a) (held_at_end d a) (held_at_end c b) (held_at_end d b) (end_same c same) (end_same d same))
+  after_same (While e c) a b same =
+      ap (λ t. fails_if (not t) BranchesDiffer) (same_pairs_same (held_at_end c a) a (held_at_end c b) b (end_same c same) same)
+  after_same (If e c d) a b same =
+      ap (λ t. fails_if (not t) BranchesDiffer)
+      (same_pairs_same (held_at_end c a) (held_at_end d a) (held_at_end c b) (held_at_end d b) (end_same c same) (end_same d same))
   after_same (Lock x i) a b same = refl
   after_same (Unlock x i) a b same = refl
   after_same (Fork t es x) a b same = refl
@@ -92,7 +107,8 @@ module _ (s : Scope) where
     inside_same : (w : What) (a b : List Pair) → Same a b → visits_inside s w a ≡ visits_inside s w b
     inside_same (SetCtl x e) a b same = refl
     inside_same (While e c) a b same = in_same c a b same
-    inside_same (If e c d) a b same = ap (λ vs. vs ++ visits_in s d a) (in_same c a b same) ∙ ap (λ vs. visits_in s c b ++ vs) (in_same d a b same)
+    inside_same (If e c d) a b same =
+        ap (λ vs. vs ++ visits_in s d a) (in_same c a b same) ∙ ap (λ vs. visits_in s c b ++ vs) (in_same d a b same)
     inside_same (Lock x i) a b same = refl
     inside_same (Unlock x i) a b same = refl
     inside_same (Fork t es x) a b same = refl
@@ -103,7 +119,8 @@ module _ (s : Scope) where
     inside_same (Read r i x) a b same = refl
     inside_same (Write r i e) a b same = refl
     inside_same (Print es) a b same = refl
-    inside_same (When e c d) a b same = ap (λ vs. vs ++ visits_in s d a) (in_same c a b same) ∙ ap (λ vs. visits_in s c b ++ vs) (in_same d a b same)
+    inside_same (When e c d) a b same =
+        ap (λ vs. vs ++ visits_in s d a) (in_same c a b same) ∙ ap (λ vs. visits_in s c b ++ vs) (in_same d a b same)
 
     pub in_same : (c : Block) (a b : List Pair) → Same a b → visits_in s c a ≡ visits_in s c b
     in_same Nothing a b same = refl
@@ -114,7 +131,8 @@ module _ (s : Scope) where
 -- the statements left are checked from these pairs without a fault, and are shaped; at the end nothing is held
 pub data Fits (s : Scope) : List Stmt → List Pair → Type 0 where
   none_left : Fits s [] []
-  one_more : {st : Stmt} {left : List Stmt} {held : List Pair} → first_fault (visits_of s st held) ≡ None → is_shaped_stmt st ≡ true → Fits s left (held_after st held) → Fits s (st ∷ left) held
+  one_more : {st : Stmt} {left : List Stmt} {held : List Pair} → first_fault (visits_of s st held) ≡ None → is_shaped_stmt st ≡ true
+      → Fits s left (held_after st held) → Fits s (st ∷ left) held
 
 pub fits_same : {s : Scope} {left : List Stmt} {a : List Pair} → Fits s left a → (b : List Pair) → Same a b → Fits s left b
 fits_same {s} none_left b same = subst (Fits s []) (sym (nothing_same b same)) none_left
@@ -124,12 +142,14 @@ fits_same {s} (one_more {st} {left} {held} none shaped rest) b same =
 pub none_parts : (a b : List Visit) → first_fault (a ++ b) ≡ None → (first_fault a ≡ None) × (first_fault b ≡ None)
 none_parts a b none = by (first_fault a) refl (sym (first_fault-append a b) ∙ none)
   where
-    by : (o : Option (CheckKind × ℕ)) → first_fault a ≡ o → or_later o (first_fault b) ≡ None → (first_fault a ≡ None) × (first_fault b ≡ None)
+    by : (o : Option (CheckKind × ℕ)) → first_fault a ≡ o → or_later o (first_fault b) ≡ None
+        → (first_fault a ≡ None) × (first_fault b ≡ None)
     by None is rest = (is, rest)
     by (Some f) is rest = cc
 
 -- a block without a fault before statements that fit after it
-pub fits_block : {s : Scope} (b : Block) (rest : List Stmt) (held : List Pair) → first_fault (visits_in s b held) ≡ None → is_shaped_block b ≡ true → Fits s rest (held_at_end b held) → Fits s (statements b ++ rest) held
+pub fits_block : {s : Scope} (b : Block) (rest : List Stmt) (held : List Pair) → first_fault (visits_in s b held) ≡ None
+    → is_shaped_block b ≡ true → Fits s rest (held_at_end b held) → Fits s (statements b ++ rest) held
 fits_block Nothing rest held none shaped fits = fits
 fits_block {s} (Then st b) rest held none shaped fits =
     let parts = none_parts (visits_of s st held) (visits_in s b (held_after st held)) none in

@@ -1,4 +1,7 @@
--- The lock cells over record cells, and the record cells under each.
+-- The lock cells over record cells, and the record cells under each. Cells are numbered one after another along the
+-- heads. A list that grows by what belongs to the next number is the list of what belongs to all numbers below a count,
+-- so that what is collected head by head is what the definitions say of each number; the places of a lock cell are then
+-- the record cells under it.
 use Rattle.std.proofs.Common.{◌≡◌, ◌≢◌, ℕ, zero, suc, ◌+◌, ◌-◌, ◌≤◌, ◌<◌, ◌==◌, Bool, true, false, not, cond, List, [], ◌∷◌, ◌++◌, map, length, Option, Some, None, is_none, refl, sym, ap, ◌∙◌, arith, option_map, add-one, zero-add, append_assoc, append-nil, subst, take, set, get_or}
 use Rattle.std.specs.Prelude.{pos, slice_get}
 use Rattle.std.specs.List.{list_all, filter}
@@ -24,14 +27,18 @@ numbers_more a n = ap (numbers a) (add-one n) ∙ numbers-more a n
 
 -- numbers at the end of a list, with the next one
 pub numbers-push : (xs ys : List ℕ) (a n : ℕ) → ys ≡ xs ++ numbers a n → ys ++ (a + n) ∷ [] ≡ xs ++ numbers a (n + 1)
-numbers-push xs ys a n is = ap (λ l. l ++ (a + n) ∷ []) is ∙ append_assoc xs (numbers a n) ((a + n) ∷ []) ∙ ap (λ l. xs ++ l) (sym (numbers_more a n))
+numbers-push xs ys a n is =
+    ap (λ l. l ++ (a + n) ∷ []) is ∙ append_assoc xs (numbers a n) ((a + n) ∷ []) ∙ ap (λ l. xs ++ l) (sym (numbers_more a n))
 
 -- what belongs to the numbers below a count, with that of the next one
 pub map-push : {T : Type 0} (f : ℕ → T) (ys : List T) (n : ℕ) → ys ≡ map f (numbers 0 n) → ys ++ f n ∷ [] ≡ map f (numbers 0 (n + 1))
-map-push f ys n is = ap (λ l. l ++ f n ∷ []) is ∙ ap (λ k. map f (numbers 0 n) ++ f k ∷ []) (sym (zero-add n)) ∙ sym (map-append f (numbers 0 n) ((0 + n) ∷ [])) ∙ ap (map f) (sym (numbers_more 0 n))
+map-push f ys n is =
+    ap (λ l. l ++ f n ∷ []) is ∙ ap (λ k. map f (numbers 0 n) ++ f k ∷ []) (sym (zero-add n))
+    ∙ sym (map-append f (numbers 0 n) ((0 + n) ∷ [])) ∙ ap (map f) (sym (numbers_more 0 n))
 
 -- what agrees number by number
-pub map_numbers : {T : Type 0} (f g : ℕ → T) (a b n : ℕ) → ((k : ℕ) → k < n → f (a + k) ≡ g (b + k)) → map f (numbers a n) ≡ map g (numbers b n)
+pub map_numbers : {T : Type 0} (f g : ℕ → T) (a b n : ℕ) → ((k : ℕ) → k < n → f (a + k) ≡ g (b + k))
+    → map f (numbers a n) ≡ map g (numbers b n)
 map_numbers f g a b zero same = refl
 map_numbers f g a b (suc n) same =
     let first : f a ≡ g b = ap f (omega arith) ∙ same 0 (omega arith) ∙ ap g (omega arith) in
@@ -39,7 +46,8 @@ map_numbers f g a b (suc n) same =
     ap (λ x. x ∷ map f (numbers (suc a) n)) first ∙ ap (λ l. g b ∷ l) rest
 
 -- one of the values that belong to numbers is replaced
-map-set_at : {T : Type 0} (f g : ℕ → T) (a n at : ℕ) (value : T) → value ≡ g (a + at) → ((k : ℕ) → k ≢ a + at → f k ≡ g k) → set (map f (numbers a n)) at value ≡ map g (numbers a n)
+map-set_at : {T : Type 0} (f g : ℕ → T) (a n at : ℕ) (value : T) → value ≡ g (a + at) → ((k : ℕ) → k ≢ a + at → f k ≡ g k)
+    → set (map f (numbers a n)) at value ≡ map g (numbers a n)
 map-set_at f g a zero at value is others = refl
 map-set_at f g a (suc n) zero value is others =
     ap (λ v. v ∷ map f (numbers (suc a) n)) (is ∙ ap g (omega arith))
@@ -54,17 +62,23 @@ get_or-numbers f a (suc n) zero d less = ap f (omega arith)
 get_or-numbers f a (suc n) (suc at) d less = get_or-numbers f (suc a) n at d (omega arith) ∙ ap f (omega arith)
 
 -- the places of a number where one more stands at the end
-positions-push : (from : ℕ) (xs : List ℕ) (x number : ℕ) → positions from (xs ++ x ∷ []) number ≡ positions from xs number ++ cond (number == x) ((from + length xs) ∷ []) []
+positions-push : (from : ℕ) (xs : List ℕ) (x number : ℕ)
+    → positions from (xs ++ x ∷ []) number ≡ positions from xs number ++ cond (number == x) ((from + length xs) ∷ []) []
 positions-push from [] x number = ap (λ k. cond (number == x) (k ∷ []) []) (omega arith)
 positions-push from (y ∷ xs) x number =
-    ap (λ l. cond (number == y) (from ∷ l) l) (positions-push (suc from) xs x number ∙ ap (λ k. positions (suc from) xs number ++ cond (number == x) (k ∷ []) []) (omega arith))
+    ap (λ l. cond (number == y) (from ∷ l) l)
+    (positions-push (suc from) xs x number ∙ ap (λ k. positions (suc from) xs number ++ cond (number == x) (k ∷ []) []) (omega arith))
     ∙ by (number == y)
   where
-    by : (b : Bool) → cond b (from ∷ positions (suc from) xs number ++ cond (number == x) ((from + suc (length xs)) ∷ []) []) (positions (suc from) xs number ++ cond (number == x) ((from + suc (length xs)) ∷ []) []) ≡ cond b (from ∷ positions (suc from) xs number) (positions (suc from) xs number) ++ cond (number == x) ((from + suc (length xs)) ∷ []) []
+    by : (b : Bool) → cond b (from ∷ positions (suc from) xs number ++ cond (number == x) ((from + suc (length xs)) ∷ []) [])
+        (positions (suc from) xs number ++ cond (number == x) ((from + suc (length xs)) ∷ []) [])
+        ≡ cond b (from ∷ positions (suc from) xs number) (positions (suc from) xs number) ++ cond (number == x)
+        ((from + suc (length xs)) ∷ []) []
     by true = refl
     by false = refl
 
-module _ (over : List ℕ) (locks cell : ℕ) (lists : List (List ℕ)) (less : cell < length over) (is : lists ≡ map (positions 0 (take cell over)) (numbers 0 locks)) where
+module _ (over : List ℕ) (locks cell : ℕ) (lists : List (List ℕ)) (less : cell < length over)
+    (is : lists ≡ map (positions 0 (take cell over)) (numbers 0 locks)) where
   abbrev lock : ℕ
   lock = get_or over cell 0
 
@@ -77,15 +91,23 @@ module _ (over : List ℕ) (locks cell : ℕ) (lists : List (List ℕ)) (less : 
       ∙ ap (λ n. positions 0 (take cell over) k ++ cond (k == lock) (n ∷ []) []) (zero-add _ ∙ length-take-le cell over (omega arith))
 
   others_stay : (k : ℕ) → k ≢ lock → positions 0 (take cell over) k ≡ more k
-  others_stay k other = sym (more_told k ∙ ap (λ b. positions 0 (take cell over) k ++ cond b (cell ∷ []) []) (ne_eqb k lock other) ∙ append-nil _)
+  others_stay k other =
+      sym (more_told k ∙ ap (λ b. positions 0 (take cell over) k ++ cond b (cell ∷ []) []) (ne_eqb k lock other) ∙ append-nil _)
 
   -- the record cell goes to the list of the lock cell over it
-  pub cell_put : (cells new : List ℕ) → lock < length lists → cells ≡ get_or lists lock [] → new ≡ cells ++ cell ∷ [] → set lists lock new ≡ map more (numbers 0 locks)
+  pub cell_put : (cells new : List ℕ) → lock < length lists → cells ≡ get_or lists lock [] → new ≡ cells ++ cell ∷ []
+      → set lists lock new ≡ map more (numbers 0 locks)
   cell_put cells new within was put =
       let there : lock < locks = subst (λ n. lock < n) (ap length is ∙ length-map (numbers 0 locks) _ ∙ length-numbers 0 locks) within in
-      let old : cells ≡ positions 0 (take cell over) lock = was ∙ ap (λ l. get_or l lock []) is ∙ get_or-numbers (positions 0 (take cell over)) 0 locks lock [] there ∙ ap (positions 0 (take cell over)) (zero-add lock) in
-      let told : new ≡ more (0 + lock) = put ∙ ap (λ l. l ++ cell ∷ []) old ∙ sym (more_told lock ∙ ap (λ b. positions 0 (take cell over) lock ++ cond b (cell ∷ []) []) (eq-eqb lock lock refl)) ∙ ap more (sym (zero-add lock)) in
-      ap (λ l. set l lock new) is ∙ map-set_at (positions 0 (take cell over)) more 0 locks lock new told (λ k other. others_stay k (λ e. other (e ∙ sym (zero-add lock))))
+      let old : cells ≡ positions 0 (take cell over) lock =
+      was ∙ ap (λ l. get_or l lock []) is ∙ get_or-numbers (positions 0 (take cell over)) 0 locks lock [] there
+      ∙ ap (positions 0 (take cell over)) (zero-add lock) in
+      let told : new ≡ more (0 + lock) =
+      put ∙ ap (λ l. l ++ cell ∷ []) old ∙ sym
+      (more_told lock ∙ ap (λ b. positions 0 (take cell over) lock ++ cond b (cell ∷ []) []) (eq-eqb lock lock refl))
+      ∙ ap more (sym (zero-add lock)) in
+      ap (λ l. set l lock new) is ∙ map-set_at (positions 0 (take cell over)) more 0 locks lock new told
+      (λ k other. others_stay k (λ e. other (e ∙ sym (zero-add lock))))
 
   -- where there is no such lock cell the lists stay
   pub cell_passed : length lists ≤ lock → lists ≡ map more (numbers 0 locks)
@@ -109,11 +131,16 @@ has_base (array ∷ arrays) x size e = go (is_name x array.0) e (has_base arrays
   where
     go : (b : Bool) → cond b (Some array.1) (named x arrays) ≡ Some size → (named x arrays ≡ Some size → HasBase arrays x size)
         → (base : ℕ) × (cond b (Some 0) (option_map (λ n. array.1 + n) (base_of arrays x)) ≡ Some base)
-        × ((k : ℕ) → k < size → cond b (place array.1 (pos k)) (option_map (λ n. array.1 + n) (cell_number arrays x (pos k))) ≡ Some (base + k))
+        × ((k : ℕ) → k < size → cond b (place array.1 (pos k)) (option_map (λ n. array.1 + n) (cell_number arrays x (pos k)))
+        ≡ Some (base + k))
     go true e later = let same : array.1 ≡ size = cc e in (0, refl, λ k less. rw (lt-ltb k array.1 (omega arith)) (ap Some (omega arith)))
     go false e later =
-        let there = later e in
-        (array.1 + there.0, ap (option_map (λ n. array.1 + n)) there.1, λ k less. ap (option_map (λ n. array.1 + n)) (there.2 k less) ∙ ap Some (omega arith))
+        let there = later e in (
+          array.1 + there.0,
+          ap (option_map (λ n. array.1 + n)) there.1,
+          λ k less. ap (option_map (λ n. array.1 + n)) (there.2 k less)
+              ∙ ap Some (omega arith),
+        )
 
 -- the cells over the record cells are those that the heads tell
 over_told : (all heads : List Head) → list_all (fits_array all) heads ≡ true
@@ -131,11 +158,14 @@ over_told all (RecHead name size by from line ∷ heads) fits =
     let mine = and_parts (not (is_none (named by arrays))) (not (is_other_size n (named by arrays))) parts.0 in
     let there = has_base arrays by n (array_found n (named by arrays) mine.0 mine.1) in
     let first : map Some (numbers there.0 n) ≡ map here (numbers 0 n) =
-    map_numbers Some here there.0 0 n (λ k less. sym (there.2 k less) ∙ sym (ap (λ b. cond b (cell_number arrays by (pos k)) (lock_over arrays heads (k - n))) (lt-ltb k n less)) ∙ ap here (omega arith)) in
+    map_numbers Some here there.0 0 n (λ k less. sym (there.2 k less)
+    ∙ sym (ap (λ b. cond b (cell_number arrays by (pos k)) (lock_over arrays heads (k - n))) (lt-ltb k n less))
+    ∙ ap here (omega arith)) in
     let later : map (lock_over arrays heads) (numbers 0 m) ≡ map here (numbers (0 + n) m) =
     map_numbers (lock_over arrays heads) here 0 (0 + n) m (λ k less.
     ap (lock_over arrays heads) (omega arith)
-    ∙ sym (ap (λ b. cond b (cell_number arrays by (pos (0 + n + k))) (lock_over arrays heads (0 + n + k - n))) (le-ltb (0 + n + k) n (omega arith)))) in
+    ∙ sym (ap (λ b. cond b (cell_number arrays by (pos (0 + n + k))) (lock_over arrays heads (0 + n + k - n)))
+    (le-ltb (0 + n + k) n (omega arith)))) in
     ap (λ o. map Some (numbers_at o n ++ cells_over arrays heads)) there.1
     ∙ map-append Some (numbers there.0 n) (cells_over arrays heads)
     ∙ ap (λ l. l ++ map Some (cells_over arrays heads)) first
@@ -183,11 +213,15 @@ places_told over lock from (suc n) (x ∷ xs) e =
     let first : Some x ≡ over from = cc e in
     let rest : map Some xs ≡ map over (numbers (suc from) n) = cc e in
     ap (λ l. cond (lock == x) (from ∷ l) l) (places_told over lock (suc from) n xs rest)
-    ∙ ap (λ o. cond (is_lock_cell lock o) (from ∷ filter (λ c. is_lock_cell lock (over c)) (numbers (suc from) n)) (filter (λ c. is_lock_cell lock (over c)) (numbers (suc from) n))) first
+    ∙ ap (λ o. cond (is_lock_cell lock o) (from ∷ filter (λ c. is_lock_cell lock (over c)) (numbers (suc from) n))
+    (filter (λ c. is_lock_cell lock (over c)) (numbers (suc from) n))) first
 
 -- the places of a lock cell among the cells over all record cells are the record cells under it
-pub under_told : (heads : List Head) → list_all (fits_array heads) heads ≡ true → (lock : ℕ) → positions 0 (cells_over (locks_of heads) heads) lock ≡ cells_under heads lock
-under_told heads fits lock = places_told (lock_over (locks_of heads) heads) lock 0 (cells_in (records_of heads)) (cells_over (locks_of heads) heads) (over_told heads heads fits)
+pub under_told : (heads : List Head) → list_all (fits_array heads) heads ≡ true → (lock : ℕ)
+    → positions 0 (cells_over (locks_of heads) heads) lock ≡ cells_under heads lock
+under_told heads fits lock =
+    places_told (lock_over (locks_of heads) heads) lock 0 (cells_in (records_of heads)) (cells_over (locks_of heads) heads)
+    (over_told heads heads fits)
 
 length-numbers_at : (o : Option ℕ) (n : ℕ) → length (numbers_at o n) ≤ n
 length-numbers_at None n = omega arith

@@ -24,7 +24,8 @@ each_push P [] h all new = (new, tt)
 each_push P (k ∷ held) h all new = (all.0, each_push P held h all.1 new)
 
 -- what is left passes, and is of other pairs
-pub each_left : (P Q : Holding → Type 0) (p : Pair) → ((h : Holding) → same_pair p h.pair ≡ false → P h → Q h) → (held : List Holding) → Each P held → Each Q (released held p)
+pub each_left : (P Q : Holding → Type 0) (p : Pair) → ((h : Holding) → same_pair p h.pair ≡ false → P h → Q h) → (held : List Holding)
+    → Each P held → Each Q (released held p)
 each_left P Q p then_it [] all = tt
 each_left P Q p then_it (h ∷ held) all = go (same_pair p h.pair) refl (each_left P Q p then_it held all.1)
   where
@@ -40,7 +41,8 @@ both P Q (h ∷ held) all also = ((all.0, also.0), both P Q held all.1 also.1)
 pub apart_push : (held : List Holding) (h : Holding) → Apart held → Each (λ k. k.cell ≡ h.cell → ⊥) held → Apart (held ++ h ∷ [])
 apart_push held h apart new =
     each_push (λ k. Each (λ j. k.cell ≡ j.cell → k.pair ≡ j.pair) (held ++ h ∷ [])) held h
-    (each_then (λ k. Each (λ j. k.cell ≡ j.cell → k.pair ≡ j.pair) held × (k.cell ≡ h.cell → ⊥)) (λ k. Each (λ j. k.cell ≡ j.cell → k.pair ≡ j.pair) (held ++ h ∷ []))
+    (each_then (λ k. Each (λ j. k.cell ≡ j.cell → k.pair ≡ j.pair) held × (k.cell ≡ h.cell → ⊥))
+    (λ k. Each (λ j. k.cell ≡ j.cell → k.pair ≡ j.pair) (held ++ h ∷ []))
     (λ k both. each_push (λ j. k.cell ≡ j.cell → k.pair ≡ j.pair) held h both.0 (λ e. absurd (both.1 e)))
     held (both (λ k. Each (λ j. k.cell ≡ j.cell → k.pair ≡ j.pair) held) (λ k. k.cell ≡ h.cell → ⊥) held apart new))
     (each_push (λ j. h.cell ≡ j.cell → h.pair ≡ j.pair) held h
@@ -48,8 +50,10 @@ apart_push held h apart new =
 
 pub apart_left : (held : List Holding) (p : Pair) → Apart held → Apart (released held p)
 apart_left held p apart =
-    each_left (λ h. Each (λ k. h.cell ≡ k.cell → h.pair ≡ k.pair) held) (λ h. Each (λ k. h.cell ≡ k.cell → h.pair ≡ k.pair) (released held p)) p
-    (λ h e all. each_left (λ k. h.cell ≡ k.cell → h.pair ≡ k.pair) (λ k. h.cell ≡ k.cell → h.pair ≡ k.pair) p (λ k e same. same) held all) held apart
+    each_left (λ h. Each (λ k. h.cell ≡ k.cell → h.pair ≡ k.pair) held)
+    (λ h. Each (λ k. h.cell ≡ k.cell → h.pair ≡ k.pair) (released held p)) p
+    (λ h e all. each_left (λ k. h.cell ≡ k.cell → h.pair ≡ k.pair) (λ k. h.cell ≡ k.cell → h.pair ≡ k.pair) p (λ k e same. same) held all)
+    held apart
 
 -- ---- which cells are held
 
@@ -63,7 +67,8 @@ has_new [] h = inl refl
 has_new (k ∷ held) h = inr (has_new held h)
 
 -- what is left has all other cells than that of the pair
-pub has_left : (held : List Holding) (p : Pair) (l m : ℕ) → Each (λ k. same_pair p k.pair ≡ true → k.cell ≡ l) held → (m ≡ l → ⊥) → HasCell held m → HasCell (released held p) m
+pub has_left : (held : List Holding) (p : Pair) (l m : ℕ) → Each (λ k. same_pair p k.pair ≡ true → k.cell ≡ l) held → (m ≡ l → ⊥)
+    → HasCell held m → HasCell (released held p) m
 has_left [] p l m cells ne has = absurd has
 has_left (h ∷ held) p l m cells ne has = go (same_pair p h.pair) refl has (has_left held p l m cells.1 ne)
   where
@@ -101,8 +106,10 @@ owned_has (None ∷ owners) n t (suc l) e = subst (Contains (owned_from (suc n) 
 owned_has (Some owner ∷ owners) n t zero e =
     let same : owner ≡ t = ap (λ o. unwrap_or o owner) e in
     rw (eq-eqb t owner (sym same)) (0, omega arith, omega arith)
-owned_has (Some owner ∷ owners) n t (suc l) e = go (nat_eq t owner) (subst (Contains (owned_from (suc n) owners t)) (omega arith) (owned_has owners (suc n) t l e))
+owned_has (Some owner ∷ owners) n t (suc l) e =
+    go (nat_eq t owner) (subst (Contains (owned_from (suc n) owners t)) (omega arith) (owned_has owners (suc n) t l e))
   where
-    go : (b : Bool) → Contains (owned_from (suc n) owners t) (n + suc l) → Contains (cond b (n ∷ owned_from (suc n) owners t) (owned_from (suc n) owners t)) (n + suc l)
+    go : (b : Bool) → Contains (owned_from (suc n) owners t) (n + suc l)
+        → Contains (cond b (n ∷ owned_from (suc n) owners t) (owned_from (suc n) owners t)) (n + suc l)
     go true there = Contains-append_right (n ∷ []) (owned_from (suc n) owners t) (n + suc l) there
     go false there = there

@@ -1,4 +1,7 @@
--- Each move of an accepted program keeps what threads hold, and names record cells under held locks alone.
+-- Each move of an accepted program keeps what threads hold, and names record cells under held locks alone. Before each
+-- synchronisation the statements that are left fit what the thread holds (WalkLemmas). A move makes one thread take or
+-- give back a lock, or leaves the locks as they are (StepStops), and walks to the thread's next synchronisation
+-- (BodyWalks); the other threads stay, and a new one holds nothing.
 use Rattle.std.proofs.Common.{◌≡◌, ◌⊎◌, inl, inr, ℕ, zero, suc, ◌<◌, ◌≤◌, List, [], ◌∷◌, ◌++◌, length, Contains, Option, Some, None, is_none, map, unwrap_or, true, true≢false, refl, sym, ap, ◌∙◌, subst, arith}
 use Rattle.std.specs.Prelude.{slice_get, ℤ}
 use Rattle.std.proofs.lemmas.Bool.{cases_lt, cases_eq}
@@ -47,9 +50,11 @@ main_there program accepted = go (task_named program main) refl visited
   where
     visited : first_fault (main_visit program ∷ []) ≡ None
     visited = (none_parts (main_visit program ∷ []) (bodies_visits program program.tasks)
-        (none_parts (head_visits program [] program.heads ++ task_visits (map head_name program.heads) program.tasks) (main_visit program ∷ bodies_visits program program.tasks) accepted.faultless).1).0
+        (none_parts (head_visits program [] program.heads ++ task_visits (map head_name program.heads) program.tasks)
+        (main_visit program ∷ bodies_visits program program.tasks) accepted.faultless).1).0
 
-    go : (o : Option TaskText) → task_named program main ≡ o → first_fault (visit 1 (fails_if (is_none o) UnknownName) ∷ []) ≡ None → (task : TaskText) × (task_named program main ≡ Some task)
+    go : (o : Option TaskText) → task_named program main ≡ o → first_fault (visit 1 (fails_if (is_none o) UnknownName) ∷ []) ≡ None
+        → (task : TaskText) × (task_named program main ≡ Some task)
     go None is none = absurd (cc none)
     go (Some task) is none = (task, is)
 
@@ -59,17 +64,20 @@ forked_number (sync.Fork task arguments) = task
 forked_number _ = 0
 
 -- a fork is of a task of the program
-forked_task : (s : Setting) (env : Env) (left : List Stmt) (op : SyncOp) → Stops s env left op → (k : ℕ) (arguments : List ℤ) → op ≡ sync.Fork k arguments
+forked_task : (s : Setting) (env : Env) (left : List Stmt) (op : SyncOp) → Stops s env left op → (k : ℕ) (arguments : List ℤ)
+    → op ≡ sync.Fork k arguments
     → (task : TaskText) × (slice_get s.program.tasks k ≡ Some task)
 forked_task s env left op (locking is) k arguments e = absurd (cc e)
 forked_task s env left op (unlocking is) k arguments e = absurd (cc e)
-forked_task s env left op (forking {t = t} task is) k arguments e = (task, subst (λ n. slice_get s.program.tasks n ≡ Some task) (ap forked_number e) (task_there s.program t task is))
+forked_task s env left op (forking {t = t} task is) k arguments e =
+    (task, subst (λ n. slice_get s.program.tasks n ≡ Some task) (ap forked_number e) (task_there s.program t task is))
 forked_task s env left op ending k arguments e = absurd (cc e)
 forked_task s env left op (otherwise other keeps) k arguments e = absurd (subst IsOther e other)
 forked_task s env left op failing k arguments e = absurd (cc e)
 
 -- a thread is new where a fork made it
-new_thread : (op : SyncOp) (n u : ℕ) → u < with_child (child_of op n) n → n ≤ u → (k : ℕ) × (arguments : List ℤ) × (op ≡ sync.Fork k arguments) × (n ≡ u)
+new_thread : (op : SyncOp) (n u : ℕ) → u < with_child (child_of op n) n → n ≤ u
+    → (k : ℕ) × (arguments : List ℤ) × (op ≡ sync.Fork k arguments) × (n ≡ u)
 new_thread (sync.Fork task arguments) n u l m = (task, arguments, refl, omega arith)
 new_thread sync.Start n u l m = absurd (omega arith)
 new_thread (sync.Lock k) n u l m = absurd (omega arith)
@@ -116,7 +124,14 @@ module _ (program : Program) (inputs : Inputs) (limits : Limits) (accepted : IsA
   laid = laid_out program.heads (accepted_sizes program accepted)
 
   pub stands_first : LocksStand program inputs limits (opening program inputs limits)
-  stands_first = record { points = refl; owners = length-replicate (cells_in (locks_of program.heads)) None; owned = λ lock t e. absurd (first_free _ lock t e); threads = threads; ahead = ahead }
+  stands_first =
+      record {
+        points = refl;
+        owners = length-replicate (cells_in (locks_of program.heads)) None;
+        owned = λ lock t e. absurd (first_free _ lock t e);
+        threads = threads;
+        ahead = ahead;
+      }
     where
       main_is : (task : TaskText) × (task_named program main ≡ Some task)
       main_is = main_there program accepted
@@ -124,7 +139,8 @@ module _ (program : Program) (inputs : Inputs) (limits : Limits) (accepted : IsA
       there : slice_get program.tasks (main_number program) ≡ Some main_is.0
       there = task_there program main main_is.0 main_is.1
 
-      threads : (t : ℕ) → t < 1 → ThreadHolds s (opening program inputs limits).table.owners t (point_in program inputs limits (opening program inputs limits) t)
+      threads : (t : ℕ) → t < 1
+          → ThreadHolds s (opening program inputs limits).table.owners t (point_in program inputs limits (opening program inputs limits) t)
       threads zero l =
           record {
             number = main_number program;
@@ -140,12 +156,14 @@ module _ (program : Program) (inputs : Inputs) (limits : Limits) (accepted : IsA
           }
       threads (suc t) l = absurd (omega arith)
 
-      ahead : (t : ℕ) (next : Next) → t < 1 → next_of (opening program inputs limits).table t ≡ Some next → IsAhead s (point_in program inputs limits (opening program inputs limits) t) next
+      ahead : (t : ℕ) (next : Next) → t < 1 → next_of (opening program inputs limits).table t ≡ Some next
+          → IsAhead s (point_in program inputs limits (opening program inputs limits) t) next
       ahead zero next l e = at_start (ap (λ o. (unwrap_or o spent).sync) (sym e))
       ahead (suc t) next l e = absurd (omega arith)
 
   -- one move further
-  module _ (x : Plain) (sub : Subthread) (y : Plain) (stands : LocksStand program inputs limits x) (go_on : IsStep (tree_machine program inputs limits) x sub y)
+  module _ (x : Plain) (sub : Subthread) (y : Plain) (stands : LocksStand program inputs limits x)
+      (go_on : IsStep (tree_machine program inputs limits) x sub y)
       (points : length y.points ≡ length y.table.seats) where
     abbrev t : ℕ
     t = sub.thread
@@ -177,23 +195,29 @@ module _ (program : Program) (inputs : Inputs) (limits : Limits) (accepted : IsA
       apart : Apart held
       others : (u l : ℕ) → (u ≡ sub.thread → ⊥) → owner_in x.table.owners l ≡ Some u → owner_in owners l ≡ Some u
       back : (u l : ℕ) → (u ≡ sub.thread → ⊥) → owner_in owners l ≡ Some u → owner_in x.table.owners l ≡ Some u
-      forks : (k : ℕ) (arguments : List ℤ) → sub.begins.sync ≡ sync.Fork k arguments → (task : TaskText) × (slice_get program.tasks k ≡ Some task)
+      forks : (k : ℕ) (arguments : List ℤ) → sub.begins.sync ≡ sync.Fork k arguments
+          → (task : TaskText) × (slice_get program.tasks k ≡ Some task)
 
     began_after : Began (owners_after sub.begins.sync sub.thread x.table.owners)
     began_after = go (stands.ahead sub.thread sub.begins inside go_on.begins)
       where
-        went : step s old ≡ Stop sub.begins → (op : SyncOp) → sub.begins.sync ≡ op → Comes s was.start (beginning op sub.child old) (held_past op old.left (env_at s old) was.held)
+        went : step s old ≡ Stop sub.begins → (op : SyncOp) → sub.begins.sync ≡ op
+            → Comes s was.start (beginning op sub.child old) (held_past op old.left (env_at s old) was.held)
         went e op is =
             subst (λ op. Comes s was.start (beginning op sub.child old) (held_past op old.left (env_at s old) was.held)) is
             (past was.comes e (λ bad. subst (MayBegin x.table) bad go_on.may) sub.child)
 
         Came : SyncOp → Type 0
-        Came op = Comes s was.start (beginning op sub.child (settled_by (tree_machine program inputs limits) op sub.thread x.state old)) (held_past op old.left (env_at s old) was.held)
+        Came op =
+            Comes s was.start (beginning op sub.child (settled_by (tree_machine program inputs limits) op sub.thread x.state old))
+            (held_past op old.left (env_at s old) was.held)
 
         -- a settle has set its variable, and nothing else changes the point before the synchronisation
         comes_from : step s old ≡ Stop sub.begins → (op : SyncOp) → sub.begins.sync ≡ op → Came op
         comes_from e (sync.Settle register control) is =
-            subst (λ op. Comes s was.start (beginning op sub.child (record old { names = with_number old.names control (number_at (x.state (RegistersOf sub.thread)) register) })) (held_past op old.left (env_at s old) was.held)) is
+            subst (λ op. Comes s was.start (beginning op sub.child
+            (record old { names = with_number old.names control (number_at (x.state (RegistersOf sub.thread)) register) }))
+            (held_past op old.left (env_at s old) was.held)) is
             (by_settle was.comes e is (number_at (x.state (RegistersOf sub.thread)) register) sub.child)
         comes_from e sync.Start is = went e sync.Start is
         comes_from e (sync.Lock l) is = went e (sync.Lock l) is
@@ -210,7 +234,9 @@ module _ (program : Program) (inputs : Inputs) (limits : Limits) (accepted : IsA
         go (at_start e) =
             record {
               held = was.held;
-              comes = subst (λ o. Comes s was.start (beginning o sub.child (settled_by (tree_machine program inputs limits) o sub.thread x.state old)) was.held) (sym e) was.comes;
+              comes =
+                  subst (λ o. Comes s was.start (beginning o sub.child
+                  (settled_by (tree_machine program inputs limits) o sub.thread x.state old)) was.held) (sym e) was.comes;
               owned = subst (λ o. Each (IsOwned (owners_after o sub.thread x.table.owners) sub.thread) was.held) (sym e) was.owned;
               all = λ l own. was.all l (ap (λ o. owner_in (owners_after o sub.thread x.table.owners) l) (sym e) ∙ own);
               apart = was.apart;
@@ -221,7 +247,9 @@ module _ (program : Program) (inputs : Inputs) (limits : Limits) (accepted : IsA
         go (at_stop e) =
             let walk = walk_law s was.number was.task was.start old was.held accepted was.is_task was.starts was.comes in
             let stop = stops_from s old.left old sub.begins e in
-            let left = after_stop s x.table sub.thread stands.owners (env_at s old) was.held walk.1 was.owned was.all was.apart old.left sub.begins.sync stop go_on.may walk.0 in
+            let left =
+            after_stop s x.table sub.thread stands.owners
+            (env_at s old) was.held walk.1 was.owned was.all was.apart old.left sub.begins.sync stop go_on.may walk.0 in
             record {
               held = held_past sub.begins.sync old.left (env_at s old) was.held;
               comes = comes_from e sub.begins.sync refl;
@@ -238,32 +266,39 @@ module _ (program : Program) (inputs : Inputs) (limits : Limits) (accepted : IsA
 
     has : Each (λ h. Contains (owned_from 0 y.table.owners sub.thread) h.cell) began.held
     has = each_then (IsOwned y.table.owners sub.thread) (λ h. Contains (owned_from 0 y.table.owners sub.thread) h.cell)
-        (λ h own. subst (Contains (owned_from 0 y.table.owners sub.thread)) (omega arith) (owned_has y.table.owners 0 sub.thread h.cell own)) began.held began.owned
+        (λ h own. subst (Contains (owned_from 0 y.table.owners sub.thread)) (omega arith)
+        (owned_has y.table.owners 0 sub.thread h.cell own)) began.held began.owned
 
-    goes : BodyGoes s accepted laid was.number was.task was.is_task was.start was.starts began.held (owned_from 0 y.table.owners sub.thread) has b
-    goes = body_goes s accepted laid was.number was.task was.is_task was.start was.starts began.held (owned_from 0 y.table.owners sub.thread) has limits.turns (beginning sub.begins.sync sub.child from) began.comes
+    goes : BodyGoes s accepted laid was.number was.task was.is_task was.start was.starts began.held
+        (owned_from 0 y.table.owners sub.thread) has b
+    goes =
+        body_goes s accepted laid was.number was.task was.is_task was.start was.starts began.held
+        (owned_from 0 y.table.owners sub.thread) has limits.turns (beginning sub.begins.sync sub.child from) began.comes
 
     pub keeps : KeepsToLocks (layout program.heads).under sub
     keeps =
         subst (λ locks. AllName (is_under (layout program.heads).under locks) sub.actions) (sym go_on.held)
         (subst (AllName (is_under (layout program.heads).under (owned_from 0 y.table.owners sub.thread))) (sym go_on.actions)
-        (names_append (is_under (layout program.heads).under (owned_from 0 y.table.owners sub.thread)) (first_actions s sub.begins.sync from) b.actions
+        (names_append (is_under (layout program.heads).under (owned_from 0 y.table.owners sub.thread))
+        (first_actions s sub.begins.sync from) b.actions
         (first_names s (is_under (layout program.heads).under (owned_from 0 y.table.owners sub.thread)) sub.begins.sync from) goes.names))
 
     threads : (u : ℕ) → u < length y.table.seats → ThreadHolds s y.table.owners u (point_in program inputs limits y u)
     threads u u_in = elim (cases_eq u sub.thread) [
-      | inl same ↦ subst (λ v. ThreadHolds s y.table.owners v (point_in program inputs limits y v)) (sym same) (subst (ThreadHolds s y.table.owners sub.thread) (sym go_on.point) (record {
-        number = was.number;
-        task = was.task;
-        is_task = was.is_task;
-        start = was.start;
-        starts = was.starts;
-        held = began.held;
-        comes = goes.comes;
-        owned = began.owned;
-        all = began.all;
-        apart = began.apart;
-      }))
+      | inl same ↦
+          subst (λ v. ThreadHolds s y.table.owners v (point_in program inputs limits y v)) (sym same)
+          (subst (ThreadHolds s y.table.owners sub.thread) (sym go_on.point) (record {
+            number = was.number;
+            task = was.task;
+            is_task = was.is_task;
+            start = was.start;
+            starts = was.starts;
+            held = began.held;
+            comes = goes.comes;
+            owned = began.owned;
+            all = began.all;
+            apart = began.apart;
+          }))
       | inr ne ↦ elim (cases_lt u (length x.table.seats)) [
         | inl l ↦ other ne l
         | inr l ↦ new l
@@ -281,14 +316,17 @@ module _ (program : Program) (inputs : Inputs) (limits : Limits) (accepted : IsA
               starts = it.starts;
               held = it.held;
               comes = it.comes;
-              owned = each_then (IsOwned x.table.owners u) (IsOwned y.table.owners u) (λ h own. began.others u h.cell ne own) it.held it.owned;
+              owned =
+                  each_then (IsOwned x.table.owners u) (IsOwned y.table.owners u) (λ h own. began.others u h.cell ne own) it.held it.owned;
               all = λ lock own. it.all lock (began.back u lock ne own);
               apart = it.apart;
             })
 
         new : length x.table.seats ≤ u → ThreadHolds s y.table.owners u (point_in program inputs limits y u)
         new l =
-            let fork = new_thread sub.begins.sync (length x.table.seats) u (subst (λ n. u < n) (go_on.threads ∙ ap (λ c. with_child c (length x.table.seats)) go_on.child) u_in) l in
+            let fork =
+            new_thread sub.begins.sync (length x.table.seats) u
+            (subst (λ n. u < n) (go_on.threads ∙ ap (λ c. with_child c (length x.table.seats)) go_on.child) u_in) l in
             let task = began.forks fork.0 fork.1 fork.2 in
             subst (λ v. ThreadHolds s y.table.owners v (point_in program inputs limits y v)) fork.3 (record {
               number = fork.0;
@@ -299,19 +337,26 @@ module _ (program : Program) (inputs : Inputs) (limits : Limits) (accepted : IsA
               held = [];
               comes = begins;
               owned = tt;
-              all = λ lock own. absurd (let i = inside in let k = stands.owned lock (length x.table.seats) (began.back (length x.table.seats) lock (λ same. omega arith) own) in omega arith);
+              all =
+                  λ lock own. absurd (let i = inside in
+                  let k = stands.owned lock (length x.table.seats)
+                  (began.back (length x.table.seats) lock (λ same. omega arith) own) in omega arith);
               apart = tt;
             })
 
-    ahead : (u : ℕ) (next : Next) → u < length y.table.seats → next_of y.table u ≡ Some next → IsAhead s (point_in program inputs limits y u) next
+    ahead : (u : ℕ) (next : Next) → u < length y.table.seats → next_of y.table u ≡ Some next
+        → IsAhead s (point_in program inputs limits y u) next
     ahead u next u_in e = elim (cases_eq u sub.thread) [
       | inl same ↦ subst (λ v. IsAhead s (point_in program inputs limits y v) next) (sym same)
-          (subst (λ q. IsAhead s q next) (sym go_on.point) (stopped (some_next (sym go_on.next ∙ (ap (next_of y.table) (sym same) ∙ e))) goes.stops))
+          (subst (λ q. IsAhead s q next) (sym go_on.point)
+          (stopped (some_next (sym go_on.next ∙ (ap (next_of y.table) (sym same) ∙ e))) goes.stops))
       | inr ne ↦ elim (cases_lt u (length x.table.seats)) [
         | inl l ↦ subst (λ q. IsAhead s q next) (sym (go_on.others u ne l).1) (stands.ahead u next l (sym (go_on.others u ne l).0 ∙ e))
         | inr l ↦
-            (let fork = new_thread sub.begins.sync (length x.table.seats) u (subst (λ n. u < n) (go_on.threads ∙ ap (λ c. with_child c (length x.table.seats)) go_on.child) u_in) l in
-            at_start (ap (λ o. (unwrap_or o spent).sync) (sym e ∙ (ap (next_of y.table) (sym fork.3) ∙ (go_on.forked fork.0 fork.1 fork.2).0))))
+            (let fork = new_thread sub.begins.sync (length x.table.seats) u
+            (subst (λ n. u < n) (go_on.threads ∙ ap (λ c. with_child c (length x.table.seats)) go_on.child) u_in) l in
+            at_start (ap (λ o. (unwrap_or o spent).sync)
+            (sym e ∙ (ap (next_of y.table) (sym fork.3) ∙ (go_on.forked fork.0 fork.1 fork.2).0))))
       ]
     ]
       where
@@ -335,19 +380,23 @@ module _ (program : Program) (inputs : Inputs) (limits : Limits) (accepted : IsA
         grown : length x.table.seats ≤ length y.table.seats
         grown = subst (λ n. length x.table.seats ≤ n) (sym go_on.threads) (grows sub.child (length x.table.seats))
 
-  pub move_keeps : (x : Plain) (sub : Subthread) (y : Plain) → LocksStand program inputs limits x → move program inputs limits x ≡ Goes sub y → KeepsToLocks (layout program.heads).under sub × LocksStand program inputs limits y
+  pub move_keeps : (x : Plain) (sub : Subthread) (y : Plain) → LocksStand program inputs limits x
+      → move program inputs limits x ≡ Goes sub y → KeepsToLocks (layout program.heads).under sub × LocksStand program inputs limits y
   move_keeps x sub y stands moves =
       let begun = begins_of machine x sub y moves in
       let go_on = is_step machine x stands.points sub y begun in
       let points = points_kept machine x stands.points sub y begun in
       (keeps x sub y stands go_on points, stands_next x sub y stands go_on points)
 
-  after_stands : (n : ℕ) (x : Plain) → LocksStand program inputs limits x → LocksStand program inputs limits (state_after (move program inputs limits) n x)
+  after_stands : (n : ℕ) (x : Plain) → LocksStand program inputs limits x
+      → LocksStand program inputs limits (state_after (move program inputs limits) n x)
   unfolding state_after
   after_stands zero x stands = stands
   after_stands (suc n) x stands = go (move program inputs limits x) refl (λ y. after_stands n y)
     where
-      go : (m : Move Plain Subthread End) → move program inputs limits x ≡ m → ((y : Plain) → LocksStand program inputs limits y → LocksStand program inputs limits (state_after (move program inputs limits) n y))
+      go : (m : Move Plain Subthread End) → move program inputs limits x ≡ m
+          → ((y : Plain) → LocksStand program inputs limits y
+          → LocksStand program inputs limits (state_after (move program inputs limits) n y))
           → LocksStand program inputs limits (state_from (move program inputs limits) x m (state_after (move program inputs limits) n))
       go (Goes sub y) is again = again y (move_keeps x sub y stands is).1
       go (Ends e) is again = stands
@@ -355,12 +404,14 @@ module _ (program : Program) (inputs : Inputs) (limits : Limits) (accepted : IsA
   pub before_stands : (p : ℕ) → LocksStand program inputs limits (before program inputs limits p)
   before_stands p = after_stands p (opening program inputs limits) stands_first
 
-  pub sound : (p : ℕ) (sub : Subthread) → slice_get (order program inputs limits) p ≡ Some sub → KeepsToLocks (layout program.heads).under sub
+  pub sound : (p : ℕ) (sub : Subthread) → slice_get (order program inputs limits) p ≡ Some sub
+      → KeepsToLocks (layout program.heads).under sub
   sound p sub e =
       let there = step_there (move program inputs limits) (suc limits.subthreads) p (opening program inputs limits) sub e in
       (move_keeps (before program inputs limits p) sub there.next (before_stands p) there.moves).0
 
-  pub ended_owns : (x : Plain) → LocksStand program inputs limits x → (t : ℕ) → is_known_end (next_of x.table t) ≡ true → (lock : ℕ) → owner_in x.table.owners lock ≡ Some t → ⊥
+  pub ended_owns : (x : Plain) → LocksStand program inputs limits x → (t : ℕ) → is_known_end (next_of x.table t) ≡ true → (lock : ℕ)
+      → owner_in x.table.owners lock ≡ Some t → ⊥
   ended_owns x stands t e lock own = go (stands.ahead t next.0 inside next.1)
     where
       next : (next : Next) × (next_of x.table t ≡ Some next) × (next.sync ≡ sync.End)
@@ -376,6 +427,9 @@ module _ (program : Program) (inputs : Inputs) (limits : Limits) (accepted : IsA
       go (at_start is) = let same = sym is ∙ next.2 in cc same
       go (at_limit is) = let same = ap (λ n. n.sync) (sym is) ∙ next.2 in cc same
       go (at_stop is) =
-          let walk = walk_law s it.number it.task it.start (point_in program inputs limits x t) it.held accepted it.is_task it.starts it.comes in
-          let none = walk.2 (end_left s (stops_from s (point_in program inputs limits x t).left (point_in program inputs limits x t) next.0 is) next.2) in
+          let walk =
+          walk_law s it.number it.task it.start (point_in program inputs limits x t) it.held accepted it.is_task it.starts it.comes in
+          let none =
+          walk.2 (end_left s (stops_from s (point_in program inputs limits x t).left (point_in program inputs limits x t) next.0 is)
+          next.2) in
           subst (λ held. HasCell held lock) none (it.all lock own)

@@ -27,16 +27,19 @@ among-datas x a b = ap (is_among x) (datas-append a b) ∙ list_any-append (is_n
 
 pub ruleset among_parts = (among-controls, among-datas)
 
-module _ (x : Name) (lines : List VarLine) (i : ℕ) (v : VarLine) (within : i < length lines) (is : v ≡ get_or lines i v) (first : Bool) where
+module _ (x : Name) (lines : List VarLine) (i : ℕ) (v : VarLine) (within : i < length lines)
+    (is : v ≡ get_or lines i v) (first : Bool) where
   -- a name stands in what is left of the var lines where it stands in the first of them or after it
-  pub control_left : first ≡ is_among x (controls v.names) → is_among x (controls (declared_in (drop i lines))) ≡ (first || is_among x (controls (declared_in (drop (i + 1) lines))))
+  pub control_left : first ≡ is_among x (controls v.names)
+      → is_among x (controls (declared_in (drop i lines))) ≡ (first || is_among x (controls (declared_in (drop (i + 1) lines))))
   control_left stands =
       at_drop_more (λ l. is_among x (controls (declared_in l))) lines i v within
       ∙ ap (λ (y : VarLine). is_among x (controls (y.names ++ declared_in (drop (i + 1) lines)))) (sym is)
       ∙ among-controls x v.names (declared_in (drop (i + 1) lines))
       ∙ ap (λ b. b || is_among x (controls (declared_in (drop (i + 1) lines)))) (sym stands)
 
-  pub data_left : first ≡ is_among x (datas v.names) → is_among x (datas (declared_in (drop i lines))) ≡ (first || is_among x (datas (declared_in (drop (i + 1) lines))))
+  pub data_left : first ≡ is_among x (datas v.names)
+      → is_among x (datas (declared_in (drop i lines))) ≡ (first || is_among x (datas (declared_in (drop (i + 1) lines))))
   data_left stands =
       at_drop_more (λ l. is_among x (datas (declared_in l))) lines i v within
       ∙ ap (λ (y : VarLine). is_among x (datas (y.names ++ declared_in (drop (i + 1) lines)))) (sym is)

@@ -1,4 +1,7 @@
--- Sets of pairs in the order of their indexes.
+-- Sets of pairs in the order of their indexes. The code keeps pairs in an ordered set. Its order tells two pairs apart
+-- exactly where the definitions do, so that a look-up finds what `has` finds, and a change of the set at one pair is a
+-- flip. Whether a pair with an index is there is found in the range that begins at the first place where such a pair
+-- can stand.
 use Rattle.std.proofs.Common.{◌≡◌, ◌+◌, ◌<◌, List, [], ◌∷◌, Bool, true, false, cond, refl, sym, ap, ◌∙◌, subst, take, get_or, length, true≢false}
 use Rattle.std.specs.Prelude.{ℕ, not, ◌&&◌, ◌||◌, Some, slice_get, IfSome}
 use Rattle.std.specs.declared.cmp.Ordering.{Ordering}
@@ -66,7 +69,9 @@ same_key p k =
 -- what the set finds
 pub has_told : (p : Pair) (keys : List Pair) → list_any (is_at (pair_cmp p)) keys ≡ plain.has (pairs_of keys) (pair_of p)
 has_told p [] = refl
-has_told p (k ∷ keys) = ap (λ b. b || list_any (is_at (pair_cmp p)) keys) (same_key p k) ∙ ap (λ b. plain.same_pair (pair_of p) (pair_of k) || b) (has_told p keys)
+has_told p (k ∷ keys) =
+    ap (λ b. b || list_any (is_at (pair_cmp p)) keys) (same_key p k)
+    ∙ ap (λ b. plain.same_pair (pair_of p) (pair_of k) || b) (has_told p keys)
 
 -- a pair of the code for each pair
 abbrev pub borrowed : Name → Bor Name
@@ -90,7 +95,9 @@ found_told : (p : plain.Pair) (keys : List Pair) → list_any (is_at (pair_cmp (
 found_told p keys = has_told (key_of p) keys ∙ ap (plain.has (pairs_of keys)) (key_pair p)
 
 pub same_pair-turned : (p q : plain.Pair) → plain.same_pair p q ≡ plain.same_pair q p
-same_pair-turned p q = equal_bools (plain.same_pair p q) (plain.same_pair q p) (λ h. ap (plain.same_pair q) (same_pair_is p q h) ∙ same_pair_itself q) (λ h. ap (plain.same_pair p) (same_pair_is q p h) ∙ same_pair_itself p)
+same_pair-turned p q =
+    equal_bools (plain.same_pair p q) (plain.same_pair q p) (λ h. ap (plain.same_pair q) (same_pair_is p q h) ∙ same_pair_itself q)
+    (λ h. ap (plain.same_pair p) (same_pair_is q p h) ∙ same_pair_itself p)
 
 -- the set whose look-ups changed at one pair
 pub flipped : (p : Pair) (old new : List Pair) (b : Bool) → list_any (is_at (pair_cmp p)) old ≡ b
@@ -98,11 +105,13 @@ pub flipped : (p : Pair) (old new : List Pair) (b : Bool) → list_any (is_at (p
     → IsFlipped (pairs_of old) (pair_of p) (pairs_of new)
 flipped p old new b was changed q =
     sym (found_told q new) ∙ changed (key_of q)
-    ∙ ap (λ t. cond t (not b) (list_any (is_at (pair_cmp (key_of q))) old)) (same_key p (key_of q) ∙ ap (plain.same_pair (pair_of p)) (key_pair q) ∙ same_pair-turned (pair_of p) q)
+    ∙ ap (λ t. cond t (not b) (list_any (is_at (pair_cmp (key_of q))) old))
+    (same_key p (key_of q) ∙ ap (plain.same_pair (pair_of p)) (key_pair q) ∙ same_pair-turned (pair_of p) q)
     ∙ ap (λ h. cond (plain.same_pair q (pair_of p)) (not b) h) (found_told q old)
     ∙ by (plain.same_pair q (pair_of p)) refl
   where
-    by : (t : Bool) → plain.same_pair q (pair_of p) ≡ t → cond t (not b) (plain.has (pairs_of old) q) ≡ differ t (plain.has (pairs_of old) q)
+    by : (t : Bool) → plain.same_pair q (pair_of p) ≡ t
+        → cond t (not b) (plain.has (pairs_of old) q) ≡ differ t (plain.has (pairs_of old) q)
     by true is = ap not (sym was ∙ has_told p old ∙ ap (plain.has (pairs_of old)) (sym (same_pair_is q (pair_of p) is)))
     by false is = refl
 
@@ -122,19 +131,25 @@ module _ (x : Bor Name) where
   from_least a = low_end (slice_cmp nat_cmp x.now x.now) a (tied_itself nat_list_cmp_total x.now)
 
   -- a pair with another index that is not before the first place is after all pairs with this one
-  other_after : (k : Pair) (a : Name) → plain.same_atom (atom.Var x.now) (atom_of k.index) ≡ false → is_gt (pair_cmp least k) ≡ false → is_gt (pair_cmp k (key_with a)) ≡ true
+  other_after : (k : Pair) (a : Name) → plain.same_atom (atom.Var x.now) (atom_of k.index) ≡ false → is_gt (pair_cmp least k) ≡ false
+      → is_gt (pair_cmp k (key_with a)) ≡ true
   other_after k a other from = by k.index other from
     where
-      by : (i : Index) → plain.same_atom (atom.Var x.now) (atom_of i) ≡ false → is_gt (ordering_then (index_cmp (Variable x) i) (slice_cmp nat_cmp [] k.array.now)) ≡ false
+      by : (i : Index) → plain.same_atom (atom.Var x.now) (atom_of i) ≡ false
+          → is_gt (ordering_then (index_cmp (Variable x) i) (slice_cmp nat_cmp [] k.array.now)) ≡ false
           → is_gt (ordering_then (index_cmp i (Variable x)) (slice_cmp nat_cmp k.array.now a)) ≡ true
       by (Number v) other from = absurd (true≢false from)
       by (Variable y) other from = turned (slice_cmp nat_cmp x.now y.now) refl (is_eq-slice_cmp x.now y.now ∙ other) from
         where
-          turned : (o : Ordering) → slice_cmp nat_cmp x.now y.now ≡ o → is_eq (slice_cmp nat_cmp x.now y.now) ≡ false → is_gt (ordering_then (slice_cmp nat_cmp x.now y.now) (slice_cmp nat_cmp [] k.array.now)) ≡ false
+          turned : (o : Ordering) → slice_cmp nat_cmp x.now y.now ≡ o → is_eq (slice_cmp nat_cmp x.now y.now) ≡ false
+              → is_gt (ordering_then (slice_cmp nat_cmp x.now y.now) (slice_cmp nat_cmp [] k.array.now)) ≡ false
               → is_gt (ordering_then (slice_cmp nat_cmp y.now x.now) (slice_cmp nat_cmp k.array.now a)) ≡ true
-          turned Less is apart from = ap (λ o. is_gt (ordering_then o (slice_cmp nat_cmp k.array.now a))) (nat_list_cmp_total.antisymm y.now x.now ∙ ap ordering_reverse is)
+          turned Less is apart from =
+              ap (λ o. is_gt (ordering_then o (slice_cmp nat_cmp k.array.now a)))
+              (nat_list_cmp_total.antisymm y.now x.now ∙ ap ordering_reverse is)
           turned Equal is apart from = absurd (true≢false (sym (ap is_eq is) ∙ apart))
-          turned Greater is apart from = absurd (true≢false (sym (ap (λ o. is_gt (ordering_then o (slice_cmp nat_cmp [] k.array.now))) is) ∙ from))
+          turned Greater is apart from =
+              absurd (true≢false (sym (ap (λ o. is_gt (ordering_then o (slice_cmp nat_cmp [] k.array.now))) is) ∙ from))
 
   module _ (set : BTreeSet Pair) (found : List Pair) (range : IsKeyRangeOf pair_cmp (Included least) Unbounded set found) where
     -- a pair with this index is in the range
@@ -146,10 +161,13 @@ module _ (x : Bor Name) where
 
     -- nothing is there
     pub no_index : found ≡ [] → false ≡ list_any (plain.is_index x.now) (pairs_of set.keys)
-    no_index is = sym (false_from_ne_true (list_any (plain.is_index x.now) (pairs_of set.keys)) (λ h. let m = member_in_range h in true≢false (sym m.1 ∙ range.5 is (key_with m.0) (from_least m.0, tt))))
+    no_index is =
+        sym (false_from_ne_true (list_any (plain.is_index x.now) (pairs_of set.keys))
+        (λ h. let m = member_in_range h in true≢false (sym m.1 ∙ range.5 is (key_with m.0) (from_least m.0, tt))))
 
     -- the first there
-    pub first_tells : (k : Pair) (rest : List Pair) → found ≡ k ∷ rest → plain.is_index x.now (pair_of k) ≡ list_any (plain.is_index x.now) (pairs_of set.keys)
+    pub first_tells : (k : Pair) (rest : List Pair) → found ≡ k ∷ rest
+        → plain.is_index x.now (pair_of k) ≡ list_any (plain.is_index x.now) (pairs_of set.keys)
     first_tells k rest is = equal_bools (plain.is_index x.now (pair_of k)) (list_any (plain.is_index x.now) (pairs_of set.keys)) there back
       where
         first : slice_get found 0 ≡ Some k
@@ -164,11 +182,16 @@ module _ (x : Bor Name) where
         back : list_any (plain.is_index x.now) (pairs_of set.keys) ≡ true → plain.is_index x.now (pair_of k) ≡ true
         back h =
             let m = member_in_range h in
-            let before : is_gt (pair_cmp k (key_with m.0)) ≡ false = subst (λ o. IfSome o (λ f. IsLeBy pair_cmp f (key_with m.0))) first (range.2 (key_with m.0) (from_least m.0, tt) m.1) in
+            let before : is_gt (pair_cmp k (key_with m.0)) ≡ false =
+            subst (λ o. IfSome o (λ f. IsLeBy pair_cmp f (key_with m.0))) first (range.2 (key_with m.0) (from_least m.0, tt) m.1) in
             true_from_ne_false (plain.is_index x.now (pair_of k)) (λ other. true≢false (sym (other_after k m.0 other inside.0.0) ∙ before))
 
 -- one more of a list of flips
-pub leads_more : (old mid new : List plain.Pair) (changes : List Pair) (i : ℕ) (d : Pair) → i < length changes → Leads old (pairs_of (take i changes)) mid → IsFlipped mid (pair_of (get_or changes i d)) new → Leads old (pairs_of (take (i + 1) changes)) new
+pub leads_more : (old mid new : List plain.Pair) (changes : List Pair) (i : ℕ) (d : Pair) → i < length changes
+    → Leads old (pairs_of (take i changes)) mid → IsFlipped mid (pair_of (get_or changes i d)) new
+    → Leads old (pairs_of (take (i + 1) changes)) new
 leads_more old mid new changes i d within leads flipped =
-    subst (λ l. Leads old l new) (sym (ap pairs_of (take_more changes i d within) ∙ map-append pair_of (take i changes) (get_or changes i d ∷ [])))
-    (leads_on old mid new (pairs_of (take i changes)) (pair_of (get_or changes i d) ∷ []) leads (lead_one mid new (pair_of (get_or changes i d)) flipped))
+    subst (λ l. Leads old l new) (sym (ap pairs_of (take_more changes i d within)
+    ∙ map-append pair_of (take i changes) (get_or changes i d ∷ [])))
+    (leads_on old mid new (pairs_of (take i changes)) (pair_of (get_or changes i d) ∷ []) leads
+    (lead_one mid new (pair_of (get_or changes i d)) flipped))

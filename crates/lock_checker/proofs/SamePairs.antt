@@ -59,7 +59,8 @@ module _ (test : Pair → Bool) where
   later : (x : Pair) (held : List Pair) → Member held → Member (x ∷ held)
   later x held m = (m.0, ap (λ b. same_pair m.0 x || b) m.1 ∙ or_true (same_pair m.0 x), m.2)
 
-  here_or_later : (x : Pair) (held : List Pair) (b : Bool) → test x ≡ b → (b || list_any test held) ≡ true → (list_any test held ≡ true → Member held) → Member (x ∷ held)
+  here_or_later : (x : Pair) (held : List Pair) (b : Bool) → test x ≡ b → (b || list_any test held) ≡ true
+      → (list_any test held ≡ true → Member held) → Member (x ∷ held)
   here_or_later x held true is h rest = (x, ap (λ c. c || has held x) (same_pair_itself x), is)
   here_or_later x held false is h rest = later x held (rest h)
 
@@ -67,7 +68,8 @@ module _ (test : Pair → Bool) where
   member_of [] h = absurd (true≢false (sym h))
   member_of (x ∷ held) h = here_or_later x held (test x) refl h (member_of held)
 
-  passes_here : (x p : Pair) (held : List Pair) (b : Bool) → same_pair p x ≡ b → (b || has held p) ≡ true → test p ≡ true → (has held p ≡ true → list_any test held ≡ true) → list_any test (x ∷ held) ≡ true
+  passes_here : (x p : Pair) (held : List Pair) (b : Bool) → same_pair p x ≡ b → (b || has held p) ≡ true → test p ≡ true
+      → (has held p ≡ true → list_any test held ≡ true) → list_any test (x ∷ held) ≡ true
   passes_here x p held true is h passes rest = ap (λ b. b || list_any test held) (subst (λ q. test q ≡ true) (same_pair_is p x is) passes)
   passes_here x p held false is h passes rest = ap (λ b. test x || b) (rest h) ∙ or_true (test x)
 
@@ -90,7 +92,8 @@ all_is_none : (test : Pair → Bool) (a : List Pair) → list_all test a ≡ not
 all_is_none test [] = refl
 all_is_none test (x ∷ a) = by (test x) (all_is_none test a)
   where
-    by : (b : Bool) → list_all test a ≡ not (list_any (λ p. not (test p)) a) → (b && list_all test a) ≡ not (not b || list_any (λ p. not (test p)) a)
+    by : (b : Bool) → list_all test a ≡ not (list_any (λ p. not (test p)) a)
+        → (b && list_all test a) ≡ not (not b || list_any (λ p. not (test p)) a)
     by true is = is
     by false is = refl
 
@@ -141,9 +144,12 @@ any_and : (held : List Pair) (p q : Pair) → has (without held q) p ≡ list_an
 any_and [] p q = refl
 any_and (x ∷ held) p q = by (same_pair q x) (any_and held p q)
   where
-    by : (b : Bool) → has (without held q) p ≡ list_any (λ x. not (same_pair q x) && same_pair p x) held → list_any (same_pair p) (cond (not b) (x ∷ without held q) (without held q)) ≡ ((not b && same_pair p x) || list_any (λ x. not (same_pair q x) && same_pair p x) held)
+    by : (b : Bool) → has (without held q) p ≡ list_any (λ x. not (same_pair q x) && same_pair p x) held
+        → list_any (same_pair p) (cond (not b) (x ∷ without held q) (without held q))
+        ≡ ((not b && same_pair p x) || list_any (λ x. not (same_pair q x) && same_pair p x) held)
     by true is = is
     by false is = ap (λ r. same_pair p x || r) is
 
 pub same-without : (a b : List Pair) (q : Pair) → Same a b → Same (without a q) (without b q)
-same-without a b q same = record { members = λ p. any_and a p q ∙ any_same (λ x. not (same_pair q x) && same_pair p x) a b same ∙ sym (any_and b p q) }
+same-without a b q same =
+    record { members = λ p. any_and a p q ∙ any_same (λ x. not (same_pair q x) && same_pair p x) a b same ∙ sym (any_and b p q) }

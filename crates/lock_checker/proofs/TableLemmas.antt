@@ -25,8 +25,10 @@ or_else-None None = refl
 or_else-None (Some v) = refl
 
 module _ {T : Type 0} (f : Name → Option T) (x y : Name) (v : T) (absent : f x ≡ None) where
-  by_test : (there back : Bool) → is_name x y ≡ there → is_name y x ≡ back → update is_name f x (Some v) y ≡ or_else (f y) (if back then Some v else None)
-  by_test true true there back = ap (λ b. if b then Some v else f y) there ∙ sym (ap (λ o. or_else o (Some v)) (ap f (sym (is_name-is x y there)) ∙ absent))
+  by_test : (there back : Bool) → is_name x y ≡ there → is_name y x ≡ back
+      → update is_name f x (Some v) y ≡ or_else (f y) (if back then Some v else None)
+  by_test true true there back =
+      ap (λ b. if b then Some v else f y) there ∙ sym (ap (λ o. or_else o (Some v)) (ap f (sym (is_name-is x y there)) ∙ absent))
   by_test false false there back = ap (λ b. if b then Some v else f y) there ∙ sym (or_else-None (f y))
   by_test true false there back = absurd (true≢false (sym (ap (is_name y) (is_name-is x y there) ∙ is_name-itself y) ∙ back))
   by_test false true there back = absurd (true≢false (sym (ap (is_name x) (is_name-is y x back) ∙ is_name-itself x) ∙ there))
@@ -37,13 +39,17 @@ module _ {T : Type 0} (f : Name → Option T) (x y : Name) (v : T) (absent : f x
 
 apart : (x y z : Name) → is_name x y ≡ false → is_eq (slice_cmp nat_cmp x z) ≡ true → is_eq (slice_cmp nat_cmp y z) ≡ false
 apart x y z other same =
-    is_eq-slice_cmp y z ∙ false_from_ne_true (is_name y z) (λ e. true≢false (sym (ap (is_name x) (is_name-is y z e) ∙ sym (is_eq-slice_cmp x z) ∙ same) ∙ other))
+    is_eq-slice_cmp y z ∙ false_from_ne_true (is_name y z)
+    (λ e. true≢false (sym (ap (is_name x) (is_name-is y z e) ∙ sym (is_eq-slice_cmp x z) ∙ same) ∙ other))
 
-others : {T : Type 0} (eq : Vec ℕ Global → Vec ℕ Global → Bool) (test : Vec ℕ Global → Bool) (old new : List (Vec ℕ Global × T)) → KeepsOthers eq test old new → (other : Vec ℕ Global → Bool) → IsKeyTest eq other → AreApart test other → lookup other new ≡ lookup other old
+others : {T : Type 0} (eq : Vec ℕ Global → Vec ℕ Global → Bool) (test : Vec ℕ Global → Bool) (old new : List (Vec ℕ Global × T))
+    → KeepsOthers eq test old new → (other : Vec ℕ Global → Bool) → IsKeyTest eq other → AreApart test other
+    → lookup other new ≡ lookup other old
 unfolding KeepsOthers
 others eq test old new h = h
 
-module _ {T : Type 0} (x : Name) (m n : BTreeMap (Vec ℕ Global) T) (w : Option T) (h : UpdatesBy (λ k l. slice_cmp nat_cmp k.items l.items) (λ k. slice_cmp nat_cmp x k.items) m n w) where
+module _ {T : Type 0} (x : Name) (m n : BTreeMap (Vec ℕ Global) T) (w : Option T)
+    (h : UpdatesBy (λ k l. slice_cmp nat_cmp k.items l.items) (λ k. slice_cmp nat_cmp x k.items) m n w) where
   abbrev at : BTreeMap (Vec ℕ Global) T → Name → Option T
   at map y = get_by (λ k. slice_cmp nat_cmp y k.items) map
 
@@ -53,10 +59,13 @@ module _ {T : Type 0} (x : Name) (m n : BTreeMap (Vec ℕ Global) T) (w : Option
     where
       by : (b : Bool) → is_name x y ≡ b → at n y ≡ cond b w (at m y)
       by true is = ap (at n) (sym (is_name-is x y is)) ∙ h.1
-      by false is = others _ _ m.entries n.entries h.3 (λ k. is_eq (slice_cmp nat_cmp y k.items)) (λ k l. (eq_by_cmp_equiv nat_list_cmp_total).congr y k.items l.items) (λ k. apart x y k.items is)
+      by false is =
+          others _ _ m.entries n.entries h.3 (λ k. is_eq (slice_cmp nat_cmp y k.items))
+          (λ k l. (eq_by_cmp_equiv nat_list_cmp_total).congr y k.items l.items) (λ k. apart x y k.items is)
 
 -- what is found, or else stands later, after a value is put
-pub or_else-put : {T : Type 0} (o : Option T) (b : Bool) (v : T) (later : Option T) → or_else (or_else o (if b then Some v else None)) later ≡ or_else o (if b then Some v else later)
+pub or_else-put : {T : Type 0} (o : Option T) (b : Bool) (v : T) (later : Option T)
+    → or_else (or_else o (if b then Some v else None)) later ≡ or_else o (if b then Some v else later)
 or_else-put None true v later = refl
 or_else-put None false v later = refl
 or_else-put (Some w) true v later = refl
@@ -68,11 +77,13 @@ is_some-put None false v = refl
 is_some-put (Some w) true v = refl
 is_some-put (Some w) false v = refl
 
-pub option_map-or_else : {T U : Type 0} (f : T → U) (o p : Option T) → option_map f (or_else o p) ≡ or_else (option_map f o) (option_map f p)
+pub option_map-or_else : {T U : Type 0} (f : T → U) (o p : Option T)
+    → option_map f (or_else o p) ≡ or_else (option_map f o) (option_map f p)
 option_map-or_else f None p = refl
 option_map-or_else f (Some v) p = refl
 
-pub option_map-if : {T U : Type 0} (f : T → U) (b : Bool) (v : T) → option_map f (if b then Some v else None) ≡ (if b then Some (f v) else None)
+pub option_map-if : {T U : Type 0} (f : T → U) (b : Bool) (v : T)
+    → option_map f (if b then Some v else None) ≡ (if b then Some (f v) else None)
 option_map-if f true v = refl
 option_map-if f false v = refl
 

@@ -18,12 +18,16 @@ use Rattle.lock_checker.proofs.TableLemmas.{is_some-put, or-false}
 abbrev pub HasAlso : SymbolTable (Unit {0}) → SymbolTable (Unit {0}) → Name → Type 0
 HasAlso old new name = (y : Name) → found new y ≡ or_else (found old y) (if is_name y name then Some tt else None)
 
-pub stands_also : (old new : SymbolTable (Unit {0})) (name y : Name) (among : Bool) → HasAlso old new name → is_some (found old y) ≡ among → is_some (found new y) ≡ (among || (is_name y name || false))
+pub stands_also : (old new : SymbolTable (Unit {0})) (name y : Name) (among : Bool) → HasAlso old new name → is_some (found old y) ≡ among
+    → is_some (found new y) ≡ (among || (is_name y name || false))
 stands_also old new name y among put is =
-    ap is_some (put y) ∙ is_some-put (found old y) (is_name y name) tt ∙ ap (λ b. b || is_name y name) is ∙ ap (λ b. among || b) (sym (or-false (is_name y name)))
+    ap is_some (put y) ∙ is_some-put (found old y) (is_name y name) tt ∙ ap (λ b. b || is_name y name) is
+    ∙ ap (λ b. among || b) (sym (or-false (is_name y name)))
 
-module _ (old : Variables) (new : SymbolTable (Unit {0})) (before : List Param) (name : Name) (double : Bool) (were : AreVariables old before) where
-  pub adds_control : double ≡ is_some (found old.controls name) → HasAlso old.controls new name → Adds (record { controls = new; datas = old.datas }) before (param.Ctl name ∷ []) double
+module _ (old : Variables) (new : SymbolTable (Unit {0})) (before : List Param) (name : Name) (double : Bool)
+    (were : AreVariables old before) where
+  pub adds_control : double ≡ is_some (found old.controls name) → HasAlso old.controls new name
+      → Adds (record { controls = new; datas = old.datas }) before (param.Ctl name ∷ []) double
   adds_control is put = record {
     told = is ∙ were.controls name ∙ sym (or-false (is_among name (controls before)));
     variables = record {
@@ -32,7 +36,8 @@ module _ (old : Variables) (new : SymbolTable (Unit {0})) (before : List Param) 
     };
   }
 
-  pub adds_data : double ≡ (is_name name ret || is_some (found old.datas name)) → HasAlso old.datas new name → Adds (record { controls = old.controls; datas = new }) before (param.Reg name ∷ []) double
+  pub adds_data : double ≡ (is_name name ret || is_some (found old.datas name)) → HasAlso old.datas new name
+      → Adds (record { controls = old.controls; datas = new }) before (param.Reg name ∷ []) double
   adds_data is put = record {
     told = is ∙ ap (λ b. is_name name ret || b) (were.datas name) ∙ sym (or-false (is_name name ret || is_among name (datas before)));
     variables = record {
@@ -46,7 +51,8 @@ declared_in-append [] b = refl
 declared_in-append (v ∷ a) b = ap (λ l. v.names ++ l) (declared_in-append a b) ∙ sym (append_assoc v.names (declared_in a) (declared_in b))
 
 -- the variables up to the next var line
-pub declared_more : (params : List Param) (lines : List VarLine) (i : ℕ) (v : VarLine) → i < length lines → v ≡ get_or lines i v → params ++ declared_in (take (i + 1) lines) ≡ (params ++ declared_in (take i lines)) ++ v.names
+pub declared_more : (params : List Param) (lines : List VarLine) (i : ℕ) (v : VarLine) → i < length lines → v ≡ get_or lines i v
+    → params ++ declared_in (take (i + 1) lines) ≡ (params ++ declared_in (take i lines)) ++ v.names
 declared_more params lines i v within is =
     ap (λ l. params ++ declared_in l) (take_more lines i v within)
     ∙ ap (λ (y : VarLine). params ++ declared_in (take i lines ++ y ∷ [])) (sym is)

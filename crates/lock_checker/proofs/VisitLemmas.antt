@@ -17,7 +17,8 @@ abbrev pub on_line : ℕ → Option CheckKind → Option (CheckKind × ℕ)
 on_line line None = None
 on_line line (Some kind) = Some (kind, line)
 
-pub fault_at-lowest : (line : ℕ) (kinds : List CheckKind) (later : Option (CheckKind × ℕ)) → fault_at line kinds later ≡ or_later (on_line line (lowest kinds)) later
+pub fault_at-lowest : (line : ℕ) (kinds : List CheckKind) (later : Option (CheckKind × ℕ))
+    → fault_at line kinds later ≡ or_later (on_line line (lowest kinds)) later
 fault_at-lowest line [] later = refl
 fault_at-lowest line (k ∷ kinds) later = refl
 
@@ -40,12 +41,15 @@ told_first OutOfMemory found later told = tt
 
 -- where nothing fails at first, what comes later tells all
 pub found_after : (all first later : List Visit) → all ≡ first ++ later → first_fault first ≡ None → first_fault later ≡ first_fault all
-found_after all first later splits none = sym (ap first_fault splits ∙ first_fault-append first later ∙ ap (λ o. or_later o (first_fault later)) none)
+found_after all first later splits none =
+    sym (ap first_fault splits ∙ first_fault-append first later ∙ ap (λ o. or_later o (first_fault later)) none)
 
 -- where something does, it tells all
-pub told_before : (fault : CheckFault) (all first later : List Visit) (found : Option (CheckKind × ℕ)) → all ≡ first ++ later → first_fault all ≡ found → Told fault (first_fault first) → Told fault found
+pub told_before : (fault : CheckFault) (all first later : List Visit) (found : Option (CheckKind × ℕ)) → all ≡ first ++ later
+    → first_fault all ≡ found → Told fault (first_fault first) → Told fault found
 told_before fault all first later found splits is told =
-    subst (Told fault) (sym (ap first_fault splits ∙ first_fault-append first later) ∙ is) (told_first fault (first_fault first) (first_fault later) told)
+    subst (Told fault) (sym (ap first_fault splits ∙ first_fault-append first later) ∙ is)
+    (told_first fault (first_fault first) (first_fault later) told)
 
 pub ruleset first_told = fault_at-lowest
 

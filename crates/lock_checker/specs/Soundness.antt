@@ -61,8 +61,10 @@ module _ (program : Program) (inputs : Inputs) (limits : Limits) where
     pub points : length x.points ≡ length x.table.seats
     pub owners : length x.table.owners ≡ cells_in (locks_of program.heads)
     pub owned : (lock t : ℕ) → owner_in x.table.owners lock ≡ Some t → t < length x.table.seats
-    pub threads : (t : ℕ) → t < length x.table.seats → ThreadHolds (setting program inputs limits) x.table.owners t (point_in program inputs limits x t)
-    pub ahead : (t : ℕ) (next : Next) → t < length x.table.seats → next_of x.table t ≡ Some next → IsAhead (setting program inputs limits) (point_in program inputs limits x t) next
+    pub threads : (t : ℕ) → t < length x.table.seats
+        → ThreadHolds (setting program inputs limits) x.table.owners t (point_in program inputs limits x t)
+    pub ahead : (t : ℕ) (next : Next) → t < length x.table.seats → next_of x.table t ≡ Some next
+        → IsAhead (setting program inputs limits) (point_in program inputs limits x t) next
 
 -- at the opening of an accepted program the locks stand so
 abbrev pub HeldFirstLaw : Type 0

@@ -47,9 +47,13 @@ pub data Comes (s : Setting) (start : Point) : Point → List Holding → Type 0
   silently : {p q : Point} {held : List Holding} → Comes s start p held → step s p ≡ Silent q → Comes s start q held
   by_turn : {p q : Point} {held : List Holding} → Comes s start p held → step s p ≡ Iteration q → Comes s start q held
   acting : {p q : Point} {a : Action} {held : List Holding} → Comes s start p held → step s p ≡ Act a q → Comes s start q held
-  past : {p : Point} {next : Next} {held : List Holding} → Comes s start p held → step s p ≡ Stop next → next.sync ≢ sync.BadIndex → (child : Option ℕ) → Comes s start (beginning next.sync child p) (held_past next.sync p.left (env_at s p) held)
+  past : {p : Point} {next : Next} {held : List Holding} → Comes s start p held → step s p ≡ Stop next → next.sync ≢ sync.BadIndex
+      → (child : Option ℕ) → Comes s start (beginning next.sync child p) (held_past next.sync p.left (env_at s p) held)
   -- a settle sets its variable to any value
-  by_settle : {p : Point} {next : Next} {held : List Holding} {register control : ℕ} → Comes s start p held → step s p ≡ Stop next → next.sync ≡ sync.Settle register control → (v : ℤ) (child : Option ℕ) → Comes s start (beginning next.sync child (record p { names = with_number p.names control v })) (held_past next.sync p.left (env_at s p) held)
+  by_settle : {p : Point} {next : Next} {held : List Holding} {register control : ℕ} → Comes s start p held → step s p ≡ Stop next
+      → next.sync ≡ sync.Settle register control → (v : ℤ) (child : Option ℕ)
+      → Comes s start (beginning next.sync child (record p { names = with_number p.names control v }))
+      (held_past next.sync p.left (env_at s p) held)
 
 -- a record's cell at this index is touched where the pair of its lock array and the index is held
 abbrev pub IsUnderHeld : List Head → Name → Atom → List Pair → Type 0
@@ -77,10 +81,12 @@ NextTouchesHeld heads (At line w ∷ rest) held = TouchesHeld heads w held
 -- each atom still has the value that it had at the lock, and stands for the cell that was locked
 pub data StillNamed (heads : List Head) (env : Env) : List Holding → Type 0 where
   none_held : StillNamed heads env []
-  one_held : {h : Holding} {held : List Holding} → index_of h.pair.1 env ≡ h.value → cell_number (locks_of heads) h.pair.0 h.value ≡ Some h.cell → StillNamed heads env held → StillNamed heads env (h ∷ held)
+  one_held : {h : Holding} {held : List Holding} → index_of h.pair.1 env ≡ h.value
+      → cell_number (locks_of heads) h.pair.0 h.value ≡ Some h.cell → StillNamed heads env held → StillNamed heads env (h ∷ held)
 
 -- at each point that a thread of an accepted program comes to; nothing is held where its task ends
 abbrev pub WalkLaw : Type 0
 WalkLaw =
-    (s : Setting) (k : ℕ) (task : TaskText) (start p : Point) (held : List Holding) → IsAccepted s.program → slice_get s.program.tasks k ≡ Some task → start.left ≡ statements task.body → Comes s start p held
+    (s : Setting) (k : ℕ) (task : TaskText) (start p : Point) (held : List Holding) → IsAccepted s.program
+    → slice_get s.program.tasks k ≡ Some task → start.left ≡ statements task.body → Comes s start p held
     → NextTouchesHeld s.program.heads p.left (pairs_held held) × StillNamed s.program.heads (env_at s p) held × (p.left ≡ [] → held ≡ [])

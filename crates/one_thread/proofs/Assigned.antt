@@ -8,12 +8,15 @@ use Rattle.task_ast.specs.Control.{with_value}
 abbrev pub Passed : ℕ → List (Name × ℤ) → Name → Type 0
 Passed i pairs n = (v : ℤ) → with_value pairs n v ≡ take i pairs ++ with_value (drop i pairs) n v
 
-pub passed_next : (pairs : List (Name × ℤ)) (n : Name) (i : ℕ) (p : Name × ℤ) → i < length pairs → p ≡ get_or pairs i p → is_name n p.0 ≡ false → Passed i pairs n → Passed (suc i) pairs n
+pub passed_next : (pairs : List (Name × ℤ)) (n : Name) (i : ℕ) (p : Name × ℤ) → i < length pairs → p ≡ get_or pairs i p
+    → is_name n p.0 ≡ false → Passed i pairs n → Passed (suc i) pairs n
 passed_next pairs n i p below is other passed v = passed v ∙ here pairs i below is
   where
-    here : (pairs : List (Name × ℤ)) (i : ℕ) → i < length pairs → p ≡ get_or pairs i p → take i pairs ++ with_value (drop i pairs) n v ≡ take (suc i) pairs ++ with_value (drop (suc i) pairs) n v
+    here : (pairs : List (Name × ℤ)) (i : ℕ) → i < length pairs → p ≡ get_or pairs i p
+        → take i pairs ++ with_value (drop i pairs) n v ≡ take (suc i) pairs ++ with_value (drop (suc i) pairs) n v
     here [] i below is = absurd (omega arith)
-    here (q ∷ pairs) zero below is = ap (λ b. cond b ((q.0, v) ∷ pairs) (q ∷ with_value pairs n v)) (ap (λ x. is_name n x.0) (sym is) ∙ other)
+    here (q ∷ pairs) zero below is =
+        ap (λ b. cond b ((q.0, v) ∷ pairs) (q ∷ with_value pairs n v)) (ap (λ x. is_name n x.0) (sym is) ∙ other)
     here (q ∷ pairs) (suc i) below is = ap (λ left. q ∷ left) (here pairs i (omega arith) is)
 
 -- where all have other names, nothing is put
@@ -27,11 +30,13 @@ passed_all pairs n v i past passed = passed v ∙ all pairs i past
     all (p ∷ pairs) (suc i) past = ap (λ left. p ∷ left) (all pairs i (omega arith))
 
 -- the first pair of the name has the value
-pub assigned_first : (pairs : List (Name × ℤ)) (n : Name) (v : ℤ) (i : ℕ) (p : Name × ℤ) → i < length pairs → p ≡ get_or pairs i p → is_name n p.0 ≡ true
+pub assigned_first : (pairs : List (Name × ℤ)) (n : Name) (v : ℤ) (i : ℕ) (p : Name × ℤ) → i < length pairs → p ≡ get_or pairs i p
+    → is_name n p.0 ≡ true
     → Passed i pairs n → with_value pairs n v ≡ set pairs i (p.0, v)
 assigned_first pairs n v i p below is named passed = passed v ∙ sym (here pairs i below is)
   where
-    here : (pairs : List (Name × ℤ)) (i : ℕ) → i < length pairs → p ≡ get_or pairs i p → set pairs i (p.0, v) ≡ take i pairs ++ with_value (drop i pairs) n v
+    here : (pairs : List (Name × ℤ)) (i : ℕ) → i < length pairs → p ≡ get_or pairs i p
+        → set pairs i (p.0, v) ≡ take i pairs ++ with_value (drop i pairs) n v
     here [] i below is = absurd (omega arith)
     here (q ∷ pairs) zero below is =
         ap (λ x. (x.0, v) ∷ pairs) is

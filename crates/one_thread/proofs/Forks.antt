@@ -1,4 +1,7 @@
--- A fork's task and its arguments.
+-- A fork's task and its arguments. The task of a name is found at its position. Control arguments are values, one after
+-- another; data arguments are actions, and the loop over them keeps that those that are left do on what was reached
+-- what all of them do from the beginning (AheadOf). Where the task or an argument is missing, the step of the plain run
+-- finds none either.
 use Rattle.std.proofs.Common.{◌≡◌, ℕ, suc, ◌+◌, ◌<◌, ℤ, Bool, true, false, cond, List, [], ◌∷◌, ◌++◌, map, length, get_or, drop, Option, Some, None, refl, sym, ap, ◌∙◌, subst, option_map, option_and_then, position, unwrap_or, append-nil, nat_lt, ◌≤◌, ◌&&◌}
 use Rattle.std.specs.Prelude.{is_some, slice_get, slice_set, find, replicate, pos}
 use Rattle.task_ast.specs.Effect.{term_value}

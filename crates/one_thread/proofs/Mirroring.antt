@@ -47,8 +47,11 @@ itself : (c : ℕ) → eq_by_cmp nat_cmp c c ≡ true
 itself c = let le : c ≤ c = omega arith in rw (le-ltb c c le, eq-eqb c c refl) refl
 
 -- what is found after a cell is written
-found_after : (c : ℕ) (v : ℤ) (d : List (ℕ × ℤ)) (xs : List ℤ) (q : ℕ) (before : ℤ) → c < length xs → number_at xs q ≡ unwrap_or (find nat_cmp q d) before → number_at (slice_set xs c v) q ≡ unwrap_or (find nat_cmp q (put nat_cmp c v d)) before
-found_after c v d xs q before within same = go (eq_by_cmp nat_cmp q c) refl ∙ ap (λ o. unwrap_or o before) (sym (find-put nat_cmp nat_cmp_total q c v d))
+found_after : (c : ℕ) (v : ℤ) (d : List (ℕ × ℤ)) (xs : List ℤ) (q : ℕ) (before : ℤ) → c < length xs
+    → number_at xs q ≡ unwrap_or (find nat_cmp q d) before
+    → number_at (slice_set xs c v) q ≡ unwrap_or (find nat_cmp q (put nat_cmp c v d)) before
+found_after c v d xs q before within same =
+    go (eq_by_cmp nat_cmp q c) refl ∙ ap (λ o. unwrap_or o before) (sym (find-put nat_cmp nat_cmp_total q c v d))
   where
     go : (b : Bool) → eq_by_cmp nat_cmp q c ≡ b → number_at (slice_set xs c v) q ≡ unwrap_or (cond b (Some v) (find nat_cmp q d)) before
     go true e =
@@ -56,7 +59,8 @@ found_after c v d xs q before within same = go (eq_by_cmp nat_cmp q c) refl ∙ 
         ap (number_at (slice_set xs c v)) is ∙ number_same xs c v within
     go false e = number_other xs c q v (λ is. absurd (false≢true (sym e ∙ ap (λ k. eq_by_cmp nat_cmp k c) is ∙ itself c))) ∙ same
 
-picked_mirrors : (found : ℕ → ℤ) (count : ℕ) (v : ℤ) (a b : Doing) (x y : Data) → Mirrors found count a x → Mirrors found count b y → Mirrors found count (picked v a b) (first_unless v x y)
+picked_mirrors : (found : ℕ → ℤ) (count : ℕ) (v : ℤ) (a b : Doing) (x y : Data) → Mirrors found count a x → Mirrors found count b y
+    → Mirrors found count (picked v a b) (first_unless v x y)
 picked_mirrors found count (pos zero) a b x y f s = s
 picked_mirrors found count (pos (suc n)) a b x y f s = f
 picked_mirrors found count (negsuc n) a b x y f s = f
@@ -69,11 +73,25 @@ module _ (found : ℕ → ℤ) (joined : ℤ) (count : ℕ) where
   test c = nat_lt c count
 
   mutual
-    worked_mirrors : (a : Action) (d : Doing) (w : Data) → NamesOnly test a → Mirrors found count d w → Mirrors found count (done found joined a d) (worked joined a w)
+    worked_mirrors : (a : Action) (d : Doing) (w : Data) → NamesOnly test a → Mirrors found count d w
+        → Mirrors found count (done found joined a d) (worked joined a w)
     worked_mirrors (Set k t) d w names same =
-        record { registers = ap (λ r. slice_set r k (term_value t r)) same.registers; child = same.child; lines = same.lines; cells = same.cells; many = same.many }
+        record {
+          registers = ap (λ r. slice_set r k (term_value t r)) same.registers;
+          child = same.child;
+          lines = same.lines;
+          cells = same.cells;
+          many = same.many;
+        }
     worked_mirrors (Load c k) d w names same =
-        record { registers = ap (λ r. slice_set r k (number_at w.cells c)) same.registers ∙ ap (slice_set d.registers k) (same.cells c (ltb-true c count names)); child = same.child; lines = same.lines; cells = same.cells; many = same.many }
+        record {
+          registers = ap (λ r. slice_set r k (number_at w.cells c)) same.registers
+              ∙ ap (slice_set d.registers k) (same.cells c (ltb-true c count names));
+          child = same.child;
+          lines = same.lines;
+          cells = same.cells;
+          many = same.many;
+        }
     worked_mirrors (Store c t) d w names same =
         record {
           registers = same.registers;
@@ -81,35 +99,64 @@ module _ (found : ℕ → ℤ) (joined : ℤ) (count : ℕ) where
           lines = same.lines;
           cells = λ q below.
               ap (λ r. number_at (slice_set w.cells c (term_value t r)) q) same.registers
-              ∙ found_after c (term_value t d.registers) d.written w.cells q (found q) (let within = ltb-true c count names in let all = same.many in omega arith) (same.cells q below);
+              ∙ found_after c (term_value t d.registers) d.written w.cells q (found q)
+              (let within = ltb-true c count names in let all = same.many in omega arith) (same.cells q below);
           many = length_set w.cells c (term_value t w.registers) ∙ same.many;
         }
     worked_mirrors (Say ts) d w names same =
-        record { registers = same.registers; child = same.child; lines = ap (λ l. l ++ said ts w.registers ∷ []) same.lines ∙ ap (λ r. d.lines ++ said ts r ∷ []) same.registers; cells = same.cells; many = same.many }
+        record {
+          registers = same.registers;
+          child = same.child;
+          lines = ap (λ l. l ++ said ts w.registers ∷ []) same.lines
+              ∙ ap (λ r. d.lines ++ said ts r ∷ []) same.registers;
+          cells = same.cells;
+          many = same.many;
+        }
     worked_mirrors (Choose t a b) d w names same =
-        subst (λ v. Mirrors found count (done found joined (Choose t a b) d) (first_unless v (arm_worked joined a w) (arm_worked joined b w))) (sym (ap (term_value t) same.registers))
+        subst (λ v. Mirrors found count (done found joined (Choose t a b) d)
+        (first_unless v (arm_worked joined a w) (arm_worked joined b w))) (sym (ap (term_value t) same.registers))
         (picked_mirrors found count (term_value t d.registers) _ _ _ _ (arm_mirrors a d w names.0 same) (arm_mirrors b d w names.1 same))
-    worked_mirrors (Child n) d w names same = record { registers = same.registers; child = refl; lines = same.lines; cells = same.cells; many = same.many }
+    worked_mirrors (Child n) d w names same =
+        record { registers = same.registers; child = refl; lines = same.lines; cells = same.cells; many = same.many }
     worked_mirrors (Give k t) d w names same =
-        record { registers = same.registers; child = ap (λ l. slice_set l k (term_value t w.registers)) same.child ∙ ap (λ r. slice_set d.child k (term_value t r)) same.registers; lines = same.lines; cells = same.cells; many = same.many }
-    worked_mirrors (Bring k) d w names same = record { registers = ap (λ r. slice_set r k joined) same.registers; child = same.child; lines = same.lines; cells = same.cells; many = same.many }
+        record {
+          registers = same.registers;
+          child = ap (λ l. slice_set l k (term_value t w.registers)) same.child
+              ∙ ap (λ r. slice_set d.child k (term_value t r)) same.registers;
+          lines = same.lines;
+          cells = same.cells;
+          many = same.many;
+        }
+    worked_mirrors (Bring k) d w names same =
+        record {
+          registers = ap (λ r. slice_set r k joined) same.registers;
+          child = same.child;
+          lines = same.lines;
+          cells = same.cells;
+          many = same.many;
+        }
 
-    arm_mirrors : (arm : Arm) (d : Doing) (w : Data) → ArmNamesOnly test arm → Mirrors found count d w → Mirrors found count (arm_done found joined arm d) (arm_worked joined arm w)
+    arm_mirrors : (arm : Arm) (d : Doing) (w : Data) → ArmNamesOnly test arm → Mirrors found count d w
+        → Mirrors found count (arm_done found joined arm d) (arm_worked joined arm w)
     arm_mirrors NoAction d w names same = same
-    arm_mirrors (OneAction a arm) d w names same = arm_mirrors arm (done found joined a d) (worked joined a w) names.1 (worked_mirrors a d w names.0 same)
+    arm_mirrors (OneAction a arm) d w names same =
+        arm_mirrors arm (done found joined a d) (worked joined a w) names.1 (worked_mirrors a d w names.0 same)
 
   -- the cells that are recorded are no part of the data
   recorded_mirrors : (a : Action) (d : Doing) (w : Data)
       → Mirrors found count d (worked joined a w) → Mirrors found count d (recorded joined a w)
-  recorded_mirrors a d w same = record { registers = same.registers; child = same.child; lines = same.lines; cells = same.cells; many = same.many }
+  recorded_mirrors a d w same =
+      record { registers = same.registers; child = same.child; lines = same.lines; cells = same.cells; many = same.many }
 
   -- the data after a subthread's actions
-  pub all_mirrors : (actions : List Action) (d : Doing) (w : Data) → AllName test actions → Mirrors found count d w → Mirrors found count (all_done found joined actions d) (all_worked joined actions w)
+  pub all_mirrors : (actions : List Action) (d : Doing) (w : Data) → AllName test actions → Mirrors found count d w
+      → Mirrors found count (all_done found joined actions d) (all_worked joined actions w)
   all_mirrors [] d w names same = same
   all_mirrors (a ∷ actions) d w names same =
       all_mirrors actions (done found joined a d) (recorded joined a w) names.1
       (recorded_mirrors a (done found joined a d) w (worked_mirrors a d w names.0 same))
 
-pub worked-append : (joined : ℤ) (first second : List Action) (w : Data) → all_worked joined (first ++ second) w ≡ all_worked joined second (all_worked joined first w)
+pub worked-append : (joined : ℤ) (first second : List Action) (w : Data)
+    → all_worked joined (first ++ second) w ≡ all_worked joined second (all_worked joined first w)
 worked-append joined [] second w = refl
 worked-append joined (a ∷ first) second w = worked-append joined first second (recorded joined a w)

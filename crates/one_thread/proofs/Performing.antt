@@ -1,4 +1,6 @@
--- A subthread that the code performs is the one that the plain run performs.
+-- A subthread that the code performs is the one that the plain run performs. It finds the same: the value of the thread
+-- that it joins, its registers and its cells. So its effect is the same, and leaves the thread's registers at the
+-- thread's place, a child's at the end, and each other thread's as they are; points go the same way.
 use Rattle.std.proofs.Common.{◌≡◌, ℕ, zero, suc, ◌<◌, ℤ, pos, negsuc, Bool, true, false, cond, List, [], ◌∷◌, ◌++◌, map, length, Option, Some, None, refl, sym, ap, ◌∙◌, subst, arith, option_map, unwrap_or, nat_lt, add-one}
 use Rattle.std.specs.Prelude.{slice_get, slice_set, nat_eq}
 use Rattle.std.specs.Ordering.{nat_cmp}

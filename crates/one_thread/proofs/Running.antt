@@ -1,4 +1,7 @@
--- How the loop of the code follows the plain run.
+-- How the loop of the code follows the plain run. The loop keeps that the order so far, with what the plain run goes on
+-- to issue from here, is the whole order, and that its parts stand for the state, the table and the points of the plain
+-- run (Holds). A turn that issues is a move of the plain run, after which fewer subthreads are left; one that ends is
+-- its end.
 use Rattle.std.proofs.Common.{◌≡◌, ℕ, zero, suc, ◌+◌, ◌-◌, ◌<◌, ◌≤◌, ℤ, List, [], ◌∷◌, ◌++◌, map, length, Option, Some, refl, sym, ap, ◌∙◌, subst, arith, append_assoc, append-nil}
 use Rattle.std.proofs.lemmas.List.{length-map}
 use Rattle.gp_base.specs.declared.limits.Limits.{Limits}
@@ -44,7 +47,8 @@ grown-least sync.BadIndex n = omega arith
 grown-least sync.Spent n = omega arith
 
 -- an issue is of a thread that is there
-pub issue-inside : (table after : Table) (t : ℕ) (next : Next) (child : Option ℕ) → next_issue (table_of table) ≡ Issue t next child (table_of after) → t < length table.seats.items
+pub issue-inside : (table after : Table) (t : ℕ) (next : Next) (child : Option ℕ)
+    → next_issue (table_of table) ≡ Issue t next child (table_of after) → t < length table.seats.items
 issue-inside table after t next child is =
     let issues = issued-so (table_of table) t next child (table_of after) is in
     let inside = issues.inside in
@@ -52,7 +56,8 @@ issue-inside table after t next child is =
     omega arith
 
 -- and stays there
-pub issue-stays : (table after : Table) (t : ℕ) (next : Next) (child : Option ℕ) → next_issue (table_of table) ≡ Issue t next child (table_of after) → t < length after.seats.items
+pub issue-stays : (table after : Table) (t : ℕ) (next : Next) (child : Option ℕ)
+    → next_issue (table_of table) ≡ Issue t next child (table_of after) → t < length after.seats.items
 issue-stays table after t next child is =
     let issues = issued-so (table_of table) t next child (table_of after) is in
     let inside = issues.inside in
@@ -63,7 +68,8 @@ issue-stays table after t next child is =
 
 module _ (code : Code) (inputs : Inputs) (limits : Limits) (old : Run) (plain : Plain) (holds : Holds code inputs limits old plain) where
   -- the turn that the plain run finds
-  same-turn : (turn : PlainTurn) → next_issue (table_of old.table) ≡ turn → move (plain_program code) inputs limits plain ≡ on_turn (plain_program code) inputs limits plain turn
+  same-turn : (turn : PlainTurn) → next_issue (table_of old.table) ≡ turn
+      → move (plain_program code) inputs limits plain ≡ on_turn (plain_program code) inputs limits plain turn
   same-turn turn is = ap (on_turn (plain_program code) inputs limits plain) (ap next_issue (sym holds.table) ∙ is)
 
   module _ (after : Table) (t : ℕ) (begins : Next) (child : Option ℕ) (step : Step) (new : Run) where
@@ -73,7 +79,8 @@ module _ (code : Code) (inputs : Inputs) (limits : Limits) (old : Run) (plain : 
     abbrev plain_mid : Plain
     plain_mid = record plain { table = table_of after }
 
-    pub issue-goes : AreHeld after.owners.owners.items after.owners.held.items → length old.threads.items ≡ length old.table.seats.items → next_issue (table_of old.table) ≡ Issue t begins child (table_of after)
+    pub issue-goes : AreHeld after.owners.owners.items after.owners.held.items → length old.threads.items ≡ length old.table.seats.items
+        → next_issue (table_of old.table) ≡ Issue t begins child (table_of after)
         → Stepped mid t begins child step new → Went code inputs limits plain step new
     issue-goes held alike is stepped =
         record {
@@ -85,9 +92,17 @@ module _ (code : Code) (inputs : Inputs) (limits : Limits) (old : Run) (plain : 
               ∙ ap (λ x. record step { thread = t; begins = x }) stepped.begins_is
               ∙ ap (λ x. record step { thread = t; begins = begins; held = x }) stepped.held_is
               ∙ ap (λ x. record step { thread = t; begins = begins; held = held_now; foot = x }) foot_are
-              ∙ ap (λ x. record { thread = t; begins = begins; held = held_now; foot = foot_with t begins.sync child (named_by does); prints = x })
+              ∙ ap (λ x. record {
+                thread = t;
+                begins = begins;
+                held = held_now;
+                foot = foot_with t begins.sync child (named_by does);
+                prints = x;
+              })
               (stepped.prints_are ∙ lines-are code inputs limits mid plain_mid holds_mid t begins child stepped.told new stepped.performed);
-          holds = holds-after code inputs limits mid plain_mid holds_mid t begins child stepped.told new stepped.performed (issues.child_is ∙ ap (child_of begins.sync) many);
+          holds =
+              holds-after code inputs limits mid plain_mid holds_mid t begins child stepped.told new stepped.performed
+              (issues.child_is ∙ ap (child_of begins.sync) many);
           alike =
               threads-after code inputs limits mid plain_mid holds_mid t begins child stepped.told new stepped.performed
               ∙ ap (grown begins.sync) (sym many) ∙ sym issues.threads_are
@@ -98,7 +113,8 @@ module _ (code : Code) (inputs : Inputs) (limits : Limits) (old : Run) (plain : 
           limit_is = issues.limit_is ∙ ap (λ (table : PlainTable). table.limit) holds.table;
         }
       where
-        issues : Issues (table_of old.table).limit (table_of old.table).issued (length (table_of old.table).seats) t begins child (table_of after)
+        issues : Issues (table_of old.table).limit (table_of old.table).issued
+            (length (table_of old.table).seats) t begins child (table_of after)
         issues = issued-so (table_of old.table) t begins child (table_of after) is
 
         many : length (map seat_of old.table.seats.items) ≡ length old.threads.items
@@ -129,10 +145,12 @@ module _ (code : Code) (inputs : Inputs) (limits : Limits) (old : Run) (plain : 
         foot_are : step.foot ≡ foot_with t begins.sync child (named_by does)
         foot_are =
             stepped.foot_is
-            ∙ ap (foot_with t begins.sync child) (named-are code inputs limits mid plain_mid holds_mid t begins child stepped.told new stepped.performed)
+            ∙ ap (foot_with t begins.sync child) (named-are code inputs limits mid plain_mid holds_mid t begins child
+            stepped.told new stepped.performed)
 
 -- ---- the loop
-order-more : (done : List Step) (step : Step) (s : Subthread) (rest : List Subthread) → step ≡ shown s → (done ++ step ∷ []) ++ map shown rest ≡ done ++ map shown (s ∷ rest)
+order-more : (done : List Step) (step : Step) (s : Subthread) (rest : List Subthread) → step ≡ shown s
+    → (done ++ step ∷ []) ++ map shown rest ≡ done ++ map shown (s ∷ rest)
 order-more done step s rest is = append_assoc done (step ∷ []) (map shown rest) ∙ ap (λ x. done ++ x ∷ map shown rest) is
 
 module _ (code : Code) (inputs : Inputs) (limits : Limits) where
@@ -158,7 +176,8 @@ module _ (code : Code) (inputs : Inputs) (limits : Limits) where
   state-ends (suc l) p e is = ap (λ m. state_from goes p m (state_after goes l)) is
 
   -- a subthread more
-  pub ahead-more : (done : List Step) (step : Step) (old new : Run) → (ahead : Ahead code inputs limits done old) → Went code inputs limits ahead.plain step new → Ahead code inputs limits (done ++ step ∷ []) new
+  pub ahead-more : (done : List Step) (step : Step) (old new : Run) → (ahead : Ahead code inputs limits done old)
+      → Went code inputs limits ahead.plain step new → Ahead code inputs limits (done ++ step ∷ []) new
   ahead-more done step old new ahead went = go ahead.left refl
     where
       go : (left : ℕ) → ahead.left ≡ left → Ahead code inputs limits (done ++ step ∷ []) new
@@ -171,16 +190,20 @@ module _ (code : Code) (inputs : Inputs) (limits : Limits) where
             alike = went.alike;
             order_is =
                 order-more done step went.subthread (steps goes l went.then) went.shows
-                ∙ ap (λ (s : List Subthread). done ++ map shown s) (sym (steps-goes l ahead.plain went.then went.subthread went.moves) ∙ ap (λ n. steps goes n ahead.plain) (sym is))
+                ∙ ap (λ (s : List Subthread). done ++ map shown s)
+                (sym (steps-goes l ahead.plain went.then went.subthread went.moves) ∙ ap (λ n. steps goes n ahead.plain) (sym is))
                 ∙ ahead.order_is;
-            last_is = sym (ap (λ n. state_after goes n ahead.plain) is ∙ state-goes l ahead.plain went.then went.subthread went.moves) ∙ ahead.last_is;
+            last_is =
+                sym (ap (λ n. state_after goes n ahead.plain) is ∙ state-goes l ahead.plain went.then went.subthread went.moves)
+                ∙ ahead.last_is;
             count_is = let c = ahead.count_is in let i = went.issued_is in omega arith;
             limit_is = went.limit_is ∙ ahead.limit_is;
             below = let b = went.below in let i = went.issued_is in let l = ahead.limit_is in omega arith;
           }
 
   -- the cells are those of the records
-  map-numbers : (f : ℕ → ℤ) (cells : List ℤ) (n a : ℕ) → length cells ≡ n → ((c : ℕ) → c < n → number_at cells c ≡ f (a + c)) → cells ≡ map f (numbers a n)
+  map-numbers : (f : ℕ → ℤ) (cells : List ℤ) (n a : ℕ) → length cells ≡ n → ((c : ℕ) → c < n → number_at cells c ≡ f (a + c))
+      → cells ≡ map f (numbers a n)
   map-numbers f [] zero a many each = refl
   map-numbers f [] (suc n) a many each = absurd (omega arith)
   map-numbers f (v ∷ cells) zero a many each = absurd (omega arith)
@@ -189,15 +212,18 @@ module _ (code : Code) (inputs : Inputs) (limits : Limits) where
       ∙ ap (λ l. f a ∷ l) (map-numbers f cells n (suc a) (omega arith) (λ c less. each (suc c) (omega arith) ∙ ap f (omega arith)))
 
   -- the end
-  pub ahead-ends : (done : List Step) (run : Run) (e : End) (cells : List ℤ) → (ahead : Ahead code inputs limits done run) → Halted code inputs limits ahead.plain e → cells ≡ run.shared.cells
+  pub ahead-ends : (done : List Step) (run : Run) (e : End) (cells : List ℤ) → (ahead : Ahead code inputs limits done run)
+      → Halted code inputs limits ahead.plain e → cells ≡ run.shared.cells
       → IsPlainRun (plain_program code) inputs limits (record { order = done; records = cells; «end» = e })
   ahead-ends done run e cells ahead halted same =
       record {
         order =
-            sym (append-nil done) ∙ ap (λ (s : List Subthread). done ++ map shown s) (sym (steps-ends ahead.left ahead.plain e halted.moves)) ∙ ahead.order_is;
+            sym (append-nil done) ∙ ap (λ (s : List Subthread). done ++ map shown s)
+            (sym (steps-ends ahead.left ahead.plain e halted.moves)) ∙ ahead.order_is;
         records =
             same
-            ∙ map-numbers (cell_value ahead.plain.state) run.shared.cells (cells_in (records_of code.heads)) 0 ahead.holds.many (λ c less. ahead.holds.cells c less ∙ ap (cell_value ahead.plain.state) (omega arith))
+            ∙ map-numbers (cell_value ahead.plain.state) run.shared.cells (cells_in (records_of code.heads)) 0 ahead.holds.many
+            (λ c less. ahead.holds.cells c less ∙ ap (cell_value ahead.plain.state) (omega arith))
             ∙ ap (λ (p : Plain). map (cell_value p.state) (numbers 0 (cells_in (records_of code.heads)))) last;
         «end» = sym (ap ending_of (ap goes (sym last) ∙ halted.moves));
       }
@@ -206,7 +232,8 @@ module _ (code : Code) (inputs : Inputs) (limits : Limits) where
       last = sym (state-ends ahead.left ahead.plain e halted.moves) ∙ ahead.last_is
 
   -- the start
-  pub ahead-start : (run : Run) → Holds code inputs limits run (opening (plain_program code) inputs limits) → Ahead code inputs limits [] run
+  pub ahead-start : (run : Run) → Holds code inputs limits run (opening (plain_program code) inputs limits)
+      → Ahead code inputs limits [] run
   ahead-start run holds =
       record {
         plain = opening (plain_program code) inputs limits;
@@ -223,7 +250,8 @@ module _ (code : Code) (inputs : Inputs) (limits : Limits) where
       }
 
   -- fewer subthreads are left
-  pub ahead-smaller : (done : List Step) (step : Step) (old new : Run) → (ahead : Ahead code inputs limits done old) → Went code inputs limits ahead.plain step new → limits.subthreads - new.table.issued < limits.subthreads - old.table.issued
+  pub ahead-smaller : (done : List Step) (step : Step) (old new : Run) → (ahead : Ahead code inputs limits done old)
+      → Went code inputs limits ahead.plain step new → limits.subthreads - new.table.issued < limits.subthreads - old.table.issued
   ahead-smaller done step old new ahead went =
       let before = ap (λ (table : PlainTable). table.issued) ahead.holds.table in
       let after = ap (λ (table : PlainTable). table.issued) went.holds.table in
@@ -233,6 +261,9 @@ module _ (code : Code) (inputs : Inputs) (limits : Limits) where
       omega arith
 
   -- what comes next, where the code's program is this
-  pub follows-here : (old new : Run) (m : Found) (plain : Plain) → ((inputs : Inputs) (limits : Limits) (plain : Plain) → Holds old.program.now inputs limits old plain → Follows old.program.now inputs limits old plain m new) → Holds code inputs limits old plain
+  pub follows-here : (old new : Run) (m : Found) (plain : Plain)
+      → ((inputs : Inputs) (limits : Limits) (plain : Plain) → Holds old.program.now inputs limits old plain
+      → Follows old.program.now inputs limits old plain m new) → Holds code inputs limits old plain
       → Follows code inputs limits old plain m new
-  follows-here old new m plain each holds = subst (λ c. Holds c inputs limits old plain → Follows c inputs limits old plain m new) holds.program (each inputs limits plain) holds
+  follows-here old new m plain each holds =
+      subst (λ c. Holds c inputs limits old plain → Follows c inputs limits old plain m new) holds.program (each inputs limits plain) holds

@@ -39,20 +39,32 @@ pub stays : (walk : Walk) → walk.env.regs ≡ [] → LeadsTo (point_of walk) w
 stays walk clean = record { at = refl; keeps = record { program = refl; task = refl; registers = refl; feeds = refl; clean = clean } }
 
 -- a loop turn is found
-pub turn_found : (walk : Walk) (line : ℕ) (e : Expr) (body : Bor (List code.Stmt)) (v : ℤ) → walk.env.regs ≡ [] → left_of walk.left ≡ At line (While e (plain_block body.now)) ∷ rest_of walk.left
-    → value e walk.env ≡ Some v → int_eq v (pos 0) ≡ false → Stepped (step_at (setting_of walk) line (While e (plain_block body.now)) (rest_of walk.left) (point_of walk)) (went.Turned body) walk walk
+pub turn_found : (walk : Walk) (line : ℕ) (e : Expr) (body : Bor (List code.Stmt)) (v : ℤ) → walk.env.regs ≡ []
+    → left_of walk.left ≡ At line (While e (plain_block body.now)) ∷ rest_of walk.left
+    → value e walk.env ≡ Some v → int_eq v (pos 0) ≡ false
+    → Stepped (step_at (setting_of walk) line (While e (plain_block body.now)) (rest_of walk.left) (point_of walk))
+    (went.Turned body) walk walk
 turn_found walk line e body v clean first is nonzero =
-    subst (λ st. Stepped st (went.Turned body) walk walk) (sym (ap (λ o. known line o next) (ap (value e) (env_is walk clean) ∙ is) ∙ branch_first v _ _ nonzero))
-    (ap (λ l. going (point_of walk) l) (ap (λ l. l ++ At line (While e (plain_block body.now)) ∷ rest_of walk.left) (statements-block (plain_stmts body.now)) ∙ ap (λ l. plain_stmts body.now ++ l) (sym first)), stays walk clean, refl)
+    subst (λ st. Stepped st (went.Turned body) walk walk)
+    (sym (ap (λ o. known line o next) (ap (value e) (env_is walk clean) ∙ is) ∙ branch_first v _ _ nonzero)) (
+      ap (λ l. going (point_of walk) l) (ap (λ l. l ++ At line (While e (plain_block body.now)) ∷ rest_of walk.left)
+          (statements-block (plain_stmts body.now)) ∙ ap (λ l. plain_stmts body.now ++ l) (sym first)),
+      stays walk clean,
+      refl,
+    )
   where
     next : ℤ → Step Point
-    next w = branch w (Iteration (going (point_of walk) (statements (plain_block body.now) ++ At line (While e (plain_block body.now)) ∷ rest_of walk.left))) (Silent (going (point_of walk) (rest_of walk.left)))
+    next w =
+        branch w (Iteration (going (point_of walk)
+        (statements (plain_block body.now) ++ At line (While e (plain_block body.now)) ∷ rest_of walk.left)))
+        (Silent (going (point_of walk) (rest_of walk.left)))
 
 unlike : {A : Type 0} → IsTrue false → A
 unlike is = absurd (false≢true is)
 
 -- the step at a data statement
-acts_at : (s : Setting) (line : ℕ) (w : What) (rest : List Stmt) (p : Point) → IsTrue (is_data w) → step_at s line w rest p ≡ known line (action s (registers_of p.task) w (env_at s p)) (λ a. Act a (going p rest))
+acts_at : (s : Setting) (line : ℕ) (w : What) (rest : List Stmt) (p : Point) → IsTrue (is_data w)
+    → step_at s line w rest p ≡ known line (action s (registers_of p.task) w (env_at s p)) (λ a. Act a (going p rest))
 acts_at s line (SetReg x e) rest p is = refl
 acts_at s line (Read r i x) rest p is = refl
 acts_at s line (Write r i e) rest p is = refl
@@ -68,11 +80,13 @@ acts_at s line (Join e x) rest p is = unlike is
 acts_at s line (Barrier b) rest p is = unlike is
 acts_at s line (Settle x c) rest p is = unlike is
 
-known_acts : (line : ℕ) (o : Option Action) (q : Point) (old new : Walk) → is_some o ≡ true → Records o old.data new.data → LeadsTo q old new → Stepped (known line o (λ a. Act a q)) went.On old new
+known_acts : (line : ℕ) (o : Option Action) (q : Point) (old new : Walk) → is_some o ≡ true → Records o old.data new.data
+    → LeadsTo q old new → Stepped (known line o (λ a. Act a q)) went.On old new
 known_acts line None q old new is records leads = absurd (false≢true is)
 known_acts line (Some a) q old new is records leads = (leads, λ joined. records joined a refl)
 
-known_stops : (line : ℕ) (o : Option Action) (q : Point) (walk : Walk) → walk.env.regs ≡ [] → is_some o ≡ false → Stepped (known line o (λ a. Act a q)) (went.Stopped (record { sync = sync.BadIndex; line = line })) walk walk
+known_stops : (line : ℕ) (o : Option Action) (q : Point) (walk : Walk) → walk.env.regs ≡ [] → is_some o ≡ false
+    → Stepped (known line o (λ a. Act a q)) (went.Stopped (record { sync = sync.BadIndex; line = line })) walk walk
 known_stops line None q walk clean is = (refl, stays walk clean, refl)
 known_stops line (Some a) q walk clean is = absurd (false≢true (sym is))
 
@@ -80,41 +94,65 @@ abbrev action_here : Walk → What → Env → Option Action
 action_here walk w env = action (setting_of walk) (registers_of (point_of walk).task) w env
 
 -- a data statement is done
-pub acted : (old new : Walk) (line : ℕ) (w : What) → old.env.regs ≡ [] → IsTrue (is_data w) → is_some (action_here old w old.env) ≡ true → Records (action_here old w old.env) old.data new.data
-    → LeadsTo (going (point_of old) (rest_of old.left)) old new → Stepped (step_at (setting_of old) line w (rest_of old.left) (point_of old)) went.On old new
+pub acted : (old new : Walk) (line : ℕ) (w : What) → old.env.regs ≡ [] → IsTrue (is_data w) → is_some (action_here old w old.env) ≡ true
+    → Records (action_here old w old.env) old.data new.data
+    → LeadsTo (going (point_of old) (rest_of old.left)) old new
+    → Stepped (step_at (setting_of old) line w (rest_of old.left) (point_of old)) went.On old new
 acted old new line w clean is_data_here is records leads =
-    subst (λ st. Stepped st went.On old new) (sym (acts_at (setting_of old) line w (rest_of old.left) (point_of old) is_data_here ∙ ap (λ env. known line (action_here old w env) (λ a. Act a (going (point_of old) (rest_of old.left)))) (env_is old clean)))
+    subst (λ st. Stepped st went.On old new) (sym
+    (acts_at (setting_of old) line w (rest_of old.left) (point_of old) is_data_here
+    ∙ ap (λ env. known line (action_here old w env) (λ a. Act a (going (point_of old) (rest_of old.left)))) (env_is old clean)))
     (known_acts line (action_here old w old.env) (going (point_of old) (rest_of old.left)) old new is records leads)
 
 -- or names a cell that isn't there
 pub unacted : (walk : Walk) (line : ℕ) (w : What) → walk.env.regs ≡ [] → IsTrue (is_data w) → is_some (action_here walk w walk.env) ≡ false
-    → Stepped (step_at (setting_of walk) line w (rest_of walk.left) (point_of walk)) (went.Stopped (record { sync = sync.BadIndex; line = line })) walk walk
+    → Stepped (step_at (setting_of walk) line w (rest_of walk.left) (point_of walk))
+    (went.Stopped (record { sync = sync.BadIndex; line = line })) walk walk
 unacted walk line w clean is_data_here is =
-    subst (λ st. Stepped st (went.Stopped (record { sync = sync.BadIndex; line = line })) walk walk) (sym (acts_at (setting_of walk) line w (rest_of walk.left) (point_of walk) is_data_here ∙ ap (λ env. known line (action_here walk w env) (λ a. Act a (going (point_of walk) (rest_of walk.left)))) (env_is walk clean)))
+    subst (λ st. Stepped st (went.Stopped (record { sync = sync.BadIndex; line = line })) walk walk)
+    (sym (acts_at (setting_of walk) line w (rest_of walk.left) (point_of walk) is_data_here
+    ∙ ap (λ env. known line (action_here walk w env) (λ a. Act a (going (point_of walk) (rest_of walk.left)))) (env_is walk clean)))
     (known_stops line (action_here walk w walk.env) (going (point_of walk) (rest_of walk.left)) walk clean is)
 
 branch_second : (v : ℤ) (first second : Step Point) → int_eq v (pos 0) ≡ true → branch v first second ≡ second
-branch_second v first second is = let zero_is : v ≡ pos 0 = grind (arith, Decides-int_eq v (pos 0)) in ap (λ w. branch w first second) zero_is
+branch_second v first second is =
+    let zero_is : v ≡ pos 0 = grind (arith, Decides-int_eq v (pos 0)) in
+    ap (λ w. branch w first second) zero_is
 
 abbrev branches : Walk → List code.Stmt → List code.Stmt → ℤ → Step Point
 branches walk first second v =
-    branch v (Silent (going (point_of walk) (statements (plain_block first) ++ rest_of walk.left))) (Silent (going (point_of walk) (statements (plain_block second) ++ rest_of walk.left)))
+    branch v (Silent (going (point_of walk) (statements (plain_block first) ++ rest_of walk.left)))
+    (Silent (going (point_of walk) (statements (plain_block second) ++ rest_of walk.left)))
 
-entered : (old new : Walk) (block : List code.Stmt) → left_of new.left ≡ plain_stmts block ++ rest_of old.left → new.data ≡ old.data → LeadsTo (going (point_of old) (left_of new.left)) old new
+entered : (old new : Walk) (block : List code.Stmt) → left_of new.left ≡ plain_stmts block ++ rest_of old.left → new.data ≡ old.data
+    → LeadsTo (going (point_of old) (left_of new.left)) old new
     → Stepped (Silent (going (point_of old) (statements (plain_block block) ++ rest_of old.left))) went.On old new
-entered old new block is same leads =
-    (subst (λ l. LeadsTo (going (point_of old) l) old new) (is ∙ ap (λ l. l ++ rest_of old.left) (sym (statements-block (plain_stmts block)))) leads, same)
+entered old new block is same leads = (
+  subst (λ l. LeadsTo (going (point_of old) l) old new)
+      (is ∙ ap (λ l. l ++ rest_of old.left) (sym (statements-block (plain_stmts block)))) leads,
+  same,
+)
 
 -- the second branch of a choice
-pub second_taken : (old new : Walk) (line : ℕ) (e : Expr) (first second : List code.Stmt) (v : ℤ) → old.env.regs ≡ [] → value e old.env ≡ Some v → int_eq v (pos 0) ≡ true
-    → left_of new.left ≡ plain_stmts second ++ rest_of old.left → new.data ≡ old.data → LeadsTo (going (point_of old) (left_of new.left)) old new
-    → Stepped (step_at (setting_of old) line (If e (plain_block first) (plain_block second)) (rest_of old.left) (point_of old)) went.On old new
+pub second_taken : (old new : Walk) (line : ℕ) (e : Expr) (first second : List code.Stmt) (v : ℤ) → old.env.regs ≡ []
+    → value e old.env ≡ Some v → int_eq v (pos 0) ≡ true
+    → left_of new.left ≡ plain_stmts second ++ rest_of old.left → new.data ≡ old.data
+    → LeadsTo (going (point_of old) (left_of new.left)) old new
+    → Stepped (step_at (setting_of old) line (If e (plain_block first) (plain_block second)) (rest_of old.left) (point_of old)) went.On old
+    new
 second_taken old new line e first second v clean is zero_is left same leads =
-    subst (λ st. Stepped st went.On old new) (sym (ap (λ o. known line o (branches old first second)) (ap (value e) (env_is old clean) ∙ is) ∙ branch_second v _ _ zero_is)) (entered old new second left same leads)
+    subst (λ st. Stepped st went.On old new) (sym
+    (ap (λ o. known line o (branches old first second)) (ap (value e) (env_is old clean) ∙ is) ∙ branch_second v _ _ zero_is))
+    (entered old new second left same leads)
 
 -- the first branch of a choice
-pub first_taken : (old new : Walk) (line : ℕ) (e : Expr) (first second : List code.Stmt) (v : ℤ) → old.env.regs ≡ [] → value e old.env ≡ Some v → int_eq v (pos 0) ≡ false
-    → left_of new.left ≡ plain_stmts first ++ rest_of old.left → new.data ≡ old.data → LeadsTo (going (point_of old) (left_of new.left)) old new
-    → Stepped (step_at (setting_of old) line (If e (plain_block first) (plain_block second)) (rest_of old.left) (point_of old)) went.On old new
+pub first_taken : (old new : Walk) (line : ℕ) (e : Expr) (first second : List code.Stmt) (v : ℤ) → old.env.regs ≡ []
+    → value e old.env ≡ Some v → int_eq v (pos 0) ≡ false
+    → left_of new.left ≡ plain_stmts first ++ rest_of old.left → new.data ≡ old.data
+    → LeadsTo (going (point_of old) (left_of new.left)) old new
+    → Stepped (step_at (setting_of old) line (If e (plain_block first) (plain_block second)) (rest_of old.left) (point_of old)) went.On old
+    new
 first_taken old new line e first second v clean is nonzero left same leads =
-    subst (λ st. Stepped st went.On old new) (sym (ap (λ o. known line o (branches old first second)) (ap (value e) (env_is old clean) ∙ is) ∙ branch_first v _ _ nonzero)) (entered old new first left same leads)
+    subst (λ st. Stepped st went.On old new) (sym
+    (ap (λ o. known line o (branches old first second)) (ap (value e) (env_is old clean) ∙ is) ∙ branch_first v _ _ nonzero))
+    (entered old new first left same leads)

@@ -1,4 +1,6 @@
--- The actions of a body name cells of the records alone.
+-- The actions of a body name cells of the records alone. A cell of an array is below the number of all cells, so that a
+-- step that acts names only cells of the records (ActsWithin). That goes on through the steps of a body, and holds of
+-- the actions with which a subthread begins.
 use Rattle.std.proofs.Common.{◌≡◌, ℕ, zero, suc, ◌+◌, ◌<◌, ℤ, pos, negsuc, Bool, true, false, cond, List, [], ◌∷◌, ◌++◌, Option, Some, None, refl, subst, arith, option_map, option_and_then, nat_lt, unwrap_or, length}
 use Rattle.std.proofs.lemmas.Bool.{lt-ltb, ltb-true}
 use Rattle.task_ast.specs.declared.env.Env.{Env}

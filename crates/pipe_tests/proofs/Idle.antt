@@ -19,22 +19,29 @@ use Rattle.subthread.specs.Footprints.{IsNumbered}
 use Rattle.subthread.specs.Tasks.{actions_from, place_of, under_of, Fits}
 
 -- it does nothing
-does_nothing : (work : Work) (q : Place) (test : ℕ → Bool) → instrs_of (code_of work.code).tasks q.at.task ≡ [] → AllName test (code_body (code_of work.code).tasks work.feeds work.turns q).actions
+does_nothing : (work : Work) (q : Place) (test : ℕ → Bool) → instrs_of (code_of work.code).tasks q.at.task ≡ []
+    → AllName test (code_body (code_of work.code).tasks work.feeds work.turns q).actions
 does_nothing work q test none =
     let tasks = (code_of work.code).tasks in
     let step = code_step tasks work.feeds in
     let size = code_size tasks in
     subst (λ (b : Body Place). AllName test b.actions)
     (sym (body_step step size (code_sized tasks work.feeds) work.turns q
-    ∙ ap (λ (instrs : List Instr). follow q (step_instr work.feeds (slice_get instrs q.at.pc) q) (body step size work.turns) (after_turn step size work.turns)) none))
+    ∙ ap (λ (instrs : List Instr). follow q (step_instr work.feeds (slice_get instrs q.at.pc) q) (body step size work.turns)
+    (after_turn step size work.turns)) none))
     tt
 
-pub idle_fits : (work : Work) (task : Task) → task.given.bundles ≡ [] → task.begins.sync ≡ sync.Start → instrs_of (code_of work.code).tasks task.at.task ≡ [] → Fits work task
+pub idle_fits : (work : Work) (task : Task) → task.given.bundles ≡ [] → task.begins.sync ≡ sync.Start
+    → instrs_of (code_of work.code).tasks task.at.task ≡ [] → Fits work task
 idle_fits work task none start idle = record {
   rising = subst (λ (bundles : List Bundle). IsStrictlyIncreasing (map lock_in bundles)) (sym none) (λ k less. absurd (omega arith));
-  sizes = subst (λ (bundles : List Bundle). All (λ (b : Bundle). length b.cells ≡ length (under_lock (under_of work) b.lock)) bundles) (sym none) (λ k d less. absurd (omega arith));
+  sizes =
+      subst (λ (bundles : List Bundle). All (λ (b : Bundle). length b.cells ≡ length (under_lock (under_of work) b.lock)) bundles)
+      (sym none) (λ k d less. absurd (omega arith));
   numbered = subst IsNumbered (sym start) tt;
-  within = subst (λ op. AllName (is_under (under_of work) (map lock_in task.given.bundles)) (actions_from work op task.child (place_of task))) (sym start)
+  within =
+      subst (λ op. AllName (is_under (under_of work) (map lock_in task.given.bundles)) (actions_from work op task.child (place_of task)))
+      (sym start)
       (does_nothing work (place_of task) (is_under (under_of work) (map lock_in task.given.bundles)) idle);
 }
 

@@ -35,7 +35,8 @@ joined_is sync.BadIndex state = refl
 joined_is sync.Spent state = refl
 
 -- the value of a cell in a bundle that has it
-pub beside : (f : ℕ → ℤ) (cells : List ℕ) (c : ℕ) (other : ℤ) → value_beside cells (map f cells) c other ≡ cond (is_member c cells) (f c) other
+pub beside : (f : ℕ → ℤ) (cells : List ℕ) (c : ℕ) (other : ℤ)
+    → value_beside cells (map f cells) c other ≡ cond (is_member c cells) (f c) other
 beside f [] c other = refl
 beside f (x ∷ cells) c other = go (nat_eq c x) refl (beside f cells c other)
   where
@@ -46,13 +47,15 @@ beside f (x ∷ cells) c other = go (nat_eq c x) refl (beside f cells c other)
 
 module _ (under : List (List ℕ)) (state : State) where
   -- each cell under the locks held is at hand
-  at_hand : (held : List ℕ) (c : ℕ) → is_under under held c ≡ true → value_in under (map (bundle_of under state) held) c ≡ cell_value state c
+  at_hand : (held : List ℕ) (c : ℕ) → is_under under held c ≡ true
+      → value_in under (map (bundle_of under state) held) c ≡ cell_value state c
   at_hand [] c passes = absurd (false≢true passes)
   at_hand (lock ∷ held) c passes =
       beside (cell_value state) (under_lock under lock) c (value_in under (map (bundle_of under state) held) c)
       ∙ go (is_member c (under_lock under lock)) passes (at_hand held c)
     where
-      go : (b : Bool) → (b || is_under under held c) ≡ true → (is_under under held c ≡ true → value_in under (map (bundle_of under state) held) c ≡ cell_value state c)
+      go : (b : Bool) → (b || is_under under held c) ≡ true
+          → (is_under under held c ≡ true → value_in under (map (bundle_of under state) held) c ≡ cell_value state c)
           → cond b (cell_value state c) (value_in under (map (bundle_of under state) held) c) ≡ cell_value state c
       go true p rest = refl
       go false p rest = rest p
@@ -60,7 +63,8 @@ module _ (under : List (List ℕ)) (state : State) where
 pub given_law : GivenLaw
 given_law under held t begins child actions state names =
     ap left
-    (all_same (is_under under held) (value_in under (map (bundle_of under state) held)) (cell_value state) (joined_value state (joined_by begins)) (at_hand under state held) actions start names
+    (all_same (is_under under held) (value_in under (map (bundle_of under state) held)) (cell_value state)
+    (joined_value state (joined_by begins)) (at_hand under state held) actions start names
     ∙ ap (λ v. all_done (cell_value state) v actions start) (joined_is begins state))
   where
     start : Doing
@@ -70,12 +74,14 @@ given_law under held t begins child actions state names =
     left d = record { thread = t; writes = d.written; regs = d.registers; child = option_map (λ c. (c, d.child)) child; prints = d.lines }
 
 module _ (under : List (List ℕ)) (left right : State) where
-  same_values : (cells : List ℕ) → ((c : ℕ) → Contains cells c → left (CellOf c) ≡ right (CellOf c)) → map (cell_value left) cells ≡ map (cell_value right) cells
+  same_values : (cells : List ℕ) → ((c : ℕ) → Contains cells c → left (CellOf c) ≡ right (CellOf c))
+      → map (cell_value left) cells ≡ map (cell_value right) cells
   same_values [] same = refl
   same_values (c ∷ cells) same =
       λ i. number_at (same c (Contains-head c cells) i) 0 ∷ same_values cells (λ d there. same d (Contains-later c cells d there)) i
 
-  same_bundles : (held : List ℕ) → ((lock c : ℕ) → Contains held lock → Contains (under_lock under lock) c → left (CellOf c) ≡ right (CellOf c))
+  same_bundles : (held : List ℕ)
+      → ((lock c : ℕ) → Contains held lock → Contains (under_lock under lock) c → left (CellOf c) ≡ right (CellOf c))
       → map (bundle_of under left) held ≡ map (bundle_of under right) held
   same_bundles [] same = refl
   same_bundles (lock ∷ held) same =
@@ -83,14 +89,20 @@ module _ (under : List (List ℕ)) (left right : State) where
       ∷ same_bundles held (λ l c is_held there. same l c (Contains-later lock held l is_held) there) i
 
 -- a cell under a lock that is held passes the test
-under-passes : (under : List (List ℕ)) (held : List ℕ) (lock c : ℕ) → Contains held lock → Contains (under_lock under lock) c → is_under under held c ≡ true
+under-passes : (under : List (List ℕ)) (held : List ℕ) (lock c : ℕ) → Contains held lock → Contains (under_lock under lock) c
+    → is_under under held c ≡ true
 under-passes under held lock c is_held there =
-    list_any-from_Any (λ l. is_member c (under_lock under l)) held (is_held.0, lock, is_held.1, is_held.2, (is_member-is c (under_lock under lock)).1 there)
+    list_any-from_Any (λ l. is_member c (under_lock under l)) held
+    (is_held.0, lock, is_held.1, is_held.2, (is_member-is c (under_lock under lock)).1 there)
 
 pub same_given_law : SameGivenLaw
 same_given_law under held t begins child left right apart agree =
     let member : Member = record { thread = t; begins = begins; child = child; actions = []; mask = pos 0 } in
     let regs = agree (RegistersOf t) (inr (Contains-head (loc.Regs t) (child_registers child ++ map loc.Lock held))) in
-    let joined = joined_is begins left ∙ joined_same begins left right (λ h there. agree (RegistersOf h) (inl there)) ∙ sym (joined_is begins right) in
-    let bundles = same_bundles under left right held (λ lock c is_held there. agree (CellOf c) (inr (under-writes under apart held member c (under-passes under held lock c is_held there)))) in
+    let joined =
+    joined_is begins left ∙ joined_same begins left right (λ h there. agree (RegistersOf h) (inl there))
+    ∙ sym (joined_is begins right) in
+    let bundles =
+    same_bundles under left right held (λ lock c is_held there.
+    agree (CellOf c) (inr (under-writes under apart held member c (under-passes under held lock c is_held there)))) in
     λ i. record { regs = regs i; joined = joined i; bundles = bundles i }

@@ -29,13 +29,17 @@ history_in o = option_and_then (λ e. e.hist) o
 abbrev lines_in : Option Entry → List (List ℤ)
 lines_in o = unwrap_or (option_map (λ e. e.prints) o) []
 
-same-buffer : {left right : State} {olds news : ℕ → Option Effect} {before later : ℕ → List (List ℤ)} → left ≡ right → ((p : ℕ) → olds p ≡ news p) → ((p : ℕ) → before p ≡ later p)
-    → ◌≡◌ {A = Buffer} (record { state = left; histories = olds; lines = before }) (record { state = right; histories = news; lines = later })
+same-buffer : {left right : State} {olds news : ℕ → Option Effect} {before later : ℕ → List (List ℤ)} → left ≡ right
+    → ((p : ℕ) → olds p ≡ news p) → ((p : ℕ) → before p ≡ later p)
+    → ◌≡◌ {A = Buffer} (record { state = left; histories = olds; lines = before })
+    (record { state = right; histories = news; lines = later })
 same-buffer state histories lines = λ i. record { state = state i; histories = fun_ext histories i; lines = fun_ext lines i }
 
-pub pushed-holds : (store : Stored) (entries : List Entry) (e : Entry) → IsFresh e → buffer_of store (entries ++ e ∷ []) ≡ buffer_of store entries
+pub pushed-holds : (store : Stored) (entries : List Entry) (e : Entry) → IsFresh e
+    → buffer_of store (entries ++ e ∷ []) ≡ buffer_of store entries
 pushed-holds store entries e fresh =
-    same-buffer refl (λ p. ap history_in (pushed entries e p) ∙ histories (entry_at entries p) (nat_eq e.pos p)) (λ p. ap lines_in (pushed entries e p) ∙ lines (entry_at entries p) (nat_eq e.pos p))
+    same-buffer refl (λ p. ap history_in (pushed entries e p) ∙ histories (entry_at entries p) (nat_eq e.pos p))
+    (λ p. ap lines_in (pushed entries e p) ∙ lines (entry_at entries p) (nat_eq e.pos p))
   where
     histories : (o : Option Entry) (b : Bool) → history_in (option_or o (cond b (Some e) None)) ≡ history_in o
     histories (Some x) b = refl
@@ -47,7 +51,8 @@ pushed-holds store entries e fresh =
     lines None true = fresh.no_lines
     lines None false = refl
 
-pub sent-holds : (store : Stored) (entries : List Entry) (p : ℕ) → buffer_of store (with_change_at p out_entry entries) ≡ buffer_of store entries
+pub sent-holds : (store : Stored) (entries : List Entry) (p : ℕ)
+    → buffer_of store (with_change_at p out_entry entries) ≡ buffer_of store entries
 sent-holds store entries p =
     same-buffer refl
     (λ q. ap history_in (changed (λ r. nat_eq r p) out_entry entries q (λ e. refl)) ∙ histories (nat_eq q p) (entry_at entries q))
@@ -84,8 +89,10 @@ learnt-holds store entries p foot =
 abbrev left_by : Stored → Effect → Entry → Entry
 left_by store done = applied_entry (Some (old_of done (state_of store))) done.prints
 
-pub taken-holds : (store later : Stored) (entries : List Entry) (p : ℕ) (e : Entry) (done : Effect) → entry_at entries p ≡ Some e → state_of later ≡ after done (state_of store)
-    → buffer_of later (with_change_at p (applied_entry (Some (old_of done (state_of store))) done.prints) entries) ≡ buffer_with p done (buffer_of store entries)
+pub taken-holds : (store later : Stored) (entries : List Entry) (p : ℕ) (e : Entry) (done : Effect) → entry_at entries p ≡ Some e
+    → state_of later ≡ after done (state_of store)
+    → buffer_of later (with_change_at p (applied_entry (Some (old_of done (state_of store))) done.prints) entries)
+    ≡ buffer_with p done (buffer_of store entries)
 taken-holds store later entries p e done there state =
     same-buffer state
     (λ q. ap history_in (changed (λ r. nat_eq r p) (left_by store done) entries q (λ e. refl)) ∙ histories q (nat_eq q p) refl)
@@ -102,22 +109,27 @@ taken-holds store later entries p e done there state =
     same_lines None = refl
     same_lines (Some x) = refl
 
-    histories : (q : ℕ) (b : Bool) → nat_eq q p ≡ b → history_in (option_map (changed_where b (left_by store done)) (entry_at entries q)) ≡ cond b (Some (old_of done (state_of store))) (histories_of entries q)
+    histories : (q : ℕ) (b : Bool) → nat_eq q p ≡ b
+        → history_in (option_map (changed_where b (left_by store done)) (entry_at entries q))
+        ≡ cond b (Some (old_of done (state_of store))) (histories_of entries q)
     histories q true is = ap (λ o. history_in (option_map (left_by store done) o)) (here q is)
     histories q false is = same_history (entry_at entries q)
 
-    lines : (q : ℕ) (b : Bool) → nat_eq q p ≡ b → lines_in (option_map (changed_where b (left_by store done)) (entry_at entries q)) ≡ cond b done.prints (lines_of entries q)
+    lines : (q : ℕ) (b : Bool) → nat_eq q p ≡ b
+        → lines_in (option_map (changed_where b (left_by store done)) (entry_at entries q)) ≡ cond b done.prints (lines_of entries q)
     lines q true is = ap (λ o. lines_in (option_map (left_by store done) o)) (here q is)
     lines q false is = same_lines (entry_at entries q)
 
-pub raised-holds : (store later : Stored) (entries : List Entry) (part : ℕ → Bool) (front begun : ℕ) → state_of later ≡ undone_part (histories_of entries) part front (state_of store)
+pub raised-holds : (store later : Stored) (entries : List Entry) (part : ℕ → Bool) (front begun : ℕ)
+    → state_of later ≡ undone_part (histories_of entries) part front (state_of store)
     → buffer_of later (with_change part (raised_entry begun) entries) ≡ buffer_without part front (buffer_of store entries)
 raised-holds store later entries part front begun state =
     same-buffer state
     (λ q. ap history_in (changed part (raised_entry begun) entries q (λ e. refl)) ∙ histories (part q) (entry_at entries q))
     (λ q. ap lines_in (changed part (raised_entry begun) entries q (λ e. refl)) ∙ lines (part q) (entry_at entries q))
   where
-    histories : (b : Bool) (o : Option Entry) → history_in (option_map (changed_where b (raised_entry begun)) o) ≡ cond b None (history_in o)
+    histories : (b : Bool) (o : Option Entry)
+        → history_in (option_map (changed_where b (raised_entry begun)) o) ≡ cond b None (history_in o)
     histories true None = refl
     histories false None = refl
     histories true (Some x) = refl
@@ -129,7 +141,8 @@ raised-holds store later entries part front begun state =
     lines true (Some x) = refl
     lines false (Some x) = refl
 
-pub dropped-holds : (run : List Subthread) (faults : List Fault) (start : State) (at : Stage) (store : Stored) (e : Entry) (entries : List Entry) → EntriesStand run at (e ∷ entries)
+pub dropped-holds : (run : List Subthread) (faults : List Fault) (start : State) (at : Stage) (store : Stored) (e : Entry)
+    (entries : List Entry) → EntriesStand run at (e ∷ entries)
     → RunStands run faults start at (buffer_of store (e ∷ entries))
     → RunStands run faults start (happens (dependence_of run) faults at (event.Retire at.retired)) (buffer_of store entries)
 dropped-holds run faults start at store e entries stand held =

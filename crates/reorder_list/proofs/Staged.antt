@@ -1,4 +1,6 @@
--- The entries stand after each event that is allowed.
+-- The entries stand after each event that is allowed. There is one lemma for each event. An entry stands by what the
+-- stage has of its position alone (carried): so an event that changes this for one position, or for those that a
+-- restart redoes, leaves the other entries standing, and the entries of those are changed to fit.
 use Rattle.std.proofs.Common.{◌≡◌, ◌↔◌, inl, inr, ℕ, ℤ, zero, suc, ◌+◌, ◌<◌, ◌≤◌, Bool, true, false, cond, nat_eq, ◌||◌, List, [], ◌∷◌, ◌++◌, Contains, Option, Some, None, IfSome, IsTrue, map, refl, sym, ap, subst, ◌∙◌, arith, length-append, slice_get}
 use Rattle.std.specs.Prelude.{is_some, option_map}
 use Rattle.std.proofs.lemmas.Bool.{false≢true, cases_lt, eq-eqb, ne_eqb, eqb-true, eqb-false}

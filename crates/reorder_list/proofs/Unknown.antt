@@ -83,7 +83,8 @@ pub none-unknown : (entries : List Entry) → unknown_in entries ≡ 0 → AllKn
 none-unknown [] none = All-nil (λ (e : Entry). IsTrue (is_some e.foot))
 none-unknown (e ∷ entries) none =
     let first = unknown-first e entries in
-    All-cons (λ (x : Entry). IsTrue (is_some x.foot)) e entries (one-known (is_some e.foot) (omega arith)) (none-unknown entries (omega arith))
+    All-cons (λ (x : Entry). IsTrue (is_some x.foot)) e entries (one-known (is_some e.foot) (omega arith))
+    (none-unknown entries (omega arith))
 
 pub all-known : (entries : List Entry) → AllKnown entries → unknown_in entries ≡ 0
 all-known [] all = refl

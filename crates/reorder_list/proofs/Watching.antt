@@ -1,8 +1,9 @@
 -- The positions that are watched, and the marks before which no entry waits and each is applied.
 --
--- A mark is a position with a test that answers one thing of each entry before it (`Below`), so what is shown of marks is shown once for any
--- test: under a change, with one more entry, without the first, and past one more place. One that is watched holds up the entry that watches
--- it for as long as it is not applied; a search for another begins at the mark before which each entry is applied, since those let it pass.
+-- A mark is a position with a test that answers one thing of each entry before it (`Below`), so what is shown of marks
+-- is shown once for any test: under a change, with one more entry, without the first, and past one more place. One that
+-- is watched holds up the entry that watches it for as long as it is not applied; a search for another begins at the
+-- mark before which each entry is applied, since those let it pass.
 use Rattle.std.proofs.Common.{◌≡◌, ◌⊎◌, ◌↔◌, inl, inr, ℕ, zero, suc, ◌+◌, ◌<◌, ◌≤◌, min, Bool, true, false, cond, nat_eq, not, IsTrue, List, [], ◌∷◌, ◌++◌, length, drop, get_or, slice_get, slice_set, Option, Some, None, IfSome, IfNone, refl, sym, ap, subst, ◌∙◌, arith}
 use Rattle.std.specs.Prelude.{is_some}
 use Rattle.std.specs.Option.{option_or, IsSomeAnd}
@@ -42,16 +43,19 @@ module _ (test : ℕ → Bool) (change : Entry → Entry) (keeps : KeepsPosition
   same-pos true e = keeps e
   same-pos false e = refl
 
-  one-changed : (e : Entry) (w : Option ℕ) → IsWatch entries e w → IsWatch (with_change test change entries) (changed_where (test e.pos) change e) w
+  one-changed : (e : Entry) (w : Option ℕ) → IsWatch entries e w
+      → IsWatch (with_change test change entries) (changed_where (test e.pos) change e) w
   one-changed e None watch = tt
   one-changed e (Some q) watch = (
     (let l = watch.0 in let same = same-pos (test e.pos) e in omega arith),
     λ x there. (let y = changed-there test change entries q x keeps there in
-        subst (λ f. Conflict f (changed_where (test e.pos) change e).locks) (sym (ap (λ (z : Entry). z.locks) y.2 ∙ same-locks (test q) y.0))
+        subst (λ f. Conflict f (changed_where (test e.pos) change e).locks)
+        (sym (ap (λ (z : Entry). z.locks) y.2 ∙ same-locks (test q) y.0))
         (subst (Conflict y.0.locks) (sym (same-locks (test e.pos) e)) (watch.1 y.0 y.1))),
   )
 
-  some-changed : (xs : List Entry) (ws : List (Option ℕ)) → AllZip (IsWatch entries) xs ws → AllZip (IsWatch (with_change test change entries)) (with_change test change xs) ws
+  some-changed : (xs : List Entry) (ws : List (Option ℕ)) → AllZip (IsWatch entries) xs ws
+      → AllZip (IsWatch (with_change test change entries)) (with_change test change xs) ws
   some-changed [] [] watches = tt
   some-changed [] (w ∷ ws) watches = watches
   some-changed (e ∷ xs) [] watches = watches
@@ -67,7 +71,8 @@ module _ (test : ℕ → Bool) (change : Entry → Entry) (keeps : KeepsPosition
       let y = changed-there test change entries q x keeps there in
       ap (λ (z : Entry). says z.state) y.2 ∙ go (test q) refl y.0 y.1 (before q y.0 l y.1)
     where
-      go : (b : Bool) → test q ≡ b → (e : Entry) → entry_at entries q ≡ Some e → says e.state ≡ answer → says (changed_where b change e).state ≡ answer
+      go : (b : Bool) → test q ≡ b → (e : Entry) → entry_at entries q ≡ Some e → says e.state ≡ answer
+          → says (changed_where b change e).state ≡ answer
       go true is e here was = still q l is e here was
       go false is e here was = was
 
@@ -77,18 +82,21 @@ module _ (entries : List Entry) (new : Entry) where
   one-pushed e None l watch = tt
   one-pushed e (Some q) l watch = (watch.0, λ x there. watch.1 x (go x (entry_at entries q) refl (sym (pushed entries new q) ∙ there)))
     where
-      go : (x : Entry) (o : Option Entry) → entry_at entries q ≡ o → option_or o (cond (nat_eq new.pos q) (Some new) None) ≡ Some x → entry_at entries q ≡ Some x
+      go : (x : Entry) (o : Option Entry) → entry_at entries q ≡ o → option_or o (cond (nat_eq new.pos q) (Some new) None) ≡ Some x
+          → entry_at entries q ≡ Some x
       go x (Some y) is found = is ∙ found
       go x None is found = absurd (let none = rw (ne_eqb new.pos q (λ same. let earlier = watch.0 in omega arith)) at found in cc none)
 
-  some-pushed : (b : ℕ) (xs : List Entry) (ws : List (Option ℕ)) → StandFrom b xs → b + length xs ≤ new.pos → AllZip (IsWatch entries) xs ws → AllZip (IsWatch (entries ++ new ∷ [])) (xs ++ new ∷ []) (ws ++ None ∷ [])
+  some-pushed : (b : ℕ) (xs : List Entry) (ws : List (Option ℕ)) → StandFrom b xs → b + length xs ≤ new.pos → AllZip (IsWatch entries) xs ws
+      → AllZip (IsWatch (entries ++ new ∷ [])) (xs ++ new ∷ []) (ws ++ None ∷ [])
   some-pushed b [] [] stands l watches = (tt, tt)
   some-pushed b [] (w ∷ ws) stands l watches = absurd watches
   some-pushed b (e ∷ xs) [] stands l watches = absurd watches
   some-pushed b (e ∷ xs) (w ∷ ws) stands l watches =
       (one-pushed e w (let first = stands.0 in omega arith) watches.0, some-pushed (suc b) xs ws stands.1 (omega arith) watches.1)
 
-pub watches-pushed : (entries : List Entry) (new : Entry) (watched : List (Option ℕ)) → IsInRow entries → ComesNext entries new.pos → AreWatched entries watched
+pub watches-pushed : (entries : List Entry) (new : Entry) (watched : List (Option ℕ)) → IsInRow entries → ComesNext entries new.pos
+    → AreWatched entries watched
     → AreWatched (entries ++ new ∷ []) (watched ++ None ∷ [])
 watches-pushed [] new watched row next watches = some-pushed [] new 0 [] watched row (omega arith) watches
 watches-pushed (e ∷ entries) new watched row next watches =
@@ -98,13 +106,15 @@ pub below-pushed : (says : State → Bool) (answer : Bool) (entries : List Entry
     → Below says answer entries below → Below says answer (entries ++ new ∷ []) (min below new.pos)
 below-pushed says answer entries new below before q x l there = go (entry_at entries q) refl (sym (pushed entries new q) ∙ there)
   where
-    go : (o : Option Entry) → entry_at entries q ≡ o → option_or o (cond (nat_eq new.pos q) (Some new) None) ≡ Some x → says x.state ≡ answer
+    go : (o : Option Entry) → entry_at entries q ≡ o → option_or o (cond (nat_eq new.pos q) (Some new) None) ≡ Some x
+        → says x.state ≡ answer
     go (Some y) is found = before q x (omega arith) (is ∙ found)
     go None is found = absurd (let gone = rw (ne_eqb new.pos q (λ same. omega arith)) at found in cc gone)
 
 module _ (first : Entry) (entries : List Entry) (row : IsInRow (first ∷ entries)) where
   there-too : (q : ℕ) (x : Entry) → entry_at entries q ≡ Some x → entry_at (first ∷ entries) q ≡ Some x
-  there-too q x there = rw (ne_eqb first.pos q (λ same. (let low = (from-first (suc first.pos) entries q x row.1 there).0 in omega arith))) there
+  there-too q x there =
+      rw (ne_eqb first.pos q (λ same. (let low = (from-first (suc first.pos) entries q x row.1 there).0 in omega arith))) there
 
   one-rest : (e : Entry) (w : Option ℕ) → IsWatch (first ∷ entries) e w → IsWatch entries e w
   one-rest e None watch = tt
@@ -120,11 +130,13 @@ module _ (first : Entry) (entries : List Entry) (row : IsInRow (first ∷ entrie
   watches-rest [] watches = absurd watches
   watches-rest (w ∷ watched) watches = some-rest entries watched watches.1
 
-  pub below-rest : (says : State → Bool) (answer : Bool) (below : ℕ) → Below says answer (first ∷ entries) below → Below says answer entries below
+  pub below-rest : (says : State → Bool) (answer : Bool) (below : ℕ) → Below says answer (first ∷ entries) below
+      → Below says answer entries below
   below-rest says answer below before q x l there = before q x l (there-too q x there)
 
 -- what is watched at a place
-pub watch-at : (entries xs : List Entry) (ws : List (Option ℕ)) (k : ℕ) (e : Entry) (w : Option ℕ) → AllZip (IsWatch entries) xs ws → slice_get xs k ≡ Some e → w ≡ get_or ws k w → IsWatch entries e w
+pub watch-at : (entries xs : List Entry) (ws : List (Option ℕ)) (k : ℕ) (e : Entry) (w : Option ℕ) → AllZip (IsWatch entries) xs ws
+    → slice_get xs k ≡ Some e → w ≡ get_or ws k w → IsWatch entries e w
 watch-at entries [] [] k e w watches there is = absurd (cc there)
 watch-at entries [] (v ∷ ws) k e w watches there is = absurd watches
 watch-at entries (x ∷ xs) [] k e w watches there is = absurd watches
@@ -133,12 +145,14 @@ watch-at entries (x ∷ xs) (v ∷ ws) zero e w watches there is =
 watch-at entries (x ∷ xs) (v ∷ ws) (suc k) e w watches there is = watch-at entries xs ws k e w watches.1 there is
 
 -- another position is watched
-pub watch-set : (entries xs : List Entry) (ws : List (Option ℕ)) (k : ℕ) (e : Entry) (w : Option ℕ) → AllZip (IsWatch entries) xs ws → slice_get xs k ≡ Some e → IsWatch entries e w
+pub watch-set : (entries xs : List Entry) (ws : List (Option ℕ)) (k : ℕ) (e : Entry) (w : Option ℕ) → AllZip (IsWatch entries) xs ws
+    → slice_get xs k ≡ Some e → IsWatch entries e w
     → AllZip (IsWatch entries) xs (slice_set ws k w)
 watch-set entries [] [] k e w watches there watch = tt
 watch-set entries [] (v ∷ ws) k e w watches there watch = absurd watches
 watch-set entries (x ∷ xs) [] k e w watches there watch = absurd watches
-watch-set entries (x ∷ xs) (v ∷ ws) zero e w watches there watch = (subst (λ y. IsWatch entries y w) (let same : e ≡ x = cc there in same) watch, watches.1)
+watch-set entries (x ∷ xs) (v ∷ ws) zero e w watches there watch =
+    (subst (λ y. IsWatch entries y w) (let same : e ≡ x = cc there in same) watch, watches.1)
 watch-set entries (x ∷ xs) (v ∷ ws) (suc k) e w watches there watch = (watches.0, watch-set entries xs ws k e w watches.1 there watch)
 
 -- a position that is held up is not runnable
@@ -148,7 +162,8 @@ held-up entries q p holds runnable =
     both_ways (is_applied holds.entry.state) holds.unapplied (ap is_applied applied)
 
 -- one that is watched and not applied holds up the one that watches it
-pub watch-holds : (entries : List Entry) (p : ℕ) (e : Entry) (w : Option ℕ) → entry_at entries p ≡ Some e → IsWatch entries e w → StillWatched entries w → ¬ IsRunnable entries p
+pub watch-holds : (entries : List Entry) (p : ℕ) (e : Entry) (w : Option ℕ) → entry_at entries p ≡ Some e → IsWatch entries e w
+    → StillWatched entries w → ¬ IsRunnable entries p
 watch-holds entries p e None there watch still = absurd still
 watch-holds entries p e (Some q) there watch still = go (entry_at entries q) refl still
   where
@@ -165,7 +180,8 @@ watch-holds entries p e (Some q) there watch still = go (entry_at entries q) ref
         })
 
 -- one that holds up another may be watched
-pub holds-watch : (entries : List Entry) (p : ℕ) (e : Entry) (w : Option ℕ) → entry_at entries p ≡ Some e → IfSome w (λ q. HoldsUp entries q p) → IsWatch entries e w
+pub holds-watch : (entries : List Entry) (p : ℕ) (e : Entry) (w : Option ℕ) → entry_at entries p ≡ Some e
+    → IfSome w (λ q. HoldsUp entries q p) → IsWatch entries e w
 holds-watch entries p e None there holds = tt
 holds-watch entries p e (Some q) there holds = (
   (let l = holds.before in let same = position-of entries p e there in omega arith),
@@ -173,12 +189,15 @@ holds-watch entries p e (Some q) there holds = (
 )
 
 -- an entry that waits is runnable exactly where nothing is found that holds it up
-pub found-decides : (entries : List Entry) (p : ℕ) (e : Entry) (o : Option ℕ) (b : Bool) → is_some o ≡ not b → entry_at entries p ≡ Some e → is_waiting e.state ≡ true
+pub found-decides : (entries : List Entry) (p : ℕ) (e : Entry) (o : Option ℕ) (b : Bool) → is_some o ≡ not b → entry_at entries p ≡ Some e
+    → is_waiting e.state ≡ true
     → IfNone o (IsReady entries p) → IfSome o (λ q. HoldsUp entries q p) → IsTrue b ↔ IsRunnable entries p
-found-decides entries p e None true is there waits ready holds = (λ t. record { entry = e; is_there = there; waits = waits-is e.state waits; ready = ready e there }, λ r. refl)
+found-decides entries p e None true is there waits ready holds =
+    (λ t. record { entry = e; is_there = there; waits = waits-is e.state waits; ready = ready e there }, λ r. refl)
 found-decides entries p e None false is there waits ready holds = absurd (false≢true is)
 found-decides entries p e (Some q) true is there waits ready holds = absurd (false≢true (sym is))
-found-decides entries p e (Some q) false is there waits ready holds = (λ t. absurd (false≢true t), λ r. absurd (held-up entries q p holds r))
+found-decides entries p e (Some q) false is there waits ready holds =
+    (λ t. absurd (false≢true t), λ r. absurd (held-up entries q p holds r))
 
 -- as many are watched as there are entries
 pub watches-length : (entries xs : List Entry) (ws : List (Option ℕ)) → AllZip (IsWatch entries) xs ws → length ws ≡ length xs
@@ -189,7 +208,8 @@ watches-length entries (x ∷ xs) (w ∷ ws) watches = ap suc (watches-length en
 
 -- a test answers the same before the place of the first entry from a position on as before the position
 pub below-first : (says : State → Bool) (answer : Bool) (entries : List Entry) (below start : ℕ) → IsInRow entries
-    → (start ≡ 0) ⊎ (first_position entries + start ≤ below) → Below says answer entries below → Below says answer entries (first_position entries + start)
+    → (start ≡ 0) ⊎ (first_position entries + start ≤ below) → Below says answer entries below
+    → Below says answer entries (first_position entries + start)
 below-first says answer entries below start row where' before q e l there =
     elim where' [
       | inl same ↦ absurd (let gone = sym (before-first (first_position entries) q entries row (omega arith)) ∙ there in cc gone)
@@ -197,7 +217,8 @@ below-first says answer entries below start row where' before q e l there =
     ]
 
 pub below-more : (says : State → Bool) (answer : Bool) (entries : List Entry) (k : ℕ) (e : Entry) → IsInRow entries → k < length entries
-    → e ≡ get_or entries k e → says e.state ≡ answer → Below says answer entries (first_position entries + k) → Below says answer entries (first_position entries + (k + 1))
+    → e ≡ get_or entries k e → says e.state ≡ answer → Below says answer entries (first_position entries + k)
+    → Below says answer entries (first_position entries + (k + 1))
 below-more says answer entries k e row l read still before q x low there =
     elim (cases_eq q (first_position entries + k)) [
       | inl same ↦
@@ -213,7 +234,8 @@ below-here says answer entries k e row l read before = subst (Below says answer 
 
 -- what is applied lets each later entry pass
 pub pass-applied : (entries : List Entry) (whole start : ℕ) (e : Entry) → IsInRow entries
-    → (start ≡ 0) ⊎ (first_position entries + start ≤ whole) → AllApplied entries whole → AllLetPass entries (first_position entries + start) e
+    → (start ≡ 0) ⊎ (first_position entries + start ≤ whole) → AllApplied entries whole
+    → AllLetPass entries (first_position entries + start) e
 pass-applied entries whole start e row where' applied q x low there clash =
     applied-is x.state (below-first is_applied true entries whole start row where' applied q x low there)
 
@@ -225,12 +247,16 @@ waiting-kept entries p below x change there waits q l is e here applied =
     absurd (both_ways (is_applied e.state) (ap is_applied (ap (λ (y : Entry). y.state) (sym same) ∙ waits)) applied)
 
 -- an entry that does not wait is not runnable
-pub none-start : (entries : List Entry) (from idle top start : ℕ) → IsInRow entries → ((q : ℕ) → from ≤ q → q < top → q < idle) → (start ≡ 0) ⊎ (first_position entries + start ≤ top) → NoneWaits entries idle
+pub none-start : (entries : List Entry) (from idle top start : ℕ) → IsInRow entries → ((q : ℕ) → from ≤ q → q < top → q < idle)
+    → (start ≡ 0) ⊎ (first_position entries + start ≤ top) → NoneWaits entries idle
     → NoneRunnable entries from (first_position entries + start)
 none-start entries from idle top start row within where' none q l low runnable =
     elim where' [
-      | inl same ↦ absurd (let gone = sym (before-first (first_position entries) q entries row (omega arith)) ∙ runnable.is_there in cc gone)
-      | inr below ↦ absurd (both_ways (is_waiting runnable.entry.state) (none q runnable.entry (within q l (omega arith)) runnable.is_there) (ap is_waiting runnable.waits))
+      | inl same ↦
+          absurd (let gone = sym (before-first (first_position entries) q entries row (omega arith)) ∙ runnable.is_there in cc gone)
+      | inr below ↦
+          absurd (both_ways (is_waiting runnable.entry.state) (none q runnable.entry (within q l (omega arith)) runnable.is_there)
+          (ap is_waiting runnable.waits))
     ]
 
 -- all is upheld where entries were changed that are before no mark now, or of which the marks still tell the same

@@ -72,7 +72,8 @@ buffer_of store entries = record { state = state_of store; histories = histories
 -- an entry is runnable exactly where the present attempt of its position may be posted by locks
 abbrev pub RunnableLaw : Type 0
 RunnableLaw =
-    (run : List Subthread) (dependence : Dependence) (faults : List Fault) (at : Stage) (entries : List Entry) (p : ℕ) → StageStands dependence faults at → EntriesStand run at entries
+    (run : List Subthread) (dependence : Dependence) (faults : List Fault) (at : Stage) (entries : List Entry) (p : ℕ)
+    → StageStands dependence faults at → EntriesStand run at entries
     → IsRunnable entries p ↔ MayPost (by_locks (clash_in (lock_feet_of run)) dependence) at p (present at p)
 
 -- each position that was issued and has not retired was taken at some attempt
@@ -86,14 +87,16 @@ KnownLaw = (run : List Subthread) (at : Stage) (entries : List Entry) → Entrie
 -- an issue puts the next position's entry at the end
 abbrev pub IssueLaw : Type 0
 IssueLaw =
-    (run : List Subthread) (dependence : Dependence) (faults : List Fault) (at : Stage) (entries : List Entry) (p : ℕ) (e : Entry) → NamesIssued at → EntriesStand run at entries
+    (run : List Subthread) (dependence : Dependence) (faults : List Fault) (at : Stage) (entries : List Entry) (p : ℕ) (e : Entry)
+    → NamesIssued at → EntriesStand run at entries
     → Allowed dependence faults at (event.Issue p) → IsFirst run p e
     → EntriesStand run (happens dependence faults at (event.Issue p)) (entries ++ e ∷ [])
 
 -- a post sends the entry out
 abbrev pub PostLaw : Type 0
 PostLaw =
-    (run : List Subthread) (dependence : Dependence) (faults : List Fault) (at : Stage) (entries : List Entry) (p attempt : ℕ) → EntriesStand run at entries
+    (run : List Subthread) (dependence : Dependence) (faults : List Fault) (at : Stage) (entries : List Entry) (p attempt : ℕ)
+    → EntriesStand run at entries
     → Allowed dependence faults at (event.Post p attempt)
     → EntriesStand run (happens dependence faults at (event.Post p attempt)) (with_change_at p out_entry entries)
 
@@ -101,7 +104,8 @@ PostLaw =
 -- changes nothing else
 abbrev pub TakeLaw : Type 0
 TakeLaw =
-    (run : List Subthread) (dependence : Dependence) (faults : List Fault) (at : Stage) (entries : List Entry) (p attempt : ℕ) (s : Subthread) (foot : Footprint) (history : Option Effect) (lines : List (List ℤ))
+    (run : List Subthread) (dependence : Dependence) (faults : List Fault) (at : Stage) (entries : List Entry) (p attempt : ℕ)
+    (s : Subthread) (foot : Footprint) (history : Option Effect) (lines : List (List ℤ))
     → EntriesStand run at entries → slice_get run p ≡ Some s → foot ≡ foot_of s
     → Allowed dependence faults at (event.Take p attempt true)
     → EntriesStand run (happens dependence faults at (event.Take p attempt true))
@@ -109,21 +113,24 @@ TakeLaw =
 
 abbrev pub StaleLaw : Type 0
 StaleLaw =
-    (run : List Subthread) (dependence : Dependence) (faults : List Fault) (at : Stage) (entries : List Entry) (p attempt : ℕ) (s : Subthread) (foot : Footprint)
+    (run : List Subthread) (dependence : Dependence) (faults : List Fault) (at : Stage) (entries : List Entry) (p attempt : ℕ)
+    (s : Subthread) (foot : Footprint)
     → EntriesStand run at entries → slice_get run p ≡ Some s → foot ≡ foot_of s
     → EntriesStand run (happens dependence faults at (event.Take p attempt false)) (with_change_at p (known_entry foot) entries)
 
 -- one of a position that has no entry, since it has retired, changes nothing
 abbrev pub GoneLaw : Type 0
 GoneLaw =
-    (run : List Subthread) (dependence : Dependence) (faults : List Fault) (at : Stage) (entries : List Entry) (p attempt : ℕ) → EntriesStand run at entries
+    (run : List Subthread) (dependence : Dependence) (faults : List Fault) (at : Stage) (entries : List Entry) (p attempt : ℕ)
+    → EntriesStand run at entries
     → entry_at entries p ≡ None
     → EntriesStand run (happens dependence faults at (event.Take p attempt false)) entries
 
 -- a restart raises the entries of what it redoes
 abbrev pub RestartLaw : Type 0
 RestartLaw =
-    (run : List Subthread) (dependence : Dependence) (faults : List Fault) (at : Stage) (entries : List Entry) (struck number : ℕ) → StageStands dependence faults at → EntriesStand run at entries
+    (run : List Subthread) (dependence : Dependence) (faults : List Fault) (at : Stage) (entries : List Entry) (struck number : ℕ)
+    → StageStands dependence faults at → EntriesStand run at entries
     → struck_next dependence faults at.progress ≡ Some struck
     → EntriesStand run (happens dependence faults at (event.Restart number))
     (with_change (λ q. is_member q (dependence.redo struck at.progress.front)) (raised_entry at.progress.front) entries)
@@ -131,7 +138,8 @@ RestartLaw =
 -- a retirement takes the oldest entry out
 abbrev pub RetireLaw : Type 0
 RetireLaw =
-    (run : List Subthread) (dependence : Dependence) (faults : List Fault) (at : Stage) (e : Entry) (entries : List Entry) → EntriesStand run at (e ∷ entries)
+    (run : List Subthread) (dependence : Dependence) (faults : List Fault) (at : Stage) (e : Entry) (entries : List Entry)
+    → EntriesStand run at (e ∷ entries)
     → EntriesStand run (happens dependence faults at (event.Retire at.retired)) entries
 
 -- the next entry holds nothing, nor does one that goes out
@@ -150,18 +158,22 @@ LearntLaw =
 -- where an effect is applied to the store and its history and lines to its entry, they hold what the position did
 abbrev pub TakenLaw : Type 0
 TakenLaw =
-    (store later : Stored) (entries : List Entry) (p : ℕ) (e : Entry) (done : Effect) → entry_at entries p ≡ Some e → state_of later ≡ after done (state_of store)
-    → buffer_of later (with_change_at p (applied_entry (Some (old_of done (state_of store))) done.prints) entries) ≡ buffer_with p done (buffer_of store entries)
+    (store later : Stored) (entries : List Entry) (p : ℕ) (e : Entry) (done : Effect) → entry_at entries p ≡ Some e
+    → state_of later ≡ after done (state_of store)
+    → buffer_of later (with_change_at p (applied_entry (Some (old_of done (state_of store))) done.prints) entries)
+    ≡ buffer_with p done (buffer_of store entries)
 
 -- where the store is undone and entries are raised, they hold what is left without these positions
 abbrev pub RaisedLaw : Type 0
 RaisedLaw =
-    (store later : Stored) (entries : List Entry) (part : ℕ → Bool) (front begun : ℕ) → state_of later ≡ undone_part (histories_of entries) part front (state_of store)
+    (store later : Stored) (entries : List Entry) (part : ℕ → Bool) (front begun : ℕ)
+    → state_of later ≡ undone_part (histories_of entries) part front (state_of store)
     → buffer_of later (with_change part (raised_entry begun) entries) ≡ buffer_without part front (buffer_of store entries)
 
 -- what stands of the buffer stands without the oldest entry once that has retired
 abbrev pub DroppedLaw : Type 0
 DroppedLaw =
-    (run : List Subthread) (faults : List Fault) (start : State) (at : Stage) (store : Stored) (e : Entry) (entries : List Entry) → EntriesStand run at (e ∷ entries)
+    (run : List Subthread) (faults : List Fault) (start : State) (at : Stage) (store : Stored) (e : Entry) (entries : List Entry)
+    → EntriesStand run at (e ∷ entries)
     → RunStands run faults start at (buffer_of store (e ∷ entries))
     → RunStands run faults start (happens (dependence_of run) faults at (event.Retire at.retired)) (buffer_of store entries)

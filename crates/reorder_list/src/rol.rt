@@ -187,8 +187,9 @@ impl Rol {
         }
     }
 
-    /// The first position from one on and before another whose entry is runnable. Looks at no entry from the other on. The
-    /// list stays as it is.
+    /// The first position from one on and before another whose entry is runnable. It first raises the marks as far as they
+    /// go, also beyond the other position; the search itself goes over no entry from the other position on. The list that
+    /// contracts see stays as it is.
     pub fn next_runnable(&mut self, from: Pos, below: Pos) -> Option<Pos>
         ensures found { IfSome result (λ p. IsFirstRunnable self.old.entries from p) }
         ensures within { IfSome result (λ p. p < below) }

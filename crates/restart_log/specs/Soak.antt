@@ -23,4 +23,5 @@ soak_end (Spent position) records = codes "end spent\n"
 -- the text of a batch of so many moves, drawn from this start
 abbrev pub soak_text : (moves start : ℕ) → End → (records : List ℤ) → (subthreads : ℕ) → List Restart → (unused : ℕ) → List ℕ
 soak_text moves start end records subthreads restarts unused =
-    codes "soak " ++ decimal moves ++ codes " " ++ decimal start ++ codes "\n" ++ soak_end end records ++ counts_section subthreads restarts unused
+    codes "soak " ++ decimal moves ++ codes " " ++ decimal start ++ codes "\n" ++ soak_end end records
+    ++ counts_section subthreads restarts unused

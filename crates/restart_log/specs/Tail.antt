@@ -31,7 +31,8 @@ redo_text redo = codes " redo" ++ flat_map (λ position. codes " " ++ decimal po
 -- a restart by its number
 abbrev pub restart_line : ℕ → Restart → List ℕ
 restart_line number r =
-    decimal number ++ codes ": front " ++ decimal r.front ++ codes " struck " ++ decimal r.struck ++ codes " try " ++ decimal r.attempt ++ redo_text r.redo ++ codes "\n"
+    decimal number ++ codes ": front " ++ decimal r.front ++ codes " struck " ++ decimal r.struck ++ codes " try " ++ decimal r.attempt
+    ++ redo_text r.redo ++ codes "\n"
 
 -- the lines of the restarts, the first of which has this number
 abbrev pub restart_lines : ℕ → List Restart → List ℕ

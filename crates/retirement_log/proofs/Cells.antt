@@ -16,7 +16,8 @@ module _ (cells : List ℕ) (values : List ℤ) (c : ℕ) (k : ℕ) (other : ℤ
   abbrev beside_later : ℤ
   beside_later = value_beside (drop (k + 1) cells) (drop (k + 1) values) c other
 
-  beside_next : (n : ℕ) → k < length cells → k < length values → beside_from ≡ cond (nat_eq c (get_or cells k n)) (get_or values k (pos 0)) beside_later
+  beside_next : (n : ℕ) → k < length cells → k < length values
+      → beside_from ≡ cond (nat_eq c (get_or cells k n)) (get_or values k (pos 0)) beside_later
   beside_next n in_cells in_values = (λ i. value_beside (drop_next cells k n in_cells i) (drop_next values k (pos 0) in_values i) c other)
 
   -- the cell stands here

@@ -59,27 +59,34 @@ module _ (program : Program) (inputs : Inputs) (limits : Limits) where
       → IsPlaced p b 0 (s ∷ run) (row_of p (b + size_of (left_at program inputs limits p s)) (left_at program inputs limits p s))
   first_placed p b s run have =
       let at : p ≡ p + 0 = omega arith in
-      let own : size_of (left_at program inputs limits p s) ≡ length (printed s.lines) = ap (λ lines. length (printed lines)) (sym (have_first p s run have)) in
+      let own : size_of (left_at program inputs limits p s) ≡ length (printed s.lines) =
+      ap (λ lines. length (printed lines)) (sym (have_first p s run have)) in
       let all : lines_size (take 1 (s ∷ run)) ≡ length (printed s.lines) + 0 = first_size s (take 0 run) in
       let sum : b + size_of (left_at program inputs limits p s) ≡ b + lines_size (take 1 (s ∷ run)) = omega arith in
       (ap pos at, ap pos sum)
 
-  placed : (p b : ℕ) (run : List Subthread) → HaveLines p run → (k : ℕ) (row : Row) → slice_get (rows_from p b (left_from program inputs limits p run)) k ≡ Some row
+  placed : (p b : ℕ) (run : List Subthread) → HaveLines p run → (k : ℕ) (row : Row)
+      → slice_get (rows_from p b (left_from program inputs limits p run)) k ≡ Some row
       → IsPlaced p b k run row
   placed p b [] have k row is = absurd (none_some row is)
   placed p b (s ∷ run) have zero row is = subst (IsPlaced p b 0 (s ∷ run)) (some_same _ row is) (first_placed p b s run have)
   placed p b (s ∷ run) have (suc k) row is =
       let rest = placed (suc p) (b + size_of (left_at program inputs limits p s)) run (have_rest p s run have) k row is in
       let at : suc p + k ≡ p + suc k = omega arith in
-      let own : size_of (left_at program inputs limits p s) ≡ length (printed s.lines) = ap (λ lines. length (printed lines)) (sym (have_first p s run have)) in
-      let all : lines_size (take (suc (suc k)) (s ∷ run)) ≡ length (printed s.lines) + lines_size (take (suc k) run) = first_size s (take (suc k) run) in
-      let sum : b + size_of (left_at program inputs limits p s) + lines_size (take (suc k) run) ≡ b + lines_size (take (suc (suc k)) (s ∷ run)) = omega arith in
+      let own : size_of (left_at program inputs limits p s) ≡ length (printed s.lines) =
+      ap (λ lines. length (printed lines)) (sym (have_first p s run have)) in
+      let all : lines_size (take (suc (suc k)) (s ∷ run)) ≡ length (printed s.lines) + lines_size (take (suc k) run) =
+      first_size s (take (suc k) run) in
+      let sum : b + size_of (left_at program inputs limits p s) + lines_size (take (suc k) run)
+      ≡ b + lines_size (take (suc (suc k)) (s ∷ run)) =
+      omega arith in
       (rest.0 ∙ ap pos at, rest.1 ∙ ap pos sum)
 
   -- the lines of the plain run are those of what its subthreads leave
   plain_lines : HaveLines 0 (order program inputs limits)
   plain_lines k s is =
-      subst (λ q. s.lines ≡ (left_at program inputs limits q s).prints) (sym (zero-add k)) (step_is (tree_machine program inputs limits) program inputs limits k s is).lines
+      subst (λ q. s.lines ≡ (left_at program inputs limits q s).prints) (sym (zero-add k))
+      (step_is (tree_machine program inputs limits) program inputs limits k s is).lines
 
   pub count_is : length (rows_of (left_in_order program inputs limits)) ≡ length (order program inputs limits)
   count_is = rows_count 0 (length (codes "output\n")) (order program inputs limits)
@@ -87,5 +94,9 @@ module _ (program : Program) (inputs : Inputs) (limits : Limits) where
   pub bytes_are : (p : ℕ) (row : Row) → slice_get (rows_of (left_in_order program inputs limits)) p ≡ Some row
       → (row.position ≡ pos p) × (row.bytes ≡ pos (length (text_of_first (suc p) program inputs limits)))
   bytes_are p row is =
-      let there = placed 0 (length (codes "output\n")) (order program inputs limits) plain_lines p row is in
-      (there.0 ∙ ap pos (zero-add p), there.1 ∙ ap pos (sym (length-append (codes "output\n") (printed (flat_map (λ (s : Subthread). s.lines) (take (suc p) (order program inputs limits)))))))
+      let there = placed 0 (length (codes "output\n")) (order program inputs limits) plain_lines p row is in (
+        there.0 ∙ ap pos (zero-add p),
+        there.1 ∙ ap pos
+            (sym (length-append (codes "output\n") (printed
+            (flat_map (λ (s : Subthread). s.lines) (take (suc p) (order program inputs limits)))))),
+      )

@@ -1,5 +1,6 @@
--- What notes tell as results are noted and positions retire. A position has its row at its distance from the next one; a result puts one row there and leaves
--- the others; the next position takes the first row out, so that each other comes one place nearer; and the log grows by that row.
+-- What notes tell as results are noted and positions retire. A position has its row at its distance from the next one;
+-- a result puts one row there and leaves the others; the next position takes the first row out, so that each other
+-- comes one place nearer; and the log grows by that row.
 use Rattle.std.proofs.Common.{◌≡◌, ◌≢◌, ℕ, zero, suc, ◌+◌, ◌-◌, ◌<◌, ◌≤◌, List, [], ◌∷◌, ◌++◌, length}
 use Rattle.std.proofs.Common.{take, refl, sym, ap, ◌∙◌, subst, arith, length-append, append-nil, cond, true, false, Bool}
 use Rattle.std.specs.Prelude.{pos, codes, sum_by, nat_eq, slice_get, Option, Some, None, MatchOption}
@@ -64,7 +65,8 @@ pub kept_same : (rows : List (Option Pending)) → KeepsRows rows rows
 kept_same rows k row is = is
 
 -- notes that have all their rows still tell the same
-pub kept_all : (before after : LogNotes) → after.next ≡ before.next → after.bytes ≡ before.bytes → KeepsRows before.rows.items after.rows.items
+pub kept_all : (before after : LogNotes) → after.next ≡ before.next → after.bytes ≡ before.bytes
+    → KeepsRows before.rows.items after.rows.items
     → NotesNothing (Tells before) (Tells after)
 kept_all before after next bytes kept start written left told tells = record {
   log = tells.log;
@@ -72,7 +74,8 @@ kept_all before after next bytes kept start written left told tells = record {
   next = next ∙ tells.next;
   rows = λ q f behind is.
       subst (λ n. IsPending (slice_get after.rows.items (q - n)) f) (sym next)
-      (still_pending before.rows.items after.rows.items (q - before.next) f (kept (q - before.next)) (tells.rows q f (subst (λ n. n ≤ q) next behind) is));
+      (still_pending before.rows.items after.rows.items (q - before.next) f (kept (q - before.next))
+      (tells.rows q f (subst (λ n. n ≤ q) next behind) is));
 }
 
 -- a result of a position that has retired is not needed
@@ -87,17 +90,22 @@ noted_late notes p e late start written left told tells = record {
 }
 
 -- the row of a result was put into its place
-pub noted : (before after : LogNotes) (p : ℕ) (e : Effect) (row : Pending) → before.next ≤ p → after.next ≡ before.next → after.bytes ≡ before.bytes
-    → IsPending (Some (Some row)) e → slice_get after.rows.items (p - before.next) ≡ Some (Some row) → KeepsOthers (p - before.next) before.rows.items after.rows.items
+pub noted : (before after : LogNotes) (p : ℕ) (e : Effect) (row : Pending) → before.next ≤ p → after.next ≡ before.next
+    → after.bytes ≡ before.bytes
+    → IsPending (Some (Some row)) e → slice_get after.rows.items (p - before.next) ≡ Some (Some row)
+    → KeepsOthers (p - before.next) before.rows.items after.rows.items
     → NotesResult (Tells before) (Tells after) p e
 noted before after p e row ahead next bytes pending put kept start written left told tells = record {
   log = tells.log;
   bytes = bytes ∙ tells.bytes;
   next = next ∙ tells.next;
-  rows = λ q f behind is. subst (λ n. IsPending (slice_get after.rows.items (q - n)) f) (sym next) (there q f (subst (λ n. n ≤ q) next behind) is (nat_eq q p) refl);
+  rows =
+      λ q f behind is. subst (λ n. IsPending (slice_get after.rows.items (q - n)) f) (sym next)
+      (there q f (subst (λ n. n ≤ q) next behind) is (nat_eq q p) refl);
 }
   where
-    there : (q : ℕ) (f : Effect) → before.next ≤ q → with_left p e left q ≡ Some f → (b : Bool) → nat_eq q p ≡ b → IsPending (slice_get after.rows.items (q - before.next)) f
+    there : (q : ℕ) (f : Effect) → before.next ≤ q → with_left p e left q ≡ Some f → (b : Bool) → nat_eq q p ≡ b
+        → IsPending (slice_get after.rows.items (q - before.next)) f
     there q f behind is true here =
         let same = eqb-true q p here in
         let left_this : e ≡ f = some_same e f (sym (left_here p e left) ∙ ap (with_left p e left) (sym same) ∙ is) in
@@ -106,7 +114,8 @@ noted before after p e row ahead next bytes pending put kept start written left 
     there q f behind is false apart =
         let other : q ≢ p = λ (same : q ≡ p). absurd (elsewhere (sym (eq-eqb q p same) ∙ apart)) in
         let place : q - before.next ≢ p - before.next = λ (same : q - before.next ≡ p - before.next). other (omega arith) in
-        still_pending before.rows.items after.rows.items (q - before.next) f (λ old. kept (q - before.next) old place) (tells.rows q f behind (sym (left_apart p q e left other) ∙ is))
+        still_pending before.rows.items after.rows.items (q - before.next) f (λ old. kept (q - before.next) old place)
+        (tells.rows q f behind (sym (left_apart p q e left other) ∙ is))
       where
         elsewhere : true ≡ false → ⊥
         elsewhere e = cc
@@ -130,7 +139,8 @@ rows_more p b (f ∷ told) e =
 
 -- its row is the last of the log
 pub log_more : (told : List Effect) (e : Effect)
-    → log_of (told ++ e ∷ []) ≡ log_of told ++ row_text (row_of (length told) (length (codes "output\n") + sum_by size_of told + size_of e) e)
+    → log_of (told ++ e ∷ []) ≡ log_of told ++ row_text
+    (row_of (length told) (length (codes "output\n") + sum_by size_of told + size_of e) e)
 log_more told e =
     let last = row_of (0 + length told) (length (codes "output\n") + sum_by size_of told + size_of e) e in
     let number : 0 + length told ≡ length told = omega arith in
@@ -140,7 +150,8 @@ log_more told e =
     ∙ ap (λ n. log_of told ++ row_text (row_of n (length (codes "output\n") + sum_by size_of told + size_of e) e)) number
 
 -- the rows but for the first come one place nearer
-nearer : (rows : List (Option Pending)) (first : Option Pending) (rest : List (Option Pending)) (k : ℕ) → rows ≡ first ∷ rest → slice_get rows (suc k) ≡ slice_get rest k
+nearer : (rows : List (Option Pending)) (first : Option Pending) (rest : List (Option Pending)) (k : ℕ) → rows ≡ first ∷ rest
+    → slice_get rows (suc k) ≡ slice_get rest k
 nearer rows first rest k is = ap (λ all. slice_get all (suc k)) is
 
 -- the row of the next position is the first
@@ -170,28 +181,34 @@ abbrev pub parts_text : (position bytes : ℕ) → (groups : List ℕ) → List 
 parts_text p bytes groups = signed_decimal (pos p) ++ codes " " ++ signed_decimal (pos bytes) ++ groups
 
 -- it is the row by which the log grows
-log_grows : (told : List Effect) (e : Effect) (row : Pending) (p before bytes : ℕ) → p ≡ length told → before ≡ length (codes "output\n") + sum_by size_of told
-    → bytes ≡ before + row.size → IsPending (Some (Some row)) e → log_of (told ++ e ∷ []) ≡ log_of told ++ parts_text p bytes row.groups.items
+log_grows : (told : List Effect) (e : Effect) (row : Pending) (p before bytes : ℕ) → p ≡ length told
+    → before ≡ length (codes "output\n") + sum_by size_of told
+    → bytes ≡ before + row.size → IsPending (Some (Some row)) e
+    → log_of (told ++ e ∷ []) ≡ log_of told ++ parts_text p bytes row.groups.items
 log_grows told e row p before bytes at so_far sum pending =
     let size : row.size ≡ size_of e = pending.1 in
     let all : length (codes "output\n") + sum_by size_of told + size_of e ≡ bytes = omega arith in
     log_more told e ∙ (λ i. log_of told ++ parts_text (sym at i) (all i) (sym pending.0 i))
 
 -- a position was told
-pub told_one : (before after : LogNotes) (row : Pending) (p : ℕ) (written later : Option (List ℕ)) → before.rows.items ≡ Some row ∷ after.rows.items
-    → after.next ≡ before.next + 1 → after.bytes ≡ before.bytes + row.size → Appends written later (parts_text p after.bytes row.groups.items)
+pub told_one : (before after : LogNotes) (row : Pending) (p : ℕ) (written later : Option (List ℕ))
+    → before.rows.items ≡ Some row ∷ after.rows.items
+    → after.next ≡ before.next + 1 → after.bytes ≡ before.bytes + row.size
+    → Appends written later (parts_text p after.bytes row.groups.items)
     → NotesRetired (Tells before) (Tells after) written later p
 told_one before after row p written later is next bytes out start left told e tells at left_is =
     let pending = first_pending before (Some row) after.rows.items p e is tells at left_is in
     record {
       log = subst (Appends start later) (sym (log_grows told e row p before.bytes after.bytes at tells.bytes bytes pending))
           (Appends-append start written later (log_of told) (parts_text p after.bytes row.groups.items) tells.log out);
-      bytes = (let all = sum_by_push size_of told e in let so_far = tells.bytes in let size : row.size ≡ size_of e = pending.1 in omega arith);
+      bytes =
+          (let all = sum_by_push size_of told e in let so_far = tells.bytes in let size : row.size ≡ size_of e = pending.1 in omega arith);
       next = (let count = length-append told (e ∷ []) in let so_far = tells.next in omega arith);
       rows = λ q f behind there.
           let ahead : before.next ≤ q = omega arith in
           let place : q - before.next ≡ suc (q - after.next) = omega arith in
-          subst (λ o. IsPending o f) (ap (slice_get before.rows.items) place ∙ nearer before.rows.items (Some row) after.rows.items (q - after.next) is)
+          subst (λ o. IsPending o f) (ap (slice_get before.rows.items) place
+          ∙ nearer before.rows.items (Some row) after.rows.items (q - after.next) is)
           (tells.rows q f ahead there);
     }
 
@@ -205,7 +222,8 @@ front_is told e =
     ap (λ n. take n (told ++ e ∷ [])) front ∙ take-append_seam told (e ∷ [])
 
 -- a part of the text by which the log grows
-part_out : (told : List Effect) (e : Effect) (text : List ℕ) (start written later : Option (List ℕ)) → log_of (told ++ e ∷ []) ≡ log_of told ++ text
+part_out : (told : List Effect) (e : Effect) (text : List ℕ) (start written later : Option (List ℕ))
+    → log_of (told ++ e ∷ []) ≡ log_of told ++ text
     → Appends start written (log_of told) → AppendsPrefix written later text → TellsPart start later (told ++ e ∷ [])
 part_out told e text start written later grows all (n, taken) =
     let front = ap (λ effects. length (log_of effects)) (front_is told e) in (
@@ -216,11 +234,14 @@ part_out told e text start written later grows all (n, taken) =
     )
 
 -- a position was told in part
-pub told_part : (before : LogNotes) (row : Pending) (rest : List (Option Pending)) (p bytes : ℕ) (written later : Option (List ℕ)) → before.rows.items ≡ Some row ∷ rest
-    → bytes ≡ before.bytes + row.size → AppendsPrefix written later (parts_text p bytes row.groups.items) → NotesPart (Tells before) TellsPart written later p
+pub told_part : (before : LogNotes) (row : Pending) (rest : List (Option Pending)) (p bytes : ℕ) (written later : Option (List ℕ))
+    → before.rows.items ≡ Some row ∷ rest
+    → bytes ≡ before.bytes + row.size → AppendsPrefix written later (parts_text p bytes row.groups.items)
+    → NotesPart (Tells before) TellsPart written later p
 told_part before row rest p bytes written later is sum out start left told e tells at left_is =
     part_out told e (parts_text p bytes row.groups.items) start written later
-    (log_grows told e row p before.bytes bytes at tells.bytes sum (first_pending before (Some row) rest p e is tells at left_is)) tells.log out
+    (log_grows told e row p before.bytes bytes at tells.bytes sum (first_pending before (Some row) rest p e is tells at left_is)) tells.log
+    out
 
 -- nothing was told of it
 pub told_nothing : (before : LogNotes) (p : ℕ) (written : Option (List ℕ)) → NotesPart (Tells before) TellsPart written written p

@@ -23,5 +23,6 @@ CountLaw =
 -- a row has its position, and how many bytes the text has up to the end of the lines of that
 abbrev pub BytesLaw : Type 0
 BytesLaw =
-    (program : Program) (inputs : Inputs) (limits : Limits) (p : ℕ) (row : Row) → slice_get (rows_of (left_in_order program inputs limits)) p ≡ Some row
+    (program : Program) (inputs : Inputs) (limits : Limits) (p : ℕ) (row : Row)
+    → slice_get (rows_of (left_in_order program inputs limits)) p ≡ Some row
     → (row.position ≡ pos p) × (row.bytes ≡ pos (length (text_of_first (suc p) program inputs limits)))

@@ -3,8 +3,8 @@ use Rattle.std.specs.Prelude.{ℕ, ℤ, List, [], ◌∷◌, ◌++◌, codes, fl
 use Rattle.std.specs.Fmt.{signed_decimal}
 use Rattle.restart_log.specs.Lines.{spaced}
 
--- a row: a position, the bytes of the text up to the end of its lines, the registers that it left to its thread and to a child, and the cells that it
--- wrote, each with its value
+-- a row: a position, the bytes of the text up to the end of its lines, the registers that it left to its thread and to
+-- a child, and the cells that it wrote, each with its value
 pub record Row : Type 0 where
   pub position : ℤ
   pub bytes : ℤ

@@ -7,7 +7,8 @@ use Rattle.retirement_log.specs.Log.{row_of, size_of, log_of}
 use Rattle.retirement_log.specs.declared.notes.Pending.{Pending}
 use Rattle.retirement_log.specs.declared.notes.LogNotes.{LogNotes}
 
--- the groups of the row of a position that left this, and how many bytes its lines have; the groups have neither the position nor the bytes before them
+-- the groups of the row of a position that left this, and how many bytes its lines have; the groups have neither the
+-- position nor the bytes before them
 abbrev pub IsPending : Option (Option Pending) → Effect → Type 0
 IsPending (Some (Some row)) e = (row.groups.items ≡ groups_text (row_of 0 0 e)) × (row.size ≡ size_of e)
 IsPending other e = ⊥
@@ -25,8 +26,8 @@ KeepsOthers at before after =
 abbrev pub LacksFirst : List (Option Pending) → Type 0
 LacksFirst rows = (row : Pending) → slice_get rows 0 ≡ Some (Some row) → ⊥
 
--- The sink took the log of what has retired. The notes have the number of these positions, and of the bytes of the text up to the end of their lines, and the
--- row of each later position, as the last of its results that was noted left it.
+-- The sink took the log of what has retired. The notes have the number of these positions, and of the bytes of the text
+-- up to the end of their lines, and the row of each later position, as the last of its results that was noted left it.
 pub record Tells (notes : LogNotes) (start written : Option (List ℕ)) (left : ℕ → Option Effect) (told : List Effect) : Type 0 where
   pub log : Appends start written (log_of told)
   pub bytes : notes.bytes ≡ length (codes "output\n") + sum_by size_of told

@@ -1,4 +1,7 @@
--- Where attempts began and what settles waited for, after each event that is allowed.
+-- Where attempts began and what settles waited for, after each event that is allowed. Of two positions the later one
+-- did not begin earlier, and all before a settle that was issued has retired (DrivingStands). An issue begins at the
+-- front, past all others; what is rolled back is all from a cut on, and begins again at the front; the other events
+-- leave beginnings as they are.
 use Rattle.std.proofs.Common.{◌≡◌, inl, inr, ℕ, ◌+◌, ◌<◌, ◌≤◌, Bool, true, false, cond, List, [], ◌∷◌, Option, Some, None, ap, subst, ◌∙◌, arith}
 use Rattle.std.proofs.lemmas.Bool.{cases_lt}
 use Rattle.gp_base.specs.declared.limits.TheConstants.{LONGEST_DELAY}

@@ -1,4 +1,7 @@
--- A journal by blocks is narrower, and nothing of a block that has begun to retire is rolled back.
+-- A journal by blocks is narrower, and nothing of a block that has begun to retire is rolled back. A position of a
+-- block of which some has retired was issued, and no fault names its attempt; so it is not struck, and no rollback goes
+-- back before what has retired. Where the present attempt is posted all before its block is applied, so that what is
+-- out is of one block. Each event that is allowed by blocks keeps both.
 use Rattle.std.proofs.Common.{◌≡◌, inl, inr, ℕ, ◌+◌, ◌<◌, ◌≤◌, Bool, true, false, cond, nat_eq, ◌&&◌, List, [], ◌∷◌, ◌++◌, Contains, Option, Some, None, refl, sym, ap, subst, ◌∙◌, arith, nat_le}
 use Rattle.std.proofs.lemmas.Bool.{both_ways, false_from_ne_true, le-leb, and_from, or_cases, or_right, eqb-true, cases_lt}
 use Rattle.std.proofs.lemmas.List.Elements.{All-contains, Contains-push_cases}

@@ -1,4 +1,7 @@
--- What a run that rolls back holds stands after each event that is allowed, and a complete journal leaves what the plain run leaves.
+-- What a run that rolls back holds stands after each event that is allowed, and a complete journal leaves what the
+-- plain run leaves. No histories are kept; with those that could have been kept what is held is a history buffer
+-- (as_buffer), so that each event but a rollback goes as there (RunBuffers). A rollback puts back the fold before the
+-- cut, and what is applied after it lies before the cut.
 use Rattle.std.proofs.Common.{◌≡◌, inl, inr, ℕ, zero, suc, ◌+◌, ◌<◌, ◌≤◌, Bool, true, false, cond, ◌&&◌, ◌||◌, List, [], ◌∷◌, Contains, Option, Some, None, nat_eq, refl, sym, ap, subst, ◌∙◌, arith, slice_get}
 use Rattle.std.proofs.lemmas.Bool.{false≢true, false_from_ne_true, both_ways, or_right, cases_lt}
 use Rattle.gp_base.specs.declared.limits.Limits.{Limits}

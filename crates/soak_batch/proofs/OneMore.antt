@@ -3,7 +3,8 @@ use Rattle.std.proofs.Common.{◌≡◌, ℕ, suc, ◌+◌, ◌-◌, ◌<◌, Li
 use Rattle.soak_batch.specs.Draws.{after_row}
 use Rattle.soak_batch.specs.Rows.{row, account_rows, move_row, move_rows, after_rows, fault_row, fault_rows}
 
-pub account_more : (most account : ℕ) (text after all : List ℕ) → account < most → text ++ account_rows account (most - account) ≡ all → after ≡ text ++ row account (1000 ∷ [])
+pub account_more : (most account : ℕ) (text after all : List ℕ) → account < most → text ++ account_rows account (most - account) ≡ all
+    → after ≡ text ++ row account (1000 ∷ [])
     → after ++ account_rows (account + 1) (most - (account + 1)) ≡ all
 account_more most account text after all less so_far put =
     let rest = most - (account + 1) in
@@ -14,7 +15,8 @@ account_more most account text after all less so_far put =
     ∙ sym (ap (λ n. text ++ account_rows account n) left)
     ∙ so_far
 
-pub move_more : (count made state next : ℕ) (text after all : List ℕ) → made < count → text ++ move_rows (count - made) state ≡ all → after ≡ text ++ move_row state → next ≡ after_row state
+pub move_more : (count made state next : ℕ) (text after all : List ℕ) → made < count → text ++ move_rows (count - made) state ≡ all
+    → after ≡ text ++ move_row state → next ≡ after_row state
     → after ++ move_rows (count - (made + 1)) next ≡ all
 move_more count made state next text after all less so_far put drew =
     let rest = count - (made + 1) in
@@ -25,13 +27,15 @@ move_more count made state next text after all less so_far put drew =
     ∙ sym (ap (λ n. text ++ move_rows n state) left)
     ∙ so_far
 
-pub state_more : (count made state next last : ℕ) → made < count → after_rows (count - made) state ≡ last → next ≡ after_row state → after_rows (count - (made + 1)) next ≡ last
+pub state_more : (count made state next last : ℕ) → made < count → after_rows (count - made) state ≡ last → next ≡ after_row state
+    → after_rows (count - (made + 1)) next ≡ last
 state_more count made state next last less so_far drew =
     let rest = count - (made + 1) in
     let left : count - made ≡ suc rest = omega arith in
     ap (after_rows rest) drew ∙ sym (ap (λ n. after_rows n state) left) ∙ so_far
 
-pub fault_more : (width most part state next : ℕ) (text after all : List ℕ) → part < most → text ++ fault_rows width part (most - part) state ≡ all → after ≡ text ++ fault_row width part state
+pub fault_more : (width most part state next : ℕ) (text after all : List ℕ) → part < most
+    → text ++ fault_rows width part (most - part) state ≡ all → after ≡ text ++ fault_row width part state
     → next ≡ after_row state → after ++ fault_rows width (part + 1) (most - (part + 1)) next ≡ all
 fault_more width most part state next text after all less so_far put drew =
     let rest = most - (part + 1) in

@@ -10,8 +10,9 @@ subthreads moves = 4 * moves + 25
 abbrev pub width : (moves : ℕ) → ℕ
 width moves = subthreads moves / 40
 
--- The program's text. Eight threads carry out the moves of a feed between accounts, each eighth move by one of them. A move takes the locks of its two
--- accounts in rising order, and is left out where an account would go below 0; their number is printed.
+-- The program's text. Eight threads carry out the moves of a feed between accounts, each eighth move by one of them. A
+-- move takes the locks of its two accounts in rising order, and is left out where an account would go below 0; their
+-- number is printed.
 unfoldable pub program_text : List ℕ
 program_text =
     codes "lock bank[100];\n"

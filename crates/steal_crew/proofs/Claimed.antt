@@ -16,21 +16,31 @@ total (suc m) xs = total m xs + times m xs
 total_none : (m : ℕ) → total m [] ≡ 0
 unfolding total
 total_none zero = refl
-total_none (suc m) = let rest = total_none m in let none : times m [] ≡ 0 = refl in let whole : total (suc m) [] ≡ total m [] + times m [] = refl in omega arith
+total_none (suc m) =
+    let rest = total_none m in
+    let none : times m [] ≡ 0 = refl in
+    let whole : total (suc m) [] ≡ total m [] + times m [] = refl in
+    omega arith
 
 -- a number below m adds one, another none
 total_else : (m x : ℕ) (xs : List ℕ) → m ≤ x → total m (x ∷ xs) ≡ total m xs
 unfolding total
 total_else zero x xs l = refl
-total_else (suc m) x xs l = let rest = total_else m x xs (omega arith) in let one = one_other m x (λ e. omega arith) in let cons = times_cons m x xs in
-    let before : total (suc m) (x ∷ xs) ≡ total m (x ∷ xs) + times m (x ∷ xs) = refl in let after : total (suc m) xs ≡ total m xs + times m xs = refl in omega arith
+total_else (suc m) x xs l =
+    let rest = total_else m x xs (omega arith) in
+    let one = one_other m x (λ e. omega arith) in
+    let cons = times_cons m x xs in
+    let before : total (suc m) (x ∷ xs) ≡ total m (x ∷ xs) + times m (x ∷ xs) = refl in
+    let after : total (suc m) xs ≡ total m xs + times m xs = refl in
+    omega arith
 
 total_one : (m x : ℕ) (xs : List ℕ) → x < m → total m (x ∷ xs) ≡ total m xs + 1
 unfolding total
 total_one zero x xs l = absurd (omega arith)
 total_one (suc m) x xs l =
     let cons = times_cons m x xs in
-    let before : total (suc m) (x ∷ xs) ≡ total m (x ∷ xs) + times m (x ∷ xs) = refl in let after : total (suc m) xs ≡ total m xs + times m xs = refl in
+    let before : total (suc m) (x ∷ xs) ≡ total m (x ∷ xs) + times m (x ∷ xs) = refl in
+    let after : total (suc m) xs ≡ total m xs + times m xs = refl in
     dite (ℕ_discrete x m)
     (λ e. let one = one_same m x e in let rest = total_else m x xs (omega arith) in omega arith)
     (λ ne. let one = one_other m x ne in let rest = total_one m x xs (omega arith) in omega arith)
@@ -39,7 +49,9 @@ total_one (suc m) x xs l =
 total_length : (m : ℕ) (xs : List ℕ) → ((k : ℕ) → m ≤ k → times k xs ≡ 0) → total m xs ≡ length xs
 total_length m [] none = total_none m
 total_length m (x ∷ xs) none =
-    let below : x < m = dite (dec_le m x) (λ l. absurd (let past = none x l in let cons = times_cons x x xs in let one = one_same x x refl in omega arith)) (λ n. lt_of_not-le n) in
+    let below : x < m =
+    dite (dec_le m x) (λ l. absurd (let past = none x l in let cons = times_cons x x xs in let one = one_same x x refl in omega arith))
+    (λ n. lt_of_not-le n) in
     let rest = total_length m xs (λ k l. let past = none k l in let cons = times_cons k x xs in omega arith) in
     let more = total_one m x xs below in omega arith
 

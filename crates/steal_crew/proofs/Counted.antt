@@ -16,8 +16,10 @@ AreCountedIn sum crew = (crew.failed ≡ false → sum + length crew.out ≡ len
 
 -- a post leaves that so
 pub posted_counted : {A E : Type 0} (result : Result A E) (before after : CrewState) (task : Task) (sum : ℕ)
-    → OnOk result (after ≡ record before { out = before.out ++ task ∷ []; posted = before.posted ++ pair_of task ∷ [] }) → OnErr result (after ≡ record before { failed = true })
-    → (before.failed ≡ false → sum + length before.out ≡ length before.posted) → sum + length before.out ≤ length before.posted → AreCountedIn sum after
+    → OnOk result (after ≡ record before { out = before.out ++ task ∷ []; posted = before.posted ++ pair_of task ∷ [] })
+    → OnErr result (after ≡ record before { failed = true })
+    → (before.failed ≡ false → sum + length before.out ≡ length before.posted) → sum + length before.out ≤ length before.posted
+    → AreCountedIn sum after
 posted_counted (Ok x) before after task sum ok err counted most =
     let out : length (before.out ++ task ∷ []) ≡ length before.out + 1 = length-append before.out (task ∷ []) in
     let posted : length (before.posted ++ pair_of task ∷ []) ≡ length before.posted + 1 = length-append before.posted (pair_of task ∷ []) in
@@ -25,7 +27,8 @@ posted_counted (Ok x) before after task sum ok err counted most =
 posted_counted (Err x) before after task sum ok err counted most = subst (AreCountedIn sum) (sym err) ((λ e. absurd (true≢false e)), most)
 
 -- the run at the front of those at hand is taken out of what is out
-pub taken_first : (w : Work) (found : Option Done) (before after : List Done) (waits out : List Task) → before ≡ option_to_list found ++ after
+pub taken_first : (w : Work) (found : Option Done) (before after : List Done) (waits out : List Task)
+    → before ≡ option_to_list found ++ after
     → map (task_of w) before ++ waits ≡ out → IfSome found (λ run. TakesOut out (task_of w run) (map (task_of w) after ++ waits))
 taken_first w None before after waits out items whole = tt
 taken_first w (Some run) before after waits out items whole = record {

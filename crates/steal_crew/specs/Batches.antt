@@ -14,13 +14,15 @@ abbrev pub AreCounted : Work → List Task → List Done × (ℕ × ℕ × ℕ) 
 AreCounted w ts ran = AreRuns w ts ran.0 × (sum_of_three ran.1 ≡ length ts)
 
 -- a function may be called with all tasks that fit w, and what it gives are their runs, counted
-pub record RunsAll {E : Type 0} (w : Work) (may_call : List Task → Type 0) (may_give : List Task → Result (List Done × (ℕ × ℕ × ℕ)) E → Type 0) : Type 0 where
+pub record RunsAll {E : Type 0} (w : Work) (may_call : List Task → Type 0)
+    (may_give : List Task → Result (List Done × (ℕ × ℕ × ℕ)) E → Type 0) : Type 0 where
   pub callable : (ts : List Task) → All (Fits w) ts → may_call ts
   pub gives : (ts : List Task) (result : Result (List Done × (ℕ × ℕ × ℕ)) E) → may_give ts result → IfOk result (AreCounted w ts)
 
 -- Between two calls: the function runs all, what is at hand are runs, and each task that was posted and does not wait is counted,
 -- unless memory ran out; then it may not be.
-pub record IsReady {E : Type 0} (inbox : CrewState) (may_call : List Task → Type 0) (may_give : List Task → Result (List Done × (ℕ × ℕ × ℕ)) E → Type 0) (runs : List Done) (counts : Counts) : Type 0 where
+pub record IsReady {E : Type 0} (inbox : CrewState) (may_call : List Task → Type 0)
+    (may_give : List Task → Result (List Done × (ℕ × ℕ × ℕ)) E → Type 0) (runs : List Done) (counts : Counts) : Type 0 where
   pub runs_all : RunsAll inbox.work may_call may_give
   pub are_runs : All (IsRun inbox.work) runs
   pub counted : inbox.failed ≡ false → sum_of counts + length inbox.out ≡ length inbox.posted

@@ -28,14 +28,19 @@ module _ (heads : List Head) where
   under_cases lock =
       let many = length-numbers 0 (cells_in (locks_of heads)) in
       elim (cases_lt lock (length (numbers 0 (cells_in (locks_of heads))))) [
-        | inl l ↦ inl (get_or-map (cells_under heads) (numbers 0 (cells_in (locks_of heads))) lock 0 [] l ∙ ap (cells_under heads) (get-numbers 0 (cells_in (locks_of heads)) lock 0 (omega arith) ∙ omega arith))
-        | inr l ↦ inr (let all = length-map (numbers 0 (cells_in (locks_of heads))) (cells_under heads) in get_or_past (layout heads).under lock [] (omega arith))
+        | inl l ↦
+            inl (get_or-map (cells_under heads) (numbers 0 (cells_in (locks_of heads))) lock 0 [] l
+            ∙ ap (cells_under heads) (get-numbers 0 (cells_in (locks_of heads)) lock 0 (omega arith) ∙ omega arith))
+        | inr l ↦
+            inr (let all = length-map (numbers 0 (cells_in (locks_of heads))) (cells_under heads) in
+            get_or_past (layout heads).under lock [] (omega arith))
       ]
 
   over_there : (lock c : ℕ) → Contains (cells_under heads lock) c → lock_over (locks_of heads) heads c ≡ Some lock
   over_there lock c there =
       is_over lock (lock_over (locks_of heads) heads c)
-      (All-contains (λ d. is_lock_cell lock (lock_over (locks_of heads) heads d) ≡ true) (cells_under heads lock) c (filter_passes (λ d. is_lock_cell lock (lock_over (locks_of heads) heads d)) (numbers 0 (cells_in (records_of heads)))) there)
+      (All-contains (λ d. is_lock_cell lock (lock_over (locks_of heads) heads d) ≡ true) (cells_under heads lock) c
+      (filter_passes (λ d. is_lock_cell lock (lock_over (locks_of heads) heads d)) (numbers 0 (cells_in (records_of heads)))) there)
 
   over_found : (lock c : ℕ) → Contains (under_lock (layout heads).under lock) c → lock_over (locks_of heads) heads c ≡ Some lock
   over_found lock c there =
@@ -44,15 +49,19 @@ module _ (heads : List Head) where
         | inr none ↦ absurd (let some = there.1 in let empty = ap length none in omega arith)
       ]
 
-  cells_rise : ((lock : ℕ) → IsStrictlyIncreasing (cells_under heads lock)) → (lock : ℕ) → IsStrictlyIncreasing (under_lock (layout heads).under lock)
+  cells_rise : ((lock : ℕ) → IsStrictlyIncreasing (cells_under heads lock)) → (lock : ℕ)
+      → IsStrictlyIncreasing (under_lock (layout heads).under lock)
   cells_rise rise lock =
       elim (under_cases lock) [
         | inl is ↦ subst IsStrictlyIncreasing (sym is) (rise lock)
         | inr none ↦ subst IsStrictlyIncreasing (sym none) (λ k less. absurd (omega arith))
       ]
 
-pub searchable : (program : Program) → IsAccepted program → (over : List ℕ) → ((cell : ℕ) → slice_get over cell ≡ lock_over (locks_of program.heads) program.heads cell) → (bundles : List Bundle) → IsStrictlyIncreasing (map lock_in bundles)
-    → All (λ (b : Bundle). length b.cells ≡ length (under_lock (layout program.heads).under b.lock)) bundles → AreSearchable (layout program.heads).under over bundles
+pub searchable : (program : Program) → IsAccepted program → (over : List ℕ)
+    → ((cell : ℕ) → slice_get over cell ≡ lock_over (locks_of program.heads) program.heads cell) → (bundles : List Bundle)
+    → IsStrictlyIncreasing (map lock_in bundles)
+    → All (λ (b : Bundle). length b.cells ≡ length (under_lock (layout program.heads).under b.lock)) bundles
+    → AreSearchable (layout program.heads).under over bundles
 searchable program accepted over over_is bundles rises sizes =
     record {
       over_is = λ cell lock there. over_is cell ∙ over_found program.heads lock cell there;

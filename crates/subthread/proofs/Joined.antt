@@ -26,7 +26,8 @@ use Rattle.subthread.specs.declared.task.Done.{Done}
 use Rattle.subthread.specs.Tasks.{task_of, place_of, program_in, machine_of, under_of, body_from, actions_from, IsRun, Suits}
 use Rattle.subthread.specs.Joining.{IsTaskOf, IsGiven, Runs, RunsLaw}
 
-module _ (work : Work) (cells : Layout) (inputs : Inputs) (limits : Limits) (suits : Suits work cells inputs limits) (p : ℕ) (s : Subthread) (task : Task) (is_task : IsTaskOf work inputs limits p s task) where
+module _ (work : Work) (cells : Layout) (inputs : Inputs) (limits : Limits) (suits : Suits work cells inputs limits) (p : ℕ) (s : Subthread)
+    (task : Task) (is_task : IsTaskOf work inputs limits p s task) where
   abbrev tree : Machine Point
   tree = tree_machine (program_in work) inputs limits
 
@@ -53,7 +54,8 @@ module _ (work : Work) (cells : Layout) (inputs : Inputs) (limits : Limits) (sui
   body_is : body_from work task.begins.sync task.child (place_of task) ≡ here
   body_is = λ i. (machine_is i).bodies ((machine_is i).begins (is_task.begins i).sync (is_task.child i) (place_of task))
 
-  agrees : Agrees (Rests (program_in work) (body_at (program_in work) inputs limits p s).next.sync) (body_at (program_in work) inputs limits p s) here
+  agrees : Agrees (Rests (program_in work) (body_at (program_in work) inputs limits p s).next.sync)
+      (body_at (program_in work) inputs limits p s) here
   agrees = follows.bodies s.begins.sync s.child point (place_of task) is_task.place
 
   -- the actions of the task are those of the subthread
@@ -64,19 +66,25 @@ module _ (work : Work) (cells : Layout) (inputs : Inputs) (limits : Limits) (sui
 
   -- on what was given the actions do what they do on the state
   done_on : (state : State) → IsGiven work inputs limits task state
-      → effect_on task.thread task.child (actions_from work task.begins.sync task.child (place_of task)) (found_of (under_of work) task.given) ≡ effect s.thread s.begins.sync s.child s.actions state
+      → effect_on task.thread task.child (actions_from work task.begins.sync task.child (place_of task))
+      (found_of (under_of work) task.given) ≡ effect s.thread s.begins.sync s.child s.actions state
   done_on state given =
-      (λ i. effect_on (is_task.thread i) (is_task.child i) (actions_are i) (found_of (under_of work) ((given ∙ (λ j. given_of (under_of work) state (is_task.thread j) (joined_by (is_task.begins j).sync) (is_task.held j))) i)))
-      ∙ given_law (under_of work) s.held s.thread s.begins.sync s.child s.actions state (sound (program_in work) inputs limits suits.code.accepted p s is_task.position)
+      (λ i. effect_on (is_task.thread i) (is_task.child i) (actions_are i)
+      (found_of (under_of work) ((given ∙ (λ j.
+      given_of (under_of work) state (is_task.thread j) (joined_by (is_task.begins j).sync) (is_task.held j))) i)))
+      ∙ given_law (under_of work) s.held s.thread s.begins.sync s.child s.actions state
+      (sound (program_in work) inputs limits suits.code.accepted p s is_task.position)
 
-module _ (work : Work) (cells : Layout) (inputs : Inputs) (limits : Limits) (suits : Suits work cells inputs limits) (p : ℕ) (s : Subthread) (done : Done) (is_task : IsTaskOf work inputs limits p s (task_of work done)) (run : IsRun work done) where
+module _ (work : Work) (cells : Layout) (inputs : Inputs) (limits : Limits) (suits : Suits work cells inputs limits) (p : ℕ) (s : Subthread)
+    (done : Done) (is_task : IsTaskOf work inputs limits p s (task_of work done)) (run : IsRun work done) where
   abbrev task_run : Task
   task_run = task_of work done
 
   bodies : body_from work task_run.begins.sync task_run.child (place_of task_run) ≡ here work cells inputs limits suits p s task_run is_task
   bodies = body_is work cells inputs limits suits p s task_run is_task
 
-  agreeing : Agrees (Rests (program_in work) (body_at (program_in work) inputs limits p s).next.sync) (body_at (program_in work) inputs limits p s) (here work cells inputs limits suits p s task_run is_task)
+  agreeing : Agrees (Rests (program_in work) (body_at (program_in work) inputs limits p s).next.sync)
+      (body_at (program_in work) inputs limits p s) (here work cells inputs limits suits p s task_run is_task)
   agreeing = agrees work cells inputs limits suits p s task_run is_task
 
   same_actions : actions_from work task_run.begins.sync task_run.child (place_of task_run) ≡ s.actions
@@ -85,10 +93,15 @@ module _ (work : Work) (cells : Layout) (inputs : Inputs) (limits : Limits) (sui
   pub runs : Runs work inputs limits p s done
   runs = record {
     next = run.next_is ∙ ap (λ (b : Body Place). b.next) bodies ∙ sym agreeing.next;
-    place = subst (λ q. Rests (program_in work) (body_at (program_in work) inputs limits p s).next.sync (body_at (program_in work) inputs limits p s).at q) (sym (run.place_is ∙ ap (λ (b : Body Place). b.at) bodies)) agreeing.at;
-    given = run.effect_is ∙ (λ i. damaged task_run.mask (effect_on (is_task.thread i) (is_task.child i) (same_actions i) (found_of (under_of work) task_run.given)));
+    place =
+        subst (λ q. Rests (program_in work) (body_at (program_in work) inputs limits p s).next.sync
+        (body_at (program_in work) inputs limits p s).at q) (sym (run.place_is ∙ ap (λ (b : Body Place). b.at) bodies)) agreeing.at;
+    given =
+        run.effect_is ∙ (λ i. damaged task_run.mask
+        (effect_on (is_task.thread i) (is_task.child i) (same_actions i) (found_of (under_of work) task_run.given)));
     foot = run.foot_is ∙ (λ i. footprint (is_task.thread i) (is_task.begins i).sync (is_task.child i) (same_actions i));
-    on = λ state given. run.effect_is ∙ ap (damaged task_run.mask) (done_on work cells inputs limits suits p s task_run is_task state given);
+    on =
+        λ state given. run.effect_is ∙ ap (damaged task_run.mask) (done_on work cells inputs limits suits p s task_run is_task state given);
   }
 
 pub runs_law : RunsLaw

@@ -1,4 +1,6 @@
--- Steps and walks of the control alone.
+-- Steps and walks of the control alone. A step whose instruction is no data statement does no action; a data
+-- statement's action is done as well. What is left of a body ends as the whole body (Leads), so that a walk from the
+-- synchronisation on goes through all of it.
 use Rattle.std.proofs.Common.{◌≡◌, ℕ, zero, suc, ◌+◌, ◌-◌, ◌*◌, ◌<◌, List, [], length, Option, Some, None, Result, IfOk, refl, sym, ap, ◌∙◌, subst}
 use Rattle.std.specs.Prelude.{ℤ, pos, negsuc, slice_get, ⊤}
 use Rattle.std.specs.declared.alloc.AllocError.{AllocError}
@@ -199,7 +201,8 @@ module _ (work : Work) (ground : Ground) (at : At) (thread : ℕ) (is : IsContro
         → body_in ground work.turns (place_in ground middle) ≡ whole
     body_is middle begun =
         ap (body_in ground work.turns) begun
-        ∙ (λ i. let tasks = (code_of (is.code i)).tasks in code_body tasks (is.feeds i) work.turns (code_begins tasks begins child (starts i)))
+        ∙ (λ i. let tasks = (code_of (is.code i)).tasks in
+        code_body tasks (is.feeds i) work.turns (code_begins tasks begins child (starts i)))
 
     -- so a walk from there goes through the whole body
     pub whole_led : (middle then : Stand) (next : Next)

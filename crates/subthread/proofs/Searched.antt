@@ -42,10 +42,12 @@ module _ {X : Type 0} (key : X → ℕ) (xs : List X) (rises : IsStrictlyIncreas
   -- the comparisons rise, as a binary search asks
   comparisons_rise : IsNonDecreasingBy (λ x. ordering_index (nat_cmp (key x) n)) xs
   comparisons_rise = IsNonDecreasingBy-from_default (λ x. ordering_index (nat_cmp (key x) n)) xs d (λ i j le inside.
-      let rise : key (get_or xs i d) ≤ key (get_or xs j d) = grind (arith, keys_rise i j, λ (same : i ≡ j). ap (λ k. key (get_or xs k d)) same) in
+      let rise : key (get_or xs i d) ≤ key (get_or xs j d) =
+      grind (arith, keys_rise i j, λ (same : i ≡ j). ap (λ k. key (get_or xs k d)) same) in
       grind (arith, nat_tests))
 
-  searched_from : (r : Result ℕ ℕ) → IsSearchInRange r (length xs) → IsBinarySearchResult (λ x. nat_cmp (key x) n) xs r → IsPlaceIn (map key xs) n (result_ok r)
+  searched_from : (r : Result ℕ ℕ) → IsSearchInRange r (length xs) → IsBinarySearchResult (λ x. nat_cmp (key x) n) xs r
+      → IsPlaceIn (map key xs) n (result_ok r)
   searched_from (Ok k) inside equal = (omega (arith, many), at k inside ∙ ranked _ n _ (sym (equal d)))
   searched_from (Err gap) inside parted = λ k below same.
       let in_xs : k < length xs = omega (arith, many) in
@@ -59,7 +61,8 @@ nothing : (n : ℕ) (r : Result ℕ ℕ) → IsSearchInRange r 0 → IsPlaceIn [
 nothing n (Ok k) inside = absurd (omega arith)
 nothing n (Err gap) inside = λ k below same. omega arith
 
-pub searched : {X : Type 0} (key : X → ℕ) (xs : List X) → IsStrictlyIncreasing (map key xs) → (n : ℕ) (r : Result ℕ ℕ) → IsSearchInRange r (length xs) → IsBinarySearchResult (λ x. nat_cmp (key x) n) xs r
+pub searched : {X : Type 0} (key : X → ℕ) (xs : List X) → IsStrictlyIncreasing (map key xs) → (n : ℕ) (r : Result ℕ ℕ)
+    → IsSearchInRange r (length xs) → IsBinarySearchResult (λ x. nat_cmp (key x) n) xs r
     → IsPlaceIn (map key xs) n (result_ok r)
 searched key [] rises n r inside found = nothing n r inside
 searched key (x ∷ xs) rises n r inside found = searched_from key (x ∷ xs) rises n x r inside found

@@ -24,7 +24,8 @@ module _ (work : Work) (inputs : Inputs) (limits : Limits) where
     pub begins : task.begins ≡ s.begins
     pub child : task.child ≡ s.child
     pub held : task.held ≡ s.held
-    pub place : Rests (program_in work) s.begins.sync (from_in (program_in work) inputs limits (before (program_in work) inputs limits p) s.begins.sync s.thread) (place_of task)
+    pub place : Rests (program_in work) s.begins.sync
+        (from_in (program_in work) inputs limits (before (program_in work) inputs limits p) s.begins.sync s.thread) (place_of task)
 
   -- the task was given what its subthread finds in a state
   abbrev pub IsGiven : Task → State → Type 0
@@ -34,16 +35,20 @@ module _ (work : Work) (inputs : Inputs) (limits : Limits) where
   -- actions do on what was given, and on a state where that was what it finds there
   pub record Runs (p : ℕ) (s : Subthread) (done : Done) : Type 0 where
     pub next : done.next ≡ (body_at (program_in work) inputs limits p s).next
-    pub place : Rests (program_in work) (body_at (program_in work) inputs limits p s).next.sync (body_at (program_in work) inputs limits p s).at (place_left done)
-    pub given : effect_of work done ≡ damaged (task_of work done).mask (effect_on s.thread s.child s.actions (found_of (under_of work) (task_of work done).given))
-    pub on : (state : State) → IsGiven (task_of work done) state → effect_of work done ≡ damaged (task_of work done).mask (effect s.thread s.begins.sync s.child s.actions state)
+    pub place : Rests (program_in work) (body_at (program_in work) inputs limits p s).next.sync
+        (body_at (program_in work) inputs limits p s).at (place_left done)
+    pub given : effect_of work done ≡ damaged (task_of work done).mask
+        (effect_on s.thread s.child s.actions (found_of (under_of work) (task_of work done).given))
+    pub on : (state : State) → IsGiven (task_of work done) state
+        → effect_of work done ≡ damaged (task_of work done).mask (effect s.thread s.begins.sync s.child s.actions state)
     pub foot : done.foot ≡ foot_of s
 
 -- a run of a task of the plain run does what the task's subthread does
 abbrev pub RunsLaw : Type 0
 RunsLaw =
     (work : Work) (cells : Layout) (inputs : Inputs) (limits : Limits) → Suits work cells inputs limits
-    → (p : ℕ) (s : Subthread) (done : Done) → IsTaskOf work inputs limits p s (task_of work done) → IsRun work done → Runs work inputs limits p s done
+    → (p : ℕ) (s : Subthread) (done : Done) → IsTaskOf work inputs limits p s (task_of work done) → IsRun work done
+    → Runs work inputs limits p s done
 
 -- a task of the plain run that was given what it finds in a state fits
 abbrev pub FitsLaw : Type 0

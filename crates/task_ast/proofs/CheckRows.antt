@@ -1,4 +1,5 @@
--- Whole programs and what the check answers, each computed.
+-- Whole programs and what the check answers, each computed. Each program but one breaks a rule, and the check answers
+-- the rule and the line; that one has as many cells as there may be, and passes.
 use Rattle.std.proofs.Common.{◌≡◌, refl}
 use Rattle.std.specs.Prelude.{pos, [], ◌∷◌, Some, None, codes}
 use Rattle.task_ast.specs.declared.check_kind.CheckKind.TheVariants.{UnknownName, DataInControl, NotHeld, HeldTwice, HeldAtEnd, BranchesDiffer, IndexChangedWhileHeld, SizesDiffer, TooMany}
@@ -22,7 +23,11 @@ index_changed_main = record {
 }
 
 abbrev pub index_changed : Program
-index_changed = record { heads = ((LockHead (codes "bank") (pos 2) 1) ∷ (RecHead (codes "acct") (pos 2) (codes "bank") None 2) ∷ []); tasks = (index_changed_main ∷ []) }
+index_changed =
+    record {
+      heads = ((LockHead (codes "bank") (pos 2) 1) ∷ (RecHead (codes "acct") (pos 2) (codes "bank") None 2) ∷ []);
+      tasks = (index_changed_main ∷ []);
+    }
 
 is_index_changed : check_fault index_changed ≡ Some (IndexChangedWhileHeld, 6)
 is_index_changed = refl
@@ -40,7 +45,11 @@ other_index_main = record {
 }
 
 abbrev pub other_index : Program
-other_index = record { heads = ((LockHead (codes "bank") (pos 2) 1) ∷ (RecHead (codes "acct") (pos 2) (codes "bank") None 2) ∷ []); tasks = (other_index_main ∷ []) }
+other_index =
+    record {
+      heads = ((LockHead (codes "bank") (pos 2) 1) ∷ (RecHead (codes "acct") (pos 2) (codes "bank") None 2) ∷ []);
+      tasks = (other_index_main ∷ []);
+    }
 
 is_other_index : check_fault other_index ≡ Some (NotHeld, 6)
 is_other_index = refl
@@ -139,7 +148,11 @@ sizes_differ_main = record {
 }
 
 abbrev pub sizes_differ : Program
-sizes_differ = record { heads = ((LockHead (codes "a") (pos 2) 1) ∷ (RecHead (codes "r") (pos 3) (codes "a") None 2) ∷ []); tasks = (sizes_differ_main ∷ []) }
+sizes_differ =
+    record {
+      heads = ((LockHead (codes "a") (pos 2) 1) ∷ (RecHead (codes "r") (pos 3) (codes "a") None 2) ∷ []);
+      tasks = (sizes_differ_main ∷ []);
+    }
 
 is_sizes_differ : check_fault sizes_differ ≡ Some (SizesDiffer, 2)
 is_sizes_differ = refl

@@ -28,10 +28,12 @@ length-with_nth (x ∷ xs) zero f = refl
 length-with_nth (x ∷ xs) (suc n) f = ap suc (length-with_nth xs n f)
 
 -- one member is changed, and the test doesn't see it
-pub count-with_nth-same : {X : Type 0} (p : X → Bool) (f : X → X) → ((x : X) → p (f x) ≡ p x) → (xs : List X) (n : ℕ) → count_by p (with_nth xs n f) ≡ count_by p xs
+pub count-with_nth-same : {X : Type 0} (p : X → Bool) (f : X → X) → ((x : X) → p (f x) ≡ p x) → (xs : List X) (n : ℕ)
+    → count_by p (with_nth xs n f) ≡ count_by p xs
 count-with_nth-same p f same [] n = refl
 count-with_nth-same p f same (x ∷ xs) zero = rw (count-cons p (f x) xs, count-cons p x xs, same x) refl
-count-with_nth-same p f same (x ∷ xs) (suc n) = rw (count-cons p x (with_nth xs n f), count-cons p x xs, count-with_nth-same p f same xs n) refl
+count-with_nth-same p f same (x ∷ xs) (suc n) =
+    rw (count-cons p x (with_nth xs n f), count-cons p x xs, count-with_nth-same p f same xs n) refl
 
 -- all members are changed, and the test doesn't see it
 pub count-map : {X : Type 0} (p : X → Bool) (f : X → X) → ((x : X) → p (f x) ≡ p x) → (xs : List X) → count_by p (map f xs) ≡ count_by p xs
@@ -43,7 +45,8 @@ get-map f [] n x e = absurd (cc e)
 get-map f (y ∷ ys) zero x e = ap Some (ap f (cc e))
 get-map f (y ∷ ys) (suc n) x e = get-map f ys n x e
 
-pub get-with_nth : {X : Type 0} (xs : List X) (n : ℕ) (f : X → X) (x : X) → slice_get xs n ≡ Some x → slice_get (with_nth xs n f) n ≡ Some (f x)
+pub get-with_nth : {X : Type 0} (xs : List X) (n : ℕ) (f : X → X) (x : X) → slice_get xs n ≡ Some x
+    → slice_get (with_nth xs n f) n ≡ Some (f x)
 get-with_nth [] n f x e = absurd (cc e)
 get-with_nth (y ∷ ys) zero f x e = ap Some (ap f (cc e))
 get-with_nth (y ∷ ys) (suc n) f x e = get-with_nth ys n f x e

@@ -1,4 +1,6 @@
--- The plain run comes to an end by its rules.
+-- The plain run comes to an end by its rules. Where each thread's next synchronisation is known (Whole) no turn asks
+-- for one: the token comes to threads that are there, and each rule passes to such a table, issues from it, or ends.
+-- After an issue it is unknown of one thread alone (Begun).
 use Rattle.std.proofs.Common.{◌≡◌, inl, inr, ℕ, zero, suc, ◌+◌, ◌-◌, ◌<◌, ◌≤◌, Bool, true, false, cond, List, [], ◌∷◌, ◌++◌, map, length, Option, Some, None, is_none, nat_lt, nat_le, unwrap_or, refl, sym, ap, ◌∙◌, subst, arith, count_by, option_and_then}
 use Rattle.std.specs.Prelude.{slice_get, pos, negsuc}
 use Rattle.std.proofs.lemmas.Bool.{cases_lt, ltb-true}
@@ -39,14 +41,16 @@ pub record Begun (limit issued t : ℕ) (table : Table) : Type 0 where
 
 -- what turns lead to: an issue, or an end
 pub data Fair (limit issued : ℕ) : Turn → Type 0 where
-  issues : {t : ℕ} {next : Next} {child : Option ℕ} {after : Table} → Begun limit (suc issued) t after → Fair limit issued (Issue t next child after)
+  issues : {t : ℕ} {next : Next} {child : Option ℕ} {after : Table} → Begun limit (suc issued) t after
+      → Fair limit issued (Issue t next child after)
   ends : {ending : End} → Fair limit issued (Ended ending)
 
 pub data Goes (limit issued : ℕ) : Again Table Turn → Type 0 where
   more : {after : Table} → Whole limit issued after → Goes limit issued (More after)
   done : {what : Turn} → Fair limit issued what → Goes limit issued (Done what)
 
-cond_goes : (limit issued : ℕ) (b : Bool) (first second : Again Table Turn) → (b ≡ true → Goes limit issued first) → (b ≡ false → Goes limit issued second) → Goes limit issued (cond b first second)
+cond_goes : (limit issued : ℕ) (b : Bool) (first second : Again Table Turn) → (b ≡ true → Goes limit issued first)
+    → (b ≡ false → Goes limit issued second) → Goes limit issued (cond b first second)
 cond_goes limit issued true first second f s = f refl
 cond_goes limit issued false first second f s = s refl
 
@@ -64,7 +68,8 @@ length_push [] y = refl
 length_push (x ∷ xs) y = ap suc (length_push xs y)
 
 -- the seats after an issue: those before, and a new one after a fork
-after_seats : (op : SyncOp) (xs : List Seat) (t : ℕ) → t < length xs → ((u : ℕ) → u < length xs → (u ≡ t → ⊥) → KnownIn (slice_get xs u)) → option_and_then (λ s. s.next) (slice_get xs t) ≡ None
+after_seats : (op : SyncOp) (xs : List Seat) (t : ℕ) → t < length xs → ((u : ℕ) → u < length xs → (u ≡ t → ⊥) → KnownIn (slice_get xs u))
+    → option_and_then (λ s. s.next) (slice_get xs t) ≡ None
     → (t < length (seats_after op xs)) × (option_and_then (λ s. s.next) (slice_get (seats_after op xs) t) ≡ None)
     × ((u : ℕ) → u < length (seats_after op xs) → (u ≡ t → ⊥) → KnownIn (slice_get (seats_after op xs) u))
 after_seats (sync.Fork task arguments) xs t l others none = (
@@ -75,7 +80,8 @@ after_seats (sync.Fork task arguments) xs t l others none = (
     | inr m ↦
         (let e = length_push xs new_seat in
         let same : u ≡ length xs = omega arith in
-        known_moved (ap (λ o. option_and_then (λ s. s.next) o) (ap (slice_get (xs ++ new_seat ∷ [])) same ∙ get_last xs new_seat)) (record { sync = sync.Start; line = 0 }, refl))
+        known_moved (ap (λ o. option_and_then (λ s. s.next) o) (ap (slice_get (xs ++ new_seat ∷ [])) same ∙ get_last xs new_seat))
+        (record { sync = sync.Start; line = 0 }, refl))
   ],
 )
 after_seats _ xs t l others none = (l, none, others)
@@ -83,7 +89,8 @@ after_seats _ xs t l others none = (l, none, others)
 abbrev begun : ℕ → Seat → Seat
 begun position s = record { next = None; last = Some position; passed = false; stand = Away }
 
-issuing_goes : (limit issued : ℕ) (table : Table) (t : ℕ) (next : Next) → Whole limit issued table → t < length table.seats → Goes limit issued (issuing table t next)
+issuing_goes : (limit issued : ℕ) (table : Table) (t : ℕ) (next : Next) → Whole limit issued table → t < length table.seats
+    → Goes limit issued (issuing table t next)
 issuing_goes limit issued table t next whole t_in =
     cond_goes limit issued (nat_lt table.issued table.limit) _ _
     (λ e. let less : table.issued < table.limit = ltb-true _ _ e in let l = whole.limit_is in let i = whole.issued_is in
@@ -108,18 +115,23 @@ issuing_goes limit issued table t next whole t_in =
     before u = keeps_map (λ o. option_and_then (λ s. s.next) o) unpassed (λ s. refl) (with_nth table.seats t (begun table.issued)) u
 
     seats : (t < length (seats_after next.sync (map unpassed (with_nth table.seats t (begun table.issued)))))
-        × (option_and_then (λ s. s.next) (slice_get (seats_after next.sync (map unpassed (with_nth table.seats t (begun table.issued)))) t) ≡ None)
+        × (option_and_then (λ s. s.next) (slice_get (seats_after next.sync (map unpassed (with_nth table.seats t (begun table.issued)))) t)
+        ≡ None)
         × ((u : ℕ) → u < length (seats_after next.sync (map unpassed (with_nth table.seats t (begun table.issued)))) → (u ≡ t → ⊥)
         → KnownIn (slice_get (seats_after next.sync (map unpassed (with_nth table.seats t (begun table.issued)))) u))
     seats =
         after_seats next.sync (map unpassed (with_nth table.seats t (begun table.issued))) t (let e = same in omega arith)
-        (λ u l ne. let e = same in known_moved (before u ∙ ap (λ o. option_and_then (λ s. s.next) o) (other_nth (begun table.issued) table.seats t u ne)) (whole.known u (omega arith)))
+        (λ u l ne. let e = same in known_moved (before u
+        ∙ ap (λ o. option_and_then (λ s. s.next) o) (other_nth (begun table.issued) table.seats t u ne))
+        (whole.known u (omega arith)))
         (let seat = there_nth (begun table.issued) table.seats t t_in in
         before t ∙ ap (λ o. option_and_then (λ s. s.next) o) (get-with_nth table.seats t (begun table.issued) seat.0 seat.1))
 
 -- a table with other seats that know as much
-kept_whole : (limit issued : ℕ) (table after : Table) → after.limit ≡ table.limit → after.issued ≡ table.issued → length after.seats ≡ length table.seats
-    → ((u : ℕ) → option_and_then (λ s. s.next) (slice_get after.seats u) ≡ option_and_then (λ s. s.next) (slice_get table.seats u)) → Whole limit issued table → Whole limit issued after
+kept_whole : (limit issued : ℕ) (table after : Table) → after.limit ≡ table.limit → after.issued ≡ table.issued
+    → length after.seats ≡ length table.seats
+    → ((u : ℕ) → option_and_then (λ s. s.next) (slice_get after.seats u) ≡ option_and_then (λ s. s.next) (slice_get table.seats u))
+    → Whole limit issued table → Whole limit issued after
 kept_whole limit issued table after l i n same whole =
     record {
       limit_is = l ∙ whole.limit_is;
@@ -130,61 +142,77 @@ kept_whole limit issued table after l i n same whole =
 
 passing_goes : (limit issued : ℕ) (table : Table) (t : ℕ) → Whole limit issued table → Goes limit issued (passing table t)
 passing_goes limit issued table t whole =
-    more (kept_whole limit issued table _ refl refl (length-with_nth table.seats t pass) (λ u. keeps_nth (λ o. option_and_then (λ s. s.next) o) pass (λ s. refl) table.seats t u) whole)
+    more (kept_whole limit issued table _ refl refl (length-with_nth table.seats t pass)
+    (λ u. keeps_nth (λ o. option_and_then (λ s. s.next) o) pass (λ s. refl) table.seats t u) whole)
 
 released_next : (b : Bool) (s : Seat) → (cond b (record s { stand = Released }) s).next ≡ s.next
 released_next true s = refl
 released_next false s = refl
 
 met_whole : (limit issued : ℕ) (table : Table) (t b : ℕ) → Whole limit issued table → Whole limit issued (met (arrived table t) b)
-met_whole limit issued table t b whole = go (nat_le (unwrap_or (slice_get table.barriers b) 0) (count_by (waits_at b) (arrive table.seats t)))
+met_whole limit issued table t b whole =
+    go (nat_le (unwrap_or (slice_get table.barriers b) 0) (count_by (waits_at b) (arrive table.seats t)))
   where
-    arrived_next : (u : ℕ) → option_and_then (λ s. s.next) (slice_get (arrive table.seats t) u) ≡ option_and_then (λ s. s.next) (slice_get table.seats u)
+    arrived_next : (u : ℕ)
+        → option_and_then (λ s. s.next) (slice_get (arrive table.seats t) u) ≡ option_and_then (λ s. s.next) (slice_get table.seats u)
     arrived_next u =
         keeps_nth (λ o. option_and_then (λ s. s.next) o) wait (λ s. refl) (map unpassed table.seats) t u
         ∙ keeps_map (λ o. option_and_then (λ s. s.next) o) unpassed (λ s. refl) table.seats u
 
-    go : (all : Bool) → Whole limit issued (cond all (record (arrived table t) { seats = map (released_at b) (arrive table.seats t) }) (arrived table t))
+    go : (all : Bool)
+        → Whole limit issued (cond all (record (arrived table t) { seats = map (released_at b) (arrive table.seats t) }) (arrived table t))
     go true =
         kept_whole limit issued table _ refl refl (length-map (arrive table.seats t) (released_at b) ∙ length_arrive table.seats t)
-        (λ u. keeps_map (λ o. option_and_then (λ s. s.next) o) (released_at b) (λ s. released_next (waits_at b s) s) (arrive table.seats t) u ∙ arrived_next u) whole
+        (λ u. keeps_map (λ o. option_and_then (λ s. s.next) o) (released_at b) (λ s. released_next (waits_at b s) s)
+        (arrive table.seats t) u ∙ arrived_next u) whole
     go false = kept_whole limit issued table _ refl refl (length_arrive table.seats t) arrived_next whole
 
 met_length : (table : Table) (t b : ℕ) → length (met (arrived table t) b).seats ≡ length table.seats
 met_length table t b = go (nat_le (unwrap_or (slice_get table.barriers b) 0) (count_by (waits_at b) (arrive table.seats t)))
   where
-    go : (all : Bool) → length (cond all (record (arrived table t) { seats = map (released_at b) (arrive table.seats t) }) (arrived table t)).seats ≡ length table.seats
+    go : (all : Bool)
+        → length (cond all (record (arrived table t) { seats = map (released_at b) (arrive table.seats t) }) (arrived table t)).seats
+        ≡ length table.seats
     go true = length-map (arrive table.seats t) (released_at b) ∙ length_arrive table.seats t
     go false = length_arrive table.seats t
 
-barrier_goes : (limit issued : ℕ) (stand : Stand) (table : Table) (t : ℕ) (next : Next) → Whole limit issued table → t < length table.seats → Goes limit issued (at_barrier stand table t next)
+barrier_goes : (limit issued : ℕ) (stand : Stand) (table : Table) (t : ℕ) (next : Next) → Whole limit issued table → t < length table.seats
+    → Goes limit issued (at_barrier stand table t next)
 barrier_goes limit issued Away table t next whole t_in = passing_goes limit issued table t whole
 barrier_goes limit issued Waits table t next whole t_in = passing_goes limit issued table t whole
 barrier_goes limit issued Released table t next whole t_in = issuing_goes limit issued table t next whole t_in
 
-meeting_goes : (limit issued : ℕ) (stand : Stand) (table : Table) (t b : ℕ) (next : Next) → Whole limit issued table → t < length table.seats
+meeting_goes : (limit issued : ℕ) (stand : Stand) (table : Table) (t b : ℕ) (next : Next) → Whole limit issued table
+    → t < length table.seats
     → Goes limit issued (at_barrier (stand_of (come_to stand table t b) t) (come_to stand table t b) t next)
 meeting_goes limit issued Away table t b next whole t_in =
-    barrier_goes limit issued (stand_of (met (arrived table t) b) t) (met (arrived table t) b) t next (met_whole limit issued table t b whole) (let e = met_length table t b in omega arith)
+    barrier_goes limit issued (stand_of (met (arrived table t) b) t) (met (arrived table t) b) t next
+    (met_whole limit issued table t b whole) (let e = met_length table t b in omega arith)
 meeting_goes limit issued Waits table t b next whole t_in = barrier_goes limit issued (stand_of table t) table t next whole t_in
 meeting_goes limit issued Released table t b next whole t_in = barrier_goes limit issued (stand_of table t) table t next whole t_in
 
-joining_goes : (limit issued h : ℕ) (o : Option Next) (table : Table) (t : ℕ) (next : Next) → Whole limit issued table → t < length table.seats → (o ≡ None → ⊥) → Goes limit issued (joining h o table t next)
+joining_goes : (limit issued h : ℕ) (o : Option Next) (table : Table) (t : ℕ) (next : Next) → Whole limit issued table
+    → t < length table.seats → (o ≡ None → ⊥) → Goes limit issued (joining h o table t next)
 joining_goes limit issued h None table t next whole t_in some = absurd (some refl)
 joining_goes limit issued h (Some other) table t next whole t_in some =
-    cond_goes limit issued (is_end other.sync) _ _ (λ e. issuing_goes limit issued table t next whole t_in) (λ e. passing_goes limit issued table t whole)
+    cond_goes limit issued (is_end other.sync) _ _ (λ e. issuing_goes limit issued table t next whole t_in)
+    (λ e. passing_goes limit issued table t whole)
 
-tried_goes : (limit issued : ℕ) (op : SyncOp) (table : Table) (t : ℕ) (next : Next) → Whole limit issued table → t < length table.seats → Goes limit issued (tried op table t next)
+tried_goes : (limit issued : ℕ) (op : SyncOp) (table : Table) (t : ℕ) (next : Next) → Whole limit issued table → t < length table.seats
+    → Goes limit issued (tried op table t next)
 tried_goes limit issued sync.Start table t next whole t_in = issuing_goes limit issued table t next whole t_in
 tried_goes limit issued (sync.Settle register control) table t next whole t_in = issuing_goes limit issued table t next whole t_in
 tried_goes limit issued (sync.Lock l) table t next whole t_in =
-    cond_goes limit issued (is_none (owner_of table l)) _ _ (λ e. issuing_goes limit issued table t next whole t_in) (λ e. passing_goes limit issued table t whole)
+    cond_goes limit issued (is_none (owner_of table l)) _ _ (λ e. issuing_goes limit issued table t next whole t_in)
+    (λ e. passing_goes limit issued table t whole)
 tried_goes limit issued (sync.Unlock l) table t next whole t_in = issuing_goes limit issued table t next whole t_in
 tried_goes limit issued (sync.Fork task arguments) table t next whole t_in =
-    cond_goes limit issued (nat_lt (length table.seats) most_threads) _ _ (λ e. issuing_goes limit issued table t next whole t_in) (λ e. done ends)
+    cond_goes limit issued (nat_lt (length table.seats) most_threads) _ _
+    (λ e. issuing_goes limit issued table t next whole t_in) (λ e. done ends)
 tried_goes limit issued (sync.Join (pos h)) table t next whole t_in =
     cond_goes limit issued (nat_lt h (length table.seats)) _ _
-    (λ e. joining_goes limit issued h (next_of table h) table t next whole t_in (λ none. let k = whole.known h (ltb-true _ _ e) in some_none (sym k.1 ∙ none)))
+    (λ e. joining_goes limit issued h (next_of table h) table t next whole t_in
+    (λ none. let k = whole.known h (ltb-true _ _ e) in some_none (sym k.1 ∙ none)))
     (λ e. done ends)
   where
     some_none : {A : Type 0} {x : A} → Some x ≡ None → ⊥
@@ -200,7 +228,8 @@ data Met (table : Table) : Look → Type 0 where
   met_thread : {t : ℕ} {next : Next} → t < length table.seats → Met table (To t next)
   met_none : Met table NoThread
 
-met_at : (table : Table) (t : ℕ) (o : Option Next) (others : Look) → t < length table.seats → (next : Next) → o ≡ Some next → Met table others → Met table (look_at t o others)
+met_at : (table : Table) (t : ℕ) (o : Option Next) (others : Look) → t < length table.seats → (next : Next) → o ≡ Some next
+    → Met table others → Met table (look_at t o others)
 met_at table t None others l next e met = absurd (cc e)
 met_at table t (Some first) others l next e met = go (is_end first.sync)
   where
@@ -208,19 +237,24 @@ met_at table t (Some first) others l next e met = go (is_end first.sync)
     go true = met
     go false = met_thread l
 
-met_numbers : (table : Table) → ((u : ℕ) → u < length table.seats → KnownIn (slice_get table.seats u)) → (a n : ℕ) (rest : List ℕ) → a + n ≤ length table.seats → Met table (look table rest) → Met table (look table (numbers a n ++ rest))
+met_numbers : (table : Table) → ((u : ℕ) → u < length table.seats → KnownIn (slice_get table.seats u)) → (a n : ℕ) (rest : List ℕ)
+    → a + n ≤ length table.seats → Met table (look table rest) → Met table (look table (numbers a n ++ rest))
 met_numbers table known a zero rest le met = met
 met_numbers table known a (suc n) rest le met =
     let k = known a (omega arith) in
-    met_at table a (next_of table a) (look table (numbers (suc a) n ++ rest)) (omega arith) k.0 k.1 (met_numbers table known (suc a) n rest (omega arith) met)
+    met_at table a (next_of table a) (look table (numbers (suc a) n ++ rest)) (omega arith) k.0 k.1
+    (met_numbers table known (suc a) n rest (omega arith) met)
 
-met_ring : (table : Table) (token : Option ℕ) → ((u : ℕ) → u < length table.seats → KnownIn (slice_get table.seats u)) → unwrap_or token (length table.seats - 1) < length table.seats
+met_ring : (table : Table) (token : Option ℕ) → ((u : ℕ) → u < length table.seats → KnownIn (slice_get table.seats u))
+    → unwrap_or token (length table.seats - 1) < length table.seats
     → Met table (look table (ring token (length table.seats)))
 met_ring table None known inside =
-    subst (λ ts. Met table (look table ts)) (append-nil (numbers 0 (length table.seats))) (met_numbers table known 0 (length table.seats) [] (omega arith) met_none)
+    subst (λ ts. Met table (look table ts)) (append-nil (numbers 0 (length table.seats)))
+    (met_numbers table known 0 (length table.seats) [] (omega arith) met_none)
 met_ring table (Some last) known inside =
     met_numbers table known (suc last) (length table.seats - suc last) (numbers 0 (suc last)) (omega arith)
-    (subst (λ ts. Met table (look table ts)) (append-nil (numbers 0 (suc last))) (met_numbers table known 0 (suc last) [] (omega arith) met_none))
+    (subst (λ ts. Met table (look table ts)) (append-nil (numbers 0 (suc last)))
+    (met_numbers table known 0 (suc last) [] (omega arith) met_none))
 
 stuck_goes : {limit issued : ℕ} {table : Table} (l : Look) → Met table l → Goes limit issued (deadlocked l)
 stuck_goes (To t next) met = done ends
@@ -229,10 +263,15 @@ stuck_goes NoThread met = done ends
 
 look_goes : (limit issued : ℕ) (table : Table) (l : Look) → Whole limit issued table → Met table l → Goes limit issued (at_look l table)
 look_goes limit issued table (To t next) whole (met_thread t_in) =
-    cond_goes limit issued (has_passed table t) _ _ (λ e. stuck_goes (look table (all_threads table)) (subst (λ ts. Met table (look table ts)) (append-nil _) (met_numbers table whole.known 0 (length table.seats) [] (omega arith) met_none))) (λ e. tried_goes limit issued next.sync table t next whole t_in)
+    cond_goes limit issued (has_passed table t) _ _
+    (λ e. stuck_goes (look table (all_threads table))
+    (subst (λ ts. Met table (look table ts)) (append-nil _)
+    (met_numbers table whole.known 0 (length table.seats) [] (omega arith) met_none)))
+    (λ e. tried_goes limit issued next.sync table t next whole t_in)
 look_goes limit issued table (Unknown t) whole met = elim met [ ]
 look_goes limit issued table NoThread whole met = done ends
 
 pub turn_goes : (limit issued : ℕ) (table : Table) → Reached table → Whole limit issued table → Goes limit issued (turn table)
 turn_goes limit issued table reached whole =
-    look_goes limit issued table (look table (ring table.token (length table.seats))) whole (met_ring table table.token whole.known (rounds_kept reached).inside)
+    look_goes limit issued table (look table (ring table.token (length table.seats))) whole
+    (met_ring table table.token whole.known (rounds_kept reached).inside)

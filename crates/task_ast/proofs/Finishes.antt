@@ -54,15 +54,18 @@ tried_not sync.Spent table t next = tt
 abbrev IsNoThread : Look → Type 0
 IsNoThread l = l ≡ NoThread
 
-none_at : (table : Table) (t : ℕ) (o : Option Next) (others : Look) → next_of table t ≡ o → IsNoThread (look_at t o others) → (is_known_end (next_of table t) ≡ true) × IsNoThread others
+none_at : (table : Table) (t : ℕ) (o : Option Next) (others : Look) → next_of table t ≡ o → IsNoThread (look_at t o others)
+    → (is_known_end (next_of table t) ≡ true) × IsNoThread others
 none_at table t None others is e = absurd (cc e)
 none_at table t (Some next) others is e = go (is_end next.sync) refl e
   where
-    go : (b : Bool) → is_end next.sync ≡ b → IsNoThread (cond b others (To t next)) → (is_known_end (next_of table t) ≡ true) × IsNoThread others
+    go : (b : Bool) → is_end next.sync ≡ b → IsNoThread (cond b others (To t next))
+        → (is_known_end (next_of table t) ≡ true) × IsNoThread others
     go true ends none = (ap is_known_end is ∙ ends, none)
     go false ends none = absurd (cc none)
 
-none_of : (table : Table) (a n : ℕ) (rest : List ℕ) → IsNoThread (look table (numbers a n ++ rest)) → ((t : ℕ) → a ≤ t → t < a + n → is_known_end (next_of table t) ≡ true) × IsNoThread (look table rest)
+none_of : (table : Table) (a n : ℕ) (rest : List ℕ) → IsNoThread (look table (numbers a n ++ rest))
+    → ((t : ℕ) → a ≤ t → t < a + n → is_known_end (next_of table t) ≡ true) × IsNoThread (look table rest)
 none_of table a zero rest e = (λ t l m. absurd (omega arith), e)
 none_of table a (suc n) rest e =
     let first = none_at table a (next_of table a) (look table (numbers (suc a) n ++ rest)) refl e in
@@ -75,9 +78,11 @@ none_of table a (suc n) rest e =
     )
 
 none_from : (table : Table) (n : ℕ) → IsNoThread (look table (numbers 0 n)) → (t : ℕ) → t < n → is_known_end (next_of table t) ≡ true
-none_from table n e t l = (none_of table 0 n [] (subst (λ ts. IsNoThread (look table ts)) (sym (append-nil (numbers 0 n))) e)).0 t (omega arith) (omega arith)
+none_from table n e t l =
+    (none_of table 0 n [] (subst (λ ts. IsNoThread (look table ts)) (sym (append-nil (numbers 0 n))) e)).0 t (omega arith) (omega arith)
 
-none_in_ring : (table : Table) (token : Option ℕ) (n : ℕ) → IsNoThread (look table (ring token n)) → (t : ℕ) → t < n → is_known_end (next_of table t) ≡ true
+none_in_ring : (table : Table) (token : Option ℕ) (n : ℕ) → IsNoThread (look table (ring token n)) → (t : ℕ) → t < n
+    → is_known_end (next_of table t) ≡ true
 none_in_ring table None n e t l = none_from table n e t l
 none_in_ring table (Some last) n e t l =
     let parts = none_of table (suc last) (n - suc last) (numbers 0 (suc last)) e in
@@ -86,24 +91,29 @@ none_in_ring table (Some last) n e t l =
       | inr k ↦ none_from table (suc last) parts.1 t (omega arith)
     ]
 
-all_ended : (table : Table) → ((t : ℕ) → t < length table.seats → is_known_end (next_of table t) ≡ true) → list_all has_ended table.seats ≡ true
+all_ended : (table : Table) → ((t : ℕ) → t < length table.seats → is_known_end (next_of table t) ≡ true)
+    → list_all has_ended table.seats ≡ true
 all_ended table each =
-    all_from has_ended table.seats (λ t seat at. ap (λ o. is_known_end (option_and_then (λ s. s.next) o)) (sym at) ∙ each t (some_below table.seats t seat at))
+    all_from has_ended table.seats (λ t seat at. ap (λ o. is_known_end (option_and_then (λ s. s.next) o)) (sym at)
+    ∙ each t (some_below table.seats t seat at))
 
 abbrev IsFinished : Again Table Turn → Type 0
 IsFinished r = r ≡ Done (Ended Finished)
 
-stuck_finished : (table : Table) (l : Look) → look table (all_threads table) ≡ l → IsFinished (deadlocked l) → list_all has_ended table.seats ≡ true
+stuck_finished : (table : Table) (l : Look) → look table (all_threads table) ≡ l → IsFinished (deadlocked l)
+    → list_all has_ended table.seats ≡ true
 stuck_finished table (To t next) is e = absurd (cc e)
 stuck_finished table (Unknown t) is e = absurd (cc e)
 stuck_finished table NoThread is e = all_ended table (none_from table (length table.seats) is)
 
-look_finished : (table : Table) (l : Look) → look table (ring table.token (length table.seats)) ≡ l → IsFinished (at_look l table) → list_all has_ended table.seats ≡ true
+look_finished : (table : Table) (l : Look) → look table (ring table.token (length table.seats)) ≡ l → IsFinished (at_look l table)
+    → list_all has_ended table.seats ≡ true
 look_finished table NoThread is e = all_ended table (none_in_ring table table.token (length table.seats) is)
 look_finished table (Unknown t) is e = absurd (cc e)
 look_finished table (To t next) is e = go (has_passed table t) e
   where
-    go : (b : Bool) → IsFinished (cond b (deadlocked (look table (all_threads table))) (tried next.sync table t next)) → list_all has_ended table.seats ≡ true
+    go : (b : Bool) → IsFinished (cond b (deadlocked (look table (all_threads table))) (tried next.sync table t next))
+        → list_all has_ended table.seats ≡ true
     go true e = stuck_finished table (look table (all_threads table)) refl e
     go false e = absurd (subst NotFinished e (tried_not next.sync table t next))
 

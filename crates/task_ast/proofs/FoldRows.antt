@@ -13,7 +13,8 @@ use Rattle.task_ast.proofs.RunRows.{zeros, limits}
 -- the total after these positions below the front, where the attempt of position 4 has this mask
 abbrev total : (mask : ℤ) → (set : ℕ → Bool) → (front : ℕ) → ℤ
 total mask set front =
-    cell_value (fold (member_in (order two_adders (zeros 1) (limits 1000 20)) (λ p. cond (nat_eq p 4) mask (pos 0))) (opening two_adders (zeros 1) (limits 1000 20)).state set front) 0
+    cell_value (fold (member_in (order two_adders (zeros 1) (limits 1000 20)) (λ p. cond (nat_eq p 4) mask (pos 0)))
+    (opening two_adders (zeros 1) (limits 1000 20)).state set front) 0
 
 -- all positions but 4, 6 and 7
 abbrev kept : ℕ → Bool

@@ -1,4 +1,6 @@
--- What an issue leaves of each thread.
+-- What an issue leaves of each thread. An issue replaces one seat, and a fork puts one more at the end. So what is left
+-- at each place is a fact on lists, of one that is replaced and of one more at the end; learning a next synchronisation
+-- replaces a seat too.
 use Rattle.std.proofs.Common.{◌≡◌, inl, inr, ℕ, zero, suc, ◌<◌, ◌≤◌, false, List, [], ◌∷◌, ◌++◌, map, length, Option, Some, None, refl, sym, ap, ◌∙◌, arith, option_and_then}
 use Rattle.std.specs.Prelude.{slice_get, slice_set}
 use Rattle.std.proofs.lemmas.Bool.{cases_lt}
@@ -63,21 +65,27 @@ seats_after_get : (op : SyncOp) (xs : List Seat) (u : ℕ) → u < length xs →
 seats_after_get (sync.Fork task arguments) xs u l = get_push xs new_seat u l
 seats_after_get _ xs u l = refl
 
-seats_after_past : (op : SyncOp) (xs : List Seat) (u : ℕ) → length xs ≤ u → option_and_then (λ s. s.last) (slice_get (seats_after op xs) u) ≡ None
+seats_after_past : (op : SyncOp) (xs : List Seat) (u : ℕ) → length xs ≤ u
+    → option_and_then (λ s. s.last) (slice_get (seats_after op xs) u) ≡ None
 seats_after_past (sync.Fork task arguments) xs u l =
     elim (cases_lt (length xs) u) [
-      | inl k ↦ ap (λ o. option_and_then (λ s. s.last) o) (get_past (xs ++ new_seat ∷ []) u (let e = length_push xs new_seat in omega arith))
-      | inr k ↦ (let same : u ≡ length xs = omega arith in ap (λ o. option_and_then (λ s. s.last) o) (ap (slice_get (xs ++ new_seat ∷ [])) same ∙ get_last xs new_seat))
+      | inl k ↦
+          ap (λ o. option_and_then (λ s. s.last) o) (get_past (xs ++ new_seat ∷ []) u (let e = length_push xs new_seat in omega arith))
+      | inr k ↦
+          (let same : u ≡ length xs = omega arith in
+          ap (λ o. option_and_then (λ s. s.last) o) (ap (slice_get (xs ++ new_seat ∷ [])) same ∙ get_last xs new_seat))
     ]
 seats_after_past _ xs u l = ap (λ o. option_and_then (λ s. s.last) o) (get_past xs u l)
 
 -- as many points as seats
-pub points_as_seats : {P : Type 0} (machine : Machine P) (op : SyncOp) (n : ℕ) (points : List P) (seats : List Seat) → length points ≡ length seats
+pub points_as_seats : {P : Type 0} (machine : Machine P) (op : SyncOp) (n : ℕ) (points : List P) (seats : List Seat)
+    → length points ≡ length seats
     → length (points_with machine op n points) ≡ length (seats_after op seats)
 points_as_seats machine (sync.Fork task arguments) n points seats e = length_push points _ ∙ (ap suc e ∙ sym (length_push seats new_seat))
 points_as_seats machine _ n points seats e = e
 
-pub points_get : {P : Type 0} (machine : Machine P) (op : SyncOp) (n : ℕ) (points : List P) (u : ℕ) → u < length points → slice_get (points_with machine op n points) u ≡ slice_get points u
+pub points_get : {P : Type 0} (machine : Machine P) (op : SyncOp) (n : ℕ) (points : List P) (u : ℕ) → u < length points
+    → slice_get (points_with machine op n points) u ≡ slice_get points u
 points_get machine (sync.Fork task arguments) n points u l = get_push points _ u l
 points_get machine _ n points u l = refl
 
@@ -91,7 +99,8 @@ pub grown_by : (op : SyncOp) (xs : List Seat) (u : ℕ) → u < length (seats_af
 grown_by (sync.Fork task arguments) xs u l k = let e = length_push xs new_seat in ap Some (omega arith)
 grown_by _ xs u l k = absurd (omega arith)
 
-pub grown_seat : (op : SyncOp) (xs : List Seat) (u : ℕ) → u < length (seats_after op xs) → length xs ≤ u → slice_get (seats_after op xs) u ≡ Some new_seat
+pub grown_seat : (op : SyncOp) (xs : List Seat) (u : ℕ) → u < length (seats_after op xs) → length xs ≤ u
+    → slice_get (seats_after op xs) u ≡ Some new_seat
 grown_seat (sync.Fork task arguments) xs u l k =
     let e = length_push xs new_seat in
     let same : u ≡ length xs = omega arith in
@@ -109,9 +118,11 @@ module _ (there : Table) (t : ℕ) (next : Next) where
   issued_here l =
       let seat = there_nth (begun there.issued) there.seats t l in
       seats_after_get next.sync changed t (let e = changed_length in omega arith)
-      ∙ get-map unpassed (with_nth there.seats t (begun there.issued)) t (begun there.issued seat.0) (get-with_nth there.seats t (begun there.issued) seat.0 seat.1)
+      ∙ get-map unpassed (with_nth there.seats t (begun there.issued)) t (begun there.issued seat.0)
+      (get-with_nth there.seats t (begun there.issued) seat.0 seat.1)
 
-  pub issued_other : {Y : Type 0} (f : Seat → Option Y) → ((s : Seat) → f (unpassed s) ≡ f s) → (u : ℕ) → u < length there.seats → (u ≡ t → ⊥)
+  pub issued_other : {Y : Type 0} (f : Seat → Option Y) → ((s : Seat) → f (unpassed s) ≡ f s) → (u : ℕ) → u < length there.seats
+      → (u ≡ t → ⊥)
       → option_and_then f (slice_get (issued_table there t next).seats u) ≡ option_and_then f (slice_get there.seats u)
   issued_other f same u l ne =
       ap (λ o. option_and_then f o) (seats_after_get next.sync changed u (let e = changed_length in omega arith))
@@ -146,6 +157,7 @@ last_inside [] t q e = absurd (cc e)
 last_inside (s ∷ seats) zero q e = omega arith
 last_inside (s ∷ seats) (suc t) q e = let h = last_inside seats t q e in omega arith
 
-pub grown_points : {P : Type 0} (machine : Machine P) (op : SyncOp) (n : ℕ) (points : List P) → length points ≤ length (points_with machine op n points)
+pub grown_points : {P : Type 0} (machine : Machine P) (op : SyncOp) (n : ℕ) (points : List P)
+    → length points ≤ length (points_with machine op n points)
 grown_points machine (sync.Fork task arguments) n points = let e = length_push points (machine.starts task n arguments) in omega arith
 grown_points machine _ n points = omega arith

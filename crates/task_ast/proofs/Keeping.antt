@@ -32,20 +32,26 @@ module _ (test : ℕ → Bool) (left right : ℕ → ℤ) (joined : ℤ) (agree 
 
     arm_same : (arm : Arm) (d : Doing) → ArmNamesOnly test arm → arm_done left joined arm d ≡ arm_done right joined arm d
     arm_same NoAction d names = refl
-    arm_same (OneAction a arm) d names = ap (arm_done left joined arm) (done_same a d names.0) ∙ arm_same arm (done right joined a d) names.1
+    arm_same (OneAction a arm) d names =
+        ap (arm_done left joined arm) (done_same a d names.0) ∙ arm_same arm (done right joined a d) names.1
 
-  pub all_same : (actions : List Action) (d : Doing) → AllName test actions → all_done left joined actions d ≡ all_done right joined actions d
+  pub all_same : (actions : List Action) (d : Doing) → AllName test actions
+      → all_done left joined actions d ≡ all_done right joined actions d
   all_same [] d names = refl
-  all_same (a ∷ actions) d names = ap (all_done left joined actions) (done_same a d names.0) ∙ all_same actions (done right joined a d) names.1
+  all_same (a ∷ actions) d names =
+      ap (all_done left joined actions) (done_same a d names.0) ∙ all_same actions (done right joined a d) names.1
 
 pub reads_same : (test : ℕ → Bool) (t : ℕ) (begins : SyncOp) (child : Option ℕ) (actions : List Action) (left right : State)
     → AllName test actions → AgreeAt test t begins left right → effect t begins child actions left ≡ effect t begins child actions right
 reads_same test t begins child actions left right names agree =
     ap result
-    (all_same test (cell_value left) (cell_value right) (joined_ret begins left) (λ c passes. ap (λ xs. number_at xs 0) (agree.cells c passes)) actions
+    (all_same test (cell_value left) (cell_value right) (joined_ret begins left)
+    (λ c passes. ap (λ xs. number_at xs 0) (agree.cells c passes)) actions
     (record { registers = left (RegistersOf t); child = []; written = []; lines = [] }) names
-    ∙ ap (λ v. all_done (cell_value right) v actions (record { registers = left (RegistersOf t); child = []; written = []; lines = [] })) agree.joined
-    ∙ ap (λ xs. all_done (cell_value right) (joined_ret begins right) actions (record { registers = xs; child = []; written = []; lines = [] })) agree.registers)
+    ∙ ap (λ v. all_done (cell_value right) v actions (record { registers = left (RegistersOf t); child = []; written = []; lines = [] }))
+    agree.joined
+    ∙ ap (λ xs. all_done (cell_value right) (joined_ret begins right) actions
+    (record { registers = xs; child = []; written = []; lines = [] })) agree.registers)
   where
     result : Doing → Effect
     result d = record { thread = t; writes = d.written; regs = d.registers; child = option_map (λ c. (c, d.child)) child; prints = d.lines }
@@ -64,8 +70,10 @@ is_equal Less e = absurd (false≢true e)
 is_equal Equal e = refl
 is_equal Greater e = absurd (false≢true e)
 
-stored_within : (test : ℕ → Bool) (c : ℕ) (v : ℤ) (d : Doing) → test c ≡ true → Within test d → Within test (record d { written = put nat_cmp c v d.written })
-stored_within test c v d passes within q some = go (eq_by_cmp nat_cmp q c) refl (subst (λ o. o ≡ None → ⊥) (find-put nat_cmp nat_cmp_total q c v d.written) some)
+stored_within : (test : ℕ → Bool) (c : ℕ) (v : ℤ) (d : Doing) → test c ≡ true → Within test d
+    → Within test (record d { written = put nat_cmp c v d.written })
+stored_within test c v d passes within q some =
+    go (eq_by_cmp nat_cmp q c) refl (subst (λ o. o ≡ None → ⊥) (find-put nat_cmp nat_cmp_total q c v d.written) some)
   where
     go : (b : Bool) → eq_by_cmp nat_cmp q c ≡ b → (cond b (Some v) (find nat_cmp q d.written) ≡ None → ⊥) → test q ≡ true
     go true e there = ap test (nat_cmp-IsAntisymmetric q c (is_equal (nat_cmp q c) e)) ∙ passes
@@ -79,7 +87,8 @@ module _ (test : ℕ → Bool) (cells : ℕ → ℤ) (joined : ℤ) where
     done_within (Store c t) d names within = stored_within test c (term_value t d.registers) d names within
     done_within (Say ts) d names within = within
     done_within (Choose t a b) d names within =
-        picked_within test (term_value t d.registers) (arm_done cells joined a d) (arm_done cells joined b d) (arm_within a d names.0 within) (arm_within b d names.1 within)
+        picked_within test (term_value t d.registers) (arm_done cells joined a d) (arm_done cells joined b d)
+        (arm_within a d names.0 within) (arm_within b d names.1 within)
     done_within (Child count) d names within = within
     done_within (Give k t) d names within = within
     done_within (Bring k) d names within = within
@@ -88,14 +97,16 @@ module _ (test : ℕ → Bool) (cells : ℕ → ℤ) (joined : ℤ) where
     arm_within NoAction d names within = within
     arm_within (OneAction a arm) d names within = arm_within arm (done cells joined a d) names.1 (done_within a d names.0 within)
 
-  pub all_within : (actions : List Action) (d : Doing) → AllWrite test actions → Within test d → Within test (all_done cells joined actions d)
+  pub all_within : (actions : List Action) (d : Doing) → AllWrite test actions → Within test d
+      → Within test (all_done cells joined actions d)
   all_within [] d names within = within
   all_within (a ∷ actions) d names within = all_within actions (done cells joined a d) names.1 (done_within a d names.0 within)
 
 pub writes_within : (test : ℕ → Bool) (t : ℕ) (begins : SyncOp) (child : Option ℕ) (actions : List Action) (state : State)
     → AllWrite test actions → (c : ℕ) → (find nat_cmp c (effect t begins child actions state).writes ≡ None → ⊥) → test c ≡ true
 writes_within test t begins child actions state names =
-    all_within test (cell_value state) (joined_ret begins state) actions (record { registers = state (RegistersOf t); child = []; written = []; lines = [] }) names
+    all_within test (cell_value state) (joined_ret begins state) actions
+    (record { registers = state (RegistersOf t); child = []; written = []; lines = [] }) names
     (λ c some. absurd (some refl))
 
 mutual

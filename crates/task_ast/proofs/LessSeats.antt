@@ -43,7 +43,8 @@ nth_less f g (l ∷ less) (m ∷ more) (suc t) h kept = (h.0, nth_less f g less 
 
 -- one seat is changed in the one alone
 pub nth_of_less : (f : Seat → Seat) (less more : List Seat) (t : ℕ) → SeatsLess less more
-    → ((l m : Seat) → slice_get less t ≡ Some l → slice_get more t ≡ Some m → SeatLess l m → SeatLess (f l) m) → SeatsLess (with_nth less t f) more
+    → ((l m : Seat) → slice_get less t ≡ Some l → slice_get more t ≡ Some m → SeatLess l m → SeatLess (f l) m)
+    → SeatsLess (with_nth less t f) more
 nth_of_less f [] [] t h kept = tt
 nth_of_less f [] (m ∷ more) t h kept = absurd h
 nth_of_less f (l ∷ less) [] t h kept = absurd h
@@ -59,7 +60,8 @@ nth_of_more g (l ∷ less) (m ∷ more) zero h kept = (kept l m refl h.0, h.1)
 nth_of_more g (l ∷ less) (m ∷ more) (suc t) h kept = (h.0, nth_of_more g less more t h.1 kept)
 
 -- all seats are changed
-pub map_less : (f : Seat → Seat) → ((l m : Seat) → SeatLess l m → SeatLess (f l) (f m)) → (less more : List Seat) → SeatsLess less more → SeatsLess (map f less) (map f more)
+pub map_less : (f : Seat → Seat) → ((l m : Seat) → SeatLess l m → SeatLess (f l) (f m)) → (less more : List Seat) → SeatsLess less more
+    → SeatsLess (map f less) (map f more)
 map_less f kept [] [] h = tt
 map_less f kept [] (m ∷ more) h = absurd h
 map_less f kept (l ∷ less) [] h = absurd h

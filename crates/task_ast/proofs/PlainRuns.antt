@@ -1,4 +1,6 @@
--- The laws of the plain run.
+-- The laws of the plain run. From a table that is reached and whole turns lead to an issue or an end (Endings), and
+-- when the next synchronisation is learnt the table is whole again. So the table of the run is reached and whole after
+-- any number of steps.
 use Rattle.std.proofs.Common.{◌≡◌, inl, inr, ℕ, zero, suc, ◌+◌, ◌<◌, ◌≤◌, [], ◌∷◌, length, Option, Some, refl, ap, ◌∙◌, arith, option_and_then}
 use Rattle.std.specs.Prelude.{slice_get}
 use Rattle.std.proofs.lemmas.Bool.{cases_eq}
@@ -21,16 +23,20 @@ use Rattle.task_ast.proofs.Endings.{Whole, Begun, issues, ends, Goes, more, done
 
 -- what turns lead to from a table that is reached
 data Led (limit issued : ℕ) : Turn → Type 0 where
-  to_issue : {t : ℕ} {next : Next} {child : Option ℕ} {after : Table} → Begun limit (suc issued) t after → Reached after → Led limit issued (Issue t next child after)
+  to_issue : {t : ℕ} {next : Next} {child : Option ℕ} {after : Table} → Begun limit (suc issued) t after → Reached after
+      → Led limit issued (Issue t next child after)
   to_end : {ending : End} → Led limit issued (Ended ending)
 
-led_by : (limit issued n : ℕ) (table : Table) → Reached table → Whole limit issued table → Led limit issued (repeated turn turns_left (Ended Finished) n table)
+led_by : (limit issued n : ℕ) (table : Table) → Reached table → Whole limit issued table
+    → Led limit issued (repeated turn turns_left (Ended Finished) n table)
 unfolding repeated
 led_by limit issued zero table reached whole = to_end
-led_by limit issued (suc n) table reached whole = go (turn table) refl (turn_goes limit issued table reached whole) (λ after r w. led_by limit issued n after r w)
+led_by limit issued (suc n) table reached whole =
+    go (turn table) refl (turn_goes limit issued table reached whole) (λ after r w. led_by limit issued n after r w)
   where
     go : (r : Again Table Turn) → turn table ≡ r → Goes limit issued r
-        → ((after : Table) → Reached after → Whole limit issued after → Led limit issued (repeated turn turns_left (Ended Finished) n after))
+        → ((after : Table) → Reached after → Whole limit issued after
+        → Led limit issued (repeated turn turns_left (Ended Finished) n after))
         → Led limit issued (go_on turn turns_left (Ended Finished) (repeated turn turns_left (Ended Finished) n) r)
     go (More after) e (more w) again = again after (by_pass reached e) w
     go (Done (Issue t next child after)) e (done (issues b)) again = to_issue b (by_issue reached e)
@@ -69,7 +75,8 @@ whole_in : {table : Table} → IsWhole table → Whole table.limit table.issued 
 whole_in whole = record { limit_is = refl; issued_is = refl; within = whole.within; known = whole.known }
 
 is_whole : {limit issued : ℕ} {table : Table} → Whole limit issued table → IsWhole table
-is_whole whole = record { within = let l = whole.limit_is in let i = whole.issued_is in let w = whole.within in omega arith; known = whole.known }
+is_whole whole =
+    record { within = let l = whole.limit_is in let i = whole.issued_is in let w = whole.within in omega arith; known = whole.known }
 
 module _ {P : Type 0} (machine : Machine P) (limit : ℕ) where
   -- the run's table is reached and whole
@@ -86,7 +93,8 @@ module _ {P : Type 0} (machine : Machine P) (limit : ℕ) where
     where
       go : (what : Turn) → next_issue x.table ≡ what → Led limit issued what
           → ((y : PlainOf P) → Runs (suc issued) y → (ending : End) × (next_issue (state_after (move_by machine) n y).table ≡ Ended ending))
-          → (ending : End) × (next_issue (state_from (move_by machine) x (on_turn_by machine x what) (state_after (move_by machine) n)).table ≡ Ended ending)
+          → (ending : End) × (next_issue (state_from (move_by machine) x (on_turn_by machine x what)
+          (state_after (move_by machine) n)).table ≡ Ended ending)
       go (Issue t next child after) e (to_issue b reached) again =
           again _ (record { reached = by_learning t _ reached b.unknown; whole = learnt limit (suc issued) t after _ b })
       go (Ended ending) e to_end again = (ending, e)
@@ -106,14 +114,16 @@ module _ {P : Type 0} (machine : Machine P) (limit : ℕ) where
       go (Ended ending) to_end again = let w = runs.whole.within in omega arith
       go (Needs t) l again = elim l [ ]
 
-  stays : (n issued : ℕ) (x : PlainOf P) → Runs issued x → Reached (state_after (move_by machine) n x).table × IsWhole (state_after (move_by machine) n x).table
+  stays : (n issued : ℕ) (x : PlainOf P) → Runs issued x
+      → Reached (state_after (move_by machine) n x).table × IsWhole (state_after (move_by machine) n x).table
   unfolding state_after
   stays zero issued x runs = (runs.reached, is_whole runs.whole)
   stays (suc n) issued x runs =
       go (next_issue x.table) (led limit issued x.table runs.reached runs.whole) (λ y r. stays n (suc issued) y r)
     where
       go : (what : Turn) → Led limit issued what
-          → ((y : PlainOf P) → Runs (suc issued) y → Reached (state_after (move_by machine) n y).table × IsWhole (state_after (move_by machine) n y).table)
+          → ((y : PlainOf P) → Runs (suc issued) y
+          → Reached (state_after (move_by machine) n y).table × IsWhole (state_after (move_by machine) n y).table)
           → Reached (state_from (move_by machine) x (on_turn_by machine x what) (state_after (move_by machine) n)).table
           × IsWhole (state_from (move_by machine) x (on_turn_by machine x what) (state_after (move_by machine) n)).table
       go (Issue t next child after) (to_issue b reached) again =
@@ -126,7 +136,8 @@ module _ {P : Type 0} (machine : Machine P) (n : ℕ) (start : PlainOf P) (reach
   abbrev runs_from : Runs machine start.table.limit start.table.issued start
   runs_from = record { reached = reached; whole = whole_in whole }
 
-  pub end_from : start.table.limit < n + start.table.issued → (ending : End) × (next_issue (state_after (move_by machine) n start).table ≡ Ended ending)
+  pub end_from : start.table.limit < n + start.table.issued
+      → (ending : End) × (next_issue (state_after (move_by machine) n start).table ≡ Ended ending)
   end_from enough = ends_in machine start.table.limit n start.table.issued start runs_from enough
 
   pub count_from : length (steps (move_by machine) n start) + start.table.issued ≤ start.table.limit
@@ -150,5 +161,7 @@ module _ {P : Type 0} (machine : Machine P) (program : Program) (inputs : Inputs
   pub count_law : length (order_by machine program inputs limits) ≤ limits.subthreads
   count_law = let h = count_from machine (suc limits.subthreads) (opening_by machine program inputs limits) at_start begins in omega arith
 
-  pub tables_law : (n : ℕ) → Reached (state_after (move_by machine) n (opening_by machine program inputs limits)).table × IsWhole (state_after (move_by machine) n (opening_by machine program inputs limits)).table
+  pub tables_law : (n : ℕ)
+      → Reached (state_after (move_by machine) n (opening_by machine program inputs limits)).table
+      × IsWhole (state_after (move_by machine) n (opening_by machine program inputs limits)).table
   tables_law n = tables_from machine n (opening_by machine program inputs limits) at_start begins

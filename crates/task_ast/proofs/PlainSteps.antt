@@ -1,4 +1,6 @@
--- One step of the plain run over any kind of points: what it leaves of the threads, their points and the data.
+-- One step of the plain run over any kind of points: what it leaves of the threads, their points and the data. A move
+-- issues one subthread or ends the run, by what the turns answer. So what a step leaves of the threads, the points and
+-- the data is read off the definition of an issue, for any machine.
 use Rattle.std.proofs.Common.{◌≡◌, ℕ, zero, suc, ◌<◌, List, [], ◌∷◌, ◌++◌, length, Option, Some, None, unwrap_or, refl, sym, ap, ◌∙◌, subst, arith, option_and_then}
 use Rattle.std.specs.Prelude.{ℤ, slice_get, slice_set}
 use Rattle.gp_base.specs.declared.ending.End.{End}
@@ -32,7 +34,14 @@ module _ {P : Type 0} (machine : Machine P) where
   subthread_of t begins child table x =
       let b = machine.bodies (machine.begins begins.sync child (from_by machine x begins.sync t)) in
       let actions = machine.first begins.sync (from_by machine x begins.sync t) ++ b.actions in
-      record { thread = t; begins = begins; child = child; held = owned table t; actions = actions; lines = (effect t begins.sync child actions x.state).prints }
+      record {
+        thread = t;
+        begins = begins;
+        child = child;
+        held = owned table t;
+        actions = actions;
+        lines = (effect t begins.sync child actions x.state).prints;
+      }
 
   abbrev pub plain_of : ℕ → Next → Option ℕ → Table → PlainOf P → PlainOf P
   plain_of t begins child table x =
@@ -58,7 +67,8 @@ module _ {P : Type 0} (machine : Machine P) where
   pub begins_of : (x : PlainOf P) (s : Subthread) (y : PlainOf P) → move_by machine x ≡ Goes s y → Begins x s y
   begins_of x s y e = go (next_issue x.table) (next_form x.table) e
     where
-      go : (what : Turn) → Form x.table (Done what) → ◌≡◌ {A = Move (PlainOf P) Subthread End} (on_turn_by machine x what) (Goes s y) → Begins x s y
+      go : (what : Turn) → Form x.table (Done what) → ◌≡◌ {A = Move (PlainOf P) Subthread End} (on_turn_by machine x what) (Goes s y)
+          → Begins x s y
       go what (issues {t = t} {next = next} there same known below may) e =
           subst (λ s. Begins x s y) (ap (step_or s) e)
           (subst (Begins x (subthread_of t next (child_of next.sync (length there.seats)) (issued_table there t next) x)) (ap (next_or y) e)
@@ -76,7 +86,8 @@ module _ {P : Type 0} (machine : Machine P) where
       go (seat ∷ seats) (suc t) e = let h = go seats t e in omega arith
 
   -- so many threads, and the child
-  pub issued_threads : {x : PlainOf P} {s : Subthread} {y : PlainOf P} (b : Begins x s y) → length (issued_table b.there s.thread s.begins).seats ≡ with_child s.child (length x.table.seats)
+  pub issued_threads : {x : PlainOf P} {s : Subthread} {y : PlainOf P} (b : Begins x s y)
+      → length (issued_table b.there s.thread s.begins).seats ≡ with_child s.child (length x.table.seats)
   issued_threads {x = x} {s = s} b =
       grown_is s.begins.sync (changed b.there s.thread s.begins)
       ∙ ap (λ n. with_child (child_of s.begins.sync n) n) (changed_length b.there s.thread s.begins)
@@ -84,7 +95,8 @@ module _ {P : Type 0} (machine : Machine P) where
       ∙ ap (with_child s.child) b.same.threads
 
 -- one issue further
-module _ {P : Type 0} (machine : Machine P) (x : PlainOf P) (points : length x.points ≡ length x.table.seats) (s : Subthread) (z : PlainOf P) (begins : Begins machine x s z) where
+module _ {P : Type 0} (machine : Machine P) (x : PlainOf P) (points : length x.points ≡ length x.table.seats) (s : Subthread)
+    (z : PlainOf P) (begins : Begins machine x s z) where
   abbrev issued : Table
   issued = issued_table begins.there s.thread s.begins
 
@@ -106,22 +118,27 @@ module _ {P : Type 0} (machine : Machine P) (x : PlainOf P) (points : length x.p
   t_in_grown = let l = t_in_points in let g = grown_points machine s.begins.sync (length x.points) x.points in omega arith
 
   point_here : point_by machine y s.thread ≡ (body_by machine x s).at
-  point_here = ap (λ o. unwrap_or o (machine.starts 0 s.thread [])) (get_set_here (points_with machine s.begins.sync (length x.points) x.points) s.thread _ t_in_grown)
+  point_here =
+      ap (λ o. unwrap_or o (machine.starts 0 s.thread []))
+      (get_set_here (points_with machine s.begins.sync (length x.points) x.points) s.thread _ t_in_grown)
 
   point_other : (u : ℕ) → (u ≡ s.thread → ⊥) → u < length x.points → point_by machine y u ≡ point_by machine x u
   point_other u ne l =
       ap (λ o. unwrap_or o (machine.starts 0 u []))
-      (get_set_other (points_with machine s.begins.sync (length x.points) x.points) s.thread u _ ne ∙ points_get machine s.begins.sync (length x.points) x.points u l)
+      (get_set_other (points_with machine s.begins.sync (length x.points) x.points) s.thread u _ ne
+      ∙ points_get machine s.begins.sync (length x.points) x.points u l)
 
   next_other : (u : ℕ) → (u ≡ s.thread → ⊥) → u < length x.table.seats → next_of y.table u ≡ next_of x.table u
   next_other u ne l =
       learnt_other issued s.thread u _ ne
-      ∙ (issued_other begins.there s.thread s.begins (λ s. s.next) (λ s. refl) u (let t = begins.same.threads in omega arith) ne ∙ begins.same.next u)
+      ∙ (issued_other begins.there s.thread s.begins (λ s. s.next) (λ s. refl) u (let t = begins.same.threads in omega arith) ne
+      ∙ begins.same.next u)
 
   next_here : next_of y.table s.thread ≡ Some (body_by machine x s).next
   next_here = learnt_here issued s.thread _ (let l = t_in_grown in let e = points_in in omega arith)
 
-  forked_next : (task : ℕ) (arguments : List ℤ) → s.begins.sync ≡ sync.Fork task arguments → next_of y.table (length x.table.seats) ≡ Some (record { sync = sync.Start; line = 0 })
+  forked_next : (task : ℕ) (arguments : List ℤ) → s.begins.sync ≡ sync.Fork task arguments
+      → next_of y.table (length x.table.seats) ≡ Some (record { sync = sync.Start; line = 0 })
   forked_next task arguments e =
       let l = begins_inside machine begins in
       let k = changed_length begins.there s.thread s.begins in
@@ -137,7 +154,8 @@ module _ {P : Type 0} (machine : Machine P) (x : PlainOf P) (points : length x.p
   forked_point task arguments e =
       subst (λ n. point_by machine y n ≡ machine.starts task n arguments) points
       (ap (λ o. unwrap_or o (machine.starts 0 (length x.points) []))
-      (get_set_other (points_with machine s.begins.sync (length x.points) x.points) s.thread (length x.points) _ (let l = t_in_points in λ same. omega arith)
+      (get_set_other (points_with machine s.begins.sync (length x.points) x.points) s.thread (length x.points) _
+      (let l = t_in_points in λ same. omega arith)
       ∙ ap (λ op. slice_get (points_with machine op (length x.points) x.points) (length x.points)) e
       ∙ get_last x.points (machine.starts task (length x.points) arguments)))
 
@@ -148,8 +166,11 @@ module _ {P : Type 0} (machine : Machine P) (x : PlainOf P) (points : length x.p
         may = begins.may;
         child = begins.child ∙ ap (child_of s.begins.sync) begins.same.threads;
         actions = ap (λ s. s.actions) begins.made;
-        lines = ap (λ s. s.lines) begins.made ∙ ap (λ actions. (effect s.thread s.begins.sync s.child actions x.state).prints) (sym (ap (λ s. s.actions) begins.made));
-        state = ap (λ actions. after (effect s.thread s.begins.sync s.child actions x.state) x.state) (sym (ap (λ s. s.actions) begins.made));
+        lines =
+            ap (λ s. s.lines) begins.made ∙ ap (λ actions. (effect s.thread s.begins.sync s.child actions x.state).prints)
+            (sym (ap (λ s. s.actions) begins.made));
+        state =
+            ap (λ actions. after (effect s.thread s.begins.sync s.child actions x.state) x.state) (sym (ap (λ s. s.actions) begins.made));
         owners = ap (owners_after s.begins.sync s.thread) begins.same.owners;
         held = ap (λ s. s.held) begins.made;
         threads = learnt_length issued s.thread _ ∙ issued_threads machine begins;
@@ -160,7 +181,9 @@ module _ {P : Type 0} (machine : Machine P) (x : PlainOf P) (points : length x.p
       }
 
   pub points_after : length y.points ≡ length y.table.seats
-  points_after = length_set (points_with machine s.begins.sync (length x.points) x.points) s.thread _ ∙ (points_in ∙ sym (learnt_length issued s.thread _))
+  points_after =
+      length_set (points_with machine s.begins.sync (length x.points) x.points) s.thread _
+      ∙ (points_in ∙ sym (learnt_length issued s.thread _))
 
   pub is_step : IsStep machine x s z
   is_step = subst (IsStep machine x s) (sym begins.left) after_issue

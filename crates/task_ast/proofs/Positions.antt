@@ -1,4 +1,7 @@
--- The plain run over any kind of points, position by position: what its table, its points and its order say of each other.
+-- The plain run over any kind of points, position by position: what its table, its points and its order say of each
+-- other. What holds at the opening and is kept by each move holds after any number of them, and the step at a position
+-- is the move from the run before it. From it come the last subthread of each thread, which threads there are, the
+-- state as the fold of those below, and the end.
 use Rattle.std.proofs.Common.{◌≡◌, inl, inr, ℕ, zero, suc, ◌-◌, ◌<◌, ◌≤◌, cond, List, [], ◌∷◌, length, Some, None, unwrap_or, refl, sym, ap, ◌∙◌, subst, arith, option_and_then}
 use Rattle.std.specs.Prelude.{ℤ, pos, negsuc, true, slice_get}
 use Rattle.std.proofs.lemmas.Option.{slice_get_within}
@@ -35,7 +38,11 @@ module _ {P : Type 0} (machine : Machine P) (program : Program) (inputs : Inputs
   pub performed_at : (p : ℕ) (s : Subthread) → slice_get (order_by machine program inputs limits) p ≡ Some s → Performed p s
   performed_at p s e =
       let step = step_there (move_by machine) (suc limits.subthreads) p (opening_by machine program inputs limits) s e in
-      record { next = step.next; begins = begins_of machine (before_by machine program inputs limits p) s step.next step.moves; after = step_reached (move_by machine) (suc limits.subthreads) p (opening_by machine program inputs limits) s e }
+      record {
+        next = step.next;
+        begins = begins_of machine (before_by machine program inputs limits p) s step.next step.moves;
+        after = step_reached (move_by machine) (suc limits.subthreads) p (opening_by machine program inputs limits) s e;
+      }
 
   -- ---- what holds at each position
 
@@ -61,7 +68,8 @@ module _ {P : Type 0} (machine : Machine P) (program : Program) (inputs : Inputs
       }
 
   -- one issue further
-  module _ (p : ℕ) (stands : PlainStands p (before_by machine program inputs limits p)) (s : Subthread) (at_p : slice_get (order_by machine program inputs limits) p ≡ Some s)
+  module _ (p : ℕ) (stands : PlainStands p (before_by machine program inputs limits p)) (s : Subthread)
+      (at_p : slice_get (order_by machine program inputs limits) p ≡ Some s)
       (z : PlainOf P) (begins : Begins machine (before_by machine program inputs limits p) s z) where
     abbrev x : PlainOf P
     x = before_by machine program inputs limits p
@@ -72,7 +80,9 @@ module _ {P : Type 0} (machine : Machine P) (program : Program) (inputs : Inputs
     abbrev y : PlainOf P
     y = plain_of machine s.thread s.begins s.child (issued_table begins.there s.thread s.begins) (before_by machine program inputs limits p)
 
-    step : IsStep machine (before_by machine program inputs limits p) s (plain_of machine s.thread s.begins s.child (issued_table begins.there s.thread s.begins) (before_by machine program inputs limits p))
+    step : IsStep machine (before_by machine program inputs limits p) s
+        (plain_of machine s.thread s.begins s.child (issued_table begins.there s.thread s.begins)
+        (before_by machine program inputs limits p))
     step = after_issue machine (before_by machine program inputs limits p) stands.points s z begins
 
     t_in : s.thread < length begins.there.seats
@@ -82,7 +92,8 @@ module _ {P : Type 0} (machine : Machine P) (program : Program) (inputs : Inputs
     last_here : last_in y.table s.thread ≡ Some p
     last_here =
         learnt_last there s.thread s.thread _
-        ∙ (ap (λ o. option_and_then (λ s. s.last) o) (issued_here begins.there s.thread s.begins t_in) ∙ ap Some (begins.same.issued ∙ stands.issued))
+        ∙ (ap (λ o. option_and_then (λ s. s.last) o) (issued_here begins.there s.thread s.begins t_in)
+        ∙ ap Some (begins.same.issued ∙ stands.issued))
 
     last_other : (u : ℕ) → (u ≡ s.thread → ⊥) → last_in y.table u ≡ last_in x.table u
     last_other u ne =
@@ -97,8 +108,12 @@ module _ {P : Type 0} (machine : Machine P) (program : Program) (inputs : Inputs
     lasts_next u =
         ap (λ o. cond (is_of u o) (Some p) (last_below (order_by machine program inputs limits) u p)) at_p
         ∙ elim (cases_eq s.thread u) [
-          | inl e ↦ (ap (λ b. cond b (Some p) (last_below (order_by machine program inputs limits) u p)) (eq-eqb s.thread u e) ∙ (sym last_here ∙ ap (λ v. last_in y.table v) e))
-          | inr ne ↦ (ap (λ b. cond b (Some p) (last_below (order_by machine program inputs limits) u p)) (ne_eqb s.thread u ne) ∙ (stands.lasts u ∙ sym (last_other u (λ e. ne (sym e)))))
+          | inl e ↦
+              (ap (λ b. cond b (Some p) (last_below (order_by machine program inputs limits) u p)) (eq-eqb s.thread u e)
+              ∙ (sym last_here ∙ ap (λ v. last_in y.table v) e))
+          | inr ne ↦
+              (ap (λ b. cond b (Some p) (last_below (order_by machine program inputs limits) u p)) (ne_eqb s.thread u ne)
+              ∙ (stands.lasts u ∙ sym (last_other u (λ e. ne (sym e)))))
         ]
 
     left_next : (u q : ℕ) → last_in y.table u ≡ Some q → LeftBy machine program inputs limits y u q
@@ -156,12 +171,14 @@ module _ {P : Type 0} (machine : Machine P) (program : Program) (inputs : Inputs
   get_some (x ∷ xs) zero l = (x, refl)
   get_some (x ∷ xs) (suc u) l = get_some xs u (omega arith)
 
-  pub plain_stands : (p : ℕ) → p ≤ length (order_by machine program inputs limits) → PlainStands p (before_by machine program inputs limits p)
+  pub plain_stands : (p : ℕ) → p ≤ length (order_by machine program inputs limits)
+      → PlainStands p (before_by machine program inputs limits p)
   plain_stands zero l = subst (PlainStands 0) (state_after_none (move_by machine) (opening_by machine program inputs limits)) stands_first
   plain_stands (suc p) l =
       let s = get_some (order_by machine program inputs limits) p (omega arith) in
       let performed = performed_at p s.0 s.1 in
-      subst (PlainStands (suc p)) (sym performed.after) (stands_kept p (plain_stands p (omega arith)) s.0 s.1 performed.next performed.begins)
+      subst (PlainStands (suc p)) (sym performed.after)
+      (stands_kept p (plain_stands p (omega arith)) s.0 s.1 performed.next performed.begins)
 
   pub step_is : (p : ℕ) (s : Subthread) → slice_get (order_by machine program inputs limits) p ≡ Some s
       → IsStep machine (before_by machine program inputs limits p) s (before_by machine program inputs limits (suc p))
@@ -171,7 +188,8 @@ module _ {P : Type 0} (machine : Machine P) (program : Program) (inputs : Inputs
       subst (IsStep machine (before_by machine program inputs limits p) s) (sym performed.after)
       (is_step machine (before_by machine program inputs limits p) (plain_stands p (omega arith)).points s performed.next performed.begins)
 
-  pub left_is : (p : ℕ) → p ≤ length (order_by machine program inputs limits) → (t q : ℕ) → last_in (before_by machine program inputs limits p).table t ≡ Some q
+  pub left_is : (p : ℕ) → p ≤ length (order_by machine program inputs limits) → (t q : ℕ)
+      → last_in (before_by machine program inputs limits p).table t ≡ Some q
       → LeftBy machine program inputs limits (before_by machine program inputs limits p) t q
   left_is p l = (plain_stands p l).left
 
@@ -193,23 +211,28 @@ module _ {P : Type 0} (machine : Machine P) (program : Program) (inputs : Inputs
   joins table (pos h) may = (h, refl, may.0)
   joins table (negsuc h) may = absurd may
 
-  pub forked_is : (p : ℕ) (s : Subthread) → slice_get (order_by machine program inputs limits) p ≡ Some s → IsForked (length (before_by machine program inputs limits p).table.seats) s
+  pub forked_is : (p : ℕ) (s : Subthread) → slice_get (order_by machine program inputs limits) p ≡ Some s
+      → IsForked (length (before_by machine program inputs limits p).table.seats) s
   forked_is p s e =
       let performed = performed_at p s e in
       record {
         thread = begins_inside machine performed.begins;
-        joined = λ h is. joins (before_by machine program inputs limits p).table h (subst (MayBegin (before_by machine program inputs limits p).table) is performed.begins.may);
+        joined =
+            λ h is. joins (before_by machine program inputs limits p).table h
+            (subst (MayBegin (before_by machine program inputs limits p).table) is performed.begins.may);
         child = λ c is. child_is s.begins.sync _ c (sym (step_is p s e).child ∙ is);
       }
 
   -- ---- the fold of those below
 
   pub fold_below : (p : ℕ) → p ≤ length (order_by machine program inputs limits)
-      → fold (member_in (order_by machine program inputs limits) (λ q. pos 0)) (opening_by machine program inputs limits).state (λ q. true) p ≡ (before_by machine program inputs limits p).state
+      → fold (member_in (order_by machine program inputs limits) (λ q. pos 0))
+      (opening_by machine program inputs limits).state (λ q. true) p ≡ (before_by machine program inputs limits p).state
   fold_below zero l = ap (λ x. x.state) (state_after_none (move_by machine) (opening_by machine program inputs limits))
   fold_below (suc p) l =
       let s = get_some (order_by machine program inputs limits) p (omega arith) in
-      ap (λ o. applied (member_of (pos 0) o) (fold (member_in (order_by machine program inputs limits) (λ q. pos 0)) (opening_by machine program inputs limits).state (λ q. true) p)) s.1
+      ap (λ o. applied (member_of (pos 0) o) (fold (member_in (order_by machine program inputs limits) (λ q. pos 0))
+      (opening_by machine program inputs limits).state (λ q. true) p)) s.1
       ∙ ap (applied (member_of (pos 0) (Some s.0))) (fold_below p (omega arith))
       ∙ ap (λ e. after e (before_by machine program inputs limits p).state)
       (undamaged (effect s.0.thread s.0.begins.sync s.0.child s.0.actions (before_by machine program inputs limits p).state))
@@ -218,16 +241,20 @@ module _ {P : Type 0} (machine : Machine P) (program : Program) (inputs : Inputs
   pub lines_are : (p : ℕ) (s : Subthread) → slice_get (order_by machine program inputs limits) p ≡ Some s
       → s.lines
       ≡ (effect s.thread s.begins.sync s.child s.actions
-      (fold (member_in (order_by machine program inputs limits) (λ q. pos 0)) (opening_by machine program inputs limits).state (λ q. true) p)).prints
+      (fold (member_in (order_by machine program inputs limits) (λ q. pos 0))
+      (opening_by machine program inputs limits).state (λ q. true) p)).prints
   lines_are p s e =
       let l = slice_get_within (order_by machine program inputs limits) p s e in
-      (step_is p s e).lines ∙ ap (λ state. (effect s.thread s.begins.sync s.child s.actions state).prints) (sym (fold_below p (omega arith)))
+      (step_is p s e).lines ∙ ap (λ state. (effect s.thread s.begins.sync s.child s.actions state).prints)
+      (sym (fold_below p (omega arith)))
 
   -- ---- the end
 
-  pub last_is : (before_by machine program inputs limits (length (order_by machine program inputs limits)) ≡ last_by machine program inputs limits)
+  pub last_is : (before_by machine program inputs limits (length (order_by machine program inputs limits))
+      ≡ last_by machine program inputs limits)
       × (next_issue (last_by machine program inputs limits).table ≡ Ended (end_by machine program inputs limits))
-  last_is = (there, ended.1 ∙ ap Ended (sym (ap (λ what. ending_of (on_turn_by machine (last_by machine program inputs limits) what)) ended.1)))
+  last_is =
+      (there, ended.1 ∙ ap Ended (sym (ap (λ what. ending_of (on_turn_by machine (last_by machine program inputs limits) what)) ended.1)))
     where
       ended : (ending : End) × (next_issue (last_by machine program inputs limits).table ≡ Ended ending)
       ended = end_law machine program inputs limits
@@ -239,13 +266,18 @@ module _ {P : Type 0} (machine : Machine P) (program : Program) (inputs : Inputs
       at_end (Goes s x) e = absurd (some_none e)
       at_end (Ends ending) e = (ending, refl)
 
-      found : (ending : End) × (move_by machine (before_by machine program inputs limits (length (order_by machine program inputs limits))) ≡ Ends ending)
+      found : (ending : End) × (move_by machine (before_by machine program inputs limits (length (order_by machine program inputs limits)))
+          ≡ Ends ending)
       found =
           at_end (move_by machine (before_by machine program inputs limits (length (order_by machine program inputs limits))))
           (sym (get_past (order_by machine program inputs limits) (length (order_by machine program inputs limits)) (omega arith))
-          ∙ step_at (move_by machine) (length (order_by machine program inputs limits)) (suc limits.subthreads) (opening_by machine program inputs limits) (let m = most in omega arith))
+          ∙ step_at (move_by machine) (length (order_by machine program inputs limits)) (suc limits.subthreads)
+          (opening_by machine program inputs limits) (let m = most in omega arith))
 
-      there : before_by machine program inputs limits (length (order_by machine program inputs limits)) ≡ last_by machine program inputs limits
+      there : before_by machine program inputs limits (length (order_by machine program inputs limits))
+          ≡ last_by machine program inputs limits
       there =
-          sym (stays_after (move_by machine) (length (order_by machine program inputs limits)) (suc limits.subthreads - length (order_by machine program inputs limits)) (opening_by machine program inputs limits) found.0 found.1)
+          sym (stays_after (move_by machine) (length (order_by machine program inputs limits))
+          (suc limits.subthreads - length (order_by machine program inputs limits))
+          (opening_by machine program inputs limits) found.0 found.1)
           ∙ ap (λ n. state_after (move_by machine) n (opening_by machine program inputs limits)) (let m = most in omega arith)

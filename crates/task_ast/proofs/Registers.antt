@@ -17,7 +17,8 @@ with_registers env registers = record env { regs = registers }
 
 mutual
   -- an expression without data has one value whatever the registers hold
-  pub value-registers : (e : Expr) (env : Env) (registers : List (Name × ℤ)) → has_data e ≡ false → value e (record env { regs = registers }) ≡ value e env
+  pub value-registers : (e : Expr) (env : Env) (registers : List (Name × ℤ)) → has_data e ≡ false
+      → value e (record env { regs = registers }) ≡ value e env
   value-registers (Num v) env registers h = refl
   value-registers (Ctl x) env registers h = refl
   value-registers (Reg x) env registers h = absurd (false≢true (sym h))
@@ -31,7 +32,8 @@ mutual
   value-registers (Not e) env registers h = ap (option_map _) (value-registers e env registers h)
   value-registers (Chain e links) env registers h =
       let parts = or_false (has_data e) (have_data links) h in
-      value_on-registers links env registers (value e (with_registers env registers)) parts.1 ∙ ap (value_on links env) (value-registers e env registers parts.0)
+      value_on-registers links env registers (value e (with_registers env registers)) parts.1
+      ∙ ap (value_on links env) (value-registers e env registers parts.0)
 
   value_on-registers : (links : Links) (env : Env) (registers : List (Name × ℤ)) (so_far : Option ℤ) → have_data links ≡ false
       → value_on links (with_registers env registers) so_far ≡ value_on links env so_far

@@ -13,7 +13,8 @@ module _ {A B : Type 0} (turn : A → Again A B) (size : A → ℕ) (none : B) (
   enough zero n a below_m below_n = absurd (omega arith)
   enough (suc m) zero a below_m below_n = absurd (omega arith)
   enough (suc m) (suc n) a below_m below_n =
-      go_on_same (turn a) (repeated turn size none m) (repeated turn size none n) (λ b is. let less = falling.falls a b is in enough m n b (omega arith) (omega arith))
+      go_on_same (turn a) (repeated turn size none m) (repeated turn size none n)
+      (λ b is. let less = falling.falls a b is in enough m n b (omega arith) (omega arith))
 
   -- one turn, and then the same again
   pub until_done_step : (a : A) → until_done turn size none a ≡ go_on turn size none (until_done turn size none) (turn a)
@@ -23,7 +24,8 @@ module _ {A B : Type 0} (turn : A → Again A B) (size : A → ℕ) (none : B) (
       (λ b is. let less = falling.falls a b is in enough (size a) (suc (size b)) b less (omega arith))
 
 module _ {A S E : Type 0} (move : A → Move A S E) where
-  prefix_by : (k : ℕ) (m : Move A S E) (f g : A → List S) → ((b : A) → take k (f b) ≡ g b) → take (suc k) (steps_from move m f) ≡ steps_from move m g
+  prefix_by : (k : ℕ) (m : Move A S E) (f g : A → List S) → ((b : A) → take k (f b) ≡ g b)
+      → take (suc k) (steps_from move m f) ≡ steps_from move m g
   prefix_by k (Goes s b) f g same = ap (λ rest. s ∷ rest) (same b)
   prefix_by k (Ends e) f g same = refl
 
@@ -38,7 +40,9 @@ module _ {A S E : Type 0} (move : A → Move A S E) where
   first_by (Goes s b) f = refl
   first_by (Ends e) f = refl
 
-  later_by : (p : ℕ) (a : A) (m : Move A S E) (f : A → List S) (after : A → A) → move a ≡ m → ((b : A) → slice_get (f b) p ≡ step_of move (move (after b))) → slice_get (steps_from move m f) (suc p) ≡ step_of move (move (state_from move a m after))
+  later_by : (p : ℕ) (a : A) (m : Move A S E) (f : A → List S) (after : A → A) → move a ≡ m
+      → ((b : A) → slice_get (f b) p ≡ step_of move (move (after b)))
+      → slice_get (steps_from move m f) (suc p) ≡ step_of move (move (state_from move a m after))
   later_by p a (Goes s b) f after is same = same b
   later_by p a (Ends e) f after is same = sym (ap (step_of move) is)
 
@@ -50,7 +54,8 @@ module _ {A S E : Type 0} (move : A → Move A S E) where
   step_at (suc p) (suc n) a less = later_by p a (move a) (steps move n) (state_after move p) refl (λ b. step_at p n b (omega arith))
 
   -- one more step is made at the end
-  pub state_after_next : (n : ℕ) (a : A) → state_after move (suc n) a ≡ state_from move (state_after move n a) (move (state_after move n a)) (λ b. b)
+  pub state_after_next : (n : ℕ) (a : A)
+      → state_after move (suc n) a ≡ state_from move (state_after move n a) (move (state_after move n a)) (λ b. b)
   unfolding state_after
   state_after_next zero a = refl
   state_after_next (suc n) a = go (move a) refl (λ b. state_after_next n b)
@@ -98,12 +103,14 @@ module _ {A S E : Type 0} (move : A → Move A S E) where
   step_there (suc n) (suc p) a s e = go (move a) e (λ b. step_there n p b s)
     where
       go : (m : Move A S E) → slice_get (steps_from move m (steps move n)) (suc p) ≡ Some s
-          → ((b : A) → slice_get (steps move n b) p ≡ Some s → StepThere (state_after move p b) s) → StepThere (state_from move a m (state_after move p)) s
+          → ((b : A) → slice_get (steps move n b) p ≡ Some s → StepThere (state_after move p b) s)
+          → StepThere (state_from move a m (state_after move p)) s
       go (Goes other b) e again = again b e
       go (Ends end) e again = absurd (no_step e)
 
   -- where it leads
-  pub step_reached : (n p : ℕ) (a : A) (s : S) (e : slice_get (steps move n a) p ≡ Some s) → state_after move (suc p) a ≡ (step_there n p a s e).next
+  pub step_reached : (n p : ℕ) (a : A) (s : S) (e : slice_get (steps move n a) p ≡ Some s)
+      → state_after move (suc p) a ≡ (step_there n p a s e).next
   step_reached n p a s e =
       let step = step_there n p a s e in
       state_after_next p a ∙ ap (λ m. state_from move (state_after move p a) m (λ b. b)) step.moves

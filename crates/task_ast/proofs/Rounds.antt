@@ -1,4 +1,7 @@
--- The threads that have passed stand last in the order in which the token looks at them.
+-- The threads that have passed stand last in the order in which the token looks at them. Threads are ranked by how far
+-- they stand behind the one whose turn was last. Of two that have not ended, where the nearer has passed, the farther
+-- has (Staged); each turn keeps that, since the thread that the token comes to is the nearest that has not ended, and
+-- stands last then. So where that one has passed all have, which is the deadlock.
 use Rattle.std.proofs.Common.{◌≡◌, inl, inr, ℕ, zero, suc, ◌+◌, ◌-◌, ◌<◌, ◌≤◌, Bool, true, false, ◌||◌, cond, List, [], ◌∷◌, ◌++◌, map, length, Option, Some, None, is_none, nat_lt, nat_le, unwrap_or, refl, sym, ap, ◌∙◌, subst, arith, count_by, option_map, option_and_then}
 use Rattle.std.specs.Prelude.{slice_get, pos, negsuc}
 use Rattle.std.specs.List.{list_all}
@@ -30,12 +33,18 @@ rank-turned : (last n t u : ℕ) → last < n → t < n → u < n → rank last 
 rank-turned last n t u l_in t_in u_in less =
     elim (cases_lt last t) [
       | inl lt ↦ elim (cases_lt last u) [
-        | inl lu ↦ (let rt = rank-after last n t lt in let ru = rank-after last n u lu in let after = rank-after t n u (omega arith) in omega arith)
-        | inr lu ↦ (let rt = rank-after last n t lt in let ru = rank-up_to last n u lu in let after = rank-up_to t n u (omega arith) in omega arith)
+        | inl lu ↦
+            (let rt = rank-after last n t lt in let ru = rank-after last n u lu in let after = rank-after t n u (omega arith) in
+            omega arith)
+        | inr lu ↦
+            (let rt = rank-after last n t lt in let ru = rank-up_to last n u lu in let after = rank-up_to t n u (omega arith) in
+            omega arith)
       ]
       | inr lt ↦ elim (cases_lt last u) [
         | inl lu ↦ absurd (let rt = rank-up_to last n t lt in let ru = rank-after last n u lu in omega arith)
-        | inr lu ↦ (let rt = rank-up_to last n t lt in let ru = rank-up_to last n u lu in let after = rank-after t n u (omega arith) in omega arith)
+        | inr lu ↦
+            (let rt = rank-up_to last n t lt in let ru = rank-up_to last n u lu in let after = rank-after t n u (omega arith) in
+            omega arith)
       ]
     ]
 
@@ -71,7 +80,8 @@ data Found (table : Table) (a n : ℕ) (rest : List ℕ) (t : ℕ) : Type 0 wher
   in_part : a ≤ t → t < a + n → ((u : ℕ) → a ≤ u → u < t → ended table u ≡ true) → Found table a n rest t
   in_rest : ((u : ℕ) → a ≤ u → u < a + n → ended table u ≡ true) → (next : Next) → look table rest ≡ To t next → Found table a n rest t
 
-found : (table : Table) (a n : ℕ) (rest : List ℕ) (t : ℕ) (next : Next) → look table (numbers a n ++ rest) ≡ To t next → Found table a n rest t
+found : (table : Table) (a n : ℕ) (rest : List ℕ) (t : ℕ) (next : Next) → look table (numbers a n ++ rest) ≡ To t next
+    → Found table a n rest t
 found table a zero rest t next e = in_rest (λ u l m. absurd (omega arith)) next e
 found table a (suc n) rest t next e = at_first (next_of table a) refl e (λ f. found table (suc a) n rest t next f)
   where
@@ -109,7 +119,9 @@ staged_none n last passed end none u v u_in v_in less is eu ev = both_ways' (pas
 staged_alone : (n t : ℕ) (passed end : ℕ → Bool) → t < n → ((u : ℕ) → (u ≡ t → ⊥) → passed u ≡ false) → Staged n t passed end
 staged_alone n t passed end t_in others u v u_in v_in less is eu ev =
     elim (cases_eq u t) [
-      | inl same ↦ absurd (let most = rank-most n t v t_in v_in in let at : rank t n t < rank t n v = subst (λ x. rank t n x < rank t n v) same less in omega arith)
+      | inl same ↦
+          absurd (let most = rank-most n t v t_in v_in in
+          let at : rank t n t < rank t n v = subst (λ x. rank t n x < rank t n v) same less in omega arith)
       | inr other ↦ both_ways' (passed u) is (others u other)
     ]
 
@@ -126,7 +138,9 @@ staged_turned n last t passed after end ends l_in t_in staged nearest mine other
     elim (cases_eq v t) [
       | inl at ↦ ap after at ∙ mine
       | inr other ↦ elim (cases_eq u t) [
-        | inl at ↦ absurd (let most = rank-most n t v t_in v_in in let there : rank t n t < rank t n v = subst (λ x. rank t n x < rank t n v) at less in omega arith)
+        | inl at ↦
+            absurd (let most = rank-most n t v t_in v_in in
+            let there : rank t n t < rank t n v = subst (λ x. rank t n x < rank t n v) at less in omega arith)
         | inr another ↦
             (let behind_u = behind u u_in another (sym (same u) ∙ eu) in
             let behind_v = behind v v_in other (sym (same v) ∙ ev) in
@@ -157,24 +171,31 @@ pub record Rounds (table : Table) : Type 0 where
 -- the threads before the one that the token comes to have ended
 pub record Nearest (table : Table) (t : ℕ) : Type 0 where
   pub here : t < length table.seats
-  pub before : (u : ℕ) → u < length table.seats → rank (last_turn table) (length table.seats) u < rank (last_turn table) (length table.seats) t → ended table u ≡ true
+  pub before : (u : ℕ) → u < length table.seats
+      → rank (last_turn table) (length table.seats) u < rank (last_turn table) (length table.seats) t → ended table u ≡ true
 
-all_of_part : (table : Table) (n t : ℕ) (next : Next) → look table (numbers 0 n) ≡ To t next → (t < n) × ((u : ℕ) → u < t → ended table u ≡ true)
+all_of_part : (table : Table) (n t : ℕ) (next : Next) → look table (numbers 0 n) ≡ To t next
+    → (t < n) × ((u : ℕ) → u < t → ended table u ≡ true)
 all_of_part table n t next e = go (found table 0 n [] t next (subst (λ ts. look table ts ≡ To t next) (sym (append-nil (numbers 0 n))) e))
   where
     go : Found table 0 n [] t → (t < n) × ((u : ℕ) → u < t → ended table u ≡ true)
     go (in_part l m before) = (omega arith, λ u k. before u (omega arith) k)
     go (in_rest before other f) = absurd (cc f)
 
-nearest_from : (table : Table) (token : Option ℕ) (n t : ℕ) (next : Next) → unwrap_or token (n - 1) < n → look table (ring token n) ≡ To t next
+nearest_from : (table : Table) (token : Option ℕ) (n t : ℕ) (next : Next) → unwrap_or token (n - 1) < n
+    → look table (ring token n) ≡ To t next
     → (t < n) × ((u : ℕ) → u < n → rank (unwrap_or token (n - 1)) n u < rank (unwrap_or token (n - 1)) n t → ended table u ≡ true)
 nearest_from table None n t next inside e =
     let h = all_of_part table n t next e in
-    let here : t < n = h.0 in
-    (here, λ u l less. let ru = rank-up_to (n - 1) n u (omega arith) in let rt = rank-up_to (n - 1) n t (omega arith) in h.1 u (omega arith))
+    let here : t < n = h.0 in (
+      here,
+      λ u l less. let ru = rank-up_to (n - 1) n u (omega arith) in let rt = rank-up_to (n - 1) n t (omega arith) in
+          h.1 u (omega arith),
+    )
 nearest_from table (Some last) n t next inside e = go (found table (suc last) (n - suc last) (numbers 0 (suc last)) t next e)
   where
-    go : Found table (suc last) (n - suc last) (numbers 0 (suc last)) t → (t < n) × ((u : ℕ) → u < n → rank last n u < rank last n t → ended table u ≡ true)
+    go : Found table (suc last) (n - suc last) (numbers 0 (suc last)) t
+        → (t < n) × ((u : ℕ) → u < n → rank last n u < rank last n t → ended table u ≡ true)
     go (in_part l m before) = (
       omega arith,
       λ u u_in less. let rt = rank-after last n t (omega arith) in
@@ -194,12 +215,16 @@ nearest_from table (Some last) n t next inside e = go (found table (suc last) (n
               ],
         )
 
-pub nearest : (table : Table) (t : ℕ) (next : Next) → Rounds table → look table (ring table.token (length table.seats)) ≡ To t next → Nearest table t
-nearest table t next rounds e = let h = nearest_from table table.token (length table.seats) t next rounds.inside e in record { here = h.0; before = h.1 }
+pub nearest : (table : Table) (t : ℕ) (next : Next) → Rounds table → look table (ring table.token (length table.seats)) ≡ To t next
+    → Nearest table t
+nearest table t next rounds e =
+    let h = nearest_from table table.token (length table.seats) t next rounds.inside e in
+    record { here = h.0; before = h.1 }
 
 -- ---- what is read of a changed list
 
-pub keeps_nth : {X Y : Type 0} (h : Option X → Y) (f : X → X) → ((x : X) → h (Some (f x)) ≡ h (Some x)) → (xs : List X) (n m : ℕ) → h (slice_get (with_nth xs n f) m) ≡ h (slice_get xs m)
+pub keeps_nth : {X Y : Type 0} (h : Option X → Y) (f : X → X) → ((x : X) → h (Some (f x)) ≡ h (Some x)) → (xs : List X) (n m : ℕ)
+    → h (slice_get (with_nth xs n f) m) ≡ h (slice_get xs m)
 keeps_nth h f same [] n m = refl
 keeps_nth h f same (x ∷ xs) zero zero = same x
 keeps_nth h f same (x ∷ xs) zero (suc m) = refl
@@ -213,7 +238,8 @@ other_nth f (x ∷ xs) zero (suc m) ne = refl
 other_nth f (x ∷ xs) (suc n) zero ne = refl
 other_nth f (x ∷ xs) (suc n) (suc m) ne = other_nth f xs n m (λ e. ne (ap suc e))
 
-pub keeps_map : {X Y : Type 0} (h : Option X → Y) (f : X → X) → ((x : X) → h (Some (f x)) ≡ h (Some x)) → (xs : List X) (m : ℕ) → h (slice_get (map f xs) m) ≡ h (slice_get xs m)
+pub keeps_map : {X Y : Type 0} (h : Option X → Y) (f : X → X) → ((x : X) → h (Some (f x)) ≡ h (Some x)) → (xs : List X) (m : ℕ)
+    → h (slice_get (map f xs) m) ≡ h (slice_get xs m)
 keeps_map h f same [] m = refl
 keeps_map h f same (x ∷ xs) zero = same x
 keeps_map h f same (x ∷ xs) (suc m) = keeps_map h f same xs m
@@ -231,13 +257,15 @@ unpassed_all [] m = refl
 unpassed_all (x ∷ xs) zero = refl
 unpassed_all (x ∷ xs) (suc m) = unpassed_all xs m
 
-unpassed_more : (xs : List Seat) (y : Seat) → y.passed ≡ false → ((m : ℕ) → passed_in (slice_get xs m) ≡ false) → (m : ℕ) → passed_in (slice_get (xs ++ y ∷ []) m) ≡ false
+unpassed_more : (xs : List Seat) (y : Seat) → y.passed ≡ false → ((m : ℕ) → passed_in (slice_get xs m) ≡ false) → (m : ℕ)
+    → passed_in (slice_get (xs ++ y ∷ []) m) ≡ false
 unpassed_more [] y e none zero = e
 unpassed_more [] y e none (suc m) = refl
 unpassed_more (x ∷ xs) y e none zero = none 0
 unpassed_more (x ∷ xs) y e none (suc m) = unpassed_more xs y e (λ k. none (suc k)) m
 
-unpassed_after : (op : SyncOp) (xs : List Seat) → ((m : ℕ) → passed_in (slice_get xs m) ≡ false) → (m : ℕ) → passed_in (slice_get (seats_after op xs) m) ≡ false
+unpassed_after : (op : SyncOp) (xs : List Seat) → ((m : ℕ) → passed_in (slice_get xs m) ≡ false) → (m : ℕ)
+    → passed_in (slice_get (seats_after op xs) m) ≡ false
 unpassed_after (sync.Fork task arguments) xs none m = unpassed_more xs new_seat refl none m
 unpassed_after _ xs none m = none m
 
@@ -268,12 +296,14 @@ cond_keeps true first second f s = f
 cond_keeps false first second f s = s
 
 abbrev issued_seats : SyncOp → List Seat → ℕ → ℕ → List Seat
-issued_seats op seats t position = seats_after op (map unpassed (with_nth seats t (λ s. record { next = None; last = Some position; passed = false; stand = Away })))
+issued_seats op seats t position =
+    seats_after op (map unpassed (with_nth seats t (λ s. record { next = None; last = Some position; passed = false; stand = Away })))
 
 length_issued : (op : SyncOp) (seats : List Seat) (t position : ℕ) → length seats ≤ length (issued_seats op seats t position)
 length_issued op seats t position =
     let begun : List Seat = with_nth seats t (λ s. record { next = None; last = Some position; passed = false; stand = Away }) in
-    let same : length begun ≡ length seats = length-with_nth seats t (λ s. record { next = None; last = Some position; passed = false; stand = Away }) in
+    let same : length begun ≡ length seats =
+    length-with_nth seats t (λ s. record { next = None; last = Some position; passed = false; stand = Away }) in
     let mapped : length (map unpassed begun) ≡ length begun = length-map begun unpassed in
     let more : length (map unpassed begun) ≤ length (seats_after op (map unpassed begun)) = length_after op (map unpassed begun) in
     omega arith
@@ -283,7 +313,10 @@ issuing_keeps table t next t_in =
     cond_keeps (nat_lt table.issued table.limit) _ _
     (issues (record {
       inside = (let more = length_issued next.sync table.seats t table.issued in omega arith);
-      staged = staged_none _ _ _ _ (unpassed_after next.sync (map unpassed (with_nth table.seats t (λ s. record { next = None; last = Some table.issued; passed = false; stand = Away })))
+      staged =
+          staged_none _ _ _ _ (unpassed_after next.sync
+          (map unpassed (with_nth table.seats t (λ s.
+          record { next = None; last = Some table.issued; passed = false; stand = Away })))
           (unpassed_all (with_nth table.seats t (λ s. record { next = None; last = Some table.issued; passed = false; stand = Away }))));
     }))
     ends
@@ -298,7 +331,9 @@ passing_keeps : (table : Table) (t : ℕ) → Rounds table → Nearest table t �
 passing_keeps table t rounds nearest =
     passes (record {
       inside = rw (length-with_nth table.seats t pass) nearest.here;
-      staged = rw (length-with_nth table.seats t pass) (staged_turned (length table.seats) (last_turn table) t (has_passed table) (has_passed after) (ended table) (ended after)
+      staged =
+          rw (length-with_nth table.seats t pass)
+          (staged_turned (length table.seats) (last_turn table) t (has_passed table) (has_passed after) (ended table) (ended after)
           rounds.inside nearest.here rounds.staged nearest.before mine
           (λ u ne. ap passed_in (other_nth pass table.seats t u ne))
           (λ u. keeps_nth (λ o. is_known_end (option_and_then (λ s. s.next) o)) pass (λ s. refl) table.seats t u));
@@ -324,7 +359,8 @@ released_passed true s = refl
 released_passed false s = refl
 
 -- the table in which a thread has arrived, and all are released where they are enough
-met_seats : (table : Table) (t b : ℕ) → (length (met (arrived table t) b).seats ≡ length table.seats) × ((m : ℕ) → has_passed (met (arrived table t) b) m ≡ false)
+met_seats : (table : Table) (t b : ℕ)
+    → (length (met (arrived table t) b).seats ≡ length table.seats) × ((m : ℕ) → has_passed (met (arrived table t) b) m ≡ false)
 met_seats table t b = go (nat_le (unwrap_or (slice_get table.barriers b) 0) (count_by (waits_at b) (arrive table.seats t)))
   where
     there : Bool → Table
@@ -333,7 +369,8 @@ met_seats table t b = go (nat_le (unwrap_or (slice_get table.barriers b) 0) (cou
     go : (all : Bool) → (length (there all).seats ≡ length table.seats) × ((m : ℕ) → has_passed (there all) m ≡ false)
     go true = (
       length-map (arrive table.seats t) (released_at b) ∙ length_arrive table.seats t,
-      λ m. keeps_map passed_in (released_at b) (λ s. released_passed (waits_at b s) s) (arrive table.seats t) m ∙ unpassed_arrive table.seats t m,
+      λ m. keeps_map passed_in (released_at b) (λ s. released_passed (waits_at b s) s) (arrive table.seats t) m
+          ∙ unpassed_arrive table.seats t m,
     )
     go false = (length_arrive table.seats t, unpassed_arrive table.seats t)
 
@@ -349,7 +386,8 @@ first_keeps table t t_in none =
     after : Table
     after = record table { seats = with_nth table.seats t pass; token = Some t }
 
-barrier_keeps : (stand : Stand) (table : Table) (t : ℕ) (next : Next) → t < length table.seats → Keeps (passing table t) → Keeps (at_barrier stand table t next)
+barrier_keeps : (stand : Stand) (table : Table) (t : ℕ) (next : Next) → t < length table.seats → Keeps (passing table t)
+    → Keeps (at_barrier stand table t next)
 barrier_keeps Away table t next t_in keeps = keeps
 barrier_keeps Waits table t next t_in keeps = keeps
 barrier_keeps Released table t next t_in keeps = issuing_keeps table t next t_in
@@ -358,14 +396,17 @@ meeting_keeps : (stand : Stand) (table : Table) (t b : ℕ) (next : Next) → Ro
     → Keeps (at_barrier (stand_of (come_to stand table t b) t) (come_to stand table t b) t next)
 meeting_keeps Away table t b next rounds nearest =
     let h = met_seats table t b in
-    let t_in : t < length (met (arrived table t) b).seats = (let l : t < length table.seats = nearest.here in let same = h.0 in omega arith) in
-    barrier_keeps (stand_of (met (arrived table t) b) t) (met (arrived table t) b) t next t_in (first_keeps (met (arrived table t) b) t t_in h.1)
+    let t_in : t < length (met (arrived table t) b).seats =
+    (let l : t < length table.seats = nearest.here in let same = h.0 in omega arith) in
+    barrier_keeps (stand_of (met (arrived table t) b) t) (met (arrived table t) b) t next t_in
+    (first_keeps (met (arrived table t) b) t t_in h.1)
 meeting_keeps Waits table t b next rounds nearest =
     barrier_keeps (stand_of table t) table t next nearest.here (passing_keeps table t rounds nearest)
 meeting_keeps Released table t b next rounds nearest =
     barrier_keeps (stand_of table t) table t next nearest.here (passing_keeps table t rounds nearest)
 
-joining_keeps : (h : ℕ) (o : Option Next) (table : Table) (t : ℕ) (next : Next) → Rounds table → Nearest table t → Keeps (joining h o table t next)
+joining_keeps : (h : ℕ) (o : Option Next) (table : Table) (t : ℕ) (next : Next) → Rounds table → Nearest table t
+    → Keeps (joining h o table t next)
 joining_keeps h None table t next rounds nearest = needs
 joining_keeps h (Some other) table t next rounds nearest =
     cond_keeps (is_end other.sync) _ _ (issuing_keeps table t next nearest.here) (passing_keeps table t rounds nearest)
@@ -393,7 +434,8 @@ stuck_keeps NoThread = ends
 
 look_keeps : (table : Table) (l : Look) → Rounds table → look table (ring table.token (length table.seats)) ≡ l → Keeps (at_look l table)
 look_keeps table (To t next) rounds e =
-    cond_keeps (has_passed table t) _ _ (stuck_keeps (look table (all_threads table))) (tried_keeps next.sync table t next rounds (nearest table t next rounds e))
+    cond_keeps (has_passed table t) _ _ (stuck_keeps (look table (all_threads table)))
+    (tried_keeps next.sync table t next rounds (nearest table t next rounds e))
 look_keeps table (Unknown t) rounds e = needs
 look_keeps table NoThread rounds e = ends
 
@@ -411,7 +453,10 @@ learning_keeps : (table : Table) (t : ℕ) (next : Next) → next_of table t ≡
 learning_keeps table t next unknown rounds =
     record {
       inside = rw (length-with_nth table.seats t learn) rounds.inside;
-      staged = rw (length-with_nth table.seats t learn) (staged_fewer (length table.seats) (last_turn table) (has_passed table) (has_passed (learning table t next)) (ended table) (ended (learning table t next))
+      staged =
+          rw (length-with_nth table.seats t learn)
+          (staged_fewer (length table.seats) (last_turn table) (has_passed table) (has_passed (learning table t next)) (ended table)
+          (ended (learning table t next))
           (λ u. keeps_nth passed_in learn (λ s. refl) table.seats t u) fewer rounds.staged);
     }
   where
@@ -433,7 +478,8 @@ rounds_kept (by_learning {table = table} t next reached e) = learning_keeps tabl
 
 -- ---- the deadlock
 
-pub all_from : {X : Type 0} (test : X → Bool) (xs : List X) → ((m : ℕ) (x : X) → slice_get xs m ≡ Some x → test x ≡ true) → list_all test xs ≡ true
+pub all_from : {X : Type 0} (test : X → Bool) (xs : List X) → ((m : ℕ) (x : X) → slice_get xs m ≡ Some x → test x ≡ true)
+    → list_all test xs ≡ true
 all_from test [] each = refl
 all_from test (x ∷ xs) each = rw (each 0 x refl) (all_from test xs (λ m. each (suc m)))
 
@@ -450,7 +496,8 @@ some_below (y ∷ ys) (suc m) x e = let h = some_below ys m x e in omega arith
 live_of : {table : Table} {t : ℕ} {next : Next} → Known table (To t next) → ended table t ≡ false
 live_of (known_to at live) = ap is_known_end at ∙ live
 
-pub deadlock_is : (table : Table) → Rounds table → (t : ℕ) (next : Next) → look table (ring table.token (length table.seats)) ≡ To t next → has_passed table t ≡ all_passed table
+pub deadlock_is : (table : Table) → Rounds table → (t : ℕ) (next : Next) → look table (ring table.token (length table.seats)) ≡ To t next
+    → has_passed table t ≡ all_passed table
 deadlock_is table rounds t next e = go (has_passed table t) (all_passed table) refl refl
   where
     near : Nearest table t
@@ -465,7 +512,8 @@ deadlock_is table rounds t next e = go (has_passed table t) (all_passed table) r
         elim (cases_lt (rank (last_turn table) (length table.seats) m) (rank (last_turn table) (length table.seats) t)) [
           | inl l ↦ both_ways' (ended table m) (near.before m m_in l) going
           | inr l ↦ elim (cases_eq (rank (last_turn table) (length table.seats) t) (rank (last_turn table) (length table.seats) m)) [
-            | inl same ↦ ap (has_passed table) (sym (rank-same (last_turn table) (length table.seats) t m rounds.inside near.here m_in same)) ∙ is
+            | inl same ↦
+                ap (has_passed table) (sym (rank-same (last_turn table) (length table.seats) t m rounds.inside near.here m_in same)) ∙ is
             | inr other ↦ rounds.staged t m near.here m_in (omega arith) is live going
           ]
         ]
@@ -479,13 +527,15 @@ deadlock_is table rounds t next e = go (has_passed table t) (all_passed table) r
 
     each : has_passed table t ≡ true → (m : ℕ) (s : Seat) → slice_get table.seats m ≡ Some s → (has_ended s || s.passed) ≡ true
     each is m s at =
-        either s (λ going. sym (ap passed_in at) ∙ later is m (some_below table.seats m s at) (ap (λ o. is_known_end (option_and_then (λ x. x.next) o)) at ∙ going))
+        either s (λ going. sym (ap passed_in at)
+        ∙ later is m (some_below table.seats m s at) (ap (λ o. is_known_end (option_and_then (λ x. x.next) o)) at ∙ going))
 
     mine : all_passed table ≡ true → has_passed table t ≡ true
     mine all =
         let seat = there_nth pass table.seats t near.here in
         let closed : has_ended seat.0 ≡ false = sym (ap (λ o. is_known_end (option_and_then (λ x. x.next) o)) seat.1) ∙ live in
-        ap passed_in seat.1 ∙ (sym (ap (λ b. b || seat.0.passed) closed) ∙ each_of (λ s. has_ended s || s.passed) table.seats t seat.0 all seat.1)
+        ap passed_in seat.1 ∙ (sym (ap (λ b. b || seat.0.passed) closed)
+        ∙ each_of (λ s. has_ended s || s.passed) table.seats t seat.0 all seat.1)
 
     go : (b all : Bool) → has_passed table t ≡ b → all_passed table ≡ all → b ≡ all
     go true true is f = refl

@@ -1,4 +1,5 @@
--- The programs of the worked rows.
+-- The programs of the worked rows. First come short words for what they are made of: tasks, lines of variables,
+-- numbers, operations, atoms, a lock and an unlock at a line. Each program is then one value.
 use Rattle.std.specs.Prelude.{ℕ, pos, List, [], ◌∷◌, Some, None, codes}
 use Rattle.task_ast.specs.declared.tree.Atom.{Atom}
 use Rattle.task_ast.specs.declared.tree.Atom.TheVariants as atom
@@ -55,7 +56,8 @@ arithmetic = record {
       (At 3 (SetReg (codes "a") (number 9223372036854775807))
       ∷ At 4 (Print (two a Add (number 1) ∷ []))
       ∷ At 5 (Print (two (Chain (number 0) (Link Sub a (Link Sub (number 1) NoLinks))) Div (Neg (number 1)) ∷ []))
-      ∷ At 6 (Print (two (number 7) Div (number 0) ∷ two (number 7) Rem (number 0) ∷ two (Neg (number 7)) Div (number 2) ∷ two (Neg (number 7)) Rem (number 2) ∷ []))
+      ∷ At 6 (Print (two (number 7) Div (number 0) ∷ two (number 7) Rem (number 0) ∷ two (Neg (number 7)) Div (number 2)
+      ∷ two (Neg (number 7)) Rem (number 2) ∷ []))
       ∷ [])
       ∷ [];
 }
@@ -80,7 +82,8 @@ two_adders = record {
   tasks =
       adder
       ∷ task (codes "main") [] [] 10
-      (At 11 (Fork (codes "add") (number 3 ∷ []) None) ∷ At 12 (Fork (codes "add") (number 4 ∷ []) None) ∷ At 13 (Join (number 1) None) ∷ At 14 (Join (number 2) None) ∷ [])
+      (At 11 (Fork (codes "add") (number 3 ∷ []) None) ∷ At 12 (Fork (codes "add") (number 4 ∷ []) None) ∷ At 13 (Join (number 1) None)
+      ∷ At 14 (Join (number 2) None) ∷ [])
       ∷ [];
 }
 
@@ -90,7 +93,8 @@ reader_and_adder = record {
   heads = one_total;
   tasks =
       adder
-      ∷ task (codes "peek") [] [] 10 (At 10 (Lock tally (cell 0)) ∷ At 10 (Read total (cell 0) (codes "ret")) ∷ At 10 (Unlock tally (cell 0)) ∷ [])
+      ∷ task (codes "peek") [] [] 10 (At 10 (Lock tally (cell 0)) ∷ At 10 (Read total (cell 0) (codes "ret"))
+      ∷ At 10 (Unlock tally (cell 0)) ∷ [])
       ∷ task (codes "main") [] (vars 11 (param.Reg (codes "p") ∷ [])) 11
       (At 11 (Fork (codes "peek") [] None)
       ∷ At 11 (Fork (codes "add") (number 4 ∷ []) None)
@@ -128,7 +132,8 @@ crossed_locks = record {
       ∷ unlocking 17 (codes "x")
       ∷ unlocking 18 (codes "y")
       ∷ [])
-      ∷ task (codes "main") [] [] 20 (At 21 (Fork (codes "p") [] None) ∷ At 22 (Fork (codes "q") [] None) ∷ At 23 (Join (number 1) None) ∷ [])
+      ∷ task (codes "main") [] [] 20 (At 21 (Fork (codes "p") [] None) ∷ At 22 (Fork (codes "q") [] None)
+      ∷ At 23 (Join (number 1) None) ∷ [])
       ∷ [];
 }
 
@@ -138,7 +143,8 @@ account n = record {
   heads = LockHead (codes "bank") (pos 100) 1 ∷ RecHead (codes "acct") (pos 100) (codes "bank") None 2 ∷ [];
   tasks =
       task (codes "main") [] (vars 4 (param.Ctl i ∷ [])) 3
-      (At 5 (SetCtl i (number n)) ∷ At 6 (Lock (codes "bank") at_i) ∷ At 7 (Write (codes "acct") at_i (number 1)) ∷ At 8 (Unlock (codes "bank") at_i) ∷ [])
+      (At 5 (SetCtl i (number n)) ∷ At 6 (Lock (codes "bank") at_i) ∷ At 7 (Write (codes "acct") at_i (number 1))
+      ∷ At 8 (Unlock (codes "bank") at_i) ∷ [])
       ∷ [];
 }
 
@@ -174,7 +180,8 @@ abbrev pub doubling : Program
 doubling = record {
   heads = [];
   tasks =
-      task (codes "double") (param.Reg (codes "n") ∷ []) [] 1 (At 1 (SetReg (codes "ret") (two (Reg (codes "n")) Add (Reg (codes "n")))) ∷ [])
+      task (codes "double") (param.Reg (codes "n") ∷ []) [] 1
+      (At 1 (SetReg (codes "ret") (two (Reg (codes "n")) Add (Reg (codes "n")))) ∷ [])
       ∷ task (codes "main") [] (vars 2 (param.Ctl (codes "h") ∷ param.Reg (codes "r") ∷ [])) 2
       (At 2 (Fork (codes "double") (number 21 ∷ []) (Some (codes "h")))
       ∷ At 2 (Join (Ctl (codes "h")) (Some (codes "r")))
@@ -202,4 +209,5 @@ chosen =
     ∷ [])
 
 abbrev pub settling : Program
-settling = record { heads = LockHead (codes "bank") (pos 3) 1 ∷ RecHead (codes "acct") (pos 3) (codes "bank") None 2 ∷ []; tasks = chosen ∷ [] }
+settling =
+    record { heads = LockHead (codes "bank") (pos 3) 1 ∷ RecHead (codes "acct") (pos 3) (codes "bank") None 2 ∷ []; tasks = chosen ∷ [] }

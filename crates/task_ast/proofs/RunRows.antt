@@ -59,7 +59,8 @@ touched s = ((foot_of s).reads, (foot_of s).writes)
 
 adders_feet : map touched (order two_adders (zeros 1) (limits 1000 20)) ≡
     ([], loc.Regs 0 ∷ []) ∷ ([], loc.Regs 0 ∷ loc.Regs 1 ∷ []) ∷ ([], loc.Regs 1 ∷ []) ∷ ([], loc.Regs 0 ∷ loc.Regs 2 ∷ [])
-    ∷ (loc.Rec 0 ∷ [], loc.Regs 1 ∷ loc.Rec 0 ∷ []) ∷ ([], loc.Regs 2 ∷ []) ∷ ([], loc.Regs 1 ∷ []) ∷ (loc.Rec 0 ∷ [], loc.Regs 2 ∷ loc.Rec 0 ∷ [])
+    ∷ (loc.Rec 0 ∷ [], loc.Regs 1 ∷ loc.Rec 0 ∷ []) ∷ ([], loc.Regs 2 ∷ []) ∷ ([], loc.Regs 1 ∷ [])
+    ∷ (loc.Rec 0 ∷ [], loc.Regs 2 ∷ loc.Rec 0 ∷ [])
     ∷ (loc.Regs 1 ∷ [], loc.Regs 0 ∷ []) ∷ ([], loc.Regs 2 ∷ []) ∷ (loc.Regs 2 ∷ [], loc.Regs 0 ∷ []) ∷ []
 unfolding steps body stretch until_done repeated
 adders_feet = refl
@@ -85,19 +86,23 @@ arithmetic_outcome : outcome arithmetic (zeros 0) (limits 1000 20) ≡ record {
 unfolding steps state_after body stretch until_done repeated int_wrap
 arithmetic_outcome = refl
 
-reader_outcome : outcome reader_and_adder (zeros 1) (limits 1000 20) ≡ record { count = 11; lines = (pos 0 ∷ []) ∷ []; ending = Finished; records = pos 4 ∷ [] }
+reader_outcome : outcome reader_and_adder (zeros 1) (limits 1000 20)
+    ≡ record { count = 11; lines = (pos 0 ∷ []) ∷ []; ending = Finished; records = pos 4 ∷ [] }
 unfolding steps state_after body stretch until_done repeated int_wrap
 reader_outcome = refl
 
-crossed_outcome : outcome crossed_locks (zeros 0) (limits 1000 20) ≡ record { count = 8; lines = (pos 1 ∷ []) ∷ (pos 2 ∷ []) ∷ []; ending = Stuck why.Deadlock 0 23; records = [] }
+crossed_outcome : outcome crossed_locks (zeros 0) (limits 1000 20)
+    ≡ record { count = 8; lines = (pos 1 ∷ []) ∷ (pos 2 ∷ []) ∷ []; ending = Stuck why.Deadlock 0 23; records = [] }
 unfolding steps state_after body stretch until_done repeated int_wrap
 crossed_outcome = refl
 
-past_the_end : outcome (account 100) (zeros 100) (limits 1000 20) ≡ record { count = 1; lines = []; ending = Stuck why.Index 0 6; records = replicate 100 (pos 0) }
+past_the_end : outcome (account 100) (zeros 100) (limits 1000 20)
+    ≡ record { count = 1; lines = []; ending = Stuck why.Index 0 6; records = replicate 100 (pos 0) }
 unfolding steps state_after body stretch until_done repeated int_wrap
 past_the_end = refl
 
-last_account : outcome (account 99) (zeros 100) (limits 1000 20) ≡ record { count = 3; lines = []; ending = Finished; records = replicate 99 (pos 0) ++ pos 1 ∷ [] }
+last_account : outcome (account 99) (zeros 100) (limits 1000 20)
+    ≡ record { count = 3; lines = []; ending = Finished; records = replicate 99 (pos 0) ++ pos 1 ∷ [] }
 unfolding steps state_after body stretch until_done repeated int_wrap
 last_account = refl
 
@@ -113,15 +118,18 @@ nine_turns_outcome : outcome ten_turns (zeros 0) (limits 9 20) ≡ record { coun
 unfolding steps state_after body stretch until_done repeated int_wrap
 nine_turns_outcome = refl
 
-meeting_outcome : outcome meeting (zeros 0) (limits 1000 20) ≡ record { count = 5; lines = (pos 3 ∷ []) ∷ (pos 1 ∷ []) ∷ (pos 2 ∷ []) ∷ (pos 4 ∷ []) ∷ []; ending = Finished; records = [] }
+meeting_outcome : outcome meeting (zeros 0) (limits 1000 20)
+    ≡ record { count = 5; lines = (pos 3 ∷ []) ∷ (pos 1 ∷ []) ∷ (pos 2 ∷ []) ∷ (pos 4 ∷ []) ∷ []; ending = Finished; records = [] }
 unfolding steps state_after body stretch until_done repeated int_wrap
 meeting_outcome = refl
 
-meeting_order : map turn_of (order meeting (zeros 0) (limits 1000 20)) ≡ (0, sync.Start) ∷ (0, sync.Fork 0 []) ∷ (1, sync.Start) ∷ (1, sync.Barrier 0) ∷ (0, sync.Barrier 0) ∷ []
+meeting_order : map turn_of (order meeting (zeros 0) (limits 1000 20))
+    ≡ (0, sync.Start) ∷ (0, sync.Fork 0 []) ∷ (1, sync.Start) ∷ (1, sync.Barrier 0) ∷ (0, sync.Barrier 0) ∷ []
 unfolding steps body stretch until_done repeated
 meeting_order = refl
 
-doubling_outcome : outcome doubling (zeros 0) (limits 1000 20) ≡ record { count = 4; lines = (pos 42 ∷ []) ∷ []; ending = Finished; records = [] }
+doubling_outcome : outcome doubling (zeros 0) (limits 1000 20)
+    ≡ record { count = 4; lines = (pos 42 ∷ []) ∷ []; ending = Finished; records = [] }
 unfolding steps state_after body stretch until_done repeated int_wrap
 doubling_outcome = refl
 
@@ -129,7 +137,8 @@ join_nobody : outcome (joining 7) (zeros 0) (limits 1000 20) ≡ record { count 
 unfolding steps state_after body stretch until_done repeated int_wrap
 join_nobody = refl
 
-join_itself : outcome (joining 0) (zeros 0) (limits 1000 20) ≡ record { count = 1; lines = []; ending = Stuck why.Deadlock 0 1; records = [] }
+join_itself : outcome (joining 0) (zeros 0) (limits 1000 20)
+    ≡ record { count = 1; lines = []; ending = Stuck why.Deadlock 0 1; records = [] }
 unfolding steps state_after body stretch until_done repeated int_wrap
 join_itself = refl
 
@@ -139,6 +148,7 @@ settling_order : map turn_of (order settling (zeros 3) (limits 1000 20)) ≡
 unfolding steps body stretch until_done repeated
 settling_order = refl
 
-settling_outcome : outcome settling (zeros 3) (limits 1000 20) ≡ record { count = 6; lines = []; ending = Finished; records = pos 2 ∷ pos 0 ∷ pos 9 ∷ [] }
+settling_outcome : outcome settling (zeros 3) (limits 1000 20)
+    ≡ record { count = 6; lines = []; ending = Finished; records = pos 2 ∷ pos 0 ∷ pos 9 ∷ [] }
 unfolding steps state_after body stretch until_done repeated int_wrap
 settling_outcome = refl

@@ -16,7 +16,8 @@ use Rattle.task_ast.proofs.IssuedTables.{learnt_length}
 use Rattle.task_ast.proofs.TurnLaws.{pass_law, issue_law}
 
 -- a child has room
-room_for : (op : SyncOp) (table : Table) → MayBegin table op → length table.seats ≤ most_threads → with_child (child_of op (length table.seats)) (length table.seats) ≤ most_threads
+room_for : (op : SyncOp) (table : Table) → MayBegin table op → length table.seats ≤ most_threads
+    → with_child (child_of op (length table.seats)) (length table.seats) ≤ most_threads
 room_for (sync.Fork task arguments) table may l = may
 room_for sync.Start table may l = l
 room_for (sync.Lock k) table may l = l
@@ -31,10 +32,12 @@ room_for sync.Spent table may l = l
 passed_seats : (table after : Table) → turn table ≡ More after → length table.seats ≤ most_threads → length after.seats ≤ most_threads
 passed_seats table after e l = subst (λ n. n ≤ most_threads) (sym (pass_law table after e).threads) l
 
-issued_seats : (table : Table) (t : ℕ) (next : Next) (child : Option ℕ) (after : Table) → turn table ≡ Done (Issue t next child after) → length table.seats ≤ most_threads → length after.seats ≤ most_threads
+issued_seats : (table : Table) (t : ℕ) (next : Next) (child : Option ℕ) (after : Table) → turn table ≡ Done (Issue t next child after)
+    → length table.seats ≤ most_threads → length after.seats ≤ most_threads
 issued_seats table t next child after e l =
     let begun = issue_law table t next child after e in
-    subst (λ n. n ≤ most_threads) (sym (begun.threads ∙ ap (λ c. with_child c (length table.seats)) begun.child_is)) (room_for next.sync table begun.may l)
+    subst (λ n. n ≤ most_threads) (sym (begun.threads ∙ ap (λ c. with_child c (length table.seats)) begun.child_is))
+    (room_for next.sync table begun.may l)
 
 some_same : {X : Type 0} {a b : X} → Some a ≡ Some b → a ≡ b
 some_same {a = a} e = ap (λ o. unwrap_or o a) e
@@ -44,14 +47,16 @@ seats_law table after l e = go (turn table) refl e
   where
     go : (r : Again Table Turn) → turn table ≡ r → table_after r ≡ Some after → length after.seats ≤ most_threads
     go (More there) is same = passed_seats table after (is ∙ ap More (some_same same)) l
-    go (Done (Issue t next child there)) is same = issued_seats table t next child after (is ∙ ap (λ x. Done (Issue t next child x)) (some_same same)) l
+    go (Done (Issue t next child there)) is same =
+        issued_seats table t next child after (is ∙ ap (λ x. Done (Issue t next child x)) (some_same same)) l
     go (Done (Needs t)) is same = absurd (cc same)
     go (Done (Ended ending)) is same = absurd (cc same)
 
 most : {table : Table} → Reached table → length table.seats ≤ most_threads
 most at_start = omega arith
 most (by_pass {table = table} {after = after} reached e) = passed_seats table after e (most reached)
-most (by_issue {table = table} {after = after} {t = t} {next = next} {child = child} reached e) = issued_seats table t next child after e (most reached)
+most (by_issue {table = table} {after = after} {t = t} {next = next} {child = child} reached e) =
+    issued_seats table t next child after e (most reached)
 most (by_learning {table = table} t next reached e) = subst (λ n. n ≤ most_threads) (sym (learnt_length table t next)) (most reached)
 
 pub most_threads_law : MostThreadsLaw
@@ -77,10 +82,12 @@ first_unknown table a u (Some next) others l is none ended rest = elim (cases_lt
     no : {X : Type 0} {x : X} → Some x ≡ None → ⊥
     no e = cc e
 
-found_unknown : (table : Table) (a n u : ℕ) → a ≤ u → u < a + n → next_of table u ≡ None → ((v : ℕ) → v < u → is_known_end (next_of table v) ≡ true) → look table (numbers a n) ≡ Unknown u
+found_unknown : (table : Table) (a n u : ℕ) → a ≤ u → u < a + n → next_of table u ≡ None
+    → ((v : ℕ) → v < u → is_known_end (next_of table v) ≡ true) → look table (numbers a n) ≡ Unknown u
 found_unknown table a zero u l m none before = absurd (omega arith)
 found_unknown table a (suc n) u l m none before =
-    first_unknown table a u (next_of table a) (look table (numbers (suc a) n)) l refl none (before a) (λ k. found_unknown table (suc a) n u k (omega arith) none before)
+    first_unknown table a u (next_of table a) (look table (numbers (suc a) n)) l refl none (before a)
+    (λ k. found_unknown table (suc a) n u k (omega arith) none before)
 
 pub needs_law : NeedsLaw
 needs_law table t next is passed u l none before =
@@ -92,10 +99,20 @@ abbrev Needed : Table → Again Table Turn → ℕ → Type 0
 Needed table r t = r ≡ Done (Needs t) → (t < length table.seats) × (next_of table t ≡ None)
 
 pub needed_law : NeededLaw
-needed_law table reached t = go (turn_alike table table reached (record { seats = seats_same table.seats; limit = refl; barriers = refl; owners = refl; token = refl; issued = refl }))
+needed_law table reached t =
+    go (turn_alike table table reached (record {
+      seats = seats_same table.seats;
+      limit = refl;
+      barriers = refl;
+      owners = refl;
+      token = refl;
+      issued = refl;
+    }))
   where
     go : {r s : Again Table Turn} → Alike table r s → Needed table r t
     go (passes k) e = absurd (cc e)
     go (issues k) e = absurd (cc e)
-    go (needs {t = u} l none) e = let same : u ≡ t = cc e in (subst (λ v. v < length table.seats) same l, ap (next_of table) (sym same) ∙ none)
+    go (needs {t = u} l none) e =
+        let same : u ≡ t = cc e in
+        (subst (λ v. v < length table.seats) same l, ap (next_of table) (sym same) ∙ none)
     go ends e = absurd (cc e)

@@ -38,19 +38,23 @@ act_falls : (s : Setting) (line : ℕ) (w : What) (rest : List Stmt) (p : Point)
     → Falls (weights (At line w ∷ rest)) (known line (action s (registers_of p.task) w (env_at s p)) (λ a. Act a (going p rest)))
 act_falls s line w rest p e =
     let less : weights rest < weights (At line w ∷ rest) = omega arith in
-    known_falls (weights (At line w ∷ rest)) line (action s (registers_of p.task) w (env_at s p)) (λ a. Act a (going p rest)) (λ v. acting less)
+    known_falls (weights (At line w ∷ rest)) line (action s (registers_of p.task) w (env_at s p))
+    (λ a. Act a (going p rest)) (λ v. acting less)
 
-step_falls : (s : Setting) (line : ℕ) (w : What) (rest : List Stmt) (p : Point) → Falls (weights (At line w ∷ rest)) (step_at s line w rest p)
+step_falls : (s : Setting) (line : ℕ) (w : What) (rest : List Stmt) (p : Point)
+    → Falls (weights (At line w ∷ rest)) (step_at s line w rest p)
 step_falls s line (SetCtl x e) rest p =
     let less : weights rest < weights (At line (SetCtl x e) ∷ rest) = omega arith in
     known_falls (weights (At line (SetCtl x e) ∷ rest)) line _ _ (λ v. silently less)
 step_falls s line (While e b) rest p =
     let less : weights rest < weights (At line (While e b) ∷ rest) = omega arith in
-    known_falls (weights (At line (While e b) ∷ rest)) line _ _ (λ v. branch_falls (weights (At line (While e b) ∷ rest)) v _ _ by_turn (silently less))
+    known_falls (weights (At line (While e b) ∷ rest)) line _ _
+    (λ v. branch_falls (weights (At line (While e b) ∷ rest)) v _ _ by_turn (silently less))
 step_falls s line (If e a b) rest p =
     let in_a : weights (statements a ++ rest) < weights (At line (If e a b) ∷ rest) = omega (arith, weights-statements a rest) in
     let in_b : weights (statements b ++ rest) < weights (At line (If e a b) ∷ rest) = omega (arith, weights-statements b rest) in
-    known_falls (weights (At line (If e a b) ∷ rest)) line _ _ (λ v. branch_falls (weights (At line (If e a b) ∷ rest)) v _ _ (silently in_a) (silently in_b))
+    known_falls (weights (At line (If e a b) ∷ rest)) line _ _
+    (λ v. branch_falls (weights (At line (If e a b) ∷ rest)) v _ _ (silently in_a) (silently in_b))
 step_falls s line (Lock a i) rest p = known_falls (weights (At line (Lock a i) ∷ rest)) line _ _ (λ v. stopping)
 step_falls s line (Unlock a i) rest p = known_falls (weights (At line (Unlock a i) ∷ rest)) line _ _ (λ v. stopping)
 step_falls s line (Fork t es x) rest p = known_falls (weights (At line (Fork t es x) ∷ rest)) line _ _ (λ v. stopping)

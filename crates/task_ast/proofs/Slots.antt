@@ -8,29 +8,37 @@ use Rattle.task_ast.specs.Names.{is_name, is_among, slot, firsts, seconds}
 use Rattle.task_ast.specs.Control.{with_value, with_number}
 use Rattle.task_ast.proofs.Terms.{position-cons}
 
-set_slot : (names : List (Name × ℤ)) (x : Name) (v : ℤ) → seconds (with_value names x v) ≡ slice_set (seconds names) (slot (firsts names) x) v
+set_slot : (names : List (Name × ℤ)) (x : Name) (v : ℤ)
+    → seconds (with_value names x v) ≡ slice_set (seconds names) (slot (firsts names) x) v
 set_slot [] x v = refl
 set_slot (n ∷ names) x v = go (is_name x n.0) refl (set_slot names x v)
   where
-    shifted : (o : Option ℕ) → n.1 ∷ slice_set (seconds names) (unwrap_or o (length (firsts names))) v ≡ slice_set (n.1 ∷ seconds names) (unwrap_or (option_map suc o) (suc (length (firsts names)))) v
+    shifted : (o : Option ℕ)
+        → n.1 ∷ slice_set (seconds names) (unwrap_or o (length (firsts names))) v
+        ≡ slice_set (n.1 ∷ seconds names) (unwrap_or (option_map suc o) (suc (length (firsts names)))) v
     shifted None = refl
     shifted (Some k) = refl
 
     go : (b : Bool) → is_name x n.0 ≡ b → seconds (with_value names x v) ≡ slice_set (seconds names) (slot (firsts names) x) v
-        → seconds (cond (is_name x n.0) ((n.0, v) ∷ names) (n ∷ with_value names x v)) ≡ slice_set (n.1 ∷ seconds names) (slot (n.0 ∷ firsts names) x) v
+        → seconds (cond (is_name x n.0) ((n.0, v) ∷ names) (n ∷ with_value names x v))
+        ≡ slice_set (n.1 ∷ seconds names) (slot (n.0 ∷ firsts names) x) v
     go true e later = rw (position-cons (is_name x) n.0 (firsts names), e) refl
-    go false e later = rw (position-cons (is_name x) n.0 (firsts names), e) (ap (λ values. n.1 ∷ values) later ∙ shifted (position (is_name x) (firsts names)))
+    go false e later =
+        rw (position-cons (is_name x) n.0 (firsts names), e)
+        (ap (λ values. n.1 ∷ values) later ∙ shifted (position (is_name x) (firsts names)))
 
 same_names : (names : List (Name × ℤ)) (x : Name) (v : ℤ) → firsts (with_value names x v) ≡ firsts names
 same_names [] x v = refl
 same_names (n ∷ names) x v = go (is_name x n.0) (same_names names x v)
   where
-    go : (b : Bool) → firsts (with_value names x v) ≡ firsts names → firsts (cond b ((n.0, v) ∷ names) (n ∷ with_value names x v)) ≡ n.0 ∷ firsts names
+    go : (b : Bool) → firsts (with_value names x v) ≡ firsts names
+        → firsts (cond b ((n.0, v) ∷ names) (n ∷ with_value names x v)) ≡ n.0 ∷ firsts names
     go true later = refl
     go false later = ap (λ names. n.0 ∷ names) later
 
 pub sets_first : (names : List (Name × ℤ)) (x : Name) (v : ℤ)
-    → (firsts (with_value names x v) ≡ firsts names) × (seconds (with_value names x v) ≡ slice_set (seconds names) (slot (firsts names) x) v)
+    → (firsts (with_value names x v) ≡ firsts names)
+    × (seconds (with_value names x v) ≡ slice_set (seconds names) (slot (firsts names) x) v)
 sets_first names x v = (same_names names x v, set_slot names x v)
 
 number_names : (names : List (Name × ℤ)) (k : ℕ) (v : ℤ) → firsts (with_number names k v) ≡ firsts names
@@ -44,7 +52,8 @@ number_values [] (suc k) v = refl
 number_values (n ∷ names) zero v = refl
 number_values (n ∷ names) (suc k) v = ap (λ xs. n.1 ∷ xs) (number_values names k v)
 
-pub sets_number : (names : List (Name × ℤ)) (k : ℕ) (v : ℤ) → (firsts (with_number names k v) ≡ firsts names) × (seconds (with_number names k v) ≡ slice_set (seconds names) k v)
+pub sets_number : (names : List (Name × ℤ)) (k : ℕ) (v : ℤ)
+    → (firsts (with_number names k v) ≡ firsts names) × (seconds (with_number names k v) ≡ slice_set (seconds names) k v)
 sets_number names k v = (number_names names k v, number_values names k v)
 
 -- the number of a name is that of its first entry
@@ -52,14 +61,17 @@ pub slot_sets : (names : List (Name × ℤ)) (x : Name) (v : ℤ) → with_numbe
 slot_sets [] x v = refl
 slot_sets (n ∷ names) x v = go (is_name x n.0) refl (slot_sets names x v)
   where
-    shifted : (o : Option ℕ) → with_number (n ∷ names) (unwrap_or (option_map suc o) (suc (length (firsts names)))) v ≡ n ∷ with_number names (unwrap_or o (length (firsts names))) v
+    shifted : (o : Option ℕ)
+        → with_number (n ∷ names) (unwrap_or (option_map suc o) (suc (length (firsts names)))) v
+        ≡ n ∷ with_number names (unwrap_or o (length (firsts names))) v
     shifted None = refl
     shifted (Some k) = refl
 
     go : (b : Bool) → is_name x n.0 ≡ b → with_number names (slot (firsts names) x) v ≡ with_value names x v
         → with_number (n ∷ names) (slot (n.0 ∷ firsts names) x) v ≡ cond (is_name x n.0) ((n.0, v) ∷ names) (n ∷ with_value names x v)
     go true e later = rw (position-cons (is_name x) n.0 (firsts names), e) refl
-    go false e later = rw (position-cons (is_name x) n.0 (firsts names), e) (shifted (position (is_name x) (firsts names)) ∙ ap (λ xs. n ∷ xs) later)
+    go false e later =
+        rw (position-cons (is_name x) n.0 (firsts names), e) (shifted (position (is_name x) (firsts names)) ∙ ap (λ xs. n ∷ xs) later)
 
 slot_past : (names : List Name) (x : Name) → is_among x names ≡ false → slot names x ≡ length names
 slot_past [] x h = refl
@@ -72,8 +84,10 @@ slot_past (n ∷ names) x h = go (is_name x n) refl (slot_past names x)
     go : (b : Bool) → is_name x n ≡ b → (is_among x names ≡ false → slot names x ≡ length names) → slot (n ∷ names) x ≡ suc (length names)
     go true e later = absurd (true≢false (ap (λ b. b || is_among x names) (sym e) ∙ h))
     go false e later =
-        rw (position-cons (is_name x) n names, e) (shifted (position (is_name x) names) ∙ ap suc (later (ap (λ b. b || is_among x names) (sym e) ∙ h)))
+        rw (position-cons (is_name x) n names, e)
+        (shifted (position (is_name x) names) ∙ ap suc (later (ap (λ b. b || is_among x names) (sym e) ∙ h)))
 
-pub undeclared : (registers : List Name) (values : List ℤ) (x : Name) (v : ℤ) → is_among x registers ≡ false → length values ≤ length registers
+pub undeclared : (registers : List Name) (values : List ℤ) (x : Name) (v : ℤ) → is_among x registers ≡ false
+    → length values ≤ length registers
     → slice_set values (slot registers x) v ≡ values
 undeclared registers values x v h l = let e = slot_past registers x h in set_past values (slot registers x) v (omega arith)

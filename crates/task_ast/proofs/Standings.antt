@@ -1,4 +1,7 @@
--- A table that knows less than the run's: its turns, and what it learns.
+-- A table that knows less than the run's: its turns, and what it learns. After as many passes the run's table knows no
+-- less than the other, and its issue is the run's, since passes keep the issue to come. So a turn of the other passes,
+-- issues or ends as that one's does, or needs what it doesn't know (LessTurns). What it then learns of a thread is what
+-- the run's table has learnt of it.
 use Rattle.std.proofs.Common.{◌≡◌, inl, inr, ℕ, zero, suc, ◌-◌, ◌<◌, ◌≤◌, List, [], ◌∷◌, length, Option, Some, None, unwrap_or, refl, sym, ap, ◌∙◌, subst, arith, option_and_then}
 use Rattle.std.specs.Prelude.{⊤, slice_get}
 use Rattle.std.proofs.lemmas.Bool.{cases_lt}
@@ -66,11 +69,17 @@ some_same : {X : Type 0} {a b : X} → Some a ≡ Some b → a ≡ b
 some_same {a = a} e = ap (λ o. unwrap_or o a) e
 
 -- the other may learn about a thread whose next synchronisation is unknown in the one
-less_than_learnt : (less more : Table) (t position : ℕ) (next : Next) → slice_get less.seats t ≡ Some (fresh_seat position) → KnowsLess less more → KnowsLess less (learning more t next)
+less_than_learnt : (less more : Table) (t position : ℕ) (next : Next) → slice_get less.seats t ≡ Some (fresh_seat position)
+    → KnowsLess less more → KnowsLess less (learning more t next)
 less_than_learnt less more t position next here k =
     record {
       seats = nth_of_more (learn next) less.seats more.seats t k.seats
-          (λ l m is h. record { next = inr (unknown_seat position l (some_same (sym here ∙ is))); last = h.last; passed = h.passed; stand = h.stand });
+          (λ l m is h. record {
+            next = inr (unknown_seat position l (some_same (sym here ∙ is)));
+            last = h.last;
+            passed = h.passed;
+            stand = h.stand;
+          });
       limit = k.limit;
       barriers = k.barriers;
       owners = k.owners;
@@ -103,7 +112,8 @@ module _ {A S E : Type 0} (move : A → Move A S E) where
   never : {s : S} {a : A} {e : E} → Ends e ≡ Goes s a → ⊥
   never e = cc e
 
-module _ {P : Type 0} (machine : Machine P) (program : Program) (inputs : Inputs) (limits : Limits) (p : ℕ) (table : Table) (stands : StandsBy machine program inputs limits p table) where
+module _ {P : Type 0} (machine : Machine P) (program : Program) (inputs : Inputs) (limits : Limits) (p : ℕ) (table : Table)
+    (stands : StandsBy machine program inputs limits p table) where
   abbrev x : PlainOf P
   x = before_by machine program inputs limits p
 
@@ -114,7 +124,9 @@ module _ {P : Type 0} (machine : Machine P) (program : Program) (inputs : Inputs
   threads_same = passed_same stands.passed
 
   last_same : (t : ℕ) → last_in table t ≡ last_in x.table t
-  last_same t = got_last (slice_get table.seats t) (slice_get stands.whole.seats t) (get_less table.seats stands.whole.seats t stands.less.seats) ∙ threads_same.last t
+  last_same t =
+      got_last (slice_get table.seats t) (slice_get stands.whole.seats t) (get_less table.seats stands.whole.seats t stands.less.seats)
+      ∙ threads_same.last t
 
   pub agrees : AgreesBy machine program inputs limits p table
   agrees =
@@ -132,9 +144,12 @@ module _ {P : Type 0} (machine : Machine P) (program : Program) (inputs : Inputs
   next_is what e = passed_issue stands.passed ∙ (next_issue_step stands.whole ∙ ap (go_on turn turns_left (Ended Finished) next_issue) e)
 
   pub front_alike : IssuesAlike table (next_issue table) (next_issue x.table)
-  front_alike = subst (IssuesAlike table (next_issue table)) (sym (passed_issue stands.passed)) (next_alike table stands.whole stands.reached stands.less)
+  front_alike =
+      subst (IssuesAlike table (next_issue table)) (sym (passed_issue stands.passed))
+      (next_alike table stands.whole stands.reached stands.less)
 
-  tells_ended : (ending : End) → next_issue x.table ≡ Ended ending → (p ≡ length (order_by machine program inputs limits)) × (end_by machine program inputs limits ≡ ending)
+  tells_ended : (ending : End) → next_issue x.table ≡ Ended ending
+      → (p ≡ length (order_by machine program inputs limits)) × (end_by machine program inputs limits ≡ ending)
   tells_ended ending e = (at_end, ap ending_of (ap (move_by machine) last ∙ ends_here))
     where
       ends_here : move_by machine x ≡ Ends ending
@@ -144,17 +159,20 @@ module _ {P : Type 0} (machine : Machine P) (program : Program) (inputs : Inputs
       at_end = elim (cases_lt p (length (order_by machine program inputs limits))) [
         | inl l ↦
             (let s = get_some (order_by machine program inputs limits) p l in
-            absurd (never (move_by machine) (sym ends_here ∙ (step_there (move_by machine) (suc limits.subthreads) p (opening_by machine program inputs limits) s.0 s.1).moves)))
+            absurd (never (move_by machine) (sym ends_here
+            ∙ (step_there (move_by machine) (suc limits.subthreads) p (opening_by machine program inputs limits) s.0 s.1).moves)))
         | inr l ↦ (let w = stands.within in omega arith)
       ]
 
       last : last_by machine program inputs limits ≡ x
       last =
           ap (λ n. state_after (move_by machine) n (opening_by machine program inputs limits))
-          (let w = stands.within in let c = steps_most (move_by machine) (suc limits.subthreads) (opening_by machine program inputs limits) in omega arith)
+          (let w = stands.within in let c = steps_most (move_by machine) (suc limits.subthreads)
+          (opening_by machine program inputs limits) in omega arith)
           ∙ stays_after (move_by machine) p (suc limits.subthreads - p) (opening_by machine program inputs limits) ending ends_here
 
-  tells_issued : (t : ℕ) (next : Next) (child : Option ℕ) (after whole : Table) → turn table ≡ Done (Issue t next child after) → next_issue x.table ≡ Issue t next child whole
+  tells_issued : (t : ℕ) (next : Next) (child : Option ℕ) (after whole : Table) → turn table ≡ Done (Issue t next child after)
+      → next_issue x.table ≡ Issue t next child whole
       → Issued table t after → KnowsLess after whole → IsIssuedBy machine program inputs limits p table t next child after
   tells_issued t next child after whole e is fact k =
       record {
@@ -178,7 +196,8 @@ module _ {P : Type 0} (machine : Machine P) (program : Program) (inputs : Inputs
 
       at_p : slice_get (order_by machine program inputs limits) p ≡ Some (subthread_of machine t next child whole x)
       at_p =
-          step_at (move_by machine) p (suc limits.subthreads) (opening_by machine program inputs limits) (let below = fact.below in let i = agrees.issued in let l = agrees.limit in omega arith)
+          step_at (move_by machine) p (suc limits.subthreads) (opening_by machine program inputs limits)
+          (let below = fact.below in let i = agrees.issued in let l = agrees.limit in omega arith)
           ∙ ap (step_of (move_by machine)) moves
 
       following : before_by machine program inputs limits (suc p) ≡ plain_of machine t next child whole x
@@ -189,23 +208,39 @@ module _ {P : Type 0} (machine : Machine P) (program : Program) (inputs : Inputs
   pub turns_tell : TurnTellsBy machine program inputs limits p table (turn table)
   turns_tell = go (turn table) (turn stands.whole) refl refl (turn_alike table stands.whole stands.reached stands.less) (turn_form table)
     where
-      go : (r s : Again Table Turn) → turn table ≡ r → turn stands.whole ≡ s → Alike table r s → Form table r → TurnTellsBy machine program inputs limits p table r
+      go : (r s : Again Table Turn) → turn table ≡ r → turn stands.whole ≡ s → Alike table r s → Form table r
+          → TurnTellsBy machine program inputs limits p table r
       go r s e f (passes {less = less} {more = more} k) form =
-          tells_pass (record { whole = more; passed = by_turn stands.passed f; less = k; reached = by_pass stands.reached e; within = stands.within })
+          tells_pass (record {
+            whole = more;
+            passed = by_turn stands.passed f;
+            less = k;
+            reached = by_pass stands.reached e;
+            within = stands.within;
+          })
       go r s e f (issues {t = t} {next = next} {child = child} {less = less} {more = more} k) form =
-          tells_issue (tells_issued t next child less more e (next_is (Issue t next child more) f) (issued_of table (Issue t next child less) form) k)
+          tells_issue (tells_issued t next child less more e (next_is (Issue t next child more) f)
+          (issued_of table (Issue t next child less) form) k)
       go r s e f (needs l none) form = tells_need l none
       go r s e f (ends {ending = ending}) form = let h = tells_ended ending (next_is (Ended ending) f) in tells_end h.0 h.1
 
-  pub learn_stands : (t q : ℕ) (s : Subthread) → last_in table t ≡ Some q → next_of table t ≡ None → slice_get (order_by machine program inputs limits) q ≡ Some s
+  pub learn_stands : (t q : ℕ) (s : Subthread) → last_in table t ≡ Some q → next_of table t ≡ None
+      → slice_get (order_by machine program inputs limits) q ≡ Some s
       → StandsBy machine program inputs limits p (learning table t (body_by machine (before_by machine program inputs limits q) s).next)
   learn_stands t q s e none at_q =
       record {
         whole = stands.whole;
         passed = stands.passed;
         less = record {
-          seats = nth_of_less (learn (body_by machine (before_by machine program inputs limits q) s).next) table.seats stands.whole.seats t stands.less.seats
-              (λ l m is there h. record { next = inl (sym (sym (ap (λ o. option_and_then (λ s. s.next) o) there) ∙ whole_next)); last = h.last; passed = h.passed; stand = h.stand });
+          seats =
+              nth_of_less (learn (body_by machine (before_by machine program inputs limits q) s).next) table.seats
+              stands.whole.seats t stands.less.seats
+              (λ l m is there h. record {
+                next = inl (sym (sym (ap (λ o. option_and_then (λ s. s.next) o) there) ∙ whole_next));
+                last = h.last;
+                passed = h.passed;
+                stand = h.stand;
+              });
           limit = stands.less.limit;
           barriers = stands.less.barriers;
           owners = stands.less.owners;
@@ -219,7 +254,8 @@ module _ {P : Type 0} (machine : Machine P) (program : Program) (inputs : Inputs
       whole_next : next_of stands.whole t ≡ Some (body_by machine (before_by machine program inputs limits q) s).next
       whole_next =
           let h = agrees.left t q e in
-          threads_same.next t ∙ (h.next ∙ ap (λ s. Some (body_by machine (before_by machine program inputs limits q) s).next) (some_same (sym h.position ∙ at_q)))
+          threads_same.next t ∙ (h.next ∙ ap (λ s. Some (body_by machine (before_by machine program inputs limits q) s).next)
+          (some_same (sym h.position ∙ at_q)))
 
 pub own_stands : OwnLaw
 own_stands program inputs limits p within =

@@ -22,7 +22,8 @@ shifted k n =
     ]
 
 -- the first place at which a test passes, at a list with one more member before it
-pub position-cons : {X : Type 0} (p : X → Bool) (x : X) (xs : List X) → position p (x ∷ xs) ≡ cond (p x) (Some 0) (option_map suc (position p xs))
+pub position-cons : {X : Type 0} (p : X → Bool) (x : X) (xs : List X)
+    → position p (x ∷ xs) ≡ cond (p x) (Some 0) (option_map suc (position p xs))
 position-cons p x xs = go (p x) refl
   where
     go : (b : Bool) → p x ≡ b → position p (x ∷ xs) ≡ cond b (Some 0) (option_map suc (position p xs))
@@ -33,7 +34,8 @@ nothing_at : (k : ℕ) → number_at [] k ≡ pos 0
 nothing_at k = refl
 
 -- a register by its name has the value of its number
-pub register_value : (names : List Name) (values : List ℤ) (x : Name) → value_at (zip names values) x ≡ term_value (register (position (is_name x) names)) values
+pub register_value : (names : List Name) (values : List ℤ) (x : Name)
+    → value_at (zip names values) x ≡ term_value (register (position (is_name x) names)) values
 register_value [] values x = refl
 register_value (n ∷ names) [] x = sym (ap (λ o. term_value (register o) []) refl ∙ none (position (is_name x) (n ∷ names)))
   where
@@ -47,11 +49,13 @@ register_value (n ∷ names) (v ∷ values) x = go (is_name x n) refl (register_
     later (Some k) = refl
 
     go : (b : Bool) → is_name x n ≡ b → value_at (zip names values) x ≡ term_value (register (position (is_name x) names)) values
-        → unwrap_or (cond (is_name x n) (Some v) (named x (zip names values))) (pos 0) ≡ term_value (register (position (is_name x) (n ∷ names))) (v ∷ values)
+        → unwrap_or (cond (is_name x n) (Some v) (named x (zip names values))) (pos 0)
+        ≡ term_value (register (position (is_name x) (n ∷ names))) (v ∷ values)
     go true e ih = rw (position-cons (is_name x) n names, e) refl
     go false e ih = rw (position-cons (is_name x) n names, e) (ih ∙ later (position (is_name x) names))
 
-after_map : {A B C D : Type 0} (f : A → B) (g : B → C) (h : A → D) (k : D → C) → ((a : A) → g (f a) ≡ k (h a)) → (o : Option A) → option_map g (option_map f o) ≡ option_map k (option_map h o)
+after_map : {A B C D : Type 0} (f : A → B) (g : B → C) (h : A → D) (k : D → C) → ((a : A) → g (f a) ≡ k (h a)) → (o : Option A)
+    → option_map g (option_map f o) ≡ option_map k (option_map h o)
 after_map f g h k same None = refl
 after_map f g h k same (Some a) = ap Some (same a)
 
@@ -72,7 +76,8 @@ module _ (names : List Name) (values : List ℤ) where
   chained-none (Some v) = refl
 
   chained-one : (op : Op) (o : Option Term) (more : Option MoreTerms) (so_far : Option ℤ)
-      → chained more (operate_on op so_far (option_map (λ t. term_value t values) o)) ≡ chained (option_and_then (λ t. option_map (OneTerm op t) more) o) so_far
+      → chained more (operate_on op so_far (option_map (λ t. term_value t values) o))
+      ≡ chained (option_and_then (λ t. option_map (OneTerm op t) more) o) so_far
   chained-one op None more None = refl
   chained-one op None more (Some v) = refl
   chained-one op (Some t) more None = refl
@@ -80,29 +85,38 @@ module _ (names : List Name) (values : List ℤ) where
   chained-one op (Some t) (Some m) (Some v) = refl
 
   chained-term : (o : Option Term) (more : Option MoreTerms)
-      → chained more (option_map (λ t. term_value t values) o) ≡ option_map (λ t. term_value t values) (option_and_then (λ t. option_map (Joined t) more) o)
+      → chained more (option_map (λ t. term_value t values) o)
+      ≡ option_map (λ t. term_value t values) (option_and_then (λ t. option_map (Joined t) more) o)
   chained-term None more = refl
   chained-term (Some t) None = refl
   chained-term (Some t) (Some m) = refl
 
   mutual
-    pub value_is : (e : Expr) (env : Env) → has_data_index e ≡ false → value e (with_data env) ≡ option_map (λ t. term_value t values) (term names e env)
+    pub value_is : (e : Expr) (env : Env) → has_data_index e ≡ false
+        → value e (with_data env) ≡ option_map (λ t. term_value t values) (term names e env)
     value_is (Num v) env h = refl
     value_is (Ctl x) env h = refl
     value_is (Reg x) env h = ap Some (register_value names values x)
     value_is Me env h = refl
     value_is (Rows f) env h = refl
-    value_is (Cell f row field) env h = value-registers (Cell f row field) env (zip names values) h ∙ constant values (value (Cell f row field) env)
-    value_is (Neg e) env h = ap (option_map _) (value_is e env h) ∙ after_map (λ t. term_value t values) _ Negated (λ t. term_value t values) (λ t. refl) (term names e env)
-    value_is (Not e) env h = ap (option_map _) (value_is e env h) ∙ after_map (λ t. term_value t values) _ Inverted (λ t. term_value t values) (λ t. refl) (term names e env)
+    value_is (Cell f row field) env h =
+        value-registers (Cell f row field) env (zip names values) h ∙ constant values (value (Cell f row field) env)
+    value_is (Neg e) env h =
+        ap (option_map _) (value_is e env h) ∙ after_map (λ t. term_value t values) _ Negated (λ t. term_value t values)
+        (λ t. refl) (term names e env)
+    value_is (Not e) env h =
+        ap (option_map _) (value_is e env h) ∙ after_map (λ t. term_value t values) _ Inverted (λ t. term_value t values)
+        (λ t. refl) (term names e env)
     value_is (Chain e links) env h =
         let parts = or_false (has_data_index e) (have_data_index links) h in
         values_are links env (value e (with_data env)) parts.1
         ∙ ap (chained (terms names links env)) (value_is e env parts.0) ∙ chained-term (term names e env) (terms names links env)
 
-    values_are : (links : Links) (env : Env) (so_far : Option ℤ) → have_data_index links ≡ false → value_on links (with_data env) so_far ≡ chained (terms names links env) so_far
+    values_are : (links : Links) (env : Env) (so_far : Option ℤ) → have_data_index links ≡ false
+        → value_on links (with_data env) so_far ≡ chained (terms names links env) so_far
     values_are NoLinks env so_far h = chained-none so_far
     values_are (Link op e links) env so_far h =
         let parts = or_false (has_data_index e) (have_data_index links) h in
         values_are links env (operate_on op so_far (value e (with_data env))) parts.1
-        ∙ ap (λ w. chained (terms names links env) (operate_on op so_far w)) (value_is e env parts.0) ∙ chained-one op (term names e env) (terms names links env) so_far
+        ∙ ap (λ w. chained (terms names links env) (operate_on op so_far w)) (value_is e env parts.0)
+        ∙ chained-one op (term names e env) (terms names links env) so_far

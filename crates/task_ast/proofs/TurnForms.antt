@@ -1,4 +1,6 @@
--- What a turn leaves of the threads, and the one form that an issue has.
+-- What a turn leaves of the threads, and the one form that an issue has. A pass keeps the threads and what is known of
+-- them (SameThreads). So by the rules of a turn, and then over all the passes before it, an issue is one from a table
+-- with the same threads, of a thread whose next synchronisation is known and may begin.
 use Rattle.std.proofs.Common.{◌≡◌, ℕ, zero, suc, ◌<◌, Bool, true, false, cond, map, length, Option, Some, None, is_none, nat_lt, nat_le, unwrap_or, refl, sym, ap, ◌∙◌, subst, arith, count_by, option_and_then}
 use Rattle.std.specs.Prelude.{slice_get, pos, negsuc}
 use Rattle.std.proofs.lemmas.Bool.{ltb-true, false≢true}
@@ -21,7 +23,15 @@ same_threads table = record { threads = refl; next = λ u. refl; last = λ u. re
 
 pub same_then : {a b c : Table} → SameThreads a b → SameThreads b c → SameThreads a c
 same_then f g =
-    record { threads = g.threads ∙ f.threads; next = λ u. g.next u ∙ f.next u; last = λ u. g.last u ∙ f.last u; owners = g.owners ∙ f.owners; limit = g.limit ∙ f.limit; issued = g.issued ∙ f.issued }
+    record {
+      threads = g.threads ∙ f.threads;
+      next = λ u. g.next u ∙ f.next u;
+      last = λ u. g.last u ∙ f.last u;
+      owners = g.owners
+          ∙ f.owners;
+      limit = g.limit ∙ f.limit;
+      issued = g.issued ∙ f.issued;
+    }
 
 -- the table after an issue
 abbrev pub issued_table : Table → ℕ → Next → Table
@@ -29,7 +39,9 @@ issued_table table t next =
     record {
       limit = table.limit;
       barriers = table.barriers;
-      seats = seats_after next.sync (map unpassed (with_seat table t (λ s. record s { next = None; last = Some table.issued; passed = false; stand = Away })).seats);
+      seats =
+          seats_after next.sync (map unpassed (with_seat table t
+          (λ s. record s { next = None; last = Some table.issued; passed = false; stand = Away })).seats);
       owners = owners_after next.sync t table.owners;
       token = Some t;
       issued = suc table.issued;
@@ -52,19 +64,23 @@ may_same same sync.Spent may = may
 -- each pass keeps the threads, and each issue is one from a table with the same threads
 pub data Form (table : Table) : Again Table Turn → Type 0 where
   passes : {there : Table} → SameThreads table there → Form table (More there)
-  issues : {t : ℕ} {next : Next} (there : Table) → SameThreads table there → next_of table t ≡ Some next → table.issued < table.limit → MayBegin table next.sync
+  issues : {t : ℕ} {next : Next} (there : Table) → SameThreads table there → next_of table t ≡ Some next → table.issued < table.limit
+      → MayBegin table next.sync
       → Form table (Done (Issue t next (child_of next.sync (length there.seats)) (issued_table there t next)))
   needs : {t : ℕ} → Form table (Done (Needs t))
   ends : {ending : End} → Form table (Done (Ended ending))
 
-cond_form : (table : Table) (b : Bool) (f g : Again Table Turn) → (b ≡ true → Form table f) → (b ≡ false → Form table g) → Form table (cond b f g)
+cond_form : (table : Table) (b : Bool) (f g : Again Table Turn) → (b ≡ true → Form table f) → (b ≡ false → Form table g)
+    → Form table (cond b f g)
 cond_form table true f g first second = first refl
 cond_form table false f g first second = second refl
 
-issuing_form : (table there : Table) (t : ℕ) (next : Next) → SameThreads table there → next_of table t ≡ Some next → MayBegin table next.sync → Form table (issuing there t next)
+issuing_form : (table there : Table) (t : ℕ) (next : Next) → SameThreads table there → next_of table t ≡ Some next
+    → MayBegin table next.sync → Form table (issuing there t next)
 issuing_form table there t next same e may =
     cond_form table (nat_lt there.issued there.limit) _ _
-    (λ b. let below : there.issued < there.limit = ltb-true _ _ b in let i = same.issued in let l = same.limit in issues there same e (omega arith) may) (λ b. ends)
+    (λ b. let below : there.issued < there.limit = ltb-true _ _ b in let i = same.issued in let l = same.limit in
+    issues there same e (omega arith) may) (λ b. ends)
 
 passing_form : (table there : Table) (t : ℕ) → SameThreads table there → Form table (passing there t)
 passing_form table there t same =
@@ -77,12 +93,14 @@ passing_form table there t same =
       issued = refl;
     }))
 
-barrier_form : (table there : Table) (stand : Stand) (t : ℕ) (next : Next) → SameThreads table there → next_of table t ≡ Some next → MayBegin table next.sync → Form table (at_barrier stand there t next)
+barrier_form : (table there : Table) (stand : Stand) (t : ℕ) (next : Next) → SameThreads table there → next_of table t ≡ Some next
+    → MayBegin table next.sync → Form table (at_barrier stand there t next)
 barrier_form table there Away t next same e may = passing_form table there t same
 barrier_form table there Waits t next same e may = passing_form table there t same
 barrier_form table there Released t next same e may = issuing_form table there t next same e may
 
-released_kept : {Y : Type 0} (f : Seat → Option Y) → ((s : Seat) → f (record s { stand = Released }) ≡ f s) → (b : Bool) (s : Seat) → f (cond b (record s { stand = Released }) s) ≡ f s
+released_kept : {Y : Type 0} (f : Seat → Option Y) → ((s : Seat) → f (record s { stand = Released }) ≡ f s) → (b : Bool) (s : Seat)
+    → f (cond b (record s { stand = Released }) s) ≡ f s
 released_kept f same true s = same s
 released_kept f same false s = refl
 
@@ -90,8 +108,12 @@ arrived_same : (table : Table) (t : ℕ) → SameThreads table (arrived table t)
 arrived_same table t =
     record {
       threads = length_arrive table.seats t;
-      next = λ u. keeps_nth (λ o. option_and_then (λ s. s.next) o) wait (λ s. refl) (map unpassed table.seats) t u ∙ keeps_map (λ o. option_and_then (λ s. s.next) o) unpassed (λ s. refl) table.seats u;
-      last = λ u. keeps_nth (λ o. option_and_then (λ s. s.last) o) wait (λ s. refl) (map unpassed table.seats) t u ∙ keeps_map (λ o. option_and_then (λ s. s.last) o) unpassed (λ s. refl) table.seats u;
+      next =
+          λ u. keeps_nth (λ o. option_and_then (λ s. s.next) o) wait (λ s. refl) (map unpassed table.seats) t u
+          ∙ keeps_map (λ o. option_and_then (λ s. s.next) o) unpassed (λ s. refl) table.seats u;
+      last =
+          λ u. keeps_nth (λ o. option_and_then (λ s. s.last) o) wait (λ s. refl) (map unpassed table.seats) t u
+          ∙ keeps_map (λ o. option_and_then (λ s. s.last) o) unpassed (λ s. refl) table.seats u;
       owners = refl;
       limit = refl;
       issued = refl;
@@ -101,8 +123,12 @@ released_same : (table : Table) (b : ℕ) → SameThreads table (record table { 
 released_same table b =
     record {
       threads = length-map table.seats (released_at b);
-      next = λ u. keeps_map (λ o. option_and_then (λ s. s.next) o) (released_at b) (λ s. released_kept (λ s. s.next) (λ s. refl) (waits_at b s) s) table.seats u;
-      last = λ u. keeps_map (λ o. option_and_then (λ s. s.last) o) (released_at b) (λ s. released_kept (λ s. s.last) (λ s. refl) (waits_at b s) s) table.seats u;
+      next =
+          λ u. keeps_map (λ o. option_and_then (λ s. s.next) o) (released_at b)
+          (λ s. released_kept (λ s. s.next) (λ s. refl) (waits_at b s) s) table.seats u;
+      last =
+          λ u. keeps_map (λ o. option_and_then (λ s. s.last) o) (released_at b)
+          (λ s. released_kept (λ s. s.last) (λ s. refl) (waits_at b s) s) table.seats u;
       owners = refl;
       limit = refl;
       issued = refl;
@@ -111,7 +137,8 @@ released_same table b =
 met_same : (table : Table) (t b : ℕ) → SameThreads table (met (arrived table t) b)
 met_same table t b = go (nat_le (unwrap_or (slice_get table.barriers b) 0) (count_by (waits_at b) (arrive table.seats t)))
   where
-    go : (all : Bool) → SameThreads table (cond all (record (arrived table t) { seats = map (released_at b) (arrive table.seats t) }) (arrived table t))
+    go : (all : Bool)
+        → SameThreads table (cond all (record (arrived table t) { seats = map (released_at b) (arrive table.seats t) }) (arrived table t))
     go true = same_then (arrived_same table t) (released_same (arrived table t) b)
     go false = arrived_same table t
 
@@ -120,26 +147,33 @@ come_same Away table t b = met_same table t b
 come_same Waits table t b = same_threads table
 come_same Released table t b = same_threads table
 
-joining_form : (h : ℕ) (o : Option Next) (table : Table) (t : ℕ) (next : Next) → next_of table t ≡ Some next → (is_known_end o ≡ true → MayBegin table next.sync) → Form table (joining h o table t next)
+joining_form : (h : ℕ) (o : Option Next) (table : Table) (t : ℕ) (next : Next) → next_of table t ≡ Some next
+    → (is_known_end o ≡ true → MayBegin table next.sync) → Form table (joining h o table t next)
 joining_form h None table t next e may = needs
 joining_form h (Some other) table t next e may =
-    cond_form table (is_end other.sync) _ _ (λ b. issuing_form table table t next (same_threads table) e (may b)) (λ b. passing_form table table t (same_threads table))
+    cond_form table (is_end other.sync) _ _ (λ b. issuing_form table table t next (same_threads table) e (may b))
+    (λ b. passing_form table table t (same_threads table))
 
 none_is : (o : Option ℕ) → is_none o ≡ true → o ≡ None
 none_is None e = refl
 none_is (Some x) e = cc e
 
-tried_form : (op : SyncOp) (table : Table) (t : ℕ) (next : Next) → op ≡ next.sync → is_end op ≡ false → next_of table t ≡ Some next → Form table (tried op table t next)
+tried_form : (op : SyncOp) (table : Table) (t : ℕ) (next : Next) → op ≡ next.sync → is_end op ≡ false → next_of table t ≡ Some next
+    → Form table (tried op table t next)
 tried_form sync.Start table t next is live e = issuing_form table table t next (same_threads table) e (subst (MayBegin table) is tt)
-tried_form (sync.Settle register control) table t next is live e = issuing_form table table t next (same_threads table) e (subst (MayBegin table) is tt)
+tried_form (sync.Settle register control) table t next is live e =
+    issuing_form table table t next (same_threads table) e (subst (MayBegin table) is tt)
 tried_form (sync.Lock l) table t next is live e =
-    cond_form table (is_none (owner_of table l)) _ _ (λ b. issuing_form table table t next (same_threads table) e (subst (MayBegin table) is (none_is (owner_of table l) b)))
+    cond_form table (is_none (owner_of table l)) _ _
+    (λ b. issuing_form table table t next (same_threads table) e (subst (MayBegin table) is (none_is (owner_of table l) b)))
     (λ b. passing_form table table t (same_threads table))
 tried_form (sync.Unlock l) table t next is live e = issuing_form table table t next (same_threads table) e (subst (MayBegin table) is tt)
 tried_form (sync.Fork task arguments) table t next is live e =
-    cond_form table (nat_lt (length table.seats) most_threads) _ _ (λ b. issuing_form table table t next (same_threads table) e (subst (MayBegin table) is (ltb-true _ _ b))) (λ b. ends)
+    cond_form table (nat_lt (length table.seats) most_threads) _ _
+    (λ b. issuing_form table table t next (same_threads table) e (subst (MayBegin table) is (ltb-true _ _ b))) (λ b. ends)
 tried_form (sync.Join (pos h)) table t next is live e =
-    cond_form table (nat_lt h (length table.seats)) _ _ (λ b. joining_form h (next_of table h) table t next e (λ ended. subst (MayBegin table) is (ltb-true _ _ b, ended))) (λ b. ends)
+    cond_form table (nat_lt h (length table.seats)) _ _
+    (λ b. joining_form h (next_of table h) table t next e (λ ended. subst (MayBegin table) is (ltb-true _ _ b, ended))) (λ b. ends)
 tried_form (sync.Join (negsuc h)) table t next is live e = ends
 tried_form (sync.Barrier b) table t next is live e =
     let there = come_to (stand_of table t) table t b in
@@ -154,7 +188,9 @@ stuck_form table (Unknown t) = needs
 stuck_form table NoThread = ends
 
 look_form : (table : Table) (l : Look) → Known table l → Form table (at_look l table)
-look_form table (To t next) (known_to e live) = cond_form table (has_passed table t) _ _ (λ b. stuck_form table (look table (all_threads table))) (λ b. tried_form next.sync table t next refl live e)
+look_form table (To t next) (known_to e live) =
+    cond_form table (has_passed table t) _ _ (λ b. stuck_form table (look table (all_threads table)))
+    (λ b. tried_form next.sync table t next refl live e)
 look_form table (Unknown t) known = needs
 look_form table NoThread known = ends
 
@@ -174,7 +210,8 @@ unfolding repeated
 repeated_form zero table = ends
 repeated_form (suc n) table = go (turn table) (turn_form table) (repeated_form n)
   where
-    go : (r : Again Table Turn) → Form table r → ((there : Table) → Form there (Done (repeated turn turns_left (Ended Finished) n there))) → Form table (Done (go_on turn turns_left (Ended Finished) (repeated turn turns_left (Ended Finished) n) r))
+    go : (r : Again Table Turn) → Form table r → ((there : Table) → Form there (Done (repeated turn turns_left (Ended Finished) n there)))
+        → Form table (Done (go_on turn turns_left (Ended Finished) (repeated turn turns_left (Ended Finished) n) r))
     go (More there) (passes same) again = form_from same (again there)
     go (Done what) form again = form
 

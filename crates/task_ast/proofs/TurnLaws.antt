@@ -40,8 +40,10 @@ tried_as sync.Start table t next = issuing_as table t next
 tried_as (sync.Settle register control) table t next = issuing_as table t next
 tried_as (sync.Lock l) table t next = cond_as t next (is_none (owner_of table l)) _ _ (issuing_as table t next) tt
 tried_as (sync.Unlock l) table t next = issuing_as table t next
-tried_as (sync.Fork task arguments) table t next = cond_as t next (nat_lt (length table.seats) most_threads) _ _ (issuing_as table t next) tt
-tried_as (sync.Join (pos h)) table t next = cond_as t next (nat_lt h (length table.seats)) _ _ (joining_as h (next_of table h) table t next) tt
+tried_as (sync.Fork task arguments) table t next =
+    cond_as t next (nat_lt (length table.seats) most_threads) _ _ (issuing_as table t next) tt
+tried_as (sync.Join (pos h)) table t next =
+    cond_as t next (nat_lt h (length table.seats)) _ _ (joining_as h (next_of table h) table t next) tt
 tried_as (sync.Join (negsuc h)) table t next = tt
 tried_as (sync.Barrier b) table t next = let there = come_to (stand_of table t) table t b in barrier_as (stand_of there t) there t next
 tried_as sync.End table t next = issuing_as table t next
@@ -56,7 +58,8 @@ stuck_issues (To u there) e = cc e
 stuck_issues (Unknown u) e = cc e
 stuck_issues NoThread e = cc e
 
-look_tried : (table : Table) (l : Look) (t : ℕ) (next : Next) (child : Option ℕ) (after : Table) → IsIssue t next child after (at_look l table) → tries l table ≡ Some (t, next)
+look_tried : (table : Table) (l : Look) (t : ℕ) (next : Next) (child : Option ℕ) (after : Table)
+    → IsIssue t next child after (at_look l table) → tries l table ≡ Some (t, next)
 look_tried table NoThread t next child after e = absurd (cc e)
 look_tried table (Unknown u) t next child after e = absurd (cc e)
 look_tried table (To u there) t next child after e = go (has_passed table u) e
@@ -66,7 +69,8 @@ look_tried table (To u there) t next child after e = go (has_passed table u) e
     go true e = absurd (stuck_issues (look table (all_threads table)) e)
     go false e = let h = subst (IssuesAs u there) e (tried_as there.sync table u there) in rw (h.0, h.1) refl
 
-look_ahead : (table : Table) (l : Look) → Known table l → (t : ℕ) (next : Next) → tries l table ≡ Some (t, next) → next_of table t ≡ Some next
+look_ahead : (table : Table) (l : Look) → Known table l → (t : ℕ) (next : Next) → tries l table ≡ Some (t, next)
+    → next_of table t ≡ Some next
 look_ahead table NoThread known t next e = absurd (cc e)
 look_ahead table (Unknown u) known t next e = absurd (cc e)
 look_ahead table (To u there) (known_to is live) t next e = go (has_passed table u) e
@@ -123,7 +127,10 @@ begins table r (issues {t = t} {next = next} there same known below may) = λ tr
         issued_other there t next (λ s. s.next) (λ s. refl) u (omega arith) ne ∙ same.next u,
         issued_other there t next (λ s. s.last) (λ s. refl) u (omega arith) ne ∙ same.last u,
       );
-      threads = grown_is next.sync (changed there t next) ∙ (ap (λ n. with_child (child_of next.sync n) n) c ∙ ap (λ n. with_child (child_of next.sync (length there.seats)) n) same.threads);
+      threads =
+          grown_is next.sync (changed there t next)
+          ∙ (ap (λ n. with_child (child_of next.sync n) n) c
+          ∙ ap (λ n. with_child (child_of next.sync (length there.seats)) n) same.threads);
       further = λ u l k. (
         ap (child_of next.sync) (sym c) ∙ grown_by next.sync (changed there t next) u k (omega arith),
         ap (λ o. option_and_then (λ s. s.next) o) (grown_seat next.sync (changed there t next) u k (omega arith)),
@@ -132,4 +139,5 @@ begins table r (issues {t = t} {next = next} there same known below may) = λ tr
     }
 
 pub issue_law : IssueLaw
-issue_law table t next child after e = subst (Begins table) e (begins table (turn table) (turn_form table)) (look_tried table _ t next child after e)
+issue_law table t next child after e =
+    subst (Begins table) e (begins table (turn table) (turn_form table)) (look_tried table _ t next child after e)

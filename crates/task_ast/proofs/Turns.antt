@@ -1,4 +1,6 @@
--- Each turn that passes leaves fewer turns that may pass.
+-- Each turn that passes leaves fewer turns that may pass. The measure counts the threads that are away from a barrier,
+-- many times over, and those that have not passed. A pass is by a thread that had not passed; an arrival makes one less
+-- away, whatever else it clears. So `next_issue` is one turn, and the same again where it passes.
 use Rattle.std.proofs.Common.{◌≡◌, ℕ, suc, ◌+◌, ◌*◌, ◌<◌, ◌≤◌, Bool, true, false, not, cond, List, [], ◌∷◌, map, length, Option, Some, None, is_none, nat_lt, nat_le, unwrap_or, refl, sym, ap, ◌∙◌, subst, arith, count_by, option_map, option_and_then}
 use Rattle.std.specs.Prelude.{slice_get, pos, negsuc}
 use Rattle.std.proofs.lemmas.List.{length-map}
@@ -19,7 +21,8 @@ pub data Known (table : Table) : Look → Type 0 where
   known_unknown : {t : ℕ} → Known table (Unknown t)
   known_none : Known table NoThread
 
-look_known_at : (table : Table) (t : ℕ) (o : Option Next) (others : Look) → next_of table t ≡ o → Known table others → Known table (look_at t o others)
+look_known_at : (table : Table) (t : ℕ) (o : Option Next) (others : Look) → next_of table t ≡ o → Known table others
+    → Known table (look_at t o others)
 look_known_at table t None others e known = known_unknown
 look_known_at table t (Some next) others e known = go (is_end next.sync) refl
   where
@@ -55,7 +58,8 @@ fresh seats = count_by (λ s. not s.passed) seats
 abbrev left : List Seat → ℕ
 left seats = suc (length seats) * away seats + fresh seats
 
-same_away_less : (seats other : List Seat) → length other ≡ length seats → away other ≡ away seats → fresh other < fresh seats → left other < left seats
+same_away_less : (seats other : List Seat) → length other ≡ length seats → away other ≡ away seats → fresh other < fresh seats
+    → left other < left seats
 same_away_less seats other l a f = rw (l, a) (less_second (suc (length seats)) (away seats) (fresh seats) (fresh other) f)
 
 less_away_less : (seats other : List Seat) → length other ≡ length seats → suc (away other) ≡ away seats → left other < left seats
@@ -70,14 +74,17 @@ abbrev wait : Seat → Seat
 wait s = record s { stand = Waits }
 
 -- a thread that had not passed passes
-passing_falls : (table : Table) (t : ℕ) (seat : Seat) → slice_get table.seats t ≡ Some seat → seat.passed ≡ false → Falls (turns_left table) (passing table t)
+passing_falls : (table : Table) (t : ℕ) (seat : Seat) → slice_get table.seats t ≡ Some seat → seat.passed ≡ false
+    → Falls (turns_left table) (passing table t)
 passing_falls table t seat e unpassed_yet =
-    let counted : fresh (with_nth table.seats t pass) + one (not seat.passed) ≡ fresh table.seats + 0 = count-with_nth (λ s. not s.passed) table.seats t pass seat e in
+    let counted : fresh (with_nth table.seats t pass) + one (not seat.passed) ≡ fresh table.seats + 0 =
+    count-with_nth (λ s. not s.passed) table.seats t pass seat e in
     let was : one (not seat.passed) ≡ 1 = rw unpassed_yet refl in
     let same = count-with_nth (λ s. is_away s.stand) table.seats t pass seat e in
     passes (same_away_less table.seats (with_nth table.seats t pass) (length-with_nth table.seats t pass) (omega arith) (omega arith))
 
-released-away : (at : Bool) (stand : Stand) (s : Seat) → s.stand ≡ stand → is_away (cond (cond (is_waiting stand) at false) (record s { stand = Released }) s).stand ≡ is_away stand
+released-away : (at : Bool) (stand : Stand) (s : Seat) → s.stand ≡ stand
+    → is_away (cond (cond (is_waiting stand) at false) (record s { stand = Released }) s).stand ≡ is_away stand
 released-away at Away s e = rw e refl
 released-away true Waits s e = refl
 released-away false Waits s e = rw e refl
@@ -89,7 +96,8 @@ away-released b s = released-away (meets b s.next) s.stand s refl
 abbrev arrive : List Seat → ℕ → List Seat
 arrive seats t = with_nth (map unpassed seats) t wait
 
-away-arrive : (seats : List Seat) (t : ℕ) (seat : Seat) → slice_get seats t ≡ Some seat → is_away seat.stand ≡ true → suc (away (arrive seats t)) ≡ away seats
+away-arrive : (seats : List Seat) (t : ℕ) (seat : Seat) → slice_get seats t ≡ Some seat → is_away seat.stand ≡ true
+    → suc (away (arrive seats t)) ≡ away seats
 away-arrive seats t seat e was_away =
     let counted : away (arrive seats t) + one (is_away seat.stand) ≡ away (map unpassed seats) + 0 =
     count-with_nth (λ s. is_away s.stand) (map unpassed seats) t wait (unpassed seat) (get-map unpassed seats t seat e) in
@@ -101,10 +109,13 @@ length-arrive : (seats : List Seat) (t : ℕ) → length (arrive seats t) ≡ le
 length-arrive seats t = length-with_nth (map unpassed seats) t wait ∙ length-map seats unpassed
 
 -- a thread arrives and passes
-arrival_falls : (table : Table) (t b : ℕ) (seat : Seat) → slice_get table.seats t ≡ Some seat → is_away seat.stand ≡ true → Falls (turns_left table) (passing (met (arrived table t) b) t)
-arrival_falls table t b seat e was_away = go (nat_le (unwrap_or (slice_get table.barriers b) 0) (count_by (waits_at b) (arrive table.seats t)))
+arrival_falls : (table : Table) (t b : ℕ) (seat : Seat) → slice_get table.seats t ≡ Some seat → is_away seat.stand ≡ true
+    → Falls (turns_left table) (passing (met (arrived table t) b) t)
+arrival_falls table t b seat e was_away =
+    go (nat_le (unwrap_or (slice_get table.barriers b) 0) (count_by (waits_at b) (arrive table.seats t)))
   where
-    fallen : (seats : List Seat) → length seats ≡ length table.seats → suc (away seats) ≡ away table.seats → left (with_nth seats t pass) < left table.seats
+    fallen : (seats : List Seat) → length seats ≡ length table.seats → suc (away seats) ≡ away table.seats
+        → left (with_nth seats t pass) < left table.seats
     fallen seats l a =
         let same : away (with_nth seats t pass) ≡ away seats = count-with_nth-same (λ s. is_away s.stand) pass (λ s. refl) seats t in
         less_away_less table.seats (with_nth seats t pass) (length-with_nth seats t pass ∙ l) (ap suc same ∙ a)
@@ -112,22 +123,29 @@ arrival_falls table t b seat e was_away = go (nat_le (unwrap_or (slice_get table
     released : List Seat
     released = map (released_at b) (arrive table.seats t)
 
-    go : (all : Bool) → Falls (turns_left table) (passing (cond all (record (arrived table t) { seats = map (released_at b) (arrive table.seats t) }) (arrived table t)) t)
+    go : (all : Bool)
+        → Falls (turns_left table) (passing (cond all
+        (record (arrived table t) { seats = map (released_at b) (arrive table.seats t) }) (arrived table t)) t)
     go true =
-        passes (fallen (map (released_at b) (arrive table.seats t)) (length-map (arrive table.seats t) (released_at b) ∙ length-arrive table.seats t)
-        (ap suc (count-map (λ s. is_away s.stand) (released_at b) (away-released b) (arrive table.seats t)) ∙ away-arrive table.seats t seat e was_away))
+        passes (fallen (map (released_at b) (arrive table.seats t))
+        (length-map (arrive table.seats t) (released_at b) ∙ length-arrive table.seats t)
+        (ap suc (count-map (λ s. is_away s.stand) (released_at b) (away-released b) (arrive table.seats t))
+        ∙ away-arrive table.seats t seat e was_away))
     go false = passes (fallen (arrive table.seats t) (length-arrive table.seats t) (away-arrive table.seats t seat e was_away))
 
 -- a thread at a barrier, where it waits already or is released, or where it has arrived
-barrier_falls : (n : ℕ) (stand : Stand) (table : Table) (t : ℕ) (next : Next) → Falls n (passing table t) → Falls n (at_barrier stand table t next)
+barrier_falls : (n : ℕ) (stand : Stand) (table : Table) (t : ℕ) (next : Next) → Falls n (passing table t)
+    → Falls n (at_barrier stand table t next)
 barrier_falls n Away table t next falls = falls
 barrier_falls n Waits table t next falls = falls
 barrier_falls n Released table t next falls = issuing_falls n table t next
 
-meeting_falls : (stand : Stand) (table : Table) (t b : ℕ) (next : Next) (seat : Seat) → slice_get table.seats t ≡ Some seat → seat.passed ≡ false → seat.stand ≡ stand
+meeting_falls : (stand : Stand) (table : Table) (t b : ℕ) (next : Next) (seat : Seat) → slice_get table.seats t ≡ Some seat
+    → seat.passed ≡ false → seat.stand ≡ stand
     → Falls (turns_left table) (at_barrier (stand_of (come_to stand table t b) t) (come_to stand table t b) t next)
 meeting_falls Away table t b next seat e unpassed_yet is =
-    barrier_falls (turns_left table) (stand_of (met (arrived table t) b) t) (met (arrived table t) b) t next (arrival_falls table t b seat e (ap is_away is))
+    barrier_falls (turns_left table) (stand_of (met (arrived table t) b) t) (met (arrived table t) b) t next
+    (arrival_falls table t b seat e (ap is_away is))
 meeting_falls Waits table t b next seat e unpassed_yet is =
     barrier_falls (turns_left table) (stand_of table t) table t next (passing_falls table t seat e unpassed_yet)
 meeting_falls Released table t b next seat e unpassed_yet is =
@@ -136,22 +154,28 @@ meeting_falls Released table t b next seat e unpassed_yet is =
 stand_of-is : (table : Table) (t : ℕ) (seat : Seat) → slice_get table.seats t ≡ Some seat → stand_of table t ≡ seat.stand
 stand_of-is table t seat e = ap (λ o. unwrap_or (option_map (λ s. s.stand) o) Away) e
 
-joining_falls : (h : ℕ) (o : Option Next) (table : Table) (t : ℕ) (next : Next) → Falls (turns_left table) (passing table t) → Falls (turns_left table) (joining h o table t next)
+joining_falls : (h : ℕ) (o : Option Next) (table : Table) (t : ℕ) (next : Next) → Falls (turns_left table) (passing table t)
+    → Falls (turns_left table) (joining h o table t next)
 joining_falls h None table t next falls = ends
 joining_falls h (Some other) table t next falls = cond_falls _ (is_end other.sync) _ _ (issuing_falls _ table t next) falls
 
 -- the rules at a thread that has not passed
-tried_falls : (op : SyncOp) (table : Table) (t : ℕ) (next : Next) (seat : Seat) → slice_get table.seats t ≡ Some seat → seat.passed ≡ false → Falls (turns_left table) (tried op table t next)
+tried_falls : (op : SyncOp) (table : Table) (t : ℕ) (next : Next) (seat : Seat) → slice_get table.seats t ≡ Some seat → seat.passed ≡ false
+    → Falls (turns_left table) (tried op table t next)
 tried_falls sync.Start table t next seat e unpassed_yet = issuing_falls _ table t next
 tried_falls (sync.Settle register control) table t next seat e unpassed_yet = issuing_falls _ table t next
-tried_falls (sync.Lock l) table t next seat e unpassed_yet = cond_falls _ (is_none (owner_of table l)) _ _ (issuing_falls _ table t next) (passing_falls table t seat e unpassed_yet)
+tried_falls (sync.Lock l) table t next seat e unpassed_yet =
+    cond_falls _ (is_none (owner_of table l)) _ _ (issuing_falls _ table t next) (passing_falls table t seat e unpassed_yet)
 tried_falls (sync.Unlock l) table t next seat e unpassed_yet = issuing_falls _ table t next
-tried_falls (sync.Fork task arguments) table t next seat e unpassed_yet = cond_falls _ (nat_lt (length table.seats) most_threads) _ _ (issuing_falls _ table t next) ends
+tried_falls (sync.Fork task arguments) table t next seat e unpassed_yet =
+    cond_falls _ (nat_lt (length table.seats) most_threads) _ _ (issuing_falls _ table t next) ends
 tried_falls (sync.Join (pos h)) table t next seat e unpassed_yet =
-    cond_falls _ (nat_lt h (length table.seats)) _ _ (joining_falls h (next_of table h) table t next (passing_falls table t seat e unpassed_yet)) ends
+    cond_falls _ (nat_lt h (length table.seats)) _ _
+    (joining_falls h (next_of table h) table t next (passing_falls table t seat e unpassed_yet)) ends
 tried_falls (sync.Join (negsuc h)) table t next seat e unpassed_yet = ends
 tried_falls (sync.Barrier b) table t next seat e unpassed_yet =
-    subst (λ stand. Falls (turns_left table) (at_barrier (stand_of (come_to stand table t b) t) (come_to stand table t b) t next)) (sym (stand_of-is table t seat e))
+    subst (λ stand. Falls (turns_left table) (at_barrier (stand_of (come_to stand table t b) t) (come_to stand table t b) t next))
+    (sym (stand_of-is table t seat e))
     (meeting_falls seat.stand table t b next seat e unpassed_yet refl)
 tried_falls sync.End table t next seat e unpassed_yet = issuing_falls _ table t next
 tried_falls sync.BadIndex table t next seat e unpassed_yet = ends
@@ -161,7 +185,8 @@ tried_falls sync.Spent table t next seat e unpassed_yet = ends
 seat_of : (table : Table) (t : ℕ) (next : Next) → next_of table t ≡ Some next → (seat : Seat) × (slice_get table.seats t ≡ Some seat)
 seat_of table t next e = go (slice_get table.seats t) refl e
   where
-    go : (o : Option Seat) → slice_get table.seats t ≡ o → option_and_then (λ s. s.next) o ≡ Some next → (seat : Seat) × (slice_get table.seats t ≡ Some seat)
+    go : (o : Option Seat) → slice_get table.seats t ≡ o → option_and_then (λ s. s.next) o ≡ Some next
+        → (seat : Seat) × (slice_get table.seats t ≡ Some seat)
     go None is e = absurd (cc e)
     go (Some seat) is e = (seat, is)
 
@@ -176,15 +201,20 @@ look_falls table (To t next) (known_to e live) = go (has_passed table t) refl
     there : (seat : Seat) × (slice_get table.seats t ≡ Some seat)
     there = seat_of table t next e
 
-    go : (b : Bool) → has_passed table t ≡ b → Falls (turns_left table) (cond b (deadlocked (look table (all_threads table))) (tried next.sync table t next))
+    go : (b : Bool) → has_passed table t ≡ b
+        → Falls (turns_left table) (cond b (deadlocked (look table (all_threads table))) (tried next.sync table t next))
     go true is = stuck_falls (look table (all_threads table))
-    go false is = tried_falls next.sync table t next there.0 there.1 (sym (ap (λ o. unwrap_or (option_map (λ s. s.passed) o) false) there.1) ∙ is)
+    go false is =
+        tried_falls next.sync table t next there.0 there.1 (sym (ap (λ o. unwrap_or (option_map (λ s. s.passed) o) false) there.1) ∙ is)
 look_falls table (Unknown t) known = ends
 look_falls table NoThread known = ends
 
 pub turn-IsFalling : IsFalling turn turns_left
 turn-IsFalling = record {
-  falls = λ table after e. falls-more (subst (Falls (turns_left table)) e (look_falls table (look table (ring table.token (length table.seats))) (look_known table (ring table.token (length table.seats)))));
+  falls =
+      λ table after e. falls-more (subst (Falls (turns_left table)) e
+      (look_falls table (look table (ring table.token (length table.seats)))
+      (look_known table (ring table.token (length table.seats)))));
 }
 
 -- `next_issue` is one turn, and then the same again where it passes

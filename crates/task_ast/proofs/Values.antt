@@ -17,7 +17,8 @@ value_on_none (Link op e links) env = value_on_none links env
 abbrev value_from : List (Op × Expr) → Env → ℕ → Option ℤ → Option ℤ
 value_from links env i so_far = value_on (plain_links (drop i links)) env so_far
 
-value_from-step : (links : List (Op × Expr)) (env : Env) (i : ℕ) (m : Op × Expr) (so_far : Option ℤ) → i < length links → m ≡ get_or links i m →
+value_from-step : (links : List (Op × Expr)) (env : Env) (i : ℕ) (m : Op × Expr) (so_far : Option ℤ) → i < length links
+    → m ≡ get_or links i m →
     value_from links env (i + 1) (operate_on m.0 so_far (value (plain_expr m.1) env)) ≡ value_from links env i so_far
 value_from-step links env i m so_far below is =
     ap (λ (m : Op × Expr). value_from links env (i + 1) (operate_on m.0 so_far (value (plain_expr m.1) env))) is
@@ -25,7 +26,8 @@ value_from-step links env i m so_far below is =
 
 -- where the member has a value, and where it has none
 pub value_from-some : (links : List (Op × Expr)) (env : Env) (i : ℕ) (m : Op × Expr) (a b : ℤ) → i < length links → m ≡ get_or links i m →
-    Some b ≡ value (plain_expr m.1) env → value_on (plain_links (drop (i + 1) links)) env (Some (operate m.0 a b)) ≡ value_on (plain_links (drop i links)) env (Some a)
+    Some b ≡ value (plain_expr m.1) env → value_on (plain_links (drop (i + 1) links)) env (Some (operate m.0 a b))
+    ≡ value_on (plain_links (drop i links)) env (Some a)
 value_from-some links env i m a b below is side =
     ap (λ v. value_from links env (i + 1) (operate_on m.0 (Some a) v)) side ∙ value_from-step links env i m (Some a) below is
 

@@ -35,7 +35,8 @@ expr_Me = ap plain_expr (sym rolls-Me) ∙ expr_level e.Me
 pub expr_Rows : (f : List ℕ) → plain_expr (Rows f) ≡ plain.Rows f
 expr_Rows f = ap plain_expr (sym (rolls-Rows f)) ∙ expr_level (e.Rows f)
 
-pub expr_Cell : (f : List ℕ) (row : Box Expr Global) (field : Box Expr Global) → plain_expr (Cell f row field) ≡ plain.Cell f (plain_expr row.value) (plain_expr field.value)
+pub expr_Cell : (f : List ℕ) (row : Box Expr Global) (field : Box Expr Global)
+    → plain_expr (Cell f row field) ≡ plain.Cell f (plain_expr row.value) (plain_expr field.value)
 expr_Cell f row field = ap plain_expr (sym (rolls-Cell f row field)) ∙ expr_level (e.Cell f row field)
 
 pub expr_Neg : (a : Box Expr Global) → plain_expr (Neg a) ≡ plain.Neg (plain_expr a.value)
@@ -44,14 +45,16 @@ expr_Neg a = ap plain_expr (sym (rolls-Neg a)) ∙ expr_level (e.Neg a)
 pub expr_Not : (a : Box Expr Global) → plain_expr (Not a) ≡ plain.Not (plain_expr a.value)
 expr_Not a = ap plain_expr (sym (rolls-Not a)) ∙ expr_level (e.Not a)
 
-pub expr_Chain : (first : Box Expr Global) (others : List (Op × Expr)) → plain_expr (Chain first others) ≡ plain.Chain (plain_expr first.value) (plain_links others)
+pub expr_Chain : (first : Box Expr Global) (others : List (Op × Expr))
+    → plain_expr (Chain first others) ≡ plain.Chain (plain_expr first.value) (plain_links others)
 expr_Chain first others = ap plain_expr (sym (rolls-Chain first others)) ∙ expr_level (e.Chain first others)
 
 pub stmt_At : (s : Stmt) → plain_stmt s ≡ plain.At s.line (plain_what s.what)
 unfolding plain_stmt plain_what
 stmt_At s = fold_out-Stmt plain.What plain.Stmt what_of stmt_of s
 
-what_level : (level : w.What-F What Stmt) → plain_what (roll-What level) ≡ what_of (map-What What Stmt plain.What plain.Stmt plain_what plain_stmt level)
+what_level : (level : w.What-F What Stmt)
+    → plain_what (roll-What level) ≡ what_of (map-What What Stmt plain.What plain.Stmt plain_what plain_stmt level)
 unfolding plain_what plain_stmt
 what_level level = fold-roll-What plain.What plain.Stmt what_of stmt_of level
 
@@ -61,7 +64,8 @@ what_SetCtl x e = ap plain_what (sym (rolls-SetCtl x e)) ∙ what_level (w.SetCt
 pub what_While : (e : Expr) (body : List Stmt) → plain_what (While e body) ≡ plain.While (plain_expr e) (plain_block body)
 what_While e body = ap plain_what (sym (rolls-While e body)) ∙ what_level (w.While e body)
 
-pub what_If : (e : Expr) (first : List Stmt) (second : List Stmt) → plain_what (If e first second) ≡ plain.If (plain_expr e) (plain_block first) (plain_block second)
+pub what_If : (e : Expr) (first : List Stmt) (second : List Stmt)
+    → plain_what (If e first second) ≡ plain.If (plain_expr e) (plain_block first) (plain_block second)
 what_If e first second = ap plain_what (sym (rolls-If e first second)) ∙ what_level (w.If e first second)
 
 pub what_Lock : (a : List ℕ) (i : Atom) → plain_what (Lock a i) ≡ plain.Lock a i
@@ -94,7 +98,33 @@ what_Write r i e = ap plain_what (sym (rolls-Write r i e)) ∙ what_level (w.Wri
 pub what_Print : (es : List Expr) → plain_what (Print es) ≡ plain.Print (plain_exprs es)
 what_Print es = ap plain_what (sym (rolls-Print es)) ∙ what_level (w.Print es)
 
-pub what_When : (e : Expr) (first : List Stmt) (second : List Stmt) → plain_what (When e first second) ≡ plain.When (plain_expr e) (plain_block first) (plain_block second)
+pub what_When : (e : Expr) (first : List Stmt) (second : List Stmt)
+    → plain_what (When e first second) ≡ plain.When (plain_expr e) (plain_block first) (plain_block second)
 what_When e first second = ap plain_what (sym (rolls-When e first second)) ∙ what_level (w.When e first second)
 
-pub ruleset view = (expr_Num, expr_Ctl, expr_Reg, expr_Me, expr_Rows, expr_Cell, expr_Neg, expr_Not, expr_Chain, stmt_At, what_SetCtl, what_While, what_If, what_Lock, what_Unlock, what_Fork, what_Join, what_Barrier, what_Settle, what_SetReg, what_Read, what_Write, what_Print, what_When)
+pub ruleset view = (
+  expr_Num,
+  expr_Ctl,
+  expr_Reg,
+  expr_Me,
+  expr_Rows,
+  expr_Cell,
+  expr_Neg,
+  expr_Not,
+  expr_Chain,
+  stmt_At,
+  what_SetCtl,
+  what_While,
+  what_If,
+  what_Lock,
+  what_Unlock,
+  what_Fork,
+  what_Join,
+  what_Barrier,
+  what_Settle,
+  what_SetReg,
+  what_Read,
+  what_Write,
+  what_Print,
+  what_When,
+)

@@ -30,7 +30,8 @@ pub undamaged : (e : Effect) → damaged (pos 0) e ≡ e
 undamaged e =
     let regs = unmasked e.regs in
     let child = undamaged_child e.child in
-    let writes : map (λ w. (w.0, masked (pos 0) w.1)) e.writes ≡ e.writes = map_same (λ w. (w.0, masked (pos 0) w.1)) (λ w. refl) e.writes in
+    let writes : map (λ w. (w.0, masked (pos 0) w.1)) e.writes ≡ e.writes =
+    map_same (λ w. (w.0, masked (pos 0) w.1)) (λ w. refl) e.writes in
     let prints = map_same (all_masked (pos 0)) unmasked e.prints in
     λ i. record { thread = e.thread; writes = writes i; regs = regs i; child = child i; prints = prints i }
 
@@ -42,19 +43,24 @@ fold_first members state (suc n) = ap (applied (members (suc n))) (fold_first me
 
 module _ (program : Program) (inputs : Inputs) (limits : Limits) where
   step_fold : (n : ℕ) (p q : Plain) (s : Subthread) → after (effect s.thread s.begins.sync s.child s.actions p.state) p.state ≡ q.state
-      → fold (member_in (steps (move program inputs limits) n q) (λ k. pos 0)) q.state (λ k. true) (length (steps (move program inputs limits) n q))
+      → fold (member_in (steps (move program inputs limits) n q) (λ k. pos 0)) q.state (λ k. true)
+      (length (steps (move program inputs limits) n q))
       ≡ (state_after (move program inputs limits) n q).state
-      → fold (member_in (s ∷ steps (move program inputs limits) n q) (λ k. pos 0)) p.state (λ k. true) (suc (length (steps (move program inputs limits) n q)))
+      → fold (member_in (s ∷ steps (move program inputs limits) n q) (λ k. pos 0)) p.state (λ k. true)
+      (suc (length (steps (move program inputs limits) n q)))
       ≡ (state_after (move program inputs limits) n q).state
   step_fold n p q s moved rest =
-      fold_first (member_in (s ∷ steps (move program inputs limits) n q) (λ k. pos 0)) p.state (length (steps (move program inputs limits) n q))
-      ∙ ap (λ state. fold (member_in (steps (move program inputs limits) n q) (λ k. pos 0)) state (λ k. true) (length (steps (move program inputs limits) n q)))
+      fold_first (member_in (s ∷ steps (move program inputs limits) n q) (λ k. pos 0)) p.state
+      (length (steps (move program inputs limits) n q))
+      ∙ ap (λ state. fold (member_in (steps (move program inputs limits) n q) (λ k. pos 0)) state (λ k. true)
+      (length (steps (move program inputs limits) n q)))
       (ap (λ e. after e p.state) (undamaged (effect s.thread s.begins.sync s.child s.actions p.state)) ∙ moved)
       ∙ rest
 
   -- a subthread's step leaves the state after its effect
   data Follows (p : Plain) : Move Plain Subthread End → Type 0 where
-    goes : {s : Subthread} {q : Plain} → after (effect s.thread s.begins.sync s.child s.actions p.state) p.state ≡ q.state → Follows p (Goes s q)
+    goes : {s : Subthread} {q : Plain} → after (effect s.thread s.begins.sync s.child s.actions p.state) p.state ≡ q.state
+        → Follows p (Goes s q)
     stops : {ending : End} → Follows p (Ends ending)
 
   follows : (p : Plain) (r : Turn) → Follows p (on_turn program inputs limits p r)
@@ -63,16 +69,19 @@ module _ (program : Program) (inputs : Inputs) (limits : Limits) where
   follows p (Ended ending) = stops
 
   pub fold_is : (n : ℕ) (p : Plain)
-      → fold (member_in (steps (move program inputs limits) n p) (λ q. pos 0)) p.state (λ q. true) (length (steps (move program inputs limits) n p))
+      → fold (member_in (steps (move program inputs limits) n p) (λ q. pos 0)) p.state (λ q. true)
+      (length (steps (move program inputs limits) n p))
       ≡ (state_after (move program inputs limits) n p).state
   unfolding steps state_after
   fold_is zero p = refl
   fold_is (suc n) p = go (on_turn program inputs limits p (next_issue p.table)) (follows p (next_issue p.table)) (fold_is n)
     where
       go : (m : Move Plain Subthread End) → Follows p m
-          → ((q : Plain) → fold (member_in (steps (move program inputs limits) n q) (λ k. pos 0)) q.state (λ k. true) (length (steps (move program inputs limits) n q))
+          → ((q : Plain) → fold (member_in (steps (move program inputs limits) n q) (λ k. pos 0)) q.state (λ k. true)
+          (length (steps (move program inputs limits) n q))
           ≡ (state_after (move program inputs limits) n q).state)
-          → fold (member_in (steps_from (move program inputs limits) m (steps (move program inputs limits) n)) (λ k. pos 0)) p.state (λ k. true)
+          → fold (member_in (steps_from (move program inputs limits) m (steps (move program inputs limits) n)) (λ k. pos 0)) p.state
+          (λ k. true)
           (length (steps_from (move program inputs limits) m (steps (move program inputs limits) n)))
           ≡ (state_from (move program inputs limits) p m (state_after (move program inputs limits) n)).state
       go (Goes s q) (goes moved) again = step_fold n p q s moved (again q)

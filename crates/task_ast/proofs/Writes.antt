@@ -25,7 +25,8 @@ module _ (cells : ℕ → ℤ) (joined : ℤ) where
     done_rises (Load c k) d r = r
     done_rises (Store c t) d r = is_sorted-put nat_cmp nat_cmp_total c (term_value t d.registers) d.written r
     done_rises (Say ts) d r = r
-    done_rises (Choose t a b) d r = picked_rises (term_value t d.registers) (arm_done cells joined a d) (arm_done cells joined b d) (arm_rises a d r) (arm_rises b d r)
+    done_rises (Choose t a b) d r =
+        picked_rises (term_value t d.registers) (arm_done cells joined a d) (arm_done cells joined b d) (arm_rises a d r) (arm_rises b d r)
     done_rises (Child count) d r = r
     done_rises (Give k t) d r = r
     done_rises (Bring k) d r = r
@@ -42,6 +43,8 @@ is_true : (b : Bool) → T b → b ≡ true
 is_true true h = refl
 is_true false h = absurd h
 
-pub writes_rise : (t : ℕ) (begins : SyncOp) (child : Option ℕ) (actions : List Action) (state : State) → is_sorted nat_cmp (effect t begins child actions state).writes ≡ true
+pub writes_rise : (t : ℕ) (begins : SyncOp) (child : Option ℕ) (actions : List Action) (state : State)
+    → is_sorted nat_cmp (effect t begins child actions state).writes ≡ true
 writes_rise t begins child actions state =
-    is_true _ (all_rises (cell_value state) (joined_ret begins state) actions (record { registers = state (RegistersOf t); child = []; written = []; lines = [] }) tt)
+    is_true _ (all_rises (cell_value state) (joined_ret begins state) actions
+    (record { registers = state (RegistersOf t); child = []; written = []; lines = [] }) tt)

@@ -61,4 +61,5 @@ abbrev mutual
   -- the further members of a chain, looked up likewise
   pub terms : List Name → Links → Env → Option MoreTerms
   terms registers NoLinks env = Some NoTerms
-  terms registers (Link op e links) env = option_and_then (λ t. option_map (OneTerm op t) (terms registers links env)) (term registers e env)
+  terms registers (Link op e links) env =
+      option_and_then (λ t. option_map (OneTerm op t) (terms registers links env)) (term registers e env)

@@ -50,7 +50,8 @@ module _ (s : Scope) where
       ++ fails_if (into_index held x) IndexChangedWhileHeld
   fails_at (Join e x) held = fails_if (has_unknown s e || into_unknown (is_register s) x) UnknownName ++ fails_if (has_data e) DataInControl
   fails_at (Barrier b) held = fails_if (not (is_barrier s b)) UnknownName
-  fails_at (Settle x c) held = fails_if (not (is_register s x) || not (is_control s c)) UnknownName ++ fails_if (list_any (is_index c) held) IndexChangedWhileHeld
+  fails_at (Settle x c) held =
+      fails_if (not (is_register s x) || not (is_control s c)) UnknownName ++ fails_if (list_any (is_index c) held) IndexChangedWhileHeld
   fails_at (SetReg x e) held = fails_if (not (is_register s x) || has_unknown s e) UnknownName ++ fails_if (has_data_index e) DataInControl
   fails_at (Read r i x) held =
       fails_if (is_none (array_over s r) || (not (is_atom s i) || not (is_register s x))) UnknownName

@@ -98,7 +98,8 @@ module _ (s : Setting) where
     action registers (Write r i e) env = option_and_then (λ c. option_map (Store c) (term registers e env)) (record_number r i env)
     action registers (Print es) env = option_map Say (all_of (map (λ e. term registers e env) es))
     action registers (When e a b) env =
-        option_and_then (λ t. option_and_then (λ x. option_map (Choose t x) (arm registers b env)) (arm registers a env)) (term registers e env)
+        option_and_then (λ t. option_and_then (λ x. option_map (Choose t x) (arm registers b env)) (arm registers a env))
+        (term registers e env)
     action registers _ env = None
 
     -- the actions of a block of data statements
@@ -114,13 +115,15 @@ module _ (s : Setting) where
   abbrev pub data_arguments : (given registers : List Name) → List Param → List Expr → Env → Option (List Action)
   data_arguments given registers (param.Ctl x ∷ params) (e ∷ es) env = data_arguments given registers params es env
   data_arguments given registers (param.Reg x ∷ params) (e ∷ es) env =
-      option_and_then (λ t. option_map (λ actions. Give (register_number given x) t ∷ actions) (data_arguments given registers params es env)) (term registers e env)
+      option_and_then (λ t. option_map (λ actions. Give (register_number given x) t ∷ actions)
+      (data_arguments given registers params es env)) (term registers e env)
   data_arguments given registers _ _ env = Some []
 
   -- the arguments of a fork of this task: the control values, and the actions that make the child's registers
   abbrev pub fork_arguments : TaskText → List Expr → Point → Option (List ℤ × List Action)
   fork_arguments task es p =
-      option_and_then (λ values. option_map (λ actions. (values, Child (length (registers_of task)) ∷ actions)) (data_arguments (registers_of task) (registers_of p.task) task.params es (env_at p)))
+      option_and_then (λ values. option_map (λ actions. (values, Child (length (registers_of task)) ∷ actions))
+      (data_arguments (registers_of task) (registers_of p.task) task.params es (env_at p)))
       (control_arguments task.params es (env_at p))
 
   -- the arguments of a fork of the task of this name
@@ -129,9 +132,11 @@ module _ (s : Setting) where
 
   -- the step at a statement that has these statements after it
   abbrev pub step_at : (line : ℕ) → What → List Stmt → Point → Step Point
-  step_at line (SetCtl x e) rest p = known line (value e (env_at p)) (λ v. Silent (record p { left = rest; names = with_value p.names x v }))
+  step_at line (SetCtl x e) rest p =
+      known line (value e (env_at p)) (λ v. Silent (record p { left = rest; names = with_value p.names x v }))
   step_at line (While e b) rest p =
-      known line (value e (env_at p)) (λ v. branch v (Iteration (going p (statements b ++ (At line (While e b) ∷ rest)))) (Silent (going p rest)))
+      known line (value e (env_at p)) (λ v. branch v (Iteration (going p (statements b ++ (At line (While e b) ∷ rest))))
+      (Silent (going p rest)))
   step_at line (If e a b) rest p =
       known line (value e (env_at p)) (λ v. branch v (Silent (going p (statements a ++ rest))) (Silent (going p (statements b ++ rest))))
   step_at line (Lock a i) rest p = known line (lock_number a i (env_at p)) (λ l. stop (sync.Lock l) line)
@@ -139,7 +144,8 @@ module _ (s : Setting) where
   step_at line (Fork t es x) rest p =
       known line (fork_of t es p) (λ arguments. stop (sync.Fork (unwrap_or (task_number s.program t) 0) arguments.0) line)
   step_at line (Join e x) rest p = known line (value e (env_at p)) (λ h. stop (sync.Join h) line)
-  step_at line (Barrier b) rest p = known line (position (λ other. is_name b other.0) (barriers_of s.program.heads)) (λ n. stop (sync.Barrier n) line)
+  step_at line (Barrier b) rest p =
+      known line (position (λ other. is_name b other.0) (barriers_of s.program.heads)) (λ n. stop (sync.Barrier n) line)
   step_at line (Settle x c) rest p = stop (sync.Settle (register_number (registers_of p.task) x) (slot (firsts p.names) c)) line
   step_at line w rest p = known line (action (registers_of p.task) w (env_at p)) (λ a. Act a (going p rest))
 

@@ -47,7 +47,8 @@ fits_array heads head = not (lacks_array heads head) && not (sizes_differ heads 
 
 -- each record cell stands under exactly one lock cell, nothing else does, and those under one lock cell rise
 pub record IsLaidOut (heads : List Head) : Type 0 where
-  pub one_lock : (c : ℕ) → c < cells_in (records_of heads) → (l : ℕ) × (l < cells_in (locks_of heads)) × ((lock : ℕ) → Contains (cells_under heads lock) c ↔ (lock ≡ l))
+  pub one_lock : (c : ℕ) → c < cells_in (records_of heads)
+      → (l : ℕ) × (l < cells_in (locks_of heads)) × ((lock : ℕ) → Contains (cells_under heads lock) c ↔ (lock ≡ l))
   pub within : (lock c : ℕ) → Contains (cells_under heads lock) c → c < cells_in (records_of heads)
   pub rising : (lock : ℕ) → IsStrictlyIncreasing (cells_under heads lock)
 
@@ -62,7 +63,8 @@ SizesLaw = (program : Program) → IsAccepted program → list_all (fits_array p
 -- the cell of a record at an index stands under the cell of its lock array at that index
 abbrev pub OverLaw : Type 0
 OverLaw =
-    (heads : List Head) (r a : Name) (index : ℤ) (c : ℕ) → cell_number (records_of heads) r index ≡ Some c → named r (arrays_over heads) ≡ Some a
+    (heads : List Head) (r a : Name) (index : ℤ) (c : ℕ) → cell_number (records_of heads) r index ≡ Some c
+    → named r (arrays_over heads) ≡ Some a
     → lock_over (locks_of heads) heads c ≡ cell_number (locks_of heads) a index
 
 -- an array's cell is as far from its first cell as its index says

@@ -70,7 +70,12 @@ given (x ∷ names) (v ∷ values) = (x, v) ∷ given names values
 -- the start of a thread, with the values of its control parameters
 abbrev pub start_point : TaskText → (thread : ℕ) → (arguments : List ℤ) → Point
 start_point task me arguments =
-    record { task = task; left = statements task.body; names = given (controls task.params) arguments ++ given (controls (declared_in task.vars)) []; me = me }
+    record {
+      task = task;
+      left = statements task.body;
+      names = given (controls task.params) arguments ++ given (controls (declared_in task.vars)) [];
+      me = me;
+    }
 
 -- the program, with its feeds by name
 abbrev pub setting_of : Program → Inputs → Setting

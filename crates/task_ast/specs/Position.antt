@@ -31,7 +31,8 @@ body_by machine before s = machine.bodies (machine.begins s.begins.sync s.child 
 
 -- in a run over any kind of points: the thread's last subthread is that of position q, and the body of that subthread leads to the
 -- thread's next synchronisation and to its point
-pub record LeftBy {P : Type 0} (machine : Machine P) (program : Program) (inputs : Inputs) (limits : Limits) (x : PlainOf P) (t q : ℕ) : Type 0 where
+pub record LeftBy {P : Type 0} (machine : Machine P) (program : Program) (inputs : Inputs) (limits : Limits) (x : PlainOf P)
+    (t q : ℕ) : Type 0 where
   pub subthread : Subthread
   pub position : slice_get (order_by machine program inputs limits) q ≡ Some subthread
   pub thread : subthread.thread ≡ t
@@ -52,7 +53,8 @@ pub record IsStep {P : Type 0} (machine : Machine P) (x : PlainOf P) (s : Subthr
   pub threads : length y.table.seats ≡ with_child s.child (length x.table.seats)
   pub next : next_of y.table s.thread ≡ Some (body_by machine x s).next
   pub point : point_by machine y s.thread ≡ (body_by machine x s).at
-  pub others : (t : ℕ) → (t ≡ s.thread → ⊥) → t < length x.table.seats → (next_of y.table t ≡ next_of x.table t) × (point_by machine y t ≡ point_by machine x t)
+  pub others : (t : ℕ) → (t ≡ s.thread → ⊥) → t < length x.table.seats
+      → (next_of y.table t ≡ next_of x.table t) × (point_by machine y t ≡ point_by machine x t)
   pub forked : (task : ℕ) (arguments : List ℤ) → s.begins.sync ≡ sync.Fork task arguments
       → (next_of y.table (length x.table.seats) ≡ Some (record { sync = sync.Start; line = 0 }))
       × (point_by machine y (length x.table.seats) ≡ machine.starts task (length x.table.seats) arguments)
@@ -91,8 +93,10 @@ plan_of s = record s { lines = [] }
 -- where a settle begins a subthread of the one run, both find the same value in its register
 abbrev pub SettlesAlike : (program : Program) (inputs other : Inputs) (limits : Limits) → Type 0
 SettlesAlike program inputs other limits =
-    (p : ℕ) (s : Subthread) (register control : ℕ) → slice_get (order program inputs limits) p ≡ Some s → s.begins.sync ≡ sync.Settle register control
-    → number_at ((before program inputs limits p).state (RegistersOf s.thread)) register ≡ number_at ((before program other limits p).state (RegistersOf s.thread)) register
+    (p : ℕ) (s : Subthread) (register control : ℕ) → slice_get (order program inputs limits) p ≡ Some s
+    → s.begins.sync ≡ sync.Settle register control
+    → number_at ((before program inputs limits p).state (RegistersOf s.thread)) register
+    ≡ number_at ((before program other limits p).state (RegistersOf s.thread)) register
 
 -- two runs of a program differ in the data alone: the same subthreads but for their lines, the same end, and before each position
 -- the same table and the same points

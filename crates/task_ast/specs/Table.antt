@@ -13,7 +13,8 @@ pub data Stand : Type 0 where
   Waits : Stand
   Released : Stand
 
--- one thread: its next synchronisation where that is known, the position of its last subthread, whether it has passed since the last issue or arrival
+-- one thread: its next synchronisation where that is known, the position of its last subthread, whether it has passed
+-- since the last issue or arrival
 pub record Seat : Type 0 where
   pub next : Option Next
   pub last : Option ℕ

@@ -62,7 +62,9 @@ issuing table t next =
     (Done (Issue t next (child_of next.sync (length table.seats)) (record {
       limit = table.limit;
       barriers = table.barriers;
-      seats = seats_after next.sync (map unpassed (with_seat table t (λ s. record { next = None; last = Some table.issued; passed = false; stand = Away })).seats);
+      seats =
+          seats_after next.sync (map unpassed (with_seat table t
+          (λ s. record { next = None; last = Some table.issued; passed = false; stand = Away })).seats);
       owners = owners_after next.sync t table.owners;
       token = Some t;
       issued = suc table.issued;
@@ -126,9 +128,11 @@ most_threads = MOST_THREADS
 abbrev pub tried : SyncOp → Table → ℕ → Next → Again Table Turn
 tried sync.BadIndex table t next = stuck why.Index t next
 tried sync.Spent table t next = Done (Ended (Spent (last_of table t)))
-tried (sync.Join (pos h)) table t next = cond (nat_lt h (length table.seats)) (joining h (next_of table h) table t next) (stuck why.Join t next)
+tried (sync.Join (pos h)) table t next =
+    cond (nat_lt h (length table.seats)) (joining h (next_of table h) table t next) (stuck why.Join t next)
 tried (sync.Join (negsuc h)) table t next = stuck why.Join t next
-tried (sync.Fork task arguments) table t next = cond (nat_lt (length table.seats) most_threads) (issuing table t next) (stuck why.Threads t next)
+tried (sync.Fork task arguments) table t next =
+    cond (nat_lt (length table.seats) most_threads) (issuing table t next) (stuck why.Threads t next)
 tried (sync.Lock l) table t next = cond (is_none (owner_of table l)) (issuing table t next) (passing table t)
 tried (sync.Barrier b) table t next = let there = come_to (stand_of table t) table t b in at_barrier (stand_of there t) there t next
 tried _ table t next = issuing table t next

@@ -23,7 +23,8 @@ module _ (tasks : List (List Instr)) (feeds : List Feed) where
   falls-act : {n : ℕ} {a : Action} {q : Place} → Falls n (Act a q) → code_size tasks q < n
   falls-act (acting less) = less
 
-  given_falls : {A : Type 0} (n line : ℕ) (o : Option A) (go : A → Step Place) → ((v : A) → Falls n (go v)) → Falls n (given_value line o go)
+  given_falls : {A : Type 0} (n line : ℕ) (o : Option A) (go : A → Step Place) → ((v : A) → Falls n (go v))
+      → Falls n (given_value line o go)
   given_falls n line None go falls = stopping
   given_falls n line (Some v) go falls = falls v
 
@@ -32,7 +33,8 @@ module _ (tasks : List (List Instr)) (feeds : List Feed) where
   either_falls n (pos (suc k)) a b at_a at_b = at_a
   either_falls n (negsuc k) a b at_a at_b = at_a
 
-  does_falls : (line : ℕ) (d : Does) (q : Place) → q.at.pc < length (instrs_of tasks q.at.task) → Falls (length (instrs_of tasks q.at.task) - q.at.pc) (step_does feeds line d q)
+  does_falls : (line : ℕ) (d : Does) (q : Place) → q.at.pc < length (instrs_of tasks q.at.task)
+      → Falls (length (instrs_of tasks q.at.task) - q.at.pc) (step_does feeds line d q)
   does_falls line d q within = go d within
     where
       next : (all : ℕ) → q.at.pc < all → all - (q.at.pc + 1) < all - q.at.pc
@@ -41,12 +43,15 @@ module _ (tasks : List (List Instr)) (feeds : List Feed) where
       far : (all n : ℕ) → q.at.pc < all → all - (q.at.pc + 1 + n) < all - q.at.pc
       far all n within = omega arith
 
-      go : (d : Does) → q.at.pc < length (instrs_of tasks q.at.task) → Falls (length (instrs_of tasks q.at.task) - q.at.pc) (step_does feeds line d q)
+      go : (d : Does) → q.at.pc < length (instrs_of tasks q.at.task)
+          → Falls (length (instrs_of tasks q.at.task) - q.at.pc) (step_does feeds line d q)
       go (Assign k c) within = given_falls _ line _ _ (λ v. silently (next (length (instrs_of tasks q.at.task)) within))
       go (GoOn n) within = silently (far (length (instrs_of tasks q.at.task)) n within)
       go (Unless c n) within =
-          given_falls _ line _ _ (λ v. either_falls _ v _ _ (silently (next (length (instrs_of tasks q.at.task)) within)) (silently (far (length (instrs_of tasks q.at.task)) n within)))
-      go (Again c n) within = given_falls _ line _ _ (λ v. either_falls _ v _ _ by_turn (silently (next (length (instrs_of tasks q.at.task)) within)))
+          given_falls _ line _ _ (λ v. either_falls _ v _ _ (silently (next (length (instrs_of tasks q.at.task)) within))
+          (silently (far (length (instrs_of tasks q.at.task)) n within)))
+      go (Again c n) within =
+          given_falls _ line _ _ (λ v. either_falls _ v _ _ by_turn (silently (next (length (instrs_of tasks q.at.task)) within)))
       go (Lock cells i) within = given_falls _ line _ _ (λ v. stopping)
       go (Unlock cells i) within = given_falls _ line _ _ (λ v. stopping)
       go (Fork f) within = given_falls _ line _ _ (λ v. stopping)

@@ -12,12 +12,18 @@ use Rattle.task_ast.specs.Names.{is_task}
 use Rattle.task_code.specs.Lowering.{Scope, control_calcs, gifts}
 
 -- where a task of this name has a number, it is the task of that number
-pub task_at_place : (t : Name) (tasks : List TaskText) (k : ℕ) → position (is_task t) tasks ≡ Some k → (k < length tasks) × (find (is_task t) tasks ≡ slice_get tasks k)
+pub task_at_place : (t : Name) (tasks : List TaskText) (k : ℕ) → position (is_task t) tasks ≡ Some k
+    → (k < length tasks) × (find (is_task t) tasks ≡ slice_get tasks k)
 task_at_place t tasks k is = elim (cases_lt (position_or_len (is_task t) tasks) (length tasks)) [
   | inl below ↦
-      (let same : position_or_len (is_task t) tasks ≡ k = some_is (sym (ap (λ b. cond b (Some (position_or_len (is_task t) tasks)) None) (lt-ltb (position_or_len (is_task t) tasks) (length tasks) below)) ∙ is) in
+      (let same : position_or_len (is_task t) tasks ≡ k =
+      some_is (sym (ap (λ b. cond b (Some (position_or_len (is_task t) tasks)) None)
+      (lt-ltb (position_or_len (is_task t) tasks) (length tasks) below)) ∙ is) in
       (subst (λ n. n < length tasks) same below, find_at (is_task t) tasks ∙ ap (slice_get tasks) same))
-  | inr past ↦ absurd (none_is (sym (ap (λ b. cond b (Some (position_or_len (is_task t) tasks)) None) (le-ltb (position_or_len (is_task t) tasks) (length tasks) past)) ∙ is))
+  | inr past ↦
+      absurd
+      (none_is (sym (ap (λ b. cond b (Some (position_or_len (is_task t) tasks)) None)
+      (le-ltb (position_or_len (is_task t) tasks) (length tasks) past)) ∙ is))
 ]
   where
     some_is : {x y : ℕ} → Some x ≡ Some y → x ≡ y
@@ -29,7 +35,10 @@ task_at_place t tasks k is = elim (cases_lt (position_or_len (is_task t) tasks) 
 -- where no task has the name there is none
 pub no_task_there : (t : Name) (tasks : List TaskText) → position (is_task t) tasks ≡ None → find (is_task t) tasks ≡ None
 no_task_there t tasks is = elim (cases_lt (position_or_len (is_task t) tasks) (length tasks)) [
-  | inl below ↦ absurd (some_none (sym (ap (λ b. cond b (Some (position_or_len (is_task t) tasks)) None) (lt-ltb (position_or_len (is_task t) tasks) (length tasks) below)) ∙ is))
+  | inl below ↦
+      absurd
+      (some_none (sym (ap (λ b. cond b (Some (position_or_len (is_task t) tasks)) None)
+      (lt-ltb (position_or_len (is_task t) tasks) (length tasks) below)) ∙ is))
   | inr past ↦ find_at (is_task t) tasks ∙ slice_get_past tasks (position_or_len (is_task t) tasks) past
 ]
   where

@@ -58,8 +58,10 @@ module _ (s : Scope) where
     what_fits line (tree.SetCtl x e) = (tt, tt)
     what_fits line (tree.While e b) =
         let d = block_code s b in
-        let test = At line (Again (calc s e) (length d)) in
-        (omega (arith, length-append d (test ∷ [])), joined 1 0 d (test ∷ []) (wider 0 1 0 (1 + 0) d (omega arith) (omega arith) (block_fits b)) (omega arith, tt))
+        let test = At line (Again (calc s e) (length d)) in (
+          omega (arith, length-append d (test ∷ [])),
+          joined 1 0 d (test ∷ []) (wider 0 1 0 (1 + 0) d (omega arith) (omega arith) (block_fits b)) (omega arith, tt),
+        )
     what_fits line (tree.If e a b) =
         let c = block_code s a in
         let d = block_code s b in
@@ -85,12 +87,14 @@ module _ (s : Scope) where
     block_fits (tree.Then st b) =
         let c = stmt_code s st in
         let d = block_code s b in
-        joined 0 0 c d (wider 0 0 0 (length d + 0) c (omega arith) (omega arith) (stmt_fits st)) (wider 0 (0 + length c) 0 0 d (omega arith) (omega arith) (block_fits b))
+        joined 0 0 c d (wider 0 0 0 (length d + 0) c (omega arith) (omega arith) (stmt_fits st))
+        (wider 0 (0 + length c) 0 0 d (omega arith) (omega arith) (block_fits b))
 
     stmt_fits : (st : Stmt) → AllFit 0 0 (stmt_code s st)
     stmt_fits (tree.At line w) = what_fits line w
 
-fit_at : (before : ℕ) (is : List Instr) (k line : ℕ) (d : Does) → AllFit before 0 is → slice_get is k ≡ Some (At line d) → Fits (before + k) (length is - (k + 1)) d
+fit_at : (before : ℕ) (is : List Instr) (k line : ℕ) (d : Does) → AllFit before 0 is → slice_get is k ≡ Some (At line d)
+    → Fits (before + k) (length is - (k + 1)) d
 fit_at before [] k line d fit found = absurd cc
 fit_at before (At l e ∷ is) zero line d fit found =
     let same : At l e ≡ At line d = cc in
@@ -98,13 +102,18 @@ fit_at before (At l e ∷ is) zero line d fit found =
     let does : e ≡ d = cc in
     subst (Fits (before + 0) (length (At l e ∷ is) - (0 + 1))) does here
 fit_at before (At l e ∷ is) (suc k) line d fit found =
-    fits_wider (before + 1 + k) (before + suc k) (length is - (k + 1)) (length (At l e ∷ is) - (suc k + 1)) d (omega arith) (omega arith) (fit_at (before + 1) is k line d fit.1 found)
+    fits_wider (before + 1 + k) (before + suc k) (length is - (k + 1)) (length (At l e ∷ is) - (suc k + 1)) d (omega arith) (omega arith)
+    (fit_at (before + 1) is k line d fit.1 found)
 
 pub block_inside : (s : Scope) (b : Block) → AreInside (block_code s b)
 block_inside s b =
     let all = block_code s b in
     record {
-      go_on = λ pc line n is. let fit = fit_at 0 all pc line (GoOn n) (block_fits s b) is in let within = slice_get_within all pc (At line (GoOn n)) is in omega arith;
-      unless = λ pc line n c is. let fit = fit_at 0 all pc line (Unless c n) (block_fits s b) is in let within = slice_get_within all pc (At line (Unless c n)) is in omega arith;
+      go_on =
+          λ pc line n is. let fit = fit_at 0 all pc line (GoOn n) (block_fits s b) is in
+          let within = slice_get_within all pc (At line (GoOn n)) is in omega arith;
+      unless =
+          λ pc line n c is. let fit = fit_at 0 all pc line (Unless c n) (block_fits s b) is in
+          let within = slice_get_within all pc (At line (Unless c n)) is in omega arith;
       again = λ pc line n c is. let fit = fit_at 0 all pc line (Again c n) (block_fits s b) is in omega arith;
     }

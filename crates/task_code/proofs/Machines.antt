@@ -36,7 +36,9 @@ no_jump feeds q (Some (At line (Do d))) h = tt
 
 pub bodies : BodiesLaw
 bodies program inputs turns p q r =
-    let b = bodies_agree (Corresponds program) (step (setting_of program inputs)) (code_step (lowered program).tasks inputs.feeds) size (code_size (lowered program).tasks)
+    let b =
+    bodies_agree (Corresponds program) (step (setting_of program inputs)) (code_step (lowered program).tasks inputs.feeds) size
+    (code_size (lowered program).tasks)
     (tree_sized (setting_of program inputs)) (code_sized (lowered program).tasks inputs.feeds) (following program inputs) turns p q r in
     let at = (code_body (lowered program).tasks inputs.feeds turns q).at in
     record {
@@ -45,13 +47,15 @@ bodies program inputs turns p q r =
       at = record {
         corresponds = b.at;
         stopped = inr (no_jump inputs.feeds at (instr_at (lowered program).tasks at at.at.pc)
-            (halts (code_step (lowered program).tasks inputs.feeds) (code_size (lowered program).tasks) (code_sized (lowered program).tasks inputs.feeds) turns q));
+            (halts (code_step (lowered program).tasks inputs.feeds) (code_size (lowered program).tasks)
+            (code_sized (lowered program).tasks inputs.feeds) turns q));
       };
     }
 
 -- a point and a place stand for each other still where a control variable gets the same value in both
 set_alike : (program : Program) (register control : ℕ) (v : ℤ) (p : Point) (q : Place) → Rests program (sync.Settle register control) p q
-    → Rests program (sync.Settle register control) (record p { names = with_number p.names control v }) (record q { ctl = slice_set q.ctl control v })
+    → Rests program (sync.Settle register control) (record p { names = with_number p.names control v })
+    (record q { ctl = slice_set q.ctl control v })
 set_alike program register control v p q rests =
     record {
       corresponds = record {
@@ -77,4 +81,5 @@ follows program inputs limits =
 
 pub run : RunLaw
 run program inputs limits =
-    same_run (Rests program) (tree_machine program inputs limits) (code_machine (lowered program) inputs.feeds limits.turns) (follows program inputs limits) program limits inputs
+    same_run (Rests program) (tree_machine program inputs limits) (code_machine (lowered program) inputs.feeds limits.turns)
+    (follows program inputs limits) program limits inputs

@@ -29,7 +29,8 @@ has_all (i ∷ is) pre =
 
 module _ (s : Scope) (all : List Instr) where
   -- the code of a block stands before what is left after it
-  pub stands_block : (b : Block) (pc : ℕ) (rest : List Stmt) → HasAt all pc (block_code s b) → Left s all (pc + length (block_code s b)) rest → Left s all pc (statements b ++ rest)
+  pub stands_block : (b : Block) (pc : ℕ) (rest : List Stmt) → HasAt all pc (block_code s b)
+      → Left s all (pc + length (block_code s b)) rest → Left s all pc (statements b ++ rest)
   stands_block Nothing pc rest has left = let e : pc + 0 ≡ pc = omega arith in subst (λ n. Left s all n rest) e left
   stands_block (Then (At line w) b) pc rest has left =
       let c = what_code s line w in

@@ -22,20 +22,26 @@ zeros : (names : List Name) → seconds (given names []) ≡ replicate (length n
 zeros [] = refl
 zeros (x ∷ names) = ap (λ l. pos 0 ∷ l) (zeros names)
 
-filled : (names : List Name) (values : List ℤ) → seconds (given names values) ≡ take (length names) values ++ replicate (length names - length values) (pos 0)
+filled : (names : List Name) (values : List ℤ)
+    → seconds (given names values) ≡ take (length names) values ++ replicate (length names - length values) (pos 0)
 filled [] values = let none : 0 ≡ 0 - length values = omega arith in ap (λ n. replicate n (pos 0)) none
 filled (x ∷ names) [] =
-    let all : suc (length names) ≡ suc (length names) - 0 = omega arith in ap (λ l. pos 0 ∷ l) (zeros names) ∙ ap (λ n. replicate n (pos 0)) all
-filled (x ∷ names) (v ∷ values) = ap (λ l. v ∷ l) (filled names values ∙ ap (λ n. take (length names) values ++ replicate n (pos 0)) (omega arith))
+    let all : suc (length names) ≡ suc (length names) - 0 = omega arith in
+    ap (λ l. pos 0 ∷ l) (zeros names) ∙ ap (λ n. replicate n (pos 0)) all
+filled (x ∷ names) (v ∷ values) =
+    ap (λ l. v ∷ l) (filled names values ∙ ap (λ n. take (length names) values ++ replicate n (pos 0)) (omega arith))
 
 -- those of a task, from the values of its control parameters
 pub values_of : (task : TaskText) (values : List ℤ)
-    → padded (params_of task) (length (controls_of task)) values ≡ seconds (given (controls task.params) values ++ given (controls (declared_in task.vars)) [])
+    → padded (params_of task) (length (controls_of task)) values
+    ≡ seconds (given (controls task.params) values ++ given (controls (declared_in task.vars)) [])
 values_of task values =
     let p = length (controls task.params) in
     let d = length (controls (declared_in task.vars)) in
     let first = take p values in
-    let whole = ap length (controls-append task.params (declared_in task.vars)) ∙ length-append (controls task.params) (controls (declared_in task.vars)) in
+    let whole =
+    ap length (controls-append task.params (declared_in task.vars))
+    ∙ length-append (controls task.params) (controls (declared_in task.vars)) in
     let taken = length-take p values in
     let rest : length (controls_of task) - length first ≡ (p - length values) + d = omega arith in
     ap (λ n. first ++ replicate n (pos 0)) rest ∙ ap (λ l. first ++ l) (sym (replicate-append-replicate (p - length values) d (pos 0)))
@@ -47,7 +53,9 @@ values_of task values =
 -- a task has no more control parameters than control variables
 pub params_few : (task : TaskText) → params_of task ≤ length (controls_of task)
 params_few task =
-    let whole = ap length (controls-append task.params (declared_in task.vars)) ∙ length-append (controls task.params) (controls (declared_in task.vars)) in
+    let whole =
+    ap length (controls-append task.params (declared_in task.vars))
+    ∙ length-append (controls task.params) (controls (declared_in task.vars)) in
     omega arith
 
 get_map : {X Y : Type 0} (f : X → Y) (xs : List X) (k : ℕ) → slice_get (map f xs) k ≡ option_map f (slice_get xs k)
@@ -60,7 +68,8 @@ abbrev pub count_in : Option Shape → ℕ
 count_in shape = unwrap_or (option_map (λ s. s.ctl) shape) 0
 
 -- the same of a task that may be there
-pub values_there : (o : Option TaskText) (values : List ℤ) → padded (unwrap_or (option_map params_of o) 0) (count_in (option_map shape_of o)) values
+pub values_there : (o : Option TaskText) (values : List ℤ)
+    → padded (unwrap_or (option_map params_of o) 0) (count_in (option_map shape_of o)) values
     ≡ seconds (given (controls (unwrap_or o no_task).params) values ++ given (controls (declared_in (unwrap_or o no_task).vars)) [])
 values_there None values = refl
 values_there (Some task) values = values_of task values
@@ -70,9 +79,11 @@ few_there None = omega arith
 few_there (Some task) = params_few task
 
 -- what is found in the parts of code
-pub params_at : (parts : Parts) (flat : Flat) (k n : ℕ) (got copied : Option ℕ) → AreParts parts → flat_of parts ≡ flat → got ≡ slice_get parts.params k → copied ≡ got → n ≡ unwrap_or copied 0
+pub params_at : (parts : Parts) (flat : Flat) (k n : ℕ) (got copied : Option ℕ) → AreParts parts → flat_of parts ≡ flat
+    → got ≡ slice_get parts.params k → copied ≡ got → n ≡ unwrap_or copied 0
     → n ≡ unwrap_or (option_map params_of (slice_get (map plain_task flat.program.tasks) k)) 0
 params_at parts flat k n got copied are same there is value =
     value
     ∙ ap (λ o. unwrap_or o 0)
-    (is ∙ there ∙ ap (λ l. slice_get l k) are.params ∙ ap (λ f. slice_get (map params_of (map plain_task f.program.tasks)) k) same ∙ get_map params_of (map plain_task flat.program.tasks) k)
+    (is ∙ there ∙ ap (λ l. slice_get l k) are.params ∙ ap (λ f. slice_get (map params_of (map plain_task f.program.tasks)) k) same
+    ∙ get_map params_of (map plain_task flat.program.tasks) k)

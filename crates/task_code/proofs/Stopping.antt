@@ -22,7 +22,9 @@ module _ {P : Type 0} (step : P → Step P) (size : P → ℕ) (sized : IsSized 
       go (Some f) there = turned q f there
   followed turns p (Stop next) is on turned = subst Halts (sym is) by_stop
 
-  below : (turns n : ℕ) (p : P) → size p < n → ((q : P) (turned : P → Body P) → after_turn step size turns ≡ Some turned → Halts (step (turned q).at)) → Halts (step (body step size turns p).at)
+  below : (turns n : ℕ) (p : P) → size p < n
+      → ((q : P) (turned : P → Body P) → after_turn step size turns ≡ Some turned → Halts (step (turned q).at))
+      → Halts (step (body step size turns p).at)
   below turns zero p less turned = absurd (omega arith)
   below turns (suc n) p less turned =
       subst (λ b. Halts (step b.at)) (sym (body_step step size sized turns p))
@@ -30,7 +32,9 @@ module _ {P : Type 0} (step : P → Step P) (size : P → ℕ) (sized : IsSized 
 
   pub halts : (turns : ℕ) (p : P) → Halts (step (body step size turns p).at)
   halts zero p = below zero (suc (size p)) p (omega arith) (λ q turned is. absurd (cc is))
-  halts (suc turns) p = below (suc turns) (suc (size p)) p (omega arith) (λ q turned is. subst (λ (o : Option (P → Body P)). Halts (step (used o q).at)) is (halts turns q))
+  halts (suc turns) p =
+      below (suc turns) (suc (size p)) p (omega arith)
+      (λ q turned is. subst (λ (o : Option (P → Body P)). Halts (step (used o q).at)) is (halts turns q))
     where
       used : Option (P → Body P) → P → Body P
       used None = body step size turns

@@ -12,7 +12,8 @@ use Rattle.task_code.specs.Lowering.{cells_of}
 abbrev both : Option ℕ → Option ℕ → ℕ → Cells
 both o p base = record { first = unwrap_or (option_map (λ n. base + n) o) 0; size = unwrap_or p 0 }
 
-cells_so : (base : ℕ) (arrays : List (Name × ℕ)) (x : Name) → cells_or_none (cells_from base arrays x) ≡ both (base_of arrays x) (named x arrays) base
+cells_so : (base : ℕ) (arrays : List (Name × ℕ)) (x : Name)
+    → cells_or_none (cells_from base arrays x) ≡ both (base_of arrays x) (named x arrays) base
 cells_so base [] x = refl
 cells_so base (array ∷ arrays) x = go (is_name x array.0) refl (cells_so (base + array.1) arrays x)
   where
@@ -20,8 +21,10 @@ cells_so base (array ∷ arrays) x = go (is_name x array.0) refl (cells_so (base
     further None p = refl
     further (Some n) p = ap (λ k. record { first = k; size = unwrap_or p 0 }) (omega arith)
 
-    go : (b : Bool) → is_name x array.0 ≡ b → cells_or_none (cells_from (base + array.1) arrays x) ≡ both (base_of arrays x) (named x arrays) (base + array.1)
-        → cells_or_none (cond (is_name x array.0) (Some (record { first = base; size = array.1 })) (cells_from (base + array.1) arrays x)) ≡ both (base_of (array ∷ arrays) x) (named x (array ∷ arrays)) base
+    go : (b : Bool) → is_name x array.0 ≡ b
+        → cells_or_none (cells_from (base + array.1) arrays x) ≡ both (base_of arrays x) (named x arrays) (base + array.1)
+        → cells_or_none (cond (is_name x array.0) (Some (record { first = base; size = array.1 })) (cells_from (base + array.1) arrays x))
+        ≡ both (base_of (array ∷ arrays) x) (named x (array ∷ arrays)) base
     go true e rest = rw e (ap (λ k. record { first = k; size = array.1 }) (omega arith))
     go false e rest = rw e (rest ∙ further (base_of arrays x) (named x arrays))
 
@@ -33,14 +36,17 @@ cells_is arrays x = cells_so 0 arrays x ∙ at_once (base_of arrays x)
     at_once (Some n) = ap (λ k. record { first = k; size = unwrap_or (named x arrays) 0 }) (omega arith)
 
 -- the place of a name among the names of pairs, and among the names of tasks
-pub position_firsts : {T : Type 0} (x : Name) (pairs : List (Name × T)) → position (is_name x) (firsts pairs) ≡ position (λ other. is_name x other.0) pairs
+pub position_firsts : {T : Type 0} (x : Name) (pairs : List (Name × T))
+    → position (is_name x) (firsts pairs) ≡ position (λ other. is_name x other.0) pairs
 position_firsts x [] = refl
 position_firsts x (pair ∷ pairs) =
-    position-cons (is_name x) pair.0 (firsts pairs) ∙ ap (λ o. cond (is_name x pair.0) (Some 0) (option_map suc o)) (position_firsts x pairs)
+    position-cons (is_name x) pair.0 (firsts pairs)
+    ∙ ap (λ o. cond (is_name x pair.0) (Some 0) (option_map suc o)) (position_firsts x pairs)
     ∙ sym (position-cons (λ other. is_name x other.0) pair pairs)
 
 pub position_names : (x : Name) (tasks : List TaskText) → position (is_name x) (map (λ t. t.name) tasks) ≡ position (is_task x) tasks
 position_names x [] = refl
 position_names x (task ∷ tasks) =
-    position-cons (is_name x) task.name (map (λ t. t.name) tasks) ∙ ap (λ o. cond (is_name x task.name) (Some 0) (option_map suc o)) (position_names x tasks)
+    position-cons (is_name x) task.name (map (λ t. t.name) tasks)
+    ∙ ap (λ o. cond (is_name x task.name) (Some 0) (option_map suc o)) (position_names x tasks)
     ∙ sym (position-cons (is_task x) task tasks)

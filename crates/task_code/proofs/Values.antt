@@ -1,4 +1,6 @@
--- The same values on the tree and in code.
+-- The same values on the tree and in code. The tree finds things by name, the code by number, and a number is the place
+-- of a name in a list: so it is for variables, feeds and the cells of arrays. Expressions, data statements and the
+-- arguments of forks follow by recursion.
 use Rattle.std.proofs.Common.{◌≡◌, ℕ, suc, ◌+◌, Bool, true, false, cond, List, [], ◌∷◌, map, length, Option, Some, None, unwrap_or, option_map, option_and_then, refl, sym, ap, ◌∙◌, arith}
 use Rattle.std.specs.Prelude.{ℤ, pos, negsuc, position, slice_get, zip}
 use Rattle.std.proofs.lemmas.Bool.{le-ltb}
@@ -31,17 +33,21 @@ pub value_by_number : (names : List (Name × ℤ)) (x : Name) → value_at names
 value_by_number [] x = refl
 value_by_number (n ∷ names) x = go (is_name x n.0) refl (value_by_number names x)
   where
-    later : (o : Option ℕ) → number_at (seconds names) (unwrap_or o (length (firsts names))) ≡ number_at (n.1 ∷ seconds names) (unwrap_or (option_map suc o) (suc (length (firsts names))))
+    later : (o : Option ℕ)
+        → number_at (seconds names) (unwrap_or o (length (firsts names)))
+        ≡ number_at (n.1 ∷ seconds names) (unwrap_or (option_map suc o) (suc (length (firsts names))))
     later None = refl
     later (Some k) = refl
 
     go : (b : Bool) → is_name x n.0 ≡ b → value_at names x ≡ number_at (seconds names) (slot (firsts names) x)
-        → unwrap_or (cond (is_name x n.0) (Some n.1) (named x names)) (pos 0) ≡ number_at (n.1 ∷ seconds names) (slot (n.0 ∷ firsts names) x)
+        → unwrap_or (cond (is_name x n.0) (Some n.1) (named x names)) (pos 0)
+        ≡ number_at (n.1 ∷ seconds names) (slot (n.0 ∷ firsts names) x)
     go true e rest = rw (position-cons (is_name x) n.0 (firsts names), e) refl
     go false e rest = rw (position-cons (is_name x) n.0 (firsts names), e) (rest ∙ later (position (is_name x) (firsts names)))
 
 -- a feed by its name is that of its number
-pub feed_by_number : (names : List Name) (feeds : List Feed) (f : Name) → named f (zip names feeds) ≡ option_and_then (slice_get feeds) (position (is_name f) names)
+pub feed_by_number : (names : List Name) (feeds : List Feed) (f : Name)
+    → named f (zip names feeds) ≡ option_and_then (slice_get feeds) (position (is_name f) names)
 feed_by_number [] feeds f = refl
 feed_by_number (n ∷ names) [] f = sym (none (position (is_name f) (n ∷ names)))
   where
@@ -55,7 +61,8 @@ feed_by_number (n ∷ names) (feed ∷ feeds) f = go (is_name f n) refl (feed_by
     later (Some k) = refl
 
     go : (b : Bool) → is_name f n ≡ b → named f (zip names feeds) ≡ option_and_then (slice_get feeds) (position (is_name f) names)
-        → cond (is_name f n) (Some feed) (named f (zip names feeds)) ≡ option_and_then (slice_get (feed ∷ feeds)) (position (is_name f) (n ∷ names))
+        → cond (is_name f n) (Some feed) (named f (zip names feeds))
+        ≡ option_and_then (slice_get (feed ∷ feeds)) (position (is_name f) (n ∷ names))
     go true e rest = rw (position-cons (is_name f) n names, e) refl
     go false e rest = rw (position-cons (is_name f) n names, e) (rest ∙ later (position (is_name f) names))
 
@@ -90,13 +97,16 @@ cell_by_number (array ∷ arrays) x i = go (is_name x array.0) refl (cell_by_num
     alike [] = neither
     alike (a ∷ arrays) = alike_on (is_name x a.0) a.1 (alike arrays)
 
-    later : {o p : Option ℕ} → Alike o p → option_map (λ n. array.1 + n) (cell_of (record { first = unwrap_or o 0; size = unwrap_or p 0 }) i)
+    later : {o p : Option ℕ} → Alike o p
+        → option_map (λ n. array.1 + n) (cell_of (record { first = unwrap_or o 0; size = unwrap_or p 0 }) i)
         ≡ cell_of (record { first = unwrap_or (option_map (λ n. array.1 + n) o) 0; size = unwrap_or p 0 }) i
     later (both {base} {size}) = shifted array.1 base (place size i)
     later neither = rw (no_place i) refl
 
-    go : (b : Bool) → is_name x array.0 ≡ b → cell_number arrays x i ≡ cell_of (cells_of arrays x) i → Alike (base_of arrays x) (named x arrays)
-        → cond (is_name x array.0) (place array.1 i) (option_map (λ n. array.1 + n) (cell_number arrays x i)) ≡ cell_of (cells_of (array ∷ arrays) x) i
+    go : (b : Bool) → is_name x array.0 ≡ b → cell_number arrays x i ≡ cell_of (cells_of arrays x) i
+        → Alike (base_of arrays x) (named x arrays)
+        → cond (is_name x array.0) (place array.1 i) (option_map (λ n. array.1 + n) (cell_number arrays x i))
+        ≡ cell_of (cells_of (array ∷ arrays) x) i
     go true e rest is = rw e (at_once (place array.1 i))
     go false e rest is = rw e (ap (option_map (λ n. array.1 + n)) rest ∙ later is)
 
@@ -107,11 +117,13 @@ no_cell None field = refl
 no_cell (Some r) None = refl
 no_cell (Some r) (Some f) = refl
 
-pub all_of-cons : {A : Type 0} (o : Option A) (os : List (Option A)) → all_of (o ∷ os) ≡ option_and_then (λ v. option_map (λ all. v ∷ all) (all_of os)) o
+pub all_of-cons : {A : Type 0} (o : Option A) (os : List (Option A))
+    → all_of (o ∷ os) ≡ option_and_then (λ v. option_map (λ all. v ∷ all) (all_of os)) o
 all_of-cons None os = refl
 all_of-cons (Some v) os = refl
 
-module _ (program : Program) (feeds : List Feed) (controls registers : List Name) (names : List (Name × ℤ)) (ctl : List ℤ) (me number : ℕ) (names_are : firsts names ≡ controls) (values_are : ctl ≡ seconds names) (number_is : number ≡ me) where
+module _ (program : Program) (feeds : List Feed) (controls registers : List Name) (names : List (Name × ℤ)) (ctl : List ℤ) (me number : ℕ)
+    (names_are : firsts names ≡ controls) (values_are : ctl ≡ seconds names) (number_is : number ≡ me) where
   abbrev s : Setting
   s = record { program = program; feeds = zip (feeds_of program.heads) feeds }
 
@@ -125,17 +137,22 @@ module _ (program : Program) (feeds : List Feed) (controls registers : List Name
   there = record { ctl = ctl; me = number; feeds = feeds }
 
   at_slot : (x : Name) → value_at names x ≡ number_at ctl (slot controls x)
-  at_slot x = value_by_number names x ∙ ap (λ l. number_at (seconds names) (slot l x)) names_are ∙ ap (λ values. number_at values (slot controls x)) (sym values_are)
+  at_slot x =
+      value_by_number names x ∙ ap (λ l. number_at (seconds names) (slot l x)) names_are
+      ∙ ap (λ values. number_at values (slot controls x)) (sym values_are)
 
   register_value : (o : Option ℕ) → Some (pos 0) ≡ calc_value (register_calc o) there
   register_value None = refl
   register_value (Some k) = refl
 
-  rows_value : (o : Option ℕ) → Some (pos (unwrap_or (option_map rows_in (option_and_then (slice_get feeds) o)) 0)) ≡ calc_value (rows_calc o) there
+  rows_value : (o : Option ℕ)
+      → Some (pos (unwrap_or (option_map rows_in (option_and_then (slice_get feeds) o)) 0)) ≡ calc_value (rows_calc o) there
   rows_value None = refl
   rows_value (Some k) = refl
 
-  cell_value : (o : Option ℕ) (row field : Calc) → cell_in (option_and_then (slice_get feeds) o) (calc_value row there) (calc_value field there) ≡ calc_value (cell_calc o row field) there
+  cell_value : (o : Option ℕ) (row field : Calc)
+      → cell_in (option_and_then (slice_get feeds) o) (calc_value row there) (calc_value field there)
+      ≡ calc_value (cell_calc o row field) there
   cell_value None row field = no_cell (calc_value row there) (calc_value field there)
   cell_value (Some k) row field = refl
 
@@ -145,11 +162,15 @@ module _ (program : Program) (feeds : List Feed) (controls registers : List Name
     same_value (tree.Ctl x) = ap Some (at_slot x)
     same_value (tree.Reg x) = register_value (position (is_name x) registers)
     same_value tree.Me = ap (λ n. Some (pos n)) (sym number_is)
-    same_value (tree.Rows f) = ap (λ o. Some (pos (unwrap_or (option_map rows_in o) 0))) (feed_by_number (feeds_of program.heads) feeds f) ∙ rows_value (position (is_name f) (feeds_of program.heads))
+    same_value (tree.Rows f) =
+        ap (λ o. Some (pos (unwrap_or (option_map rows_in o) 0))) (feed_by_number (feeds_of program.heads) feeds f)
+        ∙ rows_value (position (is_name f) (feeds_of program.heads))
     same_value (tree.Cell f row field) =
         ap (λ o. cell_in o (value row env) (value field env)) (feed_by_number (feeds_of program.heads) feeds f)
-        ∙ ap (λ v. cell_in (option_and_then (slice_get feeds) (position (is_name f) (feeds_of program.heads))) v (value field env)) (same_value row)
-        ∙ ap (cell_in (option_and_then (slice_get feeds) (position (is_name f) (feeds_of program.heads))) (calc_value (calc sc row) there)) (same_value field)
+        ∙ ap (λ v. cell_in (option_and_then (slice_get feeds) (position (is_name f) (feeds_of program.heads))) v (value field env))
+        (same_value row)
+        ∙ ap (cell_in (option_and_then (slice_get feeds) (position (is_name f) (feeds_of program.heads))) (calc_value (calc sc row) there))
+        (same_value field)
         ∙ cell_value (position (is_name f) (feeds_of program.heads)) (calc sc row) (calc sc field)
     same_value (tree.Neg e) = ap (option_map _) (same_value e)
     same_value (tree.Not e) = ap (option_map _) (same_value e)
@@ -158,7 +179,8 @@ module _ (program : Program) (feeds : List Feed) (controls registers : List Name
     same_value_on : (links : Links) (so_far : Option ℤ) → value_on links env so_far ≡ calc_value_on (operands_of sc links) there so_far
     same_value_on tree.NoLinks so_far = refl
     same_value_on (tree.Link op e links) so_far =
-        ap (λ v. value_on links env (operate_on op so_far v)) (same_value e) ∙ same_value_on links (operate_on op so_far (calc_value (calc sc e) there))
+        ap (λ v. value_on links env (operate_on op so_far v)) (same_value e)
+        ∙ same_value_on links (operate_on op so_far (calc_value (calc sc e) there))
 
   register_term : (o : Option ℕ) → Some (register o) ≡ calc_term (register_calc o) there
   register_term None = refl
@@ -168,7 +190,8 @@ module _ (program : Program) (feeds : List Feed) (controls registers : List Name
   rows_term None = refl
   rows_term (Some k) = refl
 
-  cell_term : (o : Option ℕ) (row field : Calc) → option_map Constant (calc_value (cell_calc o row field) there) ≡ calc_term (cell_calc o row field) there
+  cell_term : (o : Option ℕ) (row field : Calc)
+      → option_map Constant (calc_value (cell_calc o row field) there) ≡ calc_term (cell_calc o row field) there
   cell_term None row field = refl
   cell_term (Some k) row field = refl
 
@@ -178,9 +201,11 @@ module _ (program : Program) (feeds : List Feed) (controls registers : List Name
     same_term (tree.Ctl x) = ap (λ v. Some (Constant v)) (at_slot x)
     same_term (tree.Reg x) = register_term (position (is_name x) registers)
     same_term tree.Me = ap (λ n. Some (Constant (pos n))) (sym number_is)
-    same_term (tree.Rows f) = ap (option_map Constant) (same_value (tree.Rows f)) ∙ rows_term (position (is_name f) (feeds_of program.heads))
+    same_term (tree.Rows f) =
+        ap (option_map Constant) (same_value (tree.Rows f)) ∙ rows_term (position (is_name f) (feeds_of program.heads))
     same_term (tree.Cell f row field) =
-        ap (option_map Constant) (same_value (tree.Cell f row field)) ∙ cell_term (position (is_name f) (feeds_of program.heads)) (calc sc row) (calc sc field)
+        ap (option_map Constant) (same_value (tree.Cell f row field))
+        ∙ cell_term (position (is_name f) (feeds_of program.heads)) (calc sc row) (calc sc field)
     same_term (tree.Neg e) = ap (option_map Negated) (same_term e)
     same_term (tree.Not e) = ap (option_map Inverted) (same_term e)
     same_term (tree.Chain e links) =
@@ -198,14 +223,16 @@ module _ (program : Program) (feeds : List Feed) (controls registers : List Name
   same_index (atom.Var x) = at_slot x
 
   -- a cell of an array
-  pub same_cell : (arrays : List (Name × ℕ)) (x : Name) (i : Atom) → cell_number arrays x (index_of i env) ≡ cell_of (cells_of arrays x) (index_at (index sc i) ctl)
+  pub same_cell : (arrays : List (Name × ℕ)) (x : Name) (i : Atom)
+      → cell_number arrays x (index_of i env) ≡ cell_of (cells_of arrays x) (index_at (index sc i) ctl)
   same_cell arrays x i = ap (cell_number arrays x) (same_index i) ∙ cell_by_number arrays x (index_at (index sc i) ctl)
 
   -- ---- data statements
 
   same_all : (es : List Expr) → map (λ e. term registers e env) es ≡ map (λ c. calc_term c there) (map (calc sc) es)
   same_all [] = refl
-  same_all (e ∷ es) = ap (λ t. t ∷ map (λ e. term registers e env) es) (same_term e) ∙ ap (λ l. calc_term (calc sc e) there ∷ l) (same_all es)
+  same_all (e ∷ es) =
+      ap (λ t. t ∷ map (λ e. term registers e env) es) (same_term e) ∙ ap (λ l. calc_term (calc sc e) there ∷ l) (same_all es)
 
   mutual
     pub same_action : (w : What) → action s registers w env ≡ deed_action (deed sc w) there
@@ -213,12 +240,16 @@ module _ (program : Program) (feeds : List Feed) (controls registers : List Name
     same_action (tree.Read r i x) = ap (option_map (λ n. Load n (slot registers x))) (same_cell (records_of program.heads) r i)
     same_action (tree.Write r i e) =
         ap (option_and_then (λ n. option_map (Store n) (term registers e env))) (same_cell (records_of program.heads) r i)
-        ∙ ap (λ t. option_and_then (λ n. option_map (Store n) t) (cell_of (cells_of (records_of program.heads) r) (index_at (index sc i) ctl))) (same_term e)
+        ∙ ap (λ t. option_and_then (λ n. option_map (Store n) t)
+        (cell_of (cells_of (records_of program.heads) r) (index_at (index sc i) ctl))) (same_term e)
     same_action (tree.Print es) = ap (λ ts. option_map Say (all_of ts)) (same_all es)
     same_action (tree.When e a b) =
-        ap (option_and_then (λ t. option_and_then (λ x. option_map (Choose t x) (arm s registers b env)) (arm s registers a env))) (same_term e)
-        ∙ ap (λ first. option_and_then (λ t. option_and_then (λ x. option_map (Choose t x) (arm s registers b env)) first) (calc_term (calc sc e) there)) (same_arm a)
-        ∙ ap (λ second. option_and_then (λ t. option_and_then (λ x. option_map (Choose t x) second) (deeds_arm (lowering.arm sc a) there)) (calc_term (calc sc e) there)) (same_arm b)
+        ap (option_and_then (λ t. option_and_then (λ x. option_map (Choose t x) (arm s registers b env)) (arm s registers a env)))
+        (same_term e)
+        ∙ ap (λ first. option_and_then (λ t. option_and_then (λ x. option_map (Choose t x) (arm s registers b env)) first)
+        (calc_term (calc sc e) there)) (same_arm a)
+        ∙ ap (λ second. option_and_then (λ t. option_and_then (λ x. option_map (Choose t x) second) (deeds_arm (lowering.arm sc a) there))
+        (calc_term (calc sc e) there)) (same_arm b)
     same_action (tree.SetCtl x e) = refl
     same_action (tree.While e b) = refl
     same_action (tree.If e a b) = refl
@@ -240,7 +271,8 @@ module _ (program : Program) (feeds : List Feed) (controls registers : List Name
 
   -- ---- forks
 
-  same_controls : (params : List Param) (es : List Expr) → control_arguments params es env ≡ all_of (map (λ c. calc_value c there) (control_calcs sc params es))
+  same_controls : (params : List Param) (es : List Expr)
+      → control_arguments params es env ≡ all_of (map (λ c. calc_value c there) (control_calcs sc params es))
   same_controls [] es = refl
   same_controls (param.Ctl x ∷ params) [] = refl
   same_controls (param.Reg x ∷ params) [] = refl
@@ -262,14 +294,20 @@ module _ (program : Program) (feeds : List Feed) (controls registers : List Name
   same_gifts given (param.Reg x ∷ params) [] = refl
   same_gifts given (param.Ctl x ∷ params) (e ∷ es) = same_gifts given params es
   same_gifts given (param.Reg x ∷ params) (e ∷ es) =
-      ap (option_and_then (λ t. option_map (λ actions. Give (slot given x) t ∷ actions) (data_arguments s given registers params es env))) (same_term e)
-      ∙ one_gift (slot given x) (calc_term (calc sc e) there) (data_arguments s given registers params es env) (map (λ g. gift_action g there) (gifts sc given params es)) (same_gifts given params es)
+      ap (option_and_then (λ t. option_map (λ actions. Give (slot given x) t ∷ actions) (data_arguments s given registers params es env)))
+      (same_term e)
+      ∙ one_gift (slot given x) (calc_term (calc sc e) there) (data_arguments s given registers params es env)
+      (map (λ g. gift_action g there) (gifts sc given params es)) (same_gifts given params es)
 
   -- the arguments of a fork of a task that may be there
   pub same_fork : (o : Option TaskText) (k : ℕ) (es : List Expr) (into : Option ℕ)
-      → option_and_then (λ task. option_and_then (λ values. option_map (λ actions. (values, Child (length (registers_of task)) ∷ actions)) (data_arguments s (registers_of task) registers task.params es env)) (control_arguments task.params es env)) o
+      → option_and_then (λ task. option_and_then
+      (λ values. option_map (λ actions. (values, Child (length (registers_of task)) ∷ actions))
+      (data_arguments s (registers_of task) registers task.params es env)) (control_arguments task.params es env)) o
       ≡ code.fork_arguments (forking sc o k es into) there
   same_fork None k es into = refl
   same_fork (Some task) k es into =
-      ap (option_and_then (λ values. option_map (λ actions. (values, Child (length (registers_of task)) ∷ actions)) (data_arguments s (registers_of task) registers task.params es env))) (same_controls task.params es)
-      ∙ ap (λ given. option_and_then (λ values. option_map (λ actions. (values, Child (length (registers_of task)) ∷ actions)) given) (all_of (map (λ c. calc_value c there) (control_calcs sc task.params es)))) (same_gifts (registers_of task) task.params es)
+      ap (option_and_then (λ values. option_map (λ actions. (values, Child (length (registers_of task)) ∷ actions))
+      (data_arguments s (registers_of task) registers task.params es env))) (same_controls task.params es)
+      ∙ ap (λ given. option_and_then (λ values. option_map (λ actions. (values, Child (length (registers_of task)) ∷ actions)) given)
+      (all_of (map (λ c. calc_value c there) (control_calcs sc task.params es)))) (same_gifts (registers_of task) task.params es)

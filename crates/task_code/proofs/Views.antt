@@ -35,7 +35,8 @@ calc_Me = ap plain_calc (sym rolls-Me) ∙ calc_level c.Me
 pub calc_Rows : (f : ℕ) → plain_calc (Rows f) ≡ plain.Rows f
 calc_Rows f = ap plain_calc (sym (rolls-Rows f)) ∙ calc_level (c.Rows f)
 
-pub calc_Cell : (f : ℕ) (row : Box Calc Global) (field : Box Calc Global) → plain_calc (Cell f row field) ≡ plain.Cell f (plain_calc row.value) (plain_calc field.value)
+pub calc_Cell : (f : ℕ) (row : Box Calc Global) (field : Box Calc Global)
+    → plain_calc (Cell f row field) ≡ plain.Cell f (plain_calc row.value) (plain_calc field.value)
 calc_Cell f row field = ap plain_calc (sym (rolls-Cell f row field)) ∙ calc_level (c.Cell f row field)
 
 pub calc_Neg : (a : Box Calc Global) → plain_calc (Neg a) ≡ plain.Neg (plain_calc a.value)
@@ -44,7 +45,8 @@ calc_Neg a = ap plain_calc (sym (rolls-Neg a)) ∙ calc_level (c.Neg a)
 pub calc_Not : (a : Box Calc Global) → plain_calc (Not a) ≡ plain.Not (plain_calc a.value)
 calc_Not a = ap plain_calc (sym (rolls-Not a)) ∙ calc_level (c.Not a)
 
-pub calc_Chain : (first : Box Calc Global) (others : List (Op × Calc)) → plain_calc (Chain first others) ≡ plain.Chain (plain_calc first.value) (plain_operands others)
+pub calc_Chain : (first : Box Calc Global) (others : List (Op × Calc))
+    → plain_calc (Chain first others) ≡ plain.Chain (plain_calc first.value) (plain_operands others)
 calc_Chain first others = ap plain_calc (sym (rolls-Chain first others)) ∙ calc_level (c.Chain first others)
 
 pub calc_NoValue : plain_calc NoValue ≡ plain.NoValue
@@ -66,7 +68,24 @@ deed_Write cells i c = ap plain_deed (sym (rolls-Write cells i c)) ∙ deed_leve
 pub deed_Print : (cs : List Calc) → plain_deed (Print cs) ≡ plain.Print (plain_calcs cs)
 deed_Print cs = ap plain_deed (sym (rolls-Print cs)) ∙ deed_level (d.Print cs)
 
-pub deed_When : (c : Calc) (first : List Deed) (second : List Deed) → plain_deed (When c first second) ≡ plain.When (plain_calc c) (plain_arm first) (plain_arm second)
+pub deed_When : (c : Calc) (first : List Deed) (second : List Deed)
+    → plain_deed (When c first second) ≡ plain.When (plain_calc c) (plain_arm first) (plain_arm second)
 deed_When c first second = ap plain_deed (sym (rolls-When c first second)) ∙ deed_level (d.When c first second)
 
-pub ruleset view = (calc_Const, calc_Ctl, calc_Reg, calc_Me, calc_Rows, calc_Cell, calc_Neg, calc_Not, calc_Chain, calc_NoValue, deed_SetReg, deed_Read, deed_Write, deed_Print, deed_When)
+pub ruleset view = (
+  calc_Const,
+  calc_Ctl,
+  calc_Reg,
+  calc_Me,
+  calc_Rows,
+  calc_Cell,
+  calc_Neg,
+  calc_Not,
+  calc_Chain,
+  calc_NoValue,
+  deed_SetReg,
+  deed_Read,
+  deed_Write,
+  deed_Print,
+  deed_When,
+)

@@ -79,7 +79,8 @@ abbrev mutual
   deed_action (Read cells i k) env = option_map (λ n. Load n k) (cell_of cells (index_at i env.ctl))
   deed_action (Write cells i c) env = option_and_then (λ n. option_map (Store n) (calc_term c env)) (cell_of cells (index_at i env.ctl))
   deed_action (Print cs) env = option_map Say (all_of (map (λ c. calc_term c env) cs))
-  deed_action (When c a b) env = option_and_then (λ t. option_and_then (λ x. option_map (Choose t x) (deeds_arm b env)) (deeds_arm a env)) (calc_term c env)
+  deed_action (When c a b) env =
+      option_and_then (λ t. option_and_then (λ x. option_map (Choose t x) (deeds_arm b env)) (deeds_arm a env)) (calc_term c env)
 
   -- the actions of an arm
   pub deeds_arm : Deeds → CalcEnv → Option Arm
@@ -93,7 +94,8 @@ gift_action g env = option_map (Give g.0) (calc_term g.1 env)
 -- the arguments of a fork: the control values, and the actions that make the child's registers
 abbrev pub fork_arguments : Forking → CalcEnv → Option (List ℤ × List Action)
 fork_arguments f env =
-    option_and_then (λ values. option_map (λ actions. (values, Child f.registers ∷ actions)) (all_of (map (λ g. gift_action g env) f.gifts)))
+    option_and_then (λ values. option_map (λ actions. (values, Child f.registers ∷ actions))
+    (all_of (map (λ g. gift_action g env) f.gifts)))
     (all_of (map (λ c. calc_value c env) f.controls))
 
 -- where a thread stands in code: at an instruction of its task, with its control variables and its number
@@ -137,10 +139,13 @@ module _ (feeds : List Feed) where
 
   -- the step at an instruction
   abbrev pub step_does : (line : ℕ) → Does → Place → Step Place
-  step_does line (Assign k c) q = given_value line (calc_value c (env_of q)) (λ v. Silent (record (next_place q) { ctl = slice_set q.ctl k v }))
+  step_does line (Assign k c) q =
+      given_value line (calc_value c (env_of q)) (λ v. Silent (record (next_place q) { ctl = slice_set q.ctl k v }))
   step_does line (GoOn n) q = Silent (goto q (q.at.pc + 1 + n))
-  step_does line (Unless c n) q = given_value line (calc_value c (env_of q)) (λ v. either v (Silent (next_place q)) (Silent (goto q (q.at.pc + 1 + n))))
-  step_does line (Again c n) q = given_value line (calc_value c (env_of q)) (λ v. either v (Iteration (goto q (q.at.pc - n))) (Silent (next_place q)))
+  step_does line (Unless c n) q =
+      given_value line (calc_value c (env_of q)) (λ v. either v (Silent (next_place q)) (Silent (goto q (q.at.pc + 1 + n))))
+  step_does line (Again c n) q =
+      given_value line (calc_value c (env_of q)) (λ v. either v (Iteration (goto q (q.at.pc - n))) (Silent (next_place q)))
   step_does line (Lock cells i) q = given_value line (cell_of cells (index_at i q.ctl)) (λ l. halt (sync.Lock l) line)
   step_does line (Unlock cells i) q = given_value line (cell_of cells (index_at i q.ctl)) (λ l. halt (sync.Unlock l) line)
   step_does line (Fork f) q = given_value line (fork_arguments f (env_of q)) (λ arguments. halt (sync.Fork f.task arguments.0) line)

@@ -91,4 +91,5 @@ FollowsLaw =
 abbrev pub RunLaw : Type 0
 RunLaw =
     (program : Program) (inputs : Inputs) (limits : Limits)
-    → IsSameRun (Rests program) (tree_machine program inputs limits) (code_machine (lowered program) inputs.feeds limits.turns) program inputs limits
+    → IsSameRun (Rests program) (tree_machine program inputs limits)
+    (code_machine (lowered program) inputs.feeds limits.turns) program inputs limits

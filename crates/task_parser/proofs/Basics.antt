@@ -39,18 +39,24 @@ begins_same test [] (y ∷ b) h = absurd h
 begins_same test (x ∷ a) [] h = absurd h
 begins_same test (x ∷ a) (y ∷ b) h = ap test (sym h)
 
-pub verdict-bind : {A B : Type 0} (limit : ℕ) (used : List Placed) (rest : List Token) (r : Result A Stop) (f : A → Result B Stop) → (verdict limit used rest r >>= f) ≡ verdict limit used rest (r >>= f)
+pub verdict-bind : {A B : Type 0} (limit : ℕ) (used : List Placed) (rest : List Token) (r : Result A Stop) (f : A → Result B Stop)
+    → (verdict limit used rest r >>= f) ≡ verdict limit used rest (r >>= f)
 verdict-bind limit [] rest r f = refl
-verdict-bind {A = A} {B = B} limit (p ∷ ps) rest r f = elim (leb p.nesting limit) as (λ b. (cond b (verdict limit ps rest r) (Err (record { deep = true; rest = p.token ∷ (tokens_of ps ++ rest) })) >>= f) ≡ cond b (verdict limit ps rest (r >>= f)) (Err (record { deep = true; rest = p.token ∷ (tokens_of ps ++ rest) }))) [
-  | true ↦ verdict-bind limit ps rest r f
-  | false ↦ refl
-]
+verdict-bind {A = A} {B = B} limit (p ∷ ps) rest r f =
+    elim (leb p.nesting limit) as
+    (λ b. (cond b (verdict limit ps rest r) (Err (record { deep = true; rest = p.token ∷ (tokens_of ps ++ rest) })) >>= f)
+    ≡ cond b (verdict limit ps rest (r >>= f)) (Err (record { deep = true; rest = p.token ∷ (tokens_of ps ++ rest) }))) [
+      | true ↦ verdict-bind limit ps rest r f
+      | false ↦ refl
+    ]
 
-pub verdict-append : {A : Type 0} (limit : ℕ) (a b : List Placed) (rest : List Token) (r : Result A Stop) → verdict limit (a ++ b) rest r ≡ verdict limit a (tokens_of b ++ rest) (verdict limit b rest r)
+pub verdict-append : {A : Type 0} (limit : ℕ) (a b : List Placed) (rest : List Token) (r : Result A Stop)
+    → verdict limit (a ++ b) rest r ≡ verdict limit a (tokens_of b ++ rest) (verdict limit b rest r)
 verdict-append limit [] b rest r = refl
 verdict-append limit (p ∷ a) b rest r = rw (verdict-append limit a b rest r, tokens_parts a b rest) refl
 
-pub GoesBeyond-append : (deep : Bool) (limit : ℕ) (rest : List Token) (more c : List Placed) → GoesBeyond deep limit rest more → GoesBeyond deep limit rest (more ++ c)
+pub GoesBeyond-append : (deep : Bool) (limit : ℕ) (rest : List Token) (more c : List Placed) → GoesBeyond deep limit rest more
+    → GoesBeyond deep limit rest (more ++ c)
 GoesBeyond-append false limit rest more c h = tt
 GoesBeyond-append true limit [] more c h = h
 GoesBeyond-append true limit (t ∷ ts) [] c h = absurd h

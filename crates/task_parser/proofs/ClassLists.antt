@@ -27,7 +27,8 @@ apart_lists : (a b : List ℕ) → disjoint a b ≡ true → (n : ℕ) → holds
 apart_lists [] b d n e = absurd cc
 apart_lists (m ∷ a) b d n e = go (holds m b) refl d (holds_cases n m a e) (λ d h. apart_lists a b d n h)
   where
-    go : (c : Bool) → holds m b ≡ c → cond c false (disjoint a b) ≡ true → (n ≡ m) ⊎ (holds n a ≡ true) → (disjoint a b ≡ true → holds n a ≡ true → holds n b ≡ false) → holds n b ≡ false
+    go : (c : Bool) → holds m b ≡ c → cond c false (disjoint a b) ≡ true → (n ≡ m) ⊎ (holds n a ≡ true)
+        → (disjoint a b ≡ true → holds n a ≡ true → holds n b ≡ false) → holds n b ≡ false
     go true h d o next = absurd cc
     go false h d (inl is) next = rw is h
     go false h d (inr in_a) next = next d in_a
@@ -36,7 +37,8 @@ covers_lists : (a b : List ℕ) → subset a b ≡ true → (n : ℕ) → holds 
 covers_lists [] b d n e = absurd cc
 covers_lists (m ∷ a) b d n e = go (holds m b) refl d (holds_cases n m a e) (λ d h. covers_lists a b d n h)
   where
-    go : (c : Bool) → holds m b ≡ c → cond c (subset a b) false ≡ true → (n ≡ m) ⊎ (holds n a ≡ true) → (subset a b ≡ true → holds n a ≡ true → holds n b ≡ true) → holds n b ≡ true
+    go : (c : Bool) → holds m b ≡ c → cond c (subset a b) false ≡ true → (n ≡ m) ⊎ (holds n a ≡ true)
+        → (subset a b ≡ true → holds n a ≡ true → holds n b ≡ true) → holds n b ≡ true
     go false h d o next = absurd cc
     go true h d (inl is) next = rw is h
     go true h d (inr in_a) next = next d in_a

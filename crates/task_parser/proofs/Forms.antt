@@ -1,4 +1,6 @@
--- One fact for each form: how it is read. Each word of the grammar has one lemma.
+-- One fact for each form: how it is read. Each word of the grammar has one lemma. The sets of tokens with which a form
+-- begins, and with which it could go on, are lists of kinds here, so that what the laws of Exact ask of them (apart,
+-- within) is computed.
 use Rattle.std.proofs.Common.{◌≡◌, ℕ, zero, suc, true, List, [], ◌∷◌, Option, Some, None, option_map}
 use Rattle.task_parser.specs.Words.{Form, One, Both, Made, ◌∣◌, many, perhaps, Opened, nothing, first_of, second_of, put_first, the, ◌◂◌, after, some, separated}
 use Rattle.task_parser.specs.inner.Reading.{Reader, read_one, read_both, read_made, read_either, repeat, read_perhaps, read_opened, read_the, ◌◃◌, read_after, read_some, read_separated}
@@ -25,7 +27,8 @@ pub record MayRead {A : Type 0} (room : ℕ) (Tall Any : Form A) (read : Reader 
   pub complete : (after : List ℕ) → subset goes after ≡ true → subset first after ≡ true → Complete room Any (among after) read
   pub parted : (before after : List ℕ) → disjoint first before ≡ true → subset before after ≡ true → Parted (among before) Any (among after)
 
-pub reads_one : {room : ℕ} (n : ℕ) (ns : List ℕ) → Reads room (One (among (n ∷ ns))) (One (among (n ∷ ns))) (read_one (among (n ∷ ns))) (n ∷ ns) []
+pub reads_one : {room : ℕ} (n : ℕ) (ns : List ℕ)
+    → Reads room (One (among (n ∷ ns))) (One (among (n ∷ ns))) (read_one (among (n ∷ ns))) (n ∷ ns) []
 reads_one {room = room} n ns = record {
   starts = starts_one (among (n ∷ ns));
   starts_tall = starts_one (among (n ∷ ns));
@@ -37,7 +40,8 @@ reads_one {room = room} n ns = record {
 pub reads_the : {room : ℕ} (n : ℕ) → Reads room (the n) (the n) (read_the n) (n ∷ []) []
 reads_the n = reads_one n []
 
-pub reads_made : {A B : Type 0} {room : ℕ} {T P : Form A} {p : Reader A} {first goes : List ℕ} (make : A → B) → Reads room T P p first goes → Reads room (Made make T) (Made make P) (read_made make p) first goes
+pub reads_made : {A B : Type 0} {room : ℕ} {T P : Form A} {p : Reader A} {first goes : List ℕ} (make : A → B) → Reads room T P p first goes
+    → Reads room (Made make T) (Made make P) (read_made make p) first goes
 reads_made {room = room} {T = T} {P = P} {p = p} {first = first} {goes = goes} make h = record {
   starts = starts_made (among first) make P h.starts;
   starts_tall = starts_made (among first) make T h.starts_tall;
@@ -46,7 +50,8 @@ reads_made {room = room} {T = T} {P = P} {p = p} {first = first} {goes = goes} m
   complete = complete_made room make P (among goes) p h.complete;
 }
 
-pub may_read_made : {A B : Type 0} {room : ℕ} {T P : Form A} {p : Reader A} {first goes : List ℕ} (make : A → B) → MayRead room T P p first goes → MayRead room (Made make T) (Made make P) (read_made make p) first goes
+pub may_read_made : {A B : Type 0} {room : ℕ} {T P : Form A} {p : Reader A} {first goes : List ℕ} (make : A → B)
+    → MayRead room T P p first goes → MayRead room (Made make T) (Made make P) (read_made make p) first goes
 may_read_made {room = room} {T = T} {P = P} {p = p} {first = first} {goes = goes} make h = record {
   inhabited = inhabited_made make T h.inhabited;
   sound = sound_made room make T p h.sound;
@@ -55,17 +60,26 @@ may_read_made {room = room} {T = T} {P = P} {p = p} {first = first} {goes = goes
 }
 
 -- one and then another
-pub reads_both : {A B : Type 0} {room : ℕ} {T P : Form A} {U Q : Form B} {p : Reader A} {q : Reader B} {first goes second after : List ℕ} → Reads room T P p first goes → Reads room U Q q second after → disjoint second goes ≡ true → Reads room (Both T U) (Both P Q) (read_both p q) first after
-reads_both {room = room} {T = T} {P = P} {U = U} {Q = Q} {p = p} {q = q} {first = first} {goes = goes} {second = second} {after = after} h k d = record {
-  starts = starts_both (among first) P Q h.starts;
-  starts_tall = starts_both (among first) T U h.starts_tall;
-  inhabited = inhabited_both T U h.inhabited k.inhabited;
-  sound = sound_both room T U p q h.sound k.sound k.inhabited;
-  complete = complete_both room P Q (among goes) (among after) p q h.complete k.complete (parted_starts (among second) (among goes) (among after) Q k.starts (apart second goes d));
-}
+pub reads_both : {A B : Type 0} {room : ℕ} {T P : Form A} {U Q : Form B} {p : Reader A} {q : Reader B} {first goes second after : List ℕ}
+    → Reads room T P p first goes → Reads room U Q q second after → disjoint second goes ≡ true
+    → Reads room (Both T U) (Both P Q) (read_both p q) first after
+reads_both {room = room} {T = T} {P = P} {U = U} {Q = Q} {p = p} {q = q} {first = first} {goes = goes}
+    {second = second} {after = after} h k d =
+    record {
+      starts = starts_both (among first) P Q h.starts;
+      starts_tall = starts_both (among first) T U h.starts_tall;
+      inhabited = inhabited_both T U h.inhabited k.inhabited;
+      sound = sound_both room T U p q h.sound k.sound k.inhabited;
+      complete =
+          complete_both room P Q (among goes) (among after) p q h.complete k.complete
+          (parted_starts (among second) (among goes) (among after) Q k.starts (apart second goes d));
+    }
 
 -- one, and then what may have no token
-pub reads_more : {A B : Type 0} {room : ℕ} {T P : Form A} {U Q : Form B} {p : Reader A} {q : Reader B} {first goes second further : List ℕ} (after : List ℕ) → Reads room T P p first goes → MayRead room U Q q second further → disjoint second goes ≡ true → subset goes after ≡ true → subset second after ≡ true → subset further after ≡ true → Reads room (Both T U) (Both P Q) (read_both p q) first after
+pub reads_more : {A B : Type 0} {room : ℕ} {T P : Form A} {U Q : Form B} {p : Reader A} {q : Reader B} {first goes second further : List ℕ}
+    (after : List ℕ) → Reads room T P p first goes → MayRead room U Q q second further → disjoint second goes ≡ true
+    → subset goes after ≡ true → subset second after ≡ true → subset further after ≡ true
+    → Reads room (Both T U) (Both P Q) (read_both p q) first after
 reads_more {room = room} {T = T} {P = P} {U = U} {Q = Q} {p = p} {q = q} {first = first} {goes = goes} after h k d g s f = record {
   starts = starts_both (among first) P Q h.starts;
   starts_tall = starts_both (among first) T U h.starts_tall;
@@ -74,45 +88,70 @@ reads_more {room = room} {T = T} {P = P} {U = U} {Q = Q} {p = p} {q = q} {first 
   complete = complete_both room P Q (among goes) (among after) p q h.complete (k.complete after f s) (k.parted goes after d g);
 }
 
-pub reads_many : {A : Type 0} {room : ℕ} {T P : Form A} {p : Reader A} {first goes : List ℕ} → Reads room T P p first goes → disjoint first goes ≡ true → MayRead room (many T) (many P) (repeat (among first) p) first goes
+pub reads_many : {A : Type 0} {room : ℕ} {T P : Form A} {p : Reader A} {first goes : List ℕ} → Reads room T P p first goes
+    → disjoint first goes ≡ true → MayRead room (many T) (many P) (repeat (among first) p) first goes
 reads_many {room = room} {T = T} {P = P} {p = p} {first = first} {goes = goes} h d = record {
   inhabited = inhabited_many T;
   sound = sound_many room (among first) T p h.starts_tall h.sound;
-  complete = λ after c s. complete_many room (among first) (among goes) (among after) P p h.starts (shortens_sound room (among first) T p h.starts_tall h.sound) h.complete (apart first goes d) (covers goes after c) (covers first after s);
-  parted = λ before after a c. parted_many (among first) (among before) (among after) P h.starts (apart first before a) (covers before after c);
+  complete =
+      λ after c s. complete_many room (among first) (among goes) (among after) P p h.starts
+      (shortens_sound room (among first) T p h.starts_tall h.sound) h.complete (apart first goes d)
+      (covers goes after c) (covers first after s);
+  parted =
+      λ before after a c. parted_many (among first) (among before) (among after) P h.starts (apart first before a) (covers before after c);
 }
 
-pub reads_perhaps : {A : Type 0} {room : ℕ} {T P : Form A} {p : Reader A} {first goes : List ℕ} → Reads room T P p first goes → MayRead room (perhaps T) (perhaps P) (read_perhaps (among first) p) first goes
+pub reads_perhaps : {A : Type 0} {room : ℕ} {T P : Form A} {p : Reader A} {first goes : List ℕ} → Reads room T P p first goes
+    → MayRead room (perhaps T) (perhaps P) (read_perhaps (among first) p) first goes
 reads_perhaps {room = room} {T = T} {P = P} {p = p} {first = first} {goes = goes} h = record {
   inhabited = inhabited_perhaps T;
   sound = sound_perhaps room (among first) T p h.sound;
-  complete = λ after c s. complete_perhaps room (among first) (among goes) (among after) P p h.starts h.complete (covers goes after c) (covers first after s);
-  parted = λ before after a c. parted_perhaps (among first) (among before) (among after) P h.starts (apart first before a) (covers before after c);
+  complete =
+      λ after c s. complete_perhaps room (among first) (among goes) (among after) P p h.starts h.complete
+      (covers goes after c) (covers first after s);
+  parted =
+      λ before after a c. parted_perhaps (among first) (among before) (among after) P h.starts (apart first before a)
+      (covers before after c);
 }
 
 -- a mark that leaves none after it, or before it
-pub reads_mark : {A : Type 0} {room : ℕ} {T P : Form A} {p : Reader A} {first goes : List ℕ} (n : ℕ) → disjoint (n ∷ []) goes ≡ true → Reads room T P p first goes → Reads room (T ◂ n) (P ◂ n) (p ◃ n) first []
+pub reads_mark : {A : Type 0} {room : ℕ} {T P : Form A} {p : Reader A} {first goes : List ℕ} (n : ℕ) → disjoint (n ∷ []) goes ≡ true
+    → Reads room T P p first goes → Reads room (T ◂ n) (P ◂ n) (p ◃ n) first []
 reads_mark n d h = reads_made first_of (reads_both h (reads_the n) d)
 
-pub reads_after : {A : Type 0} {room : ℕ} {T P : Form A} {p : Reader A} {first goes : List ℕ} (n : ℕ) → disjoint first [] ≡ true → Reads room T P p first goes → Reads room (after n T) (after n P) (read_after n p) (n ∷ []) goes
+pub reads_after : {A : Type 0} {room : ℕ} {T P : Form A} {p : Reader A} {first goes : List ℕ} (n : ℕ) → disjoint first [] ≡ true
+    → Reads room T P p first goes → Reads room (after n T) (after n P) (read_after n p) (n ∷ []) goes
 reads_after n d h = reads_made second_of (reads_both (reads_the n) h d)
 
 -- one or more
-pub reads_some : {A : Type 0} {room : ℕ} {T P : Form A} {p : Reader A} {first goes : List ℕ} (further : List ℕ) → disjoint first goes ≡ true → subset goes further ≡ true → subset first further ≡ true → Reads room T P p first goes → Reads room (some T) (some P) (read_some (among first) p) first further
+pub reads_some : {A : Type 0} {room : ℕ} {T P : Form A} {p : Reader A} {first goes : List ℕ} (further : List ℕ) → disjoint first goes ≡ true
+    → subset goes further ≡ true → subset first further ≡ true → Reads room T P p first goes
+    → Reads room (some T) (some P) (read_some (among first) p) first further
 reads_some further d g f h = reads_made put_first (reads_more further h (reads_many h d) d g f g)
 
 -- with separators between them
-pub reads_separated : {A : Type 0} {room : ℕ} {T P : Form A} {p : Reader A} {first goes : List ℕ} (n : ℕ) (further : List ℕ) → disjoint first [] ≡ true → disjoint (n ∷ []) goes ≡ true → subset goes further ≡ true → subset (n ∷ []) further ≡ true → Reads room T P p first goes → Reads room (separated n T) (separated n P) (read_separated n p) first further
+pub reads_separated : {A : Type 0} {room : ℕ} {T P : Form A} {p : Reader A} {first goes : List ℕ} (n : ℕ) (further : List ℕ)
+    → disjoint first [] ≡ true → disjoint (n ∷ []) goes ≡ true → subset goes further ≡ true → subset (n ∷ []) further ≡ true
+    → Reads room T P p first goes → Reads room (separated n T) (separated n P) (read_separated n p) first further
 reads_separated n further e d g f h = reads_made put_first (reads_more further h (reads_many (reads_after n e h) d) d g f g)
 
-pub reads_either : {A : Type 0} {room : ℕ} {T P U Q : Form A} {p q : Reader A} {first second goes : List ℕ} (start : List ℕ) → Reads room T P p first goes → Reads room U Q q second goes → disjoint second first ≡ true → subset first start ≡ true → subset second start ≡ true → Reads room (T ∣ U) (P ∣ Q) (read_either (among first) p q) start goes
-reads_either {room = room} {T = T} {P = P} {U = U} {Q = Q} {p = p} {q = q} {first = first} {second = second} {goes = goes} start h k d l r = record {
-  starts = starts_either (among start) P Q (starts_wider (among first) (among start) P (covers first start l) h.starts) (starts_wider (among second) (among start) Q (covers second start r) k.starts);
-  starts_tall = starts_either (among start) T U (starts_wider (among first) (among start) T (covers first start l) h.starts_tall) (starts_wider (among second) (among start) U (covers second start r) k.starts_tall);
-  inhabited = inhabited_left T U h.inhabited;
-  sound = sound_either room (among first) T U p q h.sound k.sound;
-  complete = complete_either room (among first) (among goes) P Q p q h.complete k.complete h.starts (parted_starts (among second) (among first) (among goes) Q k.starts (apart second first d));
-}
+pub reads_either : {A : Type 0} {room : ℕ} {T P U Q : Form A} {p q : Reader A} {first second goes : List ℕ} (start : List ℕ)
+    → Reads room T P p first goes → Reads room U Q q second goes → disjoint second first ≡ true → subset first start ≡ true
+    → subset second start ≡ true → Reads room (T ∣ U) (P ∣ Q) (read_either (among first) p q) start goes
+reads_either {room = room} {T = T} {P = P} {U = U} {Q = Q} {p = p} {q = q} {first = first} {second = second} {goes = goes} start h k d l r =
+    record {
+      starts =
+          starts_either (among start) P Q (starts_wider (among first) (among start) P (covers first start l) h.starts)
+          (starts_wider (among second) (among start) Q (covers second start r) k.starts);
+      starts_tall =
+          starts_either (among start) T U (starts_wider (among first) (among start) T (covers first start l) h.starts_tall)
+          (starts_wider (among second) (among start) U (covers second start r) k.starts_tall);
+      inhabited = inhabited_left T U h.inhabited;
+      sound = sound_either room (among first) T U p q h.sound k.sound;
+      complete =
+          complete_either room (among first) (among goes) P Q p q h.complete k.complete h.starts
+          (parted_starts (among second) (among first) (among goes) Q k.starts (apart second first d));
+    }
 
 -- What an opener opens is read with the room that is left, unless there is none.
 abbrev pub Inside : {A : Type 0} → ℕ → Form A → Form A → Option (Reader A) → List ℕ → Type 0
@@ -121,7 +160,8 @@ Inside zero T P (Some p) goes = ⊥
 Inside (suc room) T P None goes = ⊥
 Inside (suc room) T P (Some p) goes = Inhabited T × Sound room T p × Complete room P (among goes) p
 
-pub reads_opened : {A : Type 0} {T P : Form A} {goes : List ℕ} (room n : ℕ) (inner : Option (Reader A)) → Inside room T P inner goes → Reads room (Opened (among (n ∷ [])) T) (Opened (among (n ∷ [])) P) (read_opened (among (n ∷ [])) inner) (n ∷ []) goes
+pub reads_opened : {A : Type 0} {T P : Form A} {goes : List ℕ} (room n : ℕ) (inner : Option (Reader A)) → Inside room T P inner goes
+    → Reads room (Opened (among (n ∷ [])) T) (Opened (among (n ∷ [])) P) (read_opened (among (n ∷ [])) inner) (n ∷ []) goes
 reads_opened {T = T} {P = P} {goes = goes} zero n None full = record {
   starts = starts_opened (among (n ∷ [])) P;
   starts_tall = starts_opened (among (n ∷ [])) T;
@@ -146,14 +186,18 @@ Deeper zero T P (Some p) first goes = ⊥
 Deeper (suc room) T P None first goes = ⊥
 Deeper (suc room) T P (Some p) first goes = Reads room T P p first goes
 
-pub inside_with : {A B : Type 0} {first before : List ℕ} (room : ℕ) (T P : Form A) (U Q : Form B) (make : Reader A → Reader B) (inner : Option (Reader A)) (goes : List ℕ) → (Inhabited T → Inhabited U) → ((r : ℕ) (p : Reader A) → Reads r T P p first before → Sound r U (make p) × Complete r Q (among goes) (make p)) → Deeper room T P inner first before → Inside room U Q (option_map make inner) goes
+pub inside_with : {A B : Type 0} {first before : List ℕ} (room : ℕ) (T P : Form A) (U Q : Form B) (make : Reader A → Reader B)
+    (inner : Option (Reader A)) (goes : List ℕ) → (Inhabited T → Inhabited U)
+    → ((r : ℕ) (p : Reader A) → Reads r T P p first before → Sound r U (make p) × Complete r Q (among goes) (make p))
+    → Deeper room T P inner first before → Inside room U Q (option_map make inner) goes
 inside_with zero T P U Q make None goes full reads h = full h
 inside_with zero T P U Q make (Some p) goes full reads h = absurd h
 inside_with (suc room) T P U Q make None goes full reads h = absurd h
 inside_with (suc room) T P U Q make (Some p) goes full reads h = let k = reads room p h in (full h.inhabited, k.0, k.1)
 
 -- more tokens may be taken for going on
-pub reads_wider : {A : Type 0} {room : ℕ} {T P : Form A} {p : Reader A} {first goes : List ℕ} (after : List ℕ) → subset goes after ≡ true → Reads room T P p first goes → Reads room T P p first after
+pub reads_wider : {A : Type 0} {room : ℕ} {T P : Form A} {p : Reader A} {first goes : List ℕ} (after : List ℕ) → subset goes after ≡ true
+    → Reads room T P p first goes → Reads room T P p first after
 reads_wider {room = room} {T = T} {P = P} {p = p} {first = first} {goes = goes} after c h = record {
   starts = h.starts;
   starts_tall = h.starts_tall;
@@ -163,7 +207,8 @@ reads_wider {room = room} {T = T} {P = P} {p = p} {first = first} {goes = goes} 
 }
 
 -- nothing is read of a form that no tokens fit
-pub reads_shut : {A : Type 0} {room : ℕ} {T P : Form A} {p : Reader A} {first goes : List ℕ} → Reads room T P p first goes → Reads room T nothing p first goes
+pub reads_shut : {A : Type 0} {room : ℕ} {T P : Form A} {p : Reader A} {first goes : List ℕ} → Reads room T P p first goes
+    → Reads room T nothing p first goes
 reads_shut h = record {
   starts = λ depth used value stands. absurd stands;
   starts_tall = h.starts_tall;

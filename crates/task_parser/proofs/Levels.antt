@@ -25,11 +25,13 @@ tighter Product = 0
 pub member_shortens : (level : Level) (text : Text) (room : ℕ) → Shortens (read_member (operators level) (read_part level text room))
 member_shortens Or text room = shortens_reads (reads_member OR [] refl (reads_conjunction (reads_unary text room 0)))
 member_shortens And text room = shortens_reads (reads_member AND [] refl (reads_compared (reads_unary text room 0)))
-member_shortens Comparison text room = shortens_reads (reads_member EQ (NE ∷ LT ∷ LE ∷ GT ∷ GE ∷ []) refl (reads_sum (reads_unary text room 0)))
+member_shortens Comparison text room =
+    shortens_reads (reads_member EQ (NE ∷ LT ∷ LE ∷ GT ∷ GE ∷ []) refl (reads_sum (reads_unary text room 0)))
 member_shortens Sum text room = shortens_reads (reads_member ADD (SUB ∷ []) refl (reads_product (reads_unary text room 0)))
 member_shortens Product text room = shortens_reads (reads_member MUL (DIV ∷ REM ∷ []) refl (reads_unary text room 0))
 
 -- a chain with an operator
-pub chain_more : (first : plain.Expr) (others : List (Op × Expr)) (empty : Bool) → (IsTrue empty ↔ (others ≡ [])) → empty ≡ false → chain_or first (plain_members others) ≡ plain.Chain first (plain_links others)
+pub chain_more : (first : plain.Expr) (others : List (Op × Expr)) (empty : Bool) → (IsTrue empty ↔ (others ≡ [])) → empty ≡ false
+    → chain_or first (plain_members others) ≡ plain.Chain first (plain_links others)
 chain_more first [] empty is e = absurd (cc (is.1 refl, e))
 chain_more first (m ∷ ms) empty is e = refl

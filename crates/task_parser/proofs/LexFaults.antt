@@ -34,7 +34,16 @@ module _ (b : ℕ) (dollar : eqb b 36 ≡ true) where
 
   pub dollar_short : (bs : List ℕ) → begins is_letter bs ≡ false → StopsShort (b ∷ []) bs
   dollar_short bs no_letter = record {
-    can_begin = inr (Reg, 97 ∷ [], (97 ∷ [], rw (eqb-true b 36 dollar) refl, record { first = refl; others = AllPass-from_list_all is_name_byte (97 ∷ []) refl }));
+    can_begin =
+        inr (
+          Reg,
+          97 ∷ [],
+          (
+            97 ∷ [],
+            rw (eqb-true b 36 dollar) refl,
+            record { first = refl; others = AllPass-from_list_all is_name_byte (97 ∷ []) refl },
+          ),
+        );
     not_whole = λ kind token. false≢true (dollar_name kind [] token);
     cannot_go_on = dollar_stops bs no_letter;
   }
@@ -55,10 +64,12 @@ no_other_byte (f ∷ front) (i ∷ inside) more next same passes bad no_quote =
 -- a quote is none of the bytes between quotes
 no_quote_inside : (inside : List ℕ) → list_all is_quoted_byte (inside ++ 34 ∷ []) ≡ true → ⊥
 no_quote_inside [] passes = false≢true passes
-no_quote_inside (i ∷ inside) passes = no_quote_inside inside (both (is_quoted_byte i) (list_all is_quoted_byte (inside ++ 34 ∷ [])) passes).1
+no_quote_inside (i ∷ inside) passes =
+    no_quote_inside inside (both (is_quoted_byte i) (list_all is_quoted_byte (inside ++ 34 ∷ [])) passes).1
 
 module _ (b : ℕ) (quote : eqb b 34 ≡ true) where
-  quote_stops : (front rest : List ℕ) → begins is_quoted_byte rest ≡ false → begins (λ c. eqb c 34) rest ≡ false → CannotGoOn (b ∷ front) rest
+  quote_stops : (front rest : List ℕ) → begins is_quoted_byte rest ≡ false → begins (λ c. eqb c 34) rest ≡ false
+      → CannotGoOn (b ∷ front) rest
   quote_stops front [] bad no_quote = λ none. cc
   quote_stops front (next ∷ rest) bad no_quote = (stuck, λ none. absurd (cc))
     where
@@ -79,7 +90,16 @@ module _ (b : ℕ) (quote : eqb b 34 ≡ true) where
   quote_short bs no_quote =
       let front = take (prefix_len is_quoted_byte bs) bs in
       record {
-        can_begin = inr (Quoted, 34 ∷ [], (front, rw (eqb-true b 34 quote) refl, AllPass-from_list_all is_quoted_byte front (prefix_passes is_quoted_byte bs)));
+        can_begin =
+            inr (
+              Quoted,
+              34 ∷ [],
+              (
+                front,
+                rw (eqb-true b 34 quote) refl,
+                AllPass-from_list_all is_quoted_byte front (prefix_passes is_quoted_byte bs),
+              ),
+            );
         not_whole = quote_not_whole front (prefix_passes is_quoted_byte bs);
         cannot_go_on = quote_stops front (drop (prefix_len is_quoted_byte bs) bs) (prefix_stops is_quoted_byte bs) no_quote;
       }
@@ -102,7 +122,8 @@ module _ (b : ℕ) (other : IsOther b) where
       stuck (Mark row) (d ∷ more) token = absurd (omega (arith, mark_bytes (b ∷ c ∷ d ∷ more) row token))
       stuck kind more token = absurd (omega (arith, first_class kind b (c ∷ more) token, class_other b other))
 
-  pub bang_short : (bs : List ℕ) → row_of marks (take 2 (b ∷ bs)) ≡ None → row_of marks (b ∷ []) ≡ None → eqb b 33 ≡ true → StopsShort (b ∷ []) bs
+  pub bang_short : (bs : List ℕ) → row_of marks (take 2 (b ∷ bs)) ≡ None → row_of marks (b ∷ []) ≡ None → eqb b 33 ≡ true
+      → StopsShort (b ∷ []) bs
   bang_short bs no_pair no_single bang = record {
     can_begin = inr (Mark 10, 61 ∷ [], rw (eqb-true b 33 bang) refl);
     not_whole = no_single_token no_single;
@@ -122,7 +143,8 @@ module _ (b : ℕ) (other : IsOther b) where
           false≢true (sym no_mark ∙ row_passes (begins is_mark_byte) marks (b ∷ more) row refl token)
       stuck kind more token = absurd (omega (arith, first_class kind b more token, class_other b other))
 
-pub digits_too_big : (b : ℕ) (bs : List ℕ) → is_ascii_digit b ≡ true → leb (decimal (take_while is_ascii_digit (b ∷ bs))) number_limit ≡ false
+pub digits_too_big : (b : ℕ) (bs : List ℕ) → is_ascii_digit b ≡ true
+    → leb (decimal (take_while is_ascii_digit (b ∷ bs))) number_limit ≡ false
     → BeginsTooBig (b ∷ bs)
 digits_too_big b bs digit big = record {
   value = decimal (take_while is_ascii_digit (b ∷ bs));

@@ -1,4 +1,6 @@
--- The piece at the front of a text is its longest token.
+-- The piece at the front of a text is its longest token. First, the piece is a token; then, no token at the front is
+-- longer. Both go by the first byte: a token at the front is of that byte's class, and of each class it is known how
+-- far its tokens can reach.
 use Rattle.std.proofs.Common.{leb, ◌≡◌, ℕ, zero, suc, ◌+◌, ◌≤◌, Bool, true, false, cond, ◌&&◌, eqb, List, [], ◌∷◌, ◌++◌, length, take, drop, Option, Some, None, refl, ap, ◌∙◌, sym, subst, arith, length-take}
 use Rattle.std.specs.Prelude.{take_while}
 use Rattle.std.specs.List.{prefix_len, list_all}
@@ -65,7 +67,11 @@ stands_sound b bs _ (no_name dollar no_letter) = tt
 stands_sound b bs _ (quoted quote ends) =
     let n = prefix_len is_quoted_byte bs in
     let e : n + 2 ≡ suc (suc n) = omega arith in
-    rw (e, eqb-true b 34 quote) (take n bs, ap (λ more. 34 ∷ more) (take-one_more n bs 34 ends), AllPass-from_list_all is_quoted_byte _ (prefix_passes is_quoted_byte bs))
+    rw (e, eqb-true b 34 quote) (
+      take n bs,
+      ap (λ more. 34 ∷ more) (take-one_more n bs 34 ends),
+      AllPass-from_list_all is_quoted_byte _ (prefix_passes is_quoted_byte bs),
+    )
 stands_sound b bs _ (no_end quote goes_on) = tt
 stands_sound b bs _ (pair other mark is) = ap (λ t. row_of marks t) (take-length_take 2 (b ∷ bs)) ∙ is
 stands_sound b bs _ (single other no_pair mark is) = is
@@ -129,7 +135,8 @@ module _ (b : ℕ) (bs : List ℕ) where
   longest_quoted is kind n le token = absurd (omega (arith, of_class kind n 5 token is))
 
   longest_pair : class b ≡ 6 → IsLongest (length (take 2 (b ∷ bs))) (b ∷ bs)
-  longest_pair is (Mark row) n le token = omega (arith, length-take 2 (b ∷ bs), length-take n (b ∷ bs), mark_bytes (take n (b ∷ bs)) row token)
+  longest_pair is (Mark row) n le token =
+      omega (arith, length-take 2 (b ∷ bs), length-take n (b ∷ bs), mark_bytes (take n (b ∷ bs)) row token)
   longest_pair is kind n le token = absurd (omega (arith, of_class kind n 6 token is))
 
   longest_single : class b ≡ 6 → row_of marks (take 2 (b ∷ bs)) ≡ None → IsLongest 1 (b ∷ bs)

@@ -64,7 +64,14 @@ module _ (b : ℕ) (bs : List ℕ) where
       (λ no_letter. either_way S (eqb b 36) _ _ (λ dollar. either_way S _ _ _ (register dollar) (no_name dollar))
       (λ no_dollar. either_way S (eqb b 34) _ _ (λ quote. either_way S _ _ _ (quoted quote) (no_end quote))
       (λ no_quote. mark_stands
-      (record { no_space = no_space; no_hash = no_hash; no_digit = no_digit; no_letter = no_letter; no_dollar = no_dollar; no_quote = no_quote })
+      (record {
+        no_space = no_space;
+        no_hash = no_hash;
+        no_digit = no_digit;
+        no_letter = no_letter;
+        no_dollar = no_dollar;
+        no_quote = no_quote;
+      })
       _ _ refl refl))))))
 
 pub begins_some : (test : ℕ → Bool) (text : List ℕ) → begins test text ≡ true → 1 ≤ length text
@@ -96,13 +103,21 @@ word_fits (Some row) bytes most fits = fits
 
 pub stands_fits : (b : ℕ) (bs : List ℕ) (piece : Piece) → Stands b bs piece → FitsIn (length (b ∷ bs)) piece
 stands_fits b bs _ (space is) = (omega arith, omega arith)
-stands_fits b bs _ (comment hash) = (front_some is_comment_byte (b ∷ bs) (hash_is_comment_byte b hash), prefix_len-le-length is_comment_byte (b ∷ bs))
+stands_fits b bs _ (comment hash) =
+    (front_some is_comment_byte (b ∷ bs) (hash_is_comment_byte b hash), prefix_len-le-length is_comment_byte (b ∷ bs))
 stands_fits b bs _ (number digit small) = front_fits is_ascii_digit (b ∷ bs) (front_some is_ascii_digit (b ∷ bs) digit)
 stands_fits b bs _ (too_big digit big) = tt
 stands_fits b bs _ (word letter row is) = word_fits row _ _ (front_fits is_name_byte (b ∷ bs) (name_some (b ∷ bs) letter))
 stands_fits b bs _ (register dollar letter) = (omega (arith, name_some bs letter), omega (arith, prefix_len-le-length is_name_byte bs))
 stands_fits b bs _ (no_name dollar no_letter) = omega arith
-stands_fits b bs _ (quoted quote ends) = (omega arith, omega (arith, begins_some (λ c. eqb c 34) (drop (prefix_len is_quoted_byte bs) bs) ends, length-drop (prefix_len is_quoted_byte bs) bs))
+stands_fits b bs _ (quoted quote ends) = (
+  omega arith,
+  omega (
+    arith,
+    begins_some (λ c. eqb c 34) (drop (prefix_len is_quoted_byte bs) bs) ends,
+    length-drop (prefix_len is_quoted_byte bs) bs,
+  ),
+)
 stands_fits b bs _ (no_end quote goes_on) = omega (arith, prefix_len-le-length is_quoted_byte bs)
 stands_fits b bs _ (pair other mark is) = (omega (arith, length-take 2 (b ∷ bs)), omega (arith, length-take 2 (b ∷ bs)))
 stands_fits b bs _ (single other no_pair mark is) = (omega arith, omega arith)

@@ -24,17 +24,20 @@ placed before kind bytes rest is longest =
       line_is = rw (take-append_seam before (bytes ++ rest)) refl;
     }
 
-all_placed : {before text left : List ℕ} {tokens : List Token} → Splits before text tokens left → All (λ t. IsPlaced (before ++ text) t) tokens
+all_placed : {before text left : List ℕ} {tokens : List Token} → Splits before text tokens left
+    → All (λ t. IsPlaced (before ++ text) t) tokens
 all_placed nothing = λ k d lt. absurd (omega arith)
 all_placed {before} (gap {rest = rest} {tokens = tokens} skipped is splits) =
     subst (λ t. All (λ u. IsPlaced t u) tokens) (append_assoc before skipped rest) (all_placed splits)
 all_placed {before} (token {rest = rest} {tokens = tokens} kind bytes is range longest splits) =
-    All-cons (λ t. IsPlaced (before ++ (bytes ++ rest)) t) (token_behind before kind (length bytes)) tokens (placed before kind bytes rest is longest)
+    All-cons (λ t. IsPlaced (before ++ (bytes ++ rest)) t) (token_behind before kind (length bytes)) tokens
+    (placed before kind bytes rest is longest)
     (subst (λ t. All (λ u. IsPlaced t u) tokens) (append_assoc before bytes rest) (all_placed splits))
 
 in_order : {before text left : List ℕ} {tokens : List Token} → Splits before text tokens left → AreInOrder (length before) tokens
 in_order nothing = tt
-in_order {before} (gap {tokens = tokens} skipped is splits) = earlier tokens (length before) (length (before ++ skipped)) (omega (arith, length-append before skipped)) (in_order splits)
+in_order {before} (gap {tokens = tokens} skipped is splits) =
+    earlier tokens (length before) (length (before ++ skipped)) (omega (arith, length-append before skipped)) (in_order splits)
 in_order {before} (token {tokens = tokens} kind bytes is range longest splits) =
     (omega arith, subst (λ n. AreInOrder n tokens) (length-append before bytes) (in_order splits))
 

@@ -38,10 +38,12 @@ with_one_more tokens token (Ok more) = rw append_assoc refl
 with_one_more tokens token (Err fault) = refl
 
 pub begun : (text : List ℕ) → Progress text [] 0 1
-begun text = record { so_far = with_none (lexed_behind [] 0 text); line_is = refl; within = omega arith; spans = (λ k d lt. absurd (omega arith)) }
+begun text =
+    record { so_far = with_none (lexed_behind [] 0 text); line_is = refl; within = omega arith; spans = (λ k d lt. absurd (omega arith)) }
 
 line_more : (text : List ℕ) (from bytes : ℕ)
-    → line_behind (take from text) + count_by (λ b. eqb b 10) (slice_range text from (from + bytes)) ≡ line_behind (take (from + bytes) text)
+    → line_behind (take from text) + count_by (λ b. eqb b 10) (slice_range text from (from + bytes))
+    ≡ line_behind (take (from + bytes) text)
 line_more text from bytes =
     let e : from + bytes - from ≡ bytes = omega arith in
     rw (e, take-add from bytes text, sum_by-append (λ b. cond (eqb b 10) 1 0) (take from text) (take bytes (drop from text))) (omega arith)
@@ -88,5 +90,6 @@ pub finished : (text : List ℕ) (tokens : List Token) (from line : ℕ) → Pro
     → Ok tokens ≡ lexed_behind [] 0 text
 finished text tokens from line progress over =
     let e : from ≡ length text = omega (arith, progress.within) in
-    let ended : with_tokens tokens (lexed_at text (length text)) ≡ lexed_behind [] 0 text = subst (λ n. with_tokens tokens (lexed_at text n) ≡ lexed_behind [] 0 text) e progress.so_far in
+    let ended : with_tokens tokens (lexed_at text (length text)) ≡ lexed_behind [] 0 text =
+    subst (λ n. with_tokens tokens (lexed_at text n) ≡ lexed_behind [] 0 text) e progress.so_far in
     rw (drop-length, append-nil) at ended

@@ -60,7 +60,8 @@ module _ (b : ℕ) (bs : List ℕ) where
   explained _ (quoted quote ends) = taken _ _ (quoted quote ends) tt
   explained _ (no_end quote goes_on) =
       let e : prefix_len is_quoted_byte bs + 1 ≡ suc (prefix_len is_quoted_byte bs) = omega arith in
-      rw e (bad (suc (prefix_len is_quoted_byte bs)) (omega (arith, prefix_len-le-length is_quoted_byte bs)) (quote_short b quote bs goes_on))
+      rw e (bad (suc (prefix_len is_quoted_byte bs)) (omega (arith, prefix_len-le-length is_quoted_byte bs))
+      (quote_short b quote bs goes_on))
   explained _ (pair other mark is) = taken _ _ (pair other mark is) tt
   explained _ (single other no_pair mark is) = taken _ _ (single other no_pair mark is) tt
   explained _ (no_equals other no_pair no_single is) = bad 1 (omega arith) (bang_short b other bs no_pair no_single is)
@@ -105,7 +106,8 @@ module _ (before text : List ℕ) where
 
   outcome_token : (kind : Kind) (bytes : ℕ) (lexing : Result (List Token) LexFault) → bytes ≤ length text
       → IsToken kind (take bytes text) → IsInRange kind → IsLongest bytes text
-      → Outcome (before ++ take bytes text) (drop bytes text) lexing → Outcome before text (followed_by (token_behind before kind bytes) lexing)
+      → Outcome (before ++ take bytes text) (drop bytes text) lexing
+      → Outcome before text (followed_by (token_behind before kind bytes) lexing)
   outcome_token kind bytes (Ok tokens) le is range longest splits = behind_token kind bytes tokens [] le is range longest splits
   outcome_token kind bytes (Err fault) le is range longest stops = record {
     front = stops.front;
@@ -117,11 +119,14 @@ module _ (before text : List ℕ) where
   }
 
   outcome_by : (piece : Piece) → Explains text piece → FitsIn (length text) piece
-      → ((bytes : ℕ) → 1 ≤ bytes → Outcome (before ++ take bytes text) (drop bytes text) (lexed_behind (before ++ take bytes text) 0 (drop bytes text)))
+      → ((bytes : ℕ) → 1 ≤ bytes → Outcome (before ++ take bytes text) (drop bytes text)
+      (lexed_behind (before ++ take bytes text) 0 (drop bytes text)))
       → Outcome before text (lexed_by before text piece)
   outcome_by _ (skip bytes is) fits rest = outcome_gap bytes _ is (rest bytes fits.0)
-  outcome_by _ (take_token kind bytes le is range longest) fits rest = outcome_token kind bytes _ le is range longest (rest bytes (least_some kind bytes fits.0))
-  outcome_by _ (beyond big) fits rest = record { front = before; left = text; tokens = []; parts = refl; splits = nothing; stuck = (refl, big) }
+  outcome_by _ (take_token kind bytes le is range longest) fits rest =
+      outcome_token kind bytes _ le is range longest (rest bytes (least_some kind bytes fits.0))
+  outcome_by _ (beyond big) fits rest =
+      record { front = before; left = text; tokens = []; parts = refl; splits = nothing; stuck = (refl, big) }
   outcome_by _ (bad bytes le short) fits rest =
       record { front = before; left = text; tokens = []; parts = refl; splits = nothing; stuck = (bytes, refl, le, short) }
 
@@ -133,7 +138,8 @@ outcome (suc fuel) before (b ∷ bs) le =
     (outcome_by before (b ∷ bs) (piece_of (b ∷ bs)) (explained b bs _ (piece_stands b bs)) (piece_fits (b ∷ bs) (omega arith))
     (λ bytes some. outcome fuel (before ++ take bytes (b ∷ bs)) (drop bytes (b ∷ bs)) (omega (arith, length-drop bytes (b ∷ bs)))))
 
-if_lexed : (text : List ℕ) (long : Bool) (lexing : Result (List Token) LexFault) → (if long then Err TooLong else lexed_behind [] 0 text) ≡ lexing
+if_lexed : (text : List ℕ) (long : Bool) (lexing : Result (List Token) LexFault)
+    → (if long then Err TooLong else lexed_behind [] 0 text) ≡ lexing
     → long ≡ false → Outcome [] text lexing
 if_lexed text true lexing is short = cc
 if_lexed text false lexing is short = subst (Outcome [] text) is (outcome (length text) [] text (omega arith))
@@ -141,7 +147,8 @@ if_lexed text false lexing is short = subst (Outcome [] text) is (outcome (lengt
 pub lexings_split : LexingsSplit
 lexings_split text tokens is = go (ltb MOST_PROGRAM_BYTES (length text)) refl is
   where
-    go : (long : Bool) → ltb MOST_PROGRAM_BYTES (length text) ≡ long → (if long then Err TooLong else lexed_behind [] 0 text) ≡ Ok tokens → Splits [] text tokens []
+    go : (long : Bool) → ltb MOST_PROGRAM_BYTES (length text) ≡ long → (if long then Err TooLong else lexed_behind [] 0 text) ≡ Ok tokens
+        → Splits [] text tokens []
     go true long lexing = cc
     go false long lexing = if_lexed text false (Ok tokens) lexing refl
 

@@ -24,7 +24,8 @@ lexed_behind_piece before (suc inside) (b ∷ bs) le =
 -- a lexing by the piece that stands at the front
 abbrev pub lexed_by : List ℕ → List ℕ → Piece → Result (List Token) LexFault
 lexed_by before rest (Skip bytes) = lexed_behind (before ++ take bytes rest) 0 (drop bytes rest)
-lexed_by before rest (Take kind bytes) = followed_by (token_behind before kind bytes) (lexed_behind (before ++ take bytes rest) 0 (drop bytes rest))
+lexed_by before rest (Take kind bytes) =
+    followed_by (token_behind before kind bytes) (lexed_behind (before ++ take bytes rest) 0 (drop bytes rest))
 lexed_by before rest TooBig = Err (NumberTooBig (length before))
 lexed_by before rest (Bad bytes) = Err (BadByte (length before + bytes))
 
@@ -74,7 +75,8 @@ lexed_from text from (Bad bytes) = Err (BadByte (from + bytes))
 pub length_front : (text : List ℕ) (from : ℕ) → from ≤ length text → length (take from text) ≡ from
 length_front text from le = omega (arith, length-take from text)
 
-lexed_by_from : (text : List ℕ) (from : ℕ) (piece : Piece) → from ≤ length text → lexed_by (take from text) (drop from text) piece ≡ lexed_from text from piece
+lexed_by_from : (text : List ℕ) (from : ℕ) (piece : Piece) → from ≤ length text
+    → lexed_by (take from text) (drop from text) piece ≡ lexed_from text from piece
 lexed_by_from text from (Skip bytes) le = rw (take-add, ← drop-drop) refl
 lexed_by_from text from (Take kind bytes) le = rw (take-add, ← drop-drop) refl
 lexed_by_from text from TooBig le = rw (length_front text from le) refl

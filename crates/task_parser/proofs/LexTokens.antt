@@ -1,4 +1,6 @@
--- What begins a token, and that the piece at the front of a text is its longest token.
+-- What begins a token, and that the piece at the front of a text is its longest token. Bytes fall into classes by what
+-- they may begin, and each token is of the class of its first byte (first_class), so that at the front of a text only
+-- tokens of one class can stand. The front of a text that passes a test of bytes is the longest that does.
 use Rattle.std.proofs.Common.{◌≡◌, ℕ, zero, suc, ◌+◌, ◌≤◌, Bool, true, false, cond, not, ◌||◌, ◌&&◌, eqb, List, [], ◌∷◌, length, take, drop, Some, refl, subst, arith, get_or}
 use Rattle.std.specs.Prelude.{if◌then◌else◌, bytes_eq}
 use Rattle.std.specs.List.{prefix_len, list_all}
@@ -19,10 +21,12 @@ pub row_passes : (test : List ℕ → Bool) (table : List (List ℕ)) (text : Li
     → row_of table text ≡ Some row → test text ≡ true
 row_passes test table text row all is =
     let found = position-Some (λ r. bytes_eq r text) table row [] is in
-    subst (λ t. test t ≡ true) ((bytes_eq-Decides (get_or table row []) text).0 found.1) (AllPass-from_list_all test table all row [] found.0)
+    subst (λ t. test t ≡ true) ((bytes_eq-Decides (get_or table row []) text).0 found.1)
+    (AllPass-from_list_all test table all row [] found.0)
 
 -- the front that passes a test is the longest that does
-pub prefix_longest : (test : ℕ → Bool) (text : List ℕ) (n : ℕ) → n ≤ length text → list_all test (take n text) ≡ true → n ≤ prefix_len test text
+pub prefix_longest : (test : ℕ → Bool) (text : List ℕ) (n : ℕ) → n ≤ length text → list_all test (take n text) ≡ true
+    → n ≤ prefix_len test text
 prefix_longest test [] n le passes = omega arith
 prefix_longest test (b ∷ bs) zero le passes = omega arith
 prefix_longest test (b ∷ bs) (suc n) le passes = go (test b) passes (prefix_longest test bs n (omega arith))
@@ -66,7 +70,8 @@ opens (Mark number) b = is_other b
 -- what a byte may begin: a space, a comment, a number, a word, a data variable, a text in quotes, something else
 abbrev pub class : ℕ → ℕ
 class b =
-    if is_space b then 0 else if eqb b 35 then 1 else if is_ascii_digit b then 2 else if is_letter b then 3 else if eqb b 36 then 4 else if eqb b 34 then 5 else 6
+    if is_space b then 0 else if eqb b 35 then 1 else if is_ascii_digit b then 2 else if is_letter b then 3 else if eqb b 36 then 4 else
+    if eqb b 34 then 5 else 6
 
 abbrev pub class_of : Kind → ℕ
 class_of (Num value) = 2

@@ -1,4 +1,5 @@
--- A text that splits to its end is lexed so.
+-- A text that splits to its end is lexed so. Bytes are a token of one kind alone. So what a splitting has at the front,
+-- a gap or a longest token, is the piece that the lexer takes there; along the splitting the lexer gives its tokens.
 use Rattle.std.proofs.Common.{◌≡◌, inl, inr, pos, ℕ, ◌≤◌, Bool, true, false, eqb, ltb, List, [], ◌∷◌, ◌++◌, length, take, drop, Ok, refl, ap, ◌∙◌, sym, subst, arith, append_assoc, length-append}
 use Rattle.std.specs.List.{prefix_len, list_all}
 use Rattle.std.proofs.Math.Seq.{take-append_seam, drop-append_seam}
@@ -82,9 +83,11 @@ quoted_ends Quoted b more rest quote (inside, shape, passes) =
     rw (e, append_assoc inside (34 ∷ []) rest, n, drop-append_seam inside (34 ∷ rest)) refl
 quoted_ends kind b more rest quote is = absurd (omega (arith, first_class kind b more is, class_quote b quote))
 
-module _ (b : ℕ) (more rest : List ℕ) (kind : Kind) (is : IsToken kind (b ∷ more)) (longest : IsLongest (length (b ∷ more)) ((b ∷ more) ++ rest)) where
+module _ (b : ℕ) (more rest : List ℕ) (kind : Kind) (is : IsToken kind (b ∷ more))
+    (longest : IsLongest (length (b ∷ more)) ((b ∷ more) ++ rest)) where
   -- the longest token at the front is this one
-  this_one : (other : Kind) (n : ℕ) → n ≤ length ((b ∷ more) ++ rest) → IsToken other (take n ((b ∷ more) ++ rest)) → IsLongest n ((b ∷ more) ++ rest)
+  this_one : (other : Kind) (n : ℕ) → n ≤ length ((b ∷ more) ++ rest) → IsToken other (take n ((b ∷ more) ++ rest))
+      → IsLongest n ((b ∷ more) ++ rest)
       → (other ≡ kind) × (n ≡ length (b ∷ more))
   this_one other n le found at_most =
       let front : take (length (b ∷ more)) ((b ∷ more) ++ rest) ≡ b ∷ more = take-append_seam (b ∷ more) rest in
@@ -97,7 +100,9 @@ module _ (b : ℕ) (more rest : List ℕ) (kind : Kind) (is : IsToken kind (b �
   this_taken : (other : Kind) (n : ℕ) → Stands b (more ++ rest) (Take other n) → Take other n ≡ Take kind (length (b ∷ more))
   this_taken other n stands =
       let fits : FitsIn (length ((b ∷ more) ++ rest)) (Take other n) = stands_fits b (more ++ rest) (Take other n) stands in
-      let this = this_one other n fits.1 (stands_sound b (more ++ rest) (Take other n) stands) (stands_longest b (more ++ rest) (Take other n) stands) in
+      let this =
+      this_one other n fits.1 (stands_sound b (more ++ rest) (Take other n) stands)
+      (stands_longest b (more ++ rest) (Take other n) stands) in
       rw (this.0, this.1) refl
 
   not_too_big : BeginsTooBig ((b ∷ more) ++ rest) → IsInRange kind → ⊥
@@ -110,19 +115,29 @@ not_short : (b : ℕ) (more rest : List ℕ) (kind : Kind) → IsToken kind (b �
 not_short b [] rest kind is short = short.not_whole kind is
 not_short b (c ∷ more) rest kind is short = short.cannot_go_on.0 kind more is
 
-token_stands : (b : ℕ) (more rest : List ℕ) (kind : Kind) → IsToken kind (b ∷ more) → IsInRange kind → IsLongest (length (b ∷ more)) ((b ∷ more) ++ rest)
+token_stands : (b : ℕ) (more rest : List ℕ) (kind : Kind) → IsToken kind (b ∷ more) → IsInRange kind
+    → IsLongest (length (b ∷ more)) ((b ∷ more) ++ rest)
     → (piece : Piece) → Stands b (more ++ rest) piece → piece ≡ Take kind (length (b ∷ more))
-token_stands b more rest kind is range longest _ (space blank) = absurd (omega (arith, class_some kind, first_class kind b more is, class_space b blank))
-token_stands b more rest kind is range longest _ (comment hash) = absurd (omega (arith, class_some kind, first_class kind b more is, class_hash b hash))
+token_stands b more rest kind is range longest _ (space blank) =
+    absurd (omega (arith, class_some kind, first_class kind b more is, class_space b blank))
+token_stands b more rest kind is range longest _ (comment hash) =
+    absurd (omega (arith, class_some kind, first_class kind b more is, class_hash b hash))
 token_stands b more rest kind is range longest _ (number digit small) = this_taken b more rest kind is longest _ _ (number digit small)
-token_stands b more rest kind is range longest _ (too_big digit big) = absurd (not_too_big b more rest kind is longest (digits_too_big b (more ++ rest) digit big) range)
-token_stands b more rest kind is range longest _ (word letter row found) = this_taken b more rest kind is longest _ _ (word letter row found)
-token_stands b more rest kind is range longest _ (register dollar letter) = this_taken b more rest kind is longest _ _ (register dollar letter)
-token_stands b more rest kind is range longest _ (no_name dollar no_letter) = absurd (not_short b more rest kind is (dollar_short b dollar (more ++ rest) no_letter))
+token_stands b more rest kind is range longest _ (too_big digit big) =
+    absurd (not_too_big b more rest kind is longest (digits_too_big b (more ++ rest) digit big) range)
+token_stands b more rest kind is range longest _ (word letter row found) =
+    this_taken b more rest kind is longest _ _ (word letter row found)
+token_stands b more rest kind is range longest _ (register dollar letter) =
+    this_taken b more rest kind is longest _ _ (register dollar letter)
+token_stands b more rest kind is range longest _ (no_name dollar no_letter) =
+    absurd (not_short b more rest kind is (dollar_short b dollar (more ++ rest) no_letter))
 token_stands b more rest kind is range longest _ (quoted quote ends) = this_taken b more rest kind is longest _ _ (quoted quote ends)
-token_stands b more rest kind is range longest _ (no_end quote goes_on) = absurd (false≢true (sym goes_on ∙ quoted_ends kind b more rest quote is))
-token_stands b more rest kind is range longest _ (pair other mark found) = this_taken b more rest kind is longest _ _ (pair other mark found)
-token_stands b more rest kind is range longest _ (single other no_pair mark found) = this_taken b more rest kind is longest _ _ (single other no_pair mark found)
+token_stands b more rest kind is range longest _ (no_end quote goes_on) =
+    absurd (false≢true (sym goes_on ∙ quoted_ends kind b more rest quote is))
+token_stands b more rest kind is range longest _ (pair other mark found) =
+    this_taken b more rest kind is longest _ _ (pair other mark found)
+token_stands b more rest kind is range longest _ (single other no_pair mark found) =
+    this_taken b more rest kind is longest _ _ (single other no_pair mark found)
 token_stands b more rest kind is range longest _ (no_equals other no_pair no_single bang) =
     absurd (not_short b more rest kind is (bang_short b other (more ++ rest) no_pair no_single bang))
 token_stands b more rest kind is range longest _ (stray other no_single no_bang) =
@@ -138,18 +153,21 @@ token_some : (kind : Kind) (bytes : List ℕ) → IsToken kind bytes → 1 ≤ l
 token_some kind [] is = absurd (no_empty_token kind is)
 token_some kind (b ∷ more) is = omega arith
 
-lexed_gap : (before skipped rest : List ℕ) → IsGap skipped rest → lexed_behind before 0 (skipped ++ rest) ≡ lexed_behind (before ++ skipped) 0 rest
+lexed_gap : (before skipped rest : List ℕ) → IsGap skipped rest
+    → lexed_behind before 0 (skipped ++ rest) ≡ lexed_behind (before ++ skipped) 0 rest
 lexed_gap before skipped rest is =
     lexed_front before (skipped ++ rest) (omega (arith, gap_some skipped rest is, length-append skipped rest))
     ∙ ap (lexed_by before (skipped ++ rest)) (gap_piece skipped rest is) ∙ rw (take-append_seam, drop-append_seam) refl
 
-lexed_token : (before : List ℕ) (kind : Kind) (bytes rest : List ℕ) → IsToken kind bytes → IsInRange kind → IsLongest (length bytes) (bytes ++ rest)
+lexed_token : (before : List ℕ) (kind : Kind) (bytes rest : List ℕ) → IsToken kind bytes → IsInRange kind
+    → IsLongest (length bytes) (bytes ++ rest)
     → lexed_behind before 0 (bytes ++ rest) ≡ followed_by (token_behind before kind (length bytes)) (lexed_behind (before ++ bytes) 0 rest)
 lexed_token before kind bytes rest is range longest =
     lexed_front before (bytes ++ rest) (omega (arith, token_some kind bytes is, length-append bytes rest))
     ∙ ap (lexed_by before (bytes ++ rest)) (token_piece kind bytes rest is range longest) ∙ rw (take-append_seam, drop-append_seam) refl
 
-splitting_lexed : {before text left : List ℕ} {tokens : List Token} → Splits before text tokens left → left ≡ [] → lexed_behind before 0 text ≡ Ok tokens
+splitting_lexed : {before text left : List ℕ} {tokens : List Token} → Splits before text tokens left → left ≡ []
+    → lexed_behind before 0 text ≡ Ok tokens
 splitting_lexed nothing ended = rw ended refl
 splitting_lexed (gap skipped is splits) ended = lexed_gap _ skipped _ is ∙ splitting_lexed splits ended
 splitting_lexed (token kind bytes is range longest splits) ended =

@@ -37,7 +37,8 @@ stops text tokens fault h = go fault h.known h.first
     go (TooDeep at) known h = record { stop = record { deep = true; rest = h.0 }; first = h.2; is = ap TooDeep h.1 }
     go OutOfMemory known h = absurd (known refl)
 
-has_fault : (text : Text) (tokens : List Token) (deep : Bool) (rest : List Token) → StopFirst text tokens (record { deep = deep; rest = rest }) → HasFault text tokens (fault_of text deep rest)
+has_fault : (text : Text) (tokens : List Token) (deep : Bool) (rest : List Token)
+    → StopFirst text tokens (record { deep = deep; rest = rest }) → HasFault text tokens (fault_of text deep rest)
 unfolding fault_of
 has_fault text tokens false rest h = record { known = λ e. cc; first = (rest, refl, h) }
 has_fault text tokens true rest h = record { known = λ e. cc; first = (rest, refl, h) }
@@ -75,9 +76,13 @@ one_spelling text a b h k = cc (one_meaning text (Stands a) (Stands b) h k)
 pub some_meaning : SomeMeaning
 some_meaning text = go (lexed text) refl
   where
-    parsed : (tokens : List Token) → lexed text ≡ Ok tokens → ((p : Program) × StandFor text tokens p) ⊎ ((stop : Stop) × StopFirst text tokens stop) → (m : Meaning) × Means text m
+    parsed : (tokens : List Token) → lexed text ≡ Ok tokens
+        → ((p : Program) × StandFor text tokens p) ⊎ ((stop : Stop) × StopFirst text tokens stop) → (m : Meaning) × Means text m
     parsed tokens e (inl (p, h)) = (Stands p, record { tokens = tokens; lexes = e; stands = h })
-    parsed tokens e (inr (stop, h)) = (ParseFails (fault_of text stop.deep stop.rest), record { tokens = tokens; lexes = e; fails = has_fault text tokens stop.deep stop.rest h })
+    parsed tokens e (inr (stop, h)) = (
+      ParseFails (fault_of text stop.deep stop.rest),
+      record { tokens = tokens; lexes = e; fails = has_fault text tokens stop.deep stop.rest h },
+    )
 
     go : (r : Result (List Token) LexFault) → lexed text ≡ r → (m : Meaning) × Means text m
     go (Ok tokens) e = parsed tokens e (program_or_fault text tokens)

@@ -26,30 +26,43 @@ Operands room T P p = Reads room T P p starting going
 
 -- ---- chains
 
-pub reads_member : {room : ℕ} {T P : Form Expr} {p : Reader Expr} {first goes : List ℕ} (n : ℕ) (ns : List ℕ) → disjoint first [] ≡ true → Reads room T P p first goes → Reads room (member (n ∷ ns) T) (member (n ∷ ns) P) (read_member (n ∷ ns) p) (n ∷ ns) goes
+pub reads_member : {room : ℕ} {T P : Form Expr} {p : Reader Expr} {first goes : List ℕ} (n : ℕ) (ns : List ℕ) → disjoint first [] ≡ true
+    → Reads room T P p first goes → Reads room (member (n ∷ ns) T) (member (n ∷ ns) P) (read_member (n ∷ ns) p) (n ∷ ns) goes
 reads_member n ns d h = reads_made member_of (reads_both (reads_one n ns) h d)
 
-reads_level : {room : ℕ} {T P : Form Expr} {p : Reader Expr} {first goes : List ℕ} (n : ℕ) (ns after : List ℕ) → disjoint first [] ≡ true → disjoint (n ∷ ns) goes ≡ true → subset goes after ≡ true → subset (n ∷ ns) after ≡ true → Reads room T P p first goes → Reads room (level (n ∷ ns) T) (level (n ∷ ns) P) (read_level (n ∷ ns) p) first after
+reads_level : {room : ℕ} {T P : Form Expr} {p : Reader Expr} {first goes : List ℕ} (n : ℕ) (ns after : List ℕ) → disjoint first [] ≡ true
+    → disjoint (n ∷ ns) goes ≡ true → subset goes after ≡ true → subset (n ∷ ns) after ≡ true → Reads room T P p first goes
+    → Reads room (level (n ∷ ns) T) (level (n ∷ ns) P) (read_level (n ∷ ns) p) first after
 unfolding read_level
 reads_level n ns after e d g f h = reads_made chain_of (reads_more after h (reads_many (reads_member n ns e h) d) d g f g)
 
-pub reads_product : {room : ℕ} {T P : Form Expr} {p : Reader Expr} → Operands room T P p → Reads room (level (MUL ∷ DIV ∷ REM ∷ []) T) (level (MUL ∷ DIV ∷ REM ∷ []) P) (read_product p) starting (OPEN_BRACKET ∷ MUL ∷ DIV ∷ REM ∷ [])
+pub reads_product : {room : ℕ} {T P : Form Expr} {p : Reader Expr} → Operands room T P p
+    → Reads room (level (MUL ∷ DIV ∷ REM ∷ []) T) (level (MUL ∷ DIV ∷ REM ∷ []) P)
+    (read_product p) starting (OPEN_BRACKET ∷ MUL ∷ DIV ∷ REM ∷ [])
 reads_product h = reads_level MUL (DIV ∷ REM ∷ []) (OPEN_BRACKET ∷ MUL ∷ DIV ∷ REM ∷ []) refl refl refl refl h
 
-pub reads_sum : {room : ℕ} {T P : Form Expr} {p : Reader Expr} → Operands room T P p → Reads room (sum T) (sum P) (read_sum p) starting (OPEN_BRACKET ∷ MUL ∷ DIV ∷ REM ∷ ADD ∷ SUB ∷ [])
+pub reads_sum : {room : ℕ} {T P : Form Expr} {p : Reader Expr} → Operands room T P p
+    → Reads room (sum T) (sum P) (read_sum p) starting (OPEN_BRACKET ∷ MUL ∷ DIV ∷ REM ∷ ADD ∷ SUB ∷ [])
 reads_sum h = reads_level ADD (SUB ∷ []) (OPEN_BRACKET ∷ MUL ∷ DIV ∷ REM ∷ ADD ∷ SUB ∷ []) refl refl refl refl (reads_product h)
 
 abbrev with_comparisons : List ℕ
 with_comparisons = OPEN_BRACKET ∷ MUL ∷ DIV ∷ REM ∷ ADD ∷ SUB ∷ EQ ∷ NE ∷ LT ∷ LE ∷ GT ∷ GE ∷ []
 
-pub reads_compared : {room : ℕ} {T P : Form Expr} {p : Reader Expr} → Operands room T P p → Reads room (compared (sum T)) (compared (sum P)) (read_compared (read_sum p)) starting with_comparisons
+pub reads_compared : {room : ℕ} {T P : Form Expr} {p : Reader Expr} → Operands room T P p
+    → Reads room (compared (sum T)) (compared (sum P)) (read_compared (read_sum p)) starting with_comparisons
 unfolding read_compared
-reads_compared h = let s = reads_sum h in reads_made compared_of (reads_more with_comparisons s (reads_perhaps (reads_member EQ (NE ∷ LT ∷ LE ∷ GT ∷ GE ∷ []) refl s)) refl refl refl refl)
+reads_compared h =
+    let s = reads_sum h in
+    reads_made compared_of (reads_more with_comparisons s
+    (reads_perhaps (reads_member EQ (NE ∷ LT ∷ LE ∷ GT ∷ GE ∷ []) refl s)) refl refl refl refl)
 
-pub reads_conjunction : {room : ℕ} {T P : Form Expr} {p : Reader Expr} → Operands room T P p → Reads room (level (AND ∷ []) (compared (sum T))) (level (AND ∷ []) (compared (sum P))) (read_conjunction p) starting (AND ∷ with_comparisons)
+pub reads_conjunction : {room : ℕ} {T P : Form Expr} {p : Reader Expr} → Operands room T P p
+    → Reads room (level (AND ∷ []) (compared (sum T))) (level (AND ∷ []) (compared (sum P)))
+    (read_conjunction p) starting (AND ∷ with_comparisons)
 reads_conjunction h = reads_level AND [] (AND ∷ with_comparisons) refl refl refl refl (reads_compared h)
 
-pub reads_disjunction : {room : ℕ} {T P : Form Expr} {p : Reader Expr} → Operands room T P p → Reads room (disjunction T) (disjunction P) (read_disjunction p) starting going_on
+pub reads_disjunction : {room : ℕ} {T P : Form Expr} {p : Reader Expr} → Operands room T P p
+    → Reads room (disjunction T) (disjunction P) (read_disjunction p) starting going_on
 reads_disjunction h = reads_level OR [] going_on refl refl refl refl (reads_conjunction h)
 
 -- ---- operands
@@ -58,7 +71,9 @@ abbrev Lower : ℕ → Form Expr → Form Expr → Option (Reader Expr) → Type
 Lower room T P inner = Deeper room T P inner starting going
 
 inhabited_level : (n : ℕ) (ns : List ℕ) (T : Form Expr) → Inhabited T → Inhabited (level (n ∷ ns) T)
-inhabited_level n ns T full = inhabited_made chain_of (T ▸ many (member (n ∷ ns) T)) (inhabited_both T (many (member (n ∷ ns) T)) full (inhabited_many (member (n ∷ ns) T)))
+inhabited_level n ns T full =
+    inhabited_made chain_of (T ▸ many (member (n ∷ ns) T))
+    (inhabited_both T (many (member (n ∷ ns) T)) full (inhabited_many (member (n ∷ ns) T)))
 
 inhabited_disjunction : (T : Form Expr) → Inhabited T → Inhabited (disjunction T)
 inhabited_disjunction T full =
@@ -70,19 +85,27 @@ inhabited_disjunction T full =
     (inhabited_perhaps (member comparisons S)))))
 
 inhabited_pair : (T : Form Expr) → Inhabited T → Inhabited (T ◂ COMMA ▸ T)
-inhabited_pair T full = inhabited_both (T ◂ COMMA) T (inhabited_made first_of (T ▸ the COMMA) (inhabited_both T (the COMMA) full (inhabited_one (among (COMMA ∷ [])) (token_of COMMA) (token_among COMMA [])))) full
+inhabited_pair T full =
+    inhabited_both (T ◂ COMMA) T (inhabited_made first_of (T ▸ the COMMA)
+    (inhabited_both T (the COMMA) full (inhabited_one (among (COMMA ∷ [])) (token_of COMMA) (token_among COMMA [])))) full
 
-reads_pair : {room : ℕ} {T P : Form Expr} {p : Reader Expr} → Reads room T P p starting going_on → Reads room (T ◂ COMMA ▸ T) (P ◂ COMMA ▸ P) (read_pair p) starting going_on
+reads_pair : {room : ℕ} {T P : Form Expr} {p : Reader Expr} → Reads room T P p starting going_on
+    → Reads room (T ◂ COMMA ▸ T) (P ◂ COMMA ▸ P) (read_pair p) starting going_on
 reads_pair h = reads_both (reads_mark COMMA refl h) h refl
 
-reads_place : (room : ℕ) (T P : Form Expr) (inner : Option (Reader Expr)) → Lower room T P inner → Reads room (place_in (disjunction T)) (place_in (disjunction P)) (read_place inner) (OPEN_BRACKET ∷ []) []
+reads_place : (room : ℕ) (T P : Form Expr) (inner : Option (Reader Expr)) → Lower room T P inner
+    → Reads room (place_in (disjunction T)) (place_in (disjunction P)) (read_place inner) (OPEN_BRACKET ∷ []) []
 unfolding read_place
 reads_place room T P inner h =
     reads_mark CLOSE_BRACKET refl (reads_opened room OPEN_BRACKET (option_map (λ p. read_pair (read_disjunction p)) inner)
-    (inside_with room T P (disjunction T ◂ COMMA ▸ disjunction T) (disjunction P ◂ COMMA ▸ disjunction P) (λ p. read_pair (read_disjunction p)) inner going_on
-    (λ full. inhabited_pair (disjunction T) (inhabited_disjunction T full)) (λ r p k. let m = reads_pair (reads_disjunction k) in (m.sound, m.complete)) h))
+    (inside_with room T P (disjunction T ◂ COMMA ▸ disjunction T) (disjunction P ◂ COMMA ▸ disjunction P)
+    (λ p. read_pair (read_disjunction p)) inner going_on
+    (λ full. inhabited_pair (disjunction T) (inhabited_disjunction T full))
+    (λ r p k. let m = reads_pair (reads_disjunction k) in (m.sound, m.complete)) h))
 
-reads_group : (room : ℕ) (T P : Form Expr) (inner : Option (Reader Expr)) → Lower room T P inner → Reads room (Opened (among (OPEN_PAREN ∷ [])) (disjunction T) ◂ CLOSE_PAREN) (Opened (among (OPEN_PAREN ∷ [])) (disjunction P) ◂ CLOSE_PAREN) (read_group inner) (OPEN_PAREN ∷ []) []
+reads_group : (room : ℕ) (T P : Form Expr) (inner : Option (Reader Expr)) → Lower room T P inner
+    → Reads room (Opened (among (OPEN_PAREN ∷ [])) (disjunction T) ◂ CLOSE_PAREN)
+    (Opened (among (OPEN_PAREN ∷ [])) (disjunction P) ◂ CLOSE_PAREN) (read_group inner) (OPEN_PAREN ∷ []) []
 unfolding read_group
 reads_group room T P inner h =
     reads_mark CLOSE_PAREN refl (reads_opened room OPEN_PAREN (option_map read_disjunction inner)
@@ -90,7 +113,8 @@ reads_group room T P inner h =
     (λ full. inhabited_disjunction T full) (λ r p k. let m = reads_disjunction k in (m.sound, m.complete)) h))
 
 -- an operand after a minus or a `not`
-reads_inner : (n room : ℕ) (T P : Form Expr) (inner : Option (Reader Expr)) → Lower room T P inner → Reads room (Opened (among (n ∷ [])) T) (Opened (among (n ∷ [])) P) (read_opened (among (n ∷ [])) inner) (n ∷ []) going
+reads_inner : (n room : ℕ) (T P : Form Expr) (inner : Option (Reader Expr)) → Lower room T P inner
+    → Reads room (Opened (among (n ∷ [])) T) (Opened (among (n ∷ [])) P) (read_opened (among (n ∷ [])) inner) (n ∷ []) going
 reads_inner n room T P inner h = reads_opened room n inner (same room inner h)
   where
     same : (room : ℕ) (inner : Option (Reader Expr)) → Lower room T P inner → Inside room T P inner going
@@ -99,15 +123,22 @@ reads_inner n room T P inner h = reads_opened room n inner (same room inner h)
     same (suc room) None h = absurd h
     same (suc room) (Some p) h = (h.inhabited, h.sound, h.complete)
 
-reads_named : (room : ℕ) (T P : Form Expr) (text : Text) (inner : Option (Reader Expr)) → Lower room T P inner → Reads room (Made (named_of text) (the NAME ▸ perhaps (place_in (disjunction T)))) (Made (named_of text) (the NAME ▸ perhaps (place_in (disjunction P)))) (read_named text inner) (NAME ∷ []) going
+reads_named : (room : ℕ) (T P : Form Expr) (text : Text) (inner : Option (Reader Expr)) → Lower room T P inner
+    → Reads room (Made (named_of text) (the NAME ▸ perhaps (place_in (disjunction T))))
+    (Made (named_of text) (the NAME ▸ perhaps (place_in (disjunction P)))) (read_named text inner) (NAME ∷ []) going
 unfolding read_named
-reads_named room T P text inner h = reads_made (named_of text) (reads_more going (reads_the NAME) (reads_perhaps (reads_place room T P inner h)) refl refl refl refl)
+reads_named room T P text inner h =
+    reads_made (named_of text) (reads_more going (reads_the NAME) (reads_perhaps (reads_place room T P inner h)) refl refl refl refl)
 
-reads_rows : {room : ℕ} (text : Text) → Reads room (Made (rows_of text) (the ROWS ◂ OPEN_PAREN ▸ the NAME ◂ CLOSE_PAREN)) (Made (rows_of text) (the ROWS ◂ OPEN_PAREN ▸ the NAME ◂ CLOSE_PAREN)) (read_rows text) (ROWS ∷ []) []
+reads_rows : {room : ℕ} (text : Text)
+    → Reads room (Made (rows_of text) (the ROWS ◂ OPEN_PAREN ▸ the NAME ◂ CLOSE_PAREN))
+    (Made (rows_of text) (the ROWS ◂ OPEN_PAREN ▸ the NAME ◂ CLOSE_PAREN)) (read_rows text) (ROWS ∷ []) []
 unfolding read_rows
-reads_rows text = reads_made (rows_of text) (reads_mark CLOSE_PAREN refl (reads_both (reads_mark OPEN_PAREN refl (reads_the ROWS)) (reads_the NAME) refl))
+reads_rows text =
+    reads_made (rows_of text) (reads_mark CLOSE_PAREN refl (reads_both (reads_mark OPEN_PAREN refl (reads_the ROWS)) (reads_the NAME) refl))
 
-reads_operand : (room : ℕ) (T P : Form Expr) (text : Text) (inner : Option (Reader Expr)) → Lower room T P inner → Operands room (operand text T) (operand text P) (read_operand text inner)
+reads_operand : (room : ℕ) (T P : Form Expr) (text : Text) (inner : Option (Reader Expr)) → Lower room T P inner
+    → Operands room (operand text T) (operand text P) (read_operand text inner)
 unfolding read_operand
 reads_operand room T P text inner h =
     reads_either starting (reads_made Neg (reads_inner SUB room T P inner h))
@@ -116,20 +147,28 @@ reads_operand room T P text inner h =
     (reads_either (NAME ∷ REG ∷ SELF ∷ ROWS ∷ OPEN_PAREN ∷ []) (reads_named room T P text inner h)
     (reads_either (REG ∷ SELF ∷ ROWS ∷ OPEN_PAREN ∷ []) (wide (reads_made (reg_of text) (reads_the REG)))
     (reads_either (SELF ∷ ROWS ∷ OPEN_PAREN ∷ []) (wide (reads_made me_of (reads_the SELF)))
-    (reads_either (ROWS ∷ OPEN_PAREN ∷ []) (wide (reads_rows text)) (wide (reads_group room T P inner h)) refl refl refl) refl refl refl) refl refl refl) refl refl refl) refl refl refl) refl refl refl) refl refl refl
+    (reads_either (ROWS ∷ OPEN_PAREN ∷ []) (wide (reads_rows text)) (wide (reads_group room T P inner h)) refl refl refl) refl refl refl)
+    refl refl refl) refl refl refl) refl refl refl) refl refl refl) refl refl refl
   where
     wide : {room : ℕ} {U Q : Form Expr} {q : Reader Expr} {first : List ℕ} → Reads room U Q q first [] → Reads room U Q q first going
     wide k = reads_wider going refl k
 
 inhabited_operand : (T : Form Expr) (text : Text) → Inhabited (operand text T)
-inhabited_operand T text = λ depth. let n = inhabited_one (among (NUM ∷ [])) (token_of NUM) (token_among NUM []) depth in (n.0, num_of n.1, inr (inr (inl (record { from = n.1; is = refl; stands = n.2 }))))
+inhabited_operand T text =
+    λ depth. let n = inhabited_one (among (NUM ∷ [])) (token_of NUM) (token_among NUM []) depth in
+    (n.0, num_of n.1, inr (inr (inl (record { from = n.1; is = refl; stands = n.2 }))))
 
 pub reads_unary : (text : Text) (room height : ℕ) → Operands room (unary text (suc (suc room))) (unary text height) (read_unary text room)
 unfolding read_unary
 reads_unary text zero zero = reads_shut (reads_operand zero (unary text 1) (unary text 0) text None (inhabited_operand (unary text 0) text))
 reads_unary text zero (suc height) = reads_operand zero (unary text 1) (unary text height) text None (inhabited_operand (unary text 0) text)
-reads_unary text (suc room) zero = reads_shut (reads_operand (suc room) (unary text (suc (suc room))) (unary text 0) text (Some (read_unary text room)) (reads_unary text room 0))
-reads_unary text (suc room) (suc height) = reads_operand (suc room) (unary text (suc (suc room))) (unary text height) text (Some (read_unary text room)) (reads_unary text room height)
+reads_unary text (suc room) zero =
+    reads_shut (reads_operand (suc room) (unary text (suc (suc room))) (unary text 0) text (Some (read_unary text room))
+    (reads_unary text room 0))
+reads_unary text (suc room) (suc height) =
+    reads_operand (suc room) (unary text (suc (suc room))) (unary text height) text (Some (read_unary text room))
+    (reads_unary text room height)
 
-pub reads_expression : (text : Text) (room height : ℕ) → Reads room (expression text (suc (suc room))) (expression text height) (read_expression text room) starting going_on
+pub reads_expression : (text : Text) (room height : ℕ)
+    → Reads room (expression text (suc (suc room))) (expression text height) (read_expression text room) starting going_on
 reads_expression text room height = reads_disjunction (reads_unary text room height)

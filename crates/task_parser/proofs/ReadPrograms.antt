@@ -18,9 +18,12 @@ use Rattle.task_parser.proofs.Loop.{shortens_reads}
 use Rattle.task_parser.proofs.Many.{Shortens}
 use Rattle.task_parser.proofs.ReadStatements.{Plain, reads_statement}
 
-reads_sized : {room : ℕ} (word : ℕ) → Plain room (the word ▸ the NAME ◂ OPEN_BRACKET ▸ the NUM ◂ CLOSE_BRACKET) (read_sized word) (word ∷ [])
+reads_sized : {room : ℕ} (word : ℕ)
+    → Plain room (the word ▸ the NAME ◂ OPEN_BRACKET ▸ the NUM ◂ CLOSE_BRACKET) (read_sized word) (word ∷ [])
 unfolding read_sized
-reads_sized word = reads_mark CLOSE_BRACKET refl (reads_both (reads_mark OPEN_BRACKET refl (reads_both (reads_the word) (reads_the NAME) refl)) (reads_the NUM) refl)
+reads_sized word =
+    reads_mark CLOSE_BRACKET refl (reads_both
+    (reads_mark OPEN_BRACKET refl (reads_both (reads_the word) (reads_the NAME) refl)) (reads_the NUM) refl)
 
 reads_lock_head : {room : ℕ} (text : Text) → Plain room (lock_head text) (read_lock_head text) (LOCK ∷ [])
 unfolding read_lock_head
@@ -28,7 +31,10 @@ reads_lock_head text = reads_made (lock_head_of text) (reads_mark SEMICOLON refl
 
 reads_barrier_head : {room : ℕ} (text : Text) → Plain room (barrier_head text) (read_barrier_head text) (BARRIER ∷ [])
 unfolding read_barrier_head
-reads_barrier_head text = reads_made (barrier_head_of text) (reads_mark SEMICOLON refl (reads_mark CLOSE_PAREN refl (reads_both (reads_mark OPEN_PAREN refl (reads_both (reads_the BARRIER) (reads_the NAME) refl)) (reads_the NUM) refl)))
+reads_barrier_head text =
+    reads_made (barrier_head_of text) (reads_mark SEMICOLON refl
+    (reads_mark CLOSE_PAREN refl (reads_both
+    (reads_mark OPEN_PAREN refl (reads_both (reads_the BARRIER) (reads_the NAME) refl)) (reads_the NUM) refl)))
 
 reads_from_file : {room : ℕ} (text : Text) → MayRead room (from_file text) (from_file text) (read_from_file text) (FROM ∷ []) []
 unfolding read_from_file
@@ -37,25 +43,35 @@ reads_from_file text = may_read_made (file_in text) (reads_perhaps (reads_after 
 reads_record_head : {room : ℕ} (text : Text) → Plain room (record_head text) (read_record_head text) (RECORD ∷ [])
 unfolding read_record_head
 reads_record_head text =
-    reads_made (record_head_of text) (reads_mark SEMICOLON refl (reads_more (FROM ∷ []) (reads_both (reads_mark BY refl (reads_sized RECORD)) (reads_the NAME) refl) (reads_from_file text) refl refl refl refl))
+    reads_made (record_head_of text) (reads_mark SEMICOLON refl
+    (reads_more (FROM ∷ []) (reads_both (reads_mark BY refl (reads_sized RECORD)) (reads_the NAME) refl)
+    (reads_from_file text) refl refl refl refl))
 
 reads_feed_head : {room : ℕ} (text : Text) → Plain room (feed_head text) (read_feed_head text) (FEED ∷ [])
 unfolding read_feed_head
 reads_feed_head text =
-    reads_made (feed_head_of text) (reads_mark SEMICOLON refl (reads_both (reads_mark FROM refl (reads_sized FEED)) (reads_the QUOTED) refl))
+    reads_made (feed_head_of text) (reads_mark SEMICOLON refl
+    (reads_both (reads_mark FROM refl (reads_sized FEED)) (reads_the QUOTED) refl))
 
 pub reads_head : {room : ℕ} (text : Text) → Plain room (head text) (read_head text) head_starts
 unfolding read_head
-reads_head text = reads_either head_starts (reads_lock_head text) (reads_either (BARRIER ∷ RECORD ∷ FEED ∷ []) (reads_barrier_head text) (reads_either (RECORD ∷ FEED ∷ []) (reads_record_head text) (reads_feed_head text) refl refl refl) refl refl refl) refl refl refl
+reads_head text =
+    reads_either head_starts (reads_lock_head text)
+    (reads_either (BARRIER ∷ RECORD ∷ FEED ∷ []) (reads_barrier_head text)
+    (reads_either (RECORD ∷ FEED ∷ []) (reads_record_head text) (reads_feed_head text) refl refl refl) refl refl refl) refl refl refl
 
 pub reads_param : {room : ℕ} (text : Text) → Plain room (param text) (read_param text) param_starts
 unfolding read_param
-reads_param text = reads_either param_starts (reads_made (ctl_param text) (reads_the NAME)) (reads_made (reg_param text) (reads_the REG)) refl refl refl
+reads_param text =
+    reads_either param_starts (reads_made (ctl_param text) (reads_the NAME)) (reads_made (reg_param text) (reads_the REG)) refl refl refl
 
-reads_params : {room : ℕ} (text : Text) → Reads room (separated COMMA (param text)) (separated COMMA (param text)) (read_separated COMMA (read_param text)) param_starts (COMMA ∷ [])
+reads_params : {room : ℕ} (text : Text)
+    → Reads room (separated COMMA (param text)) (separated COMMA (param text))
+    (read_separated COMMA (read_param text)) param_starts (COMMA ∷ [])
 reads_params text = reads_separated COMMA (COMMA ∷ []) refl refl refl refl (reads_param text)
 
-reads_list : {room : ℕ} (text : Text) → MayRead room (listed_in (param text)) (listed_in (param text)) (read_list param_starts (read_param text)) param_starts (COMMA ∷ [])
+reads_list : {room : ℕ} (text : Text)
+    → MayRead room (listed_in (param text)) (listed_in (param text)) (read_list param_starts (read_param text)) param_starts (COMMA ∷ [])
 unfolding read_list
 reads_list text = may_read_made or_empty (reads_perhaps (reads_params text))
 
@@ -63,36 +79,49 @@ pub reads_var_line : {room : ℕ} (text : Text) → Plain room (var_line text) (
 unfolding read_var_line
 reads_var_line text = reads_made var_line_of (reads_mark SEMICOLON refl (reads_both (reads_the VAR) (reads_params text) refl))
 
-pub reads_task : (text : Text) (room height : ℕ) → Reads room (task text (suc (suc room))) (task text height) (read_task text room) (TASK ∷ []) []
+pub reads_task : (text : Text) (room height : ℕ)
+    → Reads room (task text (suc (suc room))) (task text height) (read_task text room) (TASK ∷ []) []
 unfolding read_task
 reads_task text room height =
     let named = reads_mark OPEN_PAREN refl (reads_both (reads_the TASK) (reads_the NAME) refl) in
-    let headed = reads_mark OPEN_BRACE refl (reads_mark CLOSE_PAREN refl (reads_more (NAME ∷ REG ∷ COMMA ∷ []) named (reads_list text) refl refl refl refl)) in
+    let headed =
+    reads_mark OPEN_BRACE refl (reads_mark CLOSE_PAREN refl
+    (reads_more (NAME ∷ REG ∷ COMMA ∷ []) named (reads_list text) refl refl refl refl)) in
     let declared = reads_more (VAR ∷ []) headed (reads_many (reads_var_line text) refl) refl refl refl refl in
-    reads_made (task_of text) (reads_mark CLOSE_BRACE refl (reads_more (VAR ∷ ELSE ∷ statement_starts) declared (may_read_made block (reads_many (reads_statement text room height) refl)) refl refl refl refl))
+    reads_made (task_of text) (reads_mark CLOSE_BRACE refl
+    (reads_more (VAR ∷ ELSE ∷ statement_starts) declared
+    (may_read_made block (reads_many (reads_statement text room height) refl)) refl refl refl refl))
 
 -- ---- programs
 
-reads_tasks : (text : Text) (room height : ℕ) → Reads room (some (task text (suc (suc room)))) (some (task text height)) (read_some (among (TASK ∷ [])) (read_task text room)) (TASK ∷ []) (TASK ∷ [])
+reads_tasks : (text : Text) (room height : ℕ)
+    → Reads room (some (task text (suc (suc room)))) (some (task text height))
+    (read_some (among (TASK ∷ [])) (read_task text room)) (TASK ∷ []) (TASK ∷ [])
 reads_tasks text room height = reads_some (TASK ∷ []) refl refl refl (reads_task text room height)
 
 pub sound_program : (text : Text) (room : ℕ) → Sound room (program text (suc (suc room))) (read_program text room)
 unfolding read_program
 sound_program text room =
-    let h : MayRead room (many (head text)) (many (head text)) (repeat (among head_starts) (read_head text)) head_starts [] = reads_many (reads_head text) refl in
+    let h : MayRead room (many (head text)) (many (head text)) (repeat (among head_starts) (read_head text)) head_starts [] =
+    reads_many (reads_head text) refl in
     let t = reads_tasks text room 0 in
     let T : Form (List TaskText) = some (task text (suc (suc room))) in
-    sound_made room program_from (Both (many (head text)) T) (read_both (repeat (among head_starts) (read_head text)) (read_some (among (TASK ∷ [])) (read_task text room)))
-    (sound_both room (many (head text)) T (repeat (among head_starts) (read_head text)) (read_some (among (TASK ∷ [])) (read_task text room)) h.sound t.sound t.inhabited)
+    sound_made room program_from (Both (many (head text)) T)
+    (read_both (repeat (among head_starts) (read_head text)) (read_some (among (TASK ∷ [])) (read_task text room)))
+    (sound_both room (many (head text)) T (repeat (among head_starts) (read_head text))
+    (read_some (among (TASK ∷ [])) (read_task text room)) h.sound t.sound t.inhabited)
 
 pub complete_program : (text : Text) (room height : ℕ) → Complete room (program text height) (among (TASK ∷ [])) (read_program text room)
 unfolding read_program
 complete_program text room height =
-    let h : MayRead room (many (head text)) (many (head text)) (repeat (among head_starts) (read_head text)) head_starts [] = reads_many (reads_head text) refl in
+    let h : MayRead room (many (head text)) (many (head text)) (repeat (among head_starts) (read_head text)) head_starts [] =
+    reads_many (reads_head text) refl in
     let t = reads_tasks text room height in
     let T : Form (List TaskText) = some (task text height) in
-    complete_made room program_from (Both (many (head text)) T) (among (TASK ∷ [])) (read_both (repeat (among head_starts) (read_head text)) (read_some (among (TASK ∷ [])) (read_task text room)))
-    (complete_both room (many (head text)) T (among head_starts) (among (TASK ∷ [])) (repeat (among head_starts) (read_head text)) (read_some (among (TASK ∷ [])) (read_task text room)) (h.complete head_starts refl refl) t.complete
+    complete_made room program_from (Both (many (head text)) T) (among (TASK ∷ []))
+    (read_both (repeat (among head_starts) (read_head text)) (read_some (among (TASK ∷ [])) (read_task text room)))
+    (complete_both room (many (head text)) T (among head_starts) (among (TASK ∷ [])) (repeat (among head_starts) (read_head text))
+    (read_some (among (TASK ∷ [])) (read_task text room)) (h.complete head_starts refl refl) t.complete
     (parted_starts (among (TASK ∷ [])) (among head_starts) (among (TASK ∷ [])) T t.starts (apart (TASK ∷ []) head_starts refl)))
 
 -- ---- what is read of a list leaves less

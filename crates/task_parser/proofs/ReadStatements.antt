@@ -1,4 +1,6 @@
--- Statements are read exactly.
+-- Statements are read exactly. Each statement is a form by the words of the grammar, so each has one lemma by Forms,
+-- with the words that it may begin with. What a block holds is read with one less of the room for nesting, and by no
+-- reader where no room is left; the two main lemmas go by recursion on that room.
 use Rattle.std.proofs.Common.{◌≡◌, ℕ, zero, suc, true, List, [], ◌∷◌, Option, Some, None, option_map, refl, inl, inr}
 use Rattle.task_ast.specs.Tree.{Expr, Stmt, block}
 use Rattle.task_parser.specs.declared.classes.TheConstants.{NUM, NAME, REG, LOCK, UNLOCK, BARRIER, WHILE, IF, ELSE, FORK, INTO, JOIN, READ, WRITE, PRINT, WHEN, SETTLE, NOT, SELF, ROWS, OPEN_BRACKET, CLOSE_BRACKET, OPEN_PAREN, CLOSE_PAREN, OPEN_BRACE, CLOSE_BRACE, COMMA, SEMICOLON, ASSIGN}
@@ -30,11 +32,15 @@ Plain room P p first = Reads room P P p first []
 
 pub reads_atom : {room : ℕ} (text : Text) → Plain room (atom text) (read_atom text) (NUM ∷ NAME ∷ [])
 unfolding read_atom
-reads_atom text = reads_either (NUM ∷ NAME ∷ []) (reads_made number_atom (reads_the NUM)) (reads_made (name_atom text) (reads_the NAME)) refl refl refl
+reads_atom text =
+    reads_either (NUM ∷ NAME ∷ []) (reads_made number_atom (reads_the NUM)) (reads_made (name_atom text) (reads_the NAME)) refl refl refl
 
-reads_indexed : {room : ℕ} (text : Text) (word : ℕ) → Plain room (the word ▸ the NAME ◂ OPEN_BRACKET ▸ atom text ◂ CLOSE_BRACKET) (read_indexed text word) (word ∷ [])
+reads_indexed : {room : ℕ} (text : Text) (word : ℕ)
+    → Plain room (the word ▸ the NAME ◂ OPEN_BRACKET ▸ atom text ◂ CLOSE_BRACKET) (read_indexed text word) (word ∷ [])
 unfolding read_indexed
-reads_indexed text word = reads_mark CLOSE_BRACKET refl (reads_both (reads_mark OPEN_BRACKET refl (reads_both (reads_the word) (reads_the NAME) refl)) (reads_atom text) refl)
+reads_indexed text word =
+    reads_mark CLOSE_BRACKET refl (reads_both
+    (reads_mark OPEN_BRACKET refl (reads_both (reads_the word) (reads_the NAME) refl)) (reads_atom text) refl)
 
 -- ---- blocks
 
@@ -48,16 +54,20 @@ record Closes (starts : List ℕ) : Type 0 where
   covered : subset starts (ELSE ∷ starts) ≡ true
   closed : disjoint (CLOSE_BRACE ∷ []) (ELSE ∷ starts) ≡ true
 
-reads_block : (room : ℕ) (T P : Form Stmt) (inner : Option (Reader Stmt)) (starts : List ℕ) → Closes starts → Nested room T P inner starts → Reads room (block_of T) (block_of P) (read_block starts inner) (OPEN_BRACE ∷ []) []
+reads_block : (room : ℕ) (T P : Form Stmt) (inner : Option (Reader Stmt)) (starts : List ℕ) → Closes starts → Nested room T P inner starts
+    → Reads room (block_of T) (block_of P) (read_block starts inner) (OPEN_BRACE ∷ []) []
 unfolding read_block
 reads_block room T P inner starts k h =
     reads_mark CLOSE_BRACE k.closed (reads_opened room OPEN_BRACE (option_map (read_inner_block starts) inner)
     (inside_with room T P (Made block (many T)) (Made block (many P)) (read_inner_block starts) inner (ELSE ∷ starts)
-    (λ full. inhabited_made block (many T) (inhabited_many T)) (λ r s reads. let m = may_read_made block (reads_many reads k.apart) in (m.sound, m.complete (ELSE ∷ starts) refl k.covered)) h))
+    (λ full. inhabited_made block (many T) (inhabited_many T))
+    (λ r s reads. let m = may_read_made block (reads_many reads k.apart) in (m.sound, m.complete (ELSE ∷ starts) refl k.covered)) h))
 
-reads_else : (room : ℕ) (T P : Form Stmt) (inner : Option (Reader Stmt)) (starts : List ℕ) → Closes starts → Nested room T P inner starts → MayRead room (else_block T) (else_block P) (read_else starts inner) (ELSE ∷ []) []
+reads_else : (room : ℕ) (T P : Form Stmt) (inner : Option (Reader Stmt)) (starts : List ℕ) → Closes starts → Nested room T P inner starts
+    → MayRead room (else_block T) (else_block P) (read_else starts inner) (ELSE ∷ []) []
 unfolding read_else
-reads_else room T P inner starts k h = may_read_made or_nothing (reads_perhaps (reads_after ELSE refl (reads_block room T P inner starts k h)))
+reads_else room T P inner starts k h =
+    may_read_made or_nothing (reads_perhaps (reads_after ELSE refl (reads_block room T P inner starts k h)))
 
 data_closes : Closes data_starts
 data_closes = record { apart = refl; covered = refl; closed = refl }
@@ -67,63 +77,95 @@ closes = record { apart = refl; covered = refl; closed = refl }
 
 -- ---- data statements
 
-reads_set_reg : {room : ℕ} {T P : Form Expr} {p : Reader Expr} (text : Text) → Expressions room T P p → Reads room (set_reg text T) (set_reg text P) (read_set_reg text p) (REG ∷ []) []
+reads_set_reg : {room : ℕ} {T P : Form Expr} {p : Reader Expr} (text : Text) → Expressions room T P p
+    → Reads room (set_reg text T) (set_reg text P) (read_set_reg text p) (REG ∷ []) []
 unfolding read_set_reg
 reads_set_reg text e = reads_made (set_reg_of text) (reads_mark SEMICOLON refl (reads_both (reads_mark ASSIGN refl (reads_the REG)) e refl))
 
 reads_reading : {room : ℕ} (text : Text) → Plain room (reading text) (read_reading text) (READ ∷ [])
 unfolding read_reading
-reads_reading text = reads_made (read_of text) (reads_mark SEMICOLON refl (reads_both (reads_mark INTO refl (reads_indexed text READ)) (reads_the REG) refl))
+reads_reading text =
+    reads_made (read_of text) (reads_mark SEMICOLON refl (reads_both (reads_mark INTO refl (reads_indexed text READ)) (reads_the REG) refl))
 
-reads_writing : {room : ℕ} {T P : Form Expr} {p : Reader Expr} (text : Text) → Expressions room T P p → Reads room (writing text T) (writing text P) (read_writing text p) (WRITE ∷ []) []
+reads_writing : {room : ℕ} {T P : Form Expr} {p : Reader Expr} (text : Text) → Expressions room T P p
+    → Reads room (writing text T) (writing text P) (read_writing text p) (WRITE ∷ []) []
 unfolding read_writing
-reads_writing text e = reads_made (write_of text) (reads_mark SEMICOLON refl (reads_both (reads_mark ASSIGN refl (reads_indexed text WRITE)) e refl))
+reads_writing text e =
+    reads_made (write_of text) (reads_mark SEMICOLON refl (reads_both (reads_mark ASSIGN refl (reads_indexed text WRITE)) e refl))
 
-reads_exprs : {room : ℕ} {T P : Form Expr} {p : Reader Expr} → Expressions room T P p → Reads room (separated COMMA T) (separated COMMA P) (read_separated COMMA p) starting (COMMA ∷ going_on)
+reads_exprs : {room : ℕ} {T P : Form Expr} {p : Reader Expr} → Expressions room T P p
+    → Reads room (separated COMMA T) (separated COMMA P) (read_separated COMMA p) starting (COMMA ∷ going_on)
 reads_exprs e = reads_separated COMMA (COMMA ∷ going_on) refl refl refl refl e
 
-reads_printing : {room : ℕ} {T P : Form Expr} {p : Reader Expr} → Expressions room T P p → Reads room (printing T) (printing P) (read_printing p) (PRINT ∷ []) []
+reads_printing : {room : ℕ} {T P : Form Expr} {p : Reader Expr} → Expressions room T P p
+    → Reads room (printing T) (printing P) (read_printing p) (PRINT ∷ []) []
 unfolding read_printing
 reads_printing e = reads_made print_of (reads_mark SEMICOLON refl (reads_both (reads_the PRINT) (reads_exprs e) refl))
 
-reads_choosing : {T P : Form Expr} {p : Reader Expr} (room : ℕ) (U Q : Form Stmt) (inner : Option (Reader Stmt)) → Expressions room T P p → Nested room U Q inner data_starts → Reads room (choosing T U) (choosing P Q) (read_choosing p inner) (WHEN ∷ []) (ELSE ∷ [])
+reads_choosing : {T P : Form Expr} {p : Reader Expr} (room : ℕ) (U Q : Form Stmt) (inner : Option (Reader Stmt)) → Expressions room T P p
+    → Nested room U Q inner data_starts → Reads room (choosing T U) (choosing P Q) (read_choosing p inner) (WHEN ∷ []) (ELSE ∷ [])
 unfolding read_choosing
-reads_choosing room U Q inner e h = reads_made when_of (reads_more (ELSE ∷ []) (reads_both (reads_both (reads_the WHEN) e refl) (reads_block room U Q inner data_starts data_closes h) refl) (reads_else room U Q inner data_starts data_closes h) refl refl refl refl)
+reads_choosing room U Q inner e h =
+    reads_made when_of (reads_more (ELSE ∷ [])
+    (reads_both (reads_both (reads_the WHEN) e refl) (reads_block room U Q inner data_starts data_closes h) refl)
+    (reads_else room U Q inner data_starts data_closes h) refl refl refl refl)
 
 wide : {room : ℕ} {U Q : Form Stmt} {q : Reader Stmt} {first : List ℕ} → Reads room U Q q first [] → Reads room U Q q first (ELSE ∷ [])
 wide k = reads_wider (ELSE ∷ []) refl k
 
-reads_data_form : {T P : Form Expr} {p : Reader Expr} (text : Text) (room : ℕ) (U Q : Form Stmt) (inner : Option (Reader Stmt)) → Expressions room T P p → Nested room U Q inner data_starts → Reads room (data_form text T U) (data_form text P Q) (read_data_form text p inner) data_starts (ELSE ∷ [])
+reads_data_form : {T P : Form Expr} {p : Reader Expr} (text : Text) (room : ℕ) (U Q : Form Stmt) (inner : Option (Reader Stmt))
+    → Expressions room T P p → Nested room U Q inner data_starts
+    → Reads room (data_form text T U) (data_form text P Q) (read_data_form text p inner) data_starts (ELSE ∷ [])
 unfolding read_data_form
 reads_data_form text room U Q inner e h =
     reads_either data_starts (wide (reads_set_reg text e))
     (reads_either (READ ∷ WRITE ∷ PRINT ∷ WHEN ∷ []) (wide (reads_reading text))
     (reads_either (WRITE ∷ PRINT ∷ WHEN ∷ []) (wide (reads_writing text e))
-    (reads_either (PRINT ∷ WHEN ∷ []) (wide (reads_printing e)) (reads_choosing room U Q inner e h) refl refl refl) refl refl refl) refl refl refl) refl refl refl
+    (reads_either (PRINT ∷ WHEN ∷ []) (wide (reads_printing e)) (reads_choosing room U Q inner e h) refl refl refl) refl refl refl) refl
+    refl refl) refl refl refl
 
 inhabited_data : (text : Text) (height : ℕ) → Inhabited (data_statement text (suc height))
-inhabited_data text height = λ depth. let r : Plain 0 (reading text) (read_reading text) (READ ∷ []) = reads_reading text in let a = r.inhabited depth in (a.0, a.1, inr (inl a.2))
+inhabited_data text height =
+    λ depth. let r : Plain 0 (reading text) (read_reading text) (READ ∷ []) = reads_reading text in let a = r.inhabited depth in
+    (a.0, a.1, inr (inl a.2))
 
-pub reads_data_statement : (text : Text) (room height : ℕ) → Reads room (data_statement text (suc (suc room))) (data_statement text height) (read_data_statement text room) data_starts (ELSE ∷ [])
+pub reads_data_statement : (text : Text) (room height : ℕ)
+    → Reads room (data_statement text (suc (suc room))) (data_statement text height) (read_data_statement text room) data_starts (ELSE ∷ [])
 unfolding read_data_statement
-reads_data_statement text zero zero = reads_shut (reads_data_form text zero (data_statement text 1) (data_statement text 0) None (reads_expression text 0 0) (inhabited_data text 0))
-reads_data_statement text zero (suc height) = reads_data_form text zero (data_statement text 1) (data_statement text height) None (reads_expression text 0 (suc height)) (inhabited_data text 0)
-reads_data_statement text (suc room) zero = reads_shut (reads_data_form text (suc room) (data_statement text (suc (suc room))) (data_statement text 0) (Some (read_data_statement text room)) (reads_expression text (suc room) 0) (reads_data_statement text room 0))
-reads_data_statement text (suc room) (suc height) = reads_data_form text (suc room) (data_statement text (suc (suc room))) (data_statement text height) (Some (read_data_statement text room)) (reads_expression text (suc room) (suc height)) (reads_data_statement text room height)
+reads_data_statement text zero zero =
+    reads_shut (reads_data_form text zero (data_statement text 1) (data_statement text 0) None (reads_expression text 0 0)
+    (inhabited_data text 0))
+reads_data_statement text zero (suc height) =
+    reads_data_form text zero (data_statement text 1) (data_statement text height) None
+    (reads_expression text 0 (suc height)) (inhabited_data text 0)
+reads_data_statement text (suc room) zero =
+    reads_shut (reads_data_form text (suc room) (data_statement text (suc (suc room))) (data_statement text 0)
+    (Some (read_data_statement text room)) (reads_expression text (suc room) 0) (reads_data_statement text room 0))
+reads_data_statement text (suc room) (suc height) =
+    reads_data_form text (suc room) (data_statement text (suc (suc room))) (data_statement text height)
+    (Some (read_data_statement text room)) (reads_expression text (suc room) (suc height)) (reads_data_statement text room height)
 
 -- ---- other statements
 
-reads_set_ctl : {room : ℕ} {T P : Form Expr} {p : Reader Expr} (text : Text) → Expressions room T P p → Reads room (set_ctl text T) (set_ctl text P) (read_set_ctl text p) (NAME ∷ []) []
+reads_set_ctl : {room : ℕ} {T P : Form Expr} {p : Reader Expr} (text : Text) → Expressions room T P p
+    → Reads room (set_ctl text T) (set_ctl text P) (read_set_ctl text p) (NAME ∷ []) []
 unfolding read_set_ctl
-reads_set_ctl text e = reads_made (set_ctl_of text) (reads_mark SEMICOLON refl (reads_both (reads_mark ASSIGN refl (reads_the NAME)) e refl))
+reads_set_ctl text e =
+    reads_made (set_ctl_of text) (reads_mark SEMICOLON refl (reads_both (reads_mark ASSIGN refl (reads_the NAME)) e refl))
 
-reads_looping : {T P : Form Expr} {p : Reader Expr} (room : ℕ) (U Q : Form Stmt) (inner : Option (Reader Stmt)) → Expressions room T P p → Nested room U Q inner statement_starts → Reads room (looping T U) (looping P Q) (read_looping p inner) (WHILE ∷ []) []
+reads_looping : {T P : Form Expr} {p : Reader Expr} (room : ℕ) (U Q : Form Stmt) (inner : Option (Reader Stmt)) → Expressions room T P p
+    → Nested room U Q inner statement_starts → Reads room (looping T U) (looping P Q) (read_looping p inner) (WHILE ∷ []) []
 unfolding read_looping
-reads_looping room U Q inner e h = reads_made while_of (reads_both (reads_both (reads_the WHILE) e refl) (reads_block room U Q inner statement_starts closes h) refl)
+reads_looping room U Q inner e h =
+    reads_made while_of (reads_both (reads_both (reads_the WHILE) e refl) (reads_block room U Q inner statement_starts closes h) refl)
 
-reads_branching : {T P : Form Expr} {p : Reader Expr} (room : ℕ) (U Q : Form Stmt) (inner : Option (Reader Stmt)) → Expressions room T P p → Nested room U Q inner statement_starts → Reads room (branching T U) (branching P Q) (read_branching p inner) (IF ∷ []) (ELSE ∷ [])
+reads_branching : {T P : Form Expr} {p : Reader Expr} (room : ℕ) (U Q : Form Stmt) (inner : Option (Reader Stmt)) → Expressions room T P p
+    → Nested room U Q inner statement_starts → Reads room (branching T U) (branching P Q) (read_branching p inner) (IF ∷ []) (ELSE ∷ [])
 unfolding read_branching
-reads_branching room U Q inner e h = reads_made if_of (reads_more (ELSE ∷ []) (reads_both (reads_both (reads_the IF) e refl) (reads_block room U Q inner statement_starts closes h) refl) (reads_else room U Q inner statement_starts closes h) refl refl refl refl)
+reads_branching room U Q inner e h =
+    reads_made if_of (reads_more (ELSE ∷ []) (reads_both (reads_both (reads_the IF) e refl)
+    (reads_block room U Q inner statement_starts closes h) refl)
+    (reads_else room U Q inner statement_starts closes h) refl refl refl refl)
 
 reads_locking : {room : ℕ} (text : Text) → Plain room (locking text) (read_locking text) (LOCK ∷ [])
 unfolding read_locking
@@ -133,7 +175,8 @@ reads_unlocking : {room : ℕ} (text : Text) → Plain room (unlocking text) (re
 unfolding read_unlocking
 reads_unlocking text = reads_made (unlock_of text) (reads_mark SEMICOLON refl (reads_indexed text UNLOCK))
 
-reads_list : {room : ℕ} {T P : Form Expr} {p : Reader Expr} → Expressions room T P p → MayRead room (listed_in T) (listed_in P) (read_list starting p) starting (COMMA ∷ going_on)
+reads_list : {room : ℕ} {T P : Form Expr} {p : Reader Expr} → Expressions room T P p
+    → MayRead room (listed_in T) (listed_in P) (read_list starting p) starting (COMMA ∷ going_on)
 unfolding read_list
 reads_list e = may_read_made or_empty (reads_perhaps (reads_exprs e))
 
@@ -145,16 +188,22 @@ reads_into_reg : {room : ℕ} (text : Text) → MayRead room (into_reg text) (in
 unfolding read_into_reg
 reads_into_reg text = may_read_made (reg_in text) (reads_perhaps (reads_after INTO refl (reads_the REG)))
 
-reads_forking : {room : ℕ} {T P : Form Expr} {p : Reader Expr} (text : Text) → Expressions room T P p → Reads room (forking text T) (forking text P) (read_forking text p) (FORK ∷ []) []
+reads_forking : {room : ℕ} {T P : Form Expr} {p : Reader Expr} (text : Text) → Expressions room T P p
+    → Reads room (forking text T) (forking text P) (read_forking text p) (FORK ∷ []) []
 unfolding read_forking
 reads_forking text e =
     let opened = reads_mark OPEN_PAREN refl (reads_both (reads_the FORK) (reads_the NAME) refl) in
-    let listed = reads_more (NOT ∷ NUM ∷ NAME ∷ REG ∷ SELF ∷ ROWS ∷ OPEN_PAREN ∷ COMMA ∷ going_on) opened (reads_list e) refl refl refl refl in
-    reads_made (fork_of text) (reads_mark SEMICOLON refl (reads_more (INTO ∷ []) (reads_mark CLOSE_PAREN refl listed) (reads_into_name text) refl refl refl refl))
+    let listed =
+    reads_more (NOT ∷ NUM ∷ NAME ∷ REG ∷ SELF ∷ ROWS ∷ OPEN_PAREN ∷ COMMA ∷ going_on) opened (reads_list e) refl refl refl refl in
+    reads_made (fork_of text) (reads_mark SEMICOLON refl
+    (reads_more (INTO ∷ []) (reads_mark CLOSE_PAREN refl listed) (reads_into_name text) refl refl refl refl))
 
-reads_joining : {room : ℕ} {T P : Form Expr} {p : Reader Expr} (text : Text) → Expressions room T P p → Reads room (joining text T) (joining text P) (read_joining text p) (JOIN ∷ []) []
+reads_joining : {room : ℕ} {T P : Form Expr} {p : Reader Expr} (text : Text) → Expressions room T P p
+    → Reads room (joining text T) (joining text P) (read_joining text p) (JOIN ∷ []) []
 unfolding read_joining
-reads_joining text e = reads_made join_of (reads_mark SEMICOLON refl (reads_more (INTO ∷ going_on) (reads_both (reads_the JOIN) e refl) (reads_into_reg text) refl refl refl refl))
+reads_joining text e =
+    reads_made join_of (reads_mark SEMICOLON refl
+    (reads_more (INTO ∷ going_on) (reads_both (reads_the JOIN) e refl) (reads_into_reg text) refl refl refl refl))
 
 reads_waiting : {room : ℕ} (text : Text) → Plain room (waiting text) (read_waiting text) (BARRIER ∷ [])
 unfolding read_waiting
@@ -162,9 +211,13 @@ reads_waiting text = reads_made (barrier_of text) (reads_mark SEMICOLON refl (re
 
 reads_settling : {room : ℕ} (text : Text) → Plain room (settling text) (read_settling text) (SETTLE ∷ [])
 unfolding read_settling
-reads_settling text = reads_made (settle_of text) (reads_mark SEMICOLON refl (reads_both (reads_mark INTO refl (reads_both (reads_the SETTLE) (reads_the REG) refl)) (reads_the NAME) refl))
+reads_settling text =
+    reads_made (settle_of text) (reads_mark SEMICOLON refl
+    (reads_both (reads_mark INTO refl (reads_both (reads_the SETTLE) (reads_the REG) refl)) (reads_the NAME) refl))
 
-reads_control_form : {T P : Form Expr} {p : Reader Expr} (text : Text) (room : ℕ) (U Q : Form Stmt) (inner : Option (Reader Stmt)) → Expressions room T P p → Nested room U Q inner statement_starts → Reads room (control_form text T U) (control_form text P Q) (read_control_form text p inner) control_starts (ELSE ∷ [])
+reads_control_form : {T P : Form Expr} {p : Reader Expr} (text : Text) (room : ℕ) (U Q : Form Stmt) (inner : Option (Reader Stmt))
+    → Expressions room T P p → Nested room U Q inner statement_starts
+    → Reads room (control_form text T U) (control_form text P Q) (read_control_form text p inner) control_starts (ELSE ∷ [])
 unfolding read_control_form
 reads_control_form text room U Q inner e h =
     reads_either control_starts (wide (reads_set_ctl text e))
@@ -174,20 +227,39 @@ reads_control_form text room U Q inner e h =
     (reads_either (UNLOCK ∷ FORK ∷ JOIN ∷ BARRIER ∷ SETTLE ∷ []) (wide (reads_unlocking text))
     (reads_either (FORK ∷ JOIN ∷ BARRIER ∷ SETTLE ∷ []) (wide (reads_forking text e))
     (reads_either (JOIN ∷ BARRIER ∷ SETTLE ∷ []) (wide (reads_joining text e))
-    (reads_either (BARRIER ∷ SETTLE ∷ []) (wide (reads_waiting text)) (wide (reads_settling text)) refl refl refl) refl refl refl) refl refl refl) refl refl refl) refl refl refl) refl refl refl) refl refl refl) refl refl refl
+    (reads_either (BARRIER ∷ SETTLE ∷ []) (wide (reads_waiting text)) (wide (reads_settling text)) refl refl refl) refl refl refl) refl refl
+    refl) refl refl refl) refl refl refl) refl refl refl) refl refl refl) refl refl refl
 
 inhabited_statement : (text : Text) (height : ℕ) → Inhabited (statement text (suc height))
 inhabited_statement text height = λ depth. let a = inhabited_data text height depth in (a.0, a.1, inr a.2)
 
-reads_control_or_data : {T P : Form Expr} {p : Reader Expr} (text : Text) (room : ℕ) (U Q V R : Form Stmt) (inner : Option (Reader Stmt)) (d : Reader Stmt) → Expressions room T P p → Nested room U Q inner statement_starts → Reads room V R d data_starts (ELSE ∷ []) → Reads room (control_form text T U ∣ V) (control_form text P Q ∣ R) (read_either (among control_starts) (read_control_form text p inner) d) statement_starts (ELSE ∷ [])
-reads_control_or_data text room U Q V R inner d e h k = reads_either statement_starts (reads_control_form text room U Q inner e h) k refl refl refl
+reads_control_or_data : {T P : Form Expr} {p : Reader Expr} (text : Text) (room : ℕ) (U Q V R : Form Stmt) (inner : Option (Reader Stmt))
+    (d : Reader Stmt) → Expressions room T P p → Nested room U Q inner statement_starts → Reads room V R d data_starts (ELSE ∷ [])
+    → Reads room (control_form text T U ∣ V) (control_form text P Q ∣ R)
+    (read_either (among control_starts) (read_control_form text p inner) d) statement_starts (ELSE ∷ [])
+reads_control_or_data text room U Q V R inner d e h k =
+    reads_either statement_starts (reads_control_form text room U Q inner e h) k refl refl refl
 
-pub reads_statement : (text : Text) (room height : ℕ) → Reads room (statement text (suc (suc room))) (statement text height) (read_statement text room) statement_starts (ELSE ∷ [])
+pub reads_statement : (text : Text) (room height : ℕ)
+    → Reads room (statement text (suc (suc room))) (statement text height) (read_statement text room) statement_starts (ELSE ∷ [])
 unfolding read_statement
-reads_statement text zero zero = reads_shut (reads_control_or_data text zero (statement text 1) (statement text 0) (data_statement text 2) (data_statement text 0) None (read_data_statement text 0) (reads_expression text 0 0) (inhabited_statement text 0) (reads_data_statement text 0 0))
-reads_statement text zero (suc height) = reads_control_or_data text zero (statement text 1) (statement text height) (data_statement text 2) (data_statement text (suc height)) None (read_data_statement text 0) (reads_expression text 0 (suc height)) (inhabited_statement text 0) (reads_data_statement text 0 (suc height))
-reads_statement text (suc room) zero = reads_shut (reads_control_or_data text (suc room) (statement text (suc (suc room))) (statement text 0) (data_statement text (suc (suc (suc room)))) (data_statement text 0) (Some (read_statement text room)) (read_data_statement text (suc room)) (reads_expression text (suc room) 0) (reads_statement text room 0) (reads_data_statement text (suc room) 0))
-reads_statement text (suc room) (suc height) = reads_control_or_data text (suc room) (statement text (suc (suc room))) (statement text height) (data_statement text (suc (suc (suc room)))) (data_statement text (suc height)) (Some (read_statement text room)) (read_data_statement text (suc room)) (reads_expression text (suc room) (suc height)) (reads_statement text room height) (reads_data_statement text (suc room) (suc height))
+reads_statement text zero zero =
+    reads_shut (reads_control_or_data text zero (statement text 1) (statement text 0) (data_statement text 2) (data_statement text 0) None
+    (read_data_statement text 0) (reads_expression text 0 0) (inhabited_statement text 0) (reads_data_statement text 0 0))
+reads_statement text zero (suc height) =
+    reads_control_or_data text zero (statement text 1) (statement text height) (data_statement text 2)
+    (data_statement text (suc height)) None (read_data_statement text 0) (reads_expression text 0 (suc height))
+    (inhabited_statement text 0) (reads_data_statement text 0 (suc height))
+reads_statement text (suc room) zero =
+    reads_shut (reads_control_or_data text (suc room) (statement text (suc (suc room))) (statement text 0)
+    (data_statement text (suc (suc (suc room)))) (data_statement text 0) (Some (read_statement text room))
+    (read_data_statement text (suc room)) (reads_expression text (suc room) 0) (reads_statement text room 0)
+    (reads_data_statement text (suc room) 0))
+reads_statement text (suc room) (suc height) =
+    reads_control_or_data text (suc room) (statement text (suc (suc room))) (statement text height)
+    (data_statement text (suc (suc (suc room)))) (data_statement text (suc height)) (Some (read_statement text room))
+    (read_data_statement text (suc room)) (reads_expression text (suc room) (suc height)) (reads_statement text room height)
+    (reads_data_statement text (suc room) (suc height))
 
 -- ---- what is read of a list leaves less
 

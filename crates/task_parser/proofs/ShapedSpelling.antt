@@ -1,4 +1,6 @@
--- A program that bytes stand for is shaped.
+-- A program that bytes stand for is shaped. A form yields only values of which something holds, where no number is
+-- negative (Yields): one lemma for each word of the grammar. With these, by recursion on the height, each statement and
+-- block is shaped, and so are heads, tasks and programs. In a lexing no number is negative.
 use Rattle.std.proofs.Common.{◌≡◌, ℕ, zero, suc, Bool, true, false, List, [], ◌∷◌, ◌++◌, Option, Some, None, refl, sym, ap, subst, ◌∙◌, inl, inr}
 use Rattle.std.specs.Prelude.{◌&&◌}
 use Rattle.std.specs.List.{list_all}
@@ -63,7 +65,8 @@ made : {A B : Type 0} {make : A → B} {P : Form A} {G : B → Type 0} → Yield
 made {G = G} h = record { all = λ depth placed x n s. subst G (sym s.is) (h.all depth placed s.from n s.stands) }
 
 -- the second is known with what holds of the first
-both : {A B : Type 0} {P : Form A} {Q : Form B} {G : A × B → Type 0} (H : A → Type 0) → Yields P H → Yields Q (λ y. (x : A) → H x → G (x, y)) → Yields (P ▸ Q) G
+both : {A B : Type 0} {P : Form A} {Q : Form B} {G : A × B → Type 0} (H : A → Type 0) → Yields P H
+    → Yields Q (λ y. (x : A) → H x → G (x, y)) → Yields (P ▸ Q) G
 both H h k = record {
   all = λ depth placed x n s.
       let ns = natural_parts s.front s.back (subst Natural s.parts n) in
@@ -91,7 +94,8 @@ either {A = A} {P = P} {Q = Q} {G = G} h k = record { all = go }
     go depth placed x n (inl s) = h.all depth placed x n s
     go depth placed x n (inr s) = k.all depth placed x n s
 
-every : {A : Type 0} {P : Form A} {G : A → Type 0} (T : List A → Type 0) → T [] → ((x : A) (xs : List A) → G x → T xs → T (x ∷ xs)) → Yields P G → Yields (many P) T
+every : {A : Type 0} {P : Form A} {G : A → Type 0} (T : List A → Type 0) → T [] → ((x : A) (xs : List A) → G x → T xs → T (x ∷ xs))
+    → Yields P G → Yields (many P) T
 every {A = A} {P = P} T none more h = record { all = go }
   where
     go : (depth : ℕ) (placed : List Placed) (xs : List A) → Natural placed → many P depth placed xs → T xs
@@ -103,7 +107,8 @@ every {A = A} {P = P} T none more h = record { all = go }
 all_pass : {A : Type 0} {P : Form A} (test : A → Bool) → Yields P (λ x. test x ≡ true) → Yields (many P) (λ xs. list_all test xs ≡ true)
 all_pass test h = every (λ xs. list_all test xs ≡ true) refl (λ x xs g t. both_true _ _ g t) h
 
-if_given : {A : Type 0} {P : Form A} {G : A → Type 0} (T : Option A → Type 0) → T None → ((x : A) → G x → T (Some x)) → Yields P G → Yields (perhaps P) T
+if_given : {A : Type 0} {P : Form A} {G : A → Type 0} (T : Option A → Type 0) → T None → ((x : A) → G x → T (Some x)) → Yields P G
+    → Yields (perhaps P) T
 if_given {A = A} {P = P} T none given h = record { all = go }
   where
     go : (depth : ℕ) (placed : List Placed) (x : Option A) → Natural placed → perhaps P depth placed x → T x
@@ -162,7 +167,8 @@ data_yields text (suc height) =
     (either (made (any (λ x. (refl, refl))))
     (either (made (any (λ x. (refl, refl))))
     (either (made (any (λ x. (refl, refl))))
-    (made (both (λ x. IsDataBlock x.1) (right (so (inner data_blocks d) (λ b t x. t))) (so (otherwise data_blocks d) (λ b t x u. (refl, both_true _ _ u t))))))))
+    (made (both (λ x. IsDataBlock x.1) (right (so (inner data_blocks d) (λ b t x. t)))
+    (so (otherwise data_blocks d) (λ b t x u. (refl, both_true _ _ u t))))))))
 
 statements_yield : (text : Text) (height : ℕ) → Yields (statement text height) IsShapedStmt
 statements_yield text zero = record { all = λ depth placed x n s. absurd s }
@@ -171,7 +177,8 @@ statements_yield text (suc height) =
     either
     (either (made (any (λ x. refl)))
     (either (made (right (so (inner shaped_blocks h) (λ b t x. t))))
-    (either (made (both (λ x. IsShapedBlock x.1) (right (so (inner shaped_blocks h) (λ b t x. t))) (so (otherwise shaped_blocks h) (λ b t x u. both_true _ _ u t))))
+    (either (made (both (λ x. IsShapedBlock x.1) (right (so (inner shaped_blocks h) (λ b t x. t)))
+    (so (otherwise shaped_blocks h) (λ b t x u. both_true _ _ u t))))
     (either (made (any (λ x. refl)))
     (either (made (any (λ x. refl)))
     (either (made (any (λ x. refl)))

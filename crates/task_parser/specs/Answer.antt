@@ -17,8 +17,10 @@ place text (t ∷ ts) = t.from
 -- The fault is the first one, and stands at its place.
 abbrev pub IsFirstFault : Text → List Token → ParseFault → Type 0
 IsFirstFault text tokens OutOfMemory = Unit {0}
-IsFirstFault text tokens (Unexpected at) = (rest : List Token) × (at ≡ place text rest) × StopFirst text tokens (record { deep = false; rest = rest })
-IsFirstFault text tokens (TooDeep at) = (rest : List Token) × (at ≡ place text rest) × StopFirst text tokens (record { deep = true; rest = rest })
+IsFirstFault text tokens (Unexpected at) =
+    (rest : List Token) × (at ≡ place text rest) × StopFirst text tokens (record { deep = false; rest = rest })
+IsFirstFault text tokens (TooDeep at) =
+    (rest : List Token) × (at ≡ place text rest) × StopFirst text tokens (record { deep = true; rest = rest })
 
 -- The program is answered, unless memory ran out.
 abbrev pub Answers : Result CodeProgram ParseFault → Program → Type 0

@@ -10,7 +10,8 @@ use Rattle.task_parser.specs.Spelling.{Spells, HasFault, Meaning, Means}
 
 -- tokens stand for a program, or have a first fault
 abbrev pub ProgramOrFault : Type 0
-ProgramOrFault = (text : Text) (tokens : List Token) → ((p : Program) × StandFor text tokens p) ⊎ ((stop : Stop) × StopFirst text tokens stop)
+ProgramOrFault =
+    (text : Text) (tokens : List Token) → ((p : Program) × StandFor text tokens p) ⊎ ((stop : Stop) × StopFirst text tokens stop)
 
 -- they stand for at most one program
 abbrev pub OneProgram : Type 0

@@ -61,7 +61,8 @@ abbrev pub from_file : Text → Form (Option Text)
 from_file text = Made (file_in text) (perhaps (after FROM (the QUOTED)))
 
 abbrev pub record_head : Text → Form Head
-record_head text = Made (record_head_of text) (the RECORD ▸ the NAME ◂ OPEN_BRACKET ▸ the NUM ◂ CLOSE_BRACKET ◂ BY ▸ the NAME ▸ from_file text ◂ SEMICOLON)
+record_head text =
+    Made (record_head_of text) (the RECORD ▸ the NAME ◂ OPEN_BRACKET ▸ the NUM ◂ CLOSE_BRACKET ◂ BY ▸ the NAME ▸ from_file text ◂ SEMICOLON)
 
 abbrev pub feed_head : Text → Form Head
 feed_head text = Made (feed_head_of text) (the FEED ▸ the NAME ◂ OPEN_BRACKET ▸ the NUM ◂ CLOSE_BRACKET ◂ FROM ▸ the QUOTED ◂ SEMICOLON)
@@ -78,7 +79,8 @@ var_line text = Made var_line_of (the VAR ▸ separated COMMA (param text) ◂ S
 -- its braces and parentheses don't count as nesting
 abbrev pub task : Text → ℕ → Form TaskText
 task text height =
-    Made (task_of text) (the TASK ▸ the NAME ◂ OPEN_PAREN ▸ listed_in (param text) ◂ CLOSE_PAREN ◂ OPEN_BRACE ▸ many (var_line text) ▸ Made block (many (statement text height)) ◂ CLOSE_BRACE)
+    Made (task_of text) (the TASK ▸ the NAME ◂ OPEN_PAREN ▸ listed_in (param text) ◂ CLOSE_PAREN ◂ OPEN_BRACE ▸ many (var_line text)
+    ▸ Made block (many (statement text height)) ◂ CLOSE_BRACE)
 
 -- a program in which constructs nest less deep than the height
 abbrev pub program : Text → ℕ → Form Program

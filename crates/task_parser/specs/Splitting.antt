@@ -78,11 +78,13 @@ AreInOrder place (first ∷ others) = (place ≤ first.from) × AreInOrder first
 
 -- the tokens of a lexing stand in order, each in its place
 abbrev pub TokensArePlaced : Type 0
-TokensArePlaced = (text : List ℕ) (tokens : List Token) → lexed text ≡ Ok tokens → All (λ token. IsPlaced text token) tokens × AreInOrder 0 tokens
+TokensArePlaced =
+    (text : List ℕ) (tokens : List Token) → lexed text ≡ Ok tokens → All (λ token. IsPlaced text token) tokens × AreInOrder 0 tokens
 
 -- and a text that isn't too long and splits to its end is lexed so
 abbrev pub SplittingsAreLexed : Type 0
-SplittingsAreLexed = (text : List ℕ) (tokens : List Token) → length text ≤ MOST_PROGRAM_BYTES → Splits [] text tokens [] → lexed text ≡ Ok tokens
+SplittingsAreLexed =
+    (text : List ℕ) (tokens : List Token) → length text ≤ MOST_PROGRAM_BYTES → Splits [] text tokens [] → lexed text ≡ Ok tokens
 
 -- a text whose lexing is a fault, and that isn't too long, splits up to that fault
 abbrev pub FaultsStop : Type 0

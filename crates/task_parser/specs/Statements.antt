@@ -146,7 +146,8 @@ data_form text e d = set_reg text e ∣ reading text ∣ writing text e ∣ prin
 
 abbrev pub control_form : Text → Form Expr → Form Stmt → Form Stmt
 control_form text e s =
-    set_ctl text e ∣ looping e s ∣ branching e s ∣ locking text ∣ unlocking text ∣ forking text e ∣ joining text e ∣ waiting text ∣ settling text
+    set_ctl text e ∣ looping e s ∣ branching e s ∣ locking text ∣ unlocking text ∣ forking text e ∣ joining text e
+    ∣ waiting text ∣ settling text
 
 -- a data statement in which constructs nest less deep than the height
 abbrev pub data_statement : Text → ℕ → Form Stmt

@@ -43,7 +43,8 @@ abbrev pub ◌∣◌ : {A : Type 0} → Form A → Form A → Form A
 -- any number of P
 abbrev pub many : {A : Type 0} → Form A → Form (List A)
 many P depth placed [] = placed ≡ []
-many P depth placed (x ∷ xs) = (front : List Placed) × (back : List Placed) × (placed ≡ front ++ back) × P depth front x × many P depth back xs
+many P depth placed (x ∷ xs) =
+    (front : List Placed) × (back : List Placed) × (placed ≡ front ++ back) × P depth front x × many P depth back xs
 
 -- at most one P
 abbrev pub perhaps : {A : Type 0} → Form A → Form (Option A)

@@ -1,4 +1,6 @@
--- A turn leaves at most as many threads as may exist, and the thread whose turn was last is one of them.
+-- A turn leaves at most as many threads as may exist, and the thread whose turn was last is one of them. Each rule of a
+-- turn passes or issues for the thread that the token comes to, which is there, and no rule takes a thread away; so the
+-- thread whose turn was last is there after it (TokenAfter).
 use Rattle.std.proofs.Common.{◌≡◌, ℕ, ◌<◌, ◌≤◌, Bool, true, false, cond, nat_lt, nat_le, unwrap_or, is_none, count_by, List, map, length, Option, Some, None, refl, sym, ap, ◌∙◌, subst, arith}
 use Rattle.std.specs.Prelude.{slice_get, pos, negsuc}
 use Rattle.std.specs.Option.{option_and_then}
@@ -56,7 +58,9 @@ issue-token : (table : Table) (t : ℕ) (next : Next) → t < length table.seats
 issue-token table t next l =
     let changed = with_nth table.seats t (λ s. record { next = None; last = Some table.issued; passed = false; stand = Away }) in
     let long = grows next.sync (map unpassed changed) in
-    let same = length-map changed unpassed ∙ length-with_nth table.seats t (λ s. record { next = None; last = Some table.issued; passed = false; stand = Away }) in
+    let same =
+    length-map changed unpassed ∙ length-with_nth table.seats t
+    (λ s. record { next = None; last = Some table.issued; passed = false; stand = Away }) in
     cond-token (nat_lt table.issued table.limit) _ _ (issues (omega (arith, long, same, l))) over
 
 met-length : (table : Table) (t b : ℕ) → length (met (arrived table t) b).seats ≡ length table.seats
@@ -65,7 +69,9 @@ met-length table t b = go (nat_le (unwrap_or (slice_get table.barriers b) 0) (co
     there : length (arrived table t).seats ≡ length table.seats
     there = length-with_nth (map unpassed table.seats) t (λ s. record s { stand = Waits }) ∙ length-map table.seats unpassed
 
-    go : (all : Bool) → length (cond all (record (arrived table t) { seats = map (released_at b) (arrived table t).seats }) (arrived table t)).seats ≡ length table.seats
+    go : (all : Bool)
+        → length (cond all (record (arrived table t) { seats = map (released_at b) (arrived table t).seats }) (arrived table t)).seats
+        ≡ length table.seats
     go true = length-map (arrived table t).seats (released_at b) ∙ there
     go false = there
 
@@ -79,7 +85,8 @@ barrier-token Away table t next l = pass-token table t l
 barrier-token Waits table t next l = pass-token table t l
 barrier-token Released table t next l = issue-token table t next l
 
-joining-token : (h : ℕ) (o : Option Next) (table : Table) (t : ℕ) (next : Next) → t < length table.seats → TokenAfter (joining h o table t next)
+joining-token : (h : ℕ) (o : Option Next) (table : Table) (t : ℕ) (next : Next) → t < length table.seats
+    → TokenAfter (joining h o table t next)
 joining-token h None table t next l = needs
 joining-token h (Some other) table t next l = cond-token (is_end other.sync) _ _ (issue-token table t next l) (pass-token table t l)
 
@@ -88,8 +95,10 @@ tried-token sync.Start table t next l = issue-token table t next l
 tried-token (sync.Lock k) table t next l = cond-token (is_none (owner_of table k)) _ _ (issue-token table t next l) (pass-token table t l)
 tried-token (sync.Settle register control) table t next l = issue-token table t next l
 tried-token (sync.Unlock k) table t next l = issue-token table t next l
-tried-token (sync.Fork task arguments) table t next l = cond-token (nat_lt (length table.seats) most_threads) _ _ (issue-token table t next l) over
-tried-token (sync.Join (pos h)) table t next l = cond-token (nat_lt h (length table.seats)) _ _ (joining-token h (next_of table h) table t next l) over
+tried-token (sync.Fork task arguments) table t next l =
+    cond-token (nat_lt (length table.seats) most_threads) _ _ (issue-token table t next l) over
+tried-token (sync.Join (pos h)) table t next l =
+    cond-token (nat_lt h (length table.seats)) _ _ (joining-token h (next_of table h) table t next l) over
 tried-token (sync.Join (negsuc h)) table t next l = over
 tried-token (sync.Barrier b) table t next l =
     let same = come-length (stand_of table t) table t b in
@@ -112,12 +121,14 @@ deadlocked-token NoThread = over
 
 look-token : (table : Table) (l : Look) → Known table l → TokenAfter (at_look l table)
 look-token table (To t next) (known_to e live) =
-    cond-token (has_passed table t) _ _ (deadlocked-token (look table (all_threads table))) (tried-token next.sync table t next (within table.seats t next e))
+    cond-token (has_passed table t) _ _ (deadlocked-token (look table (all_threads table)))
+    (tried-token next.sync table t next (within table.seats t next e))
 look-token table (Unknown t) known = needs
 look-token table NoThread known = over
 
 turn-token : (table : Table) → TokenAfter (turn table)
-turn-token table = look-token table (look table (ring table.token (length table.seats))) (look_known table (ring table.token (length table.seats)))
+turn-token table =
+    look-token table (look table (ring table.token (length table.seats))) (look_known table (ring table.token (length table.seats)))
 
 passed : {after : Table} → TokenAfter (More after) → HasToken after
 passed (passes token) = token
@@ -128,12 +139,14 @@ issued (issues token) = token
 few-table : (threads : Threads) → StandsInside threads → length (table threads).seats ≤ most_threads
 few-table threads inside = subst (λ n. n ≤ most_threads) (sym (length-map threads.seats.items seat_of)) inside.few
 
-stands : (threads : Threads) → length (table threads).seats ≤ most_threads → HasToken (table threads) → length threads.owners.items ≤ 4294967295 → StandsInside threads
+stands : (threads : Threads) → length (table threads).seats ≤ most_threads → HasToken (table threads)
+    → length threads.owners.items ≤ 4294967295 → StandsInside threads
 stands threads few token locks =
     let same = length-map threads.seats.items seat_of in
     record { few = subst (λ n. n ≤ most_threads) same few; token = subst (λ n. IsBelow n threads.token) same token; locks = locks }
 
-same-locks : (before after : Threads) → StandsInside before → length after.owners.items ≡ length before.owners.items → length after.owners.items ≤ 4294967295
+same-locks : (before after : Threads) → StandsInside before → length after.owners.items ≡ length before.owners.items
+    → length after.owners.items ≤ 4294967295
 same-locks before after inside same = subst (λ n. n ≤ 4294967295) (sym same) inside.locks
 
 still : (before after : Threads) → StandsInside before → table after ≡ table before → StandsInside after
@@ -142,20 +155,26 @@ still before after inside same =
     (subst HasToken (sym same) (subst (λ n. IsBelow n before.token) (sym (length-map before.seats.items seat_of)) inside.token))
     (same-locks before after inside (ap (λ there. length there.owners) same))
 
-pub turn-stands : (before after : Threads) (r : TurnHere) → StandsInside before → Answered (turn (table before)) (table before) r (table after) → StandsInside after
+pub turn-stands : (before after : Threads) (r : TurnHere) → StandsInside before
+    → Answered (turn (table before)) (table before) r (table after) → StandsInside after
 turn-stands before after (here.Issue t next child) inside e =
-    stands after (seats_law (table before) (table after) (few-table before inside) (ap table_after e)) (issued (subst TokenAfter e (turn-token (table before))))
-    (same-locks before after inside (ap length (issue_law (table before) t next child (table after) e).owners ∙ length-after next.sync t before.owners.items))
+    stands after (seats_law (table before) (table after) (few-table before inside) (ap table_after e))
+    (issued (subst TokenAfter e (turn-token (table before))))
+    (same-locks before after inside (ap length (issue_law (table before) t next child (table after) e).owners
+    ∙ length-after next.sync t before.owners.items))
 turn-stands before after here.Pass inside e =
-    stands after (seats_law (table before) (table after) (few-table before inside) (ap table_after e)) (passed (subst TokenAfter e (turn-token (table before))))
+    stands after (seats_law (table before) (table after) (few-table before inside) (ap table_after e))
+    (passed (subst TokenAfter e (turn-token (table before))))
     (same-locks before after inside (ap length (pass_law (table before) (table after) e).owners))
 turn-stands before after (here.Settles t) inside h = absurd h
 turn-stands before after (here.Needs t) inside h = still before after inside (h.1)
 turn-stands before after (here.Ended e) inside h = still before after inside (h.1)
 
-pub learn-stands : (before after : Threads) (t : ℕ) (next : Next) → StandsInside before → table after ≡ learning (table before) t next → StandsInside after
+pub learn-stands : (before after : Threads) (t : ℕ) (next : Next) → StandsInside before → table after ≡ learning (table before) t next
+    → StandsInside after
 learn-stands before after t next inside e =
     let same = learnt_length (table before) t next in
-    stands after (subst (λ there. length there.seats ≤ most_threads) (sym e) (subst (λ n. n ≤ most_threads) (sym same) (few-table before inside)))
+    stands after (subst (λ there. length there.seats ≤ most_threads) (sym e)
+    (subst (λ n. n ≤ most_threads) (sym same) (few-table before inside)))
     (subst HasToken (sym e) (subst (λ n. IsBelow n before.token) (sym (same ∙ length-map before.seats.items seat_of)) inside.token))
     (same-locks before after inside (ap (λ there. length there.owners) e))

@@ -14,7 +14,8 @@ join_there table (negsuc h) n other t next found same = absurd (cc found)
 join_there table (pos h) n other t next found same = go (nat_lt h n) refl found
   where
     go : (b : Bool) → nat_lt h n ≡ b → Some other ≡ cond b (Some h) None
-        → cond (nat_lt h (length table.seats)) (joining h (next_of table h) table t next) (stuck why.Join t next) ≡ joining other (next_of table other) table t next
+        → cond (nat_lt h (length table.seats)) (joining h (next_of table h) table t next) (stuck why.Join t next)
+        ≡ joining other (next_of table other) table t next
     go false e found = absurd (cc found)
     go true e found =
         ap (λ b. cond b (joining h (next_of table h) table t next) (stuck why.Join t next)) (ap (nat_lt h) (sym same) ∙ e)

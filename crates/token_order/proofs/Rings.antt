@@ -14,7 +14,8 @@ use Rattle.token_order.specs.Standing.{spare_of}
 use Rattle.token_order.specs.View.{table, seat_of}
 
 -- the owners after a turn
-pub owners_noted : (before after : Table) (result : Turn) → Answered (turn before) before result after → after.owners ≡ noted result before.owners
+pub owners_noted : (before after : Table) (result : Turn) → Answered (turn before) before result after
+    → after.owners ≡ noted result before.owners
 owners_noted before after (here.Issue t next child) e = (issue_law before t next child after e).owners
 owners_noted before after here.Pass e = (pass_law before after e).owners
 owners_noted before after (here.Settles t) h = absurd h
@@ -22,7 +23,8 @@ owners_noted before after (here.Needs t) h = ap (λ table. table.owners) h.1
 owners_noted before after (here.Ended e) h = ap (λ table. table.owners) h.1
 
 -- the room is the same where there are as many threads as before, the list of them has the same capacity, and no change was told
-pub same_room : (before after : Threads) (held there : Held) → length (table after).seats ≡ length (table before).seats → vec_capacity after.seats ≡ vec_capacity before.seats
+pub same_room : (before after : Threads) (held there : Held) → length (table after).seats ≡ length (table before).seats
+    → vec_capacity after.seats ≡ vec_capacity before.seats
     → there.change ≡ held.change → spare_of after there ≡ spare_of before held
 same_room before after held there seats capacity change =
     let lengths : vec_len after.seats ≡ vec_len before.seats =
@@ -32,10 +34,15 @@ same_room before after held there seats capacity change =
     ∙ ap (λ n. cond (is_none held.change) (vec_capacity before.seats - n) 0) lengths
 
 -- all but an issue leave the room as it was
-pub room_left : (before after : Threads) (held there : Held) (result : Turn) → Answered (turn (table before)) (table before) result (table after)
-    → vec_capacity after.seats ≡ vec_capacity before.seats → (is_issue result ≡ false → there.change ≡ held.change) → LeavesRoom result (spare_of before held) (spare_of after there)
+pub room_left : (before after : Threads) (held there : Held) (result : Turn)
+    → Answered (turn (table before)) (table before) result (table after)
+    → vec_capacity after.seats ≡ vec_capacity before.seats → (is_issue result ≡ false → there.change ≡ held.change)
+    → LeavesRoom result (spare_of before held) (spare_of after there)
 room_left before after held there (here.Issue t next child) e capacity change = tt
-room_left before after held there here.Pass e capacity change = same_room before after held there (pass_law (table before) (table after) e).threads capacity (change refl)
+room_left before after held there here.Pass e capacity change =
+    same_room before after held there (pass_law (table before) (table after) e).threads capacity (change refl)
 room_left before after held there (here.Settles t) h capacity change = absurd h
-room_left before after held there (here.Needs t) h capacity change = same_room before after held there (ap (λ table. length table.seats) h.1) capacity (change refl)
-room_left before after held there (here.Ended e) h capacity change = same_room before after held there (ap (λ table. length table.seats) h.1) capacity (change refl)
+room_left before after held there (here.Needs t) h capacity change =
+    same_room before after held there (ap (λ table. length table.seats) h.1) capacity (change refl)
+room_left before after held there (here.Ended e) h capacity change =
+    same_room before after held there (ap (λ table. length table.seats) h.1) capacity (change refl)

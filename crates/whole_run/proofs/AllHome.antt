@@ -1,4 +1,7 @@
--- Whether all that a restart waits for is back, as the entries tell it and as the stage does: each lock is at home, or nothing is out.
+-- Whether all that a restart waits for is back, as the entries tell it and as the stage does: each lock is at home, or
+-- nothing is out. An entry that is out is that of a present attempt that is out, and each such attempt has one. So an
+-- entry that is out holds a lock exactly where such an attempt does; and a lock is away exactly where an entry that is
+-- out holds it.
 use Rattle.std.proofs.Common.{◌≡◌, ◌↔◌, inl, inr, ℕ, suc, ◌≤◌, Bool, true, false, cond, not, ◌&&◌, ◌||◌, nat_eq, List, [], ◌∷◌, get_or, Contains, Some, refl, sym, ap, ◌∙◌, subst, arith, slice_get}
 use Rattle.std.specs.Prelude.{IsTrue}
 use Rattle.std.specs.List.{list_any}

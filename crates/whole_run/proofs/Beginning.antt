@@ -28,7 +28,8 @@ no-lines batch before events restarts e =
 
 pub no-notes : (batch : Batch) (telling : Telling) (part : (start written : Option (List ℕ)) → List Effect → Type 0)
     (written : Option (List ℕ)) (why : StopWhy) (events : List Event) (restarts : List Restart) → events ≡ [] → restarts ≡ []
-    → NotesRun telling telling part batch written written (Err (record { why = why; journal = record { events = events; restarts = restarts } }))
+    → NotesRun telling telling part batch written written
+    (Err (record { why = why; journal = record { events = events; restarts = restarts } }))
 no-notes batch telling part written why events restarts e r =
     notes-stopped (begun batch) (begun batch) telling telling part written written
     (record { why = why; journal = record { events = events; restarts = restarts } }) refl refl (record { events = e; restarts = r })

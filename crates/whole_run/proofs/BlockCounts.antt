@@ -1,5 +1,5 @@
--- Whether the block of a position is open and whether it is looked at, as it is counted how many positions are applied before the first that is
--- not.
+-- Whether the block of a position is open and whether it is looked at, as it is counted how many positions are applied
+-- before the first that is not.
 use Rattle.std.proofs.Common.{◌≡◌, ◌↔◌, inl, inr, ℕ, ◌+◌, ◌<◌, ◌≤◌, true, List, refl, sym, ◌∙◌, arith}
 use Rattle.std.proofs.lemmas.Bool.{cases_lt, leb-true, le-leb, false≢true}
 use Rattle.gp_base.specs.declared.fault.Fault.{Fault}

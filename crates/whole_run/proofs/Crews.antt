@@ -1,4 +1,7 @@
--- The crew and the engine agree after each event.
+-- The crew and the engine agree after each event. A crew keeps which pairs were posted to it, and the tasks that are
+-- out with it: the engine's posts, of which those are out that it has not taken. An event that neither posts nor takes
+-- leaves both; a post adds to both, and a take removes a task. A task that is out stands, as the engine's events go on
+-- (Tasks).
 use Rattle.std.proofs.Common.{◌≡◌, ◌≢◌, append-nil, ℕ, Bool, inl, inr, List, [], ◌∷◌, ◌++◌, Contains, Option, Some, None, refl, sym, ap, subst, ◌∙◌, append_assoc}
 use Rattle.std.proofs.lemmas.List.Elements.{Contains-push_cases}
 use Rattle.gp_base.specs.declared.fault.Fault.{Fault}

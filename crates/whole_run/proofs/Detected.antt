@@ -1,4 +1,7 @@
--- A restart over the entries and the store.
+-- A restart over the entries and the store. What is struck has not retired, so it has an entry. Where dependents are
+-- restarted, the entries of what is redone are raised and their histories put back; where all is rolled back, nothing
+-- of the block has retired, so that there is a cut to go back to. Either way the window is kept, and the restart that
+-- is noted is the definition's.
 use Rattle.std.proofs.Common.{◌≡◌, inl, inr, ℕ, ◌+◌, ◌-◌, ◌^◌, ◌<◌, ◌≤◌, min, cond, List, [], ◌∷◌, ◌++◌, length, map, All, Option, Some, None, unwrap_or, refl, sym, ap, subst, ◌∙◌, arith}
 use Rattle.std.specs.Prelude.{is_some}
 use Rattle.std.specs.Option.{option_or, IsSome}

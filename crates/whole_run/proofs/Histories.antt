@@ -1,4 +1,6 @@
--- What histories undo stands after each event of a run that restarts dependents.
+-- What histories undo stands after each event of a run that restarts dependents. The histories in the entries and the
+-- state of the store are a history buffer; so each event is one on such a buffer (RunBuffers), where entries and store
+-- change as it does. A history that fits a store fits a wider one.
 use Rattle.std.proofs.Common.{◌≡◌, ℕ, ◌≤◌, nat_eq, true, false, Bool, get_or, List, [], ◌∷◌, ◌++◌, length, Option, Some, None, option_map, refl, sym, ap, ◌∙◌, subst}
 use Rattle.std.specs.Prelude.{IfSome}
 use Rattle.std.proofs.lemmas.Bool.{eq-eqb}
@@ -38,7 +40,8 @@ pub record IsWider (before later : Stored) : Type 0 where
   pub cells : length later.cells ≡ length before.cells
 
 -- what fits a store goes on to fit
-pub histories-fit : (store later : Stored) (entries : List Entry) → ((e : Effect) → Fits store e → Fits later e) → HistoriesFit store entries
+pub histories-fit : (store later : Stored) (entries : List Entry) → ((e : Effect) → Fits store e → Fits later e)
+    → HistoriesFit store entries
     → HistoriesFit later entries
 histories-fit store later entries wider fit k d l = go (get_or entries k d).hist (fit k d l)
   where
@@ -74,13 +77,15 @@ module _ (run : List Subthread) (faults : List Fault) (start : State) (cells : H
         record {
           buffer_is = subst (RunStands run faults start (after_event (event.Issue p)))
               (sym (pushed-holds later entries e fresh ∙ same-state later entries state)) (event-buffer (event.Issue p) allowed);
-          undoable = All-push (λ (x : Entry). IfSome x.hist (Fits later)) entries e (histories-wider store later entries wider histories.undoable)
+          undoable =
+              All-push (λ (x : Entry). IfSome x.hist (Fits later)) entries e (histories-wider store later entries wider histories.undoable)
               (subst (λ (o : Option Effect). IfSome o (Fits later)) (sym fresh.no_history) tt);
         }
 
     pub histories-post : (p attempt : ℕ) (later : Stored) → Allowed (dependence_of run) faults at (event.Post p attempt)
         → state_of later ≡ state_of store → IsWider store later
-        → HistoriesStand run faults start (happens (dependence_of run) faults at (event.Post p attempt)) (with_change_at p out_entry entries) later
+        → HistoriesStand run faults start (happens (dependence_of run) faults at (event.Post p attempt))
+        (with_change_at p out_entry entries) later
     histories-post p attempt later allowed state wider =
         record {
           buffer_is = subst (RunStands run faults start (after_event (event.Post p attempt)))
@@ -91,7 +96,8 @@ module _ (run : List Subthread) (faults : List Fault) (start : State) (cells : H
 
     known-undoable : (p : ℕ) (foot : Footprint) → HistoriesFit store (with_change_at p (known_entry foot) entries)
     known-undoable p foot =
-        all-changed (λ (x : Entry). IfSome x.hist (Fits store)) (λ (x : Entry). IfSome x.hist (Fits store)) (λ q. nat_eq q p) (known_entry foot)
+        all-changed (λ (x : Entry). IfSome x.hist (Fits store)) (λ (x : Entry). IfSome x.hist (Fits store))
+        (λ q. nat_eq q p) (known_entry foot)
         entries (λ x h. h) (λ x h. h) histories.undoable
 
     pub histories-stale : (p attempt : ℕ) (foot : Footprint) → Allowed (dependence_of run) faults at (event.Take p attempt false)
@@ -99,7 +105,8 @@ module _ (run : List Subthread) (faults : List Fault) (start : State) (cells : H
         (with_change_at p (known_entry foot) entries) store
     histories-stale p attempt foot allowed =
         record {
-          buffer_is = subst (RunStands run faults start (after_event (event.Take p attempt false))) (sym (learnt-holds store entries p foot))
+          buffer_is =
+              subst (RunStands run faults start (after_event (event.Take p attempt false))) (sym (learnt-holds store entries p foot))
               (event-buffer (event.Take p attempt false) allowed);
           undoable = known-undoable p foot;
         }
@@ -116,16 +123,19 @@ module _ (run : List Subthread) (faults : List Fault) (start : State) (cells : H
       taken = applied_entry (Some (old_of done (state_of store))) done.prints
 
       pub histories-take : HistoriesStand run faults start (happens (dependence_of run) faults at (event.Take p attempt true))
-          (with_change_at p (applied_entry (Some (old_of done (state_of store))) done.prints) (with_change_at p (known_entry foot) entries)) later
+          (with_change_at p (applied_entry (Some (old_of done (state_of store))) done.prints) (with_change_at p (known_entry foot) entries))
+          later
       histories-take =
           record {
             buffer_is = subst (RunStands run faults start (after_event (event.Take p attempt true)))
                 (sym
                 (taken-holds store later known p (known_entry foot e) done known-there state
                 ∙ ap (buffer_with p done) (learnt-holds store entries p foot)))
-                (subst (λ d. RunStands run faults start (after_event (event.Take p attempt true)) (buffer_with p d (buffer_of store entries)))
+                (subst (λ d. RunStands run faults start (after_event (event.Take p attempt true))
+                (buffer_with p d (buffer_of store entries)))
                 (sym fresh) (event-buffer (event.Take p attempt true) allowed));
-            undoable = all-changed (λ (x : Entry). IfSome x.hist (Fits later)) (λ (x : Entry). IfSome x.hist (Fits later)) (λ q. nat_eq q p) taken
+            undoable =
+                all-changed (λ (x : Entry). IfSome x.hist (Fits later)) (λ (x : Entry). IfSome x.hist (Fits later)) (λ q. nat_eq q p) taken
                 known (λ x h. h) (λ x h. back) (histories-wider store later known wider (known-undoable p foot));
           }
         where
@@ -139,17 +149,20 @@ module _ (run : List Subthread) (faults : List Fault) (start : State) (cells : H
     pub histories-restart : (number struck : ℕ) (later : Stored) → Allowed (dependence_of run) faults at (event.Restart number)
         → struck_next (dependence_of run) faults at.progress ≡ Some struck → IsWider store later
         → state_of later
-        ≡ undone_part (histories_of entries) (λ q. is_member q ((dependence_of run).redo struck at.progress.front)) at.progress.front (state_of store)
+        ≡ undone_part (histories_of entries) (λ q. is_member q ((dependence_of run).redo struck at.progress.front))
+        at.progress.front (state_of store)
         → HistoriesStand run faults start (happens (dependence_of run) faults at (event.Restart number))
         (with_change (λ q. is_member q ((dependence_of run).redo struck at.progress.front)) (raised_entry at.progress.front) entries) later
     histories-restart number struck later allowed next wider state =
         record {
           buffer_is = subst (RunStands run faults start (after_event (event.Restart number)))
               (sym (raised-holds store later entries part at.progress.front at.progress.front state))
-              (subst (λ o. RunStands run faults start (after_event (event.Restart number)) (buffer_restarted run at o (buffer_of store entries))) next
+              (subst (λ o. RunStands run faults start (after_event (event.Restart number))
+              (buffer_restarted run at o (buffer_of store entries))) next
               (event-buffer (event.Restart number) allowed));
           undoable = all-changed (λ (x : Entry). IfSome x.hist (Fits later)) (λ (x : Entry). IfSome x.hist (Fits later)) part
-              (raised_entry at.progress.front) entries (λ x h. h) (λ x h. tt) (histories-wider store later entries wider histories.undoable);
+              (raised_entry at.progress.front) entries (λ x h. h) (λ x h. tt)
+              (histories-wider store later entries wider histories.undoable);
         }
       where
         part : ℕ → Bool

@@ -1,4 +1,7 @@
--- What an engine keeps while the next subthread is issued.
+-- What an engine keeps while the next subthread is issued. What the rules of turns answer of the ring's table, they
+-- answer of the run's own (RingIssues). A pass changes the table alone; an end, or a settle that comes next, changes
+-- what is known; an issue adds an entry, and where a child starts. What was prepared before, a slot of the store and
+-- the place, is for the thread that is ahead, which is the one that is issued.
 use Rattle.std.proofs.Common.{◌≡◌, inl, inr, ℕ, suc, ◌+◌, ◌<◌, ◌≤◌, true, false, List, [], ◌∷◌, ◌++◌, length, Option, Some, None, is_some, option_map, get_or, refl, sym, ap, ◌∙◌, subst, arith, ◌⊎◌, Bool, cond, nat_eq}
 use Rattle.std.specs.Prelude.{IsSome, slice_get, pos, negsuc, ℤ}
 use Rattle.std.proofs.lemmas.Bool.{eqb-true, eq-eqb, lt-ltb, ltb-true, false≢true}

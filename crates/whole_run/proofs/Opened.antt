@@ -1,4 +1,6 @@
--- What an engine keeps before its first event.
+-- What an engine keeps before its first event. Each part of what is kept is shown of what is there at the opening:
+-- nothing was issued, posted or undone, no lock is away, the table is that with which the plain run begins, and each
+-- record cell stands under one lock cell.
 use Rattle.std.proofs.Common.{◌≡◌, ℕ, zero, suc, true, false, ◌<◌, ◌≤◌, List, [], ◌∷◌, length, map, replicate, None, Some, slice_get, refl, sym, ap, ◌∙◌, subst, arith}
 use Rattle.std.specs.Prelude.{All, ℤ}
 use Rattle.std.proofs.Math.ListN.{length-map}

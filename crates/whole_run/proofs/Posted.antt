@@ -1,4 +1,7 @@
--- All is kept where an attempt was posted, and its task stands.
+-- All is kept where an attempt was posted, and its task stands. The entry may be posted by locks, so its locks exist,
+-- are at home and rise. The task that is made of it has the place of its thread, and is given what the store holds;
+-- that makes it a task that stands. After the post the locks are away and the entry is out, and what a block keeps was
+-- opened before.
 use Rattle.std.proofs.Common.{◌≡◌, ℕ, true, List, [], ◌∷◌, ◌++◌, refl, sym, ap, ◌∙◌, subst, arith}
 use Rattle.std.specs.Prelude.{All, Contains, get_or, pos, negsuc}
 use Rattle.std.specs.List.Sorted.{IsStrictlyIncreasing}

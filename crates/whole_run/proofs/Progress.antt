@@ -1,4 +1,7 @@
 -- Some event is possible while work is left, so that each round of a run leaves less to do or makes the end known.
+-- Where nothing is out and nothing may be posted, each position below the front is applied, since the first that is not
+-- might be posted. Then no thread waits for a result; so the oldest position would retire, the next one be issued, or
+-- the run has ended (stuck). So a round without a result has some other event, or makes the end known.
 use Rattle.std.proofs.Common.{◌≡◌, ◌⊎◌, inl, inr, ℕ, zero, suc, ◌<◌, ◌≤◌, Bool, true, false, cond, ◌&&◌, nat_eq, List, [], ◌∷◌, length, Contains, Option, Some, None, is_some, IfSome, refl, sym, ap, subst, ◌∙◌, arith, slice_get}
 use Rattle.std.specs.Bool.{Decides}
 use Rattle.std.specs.List.{list_any}

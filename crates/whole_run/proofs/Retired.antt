@@ -1,4 +1,6 @@
--- When the oldest position retires, what it writes, and that all is kept.
+-- When the oldest position retires, what it writes, and that all is kept. What the code tests of the entries and the
+-- faults is what the rules ask of the stage, both ways (may-now, not-now). The oldest entry has the lines of the oldest
+-- position; without it the entries, the store and what undoes stand after the event (Windows).
 use Rattle.std.proofs.Common.{◌≡◌, inl, inr, ℕ, Bool, true, false, ◌&&◌, ◌||◌, ◌+◌, List, [], ◌∷◌, ◌++◌, Option, Some, None, is_some, is_none, option_map, unwrap_or, refl, sym, ap, ◌∙◌, subst, slice_get}
 use Rattle.std.specs.Prelude.{Result, Ok, Err}
 use Rattle.std.specs.Result.{IsErr}

@@ -1,4 +1,7 @@
--- The ring and the places after a pass and after an issue.
+-- The ring and the places after a pass and after an issue. The ring's table is the plain run's, or knows less than that
+-- (Standings), so that what it tells is the plain run's next step. A thread whose next synchronisation is needed is one
+-- whose last position was never taken; one that is issued stands where its place says, and a child's place comes at the
+-- end.
 use Rattle.std.proofs.Common.{◌≡◌, inl, inr, ℕ, suc, ◌+◌, ◌<◌, ◌≤◌, List, [], ◌∷◌, ◌++◌, length, Option, Some, None, refl, sym, ap, ◌∙◌, subst, arith, true}
 use Rattle.std.specs.Prelude.{◌≢◌, ℤ, slice_get}
 use Rattle.std.proofs.lemmas.Bool.{cases_lt, cases_eq}

@@ -1,4 +1,6 @@
--- The ring and the places after a result was taken.
+-- The ring and the places after a result was taken. Each thread's last position is its own, so that a result at a
+-- position tells what one thread does next, where that is awaited from this position. Then the table learns it and the
+-- thread's place is set; otherwise neither changes.
 use Rattle.std.proofs.Common.{◌≡◌, inl, inr, ℕ, ◌<◌, Bool, cond, List, [], ◌∷◌, length, Option, Some, None, is_none, refl, sym, ap, ◌∙◌, subst, arith}
 use Rattle.std.specs.Prelude.{◌≢◌, ◌⊎◌, slice_get, slice_set}
 use Rattle.std.proofs.lemmas.Bool.{cases_eq}

@@ -1,4 +1,6 @@
--- What a task was given stands while it is out.
+-- What a task was given stands while it is out. What an attempt that is out finds at the places that it may touch, and
+-- under the locks that it holds, each event leaves as it is, but its own result. States that agree there give a task
+-- the same; so with the store as the fold of what is applied the task stands after the event.
 use Rattle.std.proofs.Common.{◌≡◌, ◌⊎◌, inl, inr, ℕ, ◌≤◌, List, [], ◌∷◌, ◌++◌, map, Contains, Option, Some, None, refl, sym, ap, subst, ◌∙◌, arith, slice_get}
 use Rattle.std.proofs.lemmas.List.Elements.{Contains-append_left}
 use Rattle.gp_base.specs.declared.fault.Fault.{Fault}

@@ -1,4 +1,6 @@
--- What each call leaves of the run, and several calls one after another.
+-- What each call leaves of the run, and several calls one after another. A call leaves the run as it was, or makes one
+-- event, after which less is left. Calls are put together by what they leave: the run further on, a crew that is ready,
+-- the same work, and the posts of the run (Leaves); with these the next call begins.
 use Rattle.std.proofs.Common.{◌≡◌, inl, inr, ℕ, zero, suc, cond, length, slice_get, Contains, ◌<◌, ◌≤◌, Bool, true, false, List, [], ◌∷◌, ◌++◌, Option, Some, None, IsSome, is_some, refl, sym, ap, subst, ◌∙◌, arith, Result, Ok, Err}
 use Rattle.std.specs.Option.{option_or}
 use Rattle.std.specs.Result.{OnOk, OnErr}
@@ -167,7 +169,8 @@ pub retired-leaves : (before after : View) (p : ℕ) → Stands before → Retir
 retired-leaves before after p stands gives = did-leaves before after (event.Retire p) stands gives.1
 
 -- what retires is the oldest position
-pub retired-oldest : (before after : View) (p : ℕ) → RetireGives before after (Some p) → Did before (event.Retire (now before).retired) after
+pub retired-oldest : (before after : View) (p : ℕ) → RetireGives before after (Some p)
+    → Did before (event.Retire (now before).retired) after
 retired-oldest before after p gives = subst (λ q. Did before (event.Retire q) after) gives.0 gives.1
 
 pub retired-quiet : (before after : View) → struck_now before ≡ None → RetireGives before after None → IsQuiet after

@@ -1,4 +1,7 @@
--- What stands under a lock stays as it is while an attempt is out that holds the lock.
+-- What stands under a lock stays as it is while an attempt is out that holds the lock. Two positions that hold one lock
+-- are in conflict by locks, and of two that are in conflict only one is out. So a result that is taken meanwhile names
+-- no cell under the lock; and no restart comes, since an attempt that is out holds a lock, and a restart waits until
+-- all are at home.
 use Rattle.std.proofs.Common.{◌≡◌, inl, inr, ℕ, zero, suc, ◌≤◌, ◌<◌, true, false, List, [], ◌∷◌, ◌++◌, length, map, Contains, Some, refl, sym, ap, ◌∙◌, subst, arith, slice_get}
 use Rattle.std.proofs.lemmas.Bool.{eqb-true}
 use Rattle.std.proofs.lemmas.List.Elements.{Contains-append_right, Contains-push}

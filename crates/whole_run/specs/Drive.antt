@@ -63,7 +63,8 @@ all_lines batch = flat_map (λ (s : Subthread). s.lines) (run_in batch)
 pub record WritesRetired (batch : Batch) (before after : Option (List ℕ)) (journal : Journal) : Type 0 where
   pub part : ℕ
   pub bytes : Appends before after
-      (printed (lines_below batch (stage_in batch journal).retired) ++ take part (printed (lines_at batch (stage_in batch journal).retired)))
+      (printed (lines_below batch (stage_in batch journal).retired)
+      ++ take part (printed (lines_at batch (stage_in batch journal).retired)))
 
 -- the sink's count of faults does not fall, and the run stops with a write fault only where it rose
 pub record HasRunCause (before after : ℕ) (result : Result Report EngineStop) : Type 0 where

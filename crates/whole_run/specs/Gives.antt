@@ -43,7 +43,8 @@ use Rattle.whole_run.specs.View.{View, program_in, run_in, dependence_in, end_in
 -- each lock is at home: no present attempt of a position that was posted and not taken holds one
 abbrev pub NoneHolds : List Subthread → Stage → Type 0
 NoneHolds run at =
-    (p : ℕ) (s : Subthread) → slice_get run p ≡ Some s → Contains at.posted (p, present at p) → ¬ Contains at.taken (p, present at p) → s.held ≡ []
+    (p : ℕ) (s : Subthread) → slice_get run p ≡ Some s → Contains at.posted (p, present at p) → ¬ Contains at.taken (p, present at p)
+    → s.held ≡ []
 
 abbrev pub NoneLent : View → Type 0
 NoneLent view = NoneHolds (run_in view.batch) (now view)
@@ -76,8 +77,8 @@ pub record Did (before : View) (event : Event) (after : View) : Type 0 where
 abbrev pub IsAwaited : View → (thread : ℕ) → Type 0
 IsAwaited view t = (q : ℕ) × (last_below (run_in view.batch) t (now view).progress.front ≡ Some q) × ¬ WasTaken (now view) q
 
--- the rules of turns answer this of the run's table at this front, after some passes, of which exactly the next synchronisations are unknown
--- that follow a subthread of which no attempt was taken
+-- the rules of turns answer this of the run's table at this front, after some passes, of which exactly the next
+-- synchronisations are unknown that follow a subthread of which no attempt was taken
 pub record TurnsTo (view : View) (answer : Turn) : Type 0 where
   pub table : Table
   pub stands : StandsAt (program_in view.batch) view.batch.inputs view.batch.limits (now view).progress.front table
@@ -100,16 +101,18 @@ pub record TurnsToSettle (view : View) (thread : ℕ) : Type 0 where
   pub turns : TurnsTo view (turns.Issue thread begins child later)
   pub settles : is_settle begins.sync ≡ true
 
--- an issue makes the next position, or needs what a thread does next, or finds that a settle comes next while some position has not retired, or that the run
--- has ended
+-- an issue makes the next position, or needs what a thread does next, or finds that a settle comes next while some
+-- position has not retired, or that the run has ended
 abbrev pub IssueGives : (before after : View) → Issued → Type 0
 IssueGives before after (One p) = Did before (event.Issue p) after × TurnsToIssue before
 IssueGives before after (Needs t) = (after ≡ before) × IsAwaited before t × TurnsTo before (turns.Needs t)
 IssueGives before after (Settles t) =
-    (after ≡ learnt halt.Settling before) × ((dependence_in before.batch).settles (now before).progress.front ≡ true) × ((now before).retired < (now before).progress.front)
+    (after ≡ learnt halt.Settling before) × ((dependence_in before.batch).settles (now before).progress.front ≡ true)
+    × ((now before).retired < (now before).progress.front)
     × TurnsToSettle before t
 IssueGives before after (Ended ending) =
-    (after ≡ learnt (halt.Ended ending) before) × ((now before).progress.front ≡ (dependence_in before.batch).count) × (ending ≡ end_in before.batch)
+    (after ≡ learnt (halt.Ended ending) before) × ((now before).progress.front ≡ (dependence_in before.batch).count)
+    × (ending ≡ end_in before.batch)
     × TurnsTo before (turns.Ended ending)
 
 -- the position that is struck next, as far as the end is known
@@ -118,7 +121,8 @@ struck_now view =
     option_or (least_struck (is_due (now view).progress) view.batch.faults)
     (cond (is_known view) (least_struck (is_live (now view).progress) view.batch.faults) None)
 
--- each position that has not retired was run at some attempt, so that it is known what it touches; where all is rolled back, that need not be known
+-- each position that has not retired was run at some attempt, so that it is known what it touches; where all is rolled
+-- back, that need not be known
 abbrev pub IsScoutedBy : Recovery → Stage → Type 0
 IsScoutedBy Selective at = AllTaken at
 IsScoutedBy (Rollback every) at = ⊤
@@ -179,7 +183,8 @@ abbrev pub BlockIsOpen : Recovery → List Subthread → Stage → (position : �
 BlockIsOpen Selective run at p = ⊤
 BlockIsOpen (Rollback every) run at p = (q : ℕ) → q < cut_at (cuts_of every run) p → at.applied q ≡ true
 
--- the present attempt of the position may be posted, which waits for each earlier position that is in conflict with it by locks, and for its block
+-- the present attempt of the position may be posted, which waits for each earlier position that is in conflict with it
+-- by locks, and for its block
 pub record MayPostNow (view : View) (position : ℕ) : Type 0 where
   pub by_locks : MayPost (posting_of (run_in view.batch)) (now view) position (present (now view) position)
   pub is_open : BlockIsOpen view.batch.recovery (run_in view.batch) (now view) position

@@ -18,11 +18,12 @@ TaskKeptLaw =
     (view after : View) (e : Event) (task : Task) → Stands view → Did view e after → TaskStands view task
     → ¬ Contains (now after).taken (task.pos, task.attempt) → TaskStands after task
 
--- whatever the faults, a settle hands the number of the plain run to control: where it may be issued, its register holds what it holds in the plain run
--- before that position
+-- whatever the faults, a settle hands the number of the plain run to control: where it may be issued, its register
+-- holds what it holds in the plain run before that position
 abbrev pub SettledNumberLaw : Type 0
 SettledNumberLaw =
-    (view : View) (p register control : ℕ) (s : Subthread) → Stands view → AllowedBy (run_in view.batch) view.batch.faults view.batch.recovery (now view) (event.Issue p)
+    (view : View) (p register control : ℕ) (s : Subthread) → Stands view
+    → AllowedBy (run_in view.batch) view.batch.faults view.batch.recovery (now view) (event.Issue p)
     → slice_get (run_in view.batch) p ≡ Some s → s.begins.sync ≡ sync.Settle register control
     → number_at (state_in view (RegistersOf s.thread)) register
     ≡ number_at ((before (program_in view.batch) view.batch.inputs view.batch.limits p).state (RegistersOf s.thread)) register

@@ -28,7 +28,8 @@ pub record AreNotes (telling : Telling) (view : View) (start written : Option (L
 pub record KeepsLeft (before after : View) : Type 0 where
   pub batch : after.batch ≡ before.batch
   pub retired : (now after).retired ≡ (now before).retired
-  pub applied : (p : ℕ) → (now before).retired ≤ p → (now after).applied p ≡ true → ((now before).applied p ≡ true) × (left_in after p ≡ left_in before p)
+  pub applied : (p : ℕ) → (now before).retired ≤ p → (now after).applied p ≡ true
+      → ((now before).applied p ≡ true) × (left_in after p ≡ left_in before p)
 
 -- so where the run restarts selectively
 abbrev pub KeepsLeftBy : (before after : View) → Type 0
@@ -37,14 +38,16 @@ KeepsLeftBy before after = before.batch.recovery ≡ Selective → KeepsLeft bef
 -- where the run restarts selectively, notes that are its own stay so, while the log comes to have other bytes
 abbrev pub KeepsNotes : (before after : View) → (telling later : Telling) → (written written' : Option (List ℕ)) → Type 0
 KeepsNotes before after telling later written written' =
-    before.batch.recovery ≡ Selective → (start : Option (List ℕ)) → AreNotes telling before start written → AreNotes later after start written'
+    before.batch.recovery ≡ Selective → (start : Option (List ℕ)) → AreNotes telling before start written
+    → AreNotes later after start written'
 
 -- so while the log is as it was, whatever bytes it has
 abbrev pub KeepsAllNotes : (before after : View) → (telling later : Telling) → Type 0
 KeepsAllNotes before after telling later = (written : Option (List ℕ)) → KeepsNotes before after telling later written written
 
 -- or of the last position that retired only a part was told
-abbrev pub StopsNotes : (before after : View) → (telling later : Telling) → (part : (start written : Option (List ℕ)) → List Effect → Type 0)
+abbrev pub StopsNotes : (before after : View) → (telling later : Telling)
+    → (part : (start written : Option (List ℕ)) → List Effect → Type 0)
     → (written written' : Option (List ℕ)) → Type 0
 StopsNotes before after telling later part written written' =
     before.batch.recovery ≡ Selective → (start : Option (List ℕ)) → AreNotes telling before start written
@@ -55,7 +58,8 @@ abbrev pub NotesTaken : Bool → (telling later : Telling) → ℕ → Effect �
 NotesTaken true telling later p e = NotesResult telling later p e
 NotesTaken false telling later p e = NotesNothing telling later
 
--- Notes of which nothing was told come to tell what all positions left that the journal retires, or, where the run stopped, a part of that of the last one.
+-- Notes of which nothing was told come to tell what all positions left that the journal retires, or, where the run
+-- stopped, a part of that of the last one.
 abbrev pub NotesRun : (telling later : Telling) → (part : (start written : Option (List ℕ)) → List Effect → Type 0) → Batch
     → (written written' : Option (List ℕ)) → Result Report EngineStop → Type 0
 NotesRun telling later part batch written written' result =

@@ -25,7 +25,8 @@ use Rattle.whole_run.specs.declared.calls.Halt.{Halt}
 use Rattle.whole_run.specs.declared.calls.Halt.TheVariants as halt
 use Rattle.subthread.specs.Tasks.{program_in as program_of, under_of, Suits}
 
--- what is run: the work that its tasks share, how it recovers from faults, the values at its start, its limits, and the faults that strike it
+-- what is run: the work that its tasks share, how it recovers from faults, the values at its start, its limits, and the
+-- faults that strike it
 pub record Batch : Type 0 where
   pub work : Work
   pub recovery : Recovery
@@ -85,7 +86,8 @@ now view = stage (dependence_in view.batch) view.batch.faults view.events
 
 -- what the store holds: the fold of what is applied
 abbrev pub state_in : View → State
-state_in view = fold (members_at (run_in view.batch) view.batch.faults (now view)) (start_in view.batch) (now view).applied (now view).progress.front
+state_in view =
+    fold (members_at (run_in view.batch) view.batch.faults (now view)) (start_in view.batch) (now view).applied (now view).progress.front
 
 abbrev pub is_known : View → Bool
 is_known view = is_some view.ended
@@ -112,8 +114,8 @@ IsHalt batch front halt.Settling = (dependence_in batch).settles front ≡ true
 abbrev pub begun : Batch → View
 begun batch = record { batch = batch; events = []; ended = None }
 
--- what stands between two calls: the work, the inputs and the limits suit one another, the journal is lawful, before what is out all that is in conflict with
--- it by locks is applied, and a halt that is known is one
+-- what stands between two calls: the work, the inputs and the limits suit one another, the journal is lawful, before
+-- what is out all that is in conflict with it by locks is applied, and a halt that is known is one
 pub record Stands (view : View) : Type 0 where
   pub suits : Suits view.batch.work (layout (program_in view.batch).heads) view.batch.inputs view.batch.limits
   pub short : AreShort view.batch.faults

@@ -33,7 +33,8 @@ pub record IsShort (trial : Trial) : Type 0 where
 
 -- the answer to the file of a trace with these bytes, after these files
 abbrev pub AnswersLines : Judge → (names : List Name) → (file : Name) → ToDo → Option (List ℕ) → Result (List TraceLine) Refusal → Type 0
-AnswersLines judge names file work bytes (Ok lines) = by_trace judge names file work bytes ≡ Supplies (names ++ file ∷ []) (tried judge work lines)
+AnswersLines judge names file work bytes (Ok lines) =
+    by_trace judge names file work bytes ≡ Supplies (names ++ file ∷ []) (tried judge work lines)
 AnswersLines judge names file work bytes (Err (BadInput line)) = by_trace judge names file work bytes ≡ Spoils (names ++ file ∷ []) line
 AnswersLines judge names file work bytes (Err (ReadFault name)) = file ≡ name
 AnswersLines judge names file work bytes (Err OutOfMemory) = ⊤

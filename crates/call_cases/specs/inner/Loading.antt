@@ -32,7 +32,8 @@ RefusesFile name file.OutOfMemory refusal = refusal ≡ refused.OutOfMemory
 abbrev pub IsRefusedBy : {T : Type 0} → Name → List ℕ → (text : List ℕ) → Result T Broken → Type 0
 IsRefusedBy name line text (Ok value) = (line ≡ input_line name 6 0) × (MOST_FILE_BYTES < length text)
 IsRefusedBy name line text (Err broken) =
-    (line ≡ input_line name 6 0) × (MOST_FILE_BYTES < length text) ⊎ (line ≡ input_line name (kind_number broken.0) broken.1) × (length text ≤ MOST_FILE_BYTES)
+    (line ≡ input_line name 6 0) × (MOST_FILE_BYTES < length text) ⊎ (line ≡ input_line name (kind_number broken.0) broken.1)
+    × (length text ≤ MOST_FILE_BYTES)
 
 -- what is answered, as it is seen, is what is meant by the bytes of the file, or its line
 abbrev pub AnswersRows : {A T : Type 0} → (A → T) → Name → (List ℕ → Result T Broken) → Option (List ℕ) → Result A Refusal → Type 0

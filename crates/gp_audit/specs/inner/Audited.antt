@@ -19,8 +19,8 @@ use Rattle.gp_audit.specs.declared.state.Seen.{Seen}
 use Rattle.gp_audit.specs.declared.state.Audit.{Audit}
 use Rattle.gp_audit.specs.Steps.{feet_in, before_step, settles_step}
 
--- the run, its faults, the positions that were issued, the pairs that were posted and not taken, the positions whose present attempt is not applied, and
--- how many have retired
+-- the run, its faults, the positions that were issued, the pairs that were posted and not taken, the positions whose
+-- present attempt is not applied, and how many have retired
 pub record Audited : Type 0 where
   pub steps : List Step
   pub faults : List Fault
@@ -31,7 +31,15 @@ pub record Audited : Type 0 where
 
 -- what an audit keeps
 abbrev pub kept : Audit → Audited
-kept a = record { steps = a.steps.now; faults = a.faults.now; seen = a.seen.items; out = a.out.items; waiting = a.waiting.items; retired = a.retired }
+kept a =
+    record {
+      steps = a.steps.now;
+      faults = a.faults.now;
+      seen = a.seen.items;
+      out = a.out.items;
+      waiting = a.waiting.items;
+      retired = a.retired;
+    }
 
 -- no event has happened
 abbrev pub nothing_seen : List Step → List Fault → Audited
@@ -107,7 +115,12 @@ module _ (a : Audited) where
   -- the restart of a position
   abbrev pub restart_at : ℕ → Restart
   restart_at p =
-      record { front = length a.seen; struck = p; attempt = (seen_at a.seen p).attempt; redo = dependents (clash_in (feet_in a.steps)) p (length a.seen) }
+      record {
+        front = length a.seen;
+        struck = p;
+        attempt = (seen_at a.seen p).attempt;
+        redo = dependents (clash_in (feet_in a.steps)) p (length a.seen);
+      }
 
   abbrev pub IsRestart : Restart → Option ℕ → Type 0
   IsRestart r None = ⊥
@@ -150,7 +163,8 @@ where_applied applied p = cond applied (p ∷ []) []
 
 abbrev pub waits_again : (front : ℕ) → List ℕ → List Seen → List ℕ
 waits_again front [] seen = []
-waits_again front (p ∷ redo) seen = where_applied (seen_at seen p).applied p ++ waits_again front redo (changed_at (raised_seen front) p seen)
+waits_again front (p ∷ redo) seen =
+    where_applied (seen_at seen p).applied p ++ waits_again front redo (changed_at (raised_seen front) p seen)
 
 -- what is kept after the line
 abbrev pub after_line : Audited → TraceLine → Audited
@@ -162,7 +176,8 @@ after_line a (line.Take p attempt applies) =
       out = filter (λ pair. not (same_attempt (p, attempt) pair)) a.out;
       waiting = left_waiting applies p a.waiting;
     }
-after_line a (line.Restart r) = record a { seen = all_raised (length a.seen) r.redo a.seen; waiting = a.waiting ++ waits_again (length a.seen) r.redo a.seen }
+after_line a (line.Restart r) =
+    record a { seen = all_raised (length a.seen) r.redo a.seen; waiting = a.waiting ++ waits_again (length a.seen) r.redo a.seen }
 after_line a (line.Retire p) = record a { retired = p + 1 }
 
 -- what is out was issued, and no attempt has a greater number than there may be faults

@@ -66,7 +66,8 @@ pub record Ahead (code : Code) (inputs : Inputs) (limits : Limits) (done : List 
   pub left : ℕ
   pub holds : Holds code inputs limits run plain
   pub alike : length run.threads.items ≡ length run.table.seats.items
-  pub order_is : done ++ map shown (steps (move (plain_program code) inputs limits) left plain) ≡ map shown (order (plain_program code) inputs limits)
+  pub order_is : done ++ map shown (steps (move (plain_program code) inputs limits) left plain)
+      ≡ map shown (order (plain_program code) inputs limits)
   pub last_is : state_after (move (plain_program code) inputs limits) left plain ≡ last_state (plain_program code) inputs limits
   pub count_is : left + plain.table.issued ≡ suc limits.subthreads
   pub limit_is : plain.table.limit ≡ limits.subthreads

@@ -54,7 +54,8 @@ pub record IsNew (code : Code) (task me : ℕ) (arguments registers : List ℤ) 
 
 -- a forked thread stands last
 abbrev pub Forks : Code → SyncOp → List ℤ → List Walk → List Walk → Type 0
-Forks code (sync.Fork task arguments) registers old new = (w : Walk) × (new ≡ old ++ w ∷ []) × IsNew code task (length old) arguments registers w
+Forks code (sync.Fork task arguments) registers old new =
+    (w : Walk) × (new ≡ old ++ w ∷ []) × IsNew code task (length old) arguments registers w
 Forks code _ registers old new = new ≡ old
 
 -- a fork makes one thread more
@@ -68,7 +69,8 @@ pub record Performed (old : Run) (t : ℕ) (begins : Next) (child : Option ℕ) 
   pub is : Walk
   pub done : Done
   pub at : slice_get old.threads.items t ≡ Some was
-  pub ran : RanWith (settled begins.sync was) old.shared begins.sync child (joined_of begins.sync old.threads.items) old.turns done is new.shared
+  pub ran : RanWith (settled begins.sync was) old.shared begins.sync child
+      (joined_of begins.sync old.threads.items) old.turns done is new.shared
   pub threads : Forks old.program.now begins.sync done.child (slice_set old.threads.items t is) new.threads.items
   pub table : table_of new.table ≡ learning (table_of old.table) t done.next
   pub owners : new.table.owners ≡ old.table.owners

@@ -53,7 +53,8 @@ abbrev pub data_from : Walk → SyncOp → Option ℕ → ℤ → ℕ → Data
 data_from walk begins child joined turns = all_worked joined (actions_from walk begins child turns) walk.data
 
 -- a subthread was run
-pub record RanWith (old : Walk) (shared : Shared) (begins : SyncOp) (child : Option ℕ) (joined : ℤ) (turns : ℕ) (done : Done) (new : Walk) (left : Shared) : Type 0 where
+pub record RanWith (old : Walk) (shared : Shared) (begins : SyncOp) (child : Option ℕ) (joined : ℤ) (turns : ℕ) (done : Done) (new : Walk)
+    (left : Shared) : Type 0 where
   pub next_is : done.next ≡ (body_from (at_work old shared) begins child turns).next
   pub at : point_of new ≡ (body_from (at_work old shared) begins child turns).at
   pub registers_are : new.data.registers ≡ (data_from (at_work old shared) begins child joined turns).registers

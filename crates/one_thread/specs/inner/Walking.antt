@@ -37,7 +37,8 @@ pub record LeadsTo (q : Point) (old new : Walk) : Type 0 where
 abbrev pub Stepped : Step Point → Went → Walk → Walk → Type 0
 Stepped (Silent q) went.On old new = LeadsTo q old new × (new.data ≡ old.data)
 Stepped (Act a q) went.On old new = LeadsTo q old new × ((joined : ℤ) → new.data ≡ recorded joined a old.data)
-Stepped (Iteration q) (went.Turned body) old new = (q ≡ going (point_of new) (plain_stmts body.now ++ left_of new.left)) × LeadsTo (point_of old) old new × (new.data ≡ old.data)
+Stepped (Iteration q) (went.Turned body) old new =
+    (q ≡ going (point_of new) (plain_stmts body.now ++ left_of new.left)) × LeadsTo (point_of old) old new × (new.data ≡ old.data)
 Stepped (Stop next) (went.Stopped n) old new = (n ≡ next) × LeadsTo (point_of old) old new × (new.data ≡ old.data)
 Stepped _ _ old new = ⊥
 
@@ -49,7 +50,8 @@ pub record GoesOn (b : Body Point) (old : Data) (c : Body Point) (new : Data) : 
 
 -- steps without a loop turn led from one walk to another, whatever turns are allowed
 pub record Came (old new : Walk) : Type 0 where
-  pub by : (turns : ℕ) → GoesOn (tree_body (setting_of old) turns (point_of old)) old.data (tree_body (setting_of old) turns (point_of new)) new.data
+  pub by : (turns : ℕ)
+      → GoesOn (tree_body (setting_of old) turns (point_of old)) old.data (tree_body (setting_of old) turns (point_of new)) new.data
   pub keeps : Keeps old new
 
 -- a walk stands before a loop turn or at a stop

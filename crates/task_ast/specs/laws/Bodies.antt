@@ -24,7 +24,8 @@ ValueLaw =
 
 -- a body is one step, and then the body from there
 abbrev pub BodyLaw : Type 0
-BodyLaw = (s : Setting) (turns : ℕ) (p : Point) → tree_body s turns p ≡ follow p (step s p) (tree_body s turns) (after_turn (step s) size turns)
+BodyLaw =
+    (s : Setting) (turns : ℕ) (p : Point) → tree_body s turns p ≡ follow p (step s p) (tree_body s turns) (after_turn (step s) size turns)
 
 -- `next_issue` is one turn, and then the same again where the turn passes
 abbrev pub TurnLaw : Type 0

@@ -30,5 +30,6 @@ NoDamageLaw = (e : Effect) → damaged (pos 0) e ≡ e
 abbrev pub FoldLaw : Type 0
 FoldLaw =
     (program : Program) (inputs : Inputs) (limits : Limits) (n : ℕ) (start : Plain)
-    → fold (member_in (steps (move program inputs limits) n start) (λ p. pos 0)) start.state (λ p. true) (length (steps (move program inputs limits) n start))
+    → fold (member_in (steps (move program inputs limits) n start) (λ p. pos 0)) start.state (λ p. true)
+    (length (steps (move program inputs limits) n start))
     ≡ (state_after (move program inputs limits) n start).state

@@ -55,4 +55,5 @@ module _ {P Q : Type 0} (Rests : SyncOp → P → Q → Type 0) where
     pub order : order_by m program inputs limits ≡ order_by n program inputs limits
     pub end : end_by m program inputs limits ≡ end_by n program inputs limits
     pub last : (last_by m program inputs limits).state ≡ (last_by n program inputs limits).state
-    pub positions : (p : ℕ) → InStep (λ left right. left ≡ right) m n (before_by m program inputs limits p) (before_by n program inputs limits p)
+    pub positions : (p : ℕ)
+        → InStep (λ left right. left ≡ right) m n (before_by m program inputs limits p) (before_by n program inputs limits p)

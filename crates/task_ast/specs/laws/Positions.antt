@@ -25,7 +25,9 @@ pub record CountsAt (program : Program) (inputs : Inputs) (limits : Limits) (p :
   pub lasts : (t : ℕ) → last_below (order program inputs limits) t p ≡ last_in (before program inputs limits p).table t
 
 abbrev pub CountsLaw : Type 0
-CountsLaw = (program : Program) (inputs : Inputs) (limits : Limits) (p : ℕ) → p ≤ length (order program inputs limits) → CountsAt program inputs limits p
+CountsLaw =
+    (program : Program) (inputs : Inputs) (limits : Limits) (p : ℕ) → p ≤ length (order program inputs limits)
+    → CountsAt program inputs limits p
 
 -- a thread's last subthread leads to its next synchronisation and to its point
 abbrev pub LeftLaw : Type 0
@@ -44,7 +46,8 @@ ThreadsLaw =
 abbrev pub FoldBelowLaw : Type 0
 FoldBelowLaw =
     (program : Program) (inputs : Inputs) (limits : Limits) (p : ℕ) → p ≤ length (order program inputs limits)
-    → fold (member_in (order program inputs limits) (λ q. pos 0)) (opening program inputs limits).state (λ q. true) p ≡ (before program inputs limits p).state
+    → fold (member_in (order program inputs limits) (λ q. pos 0)) (opening program inputs limits).state (λ q. true) p
+    ≡ (before program inputs limits p).state
 
 -- a subthread's lines are those of its effect on that fold
 abbrev pub LinesLaw : Type 0

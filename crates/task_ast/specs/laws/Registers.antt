@@ -9,13 +9,15 @@ use Rattle.task_ast.specs.Control.{with_value, with_number}
 
 -- an expression without data variables has one value whatever the registers hold
 abbrev pub ControlValueLaw : Type 0
-ControlValueLaw = (e : Expr) (env : Env) (registers : List (Name × ℤ)) → IsFalse (has_data e) → value e (record env { regs = registers }) ≡ value e env
+ControlValueLaw =
+    (e : Expr) (env : Env) (registers : List (Name × ℤ)) → IsFalse (has_data e) → value e (record env { regs = registers }) ≡ value e env
 
 -- setting a name sets the first entry of that name alone, if there is one, and leaves the names
 abbrev pub FirstEntryLaw : Type 0
 FirstEntryLaw =
     (names : List (Name × ℤ)) (x : Name) (v : ℤ)
-    → (firsts (with_value names x v) ≡ firsts names) × (seconds (with_value names x v) ≡ slice_set (seconds names) (slot (firsts names) x) v)
+    → (firsts (with_value names x v) ≡ firsts names)
+    × (seconds (with_value names x v) ≡ slice_set (seconds names) (slot (firsts names) x) v)
 
 -- setting a variable by its number leaves the names, and the number of a name is that of its first entry
 abbrev pub NumberLaw : Type 0

@@ -40,9 +40,11 @@ module _ {P : Type 0} (machine : Machine P) (program : Program) (inputs : Inputs
   -- what a turn tells of the run
   pub data TurnTellsBy (p : ℕ) (table : Table) : Again Table Turn → Type 0 where
     passes : {after : Table} → StandsBy p after → TurnTellsBy p table (More after)
-    issues : {t : ℕ} {next : Next} {child : Option ℕ} {after : Table} → IsIssuedBy p table t next child after → TurnTellsBy p table (Done (Issue t next child after))
+    issues : {t : ℕ} {next : Next} {child : Option ℕ} {after : Table} → IsIssuedBy p table t next child after
+        → TurnTellsBy p table (Done (Issue t next child after))
     needs : {t : ℕ} → t < length table.seats → next_of table t ≡ None → TurnTellsBy p table (Done (Needs t))
-    ends : {ending : End} → p ≡ length (order_by machine program inputs limits) → end_by machine program inputs limits ≡ ending → TurnTellsBy p table (Done (Ended ending))
+    ends : {ending : End} → p ≡ length (order_by machine program inputs limits) → end_by machine program inputs limits ≡ ending
+        → TurnTellsBy p table (Done (Ended ending))
 
   -- what a table that stands so has of the run's own
   pub record AgreesBy (p : ℕ) (table : Table) : Type 0 where

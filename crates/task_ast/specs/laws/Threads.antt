@@ -95,7 +95,8 @@ table_after (Done _) = None
 
 -- no turn leaves more threads than may exist
 abbrev pub SeatsLaw : Type 0
-SeatsLaw = (table after : Table) → length table.seats ≤ most_threads → table_after (turn table) ≡ Some after → length after.seats ≤ most_threads
+SeatsLaw =
+    (table after : Table) → length table.seats ≤ most_threads → table_after (turn table) ≡ Some after → length after.seats ≤ most_threads
 
 -- so no table of a run has more
 abbrev pub MostThreadsLaw : Type 0

@@ -15,7 +15,8 @@ targets names = map target names
 -- the cells of the first array of this name, where the first of all arrays begins at a cell
 abbrev pub cells_from : (base : ℕ) → List (Name × ℕ) → Name → Option Cells
 cells_from base [] x = None
-cells_from base (array ∷ arrays) x = cond (is_name x array.0) (Some (record { first = base; size = array.1 })) (cells_from (base + array.1) arrays x)
+cells_from base (array ∷ arrays) x =
+    cond (is_name x array.0) (Some (record { first = base; size = array.1 })) (cells_from (base + array.1) arrays x)
 
 -- the cells that were found, or none
 abbrev pub cells_or_none : Option Cells → Cells

@@ -20,7 +20,8 @@ GoesBeyond true limit (t ∷ ts) [] = ⊥
 GoesBeyond true limit (t ∷ ts) (p ∷ ps) = (p.token ≡ t) × (p.nesting ≡ suc limit)
 
 -- The tokens before the rest stand for the value, whatever other tokens come after the next.
-pub record Took {A : Type 0} (limit depth : ℕ) (P : Form A) (read : Reader A) (ts : List Token) (value : A) (rest : List Token) : Type 0 where
+pub record Took {A : Type 0} (limit depth : ℕ) (P : Form A) (read : Reader A) (ts : List Token) (value : A)
+    (rest : List Token) : Type 0 where
   pub used : List Placed
   pub parts : ts ≡ tokens_of used ++ rest
   pub within : Within limit used
@@ -48,10 +49,13 @@ Sound room P read = (depth : ℕ) (ts : List Token) → Outcome (depth + room) d
 -- what reading gives on tokens that stand for a value: the value, or the first token beyond the limit
 abbrev pub verdict : {A : Type 0} → ℕ → List Placed → List Token → Result A Stop → Result A Stop
 verdict limit [] rest ok = ok
-verdict limit (p ∷ ps) rest ok = cond (leb p.nesting limit) (verdict limit ps rest ok) (Err (record { deep = true; rest = p.token ∷ (tokens_of ps ++ rest) }))
+verdict limit (p ∷ ps) rest ok =
+    cond (leb p.nesting limit) (verdict limit ps rest ok) (Err (record { deep = true; rest = p.token ∷ (tokens_of ps ++ rest) }))
 
 abbrev pub Complete : {A : Type 0} → ℕ → Form A → (Token → Bool) → Reader A → Type 0
-Complete {A} room P goes read = (depth : ℕ) (used : List Placed) (value : A) (rest : List Token) → P depth used value → begins goes rest ≡ false → read (tokens_of used ++ rest) ≡ verdict (depth + room) used rest (Ok (value, rest))
+Complete {A} room P goes read =
+    (depth : ℕ) (used : List Placed) (value : A) (rest : List Token) → P depth used value → begins goes rest ≡ false
+    → read (tokens_of used ++ rest) ≡ verdict (depth + room) used rest (Ok (value, rest))
 
 -- each has a token that passes the test at its front
 abbrev pub Starts : {A : Type 0} → (Token → Bool) → Form A → Type 0
@@ -63,4 +67,6 @@ Inhabited {A} P = (depth : ℕ) → (used : List Placed) × (value : A) × P dep
 
 -- Where a P ends, a Q that follows can't be mistaken for more of the P.
 abbrev pub Parted : {B : Type 0} → (Token → Bool) → Form B → (Token → Bool) → Type 0
-Parted {B} goes Q after = (depth : ℕ) (used : List Placed) (value : B) (rest : List Token) → Q depth used value → begins after rest ≡ false → begins goes (tokens_of used ++ rest) ≡ false
+Parted {B} goes Q after =
+    (depth : ℕ) (used : List Placed) (value : B) (rest : List Token) → Q depth used value → begins after rest ≡ false
+    → begins goes (tokens_of used ++ rest) ≡ false

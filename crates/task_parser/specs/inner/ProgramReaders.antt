@@ -19,7 +19,8 @@ unfoldable pub read_lock_head : Text → Reader Head
 read_lock_head text = read_made (lock_head_of text) (read_sized LOCK ◃ SEMICOLON)
 
 unfoldable pub read_barrier_head : Text → Reader Head
-read_barrier_head text = read_made (barrier_head_of text) (read_the BARRIER ▹ read_the NAME ◃ OPEN_PAREN ▹ read_the NUM ◃ CLOSE_PAREN ◃ SEMICOLON)
+read_barrier_head text =
+    read_made (barrier_head_of text) (read_the BARRIER ▹ read_the NAME ◃ OPEN_PAREN ▹ read_the NUM ◃ CLOSE_PAREN ◃ SEMICOLON)
 
 unfoldable pub read_from_file : Text → Reader (Option Text)
 read_from_file text = read_made (file_in text) (read_perhaps (is FROM) (read_after FROM (read_the QUOTED)))
@@ -38,7 +39,9 @@ abbrev pub param_starts : List ℕ
 param_starts = NAME ∷ REG ∷ []
 
 unfoldable pub read_head : Text → Reader Head
-read_head text = read_either (is LOCK) (read_lock_head text) (read_either (is BARRIER) (read_barrier_head text) (read_either (is RECORD) (read_record_head text) (read_feed_head text)))
+read_head text =
+    read_either (is LOCK) (read_lock_head text)
+    (read_either (is BARRIER) (read_barrier_head text) (read_either (is RECORD) (read_record_head text) (read_feed_head text)))
 
 unfoldable pub read_param : Text → Reader Param
 read_param text = read_either (is NAME) (read_made (ctl_param text) (read_the NAME)) (read_made (reg_param text) (read_the REG))
@@ -48,7 +51,9 @@ read_var_line text = read_made var_line_of (read_the VAR ▹ read_separated COMM
 
 unfoldable pub read_task : Text → ℕ → Reader TaskText
 read_task text room =
-    read_made (task_of text) (read_the TASK ▹ read_the NAME ◃ OPEN_PAREN ▹ read_list param_starts (read_param text) ◃ CLOSE_PAREN ◃ OPEN_BRACE ▹ repeat (is VAR) (read_var_line text) ▹ read_inner_block statement_starts (read_statement text room) ◃ CLOSE_BRACE)
+    read_made (task_of text) (read_the TASK ▹ read_the NAME ◃ OPEN_PAREN ▹ read_list param_starts
+    (read_param text) ◃ CLOSE_PAREN ◃ OPEN_BRACE ▹ repeat (is VAR) (read_var_line text) ▹ read_inner_block statement_starts
+    (read_statement text room) ◃ CLOSE_BRACE)
 
 unfoldable pub read_program : Text → ℕ → Reader Program
 read_program text room = read_made program_from (repeat (among head_starts) (read_head text) ▹ read_some (is TASK) (read_task text room))

@@ -57,7 +57,9 @@ unfoldable pub read_into_reg : Text → Reader (Option Text)
 read_into_reg text = read_made (reg_in text) (read_perhaps (is INTO) (read_after INTO (read_the REG)))
 
 unfoldable pub read_forking : Text → Reader Expr → Reader Stmt
-read_forking text e = read_made (fork_of text) (read_the FORK ▹ read_the NAME ◃ OPEN_PAREN ▹ read_list starting e ◃ CLOSE_PAREN ▹ read_into_name text ◃ SEMICOLON)
+read_forking text e =
+    read_made (fork_of text) (read_the FORK ▹ read_the NAME ◃ OPEN_PAREN ▹ read_list starting e ◃ CLOSE_PAREN ▹
+    read_into_name text ◃ SEMICOLON)
 
 unfoldable pub read_joining : Text → Reader Expr → Reader Stmt
 read_joining text e = read_made join_of (read_the JOIN ▹ e ▹ read_into_reg text ◃ SEMICOLON)
@@ -113,5 +115,8 @@ read_data_statement text zero = read_data_form text (read_expression text zero) 
 read_data_statement text (suc room) = read_data_form text (read_expression text (suc room)) (Some (read_data_statement text room))
 
 unfoldable pub read_statement : Text → ℕ → Reader Stmt
-read_statement text zero = read_either (among control_starts) (read_control_form text (read_expression text zero) None) (read_data_statement text zero)
-read_statement text (suc room) = read_either (among control_starts) (read_control_form text (read_expression text (suc room)) (Some (read_statement text room))) (read_data_statement text (suc room))
+read_statement text zero =
+    read_either (among control_starts) (read_control_form text (read_expression text zero) None) (read_data_statement text zero)
+read_statement text (suc room) =
+    read_either (among control_starts) (read_control_form text (read_expression text (suc room)) (Some (read_statement text room)))
+    (read_data_statement text (suc room))

@@ -27,8 +27,8 @@ use Rattle.whole_run.specs.declared.parts.backing.Checkpoint.{Checkpoint}
 abbrev pub held_of : Stored → List Entry → Held
 held_of store entries = record { state = state_of store; lines = lines_of entries }
 
--- the cut of the block of a position that has an entry, where none of that block has retired: the greatest multiple that is not above it, or the
--- oldest position where that is a settle
+-- the cut of the block of a position that has an entry, where none of that block has retired: the greatest multiple
+-- that is not above it, or the oldest position where that is a settle
 abbrev pub cut_after : (every position : ℕ) → (oldest : Option Entry) → Option ℕ
 cut_after every p None = None
 cut_after every p (Some oldest) =
@@ -69,11 +69,12 @@ pub record HasShape (store copy : Stored) : Type 0 where
   pub away : length copy.away ≡ length store.away
   pub home : IsAllHome copy
 
--- what stands of the stage: where all is rolled back, that of the blocks too, that a settle which was issued has all before it retired, and that later
--- positions began no earlier
+-- what stands of the stage: where all is rolled back, that of the blocks too, that a settle which was issued has all
+-- before it retired, and that later positions began no earlier
 abbrev pub StandsBy : List Subthread → List Fault → Recovery → Stage → Type 0
 StandsBy run faults Selective at = StageStands (dependence_of run) faults at
-StandsBy run faults (Rollback every) at = BlocksStand (cuts_of every run) (dependence_of run) faults at × DrivingStands (dependence_of run) at × (1 ≤ every)
+StandsBy run faults (Rollback every) at =
+    BlocksStand (cuts_of every run) (dependence_of run) faults at × DrivingStands (dependence_of run) at × (1 ≤ every)
 
 module _ (run : List Subthread) (faults : List Fault) (start : State) where
   -- a checkpoint is a copy at its cut
@@ -85,7 +86,8 @@ module _ (run : List Subthread) (faults : List Fault) (start : State) where
   -- where the present attempt of a position is posted, there is a checkpoint at its cut, unless some of its block has retired
   abbrev pub HasCheckpoints : (every : ℕ) → Stage → List Checkpoint → Type 0
   HasCheckpoints every at checkpoints =
-      (p : ℕ) → at.retired ≤ cut_at (cuts_of every run) p → Contains at.posted (p, present at p) → HasCut checkpoints (cut_at (cuts_of every run) p)
+      (p : ℕ) → at.retired ≤ cut_at (cuts_of every run) p → Contains at.posted (p, present at p)
+      → HasCut checkpoints (cut_at (cuts_of every run) p)
 
   -- what copies undo: the store holds the fold of what is applied, and there are the checkpoints that a rollback may go back to
   pub record CopiesStand (every : ℕ) (at : Stage) (entries : List Entry) (store : Stored) (backup : Backup) : Type 0 where

@@ -28,7 +28,8 @@ use Rattle.whole_run.specs.inner.RingStands.{from_before, RingStands}
 
 -- what a plan is to definitions
 abbrev pub batch_in : Plan → Batch
-batch_in plan = record { work = plan.work.now; recovery = plan.recovery; inputs = plan.inputs.value; limits = plan.limits; faults = plan.faults.list }
+batch_in plan =
+    record { work = plan.work.now; recovery = plan.recovery; inputs = plan.inputs.value; limits = plan.limits; faults = plan.faults.list }
 
 -- what contracts see of the parts
 abbrev pub view_of : Batch → Parts → View
@@ -77,7 +78,8 @@ pub record JournalStands (batch : Batch) (events : List Event) (restarts : List 
   pub ended_is : IsEnd batch (stage_of batch events).progress.front ended
 
 -- the entries and the store, and what undoes
-pub record WindowStands (batch : Batch) (at : Stage) (table : Table) (entries : List Entry) (store : Stored) (backup : Backup) : Type 0 where
+pub record WindowStands (batch : Batch) (at : Stage) (table : Table) (entries : List Entry) (store : Stored)
+    (backup : Backup) : Type 0 where
   pub entries_are : EntriesStand (run_in batch) at entries
   pub backed : BackedBy (run_in batch) batch.faults (start_in batch) batch.recovery at entries store backup
   pub placed : All (IsPlaced batch) entries
@@ -87,7 +89,8 @@ pub record WindowStands (batch : Batch) (at : Stage) (table : Table) (entries : 
   pub home : IsHome batch table store
 
 -- all that is kept
-pub record Keeps (batch : Batch) (table : Table) (places : List Place) (entries : List Entry) (store : Stored) (backup : Backup) (events : List Event)
+pub record Keeps (batch : Batch) (table : Table) (places : List Place) (entries : List Entry) (store : Stored)
+    (backup : Backup) (events : List Event)
     (restarts : List Restart) (issued : ℕ) (ended : Option Halt) : Type 0 where
   pub fit : IsFit batch
   pub journal : JournalStands batch events restarts issued ended
@@ -96,5 +99,6 @@ pub record Keeps (batch : Batch) (table : Table) (places : List Place) (entries 
 
 abbrev pub Kept : Batch → Parts → Type 0
 Kept batch parts =
-    Keeps batch parts.ring.table parts.places.items parts.rol.entries parts.store parts.backup parts.events.items parts.restarts.items parts.issued
+    Keeps batch parts.ring.table parts.places.items parts.rol.entries parts.store parts.backup parts.events.items
+    parts.restarts.items parts.issued
     parts.ended

@@ -29,7 +29,8 @@ names_thread _ n = true
 
 -- a place in which a settle has set its variable to the value that the state has
 abbrev pub settled_place : SyncOp → State → (thread : ℕ) → Place → Place
-settled_place (sync.Settle register control) state t place = record { at = place.at; ctl = slice_set place.ctl control (number_at (state (RegistersOf t)) register) }
+settled_place (sync.Settle register control) state t place =
+    record { at = place.at; ctl = slice_set place.ctl control (number_at (state (RegistersOf t)) register) }
 settled_place _ state t place = place
 
 abbrev pub settled_in : SyncOp → State → (thread : ℕ) → Prepared → Prepared
@@ -44,8 +45,10 @@ pub record PreparedFor (batch : Batch) (table : Table) (places : List Place) (t 
 
 -- what is prepared for the next turn
 abbrev pub IsPrepared : Batch → Table → List Place → Option Prepared → Type 0
-IsPrepared batch table places None = (t : ℕ) (next : Next) → ahead table ≡ Some (t, next) → names_thread next.sync (length table.seats) ≡ false
-IsPrepared batch table places (Some prepared) = (t : ℕ) (next : Next) → ahead table ≡ Some (t, next) → PreparedFor batch table places t next.sync prepared
+IsPrepared batch table places None =
+    (t : ℕ) (next : Next) → ahead table ≡ Some (t, next) → names_thread next.sync (length table.seats) ≡ false
+IsPrepared batch table places (Some prepared) =
+    (t : ℕ) (next : Next) → ahead table ≡ Some (t, next) → PreparedFor batch table places t next.sync prepared
 
 -- whether a child starts
 abbrev pub forks : Option Prepared → Bool
@@ -112,7 +115,8 @@ pub record HasRoom (parts : Parts) : Type 0 where
 
 -- one turn answers, or passes, after which fewer turns may pass
 abbrev pub TurnGives : Batch → (before after : Parts) → Option Issued → Type 0
-TurnGives batch before after None = (view_of batch after ≡ view_of batch before) × (turns_left after.ring.table < turns_left before.ring.table)
+TurnGives batch before after None =
+    (view_of batch after ≡ view_of batch before) × (turns_left after.ring.table < turns_left before.ring.table)
 TurnGives batch before after (Some issued) = IssueGives (view_of batch before) (view_of batch after) issued
 
 -- what the turns of an issue keep

@@ -53,7 +53,8 @@ pub record IsQuiet (view : View) : Type 0 where
 -- the run has ended, or a settle waits for some position to retire, or some position below the front was never taken
 abbrev pub IsIssued : View → Type 0
 IsIssued view =
-    ((ending : End) × (view.ended ≡ Some (halt.Ended ending))) ⊎ ((view.ended ≡ Some halt.Settling) × ((now view).retired < (now view).progress.front))
+    ((ending : End) × (view.ended ≡ Some (halt.Ended ending)))
+    ⊎ ((view.ended ≡ Some halt.Settling) × ((now view).retired < (now view).progress.front))
     ⊎ ((q : ℕ) × (q < (now view).progress.front) × ¬ WasTaken (now view) q)
 
 -- what was written since `start` is the lines of all positions that have retired
@@ -67,7 +68,8 @@ KeepsWritten before after written later = (start : Option (List ℕ)) → Wrote 
 -- these, and then a part of the lines of the next one
 pub record WrotePart (start : Option (List ℕ)) (view : View) (written : Option (List ℕ)) : Type 0 where
   pub part : ℕ
-  pub bytes : Appends start written (printed (lines_below view.batch (now view).retired) ++ take part (printed (lines_at view.batch (now view).retired)))
+  pub bytes : Appends start written (printed (lines_below view.batch (now view).retired)
+      ++ take part (printed (lines_at view.batch (now view).retired)))
 
 -- what was written then is still so, or a part of the next lines was written besides
 abbrev pub KeepsPart : (before after : View) → (written later : Option (List ℕ)) → Type 0

@@ -54,7 +54,8 @@ pub record IsApplied (recovery : Recovery) (p : ℕ) (locks : List ℕ) (effect 
   pub counted : AdvancesBy recovery others backup backup'
 
 -- it was, or all is as before
-abbrev pub IsAppliedWhere : (fresh : Bool) → Recovery → (p : ℕ) → (locks : List ℕ) → Effect → (store later : Stored) → (entries others : List Entry)
+abbrev pub IsAppliedWhere : (fresh : Bool) → Recovery → (p : ℕ) → (locks : List ℕ) → Effect → (store later : Stored)
+    → (entries others : List Entry)
     → (backup backup' : Backup) → Type 0
 IsAppliedWhere true recovery p locks effect store later entries others backup backup' =
     IsApplied recovery p locks effect store later entries others backup backup'

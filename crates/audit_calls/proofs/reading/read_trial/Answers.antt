@@ -14,10 +14,14 @@ returns-in-Ok-None-clause-case g c = λ judge.
 
 pub returns-clause-shelf : goal.returns-clause-shelf
 returns-clause-shelf g c =
-    let some : audited_by (texts c.args.words.now) ≡ Some c.in-Ok-Some.audited = sym (rw c.in-Ok-Some.field-0-is at c.in-Ok-Some.ensures.audited) in
-    subst (λ audited. TouchesShelf MayRead audited (g.H.Shelf.failed c.args.shelf.now) (g.H.Shelf.failed c.read_audited.new.shelf) c.read_audited.result) (sym some) c.read_audited.ensures.shelf
+    let some : audited_by (texts c.args.words.now) ≡ Some c.in-Ok-Some.audited =
+    sym (rw c.in-Ok-Some.field-0-is at c.in-Ok-Some.ensures.audited) in
+    subst (λ audited. TouchesShelf MayRead audited (g.H.Shelf.failed c.args.shelf.now)
+    (g.H.Shelf.failed c.read_audited.new.shelf) c.read_audited.result) (sym some) c.read_audited.ensures.shelf
 
 pub returns-clause-case : goal.returns-clause-case
 returns-clause-case g c = λ judge.
-    let some : audited_by (texts c.args.words.now) ≡ Some c.in-Ok-Some.audited = sym (rw c.in-Ok-Some.field-0-is at c.in-Ok-Some.ensures.audited) in
-    asked_case (asking judge) (texts c.args.words.now) (case_of judge) (g.H.Shelf.files c.args.shelf.now) c.in-Ok-Some.audited c.read_audited.result some (c.read_audited.ensures.case judge)
+    let some : audited_by (texts c.args.words.now) ≡ Some c.in-Ok-Some.audited =
+    sym (rw c.in-Ok-Some.field-0-is at c.in-Ok-Some.ensures.audited) in
+    asked_case (asking judge) (texts c.args.words.now) (case_of judge)
+    (g.H.Shelf.files c.args.shelf.now) c.in-Ok-Some.audited c.read_audited.result some (c.read_audited.ensures.case judge)

@@ -11,9 +11,11 @@ pub returns-in_err-verdict : goal.returns-in_err-verdict
 returns-in_err-verdict g c = λ judge.
     let verdict = (tried_in judge c.args.trial.now).verdict in
     let stopped = err_from_is_err_and c.from_residual.result c.from_residual.ensures.1 in
-    stopped_memory (verdict_text verdict) (verdict_status verdict) (g.O.Sink.written c.args.out.now) (g.O.Sink.faults c.args.out.now) c.from_residual.result stopped.0 stopped.1 stopped.2
+    stopped_memory (verdict_text verdict) (verdict_status verdict) (g.O.Sink.written c.args.out.now)
+    (g.O.Sink.faults c.args.out.now) c.from_residual.result stopped.0 stopped.1 stopped.2
 
 pub returns : goal.returns
 returns g c = λ judge.
     let out = change_of g.O.Sink.written g.O.Sink.faults c.args.out.now c.tell.new.out in
-    subst (λ (verdict : Verdict). PutFor (verdict_text verdict) (verdict_status verdict) out c.tell.result) (c.in_ok-verdict.ensures judge) c.tell.ensures
+    subst (λ (verdict : Verdict). PutFor (verdict_text verdict) (verdict_status verdict) out c.tell.result)
+    (c.in_ok-verdict.ensures judge) c.tell.ensures

@@ -11,4 +11,6 @@ audit-requires-clause-few_steps c =
 pub returns : goal.returns
 returns c =
     let trial = c.args.trial.now in
-    IfOk-weaker c.audit.result _ _ (λ verdict is judge. verdict_judged judge (work_of trial.request) trial.lines c.in_ok-ran.ran.order verdict c.in_ok-ran.ensures.order is) c.audit.ensures
+    IfOk-weaker c.audit.result _ _ (λ verdict is judge.
+    verdict_judged judge (work_of trial.request) trial.lines c.in_ok-ran.ran.order verdict c.in_ok-ran.ensures.order is)
+    c.audit.ensures

@@ -5,7 +5,8 @@ use Rattle.batch_files.proofs.FeedFacts.{no_numbers, numbers_more}
 use Rattle.batch_files.proofs.feeds.push_numbers.Goals as goal
 
 pub returns-in_default : goal.returns-in_default
-returns-in_default c = (refl, no_numbers (fields_of c.args.row.now) c.loop-field.field (rw c.len-field-end.ensures at c.loop-field-test.true) (search rules))
+returns-in_default c =
+    (refl, no_numbers (fields_of c.args.row.now) c.loop-field.field (rw c.len-field-end.ensures at c.loop-field-test.true) (search rules))
 
 pub loop-field-preserved : goal.loop-field-preserved
 loop-field-preserved c =
@@ -15,5 +16,7 @@ loop-field-preserved c =
     record {
       numbers = inv.numbers ++ number ∷ [];
       read = rw add-one (numbers_more (fields_of c.args.row.now) c.loop-field.field number inv.numbers (sym c.in-Some.ensures) inv.read);
-      pushed = rw (inv.pushed, to_z-of_z w64 number fits) at c.in_ok-push.ensures.items ∙ append_assoc c.args.cells.now.items inv.numbers (number ∷ []);
+      pushed =
+          rw (inv.pushed, to_z-of_z w64 number fits) at c.in_ok-push.ensures.items
+          ∙ append_assoc c.args.cells.now.items inv.numbers (number ∷ []);
     }

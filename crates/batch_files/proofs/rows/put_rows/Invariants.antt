@@ -9,5 +9,6 @@ invariant-loop-number g l = record {
   trim : l.reader.trim ≡ trim.None;
   ready : Ready l.reader;
   config : l.reader.config ≡ default_config;
-  passed : Passed (g.T.Table.rule l.fn.table) (strip_bom l.fn.bytes) l.reader.state (source_of (λ s. Some s.now) l.reader) l.number (g.T.Table.holds l.fn.table l.table);
+  passed : Passed (g.T.Table.rule l.fn.table)
+      (strip_bom l.fn.bytes) l.reader.state (source_of (λ s. Some s.now) l.reader) l.number (g.T.Table.holds l.fn.table l.table);
 }

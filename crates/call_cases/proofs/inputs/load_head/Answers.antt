@@ -5,11 +5,13 @@ use Rattle.call_cases.proofs.inputs.load_head.Goals as goal
 pub returns-in-RecHead-clause-told : goal.returns-in-RecHead-clause-told
 returns-in-RecHead-clause-told g c =
     let head = c.in-RecHead in
-    record_step (g.H.Shelf.files c.args.shelf.now) c.args.head.now head.name head.size head.by head.from head.line c.natural.result (seen c.args.loading.now)
+    record_step (g.H.Shelf.files c.args.shelf.now) c.args.head.now head.name head.size head.by head.from head.line c.natural.result
+    (seen c.args.loading.now)
     (seen c.load_record.new.loading) c.load_record.result head.is c.natural.ensures c.load_record.ensures.told
 
 pub returns-in-FeedHead-clause-told : goal.returns-in-FeedHead-clause-told
 returns-in-FeedHead-clause-told g c =
     let head = c.in-FeedHead in
-    feed_step (g.H.Shelf.files c.args.shelf.now) c.args.head.now head.name head.fields head.from head.line c.natural-in-FeedHead.result (seen c.args.loading.now) (seen c.load_feed.new.loading) c.load_feed.result
+    feed_step (g.H.Shelf.files c.args.shelf.now) c.args.head.now head.name head.fields head.from head.line c.natural-in-FeedHead.result
+    (seen c.args.loading.now) (seen c.load_feed.new.loading) c.load_feed.result
     head.is c.natural-in-FeedHead.ensures c.load_feed.ensures.told

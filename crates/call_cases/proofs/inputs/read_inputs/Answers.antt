@@ -9,13 +9,17 @@ use Rattle.call_cases.proofs.inputs.read_inputs.Goals as goal
 pub returns-in-Err-clause-failed : goal.returns-in-Err-clause-failed
 returns-in-Err-clause-failed g c =
     let inv = c.loop-head.invariant in
-    let among = subst (λ before. ReadsAmong {T = Unit {0}} (names_in c.head-item.result) before (g.H.Shelf.failed c.load_head.new.shelf) (Err c.in-Err.refusal)) inv.failed c.in-Err.ensures.failed in
+    let among =
+    subst (λ before. ReadsAmong {T = Unit {0}} (names_in c.head-item.result) before (g.H.Shelf.failed c.load_head.new.shelf)
+    (Err c.in-Err.refusal)) inv.failed c.in-Err.ensures.failed in
     among_all c.args.heads.now c.loop-head.head-index c.head-item.result _ _ c.in-Err.refusal c.loop-head-test.true c.head-item.is among
 
 pub returns-in-Err-clause-told : goal.returns-in-Err-clause-told
 returns-in-Err-clause-told g c =
     let inv = c.loop-head.invariant in
-    loads_stop (g.H.Shelf.files c.loop-head.shelf) (g.H.Shelf.files c.args.shelf.now) c.args.heads.now c.loop-head.head-index c.head-item.result (seen c.loop-head.loading) (seen c.load_head.new.loading) _ _ c.in-Err.refusal
+    loads_stop (g.H.Shelf.files c.loop-head.shelf)
+    (g.H.Shelf.files c.args.shelf.now) c.args.heads.now c.loop-head.head-index c.head-item.result (seen c.loop-head.loading)
+    (seen c.load_head.new.loading) _ _ c.in-Err.refusal
     inv.kept c.loop-head-test.true c.head-item.is inv.told c.in-Err.ensures.told c.in-Err.ensures.failed
 
 pub loop-head-preserved : goal.loop-head-preserved
@@ -25,8 +29,14 @@ loop-head-preserved g c =
       kept = c.in-Ok.ensures.kept ∙ inv.kept;
       failed = c.in-Ok.ensures.failed ∙ inv.failed;
       room = c.in-Ok.ensures.room;
-      counts = counts_more c.args.heads.now c.loop-head.head-index c.head-item.result (seen c.loop-head.loading) (seen c.load_head.new.loading) c.loop-head-test.true c.head-item.is inv.counts c.in-Ok.ensures.grows;
-      readable = (readable_at c.args.heads.now c.loop-head.head-index c.head-item.result c.loop-head-test.true c.head-item.is inv.readable).1;
-      told = loads_more (g.H.Shelf.files c.loop-head.shelf) (g.H.Shelf.files c.args.shelf.now) c.args.heads.now c.loop-head.head-index c.head-item.result (seen c.loop-head.loading) (seen c.load_head.new.loading)
+      counts =
+          counts_more c.args.heads.now c.loop-head.head-index c.head-item.result (seen c.loop-head.loading)
+          (seen c.load_head.new.loading) c.loop-head-test.true c.head-item.is inv.counts c.in-Ok.ensures.grows;
+      readable =
+          (readable_at c.args.heads.now c.loop-head.head-index c.head-item.result c.loop-head-test.true c.head-item.is inv.readable).1;
+      told =
+          loads_more (g.H.Shelf.files c.loop-head.shelf)
+          (g.H.Shelf.files c.args.shelf.now) c.args.heads.now c.loop-head.head-index c.head-item.result (seen c.loop-head.loading)
+          (seen c.load_head.new.loading)
           inv.kept c.loop-head-test.true c.head-item.is inv.told c.in-Ok.ensures.told;
     }

@@ -11,5 +11,7 @@ invariant-loop-head g l = record {
   room : l.loading.room ≡ room_after l.loading.feeds.items;
   counts : Counts (take l.head-index l.heads) (seen l.loading);
   readable : AreReadable (drop l.head-index l.heads);
-  told : IfSome (g.H.Shelf.files l.fn.shelf) (λ files. load files (file_names (take l.head-index l.heads)) (seen l.loading) (drop l.head-index l.heads) ≡ load files [] nothing l.heads);
+  told : IfSome (g.H.Shelf.files l.fn.shelf)
+      (λ files. load files (file_names (take l.head-index l.heads)) (seen l.loading) (drop l.head-index l.heads)
+      ≡ load files [] nothing l.heads);
 }

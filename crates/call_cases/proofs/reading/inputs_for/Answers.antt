@@ -7,4 +7,5 @@ use Rattle.call_cases.proofs.reading.inputs_for.Goals as goal
 
 pub read_inputs-requires : goal.read_inputs-requires
 read_inputs-requires g c =
-    subst AreReadable (sym (c.as_slice.ensures ∙ ap (λ p. p.heads) c.program.ensures)) (readable (plain_program (program_of c.args.checked.now)) c.args.checked.now.accepted.faultless)
+    subst AreReadable (sym (c.as_slice.ensures ∙ ap (λ p. p.heads) c.program.ensures))
+    (readable (plain_program (program_of c.args.checked.now)) c.args.checked.now.accepted.faultless)

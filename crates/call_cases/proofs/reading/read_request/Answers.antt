@@ -14,15 +14,20 @@ returns-in-Ok-None-clause-case g c =
 
 pub returns-clause-shelf : goal.returns-clause-shelf
 returns-clause-shelf g c =
-    let some : asked_by (texts c.args.words.now) ≡ Some c.in-Ok-Some.asked = sym (rw c.in-Ok-Some.field-0-is at c.in-Ok-Some.ensures.asked) in
-    subst (λ asked. TouchesShelf MayRead asked (g.H.Shelf.failed c.args.shelf.now) (g.H.Shelf.failed c.read_for.new.shelf) c.read_for.result) (sym some) c.read_for.ensures.shelf
+    let some : asked_by (texts c.args.words.now) ≡ Some c.in-Ok-Some.asked =
+    sym (rw c.in-Ok-Some.field-0-is at c.in-Ok-Some.ensures.asked) in
+    subst (λ asked. TouchesShelf MayRead asked (g.H.Shelf.failed c.args.shelf.now)
+    (g.H.Shelf.failed c.read_for.new.shelf) c.read_for.result) (sym some) c.read_for.ensures.shelf
 
 pub returns-clause-case : goal.returns-clause-case
 returns-clause-case g c =
-    let some : asked_by (texts c.args.words.now) ≡ Some c.in-Ok-Some.asked = sym (rw c.in-Ok-Some.field-0-is at c.in-Ok-Some.ensures.asked) in
-    asked_case asking (texts c.args.words.now) case_of (g.H.Shelf.files c.args.shelf.now) c.in-Ok-Some.asked c.read_for.result some c.read_for.ensures.case
+    let some : asked_by (texts c.args.words.now) ≡ Some c.in-Ok-Some.asked =
+    sym (rw c.in-Ok-Some.field-0-is at c.in-Ok-Some.ensures.asked) in
+    asked_case asking (texts c.args.words.now) case_of
+    (g.H.Shelf.files c.args.shelf.now) c.in-Ok-Some.asked c.read_for.result some c.read_for.ensures.case
 
 pub returns-clause-unread : goal.returns-clause-unread
 returns-clause-unread g c = λ nothing.
-    let some : asked_by (texts c.args.words.now) ≡ Some c.in-Ok-Some.asked = sym (rw c.in-Ok-Some.field-0-is at c.in-Ok-Some.ensures.asked) in
+    let some : asked_by (texts c.args.words.now) ≡ Some c.in-Ok-Some.asked =
+    sym (rw c.in-Ok-Some.field-0-is at c.in-Ok-Some.ensures.asked) in
     c.read_for.ensures.unread (subst (ReadsNothing commands) some nothing)

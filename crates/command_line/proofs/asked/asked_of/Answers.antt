@@ -11,10 +11,15 @@ taken-requires c = ap is_simple_and_free c.in_ok-parser.ensures ∙ simple_app c
 pub returns-in-Some-clause-asked : goal.returns-in-Some-clause-asked
 returns-in-Some-clause-asked c =
     let words = texts c.args.words.now in
-    let parsed = parsed_by (app_of c.in_ok-parser.parser) (app_for c.args.verb) words (Some c.in-Some.matches) c.in_ok-matches.field-0 c.in_ok-parser.ensures c.in-Some.is c.in_ok-matches.ensures in
-    IfOk-weaker c.asked_in.result _ _ (λ asked is. is ∙ asked_taken c.args.waits c.args.verb words c.in-Some.matches parsed) c.asked_in.ensures.asked
+    let parsed =
+    parsed_by (app_of c.in_ok-parser.parser) (app_for c.args.verb) words
+    (Some c.in-Some.matches) c.in_ok-matches.field-0 c.in_ok-parser.ensures c.in-Some.is c.in_ok-matches.ensures in
+    IfOk-weaker c.asked_in.result _ _ (λ asked is. is ∙ asked_taken c.args.waits c.args.verb words c.in-Some.matches parsed)
+    c.asked_in.ensures.asked
 
 pub returns-in-None-clause-asked : goal.returns-in-None-clause-asked
 returns-in-None-clause-asked c =
     let words = texts c.args.words.now in
-    asked_refused c.args.waits c.args.verb words (parsed_by (app_of c.in_ok-parser.parser) (app_for c.args.verb) words None c.in_ok-matches.field-0 c.in_ok-parser.ensures c.in-None.is c.in_ok-matches.ensures)
+    asked_refused c.args.waits c.args.verb words
+    (parsed_by (app_of c.in_ok-parser.parser)
+    (app_for c.args.verb) words None c.in_ok-matches.field-0 c.in_ok-parser.ensures c.in-None.is c.in_ok-matches.ensures)

@@ -10,11 +10,13 @@ returns-in-Run c = IfOk-weaker c.for_run.result _ _ (λ parser is. is ∙ ap app
 pub returns-in_ok-parser-in-One : goal.returns-in_ok-parser-in-One
 unfolding app_for
 returns-in_ok-parser-in-One c =
-    IfOk-weaker c.with_limits.result _ _ (λ parser is. is ∙ ap with_limits c.in_ok-parser-in-One.ensures ∙ ap app_for (sym c.in-One.is)) c.with_limits.ensures
+    IfOk-weaker c.with_limits.result _ _ (λ parser is. is ∙ ap with_limits c.in_ok-parser-in-One.ensures
+    ∙ ap app_for (sym c.in-One.is)) c.with_limits.ensures
 
 pub returns-in-Check : goal.returns-in-Check
 unfolding app_for
-returns-in-Check c = IfOk-weaker c.on_program-in-Check.result _ _ (λ parser is. is ∙ ap app_for (sym c.in-Check.is)) c.on_program-in-Check.ensures
+returns-in-Check c =
+    IfOk-weaker c.on_program-in-Check.result _ _ (λ parser is. is ∙ ap app_for (sym c.in-Check.is)) c.on_program-in-Check.ensures
 
 pub returns-in-Soak : goal.returns-in-Soak
 unfolding app_for

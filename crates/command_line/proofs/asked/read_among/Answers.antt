@@ -7,4 +7,6 @@ use Rattle.command_line.proofs.asked.read_among.Goals as goal
 pub returns-clause-asked : goal.returns-clause-asked
 returns-clause-asked c =
     let named = ap named_verb (sym c.as_str.ensures.value) ∙ sym c.named_verb.ensures ∙ c.in-Some.is in
-    IfOk-weaker c.asked_of.result _ _ (λ asked is. is ∙ asked_first c.args.waits c.args.words.now c.word-item.result c.in-Some.verb c.in-len1-up.len_at_least c.word-item.is named) c.asked_of.ensures.asked
+    IfOk-weaker c.asked_of.result _ _ (λ asked is. is
+    ∙ asked_first c.args.waits c.args.words.now c.word-item.result c.in-Some.verb c.in-len1-up.len_at_least c.word-item.is named)
+    c.asked_of.ensures.asked

@@ -17,10 +17,15 @@ taken-requires c = ap is_simple_and_free c.in_ok-parser.ensures ∙ simple_audit
 pub returns-in-Some-clause-audited : goal.returns-in-Some-clause-audited
 returns-in-Some-clause-audited c =
     let words = texts c.args.words.now in
-    let parsed = parsed_by (app_of c.in_ok-parser.parser) for_audit words (Some c.in-Some.matches) c.in_ok-matches.field-0 c.in_ok-parser.ensures c.in-Some.is c.in_ok-matches.ensures in
-    IfOk-weaker c.audited_in.result _ _ (λ audited is. is ∙ read_taken audited_in for_audit words c.in-Some.matches parsed) c.audited_in.ensures.audited
+    let parsed =
+    parsed_by (app_of c.in_ok-parser.parser) for_audit words
+    (Some c.in-Some.matches) c.in_ok-matches.field-0 c.in_ok-parser.ensures c.in-Some.is c.in_ok-matches.ensures in
+    IfOk-weaker c.audited_in.result _ _ (λ audited is. is ∙ read_taken audited_in for_audit words c.in-Some.matches parsed)
+    c.audited_in.ensures.audited
 
 pub returns-in-None-clause-audited : goal.returns-in-None-clause-audited
 returns-in-None-clause-audited c =
     let words = texts c.args.words.now in
-    read_refused audited_in for_audit words (parsed_by (app_of c.in_ok-parser.parser) for_audit words None c.in_ok-matches.field-0 c.in_ok-parser.ensures c.in-None.is c.in_ok-matches.ensures)
+    read_refused audited_in for_audit words (parsed_by
+    (app_of c.in_ok-parser.parser) for_audit words None c.in_ok-matches.field-0 c.in_ok-parser.ensures c.in-None.is
+    c.in_ok-matches.ensures)

@@ -17,10 +17,14 @@ taken-requires c = ap is_simple_and_free c.in_ok-parser.ensures ∙ simple_ckpt
 pub returns-in-Some-clause-asked : goal.returns-in-Some-clause-asked
 returns-in-Some-clause-asked c =
     let words = texts c.args.words.now in
-    let parsed = parsed_by (app_of c.in_ok-parser.parser) for_ckpt words (Some c.in-Some.matches) c.in_ok-matches.field-0 c.in_ok-parser.ensures c.in-Some.is c.in_ok-matches.ensures in
+    let parsed =
+    parsed_by (app_of c.in_ok-parser.parser) for_ckpt words
+    (Some c.in-Some.matches) c.in_ok-matches.field-0 c.in_ok-parser.ensures c.in-Some.is c.in_ok-matches.ensures in
     IfOk-weaker c.ckpt_in.result _ _ (λ asked is. is ∙ read_taken ckpt_in for_ckpt words c.in-Some.matches parsed) c.ckpt_in.ensures.asked
 
 pub returns-in-None-clause-asked : goal.returns-in-None-clause-asked
 returns-in-None-clause-asked c =
     let words = texts c.args.words.now in
-    read_refused ckpt_in for_ckpt words (parsed_by (app_of c.in_ok-parser.parser) for_ckpt words None c.in_ok-matches.field-0 c.in_ok-parser.ensures c.in-None.is c.in_ok-matches.ensures)
+    read_refused ckpt_in for_ckpt words (parsed_by
+    (app_of c.in_ok-parser.parser) for_ckpt words None c.in_ok-matches.field-0 c.in_ok-parser.ensures c.in-None.is
+    c.in_ok-matches.ensures)

@@ -8,5 +8,7 @@ use Rattle.command_line.proofs.log_words.for_log.Goals as goal
 pub returns : goal.returns
 unfolding for_log
 returns c =
-    let struck = c.in_ok-struck.ensures.shape c.option-faults.ensures.local ∙ ap₂ with_rule c.in_ok-program.ensures c.option-faults.ensures.rule in
-    IfOk-weaker c.with_crew.result _ _ (λ parser is. is ∙ ap with_crew (c.in_ok-limited.ensures ∙ ap with_limits struck)) c.with_crew.ensures
+    let struck =
+    c.in_ok-struck.ensures.shape c.option-faults.ensures.local ∙ ap₂ with_rule c.in_ok-program.ensures c.option-faults.ensures.rule in
+    IfOk-weaker c.with_crew.result _ _ (λ parser is. is
+    ∙ ap with_crew (c.in_ok-limited.ensures ∙ ap with_limits struck)) c.with_crew.ensures

@@ -8,5 +8,6 @@ use Rattle.command_line.proofs.resume_words.for_resume.Goals as goal
 pub returns : goal.returns
 unfolding for_resume
 returns c =
-    let logged = c.in_ok-logged.ensures.shape c.positional-log.ensures.local ∙ ap₂ with_rule c.in_ok-program.ensures c.positional-log.ensures.rule in
+    let logged =
+    c.in_ok-logged.ensures.shape c.positional-log.ensures.local ∙ ap₂ with_rule c.in_ok-program.ensures c.positional-log.ensures.rule in
     IfOk-weaker c.with_limits.result _ _ (λ parser is. is ∙ ap with_limits logged) c.with_limits.ensures

@@ -17,10 +17,15 @@ taken-requires c = ap is_simple_and_free c.in_ok-parser.ensures ∙ simple_resum
 pub returns-in-Some-clause-resumed : goal.returns-in-Some-clause-resumed
 returns-in-Some-clause-resumed c =
     let words = texts c.args.words.now in
-    let parsed = parsed_by (app_of c.in_ok-parser.parser) for_resume words (Some c.in-Some.matches) c.in_ok-matches.field-0 c.in_ok-parser.ensures c.in-Some.is c.in_ok-matches.ensures in
-    IfOk-weaker c.resumed_in.result _ _ (λ resumed is. is ∙ read_taken resumed_in for_resume words c.in-Some.matches parsed) c.resumed_in.ensures.resumed
+    let parsed =
+    parsed_by (app_of c.in_ok-parser.parser) for_resume words
+    (Some c.in-Some.matches) c.in_ok-matches.field-0 c.in_ok-parser.ensures c.in-Some.is c.in_ok-matches.ensures in
+    IfOk-weaker c.resumed_in.result _ _ (λ resumed is. is ∙ read_taken resumed_in for_resume words c.in-Some.matches parsed)
+    c.resumed_in.ensures.resumed
 
 pub returns-in-None-clause-resumed : goal.returns-in-None-clause-resumed
 returns-in-None-clause-resumed c =
     let words = texts c.args.words.now in
-    read_refused resumed_in for_resume words (parsed_by (app_of c.in_ok-parser.parser) for_resume words None c.in_ok-matches.field-0 c.in_ok-parser.ensures c.in-None.is c.in_ok-matches.ensures)
+    read_refused resumed_in for_resume words (parsed_by
+    (app_of c.in_ok-parser.parser) for_resume words None c.in_ok-matches.field-0 c.in_ok-parser.ensures c.in-None.is
+    c.in_ok-matches.ensures)

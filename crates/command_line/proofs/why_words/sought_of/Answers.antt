@@ -17,10 +17,15 @@ taken-requires c = ap is_simple_and_free c.in_ok-parser.ensures ∙ simple_why
 pub returns-in-Some-clause-sought : goal.returns-in-Some-clause-sought
 returns-in-Some-clause-sought c =
     let words = texts c.args.words.now in
-    let parsed = parsed_by (app_of c.in_ok-parser.parser) for_why words (Some c.in-Some.matches) c.in_ok-matches.field-0 c.in_ok-parser.ensures c.in-Some.is c.in_ok-matches.ensures in
-    IfOk-weaker c.sought_in.result _ _ (λ sought is. is ∙ read_taken sought_in for_why words c.in-Some.matches parsed) c.sought_in.ensures.sought
+    let parsed =
+    parsed_by (app_of c.in_ok-parser.parser) for_why words
+    (Some c.in-Some.matches) c.in_ok-matches.field-0 c.in_ok-parser.ensures c.in-Some.is c.in_ok-matches.ensures in
+    IfOk-weaker c.sought_in.result _ _ (λ sought is. is ∙ read_taken sought_in for_why words c.in-Some.matches parsed)
+    c.sought_in.ensures.sought
 
 pub returns-in-None-clause-sought : goal.returns-in-None-clause-sought
 returns-in-None-clause-sought c =
     let words = texts c.args.words.now in
-    read_refused sought_in for_why words (parsed_by (app_of c.in_ok-parser.parser) for_why words None c.in_ok-matches.field-0 c.in_ok-parser.ensures c.in-None.is c.in_ok-matches.ensures)
+    read_refused sought_in for_why words (parsed_by
+    (app_of c.in_ok-parser.parser) for_why words None c.in_ok-matches.field-0 c.in_ok-parser.ensures c.in-None.is
+    c.in_ok-matches.ensures)

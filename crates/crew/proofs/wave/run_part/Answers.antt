@@ -37,13 +37,15 @@ loop-task-init g c =
     }
 
 pub run_noted-requires : goal.run_noted-requires
-run_noted-requires g c = All-head (Fits c.args.work.now) c.in-Some.task c.next.new.self.rest.items (rw c.in-Some.ensures.steps.0 at c.loop-task.invariant.fits)
+run_noted-requires g c =
+    All-head (Fits c.args.work.now) c.in-Some.task c.next.new.self.rest.items (rw c.in-Some.ensures.steps.0 at c.loop-task.invariant.fits)
 
 pub returns : goal.returns
 returns g c =
     let w = c.args.work.now in
     let runs = c.loop-task.runs.items in
-    let none : c.loop-task.task-iterator.rest.items ≡ [] = nothing_left c.loop-task.task-iterator.rest.items (sym c.loop-task.task-iterator.rest.ok.0 ∙ c.in-None.ensures.steps.0) in
+    let none : c.loop-task.task-iterator.rest.items ≡ [] =
+    nothing_left c.loop-task.task-iterator.rest.items (sym c.loop-task.task-iterator.rest.ok.0 ∙ c.in-None.ensures.steps.0) in
     rw c.from_vec.ensures (record {
       tasks = sym (append-nil (map (task_of w) runs)) ∙ (ap (λ r. map (task_of w) runs ++ r) (sym none) ∙ c.loop-task.invariant.tasks);
       runs = c.loop-task.invariant.runs;

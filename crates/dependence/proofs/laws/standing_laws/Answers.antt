@@ -6,8 +6,12 @@ pub returns : goal.returns
 returns c = record {
   short = λ faults in_range k d l. (in_range k d l).delay;
   initial = λ dependence faults. (initial-stands dependence faults, initial-issued);
-  event = λ dependence faults at event redoes short keeps stands allowed. happens-stands dependence redoes faults short at event keeps stands allowed;
-  journal = λ dependence faults at events redoes short keeps stands lawful. stands-from dependence redoes faults short keeps at events stands lawful;
+  event =
+      λ dependence faults at event redoes short keeps stands allowed.
+      happens-stands dependence redoes faults short at event keeps stands allowed;
+  journal =
+      λ dependence faults at events redoes short keeps stands lawful.
+      stands-from dependence redoes faults short keeps at events stands lawful;
   retired = keeps-retired;
   none_live = none-live;
   passes = issue-passes;

@@ -10,7 +10,8 @@ returns-then-conflict c = (
     c.loop-earlier.earlier,
     c.loop-earlier-test.true,
     c.if-marks-earlier.true,
-    (ClashIn-read c.args.feet.now c.loop-earlier.earlier c.args.position _ _ (omega arith) c.requires.in_range c.index-feet-earlier.is c.index-feet-position.is).0 (c.conflict.ensures.0 c.if-conflict.true),
+    (ClashIn-read c.args.feet.now c.loop-earlier.earlier c.args.position _ _
+        (omega arith) c.requires.in_range c.index-feet-earlier.is c.index-feet-position.is).0 (c.conflict.ensures.0 c.if-conflict.true),
   ),
   λ _. refl,
 )
@@ -21,7 +22,8 @@ loop-earlier-preserved c =
     (elim c.else-marks-earlier.branch [
       | else-marks-earlier-via-then-marks-earlier+else-conflict w ↦ λ m clash.
           both_ways w.conflict.result w.if-conflict.false
-          (w.conflict.ensures.1 ((ClashIn-read c.args.feet.now c.loop-earlier.earlier c.args.position _ _ (omega arith) c.requires.in_range w.index-feet-earlier.is w.index-feet-position.is).1 clash))
+          (w.conflict.ensures.1 ((ClashIn-read c.args.feet.now c.loop-earlier.earlier c.args.position _ _
+          (omega arith) c.requires.in_range w.index-feet-earlier.is w.index-feet-position.is).1 clash))
       | else-marks-earlier-via-else-marks-earlier w ↦ λ m clash. both_ways _ w.if-marks-earlier.false m
     ])
 

@@ -9,11 +9,14 @@ use Rattle.gp_audit.proofs.replay.restarts_of.Goals as goal
 
 pub loop-init : goal.loop-init
 loop-init c =
-    let start : kept c.new-audit.result ≡ nothing_seen c.args.order.now c.args.faults.now.list = c.new-audit.ensures ∙ (λ i. nothing_seen (c.as_slice.ensures i) (c.as_slice-2.ensures i)) in
+    let start : kept c.new-audit.result ≡ nothing_seen c.args.order.now c.args.faults.now.list =
+    c.new-audit.ensures ∙ (λ i. nothing_seen (c.as_slice.ensures i) (c.as_slice-2.ensures i)) in
     record {
       steps = ap (λ (a : Audited). a.steps) start;
       faults = ap (λ (a : Audited). a.faults) start;
-      replays = subst (Replays (kept c.new-audit.result)) (sym c.new-made.ensures) (subst (λ a. Replays a []) (sym start) (nothing-replays c.args.order.now c.args.faults.now.list));
+      replays =
+          subst (Replays (kept c.new-audit.result)) (sym c.new-made.ensures)
+          (subst (λ a. Replays a []) (sym start) (nothing-replays c.args.order.now c.args.faults.now.list));
       progress_is = λ i. progress_in (start i) (c.new-made.ensures i);
     }
 

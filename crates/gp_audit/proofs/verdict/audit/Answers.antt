@@ -14,14 +14,17 @@ use Rattle.gp_audit.proofs.verdict.audit.Goals as goal
 pub takes_line-requires-clause-within : goal.takes_line-requires-clause-within
 takes_line-requires-clause-within c =
     let so = c.loop-number.invariant in
-    let short : AreShort c.loop-number.audit.faults.now = subst AreShort (sym so.faults) (λ k d l. (c.args.faults.now.in_range k d l).delay) in
+    let short : AreShort c.loop-number.audit.faults.now =
+    subst AreShort (sym so.faults) (λ k d l. (c.args.faults.now.in_range k d l).delay) in
     told-within (kept c.loop-number.audit) _ so.told short
 
 pub takes_line-requires-clause-noteworthy : goal.takes_line-requires-clause-noteworthy
 takes_line-requires-clause-noteworthy c =
     let so = c.loop-number.invariant in
-    let short : AreShort c.loop-number.audit.faults.now = subst AreShort (sym so.faults) (λ k d l. (c.args.faults.now.in_range k d l).delay) in
-    told-noteworthy (kept c.loop-number.audit) _ so.told short (subst (λ (faults : List Fault). length faults ≤ _) (sym so.faults) c.args.faults.now.few)
+    let short : AreShort c.loop-number.audit.faults.now =
+    subst AreShort (sym so.faults) (λ k d l. (c.args.faults.now.in_range k d l).delay) in
+    told-noteworthy (kept c.loop-number.audit) _ so.told short
+    (subst (λ (faults : List Fault). length faults ≤ _) (sym so.faults) c.args.faults.now.few)
 
 pub returns-then-not-branch : goal.returns-then-not-branch
 returns-then-not-branch c =
@@ -32,18 +35,27 @@ returns-then-not-branch c =
     let before = take i all in
     let line = c.index-lines-number.result in
     let test = c.loop-number-test.true in
-    let short : AreShort c.loop-number.audit.faults.now = subst AreShort (sym so.faults) (λ k d l. (c.args.faults.now.in_range k d l).delay) in
+    let short : AreShort c.loop-number.audit.faults.now =
+    subst AreShort (sym so.faults) (λ k d l. (c.args.faults.now.in_range k d l).delay) in
     let none : ¬ Takes a line = λ takes. false≢true (sym c.if-not-branch.true ∙ c.in_ok-takes_line.ensures.takes.1 takes) in
-    let more : take (i + 1) all ≡ before ++ line ∷ [] = take_more all i line test ∙ ap (λ l. before ++ l ∷ []) (sym c.index-lines-number.is) in
+    let more : take (i + 1) all ≡ before ++ line ∷ [] =
+    take_more all i line test ∙ ap (λ l. before ++ l ∷ []) (sym c.index-lines-number.is) in
     let long = length-take-le i all (omega arith) in
     record {
       before = before;
       line = line;
       later = drop (i + 1) all;
-      lines_are = sym c.as_slice-lines.ensures ∙ (sym (take-append-drop (i + 1) all) ∙ (ap (λ l. l ++ drop (i + 1) all) more ∙ append_assoc before (line ∷ []) (drop (i + 1) all)));
+      lines_are =
+          sym c.as_slice-lines.ensures ∙ (sym (take-append-drop (i + 1) all)
+          ∙ (ap (λ l. l ++ drop (i + 1) all) more ∙ append_assoc before (line ∷ []) (drop (i + 1) all)));
       numbered = omega arith;
-      lawful = of-given (λ steps faults lines. LawfulLines (dependence_by steps) faults lines) a.steps c.args.order.now a.faults c.args.faults.now.list before before so.steps so.faults refl so.told.lawful;
-      unlawful = of-given (λ steps faults lines. ¬ LawfulLines (dependence_by steps) faults lines) a.steps c.args.order.now a.faults c.args.faults.now.list (before ++ line ∷ []) (before ++ line ∷ []) so.steps so.faults refl (told-stops a before so.told short line none);
+      lawful =
+          of-given (λ steps faults lines. LawfulLines (dependence_by steps) faults lines) a.steps c.args.order.now a.faults
+          c.args.faults.now.list before before so.steps so.faults refl so.told.lawful;
+      unlawful =
+          of-given (λ steps faults lines. ¬ LawfulLines (dependence_by steps) faults lines) a.steps c.args.order.now a.faults
+          c.args.faults.now.list (before ++ line ∷ []) (before ++ line ∷ []) so.steps so.faults refl
+          (told-stops a before so.told short line none);
     }
 
 pub loop-number-preserved : goal.loop-number-preserved
@@ -53,15 +65,19 @@ loop-number-preserved c =
     let i = c.loop-number.number in
     let all = c.as_slice-lines.result.now in
     let line = c.index-lines-number.result in
-    let short : AreShort c.loop-number.audit.faults.now = subst AreShort (sym so.faults) (λ k d l. (c.args.faults.now.in_range k d l).delay) in
+    let short : AreShort c.loop-number.audit.faults.now =
+    subst AreShort (sym so.faults) (λ k d l. (c.args.faults.now.in_range k d l).delay) in
     let takes : Takes a line = c.in_ok-takes_line.ensures.takes.0 c.if-not-branch.false in
     let noted : kept c.takes_line.new.self ≡ after_line a line = c.in_ok-takes_line.ensures.noted c.if-not-branch.false in
     let next = told-next a (take i all) so.told short line takes in
-    let more : take (i + 1) all ≡ take i all ++ line ∷ [] = take_more all i line c.loop-number-test.true ∙ ap (λ l. take i all ++ l ∷ []) (sym c.index-lines-number.is) in
+    let more : take (i + 1) all ≡ take i all ++ line ∷ [] =
+    take_more all i line c.loop-number-test.true ∙ ap (λ l. take i all ++ l ∷ []) (sym c.index-lines-number.is) in
     record {
       steps = ap (λ (x : Audited). x.steps) noted ∙ ((same-steps a line).0 ∙ so.steps);
       faults = ap (λ (x : Audited). x.faults) noted ∙ ((same-steps a line).1 ∙ so.faults);
-      told = subst (λ lines. Told (kept c.takes_line.new.self) lines) (sym more) (subst (λ x. Told x (take i all ++ line ∷ [])) (sym noted) next);
+      told =
+          subst (λ lines. Told (kept c.takes_line.new.self) lines) (sym more)
+          (subst (λ x. Told x (take i all ++ line ∷ [])) (sym noted) next);
     }
 
 pub returns-then-is_whole : goal.returns-then-is_whole
@@ -71,9 +87,12 @@ returns-then-is_whole c =
     let all = c.as_slice-lines.result.now in
     let lines = take c.loop-number.number all in
     let whole : lines ≡ c.args.lines.now = take_all c.loop-number.number all c.loop-number-test.false ∙ c.as_slice-lines.ensures in
-    let short : AreShort c.loop-number.audit.faults.now = subst AreShort (sym so.faults) (λ k d l. (c.args.faults.now.in_range k d l).delay) in (
-      of-given (λ steps faults lines. LawfulLines (dependence_by steps) faults lines) a.steps c.args.order.now a.faults c.args.faults.now.list lines c.args.lines.now so.steps so.faults whole so.told.lawful,
-      of-given (λ steps faults lines. Complete (dependence_by steps) faults (events_of lines)) a.steps c.args.order.now a.faults c.args.faults.now.list lines c.args.lines.now so.steps so.faults whole
+    let short : AreShort c.loop-number.audit.faults.now =
+    subst AreShort (sym so.faults) (λ k d l. (c.args.faults.now.in_range k d l).delay) in (
+      of-given (λ steps faults lines. LawfulLines (dependence_by steps) faults lines) a.steps c.args.order.now a.faults
+          c.args.faults.now.list lines c.args.lines.now so.steps so.faults whole so.told.lawful,
+      of-given (λ steps faults lines. Complete (dependence_by steps) faults (events_of lines)) a.steps c.args.order.now a.faults
+          c.args.faults.now.list lines c.args.lines.now so.steps so.faults whole
           ((told-whole a lines so.told short).0 (sym c.is_whole.ensures ∙ c.if-is_whole.true)),
     )
 
@@ -84,8 +103,11 @@ returns c =
     let all = c.as_slice-lines.result.now in
     let lines = take c.loop-number.number all in
     let whole : lines ≡ c.args.lines.now = take_all c.loop-number.number all c.loop-number-test.false ∙ c.as_slice-lines.ensures in
-    let short : AreShort c.loop-number.audit.faults.now = subst AreShort (sym so.faults) (λ k d l. (c.args.faults.now.in_range k d l).delay) in (
-      of-given (λ steps faults lines. LawfulLines (dependence_by steps) faults lines) a.steps c.args.order.now a.faults c.args.faults.now.list lines c.args.lines.now so.steps so.faults whole so.told.lawful,
-      of-given (λ steps faults lines. ¬ Complete (dependence_by steps) faults (events_of lines)) a.steps c.args.order.now a.faults c.args.faults.now.list lines c.args.lines.now so.steps so.faults whole
+    let short : AreShort c.loop-number.audit.faults.now =
+    subst AreShort (sym so.faults) (λ k d l. (c.args.faults.now.in_range k d l).delay) in (
+      of-given (λ steps faults lines. LawfulLines (dependence_by steps) faults lines) a.steps c.args.order.now a.faults
+          c.args.faults.now.list lines c.args.lines.now so.steps so.faults whole so.told.lawful,
+      of-given (λ steps faults lines. ¬ Complete (dependence_by steps) faults (events_of lines)) a.steps c.args.order.now a.faults
+          c.args.faults.now.list lines c.args.lines.now so.steps so.faults whole
           (λ complete. false≢true (sym c.if-is_whole.false ∙ (c.is_whole.ensures ∙ (told-whole a lines so.told short).1 complete))),
     )

@@ -10,7 +10,8 @@ use Rattle.lock_checker.proofs.ends.end_branches.Goals as goal
 
 pub returns-in-Err : goal.returns-in-Err
 returns-in-Err c = λ old new earlier visits a b none leads walks.
-    told_between c.in-Err.fault earlier visits (visit c.args.line (fails_if (not (same_pairs a b)) BranchesDiffer) ∷ []) none (subst (λ r. Walks r old new visits b) c.in-Err.is walks)
+    told_between c.in-Err.fault earlier visits (visit c.args.line (fails_if (not (same_pairs a b)) BranchesDiffer) ∷ []) none
+    (subst (λ r. Walks r old new visits b) c.in-Err.is walks)
 
 pub returns-then-branch : goal.returns-then-branch
 returns-then-branch c = λ old new earlier visits a b none leads walks.
@@ -18,7 +19,8 @@ returns-then-branch c = λ old new earlier visits a b none leads walks.
     let first = pairs_of c.args.first.now in
     let second = pairs_of c.in-Ok.changes.items in
     let tells = subst (λ l. TellsAlike c.in_ok-lead_alike.field-0 first (pairs_of l)) c.deref.ensures.value c.in_ok-lead_alike.ensures in (
-      end_told c.args.line c.in_ok-lead_alike.field-0 old new first second earlier visits a b tells leads w.1 none w.0 ∙ ap (λ t. if t then None else Some (BranchesDiffer, c.args.line)) c.if-branch.true,
+      end_told c.args.line c.in_ok-lead_alike.field-0 old new first second earlier visits a b tells leads w.1 none w.0
+          ∙ ap (λ t. if t then None else Some (BranchesDiffer, c.args.line)) c.if-branch.true,
       (w.1.0, both_held c.args.line c.in_ok-lead_alike.field-0 old new first second earlier visits a b tells leads w.1 c.if-branch.true),
     )
 
@@ -28,4 +30,5 @@ returns c = λ old new earlier visits a b none leads walks.
     let first = pairs_of c.args.first.now in
     let second = pairs_of c.in-Ok.changes.items in
     let tells = subst (λ l. TellsAlike c.in_ok-lead_alike.field-0 first (pairs_of l)) c.deref.ensures.value c.in_ok-lead_alike.ensures in
-    end_told c.args.line c.in_ok-lead_alike.field-0 old new first second earlier visits a b tells leads w.1 none w.0 ∙ ap (λ t. if t then None else Some (BranchesDiffer, c.args.line)) c.if-branch.false
+    end_told c.args.line c.in_ok-lead_alike.field-0 old new first second earlier visits a b tells leads w.1 none w.0
+    ∙ ap (λ t. if t then None else Some (BranchesDiffer, c.args.line)) c.if-branch.false

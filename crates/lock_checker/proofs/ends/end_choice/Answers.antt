@@ -11,5 +11,7 @@ returns-in-Err c = λ line old new earlier visits end none walks.
 
 pub returns : goal.returns
 returns c = λ line old new earlier visits end none walks.
-    let w = subst (λ r. WalksAside r old new visits end) c.in-Ok.is walks in
-    (none_after line earlier visits none w.0, subst (λ l. Moves old (pairs_of l) new old) (sym c.clear.ensures.items) (unchanged old new [] (λ q. refl, λ q. refl) w.1))
+    let w = subst (λ r. WalksAside r old new visits end) c.in-Ok.is walks in (
+      none_after line earlier visits none w.0,
+      subst (λ l. Moves old (pairs_of l) new old) (sym c.clear.ensures.items) (unchanged old new [] (λ q. refl, λ q. refl) w.1),
+    )

@@ -6,4 +6,5 @@ use Rattle.lock_checker.specs.inner.Tables.{found}
 use Rattle.lock_checker.proofs.index.feed_table.Given as goal
 
 abbrev pub invariant-loop-head : goal.invariant-loop-head
-invariant-loop-head l = (x : plain.Name) → (is_some (found l.table x) || is_among x (feeds_of (drop l.head-index l.heads))) ≡ is_among x (feeds_of l.heads)
+invariant-loop-head l =
+    (x : plain.Name) → (is_some (found l.table x) || is_among x (feeds_of (drop l.head-index l.heads))) ≡ is_among x (feeds_of l.heads)

@@ -5,4 +5,5 @@ use Rattle.lock_checker.specs.inner.Tables.{found, or_else}
 use Rattle.lock_checker.proofs.index.lock_table.Given as goal
 
 abbrev pub invariant-loop-head : goal.invariant-loop-head
-invariant-loop-head l = (x : plain.Name) → or_else (found l.table x) (named x (locks_of (drop l.head-index l.heads))) ≡ named x (locks_of l.heads)
+invariant-loop-head l =
+    (x : plain.Name) → or_else (found l.table x) (named x (locks_of (drop l.head-index l.heads))) ≡ named x (locks_of l.heads)

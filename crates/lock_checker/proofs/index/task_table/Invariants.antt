@@ -7,4 +7,6 @@ use Rattle.lock_checker.specs.inner.Tables.{found, or_else}
 use Rattle.lock_checker.proofs.index.task_table.Given as goal
 
 abbrev pub invariant-loop-task : goal.invariant-loop-task
-invariant-loop-task l = (x : plain.Name) → or_else (option_map (λ task. plain_task task.now) (found l.table x)) (find (is_task x) (map plain_task (drop l.task-index l.program.tasks))) ≡ task_named (plain_program l.program) x
+invariant-loop-task l =
+    (x : plain.Name) → or_else (option_map (λ task. plain_task task.now) (found l.table x))
+    (find (is_task x) (map plain_task (drop l.task-index l.program.tasks))) ≡ task_named (plain_program l.program) x

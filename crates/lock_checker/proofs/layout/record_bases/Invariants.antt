@@ -8,6 +8,8 @@ use Rattle.lock_checker.proofs.layout.record_bases.Given as goal
 
 abbrev pub invariant-loop-head : goal.invariant-loop-head
 invariant-loop-head l = record {
-  found : (x : plain.Name) → or_else (found l.bases x) (option_map (λ n. l.base + n) (base_of (records_of (drop l.head-index l.heads)) x)) ≡ base_of (records_of l.heads) x;
+  found : (x : plain.Name)
+      → or_else (found l.bases x) (option_map (λ n. l.base + n) (base_of (records_of (drop l.head-index l.heads)) x))
+      ≡ base_of (records_of l.heads) x;
   cells : l.base + cells_in (records_of (drop l.head-index l.heads)) ≡ cells_in (records_of l.heads);
 }

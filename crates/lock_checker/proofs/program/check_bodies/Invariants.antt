@@ -6,4 +6,6 @@ use Rattle.lock_checker.proofs.program.check_bodies.Given as goal
 
 -- the bodies left tell the rest
 abbrev pub invariant-loop-task : goal.invariant-loop-task
-invariant-loop-task l = first_fault (bodies_visits (plain_program l.program) (map plain_task (drop l.task-index l.program.tasks))) ≡ first_fault (bodies_visits (plain_program l.program) (map plain_task l.program.tasks))
+invariant-loop-task l =
+    first_fault (bodies_visits (plain_program l.program) (map plain_task (drop l.task-index l.program.tasks)))
+    ≡ first_fault (bodies_visits (plain_program l.program) (map plain_task l.program.tasks))

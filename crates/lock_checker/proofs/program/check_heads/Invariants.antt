@@ -12,5 +12,6 @@ invariant-loop-head l = record {
   heads : AreHeads l.heads (take l.head-index l.program.heads);
   locks : l.heads.lock_cells ≤ MOST_CELLS;
   records : l.heads.record_cells ≤ MOST_CELLS;
-  told : first_fault (head_visits (plain_program l.program) (take l.head-index l.program.heads) (drop l.head-index l.program.heads)) ≡ first_fault (head_visits (plain_program l.program) [] l.program.heads);
+  told : first_fault (head_visits (plain_program l.program) (take l.head-index l.program.heads) (drop l.head-index l.program.heads))
+      ≡ first_fault (head_visits (plain_program l.program) [] l.program.heads);
 }

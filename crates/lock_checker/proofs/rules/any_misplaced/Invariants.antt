@@ -7,4 +7,6 @@ use Rattle.lock_checker.proofs.rules.any_misplaced.Given as goal
 
 -- no argument so far is misplaced
 abbrev pub invariant-loop-i : goal.invariant-loop-i
-invariant-loop-i l = list_any is_misplaced (zip (drop l.i l.params) (plain_exprs (drop l.i l.arguments))) ≡ list_any is_misplaced (zip l.params (plain_exprs l.arguments))
+invariant-loop-i l =
+    list_any is_misplaced (zip (drop l.i l.params) (plain_exprs (drop l.i l.arguments)))
+    ≡ list_any is_misplaced (zip l.params (plain_exprs l.arguments))

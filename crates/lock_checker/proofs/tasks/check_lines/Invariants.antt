@@ -12,5 +12,6 @@ invariant-loop-line l = record {
   variables : AreVariables l.variables (l.params ++ declared_in (take l.line-index l.lines));
   count : l.count ≡ length (l.params ++ declared_in (take l.line-index l.lines));
   few : l.count < MOST_VARIABLES;
-  told : first_fault (vars_visits (l.params ++ declared_in (take l.line-index l.lines)) (drop l.line-index l.lines)) ≡ first_fault (vars_visits l.params l.lines);
+  told : first_fault (vars_visits (l.params ++ declared_in (take l.line-index l.lines)) (drop l.line-index l.lines))
+      ≡ first_fault (vars_visits l.params l.lines);
 }

@@ -6,4 +6,5 @@ use Rattle.task_ast.specs.View.{plain_task}
 use Rattle.lock_checker.proofs.tasks.check_main.Given as goal
 
 abbrev pub invariant-loop-task : goal.invariant-loop-task
-invariant-loop-task l = find (is_task main) (map plain_task (drop l.task-index l.program.tasks)) ≡ find (is_task main) (map plain_task l.program.tasks)
+invariant-loop-task l =
+    find (is_task main) (map plain_task (drop l.task-index l.program.tasks)) ≡ find (is_task main) (map plain_task l.program.tasks)

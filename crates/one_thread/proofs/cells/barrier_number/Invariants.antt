@@ -4,6 +4,7 @@ use Rattle.one_thread.proofs.cells.barrier_number.Given as goal
 
 abbrev pub invariant-loop-head : goal.invariant-loop-head
 invariant-loop-head l = record {
-  same : option_map (λ n. l.count + n) (position (λ other. is_name l.barrier other.0) (barriers_of (drop l.head-index l.heads))) ≡ position (λ other. is_name l.barrier other.0) (barriers_of l.heads);
+  same : option_map (λ n. l.count + n) (position (λ other. is_name l.barrier other.0) (barriers_of (drop l.head-index l.heads)))
+      ≡ position (λ other. is_name l.barrier other.0) (barriers_of l.heads);
   few : l.count ≤ l.head-index;
 }

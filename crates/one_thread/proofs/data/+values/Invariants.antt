@@ -6,4 +6,5 @@ use Rattle.one_thread.proofs.data.+values.Given as goal
 
 abbrev pub invariant-chain_value-loop-link : goal.invariant-chain_value-loop-link
 invariant-chain_value-loop-link l =
-    option_map (λ m. terms_value m l.registers l.so_far) (terms l.names (plain_links (drop l.link-index l.links)) l.env) ≡ option_map (λ m. terms_value m l.registers l.fn.first) (terms l.names (plain_links l.links) l.env)
+    option_map (λ m. terms_value m l.registers l.so_far) (terms l.names (plain_links (drop l.link-index l.links)) l.env)
+    ≡ option_map (λ m. terms_value m l.registers l.fn.first) (terms l.names (plain_links l.links) l.env)

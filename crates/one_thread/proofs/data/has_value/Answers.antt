@@ -6,4 +6,6 @@ use Rattle.one_thread.proofs.Fitting.{has-term}
 use Rattle.one_thread.proofs.data.has_value.Goals as goal
 
 pub returns : goal.returns
-returns c = λ registers. (let e : c.is_some.result ≡ is_some (value (plain_expr c.args.e.now) c.args.env.now) = search rules in e) ∙ has-term registers (plain_expr c.args.e.now) c.args.env.now
+returns c =
+    λ registers. (let e : c.is_some.result ≡ is_some (value (plain_expr c.args.e.now) c.args.env.now) = search rules in e)
+    ∙ has-term registers (plain_expr c.args.e.now) c.args.env.now

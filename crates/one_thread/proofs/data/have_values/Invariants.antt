@@ -8,4 +8,5 @@ use Rattle.one_thread.proofs.data.have_values.Given as goal
 
 abbrev pub invariant-loop-e : goal.invariant-loop-e
 invariant-loop-e l =
-    (registers : List Name) → is_some (all_of (map (λ e. term registers e l.env) (plain_exprs (drop l.e-index l.es)))) ≡ is_some (all_of (map (λ e. term registers e l.env) (plain_exprs l.es)))
+    (registers : List Name) → is_some (all_of (map (λ e. term registers e l.env) (plain_exprs (drop l.e-index l.es))))
+    ≡ is_some (all_of (map (λ e. term registers e l.env) (plain_exprs l.es)))

@@ -8,4 +8,5 @@ pub loop-c-preserved : goal.loop-c-preserved
 loop-c-preserved c =
     let fits : SFits w64 c.number_at.result = search rules in
     let pushed = rw (to_z-of_z w64 c.number_at.result fits) at c.in_ok-push.ensures.ok in
-    cell-more (number_at c.args.records.now) c.loop-c.cells c.push.new.self c.number_at.result c.loop-c.c c.args.count c.loop-c-test.true pushed c.number_at.ensures ∙ c.loop-c.invariant
+    cell-more (number_at c.args.records.now) c.loop-c.cells c.push.new.self c.number_at.result c.loop-c.c c.args.count c.loop-c-test.true
+    pushed c.number_at.ensures ∙ c.loop-c.invariant

@@ -9,4 +9,5 @@ invariant-loop-other l = l.locks ≡ filter (λ x. nat_lt x l.lock) (take l.othe
 -- then the greater ones so far
 abbrev pub invariant-loop-other-2 : goal.invariant-loop-other-2
 invariant-loop-other-2 l =
-    l.locks ≡ filter (λ x. nat_lt x l.lock) l.held ++ cond l.holds (l.lock ∷ []) [] ++ filter (λ x. nat_lt l.lock x) (take l.other-index l.held)
+    l.locks ≡ filter (λ x. nat_lt x l.lock) l.held ++ cond l.holds (l.lock ∷ []) []
+    ++ filter (λ x. nat_lt l.lock x) (take l.other-index l.held)

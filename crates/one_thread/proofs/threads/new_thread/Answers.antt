@@ -6,7 +6,13 @@ use Rattle.one_thread.proofs.threads.new_thread.Goals as goal
 
 pub returns : goal.returns
 returns c =
-    let at = at-get _ c.args.program.now.tasks c.args.task c.in-Some.text.now c.as_slice.ensures c.in-Some.ensures.lookup.0 c.in-Some.ensures.lookup.1 in
-    let there = at-get c.args.slots.now c.args.slots.now c.args.task c.in-Some-get.names.now refl c.in-Some-get.ensures.lookup.0 c.in-Some-get.ensures.lookup.1 in
-    new-is c.args.program.now c.args.slots.now c.args.task c.args.me c.args.arguments.now c.args.registers _ c.in-Some.text.now c.in-Some-get.names.now c.requires at there
-    refl refl c.as_slice-2.ensures (c.new.ensures ∙ ap plain_stmts c.as_slice-3.ensures) c.in_ok-control_variables.ensures c.new-2.ensures c.in_ok-me.ensures refl
+    let at =
+    at-get _ c.args.program.now.tasks c.args.task c.in-Some.text.now c.as_slice.ensures c.in-Some.ensures.lookup.0
+    c.in-Some.ensures.lookup.1 in
+    let there =
+    at-get c.args.slots.now c.args.slots.now c.args.task c.in-Some-get.names.now refl c.in-Some-get.ensures.lookup.0
+    c.in-Some-get.ensures.lookup.1 in
+    new-is c.args.program.now c.args.slots.now c.args.task c.args.me c.args.arguments.now c.args.registers _ c.in-Some.text.now
+    c.in-Some-get.names.now c.requires at there
+    refl refl c.as_slice-2.ensures (c.new.ensures ∙ ap plain_stmts c.as_slice-3.ensures) c.in_ok-control_variables.ensures
+    c.new-2.ensures c.in_ok-me.ensures refl

@@ -5,6 +5,7 @@ use Rattle.one_thread.proofs.variables.add_controls.Given as goal
 
 abbrev pub invariant-loop-param : goal.invariant-loop-param
 invariant-loop-param l = record {
-  same : l.names ++ given (controls (drop l.param-index l.params)) (drop l.count l.values) ≡ l.fn.names ++ given (controls l.params) l.values;
+  same : l.names ++ given (controls (drop l.param-index l.params)) (drop l.count l.values)
+      ≡ l.fn.names ++ given (controls l.params) l.values;
   few : l.count ≤ l.param-index;
 }

@@ -10,5 +10,6 @@ returns-then-same_name c =
     let named : is_name c.args.name.now c.index-names-at.result.0 ≡ true = sym tested ∙ c.if-same_name.true in (
       below,
       λ p v is. assigned_first c.args.names.now c.args.name.now v c.loop-at.at p below is
-          (ap (λ x. is_name c.args.name.now x.0) (same_there c.args.names.now c.loop-at.at p c.index-names-at.result below is c.index-names-at.is) ∙ named) c.loop-at.invariant,
+          (ap (λ x. is_name c.args.name.now x.0) (same_there c.args.names.now c.loop-at.at p c.index-names-at.result below is
+          c.index-names-at.is) ∙ named) c.loop-at.invariant,
     )

@@ -7,4 +7,6 @@ use Rattle.one_thread.proofs.walk.data_fits.Given as goal
 
 abbrev pub invariant-loop-k : goal.invariant-loop-k
 invariant-loop-k l =
-    (s : Setting) (given registers : List Name) → is_some (data_arguments s given registers (drop l.k l.params) (plain_exprs (drop l.k l.es)) l.env) ≡ is_some (data_arguments s given registers l.params (plain_exprs l.es) l.env)
+    (s : Setting) (given registers : List Name)
+    → is_some (data_arguments s given registers (drop l.k l.params) (plain_exprs (drop l.k l.es)) l.env)
+    ≡ is_some (data_arguments s given registers l.params (plain_exprs l.es) l.env)

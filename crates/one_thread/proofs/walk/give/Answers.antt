@@ -11,12 +11,16 @@ use Rattle.one_thread.proofs.walk.give.Goals.{in-Reg+in-Some-data_value, in-Reg+
 pub returns-in_default : goal.returns-in_default
 returns-in_default c = λ joined s actions is.
     let whole = data_arguments s c.args.given.now c.args.names.now c.args.params.now (plain_exprs c.args.es.now) c.args.env.now in
-    ahead-done joined whole _ c.loop-k.data c.args.data.now (rest-end joined s c.args.given.now c.args.names.now c.args.env.now whole c.args.data.now c.args.params.now c.args.es.now c.loop-k.k c.in_default.ensures.lookup.0) (c.loop-k.invariant joined s) actions is
+    ahead-done joined whole _ c.loop-k.data c.args.data.now
+    (rest-end joined s c.args.given.now c.args.names.now c.args.env.now whole c.args.data.now c.args.params.now c.args.es.now c.loop-k.k
+    c.in_default.ensures.lookup.0) (c.loop-k.invariant joined s) actions is
 
 pub returns : goal.returns
 returns c = λ joined s actions is.
     let whole = data_arguments s c.args.given.now c.args.names.now c.args.params.now (plain_exprs c.args.es.now) c.args.env.now in
-    ahead-done joined whole _ c.loop-k.data c.args.data.now (rest-over joined s c.args.given.now c.args.names.now c.args.env.now whole c.args.data.now c.args.params.now c.args.es.now c.loop-k.k c.loop-k-test.false) (c.loop-k.invariant joined s) actions is
+    ahead-done joined whole _ c.loop-k.data c.args.data.now
+    (rest-over joined s c.args.given.now c.args.names.now c.args.env.now whole c.args.data.now c.args.params.now c.args.es.now
+    c.loop-k.k c.loop-k-test.false) (c.loop-k.invariant joined s) actions is
 
 pub loop-k-preserved : goal.loop-k-preserved
 loop-k-preserved c =
@@ -27,20 +31,31 @@ loop-k-preserved c =
           let fits : SFits w64 v = search rules in
           let is = rw w.as_slice.ensures at w.in-Some-data_value.ensures in
           let set = rw (to_z-of_z w64 v fits) at w.set_number.ensures in
-          let changed = w.data-is ∙ ap (λ l. record c.loop-k.data { child = l }) (set ∙ ap (λ k. slice_set c.loop-k.data.child k v) w.register_number.ensures) in
-          give-one joined s c.args.given.now c.args.names.now c.args.env.now whole c.args.data.now c.args.params.now c.args.es.now c.loop-k.k c.index-params-k.result c.in-Some.e.now w.in-Reg.x c.loop-k.data c.match-param.data
+          let changed =
+          w.data-is ∙ ap (λ l. record c.loop-k.data { child = l })
+          (set ∙ ap (λ k. slice_set c.loop-k.data.child k v) w.register_number.ensures) in
+          give-one joined s c.args.given.now c.args.names.now c.args.env.now whole c.args.data.now c.args.params.now c.args.es.now
+          c.loop-k.k c.index-params-k.result c.in-Some.e.now w.in-Reg.x c.loop-k.data c.match-param.data
           c.loop-k-test.true c.index-params-k.is c.in-Some.ensures.lookup.0 c.in-Some.ensures.lookup.1 w.in-Reg.is
-          (given-value joined (register_number s c.args.given.now w.in-Reg.x) (term c.args.names.now (plain_expr c.in-Some.e.now) c.args.env.now) v c.loop-k.data c.match-param.data is changed) (c.loop-k.invariant joined s)
+          (given-value joined (register_number s c.args.given.now w.in-Reg.x)
+          (term c.args.names.now (plain_expr c.in-Some.e.now) c.args.env.now) v c.loop-k.data c.match-param.data is changed)
+          (c.loop-k.invariant joined s)
       | in-Reg+in_default-data_value w ↦ λ joined s.
           let whole = data_arguments s c.args.given.now c.args.names.now c.args.params.now (plain_exprs c.args.es.now) c.args.env.now in
           let is = rw w.as_slice.ensures at w.in_default-data_value.ensures in
-          subst (λ d. AheadOf joined whole (rest_from joined s c.args.given.now c.args.names.now c.args.env.now whole c.args.data.now c.args.params.now c.args.es.now (c.loop-k.k + 1)) d c.args.data.now) (sym w.data-is)
-          (give-one joined s c.args.given.now c.args.names.now c.args.env.now whole c.args.data.now c.args.params.now c.args.es.now c.loop-k.k c.index-params-k.result c.in-Some.e.now w.in-Reg.x c.loop-k.data c.loop-k.data
+          subst (λ d. AheadOf joined whole (rest_from joined s c.args.given.now c.args.names.now c.args.env.now whole c.args.data.now
+          c.args.params.now c.args.es.now (c.loop-k.k + 1)) d c.args.data.now) (sym w.data-is)
+          (give-one joined s c.args.given.now c.args.names.now c.args.env.now whole c.args.data.now c.args.params.now c.args.es.now
+          c.loop-k.k c.index-params-k.result c.in-Some.e.now w.in-Reg.x c.loop-k.data c.loop-k.data
           c.loop-k-test.true c.index-params-k.is c.in-Some.ensures.lookup.0 c.in-Some.ensures.lookup.1 w.in-Reg.is
-          (no-value joined (register_number s c.args.given.now w.in-Reg.x) (term c.args.names.now (plain_expr c.in-Some.e.now) c.args.env.now) c.loop-k.data is) (c.loop-k.invariant joined s))
+          (no-value joined (register_number s c.args.given.now w.in-Reg.x)
+          (term c.args.names.now (plain_expr c.in-Some.e.now) c.args.env.now) c.loop-k.data is) (c.loop-k.invariant joined s))
       | in-Ctl w ↦ λ joined s.
           let whole = data_arguments s c.args.given.now c.args.names.now c.args.params.now (plain_exprs c.args.es.now) c.args.env.now in
-          subst (λ d. AheadOf joined whole (rest_from joined s c.args.given.now c.args.names.now c.args.env.now whole c.args.data.now c.args.params.now c.args.es.now (c.loop-k.k + 1)) d c.args.data.now) (sym w.data-is)
-          (give-past joined s c.args.given.now c.args.names.now c.args.env.now whole c.args.data.now c.args.params.now c.args.es.now c.loop-k.k c.index-params-k.result c.in-Some.e.now w.in-Ctl.field-0 c.loop-k.data
-          c.loop-k-test.true c.index-params-k.is c.in-Some.ensures.lookup.0 c.in-Some.ensures.lookup.1 w.in-Ctl.is (c.loop-k.invariant joined s))
+          subst (λ d. AheadOf joined whole (rest_from joined s c.args.given.now c.args.names.now c.args.env.now whole c.args.data.now
+          c.args.params.now c.args.es.now (c.loop-k.k + 1)) d c.args.data.now) (sym w.data-is)
+          (give-past joined s c.args.given.now c.args.names.now c.args.env.now whole c.args.data.now c.args.params.now c.args.es.now
+          c.loop-k.k c.index-params-k.result c.in-Some.e.now w.in-Ctl.field-0 c.loop-k.data
+          c.loop-k-test.true c.index-params-k.is c.in-Some.ensures.lookup.0 c.in-Some.ensures.lookup.1 w.in-Ctl.is
+          (c.loop-k.invariant joined s))
     ]

@@ -4,10 +4,12 @@ use Rattle.one_thread.proofs.SubthreadRuns.{starts, begins_ok}
 use Rattle.one_thread.proofs.work.start.Goals as goal
 
 pub returns-then-is_start : goal.returns-then-is_start
-returns-then-is_start c = starts c.args.begins.now c.args.child c.args.joined c.args.walk.now c.requires.clean (sym c.is_start.ensures ∙ c.if-is_start.true)
+returns-then-is_start c =
+    starts c.args.begins.now c.args.child c.args.joined c.args.walk.now c.requires.clean (sym c.is_start.ensures ∙ c.if-is_start.true)
 
 pub returns : goal.returns
 returns c =
     let fits : SFits w64 c.args.joined = search rules in
     let begun = rw (to_z-of_z w64 c.args.joined fits) at c.begin.ensures in
-    begins_ok c.args.begins.now c.args.child c.args.joined c.args.walk.now c.begin.new.self c.begin.result (sym c.is_start.ensures ∙ c.if-is_start.false) begun
+    begins_ok c.args.begins.now c.args.child c.args.joined c.args.walk.now c.begin.new.self c.begin.result
+    (sym c.is_start.ensures ∙ c.if-is_start.false) begun

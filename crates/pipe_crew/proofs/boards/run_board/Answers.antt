@@ -12,7 +12,9 @@ loop-rest-init g c = record {
 }
 
 pub run_some-requires-clause-fits : goal.run_some-requires-clause-fits
-run_some-requires-clause-fits g c κs within = rw (c.from_vec-first.ensures, c.in_ok-later.ensures.items) (All-take (Fits c.args.work.now) 65536 c.loop-rest.rest.items c.loop-rest.invariant.fits)
+run_some-requires-clause-fits g c κs within =
+    rw (c.from_vec-first.ensures, c.in_ok-later.ensures.items)
+    (All-take (Fits c.args.work.now) 65536 c.loop-rest.rest.items c.loop-rest.invariant.fits)
 
 pub loop-rest-preserved : goal.loop-rest-preserved
 loop-rest-preserved g c =
@@ -21,7 +23,17 @@ loop-rest-preserved g c =
     let more = c.in_ok-more.ensures in
     let appended = c.in_ok-append.ensures.items in
     record {
-      tasks = rw (appended, map-append, more.tasks, c.from_vec-first.ensures, c.in_ok-later.ensures.items, c.in_ok-later.ensures.tail, append_assoc, take-append-drop) was.tasks;
+      tasks =
+          rw (
+            appended,
+            map-append,
+            more.tasks,
+            c.from_vec-first.ensures,
+            c.in_ok-later.ensures.items,
+            c.in_ok-later.ensures.tail,
+            append_assoc,
+            take-append-drop,
+          ) was.tasks;
       runs = rw appended (All-append (IsRun c.args.work.now) c.loop-rest.runs.items c.in_ok-more.more.items was.runs more.runs);
       fits = rw c.in_ok-later.ensures.tail (All-drop (Fits c.args.work.now) 65536 rest was.fits);
     }
@@ -36,5 +48,7 @@ returns g c =
     let appended = c.in_ok-append-2.ensures.items in
     record {
       tasks = rw (c.from_vec.ensures, appended, map-append, more.tasks, c.from_vec-last.ensures) was.tasks;
-      runs = rw (c.from_vec.ensures, appended) (All-append (IsRun c.args.work.now) c.loop-rest.runs.items c.in_ok-more-2.more.items was.runs more.runs);
+      runs =
+          rw (c.from_vec.ensures, appended) (All-append
+          (IsRun c.args.work.now) c.loop-rest.runs.items c.in_ok-more-2.more.items was.runs more.runs);
     }

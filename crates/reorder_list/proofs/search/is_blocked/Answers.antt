@@ -15,6 +15,8 @@ pub returns-in-Some-place_of : goal.returns-in-Some-place_of
 returns-in-Some-place_of c t =
     let entries = c.args.entries.now.items in
     let place = c.in-Some-place_of.place in
-    let there = at-place entries c.requires c.in-Some.earlier place c.in-Some-place_of.ensures ∙ read-at entries place c.index.result.now c.in-Some-place_of.ensures.within c.index.ensures in
+    let there =
+    at-place entries c.requires c.in-Some.earlier place c.in-Some-place_of.ensures
+    ∙ read-at entries place c.index.result.now c.in-Some-place_of.ensures.within c.index.ensures in
     let Q : Option Entry → Type 0 = λ o. IsSomeAnd o (λ x. is_applied x.state ≡ false) in
     subst (StillWatched entries) (sym c.in-Some.is) (subst Q (sym there) (sym c.is_applied.ensures ∙ denied c.is_applied.result t))

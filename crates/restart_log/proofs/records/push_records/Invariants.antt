@@ -7,4 +7,5 @@ use Rattle.restart_log.proofs.records.push_records.Given as goal
 -- the lines so far, and those of the heads that are left, are all
 abbrev pub invariant-loop-head : goal.invariant-loop-head
 invariant-loop-head l =
-    l.text.items ++ flat_map record_line (cut (records_of (drop l.head-index l.heads)) l.rest) ≡ l.fn.text.items ++ flat_map record_line (cut (records_of l.heads) l.cells)
+    l.text.items ++ flat_map record_line (cut (records_of (drop l.head-index l.heads)) l.rest)
+    ≡ l.fn.text.items ++ flat_map record_line (cut (records_of l.heads) l.cells)

@@ -8,4 +8,5 @@ use Rattle.retirement_log.proofs.rows.push_cells.Given as goal
 -- the cells so far were appended
 abbrev pub invariant-loop-write : goal.invariant-loop-write
 invariant-loop-write l =
-    l.text.items ≡ l.fn.text.items ++ group (flat_map cell_numbers (map numbered (map (new_write l.under l.bundles) (take l.write-index l.old))))
+    l.text.items ≡ l.fn.text.items ++ group (flat_map cell_numbers
+    (map numbered (map (new_write l.under l.bundles) (take l.write-index l.old))))

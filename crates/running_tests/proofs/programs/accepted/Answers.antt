@@ -6,5 +6,6 @@ use Rattle.running_tests.proofs.programs.accepted.Goals as goal
 pub check-requires : goal.check-requires
 check-requires c =
     let program = plain_program c.in_ok-program.program in
-    let spells : Spells c.args.text.now program = record { tokens = c.in_ok-tokens.tokens; lexes = c.in_ok-tokens.ensures.tokens; stands = c.in_ok-program.ensures.found } in
+    let spells : Spells c.args.text.now program =
+    record { tokens = c.in_ok-tokens.tokens; lexes = c.in_ok-tokens.ensures.tokens; stands = c.in_ok-program.ensures.found } in
     record { shaped = spelled_is_shaped c.args.text.now program spells }

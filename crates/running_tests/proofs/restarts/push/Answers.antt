@@ -7,11 +7,13 @@ pub push_back-requires-clause-next : goal.push_back-requires-clause-next
 push_back-requires-clause-next c =
     let same = ap length c.reserve.ensures.entries in
     let position = c.in_ok-next.ensures.0 in
-    comes-next 0 c.in_ok-next.next.pos c.reserve.new.self.entries (subst (StandFrom 0) (sym c.reserve.ensures.entries) c.requires.row) (let next = c.requires.next in omega arith)
+    comes-next 0 c.in_ok-next.next.pos c.reserve.new.self.entries (subst (StandFrom 0) (sym c.reserve.ensures.entries) c.requires.row)
+    (let next = c.requires.next in omega arith)
 
 pub returns-clause-row : goal.returns-clause-row
 returns-clause-row c =
     let same = ap length c.reserve.ensures.entries in
     let position = c.in_ok-next.ensures.0 in
     subst (StandFrom 0) (sym c.push_back.ensures.entries)
-    (stands-push 0 c.reserve.new.self.entries c.in_ok-next.next (subst (StandFrom 0) (sym c.reserve.ensures.entries) c.requires.row) (let next = c.requires.next in omega arith))
+    (stands-push 0 c.reserve.new.self.entries c.in_ok-next.next (subst (StandFrom 0) (sym c.reserve.ensures.entries) c.requires.row)
+    (let next = c.requires.next in omega arith))

@@ -15,5 +15,6 @@ returns-clause-cells c =
     let under : lent.under ≡ each_alone = ap (λ (s : Stored). s.under) c.lend.ensures.store ∙ c.requires.pair.under in
     let effect : Effect = record { thread = 0; regs = c.new.result; child = None; prints = c.new-2.result } in
     λ n.
-    written lent c.accept_home-history.new.self cell c.args.before c.args.value effect under c.requires.exists (rw (bundles, old) at c.accept_home-history.ensures.state) n
+    written lent c.accept_home-history.new.self cell c.args.before c.args.value effect under c.requires.exists
+    (rw (bundles, old) at c.accept_home-history.ensures.state) n
     ∙ ap (λ (s : Stored). cond (nat_eq n cell) c.args.value (number_at s.cells n)) c.lend.ensures.store

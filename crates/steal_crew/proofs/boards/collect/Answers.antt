@@ -19,8 +19,12 @@ loop-desk-preserved c =
     record {
       of = c.collect.ensures.of;
       same = c.collect.ensures.hand ∙ (c.look.ensures.hand ∙ was.same);
-      taken = subst (λ (l : List ℕ). All (λ d. d < desk + 1) l) (sym (ap (λ b. b.taken) c.collect.ensures.book ∙ ap (λ b. b.taken ++ desk ∷ []) looked.3)) (taken_more desk _ was.taken);
+      taken =
+          subst (λ (l : List ℕ). All (λ d. d < desk + 1) l)
+          (sym (ap (λ b. b.taken) c.collect.ensures.book ∙ ap (λ b. b.taken ++ desk ∷ []) looked.3)) (taken_more desk _ was.taken);
       tasks = rw (c.in_ok-push.ensures.items, map-append, was.tasks, run.2.0) (sym (take-more jobs desk run.0 run.1));
       runs = rw c.in_ok-push.ensures.items (All-push (IsRun (about c.args.board.now).with) c.loop-desk.runs.items done was.runs run.2.1);
-      once = λ _. length_once (length jobs) _ (subst (λ h. EachOnce (length jobs) h.claimed) was.same (c.look.ensures.all_claimed (subst (IsWhole (length jobs)) (sym was.same) c.requires.whole)));
+      once =
+          λ _. length_once (length jobs) _ (subst (λ h. EachOnce (length jobs) h.claimed) was.same
+          (c.look.ensures.all_claimed (subst (IsWhole (length jobs)) (sym was.same) c.requires.whole)));
     }

@@ -14,7 +14,9 @@ loop-rest-init g c = record {
 }
 
 pub run_some-requires-clause-fits : goal.run_some-requires-clause-fits
-run_some-requires-clause-fits g c κs within = rw (c.from_vec-first.ensures, c.in_ok-later.ensures.items) (All-take (Fits c.args.work.now) 65536 c.loop-rest.rest.items c.loop-rest.invariant.fits)
+run_some-requires-clause-fits g c κs within =
+    rw (c.from_vec-first.ensures, c.in_ok-later.ensures.items)
+    (All-take (Fits c.args.work.now) 65536 c.loop-rest.rest.items c.loop-rest.invariant.fits)
 
 pub loop-rest-preserved : goal.loop-rest-preserved
 loop-rest-preserved g c =
@@ -23,7 +25,17 @@ loop-rest-preserved g c =
     let more = c.in_ok-more.ensures in
     let appended = c.in_ok-append.ensures.items in
     record {
-      tasks = rw (appended, map-append, more.runs.tasks, c.from_vec-first.ensures, c.in_ok-later.ensures.items, c.in_ok-later.ensures.tail, append_assoc, take-append-drop) was.tasks;
+      tasks =
+          rw (
+            appended,
+            map-append,
+            more.runs.tasks,
+            c.from_vec-first.ensures,
+            c.in_ok-later.ensures.items,
+            c.in_ok-later.ensures.tail,
+            append_assoc,
+            take-append-drop,
+          ) was.tasks;
       runs = rw appended (All-append (IsRun c.args.work.now) c.loop-rest.runs.items c.in_ok-more.more.items was.runs more.runs.runs);
       fits = rw c.in_ok-later.ensures.tail (All-drop (Fits c.args.work.now) 65536 rest was.fits);
       counted = search rules;
@@ -39,6 +51,11 @@ returns g c =
     let appended = c.in_ok-append-2.ensures.items in
     let runs : AreRuns c.args.work.now c.args.tasks c.from_vec.result = record {
       tasks = rw (c.from_vec.ensures, appended, map-append, more.runs.tasks, c.from_vec-last.ensures) was.tasks;
-      runs = rw (c.from_vec.ensures, appended) (All-append (IsRun c.args.work.now) c.loop-rest.runs.items c.in_ok-more-2.more.items was.runs more.runs.runs);
-    } in
-    (runs, (let all = was.counted in let last = ap length c.from_vec-last.ensures in let counts = more.counts in let both = c.and-own.ensures in omega arith))
+      runs =
+          rw (c.from_vec.ensures, appended) (All-append
+          (IsRun c.args.work.now) c.loop-rest.runs.items c.in_ok-more-2.more.items was.runs more.runs.runs);
+    } in (
+      runs,
+      (let all = was.counted in let last = ap length c.from_vec-last.ensures in let counts = more.counts in
+          let both = c.and-own.ensures in omega arith),
+    )

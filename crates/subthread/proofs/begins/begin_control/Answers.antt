@@ -7,7 +7,8 @@ use Rattle.subthread.proofs.begins.begin_control.Goals as goal
 pub go_behind-requires-clause-inside : goal.go_behind-requires-clause-inside
 go_behind-requires-clause-inside c =
     let read = c.index-ground-stand in
-    stays_read c.args.ground.now.instrs.now c.requires.inside c.requires.short c.args.stand.now.pc read.result c.if-stand-ground.true read.is
+    stays_read c.args.ground.now.instrs.now c.requires.inside c.requires.short c.args.stand.now.pc read.result
+    c.if-stand-ground.true read.is
 
 pub returns-then-stand-ground : goal.returns-then-stand-ground
 returns-then-stand-ground c =

@@ -14,4 +14,5 @@ returns c =
     let same = map-id c.args.cells.now in
     subst (IsPlaceIn c.args.cells.now c.args.cell) (sym c.ok.ensures.value)
     (subst (λ cells. IsPlaceIn cells c.args.cell (result_ok c.binary_search_by_key.result)) same
-    (searched (λ (n : ℕ). n) c.args.cells.now (subst IsStrictlyIncreasing (sym same) c.requires) _ c.binary_search_by_key.result facts.bound by_key))
+    (searched (λ (n : ℕ). n) c.args.cells.now
+    (subst IsStrictlyIncreasing (sym same) c.requires) _ c.binary_search_by_key.result facts.bound by_key))

@@ -17,10 +17,14 @@ lower_statement-returns-in_ok-lower_block-in-While t c =
     let line = c.args.s.now.line in
     let base = plain_instrs c.args.code.now in
     let body = block_code s (plain_block c.in-While.body) in
-    let lowered = c.in_ok-lower_block-in-While.ensures ∙ ap (λ b. plain_instrs c.put.new.code ++ block_code s (plain_block b)) c.as_slice.ensures in
-    let is = stmt_At c.args.s.now ∙ ap (λ w. tree.At line (plain_what w)) c.in-While.is ∙ ap (tree.At line) (what_While c.in-While.e c.in-While.body) in
+    let lowered =
+    c.in_ok-lower_block-in-While.ensures ∙ ap (λ b. plain_instrs c.put.new.code ++ block_code s (plain_block b)) c.as_slice.ensures in
+    let is =
+    stmt_At c.args.s.now ∙ ap (λ w. tree.At line (plain_what w)) c.in-While.is
+    ∙ ap (tree.At line) (what_While c.in-While.e c.in-While.body) in
     subst (λ l. OnOk c.end_while.result (plain_instrs c.end_while.new.code ≡ l))
-    (patched_while line (calc s (plain_expr c.in-While.e)) base body _ _ (At line (GoOn 0)) c.len-start.result (c.len-start.ensures ∙ sym (length-map c.args.code.now plain_instr)) c.in_ok-put-in-While.ensures lowered
+    (patched_while line (calc s (plain_expr c.in-While.e)) base body _ _ (At line (GoOn 0)) c.len-start.result
+    (c.len-start.ensures ∙ sym (length-map c.args.code.now plain_instr)) c.in_ok-put-in-While.ensures lowered
     ∙ ap (λ st. base ++ stmt_code s st) (sym is))
     c.end_while.ensures
 
@@ -31,11 +35,18 @@ lower_statement-returns-in_ok-lower_block-in-If-2 t c =
     let base = plain_instrs c.args.code.now in
     let first = block_code s (plain_block c.in-If.first) in
     let second = block_code s (plain_block c.in-If.second) in
-    let lowered = c.in_ok-lower_block-in-If.ensures ∙ ap (λ b. plain_instrs c.put-in-If.new.code ++ block_code s (plain_block b)) c.as_slice-in-If.ensures in
-    let then_lowered = c.in_ok-lower_block-in-If-2.ensures ∙ ap (λ b. plain_instrs c.put-in-If-2.new.code ++ block_code s (plain_block b)) c.as_slice-in-If-2.ensures in
-    let is = stmt_At c.args.s.now ∙ ap (λ w. tree.At line (plain_what w)) c.in-If.is ∙ ap (tree.At line) (what_If c.in-If.e c.in-If.first c.in-If.second) in
+    let lowered =
+    c.in_ok-lower_block-in-If.ensures ∙ ap (λ b. plain_instrs c.put-in-If.new.code ++ block_code s (plain_block b))
+    c.as_slice-in-If.ensures in
+    let then_lowered =
+    c.in_ok-lower_block-in-If-2.ensures ∙ ap
+    (λ b. plain_instrs c.put-in-If-2.new.code ++ block_code s (plain_block b)) c.as_slice-in-If-2.ensures in
+    let is =
+    stmt_At c.args.s.now ∙ ap (λ w. tree.At line (plain_what w)) c.in-If.is
+    ∙ ap (tree.At line) (what_If c.in-If.e c.in-If.first c.in-If.second) in
     subst (λ l. OnOk c.end_if.result (plain_instrs c.end_if.new.code ≡ l))
-    (patched_if line (calc s (plain_expr c.in-If.e)) base first second _ _ _ _ (At line (GoOn 0)) (At line (GoOn 0)) c.len-start-in-If.result c.len-middle.result
+    (patched_if line (calc s (plain_expr c.in-If.e)) base first second _ _ _ _ (At line (GoOn 0))
+    (At line (GoOn 0)) c.len-start-in-If.result c.len-middle.result
     (c.len-start-in-If.ensures ∙ sym (length-map c.args.code.now plain_instr)) c.in_ok-put-in-If.ensures lowered
     (c.len-middle.ensures ∙ sym (length-map c.lower_block-in-If.new.code plain_instr)) c.in_ok-put-in-If-2.ensures then_lowered
     ∙ ap (λ st. base ++ stmt_code s st) (sym is))

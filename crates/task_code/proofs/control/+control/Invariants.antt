@@ -7,4 +7,5 @@ use Rattle.task_code.proofs.control.+control.Given as goal
 
 abbrev pub invariant-lower_block-loop-s : goal.invariant-lower_block-loop-s
 invariant-lower_block-loop-s l =
-    plain_instrs l.code ++ block_code (scope_here l.scope) (plain_block (drop l.s-index l.block)) ≡ plain_instrs l.fn.code ++ block_code (scope_here l.scope) (plain_block l.block)
+    plain_instrs l.code ++ block_code (scope_here l.scope) (plain_block (drop l.s-index l.block))
+    ≡ plain_instrs l.fn.code ++ block_code (scope_here l.scope) (plain_block l.block)

@@ -13,7 +13,8 @@ returns c =
     let s = scope_here c.args.scope.now in
     let left = drop c.loop-i.i c.args.params.now in
     let all : drop c.loop-i.i c.args.es.now ≡ [] = drop_all c.loop-i.i c.args.es.now (omega arith) in
-    sym (append-nil (plain_calcs c.loop-i.calcs)) ∙ ap (λ l. plain_calcs c.loop-i.calcs ++ l) (sym (no_controls s left)) ∙ ap (λ l. plain_calcs c.loop-i.calcs ++ control_calcs s left (plain_exprs l)) (sym all) ∙ c.loop-i.invariant
+    sym (append-nil (plain_calcs c.loop-i.calcs)) ∙ ap (λ l. plain_calcs c.loop-i.calcs ++ l) (sym (no_controls s left))
+    ∙ ap (λ l. plain_calcs c.loop-i.calcs ++ control_calcs s left (plain_exprs l)) (sym all) ∙ c.loop-i.invariant
 
 pub loop-i-preserved : goal.loop-i-preserved
 loop-i-preserved c = grind (arith, common_steps)

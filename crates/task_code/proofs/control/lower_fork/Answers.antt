@@ -10,18 +10,26 @@ use Rattle.task_code.proofs.control.lower_fork.Goals as goal
 
 pub known_forking-requires : goal.known_forking-requires
 known_forking-requires c =
-    record { scope = c.requires; within = (task_at_place c.args.t.now (plain_program c.args.scope.now.program.now).tasks c.in-Some.task (sym c.in-Some.ensures)).0 }
+    record {
+      scope = c.requires;
+      within = (task_at_place c.args.t.now (plain_program c.args.scope.now.program.now).tasks c.in-Some.task (sym c.in-Some.ensures)).0;
+    }
 
 pub returns-in-Some : goal.returns-in-Some
 returns-in-Some c =
     let s = scope_here c.args.scope.now in
     let there = task_at_place c.args.t.now s.program.tasks c.in-Some.task (sym c.in-Some.ensures) in
-    subst (λ o. IfOk c.known_forking.result (λ f. plain_forking f ≡ forking s o (unwrap_or (task_number s.program c.args.t.now) 0) (plain_exprs c.args.es.now) c.args.into)) (sym there.1)
-    (subst (λ o. IfOk c.known_forking.result (λ f. plain_forking f ≡ forking s (slice_get s.program.tasks c.in-Some.task) (unwrap_or o 0) (plain_exprs c.args.es.now) c.args.into)) c.in-Some.ensures c.known_forking.ensures)
+    subst (λ o. IfOk c.known_forking.result (λ f. plain_forking f
+    ≡ forking s o (unwrap_or (task_number s.program c.args.t.now) 0) (plain_exprs c.args.es.now) c.args.into)) (sym there.1)
+    (subst (λ o. IfOk c.known_forking.result (λ f. plain_forking f
+    ≡ forking s (slice_get s.program.tasks c.in-Some.task) (unwrap_or o 0) (plain_exprs c.args.es.now) c.args.into))
+    c.in-Some.ensures c.known_forking.ensures)
 
 pub returns-in-None : goal.returns-in-None
 returns-in-None c =
     let s = scope_here c.args.scope.now in
-    subst (λ o. IfOk c.no_forking.result (λ f. plain_forking f ≡ forking s o (unwrap_or (task_number s.program c.args.t.now) 0) (plain_exprs c.args.es.now) c.args.into))
+    subst (λ o. IfOk c.no_forking.result (λ f. plain_forking f
+    ≡ forking s o (unwrap_or (task_number s.program c.args.t.now) 0) (plain_exprs c.args.es.now) c.args.into))
     (sym (no_task_there c.args.t.now s.program.tasks (sym c.in-None.ensures)))
-    (subst (λ o. IfOk c.no_forking.result (λ f. plain_forking f ≡ forking s None (unwrap_or o 0) (plain_exprs c.args.es.now) c.args.into)) c.in-None.ensures c.no_forking.ensures)
+    (subst (λ o. IfOk c.no_forking.result (λ f. plain_forking f ≡ forking s None (unwrap_or o 0) (plain_exprs c.args.es.now) c.args.into))
+    c.in-None.ensures c.no_forking.ensures)

@@ -12,4 +12,5 @@ returns c =
     let s = scope_here c.args.scope.now in
     let left = drop c.loop-i.i c.args.params.now in
     let all : drop c.loop-i.i c.args.es.now ≡ [] = drop_all c.loop-i.i c.args.es.now (omega arith) in
-    sym (append-nil (plain_gifts c.loop-i.made)) ∙ ap (λ l. plain_gifts c.loop-i.made ++ l) (sym (no_gifts s c.args.registers.now left)) ∙ ap (λ l. plain_gifts c.loop-i.made ++ gifts s c.args.registers.now left (plain_exprs l)) (sym all) ∙ c.loop-i.invariant
+    sym (append-nil (plain_gifts c.loop-i.made)) ∙ ap (λ l. plain_gifts c.loop-i.made ++ l) (sym (no_gifts s c.args.registers.now left))
+    ∙ ap (λ l. plain_gifts c.loop-i.made ++ gifts s c.args.registers.now left (plain_exprs l)) (sym all) ∙ c.loop-i.invariant

@@ -4,4 +4,5 @@ use Rattle.task_code.specs.View.{plain_instr, plain_instrs}
 use Rattle.task_code.proofs.control.patch.Goals as goal
 
 pub returns : goal.returns
-returns c = ap plain_instrs c.set.ensures ∙ map-set plain_instr c.args.code.now c.args.at (record { does = c.args.does; line = c.args.line })
+returns c =
+    ap plain_instrs c.set.ensures ∙ map-set plain_instr c.args.code.now c.args.at (record { does = c.args.does; line = c.args.line })

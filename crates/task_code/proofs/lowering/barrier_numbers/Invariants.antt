@@ -3,4 +3,5 @@ use Rattle.task_ast.specs.Names.{barriers_of}
 use Rattle.task_code.proofs.lowering.barrier_numbers.Given as goal
 
 abbrev pub invariant-loop-head : goal.invariant-loop-head
-invariant-loop-head l = l.numbers ++ map (λ b. b.1) (barriers_of (drop l.head-index l.program.heads)) ≡ map (λ b. b.1) (barriers_of l.program.heads)
+invariant-loop-head l =
+    l.numbers ++ map (λ b. b.1) (barriers_of (drop l.head-index l.program.heads)) ≡ map (λ b. b.1) (barriers_of l.program.heads)

@@ -13,11 +13,13 @@ use Rattle.task_code.proofs.lowering.lower.Goals as goal
 
 pub index_of-requires-clause-locks : goal.index_of-requires-clause-locks
 index_of-requires-clause-locks c =
-    subst (λ p. cells_in (locks_of p.heads) ≤ MOST_CELLS) (sym c.program-program.ensures) (accepted_small (plain_program (program_of c.args.c.now)) c.args.c.now.accepted.faultless).0
+    subst (λ p. cells_in (locks_of p.heads) ≤ MOST_CELLS) (sym c.program-program.ensures)
+    (accepted_small (plain_program (program_of c.args.c.now)) c.args.c.now.accepted.faultless).0
 
 pub index_of-requires-clause-records : goal.index_of-requires-clause-records
 index_of-requires-clause-records c =
-    subst (λ p. cells_in (records_of p.heads) ≤ MOST_CELLS) (sym c.program-program.ensures) (accepted_small (plain_program (program_of c.args.c.now)) c.args.c.now.accepted.faultless).1
+    subst (λ p. cells_in (records_of p.heads) ≤ MOST_CELLS) (sym c.program-program.ensures)
+    (accepted_small (plain_program (program_of c.args.c.now)) c.args.c.now.accepted.faultless).1
 
 pub of-requires-2 : goal.of-requires-2
 of-requires-2 c =
@@ -27,4 +29,5 @@ of-requires-2 c =
     (c.in_ok-params.ensures ∙ ap (λ t. map params_of (map plain_task t)) c.as_slice.ensures)
     (c.in_ok-main.ensures (plain_program program) c.in_ok-index.ensures) c.in_ok-barriers.ensures
     (subst (λ p. c.in_ok-layout.layout ≡ layout p.heads) (sym same) c.in_ok-layout.ensures)
-    (λ cell. subst (λ p. slice_get c.in_ok-over.over cell ≡ lock_over (locks_of p.heads) p.heads cell) (sym same) (c.in_ok-over.ensures cell))
+    (λ cell. subst (λ p. slice_get c.in_ok-over.over cell ≡ lock_over (locks_of p.heads) p.heads cell) (sym same)
+    (c.in_ok-over.ensures cell))

@@ -15,4 +15,5 @@ returns-clause-code c =
     ∙ ap (λ l. plain_instrs l ++ block_code s (plain_block c.as_slice-2.result.now)) c.new-code.ensures
     ∙ ap (λ b. block_code s (plain_block b)) c.as_slice-2.ensures
     ∙ ap (λ l. block_code (record { program = p; controls = l; registers = regs }) (plain_block c.args.task.now.body)) names
-    ∙ ap (λ l. block_code (record { program = p; controls = controls_of (plain_task c.args.task.now); registers = l }) (plain_block c.args.task.now.body)) c.requires.registers
+    ∙ ap (λ l. block_code (record { program = p; controls = controls_of (plain_task c.args.task.now); registers = l })
+    (plain_block c.args.task.now.body)) c.requires.registers

@@ -20,5 +20,7 @@ loop-k-preserved c =
     let k = c.loop-k.k in
     let below : k < length texts = subst (λ l. k < length l) c.as_slice-task-items.ensures c.loop-k-test.true in
     let is = c.task-item.is ∙ ap (λ l. get_or l k c.task-item.result) c.as_slice-task-items.ensures in
-    tasks_more (plain_program c.args.program.now) texts k c.task-item.result c.loop-k.tasks c.push.new.self c.loop-k.shapes c.push-in-loop-k.new.self c.in_ok-instrs.instrs c.in_ok-instrs.shape
-    below is c.in_ok-push.ensures.ok c.in_ok-push-2.ensures.ok c.in_ok-instrs.ensures.code c.in_ok-instrs.ensures.shape c.in_ok-instrs.ensures.short c.loop-k.invariant
+    tasks_more (plain_program c.args.program.now) texts k c.task-item.result c.loop-k.tasks c.push.new.self c.loop-k.shapes
+    c.push-in-loop-k.new.self c.in_ok-instrs.instrs c.in_ok-instrs.shape
+    below is c.in_ok-push.ensures.ok c.in_ok-push-2.ensures.ok c.in_ok-instrs.ensures.code c.in_ok-instrs.ensures.shape
+    c.in_ok-instrs.ensures.short c.loop-k.invariant

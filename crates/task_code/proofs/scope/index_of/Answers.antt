@@ -13,13 +13,17 @@ returns c =
       locks = λ x. c.in_ok-locks.ensures x ∙ ap (λ h. cells_from 0 (locks_of h) x) heads;
       records = λ x. c.in_ok-records.ensures x ∙ ap (λ h. cells_from 0 (records_of h) x) heads;
       barriers = λ x.
-          c.in_ok-barriers.ensures x ∙ ap (λ l. position (is_name x) (targets l)) c.deref.ensures.value ∙ ap (position (is_name x)) c.in_ok-barrier_names.ensures
-          ∙ position_firsts x (barriers_of c.as_slice-heads.result.now) ∙ ap (λ h. position (λ other. is_name x other.0) (barriers_of h)) heads;
+          c.in_ok-barriers.ensures x ∙ ap (λ l. position (is_name x) (targets l)) c.deref.ensures.value
+          ∙ ap (position (is_name x)) c.in_ok-barrier_names.ensures
+          ∙ position_firsts x (barriers_of c.as_slice-heads.result.now)
+          ∙ ap (λ h. position (λ other. is_name x other.0) (barriers_of h)) heads;
       feeds = λ x.
-          c.in_ok-feeds.ensures x ∙ ap (λ l. position (is_name x) (targets l)) c.deref-2.ensures.value ∙ ap (position (is_name x)) c.in_ok-feed_names.ensures
+          c.in_ok-feeds.ensures x ∙ ap (λ l. position (is_name x) (targets l)) c.deref-2.ensures.value
+          ∙ ap (position (is_name x)) c.in_ok-feed_names.ensures
           ∙ ap (λ h. position (is_name x) (feeds_of h)) heads;
       tasks = λ x.
-          c.in_ok-tasks_at.ensures x ∙ ap (λ l. position (is_name x) (targets l)) c.deref-3.ensures.value ∙ ap (position (is_name x)) c.in_ok-task_names.ensures
+          c.in_ok-tasks_at.ensures x ∙ ap (λ l. position (is_name x) (targets l)) c.deref-3.ensures.value
+          ∙ ap (position (is_name x)) c.in_ok-task_names.ensures
           ∙ position_names x (map plain_task c.as_slice-tasks.result.now) ∙ ap (λ t. position (is_task x) (map plain_task t)) tasks;
       registers = c.in_ok-registers.ensures ∙ ap (λ t. map registers_of (map plain_task t)) tasks;
     }

@@ -11,4 +11,6 @@ loop-source-smaller c = head_shortens c.args.source.text.now c.loop-source.rest.
 pub loop-source-preserved : goal.loop-source-preserved
 loop-source-preserved c =
     rw c.in_ok-push.ensures.ok
-    (pushed_item (among head_starts) (read_head c.args.source.text.now) c.loop-source.heads c.in_ok-next.next c.loop-source.rest.now c.in_ok-next.after.now _ (head_shortens c.args.source.text.now) (sym c.begins_head.ensures ∙ c.loop-source-test.true) c.in_ok-next.ensures c.loop-source.invariant)
+    (pushed_item (among head_starts) (read_head c.args.source.text.now) c.loop-source.heads c.in_ok-next.next c.loop-source.rest.now
+    c.in_ok-next.after.now _ (head_shortens c.args.source.text.now)
+    (sym c.begins_head.ensures ∙ c.loop-source-test.true) c.in_ok-next.ensures c.loop-source.invariant)

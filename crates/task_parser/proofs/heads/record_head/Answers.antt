@@ -4,4 +4,13 @@ use Rattle.task_parser.proofs.heads.record_head.Goals as goal
 
 pub returns : goal.returns
 unfolding read_record_head
-returns c = rw (c.in_ok-word.ensures, c.in_ok-rest.ensures, c.in_ok-array.ensures, c.in_ok-from.ensures, c.in_ok-rest-2.ensures, c.in_ok-by.ensures, c.in_ok-name.ensures) (search (rules, c.number-size.ensures))
+returns c =
+    rw (
+      c.in_ok-word.ensures,
+      c.in_ok-rest.ensures,
+      c.in_ok-array.ensures,
+      c.in_ok-from.ensures,
+      c.in_ok-rest-2.ensures,
+      c.in_ok-by.ensures,
+      c.in_ok-name.ensures,
+    ) (search (rules, c.number-size.ensures))

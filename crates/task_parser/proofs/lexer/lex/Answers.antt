@@ -10,7 +10,8 @@ loop-from-preserved c =
       | in-Skip w ↦ rw (c.line_ends-line.ensures, w.tokens-is, w.length-is)
           (skipped _ _ _ _ c.loop-from.invariant c.loop-from-test.true w.in-Skip.length (rw take_rest at w.in-Skip.ensures.piece))
       | in-Take+in_ok-push-in-Take w ↦ rw (c.line_ends-line.ensures, w.tokens-is, w.in_ok-push-in-Take.ensures.ok, w.length-is)
-          (taken _ _ _ _ c.loop-from.invariant c.loop-from-test.true w.in-Take.kind w.in-Take.length (rw take_rest at w.in-Take.ensures.piece))
+          (taken _ _ _ _ c.loop-from.invariant c.loop-from-test.true w.in-Take.kind w.in-Take.length
+          (rw take_rest at w.in-Take.ensures.piece))
     ]
 
 pub returns-clause-spans : goal.returns-clause-spans

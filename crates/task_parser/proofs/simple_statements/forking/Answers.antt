@@ -5,4 +5,16 @@ use Rattle.task_parser.proofs.simple_statements.forking.Goals as goal
 
 pub returns : goal.returns
 unfolding read_forking
-returns c = rw (c.in_ok-word.ensures, c.in_ok-task.ensures, c.in_ok-rest.ensures, c.in_ok-arguments.ensures, c.in_ok-rest-2.ensures, c.in_ok-into.ensures, c.in_ok-rest-3.ensures, stmt_At, what_Fork, c.in_ok-name.ensures) refl
+returns c =
+    rw (
+      c.in_ok-word.ensures,
+      c.in_ok-task.ensures,
+      c.in_ok-rest.ensures,
+      c.in_ok-arguments.ensures,
+      c.in_ok-rest-2.ensures,
+      c.in_ok-into.ensures,
+      c.in_ok-rest-3.ensures,
+      stmt_At,
+      what_Fork,
+      c.in_ok-name.ensures,
+    ) refl

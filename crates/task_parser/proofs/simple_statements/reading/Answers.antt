@@ -5,4 +5,14 @@ use Rattle.task_parser.proofs.simple_statements.reading.Goals as goal
 
 pub returns : goal.returns
 unfolding read_reading
-returns c = rw (c.in_ok-word.ensures, c.in_ok-rest.ensures, c.in_ok-into.ensures, c.in_ok-rest-2.ensures, stmt_At, what_Read, c.in_ok-name.ensures, c.in_ok-register.ensures) refl
+returns c =
+    rw (
+      c.in_ok-word.ensures,
+      c.in_ok-rest.ensures,
+      c.in_ok-into.ensures,
+      c.in_ok-rest-2.ensures,
+      stmt_At,
+      what_Read,
+      c.in_ok-name.ensures,
+      c.in_ok-register.ensures,
+    ) refl

@@ -5,4 +5,13 @@ use Rattle.task_parser.proofs.simple_statements.set_register.Goals as goal
 
 pub returns : goal.returns
 unfolding read_set_reg
-returns c = rw (c.in_ok-variable.ensures, c.in_ok-rest.ensures, c.in_ok-value.ensures, c.in-Ok.ensures, stmt_At, what_SetReg, c.in_ok-register.ensures) refl
+returns c =
+    rw (
+      c.in_ok-variable.ensures,
+      c.in_ok-rest.ensures,
+      c.in_ok-value.ensures,
+      c.in-Ok.ensures,
+      stmt_At,
+      what_SetReg,
+      c.in_ok-register.ensures,
+    ) refl

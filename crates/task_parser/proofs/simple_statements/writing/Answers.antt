@@ -5,4 +5,13 @@ use Rattle.task_parser.proofs.simple_statements.writing.Goals as goal
 
 pub returns : goal.returns
 unfolding read_writing
-returns c = rw (c.in_ok-word.ensures, c.in-Ok.ensures, c.in-Ok-expression.ensures, c.in-Ok-expect.ensures, stmt_At, what_Write, c.in-Ok-name.ensures) refl
+returns c =
+    rw (
+      c.in_ok-word.ensures,
+      c.in-Ok.ensures,
+      c.in-Ok-expression.ensures,
+      c.in-Ok-expect.ensures,
+      stmt_At,
+      what_Write,
+      c.in-Ok-name.ensures,
+    ) refl

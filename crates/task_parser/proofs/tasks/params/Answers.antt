@@ -13,4 +13,6 @@ loop-source-smaller c = next_param_shortens c.args.source.text.now c.loop-source
 pub loop-source-preserved : goal.loop-source-preserved
 loop-source-preserved c =
     rw c.in_ok-push-2.ensures.ok
-    (pushed_item (among (COMMA ∷ [])) (read_after COMMA (read_param c.args.source.text.now)) c.loop-source.params c.in_ok-next.next c.loop-source.rest.now c.in_ok-next.after.now _ (next_param_shortens c.args.source.text.now) (sym c.is_next.ensures ∙ c.loop-source-test.true) c.in_ok-next.ensures c.loop-source.invariant)
+    (pushed_item (among (COMMA ∷ [])) (read_after COMMA (read_param c.args.source.text.now)) c.loop-source.params c.in_ok-next.next
+    c.loop-source.rest.now c.in_ok-next.after.now _ (next_param_shortens c.args.source.text.now)
+    (sym c.is_next.ensures ∙ c.loop-source-test.true) c.in_ok-next.ensures c.loop-source.invariant)

@@ -4,4 +4,16 @@ use Rattle.task_parser.proofs.tasks.task.Goals as goal
 
 pub returns : goal.returns
 unfolding read_task
-returns c = rw (c.in_ok-word.ensures, c.in_ok-title.ensures, c.in_ok-rest.ensures, c.in_ok-params.ensures, c.in_ok-rest-2.ensures, c.in_ok-rest-3.ensures, c.in_ok-vars.ensures, c.in_ok-body.ensures, c.in_ok-rest-4.ensures, c.in_ok-name.ensures) refl
+returns c =
+    rw (
+      c.in_ok-word.ensures,
+      c.in_ok-title.ensures,
+      c.in_ok-rest.ensures,
+      c.in_ok-params.ensures,
+      c.in_ok-rest-2.ensures,
+      c.in_ok-rest-3.ensures,
+      c.in_ok-vars.ensures,
+      c.in_ok-body.ensures,
+      c.in_ok-rest-4.ensures,
+      c.in_ok-name.ensures,
+    ) refl

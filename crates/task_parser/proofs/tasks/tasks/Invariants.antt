@@ -8,7 +8,9 @@ use Rattle.task_parser.proofs.Loop.{also}
 use Rattle.task_parser.proofs.tasks.tasks.Given as goal
 
 abbrev pub invariant-loop-source : goal.invariant-loop-source
-invariant-loop-source l = also (map plain_task l.tasks) (repeat (among (TASK ∷ [])) (read_task l.source.text.now l.room) l.rest) ≡ read_some (among (TASK ∷ [])) (read_task l.source.text.now l.room) l.tokens
+invariant-loop-source l =
+    also (map plain_task l.tasks) (repeat (among (TASK ∷ [])) (read_task l.source.text.now l.room) l.rest)
+    ≡ read_some (among (TASK ∷ [])) (read_task l.source.text.now l.room) l.tokens
 
 abbrev pub decreases-loop-source : goal.decreases-loop-source
 decreases-loop-source l = length l.rest

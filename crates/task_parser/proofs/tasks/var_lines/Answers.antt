@@ -12,4 +12,6 @@ loop-source-smaller c = var_line_shortens c.args.source.text.now c.loop-source.r
 pub loop-source-preserved : goal.loop-source-preserved
 loop-source-preserved c =
     rw c.in_ok-push.ensures.ok
-    (pushed_item (among (VAR ∷ [])) (read_var_line c.args.source.text.now) c.loop-source.lines c.in_ok-next.next c.loop-source.rest.now c.in_ok-next.after.now _ (var_line_shortens c.args.source.text.now) (sym c.is_next.ensures ∙ c.loop-source-test.true) c.in_ok-next.ensures c.loop-source.invariant)
+    (pushed_item (among (VAR ∷ [])) (read_var_line c.args.source.text.now) c.loop-source.lines c.in_ok-next.next c.loop-source.rest.now
+    c.in_ok-next.after.now _ (var_line_shortens c.args.source.text.now)
+    (sym c.is_next.ensures ∙ c.loop-source-test.true) c.in_ok-next.ensures c.loop-source.invariant)

@@ -7,7 +7,9 @@ use Rattle.task_parser.proofs.Loop.{also}
 use Rattle.task_parser.proofs.tasks.var_lines.Given as goal
 
 abbrev pub invariant-loop-source : goal.invariant-loop-source
-invariant-loop-source l = also l.lines (repeat (among (VAR ∷ [])) (read_var_line l.source.text.now) l.rest) ≡ repeat (among (VAR ∷ [])) (read_var_line l.source.text.now) l.tokens
+invariant-loop-source l =
+    also l.lines (repeat (among (VAR ∷ [])) (read_var_line l.source.text.now) l.rest)
+    ≡ repeat (among (VAR ∷ [])) (read_var_line l.source.text.now) l.tokens
 
 abbrev pub decreases-loop-source : goal.decreases-loop-source
 decreases-loop-source l = length l.rest

@@ -1,3 +1,6 @@
+-- A turn of the loop makes the restarts that are due, and then lets the oldest position retire, where it may. After the
+-- restarts what was written stands (kept) and the notes go on (noted), and from there the retirement goes on (goes);
+-- each way out of the loop answers its clauses by these three.
 use Rattle.std.proofs.Common.{◌<◌, ◌≤◌, ◌∙◌, Some, refl, sym, ap, subst, arith}
 use Rattle.whole_run.specs.inner.Rounds.{left, KeepsPart, KeepsWritten}
 use Rattle.whole_run.specs.Notes.{KeepsNotes, StopsNotes}
@@ -38,7 +41,14 @@ noted g c =
 
 pub retiring-init : goal.retiring-init
 retiring-init g c =
-    record { leaves = leaves-still c.requires.agrees; crew = c.requires.agrees.crew; written = λ start wrote. wrote; later = omega arith; later' = omega arith; notes = λ selective start are. are }
+    record {
+      leaves = leaves-still c.requires.agrees;
+      crew = c.requires.agrees.crew;
+      written = λ start wrote. wrote;
+      later = omega arith;
+      later' = omega arith;
+      notes = λ selective start are. are;
+    }
 
 pub returns-in_err-detect_all-clause-leaves : goal.returns-in_err-detect_all-clause-leaves
 returns-in_err-detect_all-clause-leaves g c = leaves-then c.retiring.invariant.leaves c.detect_all.ensures.leaves

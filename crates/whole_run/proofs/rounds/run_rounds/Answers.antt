@@ -1,3 +1,7 @@
+-- A round is four calls one after another: retirements, issues, posts and one result. What was written and what was
+-- noted after each of them is put together from the one before (written₁ to written₄, noted₁ to noted₄), and each way
+-- out answers its clauses by the last that was reached. A round that goes on leaves less to do, or makes the end known
+-- (round-falls).
 use Rattle.std.proofs.Common.{◌∙◌, refl, arith}
 use Rattle.whole_run.specs.Gives.{HasFinished}
 use Rattle.whole_run.specs.inner.Rounds.{KeepsPart, KeepsWritten}
@@ -108,7 +112,14 @@ noted₄ g c first =
 
 pub rounds-init : goal.rounds-init
 rounds-init g c =
-    record { leaves = leaves-still c.requires.agrees; crew = c.requires.agrees.crew; written = λ start wrote. wrote; later = omega arith; later' = omega arith; notes = λ selective start are. are }
+    record {
+      leaves = leaves-still c.requires.agrees;
+      crew = c.requires.agrees.crew;
+      written = λ start wrote. wrote;
+      later = omega arith;
+      later' = omega arith;
+      notes = λ selective start are. are;
+    }
 
 pub returns-in_err-retire_all-clause-leaves : goal.returns-in_err-retire_all-clause-leaves
 returns-in_err-retire_all-clause-leaves g c = leaves-then c.rounds.invariant.leaves c.retire_all.ensures.leaves

@@ -1,3 +1,6 @@
+-- Room is made, the crew is asked, and what it hands out is accepted. After each of these the run and the crew agree,
+-- and what was posted and taken is known (reserved, answered, takes, taken); each way out answers its clauses by the
+-- last that was reached.
 use Rattle.std.proofs.Common.{◌<◌, ◌∙◌, refl, sym, ap, subst}
 use Rattle.gp_base.specs.declared.journal.Event.TheVariants as event
 use Rattle.subthread.specs.Tasks.{task_of, IsRun}
@@ -50,7 +53,8 @@ taken : (g : _) (c : In_ok-accept-in-Some g)
 taken g c agrees takes =
     crew-taken (g.E.Calls.view c.reserve.new.self) (g.E.Calls.view c.accept.new.self) (g.C.Crew.posted c.args.crew.now)
     (g.C.Crew.out c.args.crew.now) (g.C.Crew.out c.next.new.self)
-    (task_of (g.E.Calls.view c.reserve.new.self).batch.work c.in-Some.done) c.in_ok-accept-in-Some.field-0 agrees.stands c.in_ok-accept-in-Some.ensures.did takes agrees.crew
+    (task_of (g.E.Calls.view c.reserve.new.self).batch.work c.in-Some.done) c.in_ok-accept-in-Some.field-0 agrees.stands
+    c.in_ok-accept-in-Some.ensures.did takes agrees.crew
 
 pub returns-in_err-reserve-clause-leaves : goal.returns-in_err-reserve-clause-leaves
 returns-in_err-reserve-clause-leaves g c = leaves-same (leaves-still c.requires.agrees) c.reserve.ensures.same
@@ -151,13 +155,15 @@ returns-in_ok-accept-in-Some-clause-retired g c =
 pub returns-in_ok-accept-in-Some-clause-struck : goal.returns-in_ok-accept-in-Some-clause-struck
 returns-in_ok-accept-in-Some-clause-struck g c =
     struck-kept (g.E.Calls.view c.reserve.new.self) (g.E.Calls.view c.accept.new.self)
-    (event.Take c.in-Some.done.task.pos c.in-Some.done.task.attempt c.in_ok-accept-in-Some.field-0) c.in_ok-accept-in-Some.ensures.did refl refl
+    (event.Take c.in-Some.done.task.pos c.in-Some.done.task.attempt c.in_ok-accept-in-Some.field-0)
+    c.in_ok-accept-in-Some.ensures.did refl refl
     ∙ ap struck_now c.reserve.ensures.same
 
 pub returns-in_ok-accept-in-Some-clause-scouted : goal.returns-in_ok-accept-in-Some-clause-scouted
 returns-in_ok-accept-in-Some-clause-scouted g c scouted =
     let view = g.E.Calls.view in
-    scouted-taken (view c.reserve.new.self) (view c.accept.new.self) c.in-Some.done.task.pos c.in-Some.done.task.attempt c.in_ok-accept-in-Some.field-0
+    scouted-taken (view c.reserve.new.self) (view c.accept.new.self) c.in-Some.done.task.pos c.in-Some.done.task.attempt
+    c.in_ok-accept-in-Some.field-0
     c.in_ok-accept-in-Some.ensures.did
     (scouted-same (view c.args.engine.now) (view c.reserve.new.self) c.reserve.ensures.same scouted)
 
@@ -222,5 +228,6 @@ returns-in_ok-accept-in-Some-clause-notes g c =
     (notes-taken (view c.reserve.new.self) (view c.accept.new.self) c.in-Some.done (reserved g there.After-reserve).stands
     (taken-stands (view c.reserve.new.self) (g.C.Crew.posted c.args.crew.now) (g.C.Crew.out c.args.crew.now) (g.C.Crew.out c.next.new.self)
     (task_of (view c.reserve.new.self).batch.work c.in-Some.done) (takes g there.In-Some) (reserved g there.After-reserve).crew)
-    (ran g there.In-Some) c.in_ok-accept-in-Some.field-0 (tells c.args.notes.now) (tells c.accept.new.notes) c.in_ok-accept-in-Some.ensures.did
+    (ran g there.In-Some) c.in_ok-accept-in-Some.field-0 (tells c.args.notes.now)
+    (tells c.accept.new.notes) c.in_ok-accept-in-Some.ensures.did
     c.in_ok-accept-in-Some.ensures.noted)

@@ -18,6 +18,7 @@ returns c = λ begun rows (fields, room, held).
     let pushed = c.in_ok-push_numbers.ensures in
     let same : c.len.result ≡ c.args.self.now.fields = search rules in
     let count : c.len-2.result ≡ length c.push_numbers.new.cells.items = search rules in
-    let put = put_row begun.fields begun.room rows row c.args.self.now.cells.items pushed.0 held (sym c.len.ensures ∙ same ∙ fields) pushed.1
+    let put =
+    put_row begun.fields begun.room rows row c.args.self.now.cells.items pushed.0 held (sym c.len.ensures ∙ same ∙ fields) pushed.1
     (rw (count, room, pushed.2) at c.if-len-self-2.false) in
     (put.0, (fields, room, rw pushed.2 put.1))

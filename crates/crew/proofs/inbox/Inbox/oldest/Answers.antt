@@ -3,11 +3,14 @@ use Rattle.subthread.specs.Tasks.{Fits}
 use Rattle.crew.proofs.inbox.Inbox.oldest.Goals as goal
 
 pub invariant_of-self : goal.invariant_of-self
-invariant_of-self c = rw (c.replace-first.ensures.after, c.in-Ok.ensures.tail) (All-drop (Fits c.self.inside.work.now) c.args.most c.self.inside.waiting.items c.self.invariant)
+invariant_of-self c =
+    rw (c.replace-first.ensures.after, c.in-Ok.ensures.tail)
+    (All-drop (Fits c.self.inside.work.now) c.args.most c.self.inside.waiting.items c.self.invariant)
 
 pub invariant_of-self-in-Err : goal.invariant_of-self-in-Err
 invariant_of-self-in-Err c = rw c.in-Err.ensures.err c.self.invariant
 
 pub returns-in-Ok-clause-fits : goal.returns-in-Ok-clause-fits
 returns-in-Ok-clause-fits c =
-    rw (← c.self.view_is, c.from_vec.ensures, c.from.ensures.0, c.replace-first.ensures.value, c.in-Ok.ensures.items) (All-take (Fits c.self.inside.work.now) c.args.most c.self.inside.waiting.items c.self.invariant)
+    rw (← c.self.view_is, c.from_vec.ensures, c.from.ensures.0, c.replace-first.ensures.value, c.in-Ok.ensures.items)
+    (All-take (Fits c.self.inside.work.now) c.args.most c.self.inside.waiting.items c.self.invariant)

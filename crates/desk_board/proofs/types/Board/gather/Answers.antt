@@ -3,4 +3,10 @@ use Rattle.desk_board.proofs.Seats.{gathers}
 use Rattle.desk_board.proofs.types.Board.gather.Goals as goal
 
 pub join_seat-requires : goal.join_seat-requires
-join_seat-requires g c = (c.requires.of.0.0.0, c.requires.of.1.0.0, c.args.pass.bare, omega arith, gathers g.J.Job.fits g.J.Job.is_run _ _ _ _ _ c.args.pass.plain c.requires.whole.0)
+join_seat-requires g c = (
+  c.requires.of.0.0.0,
+  c.requires.of.1.0.0,
+  c.args.pass.bare,
+  omega arith,
+  gathers g.J.Job.fits g.J.Job.is_run _ _ _ _ _ c.args.pass.plain c.requires.whole.0,
+)

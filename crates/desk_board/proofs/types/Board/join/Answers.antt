@@ -3,4 +3,10 @@ use Rattle.desk_board.proofs.Seats.{joins}
 use Rattle.desk_board.proofs.types.Board.join.Goals as goal
 
 pub join_seat-requires : goal.join_seat-requires
-join_seat-requires g c = (c.requires.of.0.0.0, c.requires.of.1.0.0, c.args.other.bare, omega arith, joins g.J.Job.fits g.J.Job.is_run _ _ _ _ _ c.args.other.plain)
+join_seat-requires g c = (
+  c.requires.of.0.0.0,
+  c.requires.of.1.0.0,
+  c.args.other.bare,
+  omega arith,
+  joins g.J.Job.fits g.J.Job.is_run _ _ _ _ _ c.args.other.plain,
+)

@@ -7,7 +7,8 @@ use Rattle.desk_board.proofs.DeskLists.{seen_below, seen_now}
 use Rattle.desk_board.proofs.types.Board.look.Goals as goal
 
 pub load-found-requires : goal.load-found-requires
-load-found-requires g c = (c.requires.of.0.0, search rules, looks g.J.Job.fits g.J.Job.is_run _ _ _ _ _ (about c.args.self.now) c.requires.of.0.1 c.requires.desk)
+load-found-requires g c =
+    (c.requires.of.0.0, search rules, looks g.J.Job.fits g.J.Job.is_run _ _ _ _ _ (about c.args.self.now) c.requires.of.0.1 c.requires.desk)
 
 pub invariant_of-clerk : goal.invariant_of-clerk
 invariant_of-clerk g c = record { office = ap (λ m. m.0.book.clerk) (c.load-found.ensures.2 c.args.desk refl).0 ∙ c.args.clerk.now.office }
@@ -15,11 +16,14 @@ invariant_of-clerk g c = record { office = ap (λ m. m.0.book.clerk) (c.load-fou
 pub returns-clause-of : goal.returns-clause-of
 returns-clause-of g c = let did = (c.load-found.ensures.2 c.args.desk refl).0 in (
   (c.load-found.ensures.0 ∙ c.requires.of.0.0, ap (λ m. m.0.about) did ∙ c.requires.of.0.1),
-  subst (λ b. All (λ k. k < length (about c.args.self.now).jobs) b) (sym (ap (λ m. m.0.book.seen) did)) (seen_below _ _ _ _ c.requires.desk c.requires.of.1),
+  subst (λ b. All (λ k. k < length (about c.args.self.now).jobs) b) (sym (ap (λ m. m.0.book.seen) did))
+      (seen_below _ _ _ _ c.requires.desk c.requires.of.1),
 )
 
 pub returns-clause-book : goal.returns-clause-book
-returns-clause-book g c = let did = c.load-found.ensures.2 c.args.desk refl in (c.load-found.result, search rules, did.1, ap (λ m. m.0.book) did.0)
+returns-clause-book g c =
+    let did = c.load-found.ensures.2 c.args.desk refl in
+    (c.load-found.result, search rules, did.1, ap (λ m. m.0.book) did.0)
 
 pub returns-clause-hand : goal.returns-clause-hand
 returns-clause-hand g c = ap (λ m. m.0.hand) (c.load-found.ensures.2 c.args.desk refl).0
@@ -28,7 +32,10 @@ pub returns-clause-all_done : goal.returns-clause-all_done
 returns-clause-all_done g c whole = lt-ltb 0 c.load-found.result ((c.load-found.ensures.2 c.args.desk refl).2 whole)
 
 pub returns-clause-seen : goal.returns-clause-seen
-returns-clause-seen g c is = let did = (c.load-found.ensures.2 c.args.desk refl).0 in subst (λ l. Contains l c.args.desk) (sym (ap (λ m. m.0.book.seen) did)) (seen_now c.args.desk c.load-found.result c.args.clerk.now.seat.me.0.book.seen (ltb-true 0 c.load-found.result is))
+returns-clause-seen g c is =
+    let did = (c.load-found.ensures.2 c.args.desk refl).0 in
+    subst (λ l. Contains l c.args.desk) (sym (ap (λ m. m.0.book.seen) did))
+    (seen_now c.args.desk c.load-found.result c.args.clerk.now.seat.me.0.book.seen (ltb-true 0 c.load-found.result is))
 
 pub returns-clause-all_drawn : goal.returns-clause-all_drawn
 returns-clause-all_drawn g c whole = (c.load-found.ensures.2 c.args.desk refl).3 _ c.requires.of.0.1 whole

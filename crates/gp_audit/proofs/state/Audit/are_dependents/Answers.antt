@@ -24,12 +24,14 @@ returns-then-not-stands_at c =
     let found = c.loop-later.found in
     let joined : joins clash c.args.struck n ≡ true = elim c.then-later-struck.branch [
       | then-later-struck-via-then-later-struck w ↦ joins-first clash c.args.struck n w.if-later-struck.true
-      | then-later-struck-via-else-later-struck+then-is_reached w ↦ joins-reached clash c.args.struck n _ so.same (sym w.is_reached.ensures ∙ w.if-is_reached.true)
+      | then-later-struck-via-else-later-struck+then-is_reached w ↦
+          joins-reached clash c.args.struck n _ so.same (sym w.is_reached.ensures ∙ w.if-is_reached.true)
     ] in
     let end : c.len-later-end.result ≡ length c.args.self.now.seen.items = c.len-later-end.ensures ∙ c.args.self.now.seen.ok.0 in
     let test = c.loop-later-test.true in (
       λ f. absurd (false≢true f),
-      λ e. absurd (stops clash c.args.struck n (length c.args.self.now.seen.items) found c.args.redo.now (omega arith) so.short so.same joined (λ here. false≢true (sym c.if-not-stands_at.true ∙ c.stands_at.ensures.1 here)) e),
+      λ e. absurd (stops clash c.args.struck n (length c.args.self.now.seen.items) found c.args.redo.now
+          (omega arith) so.short so.same joined (λ here. false≢true (sym c.if-not-stands_at.true ∙ c.stands_at.ensures.1 here)) e),
     )
 
 pub loop-later-preserved : goal.loop-later-preserved
@@ -48,10 +50,12 @@ loop-later-preserved c =
       | then-later-struck+else-not-stands_at w ↦
           (let joined : joins clash struck n ≡ true = elim w.then-later-struck.branch [
             | then-later-struck-via-then-later-struck v ↦ joins-first clash struck n v.if-later-struck.true
-            | then-later-struck-via-else-later-struck+then-is_reached v ↦ joins-reached clash struck n _ so.same (sym v.is_reached.ensures ∙ v.if-is_reached.true)
+            | then-later-struck-via-else-later-struck+then-is_reached v ↦
+                joins-reached clash struck n _ so.same (sym v.is_reached.ensures ∙ v.if-is_reached.true)
           ] in
           let next = found-next clash struck n c.loop-later.found redo so.same joined (w.stands_at.ensures.0 w.if-not-stands_at.false) in
-          let same : take c.if-later-struck.found redo ≡ dependents clash struck (n + 1) = subst (λ k. take k redo ≡ dependents clash struck (n + 1)) (sym w.found-is) next.0 in
+          let same : take c.if-later-struck.found redo ≡ dependents clash struck (n + 1) =
+          subst (λ k. take k redo ≡ dependents clash struck (n + 1)) (sym w.found-is) next.0 in
           record {
             same = same;
             short = subst (λ k. k ≤ length redo) (sym w.found-is) next.1;
@@ -59,7 +63,9 @@ loop-later-preserved c =
           })
       | else-later-struck+else-is_reached w ↦
           (let none = joins-not clash struck n _ so.same w.if-later-struck.false (sym w.is_reached.ensures ∙ w.if-is_reached.false) in
-          let same : take c.if-later-struck.found redo ≡ dependents clash struck (n + 1) = subst (λ k. take k redo ≡ dependents clash struck (n + 1)) (sym w.found-is) (so.same ∙ sym (more-false clash struck n none)) in
+          let same : take c.if-later-struck.found redo ≡ dependents clash struck (n + 1) =
+          subst (λ k. take k redo ≡ dependents clash struck (n + 1)) (sym w.found-is)
+          (so.same ∙ sym (more-false clash struck n none)) in
           record {
             same = same;
             short = subst (λ k. k ≤ length redo) (sym w.found-is) so.short;

@@ -18,7 +18,8 @@ overflow_add-seen c =
     let low = c.requires.issued i item test in
     let wide = c.loop-position.invariant.wide in
     let within : p < length c.loop-position.self.seen.items = omega arith in
-    let same = ap (λ (s : Seen). s.attempt) (seen-there c.loop-position.self.seen.items p c.index-seen.result.now within c.index-seen.ensures) in
+    let same =
+    ap (λ (s : Seen). s.attempt) (seen-there c.loop-position.self.seen.items p c.index-seen.result.now within c.index-seen.ensures) in
     let few = c.loop-position.invariant.few p in
     let short = c.requires.short in
     let narrow = c.requires.narrow in
@@ -44,7 +45,9 @@ loop-position-preserved c =
     let same = ap (λ (s : Seen). s.attempt) (seen-there now p s within c.index-seen.ensures) in
     let few = so.few p in
     record {
-      raised = raised-is (length c.args.self.now.seen.items) c.len-front.result redo i p item c.args.self.now.seen.items now s (c.len-front.ensures ∙ c.args.self.now.seen.ok.0) test (view ∙ at) within c.index-seen.ensures so.raised;
+      raised =
+          raised-is (length c.args.self.now.seen.items) c.len-front.result redo i p item c.args.self.now.seen.items now s
+          (c.len-front.ensures ∙ c.args.self.now.seen.ok.0) test (view ∙ at) within c.index-seen.ensures so.raised;
       wide = length-set now p _ ∙ wide;
       few = raised-few now p _ (MOST_FAULTS + i) (MOST_FAULTS + (i + 1)) within (omega arith) (omega arith) so.few;
       steps = so.steps;
@@ -53,7 +56,8 @@ loop-position-preserved c =
       waiting =
           c.in_ok-wait_again.ensures
           ∙ (ap (λ xs. xs ++ where_applied s.applied p) so.waiting
-          ∙ waits-is (length c.args.self.now.seen.items) redo i p item c.args.self.now.seen.items now s c.args.self.now.waiting.items test (view ∙ at) within c.index-seen.ensures so.raised);
+          ∙ waits-is (length c.args.self.now.seen.items) redo i p item c.args.self.now.seen.items now s c.args.self.now.waiting.items test
+          (view ∙ at) within c.index-seen.ensures so.raised);
       retired = so.retired;
     }
 
@@ -61,5 +65,11 @@ pub returns : goal.returns
 returns c =
     let so = c.loop-position.invariant in
     let redo = c.args.restart.now.redo in
-    let past : length redo ≤ c.loop-position.position-index = subst (λ r. length r ≤ c.loop-position.position-index) c.as_slice-position-items.ensures c.loop-position-test.false in
-    same-kept _ _ so.steps so.faults (so.raised ∙ ap (λ r. all_raised (length c.args.self.now.seen.items) r c.args.self.now.seen.items) (take_all c.loop-position.position-index redo past)) so.out (so.waiting ∙ ap (λ r. c.args.self.now.waiting.items ++ waits_again (length c.args.self.now.seen.items) r c.args.self.now.seen.items) (take_all c.loop-position.position-index redo past)) so.retired
+    let past : length redo ≤ c.loop-position.position-index =
+    subst (λ r. length r ≤ c.loop-position.position-index) c.as_slice-position-items.ensures c.loop-position-test.false in
+    same-kept _ _ so.steps so.faults (so.raised
+    ∙ ap (λ r. all_raised (length c.args.self.now.seen.items) r c.args.self.now.seen.items)
+    (take_all c.loop-position.position-index redo past)) so.out
+    (so.waiting ∙ ap (λ r. c.args.self.now.waiting.items
+    ++ waits_again (length c.args.self.now.seen.items) r c.args.self.now.seen.items)
+    (take_all c.loop-position.position-index redo past)) so.retired

@@ -11,6 +11,7 @@ invariant-loop-position l = record {
   steps : l.self.steps.now ≡ l.fn.self.steps.now;
   faults : l.self.faults.now ≡ l.fn.self.faults.now;
   out : l.self.out.items ≡ l.fn.self.out.items;
-  waiting : l.self.waiting.items ≡ l.fn.self.waiting.items ++ waits_again (length l.fn.self.seen.items) (take l.position-index l.restart.redo) l.fn.self.seen.items;
+  waiting : l.self.waiting.items ≡ l.fn.self.waiting.items ++ waits_again (length l.fn.self.seen.items)
+      (take l.position-index l.restart.redo) l.fn.self.seen.items;
   retired : l.self.retired ≡ l.fn.self.retired;
 }

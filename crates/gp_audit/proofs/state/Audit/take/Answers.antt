@@ -18,7 +18,9 @@ returns c =
       | then-applies w ↦ or-true applies s.applied c.if-applies.value w.if-applies.true w.value-is
       | else-applies w ↦ or-false applies s.applied c.if-applies.value w.if-applies.false w.value-is
     ] in
-    same-kept _ _ refl refl (taken-is seen p s applies c.if-applies.value within c.index-seen.ensures value ∙ ap (λ q. changed_at (taken_seen applies) q seen) view)
-    (sifted _ (λ f. f.0.now ≡ (c.args.position, c.args.attempt)) (λ pair. not (same_attempt (c.args.position, c.args.attempt) pair)) (λ f x b g is called. (search rules, search rules)) _ (ap (λ q. (q, c.args.attempt)) view) _ _ c.retain.ensures.filtered)
+    same-kept _ _ refl refl (taken-is seen p s applies c.if-applies.value within c.index-seen.ensures value
+    ∙ ap (λ q. changed_at (taken_seen applies) q seen) view)
+    (sifted _ (λ f. f.0.now ≡ (c.args.position, c.args.attempt)) (λ pair. not (same_attempt (c.args.position, c.args.attempt) pair))
+    (λ f x b g is called. (search rules, search rules)) _ (ap (λ q. (q, c.args.attempt)) view) _ _ c.retain.ensures.filtered)
     (c.leave_waiting.ensures ∙ ap (λ q. left_waiting applies q c.args.self.now.waiting.items) view)
     refl

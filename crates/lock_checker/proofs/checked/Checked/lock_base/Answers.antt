@@ -10,4 +10,5 @@ pub returns-clause-small : goal.returns-clause-small
 returns-clause-small c =
     let checked = c.args.self.now in
     subst (λ base. IfSome base (λ n. n ≤ MOST_CELLS)) (sym (c.get.ensures ∙ checked.locks c.args.array.now))
-    (base_small (locks_of checked.program.heads) c.args.array.now MOST_CELLS (accepted_small (plain_program checked.program) checked.accepted.faultless).0)
+    (base_small (locks_of checked.program.heads) c.args.array.now MOST_CELLS
+    (accepted_small (plain_program checked.program) checked.accepted.faultless).0)

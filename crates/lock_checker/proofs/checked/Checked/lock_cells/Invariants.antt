@@ -6,6 +6,7 @@ use Rattle.lock_checker.proofs.checked.Checked.lock_cells.Given as goal
 
 abbrev pub invariant-loop-head : goal.invariant-loop-head
 invariant-loop-head l = record {
-  found : l.over.items ++ cells_over (locks_of l.self.program.heads) (drop l.head-index l.self.program.heads) ≡ cells_over (locks_of l.self.program.heads) l.self.program.heads;
+  found : l.over.items ++ cells_over (locks_of l.self.program.heads) (drop l.head-index l.self.program.heads)
+      ≡ cells_over (locks_of l.self.program.heads) l.self.program.heads;
   small : cells_in (records_of (drop l.head-index l.self.program.heads)) ≤ MOST_CELLS;
 }

@@ -6,7 +6,11 @@ use Rattle.lock_checker.proofs.BaseLemmas.{accepted_small}
 use Rattle.lock_checker.proofs.checked.Checked.of.Goals as goal
 
 pub lock_bases-requires : goal.lock_bases-requires
-lock_bases-requires c = subst (λ heads. cells_in (locks_of heads) ≤ MOST_CELLS) (sym c.as_slice.ensures) (accepted_small (plain_program c.args.program) c.requires.faultless).0
+lock_bases-requires c =
+    subst (λ heads. cells_in (locks_of heads) ≤ MOST_CELLS) (sym c.as_slice.ensures)
+    (accepted_small (plain_program c.args.program) c.requires.faultless).0
 
 pub record_bases-requires : goal.record_bases-requires
-record_bases-requires c = subst (λ heads. cells_in (records_of heads) ≤ MOST_CELLS) (sym c.as_slice-2.ensures) (accepted_small (plain_program c.args.program) c.requires.faultless).1
+record_bases-requires c =
+    subst (λ heads. cells_in (records_of heads) ≤ MOST_CELLS) (sym c.as_slice-2.ensures)
+    (accepted_small (plain_program c.args.program) c.requires.faultless).1

@@ -9,7 +9,8 @@ pub returns-in-Some : goal.returns-in-Some
 returns-in-Some c =
     c.eq.ensures
     ∙ index_eq-told c.as_slice.result c.in-Some.p.now.index
-    ∙ first_tells c.as_slice.result c.args.self.now.members c.range.result (c.range.ensures.in_range tt) c.in-Some.p.now c.next.new.self c.in-Some.ensures.steps
+    ∙ first_tells c.as_slice.result c.args.self.now.members c.range.result
+    (c.range.ensures.in_range tt) c.in-Some.p.now c.next.new.self c.in-Some.ensures.steps
     ∙ ap (λ x. list_any (is_index x) (pairs_in c.args.self.now)) c.as_slice.ensures
 
 pub returns-in-None : goal.returns-in-None

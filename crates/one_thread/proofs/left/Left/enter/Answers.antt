@@ -4,4 +4,6 @@ use Rattle.one_thread.proofs.Lefts.{around-more}
 use Rattle.one_thread.proofs.left.Left.enter.Goals as goal
 
 pub returns : goal.returns
-returns c = ap (λ l. plain_stmts c.args.block.now ++ l) (around-more c.args.self.now.around.items c.push.new.self.items c.args.self.now.present (search rules))
+returns c =
+    ap (λ l. plain_stmts c.args.block.now ++ l)
+    (around-more c.args.self.now.around.items c.push.new.self.items c.args.self.now.present (search rules))

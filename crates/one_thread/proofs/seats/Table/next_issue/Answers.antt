@@ -9,20 +9,23 @@ use Rattle.one_thread.proofs.seats.Table.next_issue.Goals as goal
 
 pub loop-turn-smaller : goal.loop-turn-smaller
 loop-turn-smaller c =
-    turn-IsFalling.falls (table_of c.loop-turn.self) (table_of c.turn.new.self) (c.in_ok-turn.ensures.turn ∙ ap (λ r. gives r (table_of c.turn.new.self)) c.in-Pass.is)
+    turn-IsFalling.falls (table_of c.loop-turn.self) (table_of c.turn.new.self)
+    (c.in_ok-turn.ensures.turn ∙ ap (λ r. gives r (table_of c.turn.new.self)) c.in-Pass.is)
 
 pub loop-turn-preserved : goal.loop-turn-preserved
 loop-turn-preserved c = record {
   same =
       c.loop-turn.invariant.same ∙ next_issue_step (table_of c.loop-turn.self)
-      ∙ ap (go_on turn turns_left (Ended Finished) next_issue) (c.in_ok-turn.ensures.turn ∙ ap (λ r. gives r (table_of c.turn.new.self)) c.in-Pass.is);
+      ∙ ap (go_on turn turns_left (Ended Finished) next_issue)
+      (c.in_ok-turn.ensures.turn ∙ ap (λ r. gives r (table_of c.turn.new.self)) c.in-Pass.is);
   held = c.in_ok-turn.ensures.held;
 }
 
 pub returns-in_default : goal.returns-in_default
 returns-in_default c = record {
   turn =
-      c.loop-turn.invariant.same ∙ next_issue_step (table_of c.loop-turn.self) ∙ ap (go_on turn turns_left (Ended Finished) next_issue) c.in_ok-turn.ensures.turn
+      c.loop-turn.invariant.same ∙ next_issue_step (table_of c.loop-turn.self)
+      ∙ ap (go_on turn turns_left (Ended Finished) next_issue) c.in_ok-turn.ensures.turn
       ∙ last-turn c.in_ok-turn.turn (table_of c.turn.new.self) c.in_default.not-Pass;
   held = c.in_ok-turn.ensures.held;
 }

@@ -13,18 +13,37 @@ returns c =
     let locks = c.lock_count.ensures ∙ ap (λ h. cells_in (locks_of h)) c.as_slice-heads.ensures in
     let records = c.record_count.ensures ∙ ap (λ h. cells_in (records_of h)) c.as_slice-heads.ensures in
     let barriers = c.in_ok-barrier_numbers.ensures ∙ ap (λ h. map (λ b. b.1) (barriers_of h)) c.as_slice-heads.ensures in
-    let registers : c.in_ok-registers.registers ≡ replicate (length c.in-Some.names.now) (pos 0) = c.in_ok-registers.ensures ∙ ap (λ n. replicate n (pos 0)) c.len.ensures in
-    opening-holds c.args.program.now c.args.inputs.now c.args.limits _ c.unwrap_or-main.result c.in-Some.names.now c.in_ok-registers.registers c.in_ok-new_thread.field-0
+    let registers : c.in_ok-registers.registers ≡ replicate (length c.in-Some.names.now) (pos 0) =
+    c.in_ok-registers.ensures ∙ ap (λ n. replicate n (pos 0)) c.len.ensures in
+    opening-holds c.args.program.now c.args.inputs.now c.args.limits _ c.unwrap_or-main.result c.in-Some.names.now
+    c.in_ok-registers.registers c.in_ok-new_thread.field-0
     refl c.requires.slots refl
-    (c.unwrap_or-main.ensures ∙ ap (λ o. unwrap_or o 0) (c.main_place.ensures ∙ ap (position (λ (task : TaskText). is_name main task.name)) c.as_slice.ensures))
-    (at-get c.args.slots.now c.args.slots.now c.unwrap_or-main.result c.in-Some.names.now refl c.in-Some.ensures.lookup.0 c.in-Some.ensures.lookup.1)
+    (c.unwrap_or-main.ensures ∙ ap (λ o. unwrap_or o 0)
+    (c.main_place.ensures ∙ ap (position (λ (task : TaskText). is_name main task.name)) c.as_slice.ensures))
+    (at-get c.args.slots.now c.args.slots.now c.unwrap_or-main.result c.in-Some.names.now refl c.in-Some.ensures.lookup.0
+    c.in-Some.ensures.lookup.1)
     registers
     c.in_ok-new_thread.ensures
     (c.in_ok-push.ensures.items ∙ ap (λ l. l ++ c.in_ok-new_thread.field-0 ∷ []) c.new-threads.ensures.items)
     (c.in_ok-new.ensures.table
-    ∙ ap (λ b. record { limit = c.args.limits.subthreads; barriers = b; seats = new_seat ∷ []; owners = replicate c.lock_count.result None; token = None; issued = 0 }) barriers
-    ∙ ap (λ n. record { limit = c.args.limits.subthreads; barriers = map (λ b. b.1) (barriers_of c.args.program.now.heads); seats = new_seat ∷ []; owners = replicate n None; token = None; issued = 0 }) locks)
+    ∙ ap (λ b. record {
+      limit = c.args.limits.subthreads;
+      barriers = b;
+      seats = new_seat ∷ [];
+      owners = replicate c.lock_count.result None;
+      token = None;
+      issued = 0;
+    }) barriers
+    ∙ ap (λ n. record {
+      limit = c.args.limits.subthreads;
+      barriers = map (λ b. b.1) (barriers_of c.args.program.now.heads);
+      seats = new_seat ∷ [];
+      owners = replicate n None;
+      token = None;
+      issued = 0;
+    }) locks)
     c.in_ok-new.ensures.held
     (c.in_ok-first_cells.ensures ∙ ap (λ n. map (number_at c.as_slice-2.result.now) (numbers 0 n)) records
     ∙ ap (λ l. map (number_at l) (numbers 0 (cells_in (records_of c.args.program.now.heads)))) c.as_slice-2.ensures)
-    (c.in_ok-named_feeds.ensures ∙ ap (λ h. zip (feeds_of h) c.as_slice-3.result.now) c.as_slice-heads.ensures ∙ ap (zip (feeds_of c.args.program.now.heads)) c.as_slice-3.ensures)
+    (c.in_ok-named_feeds.ensures ∙ ap (λ h. zip (feeds_of h) c.as_slice-3.result.now) c.as_slice-heads.ensures
+    ∙ ap (zip (feeds_of c.args.program.now.heads)) c.as_slice-3.ensures)

@@ -6,19 +6,24 @@ use Rattle.one_thread.proofs.threads.Run.next.Goals as goal
 
 pub step-requires-clause-exists : goal.step-requires-clause-exists
 step-requires-clause-exists c =
-    let is : next_issue (table_of c.args.self.now.table) ≡ Issue c.in-Issue.t c.in-Issue.begins c.in-Issue.child (table_of c.next_issue.new.self) =
+    let is : next_issue (table_of c.args.self.now.table)
+    ≡ Issue c.in-Issue.t c.in-Issue.begins c.in-Issue.child (table_of c.next_issue.new.self) =
     c.in_ok-t.ensures.turn ∙ ap (λ turn. gave turn (table_of c.next_issue.new.self)) c.in-Issue.is in
-    subst (λ n. c.in-Issue.t < n) (sym c.requires.alike) (issue-inside c.args.self.now.table c.next_issue.new.self c.in-Issue.t c.in-Issue.begins c.in-Issue.child is)
+    subst (λ n. c.in-Issue.t < n) (sym c.requires.alike)
+    (issue-inside c.args.self.now.table c.next_issue.new.self c.in-Issue.t c.in-Issue.begins c.in-Issue.child is)
 
 pub step-requires-clause-seated : goal.step-requires-clause-seated
 step-requires-clause-seated c =
-    let is : next_issue (table_of c.args.self.now.table) ≡ Issue c.in-Issue.t c.in-Issue.begins c.in-Issue.child (table_of c.next_issue.new.self) =
+    let is : next_issue (table_of c.args.self.now.table)
+    ≡ Issue c.in-Issue.t c.in-Issue.begins c.in-Issue.child (table_of c.next_issue.new.self) =
     c.in_ok-t.ensures.turn ∙ ap (λ turn. gave turn (table_of c.next_issue.new.self)) c.in-Issue.is in
     issue-stays c.args.self.now.table c.next_issue.new.self c.in-Issue.t c.in-Issue.begins c.in-Issue.child is
 
 pub returns-in_ok-step-in-Issue : goal.returns-in_ok-step-in-Issue
 returns-in_ok-step-in-Issue c = λ inputs limits plain holds.
-    let is : next_issue (table_of c.args.self.now.table) ≡ Issue c.in-Issue.t c.in-Issue.begins c.in-Issue.child (table_of c.next_issue.new.self) =
+    let is : next_issue (table_of c.args.self.now.table)
+    ≡ Issue c.in-Issue.t c.in-Issue.begins c.in-Issue.child (table_of c.next_issue.new.self) =
     c.in_ok-t.ensures.turn ∙ ap (λ turn. gave turn (table_of c.next_issue.new.self)) c.in-Issue.is in
-    issue-goes c.args.self.now.program.now inputs limits c.args.self.now plain holds c.next_issue.new.self c.in-Issue.t c.in-Issue.begins c.in-Issue.child
+    issue-goes c.args.self.now.program.now inputs limits c.args.self.now plain holds c.next_issue.new.self c.in-Issue.t
+    c.in-Issue.begins c.in-Issue.child
     c.in_ok-step-in-Issue.step c.step.new.self c.in_ok-t.ensures.held c.requires.alike is c.in_ok-step-in-Issue.ensures

@@ -8,7 +8,8 @@ pub returns-in_ok-enter-in-Some : goal.returns-in_ok-enter-in-Some
 returns-in_ok-enter-in-Some c =
     let fits : SFits w64 c.in-Some.v = search rules in
     let test = rw (to_z-of_z w64 c.in-Some.v fits) at c.if-is_zero.ensures in
-    second_taken c.args.self.now _ c.args.line (plain_expr c.args.e.now) c.args.first.now c.args.second.now c.in-Some.v c.requires.clean (sym c.in-Some.ensures) (sym test)
+    second_taken c.args.self.now _ c.args.line (plain_expr c.args.e.now) c.args.first.now c.args.second.now c.in-Some.v c.requires.clean
+    (sym c.in-Some.ensures) (sym test)
     (c.in_ok-enter-in-Some.ensures ∙ ap (λ l. plain_stmts c.args.second.now ++ l) c.pass.ensures) refl
     (record { at = refl; keeps = record { program = refl; task = refl; registers = refl; feeds = refl; clean = c.requires.clean } })
 
@@ -16,6 +17,7 @@ pub returns-in_ok-enter-in-Some-2 : goal.returns-in_ok-enter-in-Some-2
 returns-in_ok-enter-in-Some-2 c =
     let fits : SFits w64 c.in-Some.v = search rules in
     let test = rw (to_z-of_z w64 c.in-Some.v fits) at c.if-is_zero.ensures in
-    first_taken c.args.self.now _ c.args.line (plain_expr c.args.e.now) c.args.first.now c.args.second.now c.in-Some.v c.requires.clean (sym c.in-Some.ensures) (sym test)
+    first_taken c.args.self.now _ c.args.line (plain_expr c.args.e.now) c.args.first.now c.args.second.now c.in-Some.v c.requires.clean
+    (sym c.in-Some.ensures) (sym test)
     (c.in_ok-enter-in-Some-2.ensures ∙ ap (λ l. plain_stmts c.args.first.now ++ l) c.pass.ensures) refl
     (record { at = refl; keeps = record { program = refl; task = refl; registers = refl; feeds = refl; clean = c.requires.clean } })

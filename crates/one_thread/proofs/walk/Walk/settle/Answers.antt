@@ -18,9 +18,15 @@ returns c =
     c.in_ok-reg.ensures ∙ c.register_number.ensures ∙ ap (λ names. slot names c.args.x.now) c.requires.registers in
     let control : c.in_ok-ctl.ctl ≡ slot (firsts c.args.self.now.env.names) c.args.c.now =
     c.in_ok-ctl.ensures ∙ c.variable_number.ensures
-    ∙ ap (λ names. unwrap_or (position (λ n. is_name c.args.c.now n.0) names) (length names)) c.as_slice.ensures ∙ number_of c.args.self.now.env.names c.args.c.now in
+    ∙ ap (λ names. unwrap_or (position (λ n. is_name c.args.c.now n.0) names) (length names)) c.as_slice.ensures
+    ∙ number_of c.args.self.now.env.names c.args.c.now in
     let same : ◌≡◌ {A = Next} (record { sync = sync.Settle c.in_ok-reg.reg c.in_ok-ctl.ctl; line = c.args.line })
-    (record { sync = sync.Settle (slot (registers_of (plain_task c.args.self.now.task.now)) c.args.x.now) (slot (firsts c.args.self.now.env.names) c.args.c.now); line = c.args.line }) =
+    (record {
+      sync = sync.Settle (slot (registers_of (plain_task c.args.self.now.task.now)) c.args.x.now)
+          (slot (firsts c.args.self.now.env.names) c.args.c.now);
+      line = c.args.line;
+    }) =
     λ i. record { sync = sync.Settle (register i) (control i); line = c.args.line } in
-    subst (λ went. Stepped (step_at (setting_of c.args.self.now) c.args.line (plain.Settle c.args.x.now c.args.c.now) (rest_of c.args.self.now.left) (point_of c.args.self.now)) went c.args.self.now c.args.self.now) (sym c.stop.ensures)
+    subst (λ went. Stepped (step_at (setting_of c.args.self.now) c.args.line (plain.Settle c.args.x.now c.args.c.now)
+    (rest_of c.args.self.now.left) (point_of c.args.self.now)) went c.args.self.now c.args.self.now) (sym c.stop.ensures)
     (same, stays c.args.self.now c.requires.clean, refl)

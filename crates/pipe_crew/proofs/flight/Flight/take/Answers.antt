@@ -16,13 +16,15 @@ returns-clause-stands c =
       pass = was.pass;
       idle = was.idle;
       clerk = subst (λ b. IsClerkOf b c.collect-run.new.clerk) c.deref-2.ensures c.collect-run.ensures.of;
-      taken = subst (λ (l : List ℕ). All (λ d. d < at + 1) l) (sym (ap (λ b. b.taken) c.collect-run.ensures.book)) (taken_more at _ was.taken);
+      taken =
+          subst (λ (l : List ℕ). All (λ d. d < at + 1) l) (sym (ap (λ b. b.taken) c.collect-run.ensures.book)) (taken_more at _ was.taken);
       within = omega (arith, some);
     }
 
 pub returns-clause-gives : goal.returns-clause-gives
 returns-clause-gives c =
-    let run = subst (λ b. IsRunAt Answers (about b) c.args.self.now.taken c.collect-run.result) c.deref-2.ensures c.collect-run.ensures.run in
+    let run =
+    subst (λ b. IsRunAt Answers (about b) c.args.self.now.taken c.collect-run.result) c.deref-2.ensures c.collect-run.ensures.run in
     record {
       task = run.0;
       before_is = drop-more (about (arc_value c.args.self.now.board)).jobs c.args.self.now.taken run.0 run.1;

@@ -6,4 +6,5 @@ pub returns-clause-fly : goal.returns-clause-fly
 returns-clause-fly g c =
     let w = c.args.self.now.inbox.work in
     let launched = c.in_ok-flight.ensures in
-    rw (c.in_default.ensures.items, launched.boards.1, launched.posts.0) (All-push (IsFlight w) c.args.self.now.behind.items c.in_ok-flight.flight c.requires.fly launched.flight)
+    rw (c.in_default.ensures.items, launched.boards.1, launched.posts.0)
+    (All-push (IsFlight w) c.args.self.now.behind.items c.in_ok-flight.flight c.requires.fly launched.flight)

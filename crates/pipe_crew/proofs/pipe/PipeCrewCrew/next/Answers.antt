@@ -17,7 +17,9 @@ returns-clause-taken g c =
     record {
       earlier = [];
       later = _;
-      before_is = rw (first_none, behind_none, launched.out) (rw (launched.boards.1, behind_none, launched.posts.0) at c.in_ok-done-2.ensures.taken);
+      before_is =
+          rw (first_none, behind_none, launched.out)
+          (rw (launched.boards.1, behind_none, launched.posts.0) at c.in_ok-done-2.ensures.taken);
       after_is = refl;
     }
 

@@ -10,5 +10,7 @@ returns-clause-ready g c =
     rw told.work (record {
       first_flies = was.first_flies;
       behind_fly = was.behind_fly;
-      none = λ open_still. was.none (had_not_failed c.post.result before.failed c.post.new.self.failed (ap (λ s. s.failed)) (ap (λ s. s.failed)) told.ok told.err open_still);
+      none =
+          λ open_still. was.none (had_not_failed c.post.result before.failed c.post.new.self.failed (ap (λ s. s.failed))
+          (ap (λ s. s.failed)) told.ok told.err open_still);
     })

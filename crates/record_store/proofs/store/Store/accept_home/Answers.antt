@@ -19,17 +19,22 @@ use Rattle.record_store.proofs.store.Store.accept_home.Goals as goal
 
 pub bring_home-requires-clause-sizes : goal.bring_home-requires-clause-sizes
 bring_home-requires-clause-sizes c =
-    rw (← c.self.view_is) at (sizes_lent c.args.self.now.under (state_of c.args.self.now) c.args.old c.args.bundles c.requires.comes.as_lent)
+    rw (← c.self.view_is) at (sizes_lent c.args.self.now.under
+    (state_of c.args.self.now) c.args.old c.args.bundles c.requires.comes.as_lent)
 
 pub returns-clause-state : goal.returns-clause-state
 returns-clause-state c =
     let s = c.args.self.now in
     let threads = ap (λ s. s.threads) c.bring_home.ensures.rest in
-    let exchanged : c.exchange_threads.new.threads ≡ threads_after s.threads c.args.effect.thread c.args.effect.regs c.args.effect.child = search rules in
-    let cells : (n : ℕ) → number_at c.bring_home.new.self.cells n ≡ value_over s.under c.args.bundles n (number_at s.cells n) = rw (← c.self.view_is) c.bring_home.ensures.cells in
-    state_after s (whole_effect s.under c.args.bundles c.args.old c.args.effect) c.bring_home.new.self.threads c.bring_home.new.self.cells c.requires.thread c.requires.child
+    let exchanged : c.exchange_threads.new.threads ≡ threads_after s.threads c.args.effect.thread c.args.effect.regs c.args.effect.child =
+    search rules in
+    let cells : (n : ℕ) → number_at c.bring_home.new.self.cells n ≡ value_over s.under c.args.bundles n (number_at s.cells n) =
+    rw (← c.self.view_is) c.bring_home.ensures.cells in
+    state_after s (whole_effect s.under c.args.bundles c.args.old c.args.effect) c.bring_home.new.self.threads c.bring_home.new.self.cells
+    c.requires.thread c.requires.child
     (threads ∙ with_items_is c.self.inside.threads c.exchange_threads.new.threads (search rules) ∙ exchanged)
-    (λ n. cells n ∙ cells_after s.under (state_of s) c.args.old c.args.bundles c.requires.comes.as_lent c.requires.comes.rising c.requires.comes.within n)
+    (λ n. cells n ∙ cells_after s.under (state_of s) c.args.old c.args.bundles c.requires.comes.as_lent c.requires.comes.rising
+    c.requires.comes.within n)
 
 pub returns-clause-history : goal.returns-clause-history
 returns-clause-history c =
@@ -38,7 +43,9 @@ returns-clause-history c =
     let child : c.exchange_threads.new.child ≡ option_map (old_child (state_of s)) c.args.effect.child = search rules in
     λ i. record {
       thread = c.args.effect.thread;
-      writes = olds_are s.under (state_of s) c.args.old c.args.bundles c.requires.comes.as_lent c.requires.comes.rising c.requires.comes.within i;
+      writes =
+          olds_are s.under (state_of s) c.args.old c.args.bundles c.requires.comes.as_lent c.requires.comes.rising
+          c.requires.comes.within i;
       regs = regs i;
       child = child i;
       prints = [];
@@ -48,17 +55,23 @@ pub returns-clause-back : goal.returns-clause-back
 returns-clause-back c =
     let s = c.args.self.now in
     let threads = ap (λ s. length s.threads) c.bring_home.ensures.rest in
-    let exchanged : c.exchange_threads.new.threads ≡ threads_after s.threads c.args.effect.thread c.args.effect.regs c.args.effect.child = search rules in
-    let many : length c.bring_home.new.self.threads ≡ length s.threads = threads ∙ ap length (with_items_is c.self.inside.threads c.exchange_threads.new.threads (search rules) ∙ exchanged)
+    let exchanged : c.exchange_threads.new.threads ≡ threads_after s.threads c.args.effect.thread c.args.effect.regs c.args.effect.child =
+    search rules in
+    let many : length c.bring_home.new.self.threads ≡ length s.threads =
+    threads ∙ ap length (with_items_is c.self.inside.threads c.exchange_threads.new.threads (search rules) ∙ exchanged)
     ∙ length_after s.threads c.args.effect.thread c.args.effect.regs c.args.effect.child in
     let placed = length-map (arc_value c.self.inside.standing).places.items (value_on (map seen c.self.inside.shelves.items)) in
-    let within : All (λ w. is_under (arc_value c.self.inside.standing).layout.under (map lock_in c.args.bundles) w.0 ≡ true) c.args.old = rw (← c.self.view_is) at c.requires.comes.within in
-    let inside = in_places (arc_value c.self.inside.standing).layout.under (arc_value c.self.inside.standing).places.items (map lock_in c.args.bundles) c.args.old c.self.invariant.stocked.cells within in
+    let within : All (λ w. is_under (arc_value c.self.inside.standing).layout.under (map lock_in c.args.bundles) w.0 ≡ true) c.args.old =
+    rw (← c.self.view_is) at c.requires.comes.within in
+    let inside =
+    in_places (arc_value c.self.inside.standing).layout.under (arc_value c.self.inside.standing).places.items
+    (map lock_in c.args.bundles) c.args.old c.self.invariant.stocked.cells within in
     let count = c.bring_home.ensures.count in
     record {
       thread = subst (λ n. c.args.effect.thread < n) (sym many) c.requires.thread;
       child = subst (λ n. FitsChild n c.args.effect.thread c.exchange_threads.new.child) (sym many)
-          (subst (FitsChild (length s.threads) c.args.effect.thread) (sym c.exchange_threads.ensures.child) (child_same (length s.threads) c.args.effect.thread _ c.args.effect.child c.requires.child));
+          (subst (FitsChild (length s.threads) c.args.effect.thread) (sym c.exchange_threads.ensures.child)
+          (child_same (length s.threads) c.args.effect.thread _ c.args.effect.child c.requires.child));
       in_range = λ k d less. (let here = inside k d less in omega (arith, here, count, placed));
       rising = c.requires.comes.rising;
     }

@@ -8,7 +8,10 @@ use Rattle.record_store.proofs.store.Store.bring_one.Goals as goal
 use Rattle.record_store.proofs.store.Store.bring_one.Goals.{After-self-1}
 
 less : (c : After-self-1) → c.lock.inside.0 < length c.self.inside.shelves.items
-less c = let there = rw (← c.self.view_is, ← c.lock.view_is) at c.requires.exists in let many = length-map c.self.inside.shelves.items is_away in omega arith
+less c =
+    let there = rw (← c.self.view_is, ← c.lock.view_is) at c.requires.exists in
+    let many = length-map c.self.inside.shelves.items is_away in
+    omega arith
 
 many : (c : After-self-1) → length c.args.bundle.cells ≡ length (under_lock (arc_value c.self.inside.standing).layout.under c.lock.inside.0)
 many c = rw (← c.self.view_is, ← c.lock.view_is) at c.requires.size
@@ -16,7 +19,9 @@ many c = rw (← c.self.view_is, ← c.lock.view_is) at c.requires.size
 pub invariant_of-self : goal.invariant_of-self
 invariant_of-self c =
     record {
-      stocked = stocked_set (arc_value c.self.inside.standing).layout.under (arc_value c.self.inside.standing).places.items c.self.inside.shelves.items c.self.invariant.stocked c.lock.inside.0 (less c)
+      stocked =
+          stocked_set (arc_value c.self.inside.standing).layout.under
+          (arc_value c.self.inside.standing).places.items c.self.inside.shelves.items c.self.invariant.stocked c.lock.inside.0 (less c)
           c.args.bundle.cells c.put_in.new.shelf (ap seen c.put_in.ensures) (many c);
       room_is = c.self.invariant.room_is;
     }
@@ -24,14 +29,20 @@ invariant_of-self c =
 pub returns-clause-cells : goal.returns-clause-cells
 returns-clause-cells c =
     rw (← c.self.view_is, ← c.lock.view_is)
-    (cells_set (arc_value c.self.inside.standing).layout.under (arc_value c.self.inside.standing).places.items c.self.inside.shelves.items c.self.invariant.stocked c.lock.inside.0 (less c) c.args.bundle.cells c.put_in.new.shelf (ap seen c.put_in.ensures) (many c))
+    (cells_set (arc_value c.self.inside.standing).layout.under
+    (arc_value c.self.inside.standing).places.items c.self.inside.shelves.items c.self.invariant.stocked c.lock.inside.0
+    (less c) c.args.bundle.cells c.put_in.new.shelf (ap seen c.put_in.ensures) (many c))
 
 pub returns-clause-rest : goal.returns-clause-rest
 returns-clause-rest c =
     rw (← c.self.view_is, ← c.lock.view_is)
     (λ i. record {
       threads = c.self.inside.threads.items;
-      cells = cells_on (map seen (set c.self.inside.shelves.items c.lock.inside.0 c.put_in.new.shelf)) (arc_value c.self.inside.standing).places.items;
+      cells =
+          cells_on (map seen (set c.self.inside.shelves.items c.lock.inside.0 c.put_in.new.shelf))
+          (arc_value c.self.inside.standing).places.items;
       under = (arc_value c.self.inside.standing).layout.under;
-      away = (map-set is_away c.self.inside.shelves.items c.lock.inside.0 c.put_in.new.shelf ∙ ap (λ s. set (map is_away c.self.inside.shelves.items) c.lock.inside.0 (is_away s)) c.put_in.ensures) i;
+      away =
+          (map-set is_away c.self.inside.shelves.items c.lock.inside.0 c.put_in.new.shelf
+          ∙ ap (λ s. set (map is_away c.self.inside.shelves.items) c.lock.inside.0 (is_away s)) c.put_in.ensures) i;
     })

@@ -7,13 +7,16 @@ use Rattle.record_store.proofs.store.Store.lend_one.Goals.{After-self-1}
 
 less : (c : After-self-1) → c.lock.inside.0 < length c.self.inside.shelves.items
 less c =
-    lock_within (arc_value c.self.inside.standing).layout.under (arc_value c.self.inside.standing).places.items c.self.inside.shelves.items c.self.invariant.stocked c.lock.inside.0 false
+    lock_within (arc_value c.self.inside.standing).layout.under
+    (arc_value c.self.inside.standing).places.items c.self.inside.shelves.items c.self.invariant.stocked c.lock.inside.0 false
     (rw (← c.self.view_is, ← c.lock.view_is) at c.requires.home)
 
 pub invariant_of-self : goal.invariant_of-self
 invariant_of-self c =
     record {
-      stocked = stocked_same (arc_value c.self.inside.standing).layout.under (arc_value c.self.inside.standing).places.items c.self.inside.shelves.items c.self.invariant.stocked c.lock.inside.0
+      stocked =
+          stocked_same (arc_value c.self.inside.standing).layout.under
+          (arc_value c.self.inside.standing).places.items c.self.inside.shelves.items c.self.invariant.stocked c.lock.inside.0
           c.index_mut.result.now c.index_mut.ensures.value (less c) c.take_out-cells.new.shelf c.take_out-cells.ensures.values;
       room_is = c.self.invariant.room_is;
     }
@@ -24,7 +27,9 @@ returns-clause-bundle c =
     (λ i. record {
       lock = c.lock.inside.0;
       cells = (c.take_out-cells.ensures.cells
-          ∙ shelf_seen (arc_value c.self.inside.standing).layout.under (arc_value c.self.inside.standing).places.items c.self.inside.shelves.items c.self.invariant.stocked c.lock.inside.0 c.index_mut.result.now c.index_mut.ensures.value (less c)) i;
+          ∙ shelf_seen (arc_value c.self.inside.standing).layout.under
+          (arc_value c.self.inside.standing).places.items c.self.inside.shelves.items c.self.invariant.stocked c.lock.inside.0
+          c.index_mut.result.now c.index_mut.ensures.value (less c)) i;
     })
 
 pub returns-clause-store : goal.returns-clause-store
@@ -32,9 +37,15 @@ returns-clause-store c =
     rw (← c.self.view_is, ← c.lock.view_is)
     (λ i. record {
       threads = c.self.inside.threads.items;
-      cells = cells_on (seen_same (arc_value c.self.inside.standing).layout.under (arc_value c.self.inside.standing).places.items c.self.inside.shelves.items c.self.invariant.stocked c.lock.inside.0 c.index_mut.result.now c.index_mut.ensures.value
+      cells =
+          cells_on (seen_same (arc_value c.self.inside.standing).layout.under
+          (arc_value c.self.inside.standing).places.items c.self.inside.shelves.items c.self.invariant.stocked c.lock.inside.0
+          c.index_mut.result.now c.index_mut.ensures.value
           (less c) c.take_out-cells.new.shelf c.take_out-cells.ensures.values i) (arc_value c.self.inside.standing).places.items;
       under = (arc_value c.self.inside.standing).layout.under;
-      away = away_set (arc_value c.self.inside.standing).layout.under (arc_value c.self.inside.standing).places.items c.self.inside.shelves.items c.self.invariant.stocked c.lock.inside.0 c.index_mut.result.now c.index_mut.ensures.value (less c)
+      away =
+          away_set (arc_value c.self.inside.standing).layout.under
+          (arc_value c.self.inside.standing).places.items c.self.inside.shelves.items c.self.invariant.stocked c.lock.inside.0
+          c.index_mut.result.now c.index_mut.ensures.value (less c)
           c.take_out-cells.new.shelf true c.take_out-cells.ensures.away i;
     })

@@ -11,10 +11,12 @@ invariant_of-result c =
     let placed : ArePlaced c.args.layout.under c.in_ok-places.places.items = search rules in
     let many : length c.in_ok-places.places.items ≡ length c.args.records = search rules in
     let standing : arc_value c.in_ok-standing.standing ≡ record { places = c.in_ok-places.places; layout = c.args.layout } = search rules in
-    let Q : Standing → Type 0 = λ s. IsKept s.layout.under s.places.items (map seen c.in_ok-shelves.shelves.items) (length c.args.records) in
+    let Q : Standing → Type 0 =
+    λ s. IsKept s.layout.under s.places.items (map seen c.in_ok-shelves.shelves.items) (length c.args.records) in
     subst Q (sym standing)
     (record {
-      stocked = record { cells = placed; sizes = ap (λ xs. map length (map seen xs)) shelves ∙ new_sizes c.args.records c.args.layout.under };
+      stocked =
+          record { cells = placed; sizes = ap (λ xs. map length (map seen xs)) shelves ∙ new_sizes c.args.records c.args.layout.under };
       room_is = sym many;
     })
 

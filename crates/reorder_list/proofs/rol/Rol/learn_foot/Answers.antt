@@ -18,8 +18,10 @@ invariant_of-self c =
     let set = known-set place entries old new c.args.foot there c.know_entry.ensures.entry in
     let one : one_in old ≡ 1 = ap one_where (sym c.know_entry.ensures.known ∙ c.if-not-know_entry.true) in
     let counted = c.self.invariant.unknowns in
-    upheld-changed entries c.self.inside.watched.items c.self.inside.marks c.self.inside.marks c.self.inside.unknown (c.self.inside.unknown - 1)
-    (λ q. nat_eq q c.args.p) (known_entry c.args.foot) _ (λ e. refl) (λ e. refl) (λ q l is e here was. was) (omega arith) (λ q l is e here was. was) (omega arith) (omega arith)
+    upheld-changed entries c.self.inside.watched.items c.self.inside.marks c.self.inside.marks c.self.inside.unknown
+    (c.self.inside.unknown - 1)
+    (λ q. nat_eq q c.args.p) (known_entry c.args.foot) _ (λ e. refl) (λ e. refl) (λ q l is e here was. was) (omega arith)
+    (λ q l is e here was. was) (omega arith) (omega arith)
     (changed-entries entries kept c.args.p place c.in-Some.ensures old read (known_entry c.args.foot) new c.know_entry.ensures.entry)
     (changed-kept entries kept c.args.p place c.in-Some.ensures old read (known_entry c.args.foot) new c.know_entry.ensures.entry refl
     (history-of-applied entries kept c.args.p place c.in-Some.ensures old read))
@@ -38,7 +40,8 @@ invariant_of-self-else-not-know_entry c =
     let none : one_in old ≡ 0 = ap one_where (sym c.know_entry.ensures.known ∙ c.if-not-know_entry.false) in
     let counted = c.self.invariant.unknowns in
     upheld-changed entries c.self.inside.watched.items c.self.inside.marks c.self.inside.marks c.self.inside.unknown c.self.inside.unknown
-    (λ q. nat_eq q c.args.p) (known_entry c.args.foot) _ (λ e. refl) (λ e. refl) (λ q l is e here was. was) (omega arith) (λ q l is e here was. was) (omega arith) (omega arith)
+    (λ q. nat_eq q c.args.p) (known_entry c.args.foot) _ (λ e. refl) (λ e. refl) (λ q l is e here was. was) (omega arith)
+    (λ q l is e here was. was) (omega arith) (omega arith)
     (changed-entries entries kept c.args.p place c.in-Some.ensures old read (known_entry c.args.foot) new c.know_entry.ensures.entry)
     (changed-kept entries kept c.args.p place c.in-Some.ensures old read (known_entry c.args.foot) new c.know_entry.ensures.entry refl
     (history-of-applied entries kept c.args.p place c.in-Some.ensures old read))
@@ -46,12 +49,14 @@ invariant_of-self-else-not-know_entry c =
 
 pub returns-then-not-know_entry-clause-entries : goal.returns-then-not-know_entry-clause-entries
 returns-then-not-know_entry-clause-entries c =
-    changed-entries c.self.inside.entries.items c.self.invariant.kept c.args.p c.in-Some.place c.in-Some.ensures c.index_mut.result.now c.index_mut.ensures.value
+    changed-entries c.self.inside.entries.items c.self.invariant.kept c.args.p c.in-Some.place c.in-Some.ensures c.index_mut.result.now
+    c.index_mut.ensures.value
     (known_entry c.args.foot) c.know_entry.new.entry c.know_entry.ensures.entry
     ∙ ap (λ s. with_change_at c.args.p (known_entry c.args.foot) s.entries) c.self.view_is
 
 pub returns-else-not-know_entry-clause-entries : goal.returns-else-not-know_entry-clause-entries
 returns-else-not-know_entry-clause-entries c =
-    changed-entries c.self.inside.entries.items c.self.invariant.kept c.args.p c.in-Some.place c.in-Some.ensures c.index_mut.result.now c.index_mut.ensures.value
+    changed-entries c.self.inside.entries.items c.self.invariant.kept c.args.p c.in-Some.place c.in-Some.ensures c.index_mut.result.now
+    c.index_mut.ensures.value
     (known_entry c.args.foot) c.know_entry.new.entry c.know_entry.ensures.entry
     ∙ ap (λ s. with_change_at c.args.p (known_entry c.args.foot) s.entries) c.self.view_is

@@ -9,8 +9,10 @@ use Rattle.reorder_list.proofs.rol.Rol.raise.Goals as goal
 
 pub raise_entry-requires : goal.raise_entry-requires
 raise_entry-requires c =
-    holds-here c.self.inside.entries.items c.self.invariant.kept c.args.p c.in_ok-place.place c.in_ok-place.ensures c.index_mut.result.now c.index_mut.ensures.value (λ e. e.attempt < 4294967295)
-    (let Q : Entered → Type 0 = λ s. IsSomeAnd (entry_at s.entries c.args.p) (λ e. e.attempt < 4294967295) in subst Q (sym c.self.view_is) c.requires)
+    holds-here c.self.inside.entries.items c.self.invariant.kept c.args.p c.in_ok-place.place c.in_ok-place.ensures c.index_mut.result.now
+    c.index_mut.ensures.value (λ e. e.attempt < 4294967295)
+    (let Q : Entered → Type 0 = λ s. IsSomeAnd (entry_at s.entries c.args.p) (λ e. e.attempt < 4294967295) in
+    subst Q (sym c.self.view_is) c.requires)
 
 pub invariant_of-self : goal.invariant_of-self
 invariant_of-self c =
@@ -24,7 +26,8 @@ invariant_of-self c =
     (λ q. nat_eq q c.args.p) (raised_entry c.args.front) _ (λ e. refl) (λ e. refl) (λ e. refl)
     (λ q l is e here was. absurd (let same = eqb-true q c.args.p is in omega arith)) (omega arith)
     (λ q l is e here was. absurd (let same = eqb-true q c.args.p is in omega arith)) (omega arith)
-    (changed-entries entries kept c.args.p place c.in_ok-place.ensures old c.index_mut.ensures.value (raised_entry c.args.front) c.raise_entry.new.entry c.raise_entry.ensures.entry)
+    (changed-entries entries kept c.args.p place c.in_ok-place.ensures old c.index_mut.ensures.value
+    (raised_entry c.args.front) c.raise_entry.new.entry c.raise_entry.ensures.entry)
     (changed-kept entries kept c.args.p place c.in_ok-place.ensures old c.index_mut.ensures.value (raised_entry c.args.front)
     c.raise_entry.new.entry c.raise_entry.ensures.entry refl (λ some. some))
     c.self.invariant
@@ -32,19 +35,24 @@ invariant_of-self c =
 pub returns-clause-history : goal.returns-clause-history
 returns-clause-history c =
     c.raise_entry.ensures.history
-    ∙ (ap (λ o. Rattle.std.specs.Option.option_and_then (λ (e : Entry). e.hist) o) (sym (entry-is c.self.inside.entries.items c.self.invariant.kept c.args.p c.in_ok-place.place c.in_ok-place.ensures c.index_mut.result.now c.index_mut.ensures.value))
+    ∙ (ap (λ o. Rattle.std.specs.Option.option_and_then (λ (e : Entry). e.hist) o)
+    (sym (entry-is c.self.inside.entries.items c.self.invariant.kept c.args.p c.in_ok-place.place c.in_ok-place.ensures
+    c.index_mut.result.now c.index_mut.ensures.value))
     ∙ ap (λ s. histories_of s.entries c.args.p) c.self.view_is)
 
 pub returns-clause-applied : goal.returns-clause-applied
 returns-clause-applied c =
     let has : IsTrue (is_some c.raise_entry.result) → IsTrue (is_applied c.index_mut.result.now.state) =
-    λ some. history-of-applied c.self.inside.entries.items c.self.invariant.kept c.args.p c.in_ok-place.place c.in_ok-place.ensures c.index_mut.result.now c.index_mut.ensures.value
+    λ some. history-of-applied c.self.inside.entries.items c.self.invariant.kept c.args.p c.in_ok-place.place c.in_ok-place.ensures
+    c.index_mut.result.now c.index_mut.ensures.value
     (sym (ap is_some c.raise_entry.ensures.history) ∙ some) in
     let Q : Option Entry → Type 0 = λ o. IfSome o (λ e. IsTrue (is_some c.raise_entry.result) → IsTrue (is_applied e.state)) in
-    subst Q (sym (entry-is c.self.inside.entries.items c.self.invariant.kept c.args.p c.in_ok-place.place c.in_ok-place.ensures c.index_mut.result.now c.index_mut.ensures.value) ∙ ap (λ s. entry_at s.entries c.args.p) c.self.view_is) has
+    subst Q (sym (entry-is c.self.inside.entries.items c.self.invariant.kept c.args.p c.in_ok-place.place c.in_ok-place.ensures
+    c.index_mut.result.now c.index_mut.ensures.value) ∙ ap (λ s. entry_at s.entries c.args.p) c.self.view_is) has
 
 pub returns-clause-entries : goal.returns-clause-entries
 returns-clause-entries c =
-    changed-entries c.self.inside.entries.items c.self.invariant.kept c.args.p c.in_ok-place.place c.in_ok-place.ensures c.index_mut.result.now c.index_mut.ensures.value (raised_entry c.args.front)
+    changed-entries c.self.inside.entries.items c.self.invariant.kept c.args.p c.in_ok-place.place c.in_ok-place.ensures
+    c.index_mut.result.now c.index_mut.ensures.value (raised_entry c.args.front)
     c.raise_entry.new.entry c.raise_entry.ensures.entry
     ∙ ap (λ s. with_change_at c.args.p (raised_entry c.args.front) s.entries) c.self.view_is

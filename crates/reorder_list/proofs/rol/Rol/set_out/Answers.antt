@@ -11,12 +11,15 @@ invariant_of-self c =
     (λ q l is e here was. refl) (omega arith)
     (waiting-kept c.self.inside.entries.items c.args.p c.self.inside.marks.whole c.requires.entry out_entry
     (ap (λ s. entry_at s.entries c.args.p) c.self.view_is ∙ c.requires.is_there) c.requires.waits) (omega arith)
-    (changed-entries c.self.inside.entries.items c.self.invariant.kept c.args.p c.in-Some.place c.in-Some.ensures c.index_mut.result.now c.index_mut.ensures.value out_entry c.send_entry.new.entry c.send_entry.ensures)
-    (out-kept c.self.inside.entries.items c.self.invariant.kept c.args.p c.in-Some.place c.in-Some.ensures c.index_mut.result.now c.index_mut.ensures.value c.requires.entry c.send_entry.new.entry c.send_entry.ensures
+    (changed-entries c.self.inside.entries.items c.self.invariant.kept c.args.p c.in-Some.place c.in-Some.ensures c.index_mut.result.now
+    c.index_mut.ensures.value out_entry c.send_entry.new.entry c.send_entry.ensures)
+    (out-kept c.self.inside.entries.items c.self.invariant.kept c.args.p c.in-Some.place c.in-Some.ensures c.index_mut.result.now
+    c.index_mut.ensures.value c.requires.entry c.send_entry.new.entry c.send_entry.ensures
     (ap (λ s. entry_at s.entries c.args.p) c.self.view_is ∙ c.requires.is_there) c.requires.waits)
     c.self.invariant
 
 pub returns-in-Some-clause-entries : goal.returns-in-Some-clause-entries
 returns-in-Some-clause-entries c =
-    changed-entries c.self.inside.entries.items c.self.invariant.kept c.args.p c.in-Some.place c.in-Some.ensures c.index_mut.result.now c.index_mut.ensures.value out_entry c.send_entry.new.entry c.send_entry.ensures
+    changed-entries c.self.inside.entries.items c.self.invariant.kept c.args.p c.in-Some.place c.in-Some.ensures c.index_mut.result.now
+    c.index_mut.ensures.value out_entry c.send_entry.new.entry c.send_entry.ensures
     ∙ ap (λ s. with_change_at c.args.p out_entry s.entries) c.self.view_is

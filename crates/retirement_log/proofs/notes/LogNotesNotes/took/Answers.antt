@@ -20,7 +20,8 @@ returns-clause-noted c =
     let less = c.in-Some.ensures in
     let place : c.in-Some.at ≡ c.args.done.now.task.pos - c.args.self.now.next = omega arith in
     let ahead : c.args.self.now.next ≤ c.args.done.now.task.pos = omega arith in
-    noted c.args.self.now after c.args.done.now.task.pos (effect_of c.args.work.now c.args.done.now) c.in_ok-row.row ahead refl refl c.in_ok-row.ensures
+    noted c.args.self.now after c.args.done.now.task.pos
+    (effect_of c.args.work.now c.args.done.now) c.in_ok-row.row ahead refl refl c.in_ok-row.ensures
     (subst (λ k. slice_get c.put_row.new.rows.items k ≡ Some (Some c.in_ok-row.row)) place c.put_row.ensures.put)
     (subst (λ k. KeepsOthers k c.args.self.now.rows.items c.put_row.new.rows.items) place
     (λ k row apart is. c.put_row.ensures.kept k row apart (c.in_ok-grow.ensures.kept k row is)))

@@ -9,6 +9,8 @@ returns-in-Ok-clause-ready g c =
     record {
       runs_all = rw c.all-tasks.ensures.rest ready.runs_all;
       are_runs = rw (c.from.ensures.0, c.into_vec.ensures, c.all-tasks.ensures.rest) given.0.runs;
-      counted = rw c.all-tasks.ensures.rest (λ e. let was = ready.counted e in let more = given.1 in let both = c.and-self.ensures in omega arith);
+      counted =
+          rw c.all-tasks.ensures.rest (λ e. let was = ready.counted e in let more = given.1 in let both = c.and-self.ensures in
+          omega arith);
       no_more = rw c.all-tasks.ensures.rest (let was = ready.no_more in let more = given.1 in let both = c.and-self.ensures in omega arith);
     }

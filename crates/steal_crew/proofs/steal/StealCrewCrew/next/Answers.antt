@@ -19,7 +19,8 @@ returns-clause-ready g c =
 pub returns-clause-run : goal.returns-clause-run
 returns-clause-run g c =
     rw (← c.in_ok-fill.ensures.work)
-    (taken_has (IsRun c.fill.new.self.inbox.work) c.fill.new.self.runs.items 0 _ c.pop_front.result (search rules) c.pop_front.ensures.variant c.pop_front.ensures.lookup c.in_ok-fill.ensures.ready.are_runs)
+    (taken_has (IsRun c.fill.new.self.inbox.work) c.fill.new.self.runs.items 0 _ c.pop_front.result
+    (search rules) c.pop_front.ensures.variant c.pop_front.ensures.lookup c.in_ok-fill.ensures.ready.are_runs)
 
 pub returns-clause-taken : goal.returns-clause-taken
 returns-clause-taken g c =
@@ -28,6 +29,8 @@ returns-clause-taken g c =
     let left = c.pop_front.new.self.items in
     subst
     (λ w. IfSome c.pop_front.result (λ run.
-    TakesOut (map (task_of before.inbox.work) before.runs.items ++ before.inbox.out) (task_of w run) (map (task_of then.inbox.work) left ++ then.inbox.out)))
+    TakesOut (map (task_of before.inbox.work) before.runs.items ++ before.inbox.out) (task_of w run)
+    (map (task_of then.inbox.work) left ++ then.inbox.out)))
     c.in_ok-fill.ensures.work
-    (taken_first then.inbox.work c.pop_front.result then.runs.items left then.inbox.out _ c.pop_front.ensures.items c.in_ok-fill.ensures.out)
+    (taken_first then.inbox.work c.pop_front.result then.runs.items left then.inbox.out _ c.pop_front.ensures.items
+    c.in_ok-fill.ensures.out)

@@ -5,5 +5,7 @@ use Rattle.subthread.proofs.names.Names.write.Goals as goal
 
 pub returns : goal.returns
 returns c =
-    let writes = c.in_ok-insert.ensures.keys ∙ inserted c.args.cell c.self.inside.writes.keys ∙ ap (λ (n : Named). with_cell c.args.cell n.writes) c.self.view_is in
+    let writes =
+    c.in_ok-insert.ensures.keys ∙ inserted c.args.cell c.self.inside.writes.keys
+    ∙ ap (λ (n : Named). with_cell c.args.cell n.writes) c.self.view_is in
     λ i. record { reads = (c.self.view_is i).reads; writes = writes i }

@@ -11,7 +11,9 @@ returns c =
     let owners = held.owners.items in
     let long : length owners ≡ c.len.result = search rules in
     let told = c.change_of-change.ensures.told (owners_now held) (length-with held.change owners ∙ long) in
-    let inside = for_some (λ last. last.lock < length owners) change (subst (λ n. IfSome change (λ last. last.lock < n)) (sym long) c.change_of-change.ensures.within) in
+    let inside =
+    for_some (λ last. last.lock < length owners) change
+    (subst (λ n. IfSome change (λ last. last.lock < n)) (sym long) c.change_of-change.ensures.within) in
     subst (λ locks. IfOk c.lock_numbers.result (λ numbers. numbers ≡ locks))
     (c.as_slice-2.ensures ∙ c.in_ok-after.ensures
     ∙ ap (locks_with change t) (c.as_slice.ensures ∙ c.in_ok-now.ensures ∙ ap (locks_with held.change t) (c.of.ensures ∙ c.requires.each t))

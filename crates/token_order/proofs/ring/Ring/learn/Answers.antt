@@ -15,5 +15,6 @@ invariant_of-self c = record {
 pub returns-clause-spare : goal.returns-clause-spare
 returns-clause-spare c =
     same_room c.self.inside.threads c.learn.new.self c.self.inside.held c.self.inside.held
-    (ap (λ there. length there.seats) c.learn.ensures.learnt ∙ learnt_length (table c.self.inside.threads) c.thread.inside.0 c.args.next) c.learn.ensures.capacity refl
+    (ap (λ there. length there.seats) c.learn.ensures.learnt ∙ learnt_length (table c.self.inside.threads) c.thread.inside.0 c.args.next)
+    c.learn.ensures.capacity refl
     ∙ ap (λ (roomy : Roomy). roomy.spare) c.self.view_is
