@@ -14,24 +14,25 @@ use Rattle.std.proofs.lemmas.Bool.{cases_lt}
 use Rattle.std.proofs.Math.Seq.{take-append_seam}
 use Rattle.std.proofs.lemmas.List.{append-nil, take-append-le, take-append-drop}
 use Rattle.std.proofs.lemmas.List.Elements.{All-contains, Contains-append_right}
-use Rattle.gp_base.specs.Files.{bytes_of}
+use Rattle.gp_base.specs.meaning.Files.{bytes_of}
 use Rattle.gp_base.specs.declared.limits.TheConstants.{MOST_FILE_BYTES}
-use Rattle.task_ast.specs.Tree.{Name}
+use Rattle.task_ast.specs.meaning.Tree.{Name}
 use Rattle.gp_audit.specs.declared.line.TraceLine.{TraceLine}
 use Rattle.gp_audit.specs.declared.line.TraceFault.{TraceFault}
 use Rattle.gp_audit.specs.declared.line.TraceFault.TheVariants as fault
-use Rattle.gp_audit.specs.Lines.{line_text, trace_text, IsNarrowLine}
-use Rattle.gp_audit.specs.Reading.{AnswersTrace, IsBrokenAt}
+use Rattle.gp_audit.specs.meaning.Lines.{line_text, trace_text, IsNarrowLine}
+use Rattle.gp_audit.specs.meaning.Reading.{IsBrokenAt}
+use Rattle.gp_audit.specs.Reading.{AnswersTrace}
 use Rattle.gp_audit.proofs.Once.{lines_once, read_once}
 use Rattle.gp_audit.proofs.Parts.{cancel}
 use Rattle.gp_audit.proofs.Traces.{few-lines}
 use Rattle.call_cases.specs.declared.reading.Refusal.{Refusal}
 use Rattle.call_cases.specs.declared.reading.Refusal.TheVariants.{Usage, BadProgram, BadInput, ReadFault, OutOfMemory}
-use Rattle.call_cases.specs.Work.{Files, ToDo, Spoils}
-use Rattle.call_cases.specs.Lines.{input_line}
+use Rattle.call_cases.specs.meaning.Work.{Files, ToDo, Spoils}
+use Rattle.call_cases.specs.meaning.Lines.{input_line}
 use Rattle.call_cases.specs.Refusals.{IsInputRefused, ReadsAmong, AnswersFile}
 use Rattle.call_cases.proofs.Loads.{only_one}
-use Rattle.audit_calls.specs.Tried.{Reads, Judge, by_rows}
+use Rattle.audit_calls.specs.meaning.Tried.{Reads, Judge, by_rows}
 use Rattle.audit_calls.specs.inner.Trials.{AnswersLines}
 
 -- what was read, as an answer that memory may keep back

@@ -14,19 +14,19 @@ use Rattle.std.proofs.lemmas.Slice.Eq.{bytes_eq-Decides}
 use Rattle.std.proofs.lemmas.List.Elements.{All-nil, All-push, All-cons, All-head, All-tail}
 use Rattle.gp_base.specs.declared.fault.Fault.{Fault}
 use Rattle.gp_base.specs.declared.journal.Restart.{Restart}
-use Rattle.dependence.specs.Restarts.{Dependence, restarts}
+use Rattle.dependence.specs.meaning.Restarts.{Dependence, restarts}
 use Rattle.dependence.specs.JournalTests.{is_lawful, is_complete}
 use Rattle.dependence.proofs.Auditing.{lawful-decides, complete-decides}
 use Rattle.gp_audit.specs.declared.line.TraceLine.{TraceLine}
 use Rattle.gp_audit.specs.declared.line.TraceLine.TheVariants as line
 use Rattle.gp_audit.specs.declared.verdict.Verdict.{Verdict}
 use Rattle.gp_audit.specs.declared.verdict.Verdict.TheVariants.{Lawful, Unlawful, Incomplete}
-use Rattle.gp_audit.specs.Lines.{line_text, trace_text, redo_end, restart_end, IsNarrow, IsNarrowLine, IsNarrowRestart}
-use Rattle.gp_audit.specs.Verdicts.{events_of, restarts_told, LawfulLines, IsVerdict}
+use Rattle.gp_audit.specs.meaning.Lines.{line_text, trace_text, redo_end, restart_end, IsNarrow, IsNarrowLine, IsNarrowRestart}
+use Rattle.gp_audit.specs.meaning.Verdicts.{events_of, restarts_told, LawfulLines, IsVerdict}
 use Rattle.gp_audit.proofs.Parts.{cancel}
 use Rattle.gp_audit.proofs.Restarts.{head, parts, first_apart}
 use Rattle.gp_audit.proofs.Traces.{text-next, few-lines}
-use Rattle.audit_calls.specs.Tried.{Reads, Judge}
+use Rattle.audit_calls.specs.meaning.Tried.{Reads, Judge}
 
 -- it holds, or it doesn't
 abbrev Choice : Type 0 → Type 0

@@ -2,10 +2,10 @@
 use Rattle.std.proofs.Common.{ℕ, inl, inr, refl, arith}
 use Rattle.gp_audit.specs.declared.verdict.Verdict.{Verdict}
 use Rattle.gp_audit.specs.declared.verdict.Verdict.TheVariants.{Lawful, Unlawful, Incomplete}
-use Rattle.gp_audit.specs.Answer.{verdict_status}
+use Rattle.gp_audit.specs.meaning.Answer.{verdict_status}
 use Rattle.call_cases.specs.Commands.{IsApart, AreSound}
-use Rattle.audit_calls.specs.Tried.{Judge}
-use Rattle.audit_calls.specs.AuditCommands.{IsTold, commands}
+use Rattle.audit_calls.specs.meaning.Tried.{Judge}
+use Rattle.audit_calls.specs.meaning.AuditCommands.{IsTold, commands}
 
 verdict_told : (verdict : Verdict) → IsTold (verdict_status verdict)
 verdict_told Lawful = inl refl

@@ -3,36 +3,36 @@ use Rattle.std.proofs.Common.{◌≡◌, inl, inr, ℕ, true, List, [], ◌∷�
 use Rattle.std.specs.declared.option.Option.TheVariants.{Some}
 use Rattle.std.specs.declared.result.Result.{Result}
 use Rattle.std.specs.declared.result.Result.TheVariants.{Ok}
-use Rattle.gp_base.specs.Files.{bytes_of}
-use Rattle.task_ast.specs.Tree.{Name}
-use Rattle.task_ast.specs.Plain.{Subthread, order}
-use Rattle.dependence.specs.Restarts.{Dependence}
+use Rattle.gp_base.specs.meaning.Files.{bytes_of}
+use Rattle.task_ast.specs.meaning.Tree.{Name}
+use Rattle.task_ast.specs.meaning.Plain.{Subthread, order}
+use Rattle.dependence.specs.meaning.Restarts.{Dependence}
 use Rattle.gp_base.specs.declared.fault.Fault.{Fault}
 use Rattle.gp_base.specs.declared.journal.Event.{Event}
-use Rattle.dependence.specs.Restarts.{restarts}
-use Rattle.dependence.specs.Journal.{Complete}
-use Rattle.dependence.specs.Runs.{dependence_of, restarts_of}
-use Rattle.restart_log.specs.Trace.{trace_text}
+use Rattle.dependence.specs.meaning.Restarts.{restarts}
+use Rattle.dependence.specs.meaning.Journal.{Complete}
+use Rattle.dependence.specs.meaning.Runs.{dependence_of, restarts_of}
+use Rattle.restart_log.specs.meaning.Trace.{trace_text}
 use Rattle.gp_audit.specs.declared.line.TraceLine.{TraceLine}
 use Rattle.gp_audit.specs.declared.verdict.Verdict.{Verdict}
 use Rattle.gp_audit.specs.declared.verdict.Verdict.TheVariants.{Lawful}
-use Rattle.gp_audit.specs.Answer.{verdict_text, verdict_status}
-use Rattle.gp_audit.specs.Verdicts.{IsVerdict}
+use Rattle.gp_audit.specs.meaning.Answer.{verdict_text, verdict_status}
+use Rattle.gp_audit.specs.meaning.Verdicts.{IsVerdict}
 use Rattle.gp_traces.specs.Laws.{IsWholeRun, IsNarrowRun}
 use Rattle.gp_audit.proofs.Orders.{order-is}
 use Rattle.gp_traces.proofs.WholeRuns.{audit-is-lawful}
 use Rattle.command_line.specs.declared.asked.Command.{Command}
 use Rattle.command_line.specs.declared.asked.Command.TheVariants as command
-use Rattle.call_cases.specs.Work.{Files, ToDo, is_journalled}
-use Rattle.call_cases.specs.PlainText.{restarts_in}
-use Rattle.call_cases.specs.Recovering.{recovering_by, CompleteBy}
-use Rattle.call_cases.specs.Journals.{run_of, dependence_for, IsJournalOf, IsCompleteOf}
-use Rattle.call_cases.specs.Case.{Go, IsCase, ForCase, ForRun, status_of, text_of}
-use Rattle.call_cases.specs.RunCommands as run
-use Rattle.call_cases.specs.Headline.{Call, Headline}
+use Rattle.call_cases.specs.meaning.Work.{Files, ToDo, is_journalled}
+use Rattle.call_cases.specs.meaning.PlainText.{restarts_in}
+use Rattle.call_cases.specs.meaning.Recovering.{recovering_by, CompleteBy}
+use Rattle.call_cases.specs.meaning.Journals.{run_of, dependence_for, IsJournalOf, IsCompleteOf}
+use Rattle.call_cases.specs.meaning.Case.{Go, IsCase, ForCase, ForRun, status_of, text_of}
+use Rattle.call_cases.specs.meaning.RunCommands as run
+use Rattle.call_cases.specs.meaning.Headline.{Call, Headline}
 use Rattle.call_cases.proofs.OneCase.{one_case_of}
-use Rattle.audit_calls.specs.Tried.{Reads, Judge, tried}
-use Rattle.audit_calls.specs.AuditCommands.{asking, commands}
+use Rattle.audit_calls.specs.meaning.Tried.{Reads, Judge, tried}
+use Rattle.audit_calls.specs.meaning.AuditCommands.{asking, commands}
 use Rattle.audit_calls.specs.Laws.{IsSameRun, TraceLaw}
 use Rattle.audit_calls.specs.inner.Trials.{AnswersLines}
 use Rattle.command_line.proofs.RestartsAlone.{RestartsAlone}

@@ -10,23 +10,23 @@ use Rattle.gp_base.specs.declared.limits.TheConstants.{MOST_SUBTHREADS}
 use Rattle.gp_base.specs.declared.sink.SinkFault.{SinkFault}
 use Rattle.gp_base.specs.declared.sink.SinkFault.TheVariants.{Failed, OutOfMemory}
 use Rattle.gp_base.proofs.Written.{prefix_none}
-use Rattle.task_ast.specs.Tree.{Program}
-use Rattle.task_ast.specs.Plain.{order, tree_machine}
+use Rattle.task_ast.specs.meaning.Tree.{Program}
+use Rattle.task_ast.specs.meaning.Plain.{order, tree_machine}
 use Rattle.task_ast.proofs.PlainRuns.{count_law}
 use Rattle.one_thread.specs.PlainRuns.{shown}
 use Rattle.one_thread.specs.declared.run.Step.{Step}
-use Rattle.dependence.specs.Restarts.{Dependence}
+use Rattle.dependence.specs.meaning.Restarts.{Dependence}
 use Rattle.gp_audit.specs.declared.line.TraceLine.{TraceLine}
 use Rattle.gp_audit.specs.declared.verdict.Verdict.{Verdict}
 use Rattle.gp_audit.specs.Steps.{dependence_by}
-use Rattle.gp_audit.specs.Verdicts.{IsVerdict}
+use Rattle.gp_audit.specs.meaning.Verdicts.{IsVerdict}
 use Rattle.gp_audit.proofs.Fronts.{verdict_once}
 use Rattle.gp_audit.proofs.Orders.{order-is}
-use Rattle.call_cases.specs.Work.{ToDo}
-use Rattle.call_cases.specs.Journals.{run_of, dependence_for}
+use Rattle.call_cases.specs.meaning.Work.{ToDo}
+use Rattle.call_cases.specs.meaning.Journals.{run_of, dependence_for}
 use Rattle.call_cases.specs.Answers.{PutFor, unwritten}
 use Rattle.audit_calls.specs.Laws.{OneJudge}
-use Rattle.audit_calls.specs.Tried.{Judge, tried}
+use Rattle.audit_calls.specs.meaning.Tried.{Judge, tried}
 use Rattle.audit_calls.proofs.Readings.{one_reading}
 
 -- the plain run has few steps

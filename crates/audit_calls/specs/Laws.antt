@@ -1,21 +1,21 @@
 -- Laws of audits.
 use Rattle.std.specs.Prelude.{◌≡◌, ◌≤◌, ℕ, true, List, Some, length, codes}
-use Rattle.gp_base.specs.Files.{bytes_of}
+use Rattle.gp_base.specs.meaning.Files.{bytes_of}
 use Rattle.gp_base.specs.declared.fault.Fault.{Fault}
 use Rattle.gp_base.specs.declared.limits.TheConstants.{MOST_FILE_BYTES}
-use Rattle.task_ast.specs.Tree.{Name}
-use Rattle.dependence.specs.Restarts.{Dependence}
-use Rattle.restart_log.specs.Trace.{trace_text}
+use Rattle.task_ast.specs.meaning.Tree.{Name}
+use Rattle.dependence.specs.meaning.Restarts.{Dependence}
+use Rattle.restart_log.specs.meaning.Trace.{trace_text}
 use Rattle.gp_audit.specs.declared.line.TraceLine.{TraceLine}
 use Rattle.gp_traces.specs.Laws.{IsNarrowRun}
 use Rattle.command_line.specs.declared.audit_words.Audited.{Audited}
-use Rattle.call_cases.specs.Work.{Files, ToDo, is_journalled}
-use Rattle.call_cases.specs.Journals.{run_of}
-use Rattle.call_cases.specs.Case.{Case, Go, IsCaseOf, IsCase, status_of, text_of}
-use Rattle.call_cases.specs.RunCommands as run
-use Rattle.call_cases.specs.Headline.{Call, Headline}
-use Rattle.audit_calls.specs.Tried.{Judge, Tried}
-use Rattle.audit_calls.specs.AuditCommands.{asking, commands}
+use Rattle.call_cases.specs.meaning.Work.{Files, ToDo, is_journalled}
+use Rattle.call_cases.specs.meaning.Journals.{run_of}
+use Rattle.call_cases.specs.meaning.Case.{Case, Go, IsCaseOf, IsCase, status_of, text_of}
+use Rattle.call_cases.specs.meaning.RunCommands as run
+use Rattle.call_cases.specs.meaning.Headline.{Call, Headline}
+use Rattle.audit_calls.specs.meaning.Tried.{Judge, Tried}
+use Rattle.audit_calls.specs.meaning.AuditCommands.{asking, commands}
 
 -- no two judges differ
 abbrev pub OneJudge : Type 0

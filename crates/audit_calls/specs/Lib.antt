@@ -1,4 +1,3 @@
-pub mod AuditCommands
 pub mod Laws
-pub mod Tried
 pub mod inner
+pub mod meaning

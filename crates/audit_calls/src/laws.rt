@@ -1,6 +1,6 @@
 // Laws of audits, each on a function with an empty body.
 ghost use Rattle.audit_calls.specs.Laws.{OneJudge, TraceLaw};
-ghost use Rattle.audit_calls.specs.Tried.{Judge};
+ghost use Rattle.audit_calls.specs.meaning.Tried.{Judge};
 
 /// A law: no two judges differ, so that what is promised for each of them is promised once.
 pub fn one_judge()

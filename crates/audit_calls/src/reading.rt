@@ -1,15 +1,16 @@
 // What words ask to be audited, from the shelf.
 ghost use Rattle.std.specs.Prelude.{◌≡◌, ◌<◌, ◌≤◌, List, [], ◌∷◌, length, Some, None, IfOk, IfSome};
-ghost use Rattle.gp_base.specs.Files.{bytes_of};
+ghost use Rattle.gp_base.specs.meaning.Files.{bytes_of};
 ghost use Rattle.gp_base.specs.declared.limits.TheConstants.{MOST_FILE_BYTES};
-ghost use Rattle.task_ast.specs.Tree.{Name};
-ghost use Rattle.command_line.specs.Words.{texts, IsWithinLimits};
-ghost use Rattle.command_line.specs.AuditWords.{audited_by};
-ghost use Rattle.call_cases.specs.Work.{ToDo};
-ghost use Rattle.call_cases.specs.Case.{IsCase, IsCaseOf};
+ghost use Rattle.task_ast.specs.meaning.Tree.{Name};
+ghost use Rattle.command_line.specs.meaning.Words.{texts};
+ghost use Rattle.command_line.specs.Words.{IsWithinLimits};
+ghost use Rattle.command_line.specs.meaning.AuditWords.{audited_by};
+ghost use Rattle.call_cases.specs.meaning.Work.{ToDo};
+ghost use Rattle.call_cases.specs.meaning.Case.{IsCase, IsCaseOf};
 ghost use Rattle.call_cases.specs.Refusals.{AnswersCase, AnswersNoCommand, ReadsAmong, TouchesShelf};
-ghost use Rattle.audit_calls.specs.Tried.{Judge};
-ghost use Rattle.audit_calls.specs.AuditCommands.{MayRead, asking};
+ghost use Rattle.audit_calls.specs.meaning.Tried.{Judge};
+ghost use Rattle.audit_calls.specs.meaning.AuditCommands.{MayRead, asking};
 ghost use Rattle.audit_calls.specs.inner.Trials.{AnswersLines, IsShort, audited_in, case_of};
 
 use crate::trial::Trial;
@@ -74,8 +75,8 @@ fn read_audited<H: Shelf>(alloc: Global, audited: Audited, shelf: &mut H) -> Res
     }
 }
 
-/// What the words ask to be audited, with all that the run would read and the lines of its trace. The first refusal met is the
-/// answer.
+/// What the words ask to be audited, with all that the run would read and the lines of its trace. The first refusal met
+/// is the answer.
 pub fn read_trial<H: Shelf>(
     alloc: Global,
     words: &[String],

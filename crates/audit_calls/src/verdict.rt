@@ -1,8 +1,9 @@
 // The verdict on a trace, and how it is told.
 ghost use Rattle.std.specs.Prelude.{◌≡◌, IfOk};
-ghost use Rattle.gp_audit.specs.Answer.{verdict_status, verdict_text};
-ghost use Rattle.call_cases.specs.Answers.{PutFor, change_of};
-ghost use Rattle.audit_calls.specs.Tried.{Judge};
+ghost use Rattle.gp_audit.specs.meaning.Answer.{verdict_status, verdict_text};
+ghost use Rattle.call_cases.specs.meaning.Answers.{change_of};
+ghost use Rattle.call_cases.specs.Answers.{PutFor};
+ghost use Rattle.audit_calls.specs.meaning.Tried.{Judge};
 ghost use Rattle.audit_calls.specs.inner.Trials.{IsShort, tried_in};
 
 use crate::trial::Trial;
@@ -35,8 +36,8 @@ fn tell<O: Sink>(alloc: Global, verdict: Verdict, out: &mut O) -> Result<u8, Sin
     Ok(verdict_status(verdict))
 }
 
-/// Writes the line that tells the verdict on the lines of a trace. The answer is the status: 0 where they are those of a whole
-/// lawful run, 9 where they are not lawful, and 10 where the run has not ended.
+/// Writes the line that tells the verdict on the lines of a trace. The answer is the status: 0 where they are those of
+/// a whole lawful run, 9 where they are not lawful, and 10 where the run has not ended.
 pub fn put_verdict<O: Sink>(alloc: Global, trial: &Trial, out: &mut O) -> Result<u8, SinkFault>
     requires { IsShort trial.now }
     ensures { (judge : Judge) → PutFor (verdict_text (tried_in judge trial.now).verdict) (verdict_status (tried_in judge trial.now).verdict) (change_of O.written O.faults out.old out.new) result }

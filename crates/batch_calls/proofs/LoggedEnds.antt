@@ -11,13 +11,14 @@ use Rattle.command_line.specs.declared.asked.Asked.{Asked}
 use Rattle.command_line.specs.declared.asked.Command.{Command}
 use Rattle.command_line.specs.declared.asked.Command.TheVariants as command
 use Rattle.command_line.proofs.KeepsNoLog.{KeepsNoLog}
-use Rattle.call_cases.specs.Work.{ToDo}
-use Rattle.call_cases.specs.PlainText.{plain_ran}
-use Rattle.call_cases.specs.Lines.{out_of_memory_line}
-use Rattle.call_cases.specs.RunCommands.{end_status, work_status, work_text, trace_for}
-use Rattle.call_cases.specs.Answers.{Change, Fails, unwritten, IsEmpty, LineEnds, RunEnds, LogEnds, log_finished, log_no_memory, log_write_failed, log_unbegun}
+use Rattle.call_cases.specs.meaning.Work.{ToDo}
+use Rattle.call_cases.specs.meaning.PlainText.{plain_ran}
+use Rattle.call_cases.specs.meaning.Lines.{out_of_memory_line}
+use Rattle.call_cases.specs.meaning.RunCommands.{end_status, work_status, work_text, trace_for}
+use Rattle.call_cases.specs.meaning.Answers.{Change, Fails, IsEmpty}
+use Rattle.call_cases.specs.Answers.{unwritten, LineEnds, RunEnds, LogEnds, log_finished, log_no_memory, log_write_failed, log_unbegun}
 use Rattle.call_cases.proofs.Headlines.{run_of_memory}
-use Rattle.batch_calls.specs.LogCommands.{log_for, TakesLog}
+use Rattle.batch_calls.specs.meaning.LogCommands.{log_for, TakesLog}
 use Rattle.batch_calls.specs.inner.Logged.{IsLogged, LogsFor, stop_status}
 use Rattle.batch_calls.specs.inner.Planned.{EndsBy}
 use Rattle.batch_calls.specs.inner.Ran.{RanIf}
@@ -27,18 +28,22 @@ module _ (work : ToDo) (text : List ℕ) (out log : Change) where
   abbrev Fault : Type 0
   Fault = Fails out ⊎ Fails log
 
-  pub logged_to_end : (ran : Result Report EngineStop) (report : Report) (status : ℕ) → ran ≡ Ok report → status ≡ end_status report.end → RanIf Fault work text out ran → IsLogged work log ran
+  pub logged_to_end : (ran : Result Report EngineStop) (report : Report) (status : ℕ) → ran ≡ Ok report → status ≡ end_status report.end
+      → RanIf Fault work text out ran → IsLogged work log ran
       → LogsFor work text out log status report.journal
   logged_to_end ran report status ok is went logged =
       let here = subst (RanIf Fault work text out) ok went in
       let there = subst (IsLogged work log) ok logged in
       let due : end_status (plain_ran work).end ≡ status = sym (is ∙ ap end_status here.report.end) in
       record {
-        ends = subst (λ s. LogEnds text (log_for work) (TakesLog work report.journal) (end_status (plain_ran work).end) out log report.journal s) due (log_finished here.all there.whole);
+        ends =
+            subst (λ s. LogEnds text (log_for work) (TakesLog work report.journal)
+            (end_status (plain_ran work).end) out log report.journal s) due (log_finished here.all there.whole);
         journalled = record { lawful = here.journal; complete = λ is. here.report.complete; retired = here.retired };
       }
 
-  pub logged_to_stop : (ran : Result Report EngineStop) (stop : EngineStop) (status : ℕ) → ran ≡ Err stop → status ≡ stop_status stop.why → RanIf Fault work text out ran → IsLogged work log ran
+  pub logged_to_stop : (ran : Result Report EngineStop) (stop : EngineStop) (status : ℕ) → ran ≡ Err stop → status ≡ stop_status stop.why
+      → RanIf Fault work text out ran → IsLogged work log ran
       → LogsFor work text out log status stop.journal
   logged_to_stop ran stop status failed is went logged = go stop.why refl
     where
@@ -48,10 +53,13 @@ module _ (work : ToDo) (text : List ℕ) (out log : Change) where
       there : IsLogged work log (Err stop)
       there = subst (IsLogged work log) failed logged
 
-      ended : (s : ℕ) → status ≡ s → (s ≡ 1) ⊎ (s ≡ 8) → LogEnds text (log_for work) (TakesLog work stop.journal) (end_status (plain_ran work).end) out log stop.journal s
+      ended : (s : ℕ) → status ≡ s → (s ≡ 1) ⊎ (s ≡ 8)
+          → LogEnds text (log_for work) (TakesLog work stop.journal) (end_status (plain_ran work).end) out log stop.journal s
           → LogsFor work text out log status stop.journal
       ended s same stops ends = record {
-        ends = subst (LogEnds text (log_for work) (TakesLog work stop.journal) (end_status (plain_ran work).end) out log stop.journal) (sym same) ends;
+        ends =
+            subst (LogEnds text (log_for work) (TakesLog work stop.journal) (end_status (plain_ran work).end) out log stop.journal)
+            (sym same) ends;
         journalled = record { lawful = here.journal; complete = λ told. absurd (grind (arith, same, stops, told)); retired = here.retired };
       }
 
@@ -62,7 +70,8 @@ module _ (work : ToDo) (text : List ℕ) (out log : Change) where
 -- a work by its command
 module _ (asked : Asked) (work : ToDo) (out err : Change) (status : ℕ) (journal : Journal) where
   -- it keeps no log
-  pub run_ends : (c : Command) → KeepsNoLog c → EndsBy c asked work out err status journal → RunEnds (work_text c work) (trace_for asked journal) (work_status c work) out err status
+  pub run_ends : (c : Command) → KeepsNoLog c → EndsBy c asked work out err status journal
+      → RunEnds (work_text c work) (trace_for asked journal) (work_status c work) out err status
   run_ends command.Run none ends = ends
   run_ends command.One none ends = ends
   run_ends command.Check none ends = ends
@@ -70,7 +79,8 @@ module _ (asked : Asked) (work : ToDo) (out err : Change) (status : ℕ) (journa
   run_ends (command.Ckpt every) none ends = ends
   run_ends command.Log none ends = absurd none
 
-  pub ends_by : (c : Command) → KeepsNoLog c → RunEnds (work_text c work) (trace_for asked journal) (work_status c work) out err status → EndsBy c asked work out err status journal
+  pub ends_by : (c : Command) → KeepsNoLog c → RunEnds (work_text c work) (trace_for asked journal) (work_status c work) out err status
+      → EndsBy c asked work out err status journal
   ends_by command.Run none ends = ends
   ends_by command.One none ends = ends
   ends_by command.Check none ends = ends
@@ -86,12 +96,15 @@ module _ (asked : Asked) (work : ToDo) (out err : Change) (status : ℕ) (journa
       (subst (λ k. EndsBy k asked work out err status journal) is ends)
 
 -- a run that did not begin, since memory was out
-pub unbegun_ends : (c : Command) (asked : Asked) (work : ToDo) (written : Option (List ℕ)) (faults : ℕ) (err : Change) (status : ℕ) (journal : Journal) → IsEmpty journal
+pub unbegun_ends : (c : Command) (asked : Asked) (work : ToDo) (written : Option (List ℕ)) (faults : ℕ) (err : Change) (status : ℕ)
+    (journal : Journal) → IsEmpty journal
     → LineEnds 1 out_of_memory_line err status → EndsBy c asked work (unwritten written faults) err status journal
 unbegun_ends c asked work written faults err status journal empty ends = go c
   where
     ran : (k : Command) → RunEnds (work_text k work) (trace_for asked journal) (work_status k work) (unwritten written faults) err status
-    ran k = run_of_memory (work_text k work) (trace_for asked journal) (work_status k work) (unwritten written faults) err status (prefix_none written (work_text k work)) ends
+    ran k =
+        run_of_memory (work_text k work) (trace_for asked journal) (work_status k work) (unwritten written faults) err status
+        (prefix_none written (work_text k work)) ends
 
     go : (k : Command) → EndsBy k asked work (unwritten written faults) err status journal
     go command.Run = ran command.Run

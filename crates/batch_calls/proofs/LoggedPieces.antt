@@ -10,40 +10,47 @@ use Rattle.gp_base.specs.declared.limits.Limits.{Limits}
 use Rattle.gp_base.specs.declared.feed.Inputs.{Inputs}
 use Rattle.gp_base.specs.declared.journal.Journal.{Journal}
 use Rattle.std.proofs.KnownBytes.{Appends-nil}
-use Rattle.task_ast.specs.Tree.{Program}
-use Rattle.task_ast.specs.Plain.{Subthread}
+use Rattle.task_ast.specs.meaning.Tree.{Program}
+use Rattle.task_ast.specs.meaning.Plain.{Subthread}
 use Rattle.task_ast.specs.declared.effect.Effect.{Effect}
-use Rattle.dependence.specs.Journal.{stage}
+use Rattle.dependence.specs.meaning.Journal.{stage}
 use Rattle.reorder_list.specs.declared.report.Report.{Report}
 use Rattle.reorder_list.specs.declared.report.EngineStop.{EngineStop}
-use Rattle.crew.specs.Noted.{left_from, left_in_order}
+use Rattle.crew.specs.meaning.Noted.{left_from, left_in_order}
 use Rattle.whole_run.specs.Recovering as whole
 use Rattle.whole_run.specs.View.{Batch, program_in}
 use Rattle.whole_run.specs.Drive.{stage_in}
 use Rattle.whole_run.specs.Notes.{left_below, NotesRun}
 use Rattle.whole_run.specs.declared.recovery.Recovery.TheVariants.{Selective}
-use Rattle.retirement_log.specs.Rows.{row_text, log_text}
-use Rattle.retirement_log.specs.Log.{row_of, size_of, rows_from, log_of}
-use Rattle.retirement_log.specs.Telling.{Tells, TellsPart}
+use Rattle.retirement_log.specs.meaning.Rows.{row_text, log_text}
+use Rattle.retirement_log.specs.meaning.Log.{row_of, size_of, rows_from, log_of}
+use Rattle.retirement_log.specs.meaning.Telling.{TellsPart}
+use Rattle.retirement_log.specs.Telling.{Tells}
 use Rattle.retirement_log.specs.declared.notes.LogNotes.{LogNotes}
-use Rattle.call_cases.specs.Work.{ToDo}
-use Rattle.call_cases.specs.Journals.{run_of, recovering_for, retired_in, IsCompleteOf}
-use Rattle.call_cases.specs.Answers.{Change, IsEmpty}
+use Rattle.call_cases.specs.meaning.Work.{ToDo}
+use Rattle.call_cases.specs.meaning.Journals.{run_of, recovering_for, retired_in, IsCompleteOf}
+use Rattle.call_cases.specs.meaning.Answers.{Change, IsEmpty}
 use Rattle.call_cases.proofs.RunSound.{none_retired}
-use Rattle.batch_calls.specs.LogCommands.{TakesLog}
+use Rattle.batch_calls.specs.meaning.LogCommands.{TakesLog}
 use Rattle.batch_calls.specs.inner.Logged.{IsLogged}
 use Rattle.batch_calls.specs.inner.Planned.{recovery_of}
 use Rattle.batch_calls.specs.inner.Ran.{IsReportOf}
 use Rattle.batch_calls.proofs.RanPieces.{same_recovering, crossed, all_retired}
 
 -- the rows of the first positions have no more bytes than those of all
-rows_within : (p bytes n : ℕ) (told : List Effect) → length (log_text (rows_from p bytes (take n told))) ≤ length (log_text (rows_from p bytes told))
+rows_within : (p bytes n : ℕ) (told : List Effect)
+    → length (log_text (rows_from p bytes (take n told))) ≤ length (log_text (rows_from p bytes told))
 rows_within p bytes zero told = omega arith
 rows_within p bytes (suc n) [] = omega arith
 rows_within p bytes (suc n) (e ∷ told) =
     let row = row_text (row_of p (bytes + size_of e) e) in
     let shorter = rows_within (suc p) (bytes + size_of e) n told in
-    omega (arith, shorter, length-append row (log_text (rows_from (suc p) (bytes + size_of e) (take n told))), length-append row (log_text (rows_from (suc p) (bytes + size_of e) told)))
+    omega (
+      arith,
+      shorter,
+      length-append row (log_text (rows_from (suc p) (bytes + size_of e) (take n told))),
+      length-append row (log_text (rows_from (suc p) (bytes + size_of e) told)),
+    )
 
 -- a whole log is a part that lacks nothing
 whole_part : (start written : Option (List ℕ)) (told : List Effect) → Appends start written (log_of told) → TellsPart start written told
@@ -63,7 +70,8 @@ module _ (program : Program) (inputs : Inputs) (limits : Limits) where
 abbrev left_for : ToDo → ℕ → List Effect
 left_for work p = take p (left_in_order work.program work.inputs work.limits)
 
-left_all : (work : ToDo) (journal : Journal) → IsCompleteOf work journal → left_for work (retired_in work journal) ≡ left_in_order work.program work.inputs work.limits
+left_all : (work : ToDo) (journal : Journal) → IsCompleteOf work journal
+    → left_for work (retired_in work journal) ≡ left_in_order work.program work.inputs work.limits
 unfolding run_of
 left_all work journal complete =
     let all = left_in_order work.program work.inputs work.limits in
@@ -85,7 +93,8 @@ pub logs_nothing : (work : ToDo) (written : Option (List ℕ)) (faults : ℕ) (s
 logs_nothing work written faults stop empty = record { whole = tt; taken = unlogged work stop.journal written faults empty }
 
 -- a run that stopped after its last line
-pub logs_before : (work : ToDo) (log : Change) (report : Report) (stop : EngineStop) → IsLogged work log (Ok report) → stop.journal ≡ report.journal → IsLogged work log (Err stop)
+pub logs_before : (work : ToDo) (log : Change) (report : Report) (stop : EngineStop) → IsLogged work log (Ok report)
+    → stop.journal ≡ report.journal → IsLogged work log (Err stop)
 logs_before work log report stop is same = record { whole = tt; taken = subst (λ j. TakesLog work j log) (sym same) is.taken }
 
 -- what failed of the output failed of what comes later, too
@@ -94,17 +103,20 @@ fails_later here later log fails (inl is) = inl (fails is)
 fails_later here later log fails (inr is) = inr is
 
 -- a batch that is the run of a work, whose notes told its log
-module _ (batch : Batch) (work : ToDo) (program : program_in batch ≡ work.program) (inputs : batch.inputs ≡ work.inputs) (limits : batch.limits ≡ work.limits) (faults : batch.faults ≡ work.faults)
+module _ (batch : Batch) (work : ToDo) (program : program_in batch ≡ work.program) (inputs : batch.inputs ≡ work.inputs)
+    (limits : batch.limits ≡ work.limits) (faults : batch.faults ≡ work.faults)
     (recovery : batch.recovery ≡ recovery_of work.command) where
   retired_same : (journal : Journal) → (stage_in batch journal).retired ≡ retired_in work journal
   unfolding recovering_for
   retired_same journal =
-      crossed batch work program inputs limits faults recovery (λ r run f. (stage_in batch journal).retired ≡ (stage (whole.recovering r run) f journal.events).retired) refl
+      crossed batch work program inputs limits faults recovery
+      (λ r run f. (stage_in batch journal).retired ≡ (stage (whole.recovering r run) f journal.events).retired) refl
       ∙ ap (λ d. (stage d work.faults journal.events).retired) (same_recovering work.command (run_of work))
 
   left_same : (p : ℕ) → left_below batch p ≡ left_for work p
   left_same p =
-      ap (λ o. take p (left_in_order o batch.inputs batch.limits)) program ∙ ap (λ i. take p (left_in_order work.program i batch.limits)) inputs
+      ap (λ o. take p (left_in_order o batch.inputs batch.limits)) program
+      ∙ ap (λ i. take p (left_in_order work.program i batch.limits)) inputs
       ∙ ap (λ l. take p (left_in_order work.program work.inputs l)) limits
 
   told_same : (journal : Journal) → left_below batch (stage_in batch journal).retired ≡ left_for work (retired_in work journal)
@@ -113,12 +125,14 @@ module _ (batch : Batch) (work : ToDo) (program : program_in batch ≡ work.prog
   abbrev told_of : Journal → List Effect
   told_of journal = left_below batch (stage_in batch journal).retired
 
-  module _ (notes notes' : LogNotes) (log : Change) (begun : Tells notes log.written log.written (λ p. None) []) (selective : batch.recovery ≡ Selective) where
+  module _ (notes notes' : LogNotes) (log : Change) (begun : Tells notes log.written log.written (λ p. None) [])
+      (selective : batch.recovery ≡ Selective) where
     pub logs_run : (result : Result Report EngineStop) → IfOk result (IsReportOf work)
         → NotesRun (Tells notes) (Tells notes') TellsPart batch log.written log.written' result → IsLogged work log result
     logs_run (Ok report) reports run = elim (run selective log.written (λ p. None) begun) [
       | inl told ↦
-          let taken : Appends log.written log.written' (log_of (left_for work (retired_in work report.journal))) = subst (λ l. Appends log.written log.written' (log_of l)) (told_same report.journal) told.1.log in
+          let taken : Appends log.written log.written' (log_of (left_for work (retired_in work report.journal))) =
+          subst (λ l. Appends log.written log.written' (log_of l)) (told_same report.journal) told.1.log in
           record {
             whole = subst (λ l. Appends log.written log.written' (log_of l)) (left_all work report.journal reports.complete) taken;
             taken = whole_part log.written log.written' (left_for work (retired_in work report.journal)) taken;

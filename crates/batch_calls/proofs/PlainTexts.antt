@@ -3,15 +3,15 @@ use Rattle.std.proofs.Common.{◌≡◌, ℕ, ℤ, List, [], ◌∷◌, ◌++◌
 use Rattle.std.proofs.lemmas.List.{length-map}
 use Rattle.gp_base.specs.declared.ending.End.{End}
 use Rattle.task_ast.specs.declared.tree.Head.{Head}
-use Rattle.task_ast.specs.Names.{records_of}
-use Rattle.task_ast.specs.Layout.{cut}
-use Rattle.task_ast.specs.Plain.{Subthread, order, end, final_records}
+use Rattle.task_ast.specs.meaning.Names.{records_of}
+use Rattle.task_ast.specs.meaning.Layout.{cut}
+use Rattle.task_ast.specs.meaning.Plain.{Subthread, order, end, final_records}
 use Rattle.one_thread.specs.declared.run.PlainRun.{PlainRun}
 use Rattle.one_thread.specs.PlainRuns.{IsPlainRun, shown}
-use Rattle.restart_log.specs.Tail as tail
-use Rattle.call_cases.specs.Texts.{Ran, tail_text}
-use Rattle.call_cases.specs.Work.{ToDo}
-use Rattle.call_cases.specs.PlainText.{plain_ran}
+use Rattle.restart_log.specs.meaning.Tail as tail
+use Rattle.call_cases.specs.meaning.Texts.{Ran, tail_text}
+use Rattle.call_cases.specs.meaning.Work.{ToDo}
+use Rattle.call_cases.specs.meaning.PlainText.{plain_ran}
 use Rattle.batch_calls.specs.inner.Steps.{lines_in, ran_in}
 
 lines_in-shown : (run : List Subthread) → lines_in (map shown run) ≡ flat_map (λ (s : Subthread). s.lines) run
@@ -19,9 +19,11 @@ lines_in-shown [] = refl
 lines_in-shown (s ∷ run) = ap (λ lines. s.lines ++ lines) (lines_in-shown run)
 
 abbrev made : List Head → List (List ℤ) → End → List ℤ → ℕ → Ran
-made heads lines end cells subthreads = record { lines = lines; end = end; cells = cells; records = cut (records_of heads) cells; subthreads = subthreads }
+made heads lines end cells subthreads =
+    record { lines = lines; end = end; cells = cells; records = cut (records_of heads) cells; subthreads = subthreads }
 
-pub plain_ran-run : (work : ToDo) (run : PlainRun) → IsPlainRun work.program work.inputs work.limits run → ran_in work.program.heads run ≡ plain_ran work
+pub plain_ran-run : (work : ToDo) (run : PlainRun) → IsPlainRun work.program work.inputs work.limits run
+    → ran_in work.program.heads run ≡ plain_ran work
 unfolding plain_ran
 plain_ran-run work run is =
     let plain = order work.program work.inputs work.limits in
@@ -36,8 +38,10 @@ plain_ran-run work run is =
     ∙ ap (λ n. made heads told ending (final_records work.program work.inputs work.limits) n) count
 
 -- what follows the lines of a plain run
-pub tail_by : (work : ToDo) (run : PlainRun) (count : ℕ) (bytes text : List ℕ) (cells : List ℤ) → ran_in work.program.heads run ≡ plain_ran work → cells ≡ run.records → count ≡ length run.order
-    → text ≡ tail.tail_text run.end (cut (records_of work.program.heads) cells) count [] 0 → bytes ≡ text → bytes ≡ tail_text (plain_ran work) [] 0
+pub tail_by : (work : ToDo) (run : PlainRun) (count : ℕ) (bytes text : List ℕ) (cells : List ℤ)
+    → ran_in work.program.heads run ≡ plain_ran work → cells ≡ run.records → count ≡ length run.order
+    → text ≡ tail.tail_text run.end (cut (records_of work.program.heads) cells) count [] 0 → bytes ≡ text
+    → bytes ≡ tail_text (plain_ran work) [] 0
 tail_by work run count bytes text cells is same counted told shown =
     shown ∙ told ∙ ap (λ c. tail.tail_text run.end (cut (records_of work.program.heads) c) count [] 0) same
     ∙ ap (λ n. tail.tail_text run.end (cut (records_of work.program.heads) run.records) n [] 0) counted ∙ ap (λ r. tail_text r [] 0) is

@@ -5,22 +5,22 @@ use Rattle.std.specs.Io.KnownBytes.{Appends, Keeps}
 use Rattle.std.proofs.lemmas.List.{take_all, take-append-drop}
 use Rattle.std.proofs.lemmas.Grind.{flat_map-append}
 use Rattle.std.proofs.Math.Nat.{le_refl}
-use Rattle.gp_base.specs.Sinks.{AppendsPrefix, Rose}
+use Rattle.gp_base.specs.meaning.Sinks.{AppendsPrefix, Rose}
 use Rattle.gp_base.specs.declared.sink.SinkFault.{SinkFault}
 use Rattle.gp_base.specs.declared.sink.SinkFault.TheVariants.{Failed}
 use Rattle.gp_base.specs.declared.sink.SinkFault.TheVariants as sink
 use Rattle.gp_base.specs.declared.fault.Fault.{Fault}
 use Rattle.gp_base.specs.declared.journal.Journal.{Journal}
 use Rattle.gp_base.proofs.Written.{Appends-append, prefix_first, prefix_second, prefix_none, prefix_of_split, Keeps-same}
-use Rattle.task_ast.specs.Plain.{Subthread, order, end, final_records}
+use Rattle.task_ast.specs.meaning.Plain.{Subthread, order, end, final_records}
 use Rattle.gp_base.specs.declared.journal.Event.{Event}
-use Rattle.dependence.specs.Restarts.{restarts}
-use Rattle.dependence.specs.Journal.{stage}
-use Rattle.task_ast.specs.Names.{records_of}
-use Rattle.task_ast.specs.Layout.{cut}
-use Rattle.restart_log.specs.Lines.{printed}
-use Rattle.restart_log.specs.Tail as tail
-use Rattle.restart_log.specs.Soak as soak
+use Rattle.dependence.specs.meaning.Restarts.{restarts}
+use Rattle.dependence.specs.meaning.Journal.{stage}
+use Rattle.task_ast.specs.meaning.Names.{records_of}
+use Rattle.task_ast.specs.meaning.Layout.{cut}
+use Rattle.restart_log.specs.meaning.Lines.{printed}
+use Rattle.restart_log.specs.meaning.Tail as tail
+use Rattle.restart_log.specs.meaning.Soak as soak
 use Rattle.reorder_list.specs.declared.report.Report.{Report}
 use Rattle.reorder_list.specs.declared.report.EngineStop.{EngineStop}
 use Rattle.reorder_list.specs.declared.report.StopWhy.TheVariants.{WriteFault}
@@ -33,15 +33,15 @@ use Rattle.whole_run.specs.Drive as drive
 use Rattle.command_line.specs.declared.asked.Command.{Command}
 use Rattle.command_line.specs.declared.asked.Command.TheVariants as command
 use Rattle.command_line.specs.declared.asked.Soak.{Soak}
-use Rattle.call_cases.specs.Work.{ToDo}
-use Rattle.call_cases.specs.PlainText.{plain_ran, restarts_in}
-use Rattle.call_cases.specs.Recovering.{recovering_by, LawfulBy, CompleteBy}
-use Rattle.call_cases.specs.Journals.{run_of, recovering_for, retired_in, lines_before, HoldsRetired, IsJournalOf, IsCompleteOf, TakesRetiredFor}
-use Rattle.call_cases.specs.Answers.{Change, IsEmpty, TakesAll, TakesPart, Fails}
+use Rattle.call_cases.specs.meaning.Work.{ToDo}
+use Rattle.call_cases.specs.meaning.PlainText.{plain_ran, restarts_in}
+use Rattle.call_cases.specs.meaning.Recovering.{recovering_by, LawfulBy, CompleteBy}
+use Rattle.call_cases.specs.meaning.Journals.{run_of, recovering_for, retired_in, lines_before, HoldsRetired, IsJournalOf, IsCompleteOf, TakesRetiredFor}
+use Rattle.call_cases.specs.meaning.Answers.{Change, IsEmpty, TakesAll, TakesPart, Fails}
 use Rattle.call_cases.proofs.RunSound.{empty_journal_of, none_retired}
 use Rattle.batch_calls.specs.inner.Planned.{recovery_of}
 use Rattle.batch_calls.specs.inner.Ran.{WritesLines, Stops, why_of, RunsBatch, bytes_below, bytes_at, IsReportOf, RunsIf, RunsWork, RanIf, RanFor, told_tail, told_soak}
-use Rattle.call_cases.specs.Texts.{tail_text, run_text, soak_text}
+use Rattle.call_cases.specs.meaning.Texts.{tail_text, run_text, soak_text}
 
 -- a run that recovers as a command does redoes what is said of the command, and its journals are lawful and complete as is said of it
 pub same_recovering : (c : Command) (run : List Subthread) → whole.recovering (recovery_of c) run ≡ recovering_by c run
@@ -79,14 +79,18 @@ module _ (run : List Subthread) (faults : List Fault) (events : List Event) wher
   retired_by command.Log complete = complete.retired
 
 -- a batch that is the run of a work
-module _ (batch : Batch) (work : ToDo) (program : program_in batch ≡ work.program) (inputs : batch.inputs ≡ work.inputs) (limits : batch.limits ≡ work.limits) (faults : batch.faults ≡ work.faults)
+module _ (batch : Batch) (work : ToDo) (program : program_in batch ≡ work.program) (inputs : batch.inputs ≡ work.inputs)
+    (limits : batch.limits ≡ work.limits) (faults : batch.faults ≡ work.faults)
     (recovery : batch.recovery ≡ recovery_of work.command) where
   same_run : run_in batch ≡ run_of work
   unfolding run_of
-  same_run = ap (λ p. order p batch.inputs batch.limits) program ∙ ap (λ i. order work.program i batch.limits) inputs ∙ ap (λ l. order work.program work.inputs l) limits
+  same_run =
+      ap (λ p. order p batch.inputs batch.limits) program ∙ ap (λ i. order work.program i batch.limits) inputs
+      ∙ ap (λ l. order work.program work.inputs l) limits
 
   -- what holds of the batch's recovery, run and faults holds of the work's
-  pub crossed : (P : Recovery → List Subthread → List Fault → Type 0) → P batch.recovery (run_in batch) batch.faults → P (recovery_of work.command) (run_of work) work.faults
+  pub crossed : (P : Recovery → List Subthread → List Fault → Type 0) → P batch.recovery (run_in batch) batch.faults
+      → P (recovery_of work.command) (run_of work) work.faults
   crossed P is =
       subst (λ f. P (recovery_of work.command) (run_of work) f) faults
       (subst (λ r. P (recovery_of work.command) r batch.faults) same_run (subst (λ r. P r (run_in batch) batch.faults) recovery is))
@@ -99,7 +103,9 @@ module _ (batch : Batch) (work : ToDo) (program : program_in batch ≡ work.prog
 
   journal_of : (journal : Journal) → JournalStands batch journal → IsJournalOf work journal
   journal_of journal stands = record {
-    lawful = same_lawful (run_of work) work.faults journal.events work.command (crossed (λ r run f. whole.LawfulBy run f r journal.events) stands.lawful);
+    lawful =
+        same_lawful (run_of work) work.faults journal.events work.command
+        (crossed (λ r run f. whole.LawfulBy run f r journal.events) stands.lawful);
     first = (stands.first.0, sym restarts_same ∙ stands.first.1);
     counted = stands.counted;
   }
@@ -109,12 +115,19 @@ module _ (batch : Batch) (work : ToDo) (program : program_in batch ≡ work.prog
   report_of report reports =
       let restarts = reports.restarts ∙ restarts_same in
       record {
-        complete = same_complete (run_of work) work.faults report.journal.events work.command (crossed (λ r run f. whole.CompleteBy run f r report.journal.events) reports.complete);
+        complete =
+            same_complete (run_of work) work.faults report.journal.events work.command
+            (crossed (λ r run f. whole.CompleteBy run f r report.journal.events) reports.complete);
         restarts = restarts;
-        end = reports.end ∙ ap (λ p. end p batch.inputs batch.limits) program ∙ ap (λ i. end work.program i batch.limits) inputs ∙ ap (λ l. end work.program work.inputs l) limits;
-        cells = reports.records ∙ ap (λ p. final_records p batch.inputs batch.limits) program ∙ ap (λ i. final_records work.program i batch.limits) inputs ∙ ap (λ l. final_records work.program work.inputs l) limits;
+        end =
+            reports.end ∙ ap (λ p. end p batch.inputs batch.limits) program ∙ ap (λ i. end work.program i batch.limits) inputs
+            ∙ ap (λ l. end work.program work.inputs l) limits;
+        cells =
+            reports.records ∙ ap (λ p. final_records p batch.inputs batch.limits) program
+            ∙ ap (λ i. final_records work.program i batch.limits) inputs ∙ ap (λ l. final_records work.program work.inputs l) limits;
         subthreads = reports.subthreads ∙ ap length same_run;
-        unused = reports.unused ∙ ap (λ f. length f - length report.journal.restarts) faults ∙ ap (λ l. length work.faults - length l) restarts;
+        unused =
+            reports.unused ∙ ap (λ f. length f - length report.journal.restarts) faults ∙ ap (λ l. length work.faults - length l) restarts;
       }
 
   lines_same : all_lines batch ≡ (plain_ran work).lines
@@ -126,16 +139,21 @@ module _ (batch : Batch) (work : ToDo) (program : program_in batch ≡ work.prog
   bytes_to p part run = printed (flat_map (λ (s : Subthread). s.lines) (take p run)) ++ take part (printed (lines_of (slice_get run p)))
 
   partly_of : (before after : Option (List ℕ)) (journal : Journal) → WritesRetired batch before after journal
-      → (part : ℕ) × Appends before after (bytes_below work (retired_in work journal) ++ take part (bytes_at work (retired_in work journal)))
+      → (part : ℕ) × Appends before after (bytes_below work (retired_in work journal)
+      ++ take part (bytes_at work (retired_in work journal)))
   unfolding recovering_for
   partly_of before after journal writes = (
     writes.part,
-    subst (λ d. Appends before after (bytes_to (stage d work.faults journal.events).retired writes.part (run_of work))) (same_recovering work.command (run_of work))
-        (crossed (λ r run f. Appends before after (bytes_to (stage (whole.recovering r run) f journal.events).retired writes.part run)) writes.bytes),
+    subst (λ d. Appends before after (bytes_to (stage d work.faults journal.events).retired writes.part (run_of work)))
+        (same_recovering work.command (run_of work))
+        (crossed (λ r run f. Appends before after (bytes_to (stage (whole.recovering r run) f journal.events).retired writes.part run))
+        writes.bytes),
   )
 
-  pub runs_if : (failed : Type 0) (out : Change) (result : Result Report EngineStop) → JournalStands batch (journal_in result) → IfOk result (ReportsRun batch)
-      → OnOk result (TakesAll out (printed (all_lines batch))) → WritesRetired batch out.written out.written' (journal_in result) → out.faults ≤ out.faults'
+  pub runs_if : (failed : Type 0) (out : Change) (result : Result Report EngineStop) → JournalStands batch (journal_in result)
+      → IfOk result (ReportsRun batch)
+      → OnOk result (TakesAll out (printed (all_lines batch))) → WritesRetired batch out.written out.written' (journal_in result)
+      → out.faults ≤ out.faults'
       → IfErr result (λ stop. stop.why ≡ WriteFault → failed) → RunsIf failed work out result
   runs_if failed out (Ok report) stands reports lines partly later cause = record {
     journal = journal_of report.journal stands;
@@ -158,20 +176,27 @@ module _ (batch : Batch) (work : ToDo) (program : program_in batch ≡ work.prog
   runs_work out result ran = runs_if (Fails out) out result ran.journal ran.report ran.lines ran.partly ran.cause.later ran.cause.failed
 
 -- a stop at a fault of the output
-pub stops_by : (fault : SinkFault) (journal : Journal) (stop : EngineStop) → stop.why ≡ why_of fault → stop.journal ≡ journal → Stops fault journal stop
+pub stops_by : (fault : SinkFault) (journal : Journal) (stop : EngineStop) → stop.why ≡ why_of fault → stop.journal ≡ journal
+    → Stops fault journal stop
 stops_by Failed journal stop is same = record { journal_is = same; failed = λ failed. refl }
-stops_by sink.OutOfMemory journal stop is same = record { journal_is = same; failed = λ failed. let bad : why.OutOfMemory ≡ WriteFault = sym is ∙ failed in cc }
+stops_by sink.OutOfMemory journal stop is same =
+    record { journal_is = same; failed = λ failed. let bad : why.OutOfMemory ≡ WriteFault = sym is ∙ failed in cc }
 
 -- the lines of all subthreads are those before one, those of that one, and the others
 lines_split : (run : List Subthread) (p : ℕ)
-    → flat_map (λ (s : Subthread). s.lines) run ≡ flat_map (λ (s : Subthread). s.lines) (take p run) ++ (lines_of (slice_get run p) ++ flat_map (λ (s : Subthread). s.lines) (drop (suc p) run))
+    → flat_map (λ (s : Subthread). s.lines) run
+    ≡ flat_map (λ (s : Subthread). s.lines) (take p run)
+    ++ (lines_of (slice_get run p) ++ flat_map (λ (s : Subthread). s.lines) (drop (suc p) run))
 lines_split [] zero = refl
 lines_split [] (suc p) = refl
 lines_split (s ∷ run) zero = refl
 lines_split (s ∷ run) (suc p) = ap (λ l. s.lines ++ l) (lines_split run p)
-    ∙ sym (append_assoc s.lines (flat_map (λ (s : Subthread). s.lines) (take p run)) (lines_of (slice_get run p) ++ flat_map (λ (s : Subthread). s.lines) (drop (suc p) run)))
+    ∙ sym (append_assoc s.lines (flat_map (λ (s : Subthread). s.lines) (take p run))
+    (lines_of (slice_get run p) ++ flat_map (λ (s : Subthread). s.lines) (drop (suc p) run)))
 
-lines_next : (run : List Subthread) (p : ℕ) → flat_map (λ (s : Subthread). s.lines) (take (suc p) run) ≡ flat_map (λ (s : Subthread). s.lines) (take p run) ++ lines_of (slice_get run p)
+lines_next : (run : List Subthread) (p : ℕ)
+    → flat_map (λ (s : Subthread). s.lines) (take (suc p) run)
+    ≡ flat_map (λ (s : Subthread). s.lines) (take p run) ++ lines_of (slice_get run p)
 lines_next [] zero = refl
 lines_next [] (suc p) = refl
 lines_next (s ∷ run) zero = append-nil s.lines
@@ -182,7 +207,9 @@ printed-append : (a b : List (List ℤ)) → printed (a ++ b) ≡ printed a ++ p
 printed-append a b = flat_map-append _ a b
 
 bytes_next : (work : ToDo) (p : ℕ) → bytes_below work (suc p) ≡ bytes_below work p ++ bytes_at work p
-bytes_next work p = ap printed (lines_next (run_of work) p) ∙ printed-append (flat_map (λ (s : Subthread). s.lines) (take p (run_of work))) (lines_of (slice_get (run_of work) p))
+bytes_next work p =
+    ap printed (lines_next (run_of work) p) ∙ printed-append (flat_map (λ (s : Subthread). s.lines) (take p (run_of work)))
+    (lines_of (slice_get (run_of work) p))
 
 abbrev bytes_after : ToDo → ℕ → List ℕ
 bytes_after work p = printed (flat_map (λ (s : Subthread). s.lines) (drop (suc p) (run_of work)))
@@ -191,12 +218,16 @@ bytes_split : (work : ToDo) (p : ℕ) → printed (plain_ran work).lines ≡ byt
 unfolding plain_ran run_of
 bytes_split work p =
     ap printed (lines_split (run_of work) p)
-    ∙ printed-append (flat_map (λ (s : Subthread). s.lines) (take p (run_of work))) (lines_of (slice_get (run_of work) p) ++ flat_map (λ (s : Subthread). s.lines) (drop (suc p) (run_of work)))
-    ∙ ap (λ l. bytes_below work p ++ l) (printed-append (lines_of (slice_get (run_of work) p)) (flat_map (λ (s : Subthread). s.lines) (drop (suc p) (run_of work))))
+    ∙ printed-append (flat_map (λ (s : Subthread). s.lines) (take p (run_of work)))
+    (lines_of (slice_get (run_of work) p) ++ flat_map (λ (s : Subthread). s.lines) (drop (suc p) (run_of work)))
+    ∙ ap (λ l. bytes_below work p ++ l) (printed-append (lines_of (slice_get (run_of work) p))
+    (flat_map (λ (s : Subthread). s.lines) (drop (suc p) (run_of work))))
 
 bytes_all : (work : ToDo) → printed (plain_ran work).lines ≡ bytes_below work (length (run_of work))
 unfolding plain_ran run_of
-bytes_all work = ap (λ r. printed (flat_map (λ (s : Subthread). s.lines) r)) (sym (take_all (length (run_of work)) (run_of work) (le_refl (length (run_of work)))))
+bytes_all work =
+    ap (λ r. printed (flat_map (λ (s : Subthread). s.lines) r))
+    (sym (take_all (length (run_of work)) (run_of work) (le_refl (length (run_of work)))))
 
 -- all have retired where the journal is complete
 pub all_retired : (work : ToDo) (journal : Journal) → IsCompleteOf work journal → retired_in work journal ≡ length (run_of work)
@@ -204,28 +235,37 @@ unfolding recovering_for
 all_retired work journal complete = retired_by (run_of work) work.faults journal.events work.command complete
 
 -- what follows the lines of the report is what follows those of the work
-told_same : (work : ToDo) (report : Report) → IsReportOf work report → told_tail work.program report ≡ tail_text (plain_ran work) (restarts_in work) (length work.faults)
+told_same : (work : ToDo) (report : Report) → IsReportOf work report
+    → told_tail work.program report ≡ tail_text (plain_ran work) (restarts_in work) (length work.faults)
 unfolding plain_ran
 told_same work report is =
     let names = records_of work.program.heads in
     ap (λ e. tail.tail_text e (cut names report.records) report.subthreads report.journal.restarts report.unused) is.end
     ∙ ap (λ c. tail.tail_text (plain_ran work).end (cut names c) report.subthreads report.journal.restarts report.unused) is.cells
     ∙ ap (λ n. tail.tail_text (plain_ran work).end (cut names (plain_ran work).cells) n report.journal.restarts report.unused) is.subthreads
-    ∙ ap (λ r. tail.tail_text (plain_ran work).end (cut names (plain_ran work).cells) (plain_ran work).subthreads r report.unused) is.restarts
-    ∙ ap (λ u. tail.tail_text (plain_ran work).end (cut names (plain_ran work).cells) (plain_ran work).subthreads (restarts_in work) u) is.unused
+    ∙ ap (λ r. tail.tail_text (plain_ran work).end (cut names (plain_ran work).cells) (plain_ran work).subthreads r report.unused)
+    is.restarts
+    ∙ ap (λ u. tail.tail_text (plain_ran work).end (cut names (plain_ran work).cells) (plain_ran work).subthreads (restarts_in work) u)
+    is.unused
 
-summary_same : (batch : Soak) (work : ToDo) (report : Report) → IsReportOf work report → told_soak batch report ≡ soak_text batch (plain_ran work) (restarts_in work) (length work.faults)
+summary_same : (batch : Soak) (work : ToDo) (report : Report) → IsReportOf work report
+    → told_soak batch report ≡ soak_text batch (plain_ran work) (restarts_in work) (length work.faults)
 summary_same batch work report is =
     ap (λ e. soak.soak_text batch.moves batch.start e report.records report.subthreads report.journal.restarts report.unused) is.end
-    ∙ ap (λ c. soak.soak_text batch.moves batch.start (plain_ran work).end c report.subthreads report.journal.restarts report.unused) is.cells
-    ∙ ap (λ n. soak.soak_text batch.moves batch.start (plain_ran work).end (plain_ran work).cells n report.journal.restarts report.unused) is.subthreads
-    ∙ ap (λ r. soak.soak_text batch.moves batch.start (plain_ran work).end (plain_ran work).cells (plain_ran work).subthreads r report.unused) is.restarts
-    ∙ ap (λ u. soak.soak_text batch.moves batch.start (plain_ran work).end (plain_ran work).cells (plain_ran work).subthreads (restarts_in work) u) is.unused
+    ∙ ap (λ c. soak.soak_text batch.moves batch.start (plain_ran work).end c report.subthreads report.journal.restarts report.unused)
+    is.cells
+    ∙ ap (λ n. soak.soak_text batch.moves batch.start (plain_ran work).end (plain_ran work).cells n report.journal.restarts report.unused)
+    is.subthreads
+    ∙ ap (λ r. soak.soak_text batch.moves batch.start (plain_ran work).end (plain_ran work).cells
+    (plain_ran work).subthreads r report.unused) is.restarts
+    ∙ ap (λ u. soak.soak_text batch.moves batch.start (plain_ran work).end (plain_ran work).cells (plain_ran work).subthreads
+    (restarts_in work) u) is.unused
 
 -- all of the first bytes and some of the next
 lines_part : (a b : Option (List ℕ)) (xs ys : List ℕ) (n : ℕ) → Appends a b (xs ++ take n ys) → AppendsPrefix a b (xs ++ ys)
 lines_part a b xs ys n all =
-    prefix_of_split a b (xs ++ ys) (xs ++ take n ys) (drop n ys) (ap (λ l. xs ++ l) (sym (take-append-drop n ys)) ∙ sym (append_assoc xs (take n ys) (drop n ys))) all
+    prefix_of_split a b (xs ++ ys) (xs ++ take n ys) (drop n ys)
+    (ap (λ l. xs ++ l) (sym (take-append-drop n ys)) ∙ sym (append_assoc xs (take n ys) (drop n ys))) all
 
 pub rose_later : (a b c : ℕ) → a ≤ b → Rose b c → Rose a c
 rose_later a b c later rose = omega (arith, later, rose)
@@ -238,9 +278,11 @@ first_line = codes "output\n"
 
 -- what the output took of the lines of a run
 abbrev TakesLines : ToDo → Journal → Change → Type 0
-TakesLines work journal out = HoldsRetired work journal out × (IsCompleteOf work journal ⊎ TakesPart out (lines_before work (suc (retired_in work journal))))
+TakesLines work journal out =
+    HoldsRetired work journal out × (IsCompleteOf work journal ⊎ TakesPart out (lines_before work (suc (retired_in work journal))))
 
-takes_lines : (c : Command) (work : ToDo) (journal : Journal) (out : Change) → WritesLines c → TakesLines work journal out → TakesRetiredFor c work journal out
+takes_lines : (c : Command) (work : ToDo) (journal : Journal) (out : Change) → WritesLines c → TakesLines work journal out
+    → TakesRetiredFor c work journal out
 takes_lines command.Run work journal out writes taken = taken
 takes_lines command.One work journal out writes taken = taken
 takes_lines command.Check work journal out writes taken = taken
@@ -257,7 +299,8 @@ module _ (failed : Type 0) (work : ToDo) (writes : WritesLines work.command) whe
   ending = tail_text (plain_ran work) (restarts_in work) (length work.faults)
 
   -- the first line was not written
-  pub ran_without_first : (out : Change) (stop : EngineStop) (journal : Journal) (fault : SinkFault) → IsEmpty journal → Stops fault journal stop → TakesPart out first_line
+  pub ran_without_first : (out : Change) (stop : EngineStop) (journal : Journal) (fault : SinkFault) → IsEmpty journal
+      → Stops fault journal stop → TakesPart out first_line
       → (fault ≡ Failed → failed) → RanIf failed work all_text out (Err stop)
   ran_without_first out stop journal fault empty stops part cause =
       let empty' = subst IsEmpty (sym stops.journal_is) empty in
@@ -273,30 +316,37 @@ module _ (failed : Type 0) (work : ToDo) (writes : WritesLines work.command) whe
       }
 
   -- the lines were not all written
-  pub ran_without_lines : (before first second : Option (List ℕ)) (f f' f'' : ℕ) (stop : EngineStop) (here : Type 0) → Appends before first first_line
+  pub ran_without_lines : (before first second : Option (List ℕ)) (f f' f'' : ℕ) (stop : EngineStop) (here : Type 0)
+      → Appends before first first_line
       → RunsIf here work (record { written = first; written' = second; faults = f'; faults' = f'' }) (Err stop) → (here → failed)
       → RanIf failed work all_text (record { written = before; written' = second; faults = f; faults' = f'' }) (Err stop)
   ran_without_lines before first second f f' f'' stop here output runs later =
       let r = retired_in work stop.journal in
       let taken = take runs.partly.0 (bytes_at work r) in
-      let lines : Appends before second (first_line ++ (bytes_below work r ++ taken)) = Appends-append before first second first_line (bytes_below work r ++ taken) output runs.partly.1 in
-      let part : AppendsPrefix first second (bytes_below work r ++ bytes_at work r) = lines_part first second (bytes_below work r) (bytes_at work r) runs.partly.0 runs.partly.1 in
+      let lines : Appends before second (first_line ++ (bytes_below work r ++ taken)) =
+      Appends-append before first second first_line (bytes_below work r ++ taken) output runs.partly.1 in
+      let part : AppendsPrefix first second (bytes_below work r ++ bytes_at work r) =
+      lines_part first second (bytes_below work r) (bytes_at work r) runs.partly.0 runs.partly.1 in
       record {
         journal = runs.journal;
         report = tt;
         all = tt;
         part = prefix_second before first second first_line (printed (plain_ran work).lines ++ ending) output
             (prefix_first first second (printed (plain_ran work).lines) ending
-            (subst (AppendsPrefix first second) (append_assoc (bytes_below work r) (bytes_at work r) (bytes_after work r) ∙ sym (bytes_split work r))
+            (subst (AppendsPrefix first second) (append_assoc (bytes_below work r) (bytes_at work r) (bytes_after work r)
+            ∙ sym (bytes_split work r))
             (prefix_first first second (bytes_below work r ++ bytes_at work r) (bytes_after work r) part)));
-        retired = takes_lines work.command work stop.journal (record { written = before; written' = second; faults = f; faults' = f'' }) writes (
-          inr (taken, subst (Appends before second) (sym (append_assoc first_line (bytes_below work r) taken)) lines),
-          inr (prefix_second before first second first_line (bytes_below work (suc r)) output (subst (AppendsPrefix first second) (sym (bytes_next work r)) part)),
-        );
+        retired =
+            takes_lines work.command work stop.journal (record { written = before; written' = second; faults = f; faults' = f'' }) writes (
+              inr (taken, subst (Appends before second) (sym (append_assoc first_line (bytes_below work r) taken)) lines),
+              inr (prefix_second before first second first_line (bytes_below work (suc r)) output
+                  (subst (AppendsPrefix first second) (sym (bytes_next work r)) part)),
+            );
         cause = λ is. later (runs.cause is);
       }
 
-  module _ (before first second third : Option (List ℕ)) (f f' f'' f''' : ℕ) (report : Report) (here : Type 0) (output : Appends before first first_line)
+  module _ (before first second third : Option (List ℕ)) (f f' f'' f''' : ℕ) (report : Report) (here : Type 0)
+      (output : Appends before first first_line)
       (runs : RunsIf here work (record { written = first; written' = second; faults = f'; faults' = f'' }) (Ok report)) where
     told : told_tail work.program report ≡ ending
     told = told_same work report runs.report
@@ -305,13 +355,19 @@ module _ (failed : Type 0) (work : ToDo) (writes : WritesLines work.command) whe
     lines_taken = Appends-append before first second first_line (printed (plain_ran work).lines) output runs.lines
 
     holds : (rest : List ℕ) → Appends second third rest
-        → (retired_in work report.journal ≡ 0) ⊎ (more : List ℕ) × Appends before third (lines_before work (retired_in work report.journal) ++ more)
+        → (retired_in work report.journal ≡ 0) ⊎ (more : List ℕ)
+        × Appends before third (lines_before work (retired_in work report.journal) ++ more)
     holds rest taken =
         let all = Appends-append before second third (first_line ++ printed (plain_ran work).lines) rest lines_taken taken in
-        inr (rest, subst (λ l. Appends before third ((first_line ++ l) ++ rest)) (bytes_all work ∙ ap (bytes_below work) (sym (all_retired work report.journal runs.report.complete))) all)
+        inr (
+          rest,
+          subst (λ l. Appends before third ((first_line ++ l) ++ rest))
+              (bytes_all work ∙ ap (bytes_below work) (sym (all_retired work report.journal runs.report.complete))) all,
+        )
 
     -- the tail was not written
-    pub ran_without_tail : (stop : EngineStop) (fault : SinkFault) → Stops fault report.journal stop → AppendsPrefix second third (told_tail work.program report) → (fault ≡ Failed → failed)
+    pub ran_without_tail : (stop : EngineStop) (fault : SinkFault) → Stops fault report.journal stop
+        → AppendsPrefix second third (told_tail work.program report) → (fault ≡ Failed → failed)
         → RanIf failed work all_text (record { written = before; written' = third; faults = f; faults' = f''' }) (Err stop)
     ran_without_tail stop fault stops part cause =
         let out : Change = record { written = before; written' = third; faults = f; faults' = f''' } in
@@ -321,23 +377,31 @@ module _ (failed : Type 0) (work : ToDo) (writes : WritesLines work.command) whe
           report = tt;
           all = tt;
           part = prefix_second before first third first_line (printed (plain_ran work).lines ++ ending) output
-              (prefix_second first second third (printed (plain_ran work).lines) ending runs.lines (subst (AppendsPrefix second third) told part));
-          retired = takes_lines work.command work stop.journal out writes
-              (subst (λ j. (retired_in work j ≡ 0) ⊎ (more : List ℕ) × Appends before third (lines_before work (retired_in work j) ++ more)) (sym stops.journal_is) (holds (take part.0 (told_tail work.program report)) part.1), inl complete);
+              (prefix_second first second third (printed (plain_ran work).lines) ending runs.lines
+              (subst (AppendsPrefix second third) told part));
+          retired = takes_lines work.command work stop.journal out writes (
+            subst (λ j. (retired_in work j ≡ 0) ⊎ (more : List ℕ) × Appends before third (lines_before work (retired_in work j) ++ more))
+                (sym stops.journal_is) (holds (take part.0 (told_tail work.program report)) part.1),
+            inl complete,
+          );
           cause = λ is. cause (stops.failed is);
         }
 
     -- all was written
-    pub ran_whole : Appends second third (told_tail work.program report) → RanIf failed work all_text (record { written = before; written' = third; faults = f; faults' = f''' }) (Ok report)
+    pub ran_whole : Appends second third (told_tail work.program report)
+        → RanIf failed work all_text (record { written = before; written' = third; faults = f; faults' = f''' }) (Ok report)
     ran_whole taken =
         let out : Change = record { written = before; written' = third; faults = f; faults' = f''' } in
         record {
           journal = runs.journal;
           report = runs.report;
           all = Appends-append before first third first_line (printed (plain_ran work).lines ++ ending) output
-              (Appends-append first second third (printed (plain_ran work).lines) ending runs.lines (subst (Appends second third) told taken));
+              (Appends-append first second third (printed (plain_ran work).lines) ending runs.lines
+              (subst (Appends second third) told taken));
           part = tt;
-          retired = takes_lines work.command work report.journal out writes (holds (told_tail work.program report) taken, inl runs.report.complete);
+          retired =
+              takes_lines work.command work report.journal out writes
+              (holds (told_tail work.program report) taken, inl runs.report.complete);
           cause = tt;
         }
 
@@ -347,13 +411,16 @@ module _ (work : ToDo) (batch : Soak) (run : work.command ≡ command.Soak batch
   summary = soak_text batch (plain_ran work) (restarts_in work) (length work.faults)
 
   -- the run stopped, and nothing was written
-  pub soak_without_run : (out nobody : Change) (stop : EngineStop) → out.written' ≡ out.written → nobody.faults ≡ 0 → nobody.faults' ≡ 0 → RunsWork work nobody (Err stop) → RanFor work summary out (Err stop)
+  pub soak_without_run : (out nobody : Change) (stop : EngineStop) → out.written' ≡ out.written → nobody.faults ≡ 0 → nobody.faults' ≡ 0
+      → RunsWork work nobody (Err stop) → RanFor work summary out (Err stop)
   soak_without_run out nobody stop kept none none' runs = record {
     journal = runs.journal;
     report = tt;
     all = tt;
     part = subst (λ w. AppendsPrefix out.written w summary) (sym kept) (prefix_none out.written summary);
-    retired = subst (λ c. TakesRetiredFor c work stop.journal out) (sym run) (inr (subst (Keeps out.written) (sym kept) (Keeps-same out.written)));
+    retired =
+        subst (λ c. TakesRetiredFor c work stop.journal out) (sym run)
+        (inr (subst (Keeps out.written) (sym kept) (Keeps-same out.written)));
     cause = λ is. absurd (never nobody.faults nobody.faults' none none' (runs.cause is));
   }
     where
@@ -362,13 +429,16 @@ module _ (work : ToDo) (batch : Soak) (run : work.command ≡ command.Soak batch
 
   module _ (out nobody : Change) (report : Report) (runs : RunsWork work nobody (Ok report)) where
     -- the summary was not written
-    pub soak_without_summary : (stop : EngineStop) (fault : SinkFault) → Stops fault report.journal stop → TakesPart out (told_soak batch report) → (fault ≡ Failed → Fails out) → RanFor work summary out (Err stop)
+    pub soak_without_summary : (stop : EngineStop) (fault : SinkFault) → Stops fault report.journal stop
+        → TakesPart out (told_soak batch report) → (fault ≡ Failed → Fails out) → RanFor work summary out (Err stop)
     soak_without_summary stop fault stops part cause = record {
       journal = subst (IsJournalOf work) (sym stops.journal_is) runs.journal;
       report = tt;
       all = tt;
       part = subst (TakesPart out) (summary_same batch work report runs.report) part;
-      retired = subst (λ c. TakesRetiredFor c work stop.journal out) (sym run) (inl (subst (IsCompleteOf work) (sym stops.journal_is) runs.report.complete));
+      retired =
+          subst (λ c. TakesRetiredFor c work stop.journal out) (sym run)
+          (inl (subst (IsCompleteOf work) (sym stops.journal_is) runs.report.complete));
       cause = λ is. cause (stops.failed is);
     }
 

@@ -1,4 +1,2 @@
-pub mod CkptCommands
-pub mod LogCommands
-pub mod WaitingCommands
 pub mod inner
+pub mod meaning

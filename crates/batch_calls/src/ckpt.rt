@@ -1,14 +1,14 @@
 // The top call that runs by checkpoints.
 ghost use Rattle.std.specs.Prelude.{◌≡◌, Some, None, IfOk, IfSome};
-ghost use Rattle.command_line.specs.Words.{texts};
-ghost use Rattle.command_line.specs.CkptWords.{ckpt_by};
-ghost use Rattle.call_cases.specs.Answers.{change_of};
-ghost use Rattle.call_cases.specs.Case.{IsCase};
+ghost use Rattle.command_line.specs.meaning.Words.{texts};
+ghost use Rattle.command_line.specs.meaning.CkptWords.{ckpt_by};
+ghost use Rattle.call_cases.specs.meaning.Answers.{change_of};
+ghost use Rattle.call_cases.specs.meaning.Case.{IsCase};
 ghost use Rattle.call_cases.specs.Decided.{MayRun, case_of};
-ghost use Rattle.call_cases.specs.Headline.{Headline, ReadsNothing};
+ghost use Rattle.call_cases.specs.meaning.Headline.{Headline, ReadsNothing};
 ghost use Rattle.call_cases.specs.Refusals.{AnswersCase, AnswersNoCommand, TouchesShelf};
-ghost use Rattle.call_cases.specs.RunCommands.{MayRead};
-ghost use Rattle.batch_calls.specs.CkptCommands.{asking, commands};
+ghost use Rattle.call_cases.specs.meaning.RunCommands.{MayRead};
+ghost use Rattle.batch_calls.specs.meaning.CkptCommands.{asking, commands};
 
 use crate::crews::carry_out;
 use call_cases::{Outcome, Refusal, Request, read_for, refused_outcome};
@@ -34,12 +34,13 @@ fn read_ckpt<H: Shelf>(alloc: Global, words: &[String], shelf: &mut H) -> Result
     read_for(alloc, asked, shelf)
 }
 
-/// Runs the program that the words of `ckpt` name, over what is handed in, as `gprs_run` runs one by `run`, but by checkpoints: a
-/// fault rolls back all from the checkpoint on that comes before what it strikes. So the text has the rollbacks in place of the
-/// restarts, with the same printed lines, the same end and the same records. The words are those after the program's name.
+/// Runs the program that the words of `ckpt` name, over what is handed in, as `gprs_run` runs one by `run`, but by
+/// checkpoints: a fault rolls back all from the checkpoint on that comes before what it strikes. So the text has the
+/// rollbacks in place of the restarts, with the same printed lines, the same end and the same records. The words are
+/// those after the program's name.
 ///
-/// The status, and what `out` and `err` took at each status, are those that `gprs_run` has; no trace is written. The journal
-/// is that of the run, up to where it stopped.
+/// The status, and what `out` and `err` took at each status, are those that `gprs_run` has; no trace is written. The
+/// journal is that of the run, up to where it stopped.
 pub fn ckpt_run<R: Threads + Sync + AllocGlobal, H: Shelf, O: Sink, E: Sink, G: Gate>(
     rt: &R,
     words: &[String],

@@ -1,4 +1,5 @@
-//! The top calls: all that the program does, over a shelf, two sinks and a gate that are handed in.
+//! The top calls that run a batch (`run`, `one`, `check`, `soak`, `ckpt`, `log`), over a shelf, two sinks and a gate that are
+//! handed in.
 #![tactic(auto)]
 
 mod ckpt;

@@ -1,14 +1,14 @@
 // The top call that keeps a log of its run.
 ghost use Rattle.std.specs.Prelude.{◌≡◌, Some, None, IfOk, IfSome};
-ghost use Rattle.command_line.specs.Words.{texts};
-ghost use Rattle.command_line.specs.LogWords.{log_by};
-ghost use Rattle.call_cases.specs.Answers.{change_of};
-ghost use Rattle.call_cases.specs.Case.{IsCase};
+ghost use Rattle.command_line.specs.meaning.Words.{texts};
+ghost use Rattle.command_line.specs.meaning.LogWords.{log_by};
+ghost use Rattle.call_cases.specs.meaning.Answers.{change_of};
+ghost use Rattle.call_cases.specs.meaning.Case.{IsCase};
 ghost use Rattle.call_cases.specs.Decided.{MayRun, case_of};
-ghost use Rattle.call_cases.specs.Headline.{Headline, ReadsNothing};
+ghost use Rattle.call_cases.specs.meaning.Headline.{Headline, ReadsNothing};
 ghost use Rattle.call_cases.specs.Refusals.{AnswersCase, AnswersNoCommand, TouchesShelf};
-ghost use Rattle.call_cases.specs.RunCommands.{MayRead};
-ghost use Rattle.batch_calls.specs.LogCommands.{asking, commands};
+ghost use Rattle.call_cases.specs.meaning.RunCommands.{MayRead};
+ghost use Rattle.batch_calls.specs.meaning.LogCommands.{asking, commands};
 
 use crate::crews::carry_out;
 use call_cases::{Outcome, Refusal, Request, read_for, refused_outcome};
@@ -34,13 +34,14 @@ fn read_log<H: Shelf>(alloc: Global, words: &[String], shelf: &mut H) -> Result<
     read_for(alloc, asked, shelf)
 }
 
-/// Runs the program that the words of `log` name, over what is handed in, as `gprs_run` runs one by `run`, and writes a log of
-/// the run to `err` while it goes on: a row for each position once it has retired and its lines are written, in order, with all that a
-/// later run needs to go on from it. The words are those after the program's name.
+/// Runs the program that the words of `log` name, over what is handed in, as `gprs_run` runs one by `run`, and writes a
+/// log of the run to `err` while it goes on: a row for each position once it has retired and its lines are written, in
+/// order, with all that a later run needs to go on from it. The words are those after the program's name.
 ///
-/// The status, and what `out` took at each status, are those that `gprs_run` has. At 0, 5 and 6 `err` took the whole log. Where a
-/// run stops at 1 or 8, `err` has no line of that: it took the rows of what has retired, and of the last of them maybe a part.
-/// Before a run begins, `err` takes the lines that it takes there. The journal is that of the run, up to where it stopped.
+/// The status, and what `out` took at each status, are those that `gprs_run` has. At 0, 5 and 6 `err` took the whole
+/// log. Where a run stops at 1 or 8, `err` has no line of that: it took the rows of what has retired, and of the last
+/// of them maybe a part. Before a run begins, `err` takes the lines that it takes there. The journal is that of the
+/// run, up to where it stopped.
 pub fn log_run<R: Threads + Sync + AllocGlobal, H: Shelf, O: Sink, E: Sink, G: Gate>(
     rt: &R,
     words: &[String],

@@ -3,10 +3,10 @@ ghost use Rattle.std.specs.Prelude.{◌≡◌, ◌⊎◌, ℕ, List, [], length}
 ghost use Rattle.task_ast.specs.View.{plain_program};
 ghost use Rattle.lock_checker.specs.Accepted.{program_of};
 ghost use Rattle.command_line.specs.declared.asked.Command.TheVariants as command;
-ghost use Rattle.call_cases.specs.Answers.{Change, Fails, change_of};
-ghost use Rattle.call_cases.specs.PlainText.{plain_ran, restarts_in};
-ghost use Rattle.call_cases.specs.Texts.{run_text};
-ghost use Rattle.call_cases.specs.Work.{ToDo, work_for};
+ghost use Rattle.call_cases.specs.meaning.Answers.{Change, Fails, change_of};
+ghost use Rattle.call_cases.specs.meaning.PlainText.{plain_ran, restarts_in};
+ghost use Rattle.call_cases.specs.meaning.Texts.{run_text};
+ghost use Rattle.call_cases.specs.meaning.Work.{ToDo, work_for};
 ghost use Rattle.batch_calls.specs.inner.Logged.{IsLogged, LogsFor, stop_status};
 ghost use Rattle.batch_calls.specs.inner.Planned.{IsPlanOf, IsPlanned, work_planned};
 ghost use Rattle.batch_calls.specs.inner.Ran.{RunsIf, RanIf};
@@ -60,8 +60,8 @@ fn put_noted<R: Threads + Sync, C: Crew, O: Sink, L: Sink>(
     )
 }
 
-/// Runs a plan with a crew, and writes the first line, the printed lines and the tail, and to `log` a row for each position
-/// that retires.
+/// Runs a plan with a crew, and writes the first line, the printed lines and the tail, and to `log` a row for each
+/// position that retires.
 pub fn put_logged<R: Threads + Sync, C: Crew, O: Sink, L: Sink>(
     rt: &R,
     alloc: Global,

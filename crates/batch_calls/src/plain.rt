@@ -2,11 +2,11 @@
 ghost use Rattle.std.specs.Prelude.{◌≡◌, [], codes, IfOk};
 ghost use Rattle.std.specs.Io.KnownBytes.{Appends};
 ghost use Rattle.std.specs.Prelude.{OnOk, OnErr};
-ghost use Rattle.gp_base.specs.Sinks.{HasCause, AppendsPrefix};
-ghost use Rattle.call_cases.specs.RunCommands.{end_status};
+ghost use Rattle.gp_base.specs.meaning.Sinks.{HasCause, AppendsPrefix};
+ghost use Rattle.call_cases.specs.meaning.RunCommands.{end_status};
 ghost use Rattle.call_cases.specs.Decided.{work_of};
-ghost use Rattle.call_cases.specs.Texts.{run_text};
-ghost use Rattle.call_cases.specs.PlainText.{plain_ran};
+ghost use Rattle.call_cases.specs.meaning.Texts.{run_text};
+ghost use Rattle.call_cases.specs.meaning.PlainText.{plain_ran};
 
 use crate::texts::{OK, OUTPUT, printed};
 use call_cases::{Request, end_status};
@@ -15,8 +15,8 @@ use one_thread::run_plain;
 use restart_log::plain_tail_text;
 use std::alloc::Global;
 
-/// Runs the program of a request on one thread, and writes the text of the run: the first line, the printed lines and the
-/// tail, each as one piece. The answer is the status.
+/// Runs the program of a request on one thread, and writes the text of the run: the first line, the printed lines and
+/// the tail, each as one piece. The answer is the status.
 pub fn put_one<O: Sink>(alloc: Global, request: &Request, out: &mut O) -> Result<u8, SinkFault>
     ensures status { IfOk result (λ status. status ≡ end_status (plain_ran (work_of request.now)).end) }
     ensures all { OnOk result (Appends (O.written out.old) (O.written out.new) (run_text (plain_ran (work_of request.now)) [] 0)) }

@@ -2,9 +2,9 @@
 ghost use Rattle.std.specs.Prelude.{◌≡◌, [], IfOk};
 ghost use Rattle.task_ast.specs.View.{plain_program};
 ghost use Rattle.lock_checker.specs.Accepted.{program_of};
-ghost use Rattle.call_cases.specs.Answers.{change_of};
+ghost use Rattle.call_cases.specs.meaning.Answers.{change_of};
 ghost use Rattle.call_cases.specs.Decided.{IsSound, work_of};
-ghost use Rattle.call_cases.specs.Work.{work_for};
+ghost use Rattle.call_cases.specs.meaning.Work.{work_for};
 ghost use Rattle.command_line.specs.Words.{IsWithinRanges};
 ghost use Rattle.subthread.specs.Tasks.{Suits};
 ghost use Rattle.whole_run.specs.Recovering.{HasCuts};
@@ -123,8 +123,8 @@ fn drive_by<R: Threads + Sync, C: Crew, O: Sink>(
     }
 }
 
-/// Runs the program of a plan with a crew to which nothing was posted, and writes the printed lines to `out`. The answer is
-/// how the run went, or how it stopped.
+/// Runs the program of a plan with a crew to which nothing was posted, and writes the printed lines to `out`. The
+/// answer is how the run went, or how it stopped.
 pub fn put_lines<R: Threads + Sync, C: Crew, O: Sink>(
     rt: &R,
     alloc: Global,

@@ -1,17 +1,18 @@
 // Carries a run over a journal out, and writes its text and its trace.
 ghost use Rattle.std.specs.Prelude.{◌≡◌, ℕ, List, [], true, false, length, OnOk, OnErr, Option, if◌then◌else◌};
 ghost use Rattle.std.specs.Io.KnownBytes.{Appends};
-ghost use Rattle.gp_base.specs.Sinks.{AppendsPrefix, HasCause};
+ghost use Rattle.gp_base.specs.meaning.Sinks.{AppendsPrefix, HasCause};
 ghost use Rattle.task_ast.specs.View.{plain_program};
 ghost use Rattle.lock_checker.specs.Accepted.{program_of};
-ghost use Rattle.restart_log.specs.Trace.{trace_text};
+ghost use Rattle.restart_log.specs.meaning.Trace.{trace_text};
 ghost use Rattle.command_line.specs.declared.asked.Command.TheVariants as command;
 ghost use Rattle.command_line.specs.declared.asked.Asked.{Asked};
-ghost use Rattle.call_cases.specs.Answers.{Change, LineEnds, change_of, unwritten};
+ghost use Rattle.call_cases.specs.meaning.Answers.{Change, change_of};
+ghost use Rattle.call_cases.specs.Answers.{LineEnds, unwritten};
 ghost use Rattle.call_cases.specs.Decided.{work_of};
-ghost use Rattle.call_cases.specs.PlainText.{plain_ran, restarts_in};
-ghost use Rattle.call_cases.specs.Texts.{run_text, soak_text};
-ghost use Rattle.call_cases.specs.Work.{ToDo, is_journalled};
+ghost use Rattle.call_cases.specs.meaning.PlainText.{plain_ran, restarts_in};
+ghost use Rattle.call_cases.specs.meaning.Texts.{run_text, soak_text};
+ghost use Rattle.call_cases.specs.meaning.Work.{ToDo, is_journalled};
 ghost use Rattle.batch_calls.specs.inner.Planned.{IsPlanOf, Carries, work_planned};
 ghost use Rattle.batch_calls.specs.inner.Ran.{RanFor, EndsFor, StopsWith, WritesLines, why_of, told_tail, told_soak};
 
@@ -161,8 +162,8 @@ fn put_soak<R: Threads + Sync, C: Crew, O: Sink>(
     }
 }
 
-// Writes the trace of a journal, where one is asked for, and answers the status that is due. It is 8 where the write fails,
-// and 1 where memory runs out.
+// Writes the trace of a journal, where one is asked for, and answers the status that is due. It is 8 where the write
+// fails, and 1 where memory runs out.
 fn put_trace<E: Sink>(alloc: Global, is_traced: bool, journal: &Journal, err: &mut E, due: u8) -> u8
     ensures { LineEnds due (if is_traced then trace_text journal.now else []) (change_of E.written E.faults err.old err.new) result }
 {
@@ -204,9 +205,9 @@ fn outcome_of<E: Sink>(
     }
 }
 
-/// Runs a plan over a journal with a crew to which nothing was posted, and writes its text, and the trace of its run where
-/// one is asked for. Where the output fails, the line of that is written to `err`. A run whose log is kept writes nothing but the
-/// log to `err`.
+/// Runs a plan over a journal with a crew to which nothing was posted, and writes its text, and the trace of its run
+/// where one is asked for. Where the output fails, the line of that is written to `err`. A run whose log is kept writes
+/// nothing but the log to `err`.
 pub fn carry_by<R: Threads + Sync, C: Crew, O: Sink, E: Sink>(
     rt: &R,
     alloc: Global,

@@ -1,6 +1,6 @@
 // The pieces of a text.
 ghost use Rattle.std.specs.Prelude.{◌≡◌, IfOk};
-ghost use Rattle.restart_log.specs.Lines.{printed};
+ghost use Rattle.restart_log.specs.meaning.Lines.{printed};
 ghost use Rattle.batch_calls.specs.inner.Steps.{lines_in};
 
 use one_thread::Step;

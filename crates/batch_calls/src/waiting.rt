@@ -1,15 +1,15 @@
 // The top call whose workers may last, and which may wait for them.
 ghost use Rattle.std.specs.Prelude.{◌≡◌, Some, None, true, IfOk, IfSome};
 ghost use Rattle.std.specs.Arc.{arc_value};
-ghost use Rattle.command_line.specs.Words.{texts, asked_waiting};
-ghost use Rattle.call_cases.specs.Answers.{change_of};
-ghost use Rattle.call_cases.specs.Case.{IsCase};
+ghost use Rattle.command_line.specs.meaning.Words.{texts, asked_waiting};
+ghost use Rattle.call_cases.specs.meaning.Answers.{change_of};
+ghost use Rattle.call_cases.specs.meaning.Case.{IsCase};
 ghost use Rattle.call_cases.specs.Decided.{MayRun, case_of, work_of};
-ghost use Rattle.call_cases.specs.Headline.{Headline, ReadsNothing};
+ghost use Rattle.call_cases.specs.meaning.Headline.{Headline, ReadsNothing};
 ghost use Rattle.call_cases.specs.Refusals.{AnswersCase, AnswersNoCommand, TouchesShelf};
-ghost use Rattle.call_cases.specs.RunCommands.{MayRead};
-ghost use Rattle.call_cases.specs.Work.{is_journalled};
-ghost use Rattle.batch_calls.specs.WaitingCommands.{asking, commands};
+ghost use Rattle.call_cases.specs.meaning.RunCommands.{MayRead};
+ghost use Rattle.call_cases.specs.meaning.Work.{is_journalled};
+ghost use Rattle.batch_calls.specs.meaning.WaitingCommands.{asking, commands};
 ghost use Rattle.batch_calls.specs.inner.Planned.{IsPlanOf, Carries, work_planned};
 
 use crate::crews::carry_out;
@@ -110,8 +110,8 @@ fn carry_waiting<
     carry_out(rt, alloc, request, out, err, &**gate)
 }
 
-/// Does what the words ask for, as `gprs_run` does, where `pipe` is the word of a crew too: its workers last as long as the run,
-/// and the call waits for them. So it is promised to do the same where it returns.
+/// Does what the words ask for, as `gprs_run` does, where `pipe` is the word of a crew too: its workers last as long as
+/// the run, and the call waits for them. So it is promised to do the same where it returns.
 pub fn gprs_run_pipe<
     R: Threads + Wait + Clone + Send + Sync + Drop + AllocGlobal + 'static,
     H: Shelf,

@@ -1,7 +1,7 @@
 -- The first row that breaks a rule, where rows were passed.
 use Rattle.std.proofs.Common.{◌≡◌, ◌∙◌, ◌+◌, List, [], ◌∷◌, ◌++◌, length, refl, sym, ap, append_assoc, Option, Some, None}
 use Rattle.std.proofs.lemmas.List.{append-nil}
-use Rattle.batch_files.specs.Rows.{Row, Rule, broken_or, first_broken}
+use Rattle.batch_files.specs.meaning.Rows.{Row, Rule, broken_or, first_broken}
 use Rattle.batch_files.specs.declared.fault.FileKind.{FileKind}
 
 pub broken_past : (rule : Rule) (before rows rest : List Row) → first_broken rule before rows ≡ None

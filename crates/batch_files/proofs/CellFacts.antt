@@ -6,8 +6,9 @@ use Rattle.std.proofs.lemmas.Bool.{cases_Bool}
 use Rattle.std.proofs.lemmas.Bool.Decides.{nat_tests}
 use Rattle.std.proofs.lemmas.List.{map-append, get_or-replicate, length-replicate, take_all}
 use Rattle.std.proofs.Math.Seq.{take-suc}
-use Rattle.batch_files.specs.Rows.{Row, first_broken}
-use Rattle.batch_files.specs.Records.{cells_below, AreCells, records_by, entry_of, entry_rule, record_rule, value_at, value_or}
+use Rattle.batch_files.specs.meaning.Rows.{Row, first_broken}
+use Rattle.batch_files.specs.meaning.Records.{cells_below, records_by, entry_of, entry_rule, record_rule, value_at, value_or}
+use Rattle.batch_files.specs.Records.{AreCells}
 use Rattle.batch_files.specs.declared.records.Entry.{Entry}
 use Rattle.batch_files.specs.declared.fault.FileKind.{FileKind}
 use Rattle.batch_files.specs.declared.fault.FileKind.TheVariants.{Twice}

@@ -7,11 +7,12 @@ use Rattle.std.specs.List.{filter_map, list_any}
 use Rattle.std.specs.Result.{result_ok}
 use Rattle.std.proofs.lemmas.Bool.Decides.{nat_tests}
 use Rattle.std.proofs.lemmas.List.Elements.{filter_map-append}
-use Rattle.gp_base.specs.Faults.{strikes_same}
+use Rattle.gp_base.specs.meaning.Faults.{strikes_same}
 use Rattle.gp_base.specs.declared.fault.Fault.{Fault}
 use Rattle.gp_base.specs.declared.limits.TheConstants.{MOST_FAULTS}
-use Rattle.batch_files.specs.Rows.{Row}
-use Rattle.batch_files.specs.Faults.{AreFaults, fault_of, fault_rule, faults_of, strike_rule}
+use Rattle.batch_files.specs.meaning.Rows.{Row}
+use Rattle.batch_files.specs.meaning.Faults.{fault_of, fault_rule, faults_of, strike_rule}
+use Rattle.batch_files.specs.Faults.{AreFaults}
 
 -- what holds before and after a push that may fail
 pub after_push : {E : Type 0} (P : List Fault → Type 0) (pushed : Result (Unit {0}) E) (list now : List Fault) (fault : Fault)

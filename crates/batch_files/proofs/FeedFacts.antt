@@ -6,9 +6,10 @@ use Rattle.std.proofs.lemmas.Bool.Decides.{nat_tests}
 use Rattle.std.proofs.lemmas.Grind.{flat_map-append}
 use Rattle.std.proofs.lemmas.List.{append-nil}
 use Rattle.csv.specs.Records.{field_at}
-use Rattle.batch_files.specs.Numbers.{number_at, signed_number}
-use Rattle.batch_files.specs.Rows.{Row}
-use Rattle.batch_files.specs.Feeds.{AreCells, cells_of, feed_rule, number_before, numbers_of}
+use Rattle.batch_files.specs.meaning.Numbers.{number_at, signed_number}
+use Rattle.batch_files.specs.meaning.Rows.{Row}
+use Rattle.batch_files.specs.meaning.Feeds.{cells_of, feed_rule, number_before, numbers_of}
+use Rattle.batch_files.specs.Feeds.{AreCells}
 use Rattle.batch_files.specs.declared.fault.FileKind.TheVariants.{Number, TooMany}
 
 -- the numbers up to a field, and one more

@@ -7,7 +7,7 @@ use Rattle.csv.specs.declared.reader.Reader.{Reader}
 use Rattle.csv.specs.declared.parser.State.{State}
 use Rattle.csv.specs.declared.parser.State.TheVariants as st
 use Rattle.csv.proofs.ReadFacts.{rows-end, rows-more}
-use Rattle.batch_files.specs.Rows.{Broken, Row, Rule, first_broken, rows_of}
+use Rattle.batch_files.specs.meaning.Rows.{Broken, Row, Rule, first_broken, rows_of}
 use Rattle.batch_files.specs.Answers.{PutsRow, Tells, fault_at}
 use Rattle.batch_files.specs.declared.fault.FileKind.{FileKind}
 use Rattle.batch_files.specs.declared.fault.RowFault.{RowFault}

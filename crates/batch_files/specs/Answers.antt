@@ -6,7 +6,7 @@ use Rattle.batch_files.specs.declared.fault.FileFault.{FileFault}
 use Rattle.batch_files.specs.declared.fault.FileFault.TheVariants as file
 use Rattle.batch_files.specs.declared.fault.RowFault.{RowFault}
 use Rattle.batch_files.specs.declared.fault.RowFault.TheVariants as row
-use Rattle.batch_files.specs.Rows.{Broken}
+use Rattle.batch_files.specs.meaning.Rows.{Broken}
 
 -- the fault tells the row that is broken, or memory ran out
 abbrev pub Tells : FileFault → Option Broken → Type 0

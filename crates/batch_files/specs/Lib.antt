@@ -1,6 +1,5 @@
 pub mod Answers
 pub mod Faults
 pub mod Feeds
-pub mod Numbers
 pub mod Records
-pub mod Rows
+pub mod meaning

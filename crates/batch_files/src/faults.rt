@@ -2,9 +2,11 @@
 ghost use Rattle.std.specs.Prelude.{◌≡◌, IfOk, IfSome};
 ghost use Rattle.std.specs.List.{list_any};
 ghost use Rattle.csv.specs.Records.{fields_of};
-ghost use Rattle.gp_base.specs.Faults.{IsInRange, strikes_same};
-ghost use Rattle.batch_files.specs.Rows.{rows_of};
-ghost use Rattle.batch_files.specs.Faults as spec;
+ghost use Rattle.gp_base.specs.meaning.Faults.{strikes_same};
+ghost use Rattle.gp_base.specs.Faults.{IsInRange};
+ghost use Rattle.batch_files.specs.meaning.Rows.{rows_of};
+ghost use Rattle.batch_files.specs.meaning.Faults as spec;
+ghost use Rattle.batch_files.specs.Faults.{AreFaults};
 ghost use Rattle.batch_files.specs.Answers.{Answers};
 
 use crate::fault::{FileFault, FileKind, RowFault};
@@ -15,9 +17,9 @@ use gp_base::limits::{LONGEST_DELAY, MOST_FAULTS};
 use gp_base::{Fault, Faults, Text};
 use std::alloc::Global;
 
-/// The faults of a file whose rows are a position, an attempt, a delay and a mask. `Bad` tells the first row that breaks
-/// a rule, with the first rule that it breaks: four fields, which are numbers; a position and an attempt below 2^32, a
-/// delay of at most `LONGEST_DELAY` and a mask that is not 0; a position and an attempt that no earlier row has
+/// The faults of a file whose rows are a position, an attempt, a delay and a mask. `Bad` tells the first row that
+/// breaks a rule, with the first rule that it breaks: four fields, which are numbers; a position and an attempt below
+/// 2^32, a delay of at most `LONGEST_DELAY` and a mask that is not 0; a position and an attempt that no earlier row has
 /// together; and at most `MOST_FAULTS` rows.
 pub fn read_faults(alloc: Global, bytes: &Text) -> Result<Faults, FileFault>
     ensures { Answers (λ faults. faults.list) result (spec.faults_by (rows_of bytes.now)) }
@@ -71,7 +73,7 @@ fn is_struck(faults: &[Fault], fault: &Fault) -> bool
 impl Table for Faults {
     ghost rule = { λ begun. spec.fault_rule };
 
-    ghost holds = { λ begun faults rows. spec.AreFaults rows faults.list };
+    ghost holds = { λ begun faults rows. AreFaults rows faults.list };
 
     fn put(&mut self, row: &ByteRecord) -> Result<(), RowFault> {
         let fault = fault_of(row)?;

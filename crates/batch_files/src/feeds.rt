@@ -2,8 +2,9 @@
 ghost use Rattle.std.specs.Prelude.{◌≡◌, ◌≤◌, ◌<◌, IfOk};
 ghost use Rattle.csv.specs.Records.{fields_of};
 ghost use Rattle.gp_base.specs.declared.limits.TheConstants.{MOST_FEED_CELLS};
-ghost use Rattle.batch_files.specs.Rows.{rows_of};
-ghost use Rattle.batch_files.specs.Feeds as spec;
+ghost use Rattle.batch_files.specs.meaning.Rows.{rows_of};
+ghost use Rattle.batch_files.specs.meaning.Feeds as spec;
+ghost use Rattle.batch_files.specs.Feeds.{AreCells};
 ghost use Rattle.batch_files.specs.Answers.{Answers, PushesNumbers};
 
 use crate::fault::{FileFault, FileKind, RowFault};
@@ -56,7 +57,7 @@ impl Table for Cells {
     ghost rule = { λ begun. spec.feed_rule begun.fields begun.room };
 
     ghost holds = { λ begun table rows. (table.fields ≡ begun.fields) × (table.room ≡ begun.room)
-        × spec.AreCells begun.fields begun.room rows table.cells.items };
+        × AreCells begun.fields begun.room rows table.cells.items };
 
     fn put(&mut self, row: &ByteRecord) -> Result<(), RowFault> {
         if row.len() != self.fields {

@@ -1,7 +1,7 @@
 // Numbers in the fields of a row.
 ghost use Rattle.std.specs.Prelude.{◌≡◌, ◌==◌, slice_index};
 ghost use Rattle.csv.specs.Records.{fields_of};
-ghost use Rattle.batch_files.specs.Numbers as spec;
+ghost use Rattle.batch_files.specs.meaning.Numbers as spec;
 
 use csv::ByteRecord;
 

@@ -1,8 +1,9 @@
 // Files of records: the index and the value of a cell in each row.
 ghost use Rattle.std.specs.Prelude.{◌≡◌, ◌<◌, None, IfOk, length, map, replicate, unwrap_or, pos};
 ghost use Rattle.csv.specs.Records.{fields_of};
-ghost use Rattle.batch_files.specs.Rows.{rows_of};
-ghost use Rattle.batch_files.specs.Records as spec;
+ghost use Rattle.batch_files.specs.meaning.Rows.{rows_of};
+ghost use Rattle.batch_files.specs.meaning.Records as spec;
+ghost use Rattle.batch_files.specs.Records.{AreCells};
 ghost use Rattle.batch_files.specs.Answers.{Answers};
 
 use crate::fault::{FileFault, FileKind, RowFault};
@@ -77,7 +78,7 @@ impl Cells {
 impl Table for Cells {
     ghost rule = { λ begun. spec.record_rule (length begun.cells.items) };
 
-    ghost holds = { λ begun table rows. spec.AreCells (length begun.cells.items) rows table.cells.items };
+    ghost holds = { λ begun table rows. AreCells (length begun.cells.items) rows table.cells.items };
 
     fn put(&mut self, row: &ByteRecord) -> Result<(), RowFault> {
         let entry = entry_of(self.cells.len() as u64, row)?;

@@ -1,7 +1,7 @@
 // The rows of a file, one after the other.
 ghost use Rattle.std.specs.Prelude.{[], ◌∷◌, ◌++◌, List};
 ghost use Rattle.csv.specs.Records.{fields_of};
-ghost use Rattle.batch_files.specs.Rows.{Row, Rule, first_broken, rows_of};
+ghost use Rattle.batch_files.specs.meaning.Rows.{Row, Rule, first_broken, rows_of};
 ghost use Rattle.batch_files.specs.Answers.{PutsRow, PutsAll};
 
 use crate::fault::{FileFault, RowFault, at_row};

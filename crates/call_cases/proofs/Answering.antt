@@ -6,9 +6,9 @@ use Rattle.std.specs.declared.result.Result.{Result}
 use Rattle.std.specs.declared.result.Result.TheVariants.{Ok, Err}
 use Rattle.call_cases.specs.declared.reading.Refusal.{Refusal}
 use Rattle.call_cases.specs.declared.reading.Refusal.TheVariants.{Usage as RefusedUsage, BadProgram as RefusedProgram, BadInput as RefusedInput, ReadFault, OutOfMemory}
-use Rattle.call_cases.specs.Work.{Files}
-use Rattle.call_cases.specs.Commands.{Asking}
-use Rattle.call_cases.specs.Case.{Case, Usage, BadProgram, BadInput, IsCaseOf, no_program, of_text, IsCase, no_command, asks}
+use Rattle.call_cases.specs.meaning.Work.{Files}
+use Rattle.call_cases.specs.meaning.Commands.{Asking}
+use Rattle.call_cases.specs.meaning.Case.{Case, Usage, BadProgram, BadInput, IsCaseOf, no_program, of_text, IsCase, no_command, asks}
 use Rattle.call_cases.specs.Refusals.{RefusesCase, AnswersCase}
 
 -- an answer tells one case where it tells another

@@ -4,15 +4,15 @@ use Rattle.std.proofs.Common.{◌≡◌, ℕ, List, refl, subst}
 use Rattle.std.specs.List.{Contains}
 use Rattle.std.specs.declared.option.Option.{Option}
 use Rattle.std.specs.declared.option.Option.TheVariants.{None, Some}
-use Rattle.task_ast.specs.Tree.{Name, Program}
-use Rattle.task_ast.specs.Check.{check_fault}
+use Rattle.task_ast.specs.meaning.Tree.{Name, Program}
+use Rattle.task_ast.specs.meaning.Check.{check_fault}
 use Rattle.task_ast.specs.declared.check_kind.CheckKind.{CheckKind}
-use Rattle.task_parser.specs.Spelling.{Meaning, Stands, LexFails, ParseFails}
+use Rattle.task_parser.specs.meaning.Spelling.{Meaning, Stands, LexFails, ParseFails}
 use Rattle.call_cases.specs.declared.reading.Refusal.{Refusal}
 use Rattle.call_cases.specs.declared.reading.Refusal.TheVariants.{Usage as RefusedUsage, BadProgram as RefusedProgram, BadInput as RefusedInput, ReadFault, OutOfMemory}
-use Rattle.call_cases.specs.Work.{Files, Supplied}
-use Rattle.call_cases.specs.Commands.{Asking}
-use Rattle.call_cases.specs.Case.{Case, Usage, Missing, BadProgram, BadInput, Go, IsCaseOf, no_program, of_text, supplied_case, program_case, meant_case, names_read}
+use Rattle.call_cases.specs.meaning.Work.{Files, Supplied}
+use Rattle.call_cases.specs.meaning.Commands.{Asking}
+use Rattle.call_cases.specs.meaning.Case.{Case, Usage, Missing, BadProgram, BadInput, Go, IsCaseOf, no_program, of_text, supplied_case, program_case, meant_case, names_read}
 use Rattle.call_cases.specs.Refusals.{RefusesCase}
 
 -- what comes of a case, where this comes of what is to be done

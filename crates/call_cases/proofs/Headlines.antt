@@ -15,16 +15,18 @@ use Rattle.gp_base.specs.declared.sink.SinkFault.TheVariants as sink
 use Rattle.gp_base.specs.declared.sink.SinkFault.TheVariants.{Failed}
 use Rattle.gp_base.specs.declared.journal.Journal.{Journal}
 use Rattle.gp_base.proofs.Written.{prefix_whole, prefix_none, Keeps-same}
-use Rattle.task_ast.specs.Tree.{Name}
+use Rattle.task_ast.specs.meaning.Tree.{Name}
 use Rattle.call_cases.specs.declared.reading.Refusal.{Refusal}
 use Rattle.call_cases.specs.declared.reading.Refusal.TheVariants.{Usage as RefusedUsage, BadProgram as RefusedProgram, BadInput as RefusedInput, ReadFault, OutOfMemory}
-use Rattle.call_cases.specs.Work.{Files}
-use Rattle.call_cases.specs.Commands.{Commands, Log, MayLog, Unlogged, Logged, AreSound, IsApart}
-use Rattle.call_cases.specs.Case.{Case, Usage, Missing, BadProgram, BadInput, Go, IsCase, ForCase, ForRun, HasWork, IsMissing, names_read, status_of, text_of, line_of}
-use Rattle.call_cases.specs.Lines.{out_of_memory_line, write_fault_line}
+use Rattle.call_cases.specs.meaning.Work.{Files}
+use Rattle.call_cases.specs.meaning.Commands.{Commands, Log, MayLog, Unlogged, Logged}
+use Rattle.call_cases.specs.Commands.{AreSound, IsApart}
+use Rattle.call_cases.specs.meaning.Case.{Case, Usage, Missing, BadProgram, BadInput, Go, IsCase, ForCase, ForRun, HasWork, IsMissing, names_read, status_of, text_of, line_of}
+use Rattle.call_cases.specs.meaning.Lines.{out_of_memory_line, write_fault_line}
 use Rattle.call_cases.specs.Refusals.{RefusesCase, RefusesWords, RefusesShelf, TakesRefusal, RefusalEnds, usage_told, program_told, input_told, read_told, refusal_no_memory, refusal_failed}
-use Rattle.call_cases.specs.Answers.{Change, unwritten, TakesAll, TakesPart, Fails, Grew, IsEmpty, IsStopLine, TakesStop, Yields, due_status, no_memory, read_fault, write_fault, LineEnds, whole, line_failed, line_no_memory, RunEnds, finished, run_no_memory, output_failed, error_failed, LogEnds, log_finished, log_no_memory, log_write_failed, log_unbegun, PutFor, StopsBy}
-use Rattle.call_cases.specs.Headline.{Call, IsQuiet, TellsWrite, TellsStop, TellsCase, IsRefusal, HasCaseLine, error_for, RunsNothing, TellsReadFault, TellsWriteFault, IsStop, IsDue, TakesStopLines, ReadsNothing, Headline}
+use Rattle.call_cases.specs.meaning.Answers.{Change, TakesAll, TakesPart, Fails, Grew, IsEmpty, IsStopLine, TakesStop, Yields, due_status, no_memory, read_fault, write_fault}
+use Rattle.call_cases.specs.Answers.{unwritten, LineEnds, whole, line_failed, line_no_memory, RunEnds, finished, run_no_memory, output_failed, error_failed, LogEnds, log_finished, log_no_memory, log_write_failed, log_unbegun, PutFor, StopsBy}
+use Rattle.call_cases.specs.meaning.Headline.{Call, IsQuiet, TellsWrite, TellsStop, TellsCase, IsRefusal, HasCaseLine, error_for, RunsNothing, TellsReadFault, TellsWriteFault, IsStop, IsDue, TakesStopLines, ReadsNothing, Headline}
 use Rattle.call_cases.proofs.OneCase.{for_known, for_each, for_map, none_some}
 
 -- a prefix of the line that tells the stop, after nothing else

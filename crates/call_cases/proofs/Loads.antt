@@ -12,7 +12,7 @@ use Rattle.std.proofs.lemmas.List.Sums.{sum_by-append}
 use Rattle.std.proofs.lemmas.Bool.Decides.{nat_tests}
 use Rattle.std.proofs.lemmas.List.{at_drop_more, drop_more, drop_all, take_all}
 use Rattle.std.proofs.lemmas.List.Elements.{Contains-append_left, Contains-append_right}
-use Rattle.gp_base.specs.Files.{bytes_of}
+use Rattle.gp_base.specs.meaning.Files.{bytes_of}
 use Rattle.gp_base.specs.declared.feed.Feed.{Feed}
 use Rattle.gp_base.specs.declared.fault.Fault.{Fault}
 use Rattle.gp_base.specs.declared.fault.Faults.{Faults}
@@ -20,16 +20,17 @@ use Rattle.gp_base.specs.declared.feed.Inputs.{Inputs}
 use Rattle.gp_base.specs.declared.limits.TheConstants.{MOST_FEED_CELLS, MOST_FILE_BYTES}
 use Rattle.task_ast.specs.declared.tree.Head.{Head}
 use Rattle.task_ast.specs.declared.tree.Head.TheVariants.{LockHead, BarrierHead, RecHead, FeedHead}
-use Rattle.task_ast.specs.Tree.{Name}
-use Rattle.task_ast.specs.Names.{natural}
-use Rattle.batch_files.specs.Rows.{Broken, rows_of}
-use Rattle.batch_files.specs.Records.{records_by}
-use Rattle.batch_files.specs.Feeds.{feed_by}
+use Rattle.task_ast.specs.meaning.Tree.{Name}
+use Rattle.task_ast.specs.meaning.Names.{natural}
+use Rattle.batch_files.specs.meaning.Rows.{Broken, rows_of}
+use Rattle.batch_files.specs.meaning.Records.{records_by}
+use Rattle.batch_files.specs.meaning.Feeds.{feed_by}
 use Rattle.call_cases.specs.declared.reading.Refusal.{Refusal}
 use Rattle.call_cases.specs.declared.reading.Refusal.TheVariants as refused
-use Rattle.call_cases.specs.Work.{Files, Supplied, Supplies, Lacks, Spoils}
-use Rattle.call_cases.specs.Lines.{input_line}
-use Rattle.call_cases.specs.InputFiles.{nothing, are_rows, feed_where, feed_with, with_cells, with_feed, room_after, record_rows, feed_rows, fault_rows, more_cells, more_feed, by_rows, by_file, load_faults, by_record, named, load_head, then_load, load, names_in, file_names}
+use Rattle.call_cases.specs.meaning.Work.{Files, Supplied, Supplies, Lacks, Spoils}
+use Rattle.call_cases.specs.meaning.Lines.{input_line}
+use Rattle.call_cases.specs.meaning.InputFiles.{nothing, are_rows, feed_where, feed_with, with_cells, with_feed, room_after, record_rows, feed_rows, fault_rows, more_cells, more_feed, by_rows, by_file, load_faults, by_record, load_head, then_load, load}
+use Rattle.call_cases.specs.InputFiles.{named, names_in, file_names}
 use Rattle.call_cases.specs.inner.Loading.{IsReadable, AreReadable, IsRefusedBy, AnswersRows, names_of, StepsTo, AnswersLoad, AnswersFaults}
 use Rattle.call_cases.specs.Refusals.{ReadsAmong}
 

@@ -5,17 +5,17 @@ use Rattle.std.specs.declared.option.Option.{Option}
 use Rattle.std.specs.declared.option.Option.TheVariants.{None, Some}
 use Rattle.gp_base.specs.declared.fault.Fault.{Fault}
 use Rattle.gp_base.specs.declared.feed.Inputs.{Inputs}
-use Rattle.task_ast.specs.Tree.{Name, Program}
-use Rattle.task_ast.specs.Check.{check_fault}
+use Rattle.task_ast.specs.meaning.Tree.{Name, Program}
+use Rattle.task_ast.specs.meaning.Check.{check_fault}
 use Rattle.task_ast.specs.declared.check_kind.CheckKind.{CheckKind}
-use Rattle.task_parser.specs.Spelling.{Meaning, Stands, LexFails, ParseFails}
+use Rattle.task_parser.specs.meaning.Spelling.{Meaning, Stands, LexFails, ParseFails}
 use Rattle.command_line.specs.declared.asked.Asked.{Asked}
 use Rattle.command_line.specs.declared.asked.Command.{Command}
 use Rattle.command_line.proofs.RestartsAlone.{RestartsAlone, words_restart}
-use Rattle.call_cases.specs.Work.{Files, Supplied, Supplies, Lacks, Spoils, ToDo, work_for}
-use Rattle.call_cases.specs.InputFiles.{load_faults, supplied_for, then_load, with_faults, supplied_by}
-use Rattle.call_cases.specs.Case.{Case, Usage, Missing, BadProgram, BadInput, Go, IsCaseOf, no_program, of_text, IsCase, no_command, asks, supplied_case, program_case, meant_case}
-use Rattle.call_cases.specs.RunCommands.{asking}
+use Rattle.call_cases.specs.meaning.Work.{Files, Supplied, Supplies, Lacks, Spoils, ToDo, work_for}
+use Rattle.call_cases.specs.meaning.InputFiles.{load_faults, supplied_for, then_load, with_faults, supplied_by}
+use Rattle.call_cases.specs.meaning.Case.{Case, Usage, Missing, BadProgram, BadInput, Go, IsCaseOf, no_program, of_text, IsCase, no_command, asks, supplied_case, program_case, meant_case}
+use Rattle.call_cases.specs.meaning.RunCommands.{asking}
 
 -- what there is to be done has the command that is asked for
 abbrev SuppliesBy : Command → Supplied ToDo → Type 0

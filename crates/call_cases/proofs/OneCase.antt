@@ -2,12 +2,13 @@
 use Rattle.std.proofs.Common.{◌≡◌, ℕ, List, [], IfSome, refl, sym, ◌∙◌, ap, subst}
 use Rattle.std.specs.declared.option.Option.{Option}
 use Rattle.std.specs.declared.option.Option.TheVariants.{None, Some}
-use Rattle.gp_base.specs.Files.{bytes_of}
-use Rattle.task_parser.specs.Spelling.{Means}
+use Rattle.gp_base.specs.meaning.Files.{bytes_of}
+use Rattle.task_parser.specs.meaning.Spelling.{Means}
 use Rattle.task_parser.proofs.OneSpelling.{one_meaning, some_meaning}
-use Rattle.call_cases.specs.Work.{Files}
-use Rattle.call_cases.specs.Commands.{Asking}
-use Rattle.call_cases.specs.Case.{OneCase, SomeCase, Case, Missing, IsCaseOf, no_program, of_text, IsCase, no_command, asks, ForCase, meant_case}
+use Rattle.call_cases.specs.meaning.Work.{Files}
+use Rattle.call_cases.specs.meaning.Commands.{Asking}
+use Rattle.call_cases.specs.meaning.Case.{Case, Missing, IsCaseOf, no_program, of_text, IsCase, no_command, asks, ForCase, meant_case}
+use Rattle.call_cases.specs.Case.{OneCase, SomeCase}
 
 value_of : {A : Type 0} → A → Option A → A
 value_of d None = d

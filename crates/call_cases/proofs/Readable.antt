@@ -6,11 +6,11 @@ use Rattle.task_ast.specs.declared.check_kind.CheckKind.{CheckKind}
 use Rattle.task_ast.specs.declared.check_kind.CheckKind.TheVariants.{UnknownName, DoubleName, WrongCount, SizesDiffer, TooMany}
 use Rattle.task_ast.specs.declared.tree.Head.{Head}
 use Rattle.task_ast.specs.declared.tree.Head.TheVariants.{LockHead, BarrierHead, RecHead, FeedHead}
-use Rattle.task_ast.specs.Tree.{Program}
-use Rattle.task_ast.specs.Names.{natural, is_among, head_name, records_of, cells_in}
-use Rattle.task_ast.specs.Visit.{Visit, fails_if, fault_at, first_fault}
-use Rattle.task_ast.specs.Declarations.{lacks_array, sizes_differ, passes_limit, count_of, head_visit, head_visits, task_visits, main_visit, line_of}
-use Rattle.task_ast.specs.Check.{bodies_visits, check_fault}
+use Rattle.task_ast.specs.meaning.Tree.{Program}
+use Rattle.task_ast.specs.meaning.Names.{natural, is_among, head_name, records_of, cells_in}
+use Rattle.task_ast.specs.meaning.Visit.{Visit, fails_if, fault_at, first_fault}
+use Rattle.task_ast.specs.meaning.Declarations.{lacks_array, sizes_differ, passes_limit, count_of, head_visit, head_visits, task_visits, main_visit, line_of}
+use Rattle.task_ast.specs.meaning.Check.{bodies_visits, check_fault}
 use Rattle.call_cases.specs.inner.Loading.{IsReadable, AreReadable}
 use Rattle.std.proofs.Common.{map}
 

@@ -3,13 +3,13 @@ use Rattle.std.proofs.Common.{ℕ, List, [], ◌∷◌, ◌++◌, arith, refl}
 use Rattle.std.specs.List.{Contains}
 use Rattle.std.specs.declared.option.Option.{Option}
 use Rattle.std.specs.declared.option.Option.TheVariants.{None, Some}
-use Rattle.task_ast.specs.Tree.{Name, Program}
-use Rattle.task_ast.specs.Check.{check_fault}
+use Rattle.task_ast.specs.meaning.Tree.{Name, Program}
+use Rattle.task_ast.specs.meaning.Check.{check_fault}
 use Rattle.task_ast.specs.declared.check_kind.CheckKind.{CheckKind}
-use Rattle.task_parser.specs.Spelling.{Meaning, Stands, LexFails, ParseFails}
-use Rattle.call_cases.specs.Work.{Files, Supplied, Supplies, Lacks, Spoils}
-use Rattle.call_cases.specs.Commands.{Asking}
-use Rattle.call_cases.specs.Case.{Case, IsCaseOf, no_program, of_text, supplied_case, program_case, meant_case, names_read}
+use Rattle.task_parser.specs.meaning.Spelling.{Meaning, Stands, LexFails, ParseFails}
+use Rattle.call_cases.specs.meaning.Work.{Files, Supplied, Supplies, Lacks, Spoils}
+use Rattle.call_cases.specs.meaning.Commands.{Asking}
+use Rattle.call_cases.specs.meaning.Case.{Case, IsCaseOf, no_program, of_text, supplied_case, program_case, meant_case, names_read}
 
 pub first : (name : Name) (names : List Name) → Contains (name ∷ names) name
 first name names = (0, omega arith, refl)

@@ -2,9 +2,10 @@
 use Rattle.std.proofs.Common.{◌⊎◌, ℕ, List, refl, inl, inr}
 use Rattle.gp_base.proofs.Written.{prefix_whole}
 use Rattle.call_cases.specs.declared.reading.Refusal.{Refusal}
-use Rattle.call_cases.specs.Lines.{out_of_memory_line}
+use Rattle.call_cases.specs.meaning.Lines.{out_of_memory_line}
 use Rattle.call_cases.specs.Refusals.{TellsRefusal, RefusalEnds, refusal_no_memory, refusal_failed}
-use Rattle.call_cases.specs.Answers.{Change, TakesAll, IsStopLine, LineEnds, whole, line_failed, line_no_memory}
+use Rattle.call_cases.specs.meaning.Answers.{Change, TakesAll, IsStopLine}
+use Rattle.call_cases.specs.Answers.{LineEnds, whole, line_failed, line_no_memory}
 
 -- a line that was due for a refusal
 pub ends_by_line : (line : List ℕ) (err : Change) (refusal : Refusal) (due status : ℕ) → TellsRefusal refusal line ⊎ IsStopLine line

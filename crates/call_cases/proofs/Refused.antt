@@ -11,11 +11,12 @@ use Rattle.task_parser.specs.declared.fault.LexFault.{LexFault}
 use Rattle.task_parser.specs.declared.fault.LexFault.TheVariants as lex
 use Rattle.task_parser.specs.declared.fault.ParseFault.{ParseFault}
 use Rattle.task_parser.specs.declared.fault.ParseFault.TheVariants as parse
-use Rattle.task_parser.specs.Lexing.{lexed, lexed_behind, IsFaultOf}
-use Rattle.task_parser.specs.Answer.{IsFirstFault}
-use Rattle.task_ast.specs.Tree.{Name, Program}
-use Rattle.task_ast.specs.Check.{check_fault}
-use Rattle.task_parser.specs.Spelling.{Means, Spells, Stands, LexFails, ParseFails}
+use Rattle.task_parser.specs.meaning.Lexing.{lexed, lexed_behind}
+use Rattle.task_parser.specs.Lexing.{IsFaultOf}
+use Rattle.task_parser.specs.meaning.Answer.{IsFirstFault}
+use Rattle.task_ast.specs.meaning.Tree.{Name, Program}
+use Rattle.task_ast.specs.meaning.Check.{check_fault}
+use Rattle.task_parser.specs.meaning.Spelling.{Means, Spells, Stands, LexFails, ParseFails}
 use Rattle.lock_checker.specs.Accepted.{Told}
 use Rattle.lock_checker.specs.declared.fault.CheckFault.{CheckFault}
 use Rattle.lock_checker.specs.declared.fault.CheckFault.TheVariants as check
@@ -23,8 +24,8 @@ use Rattle.command_line.specs.declared.asked.Asked.{Asked}
 use Rattle.command_line.specs.declared.asked.Command.{Command}
 use Rattle.command_line.specs.declared.asked.Command.TheVariants as command
 use Rattle.command_line.specs.declared.asked.Soak.{Soak}
-use Rattle.soak_batch.specs.Files.{soak_files}
-use Rattle.call_cases.specs.SoakFiles.{files_of}
+use Rattle.soak_batch.specs.meaning.Files.{soak_files}
+use Rattle.call_cases.specs.meaning.SoakFiles.{files_of}
 use Rattle.std.proofs.Common.{Result}
 use Rattle.call_cases.specs.declared.work.Request.{Request}
 use Rattle.call_cases.specs.declared.reading.Refusal.{Refusal}
@@ -36,19 +37,20 @@ use Rattle.std.proofs.lemmas.List.Elements.{Contains-append_right}
 use Rattle.gp_base.specs.declared.fault.Fault.{Fault}
 use Rattle.gp_base.specs.declared.fault.Faults.{Faults}
 use Rattle.gp_base.specs.declared.feed.Inputs.{Inputs}
-use Rattle.call_cases.specs.Work.{Files, Supplied, Supplies, Lacks, Spoils, ToDo, work_for, runs}
-use Rattle.call_cases.specs.InputFiles.{names_for, named, supplied_for, file_names, then_load, load_faults, with_faults}
+use Rattle.call_cases.specs.meaning.Work.{Files, Supplied, Supplies, Lacks, Spoils, ToDo, work_for, runs}
+use Rattle.call_cases.specs.meaning.InputFiles.{supplied_for, then_load, load_faults, with_faults}
+use Rattle.call_cases.specs.InputFiles.{names_for, named, file_names}
 use Rattle.call_cases.specs.inner.Loading.{AnswersLoad, AnswersFaults, names_of}
 use Rattle.call_cases.specs.Refusals.{AnswersCase, RefusesCase, RefusesShelf, ReadsAmong}
 use Rattle.call_cases.proofs.Loads.{keeps_faults, then_names, only_one}
-use Rattle.call_cases.specs.RunCommands.{MayRead, an_input, the_faults, asking}
+use Rattle.call_cases.specs.meaning.RunCommands.{MayRead, an_input, the_faults, asking}
 use Rattle.call_cases.proofs.OneCase.{some_case_of}
 use Rattle.call_cases.proofs.Answering.{answers_map}
 use Rattle.call_cases.proofs.ReadsProgram.{reads_program}
-use Rattle.call_cases.specs.Lines.{lex_line, parse_line, check_line}
-use Rattle.call_cases.specs.Case.{BadProgram as BadCase, Go, IsCaseOf, of_text, supplied_case, program_case, names_read}
+use Rattle.call_cases.specs.meaning.Lines.{lex_line, parse_line, check_line}
+use Rattle.call_cases.specs.meaning.Case.{BadProgram as BadCase, Go, IsCaseOf, of_text, supplied_case, program_case, names_read}
 use Rattle.call_cases.specs.Decided.{ComesTo, IsAcceptedIn, IsRefusedWith, RefusesLexing, RefusesParsing, RefusesChecking, accepted_case, files_read, case_of}
-use Rattle.gp_base.specs.Files.{bytes_of, AnswersRead}
+use Rattle.gp_base.specs.meaning.Files.{bytes_of, AnswersRead}
 
 pub decided_by_line : (asked : Asked) (text line : List ℕ) (refusal : Refusal) → IsRefusedWith line refusal
     → ComesTo asked text (BadCase asked.program line) → IsAcceptedIn asked text (Err refusal)

@@ -9,13 +9,15 @@ use Rattle.gp_base.specs.declared.journal.Journal.{Journal}
 use Rattle.gp_base.proofs.Written.{prefix_none, Keeps-same}
 use Rattle.command_line.specs.declared.asked.Command.{Command}
 use Rattle.command_line.specs.declared.asked.Command.TheVariants as command
-use Rattle.call_cases.specs.Work.{ToDo, runs}
-use Rattle.call_cases.specs.Answers.{IsEmpty, unwritten}
-use Rattle.call_cases.specs.PlainText.{plain_ran}
-use Rattle.call_cases.specs.Recovering.{LawfulBy}
-use Rattle.call_cases.specs.Journals.{run_of, IsJournalOf, TakesRetired, TakesRetiredFor, retired_in, lines_before}
-use Rattle.call_cases.specs.Commands.{Asking, Commands, MayLog, IsApart, AreSound}
-use Rattle.call_cases.specs.RunCommands.{IsWhole, end_status, work_status, commands}
+use Rattle.call_cases.specs.meaning.Work.{ToDo, runs}
+use Rattle.call_cases.specs.meaning.Answers.{IsEmpty}
+use Rattle.call_cases.specs.Answers.{unwritten}
+use Rattle.call_cases.specs.meaning.PlainText.{plain_ran}
+use Rattle.call_cases.specs.meaning.Recovering.{LawfulBy}
+use Rattle.call_cases.specs.meaning.Journals.{run_of, IsJournalOf, TakesRetired, TakesRetiredFor, retired_in, lines_before}
+use Rattle.call_cases.specs.meaning.Commands.{Asking, Commands, MayLog}
+use Rattle.call_cases.specs.Commands.{IsApart, AreSound}
+use Rattle.call_cases.specs.meaning.RunCommands.{IsWhole, end_status, work_status, commands}
 
 -- the status that a work calls for is one of a whole text
 end_whole : (e : End) → IsWhole (end_status e)

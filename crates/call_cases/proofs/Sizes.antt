@@ -4,11 +4,11 @@ use Rattle.std.proofs.lemmas.List.{length-append, take_all}
 use Rattle.gp_base.specs.declared.feed.Inputs.{Inputs}
 use Rattle.task_ast.specs.declared.tree.Head.{Head}
 use Rattle.task_ast.specs.declared.tree.Head.TheVariants.{LockHead, BarrierHead, RecHead, FeedHead}
-use Rattle.task_ast.specs.Names.{natural, records_of, cells_in}
+use Rattle.task_ast.specs.meaning.Names.{natural, records_of, cells_in}
 use Rattle.task_ast.specs.Inputs.{fields_of}
-use Rattle.batch_files.specs.Rows.{Broken, Row, rows_of, unless_broken, first_broken}
-use Rattle.batch_files.specs.Records.{cells_below, record_rule, value_at}
-use Rattle.call_cases.specs.InputFiles.{record_rows}
+use Rattle.batch_files.specs.meaning.Rows.{Broken, Row, rows_of, unless_broken, first_broken}
+use Rattle.batch_files.specs.meaning.Records.{cells_below, record_rule, value_at}
+use Rattle.call_cases.specs.meaning.InputFiles.{record_rows}
 use Rattle.call_cases.specs.inner.Loading.{Counts, Grows}
 
 below_length : (size n : ℕ) (rows : List Row) → length (cells_below size n rows) ≡ n

@@ -1,68 +1,15 @@
--- How the answer of a call, and what it wrote, stand to its case.
-use Rattle.std.specs.Prelude.{◌≡◌, ◌⊎◌, ◌++◌, ℕ, ◌<◌, List, [], Option, Result, OnOk, OnErr, IfOk, IfErr, length, take}
-use Rattle.std.specs.Io.KnownBytes.{Appends, Keeps}
-use Rattle.gp_base.specs.Sinks.{Rose, AppendsPrefix}
+-- How the parts of a call end: by what they wrote, and which status they answer.
+use Rattle.std.specs.Prelude.{◌≡◌, ◌⊎◌, ℕ, List, Option, Result, OnOk, OnErr, IfOk, IfErr}
 use Rattle.gp_base.specs.declared.sink.SinkFault.{SinkFault}
 use Rattle.gp_base.specs.declared.sink.SinkFault.TheVariants.{Failed}
 use Rattle.gp_base.specs.declared.sink.SinkFault.TheVariants as sink
 use Rattle.gp_base.specs.declared.journal.Journal.{Journal}
-use Rattle.call_cases.specs.Lines.{out_of_memory_line, write_fault_line}
-
--- what a call did to a sink: its bytes where it tells them, and its count of faults
-pub record Change : Type 0 where
-  pub written : Option (List ℕ)
-  pub written' : Option (List ℕ)
-  pub faults : ℕ
-  pub faults' : ℕ
-
-abbrev pub change_of : {S : Type 0} → (S → Option (List ℕ)) → (S → ℕ) → S → S → Change
-change_of written faults before after =
-    record { written = written before; written' = written after; faults = faults before; faults' = faults after }
+use Rattle.call_cases.specs.meaning.Lines.{out_of_memory_line, write_fault_line}
+use Rattle.call_cases.specs.meaning.Answers.{Change, Fails, IsEmpty, TakesAll, TakesPart, TakesStop}
 
 -- nothing was done to a sink with these bytes and this count
 abbrev pub unwritten : Option (List ℕ) → ℕ → Change
 unwritten written faults = record { written = written; written' = written; faults = faults; faults' = faults }
-
--- it took all these bytes, a prefix of them, or none
-abbrev pub TakesAll : Change → List ℕ → Type 0
-TakesAll change bytes = Appends change.written change.written' bytes
-
-abbrev pub TakesPart : Change → List ℕ → Type 0
-TakesPart change bytes = AppendsPrefix change.written change.written' bytes
-
-abbrev pub TakesNothing : Change → Type 0
-TakesNothing change = Keeps change.written change.written'
-
--- its count rose
-abbrev pub Fails : Change → Type 0
-Fails change = Rose change.faults change.faults'
-
--- a journal of no event
-abbrev pub IsEmpty : Journal → Type 0
-IsEmpty journal = (journal.events ≡ []) × (journal.restarts ≡ [])
-
--- the list of failed names grew
-abbrev pub Grew : List (List ℕ) → List (List ℕ) → Type 0
-Grew before now = length before < length now
-
--- The status is the due one. It yields to running out of memory, and to a fault of reading or of writing that was counted in this call.
-pub data Yields (due : ℕ) (shelf_failed sink_failed : Type 0) : ℕ → Type 0 where
-  due_status : Yields due shelf_failed sink_failed due
-  no_memory : Yields due shelf_failed sink_failed 1
-  read_fault : shelf_failed → Yields due shelf_failed sink_failed 7
-  write_fault : sink_failed → Yields due shelf_failed sink_failed 8
-
--- the line of status 1 or of status 8
-abbrev pub IsStopLine : List ℕ → Type 0
-IsStopLine line = (line ≡ out_of_memory_line) ⊎ (line ≡ write_fault_line)
-
--- it took a prefix of what comes first, and then a prefix of such a line
-pub record TakesStop (begun : List ℕ) (change : Change) : Type 0 where
-  pub first : ℕ
-  pub stop : List ℕ
-  pub is_stop : IsStopLine stop
-  pub second : ℕ
-  pub taken : TakesAll change (take first begun ++ take second stop)
 
 -- A line was written whole and the due status is answered. A fault of the sink makes it 8, and running out of memory 1;
 -- a prefix was then written.

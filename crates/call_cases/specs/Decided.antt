@@ -1,11 +1,11 @@
 -- What is known of the case of a call once its words and its program were read.
 use Rattle.std.specs.Prelude.{◌≡◌, ◌≤◌, List, ℕ, ◌∷◌, ◌++◌, true, Result, None, ⊤}
 use Rattle.std.specs.declared.result.Result.TheVariants.{Ok, Err}
-use Rattle.task_ast.specs.Tree.{Name, Program}
+use Rattle.task_ast.specs.meaning.Tree.{Name, Program}
 use Rattle.gp_base.specs.declared.limits.TheConstants.{MOST_WORKERS}
 use Rattle.task_ast.specs.View.{plain_program}
 use Rattle.task_ast.specs.Inputs.{AreInputsOf}
-use Rattle.task_parser.specs.Spelling.{Meaning, Means, Spells}
+use Rattle.task_parser.specs.meaning.Spelling.{Meaning, Means, Spells}
 use Rattle.task_parser.specs.declared.fault.LexFault.{LexFault}
 use Rattle.task_parser.specs.declared.fault.LexFault.TheVariants as lex
 use Rattle.task_parser.specs.declared.fault.ParseFault.{ParseFault}
@@ -20,11 +20,11 @@ use Rattle.command_line.specs.declared.asked.Asked.{Asked}
 use Rattle.call_cases.specs.declared.work.Request.{Request}
 use Rattle.call_cases.specs.declared.reading.Refusal.{Refusal}
 use Rattle.call_cases.specs.declared.reading.Refusal.TheVariants.{BadProgram as RefusedProgram, OutOfMemory}
-use Rattle.call_cases.specs.Work.{Files, ToDo, work_for, runs}
+use Rattle.call_cases.specs.meaning.Work.{Files, ToDo, work_for, runs}
 use Rattle.call_cases.specs.InputFiles.{names_for, named}
-use Rattle.call_cases.specs.RunCommands.{asking}
-use Rattle.call_cases.specs.Case.{Case, BadProgram, Go, program_case, meant_case}
-use Rattle.call_cases.specs.Lines.{lex_line, parse_line, check_line}
+use Rattle.call_cases.specs.meaning.RunCommands.{asking}
+use Rattle.call_cases.specs.meaning.Case.{Case, BadProgram, Go, program_case, meant_case}
+use Rattle.call_cases.specs.meaning.Lines.{lex_line, parse_line, check_line}
 
 -- the program of a request, what is to be done with it, and the files that were read for it
 abbrev pub program_in : Request → Program

@@ -2,15 +2,7 @@ pub mod Answers
 pub mod Case
 pub mod Commands
 pub mod Decided
-pub mod Headline
 pub mod InputFiles
-pub mod Journals
-pub mod Lines
-pub mod PlainText
-pub mod Recovering
 pub mod Refusals
-pub mod RunCommands
-pub mod SoakFiles
-pub mod Texts
-pub mod Work
 pub mod inner
+pub mod meaning

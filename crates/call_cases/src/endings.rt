@@ -1,8 +1,9 @@
 // How a call ends: its answer, and the line that tells why there is nothing to do.
 ghost use Rattle.std.specs.Prelude.{◌≡◌, ℕ, List, []};
-ghost use Rattle.call_cases.specs.Answers.{Change, IsEmpty, PutFor, RunEnds, StopsBy, change_of};
+ghost use Rattle.call_cases.specs.meaning.Answers.{Change, IsEmpty, change_of};
+ghost use Rattle.call_cases.specs.Answers.{PutFor, RunEnds, StopsBy};
 ghost use Rattle.call_cases.specs.Refusals.{RefusalEnds};
-ghost use Rattle.call_cases.specs.RunCommands.{end_status};
+ghost use Rattle.call_cases.specs.meaning.RunCommands.{end_status};
 
 use crate::lines::{OUT_OF_MEMORY, USAGE, WRITE_FAULT, end_with, read_fault_line};
 use crate::reading::Refusal;
@@ -37,8 +38,8 @@ pub fn end_status(end: End) -> u8
     }
 }
 
-/// Tells why there is nothing to do, and answers the status. It is 8 where the write of that line fails, and 1 where memory
-/// runs out.
+/// Tells why there is nothing to do, and answers the status. It is 8 where the write of that line fails, and 1 where
+/// memory runs out.
 pub fn refuse<E: Sink>(alloc: Global, refusal: Refusal, err: &mut E) -> u8
     ensures { RefusalEnds (change_of E.written E.faults err.old err.new) refusal result }
 {

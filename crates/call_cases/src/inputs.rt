@@ -1,12 +1,13 @@
 // Reads the files that a program names, in declared order.
 ghost use Rattle.std.specs.Prelude.{◌≡◌, ◌<◌, ◌≤◌, ◌+◌, ◌-◌, ◌^◌, [], ◌∷◌, ◌++◌, length, map, List, replicate, pos, IfOk, IfSome, OnOk};
 ghost use Rattle.gp_base.specs.declared.limits.TheConstants.{MOST_FEED_CELLS, MOST_FILE_BYTES};
-ghost use Rattle.gp_base.specs.Files.{bytes_of};
-ghost use Rattle.task_ast.specs.Tree.{Name};
-ghost use Rattle.task_ast.specs.Names.{natural};
+ghost use Rattle.gp_base.specs.meaning.Files.{bytes_of};
+ghost use Rattle.task_ast.specs.meaning.Tree.{Name};
+ghost use Rattle.task_ast.specs.meaning.Names.{natural};
 ghost use Rattle.task_ast.specs.Inputs.{fields_in};
-ghost use Rattle.call_cases.specs.Lines.{input_line, kind_number};
-ghost use Rattle.call_cases.specs.InputFiles.{nothing, room_after, named, by_file, by_record, record_rows, feed_rows, fault_rows, more_cells, more_feed, load_head, load_faults, load, names_in, file_names};
+ghost use Rattle.call_cases.specs.meaning.Lines.{input_line, kind_number};
+ghost use Rattle.call_cases.specs.meaning.InputFiles.{nothing, room_after, by_file, by_record, record_rows, feed_rows, fault_rows, more_cells, more_feed, load_head, load_faults, load};
+ghost use Rattle.call_cases.specs.InputFiles.{named, names_in, file_names};
 ghost use Rattle.call_cases.specs.Refusals.{IsInputRefused, IsUnread, ReadsAmong, AnswersFile};
 ghost use Rattle.call_cases.specs.inner.Loading.{RefusesFile, AnswersRows, IsReadable, AreReadable, seen, StepsTo, AnswersLoad, AnswersFaults, Grows, Counts};
 
@@ -61,8 +62,8 @@ fn unread(alloc: Global, name: &Name) -> Refusal
     }
 }
 
-/// The bytes of a file. The error is that it can't be read, that it is longer than a file may be (kind 6, row 0), or that
-/// memory is out.
+/// The bytes of a file. The error is that it can't be read, that it is longer than a file may be (kind 6, row 0), or
+/// that memory is out.
 pub fn read_file<H: Shelf>(alloc: Global, shelf: &mut H, name: &Name) -> Result<Text, Refusal>
     ensures kept { H.files shelf.new ≡ H.files shelf.old }
     ensures failed { ReadsAmong (name.now ∷ []) (H.failed shelf.old) (H.failed shelf.new) result }
@@ -272,7 +273,8 @@ fn load_head<H: Shelf>(
     }
 }
 
-/// Reads the files that these heads name, in declared order. The first that can't be read, or is refused, is the answer.
+/// Reads the files that these heads name, in declared order. The first that can't be read, or is refused, is the
+/// answer.
 pub fn read_inputs<H: Shelf>(
     alloc: Global,
     shelf: &mut H,

@@ -1,5 +1,5 @@
-//! What every call of the program shares: what its words ask for, the files that are read for that, the case that a call
-//! comes to, the lines that tell how it ended, and the record of what a call is promised to do.
+//! What every call of the program shares: what its words ask for, the files that are read for that, the case that a
+//! call comes to, the lines that tell how it ended, and the record of what a call is promised to do.
 #![tactic(auto)]
 
 mod cases;

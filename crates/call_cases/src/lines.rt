@@ -1,7 +1,8 @@
 // The lines on the error stream.
 ghost use Rattle.std.specs.Prelude.{◌≡◌, IfOk};
-ghost use Rattle.call_cases.specs.Lines.{fault_line, read_fault_line, input_line};
-ghost use Rattle.call_cases.specs.Answers.{LineEnds, change_of};
+ghost use Rattle.call_cases.specs.meaning.Lines.{fault_line, read_fault_line, input_line};
+ghost use Rattle.call_cases.specs.meaning.Answers.{change_of};
+ghost use Rattle.call_cases.specs.Answers.{LineEnds};
 
 use gp_base::{Name, Sink, SinkFault, put_all};
 use itoa::Buffer;

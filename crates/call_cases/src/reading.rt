@@ -2,19 +2,21 @@
 ghost use Rattle.std.specs.Prelude.{◌≡◌, ◌<◌, ◌≤◌, List, Some, None, IfOk, IfSome, length, true};
 ghost use Rattle.gp_base.specs.declared.limits.TheConstants.{MOST_PROGRAM_BYTES};
 ghost use Rattle.task_ast.specs.View.{plain_program};
-ghost use Rattle.task_ast.specs.Tree.{Name};
+ghost use Rattle.task_ast.specs.meaning.Tree.{Name};
 ghost use Rattle.task_ast.specs.Inputs.{AreInputsOf};
-ghost use Rattle.soak_batch.specs.Files.{soak_files};
-ghost use Rattle.command_line.specs.Words.{texts, asked_by, IsWithinLimits};
+ghost use Rattle.soak_batch.specs.meaning.Files.{soak_files};
+ghost use Rattle.command_line.specs.meaning.Words.{texts, asked_by};
+ghost use Rattle.command_line.specs.Words.{IsWithinLimits};
 ghost use Rattle.command_line.specs.declared.asked.Command.TheVariants as command;
-ghost use Rattle.call_cases.specs.Work.{runs, makes_files};
-ghost use Rattle.call_cases.specs.Headline.{ReadsNothing};
-ghost use Rattle.call_cases.specs.RunCommands.{MayRead, asking, commands};
-ghost use Rattle.call_cases.specs.Lines.{fault_line, number_of};
-ghost use Rattle.call_cases.specs.Case.{IsCaseOf, IsCase};
+ghost use Rattle.call_cases.specs.meaning.Work.{runs, makes_files};
+ghost use Rattle.call_cases.specs.meaning.Headline.{ReadsNothing};
+ghost use Rattle.call_cases.specs.meaning.RunCommands.{MayRead, asking, commands};
+ghost use Rattle.call_cases.specs.meaning.Lines.{fault_line, number_of};
+ghost use Rattle.call_cases.specs.meaning.Case.{IsCaseOf, IsCase};
 ghost use Rattle.lock_checker.specs.Accepted.{program_of};
 ghost use Rattle.call_cases.specs.inner.Loading.{AnswersLoad};
-ghost use Rattle.call_cases.specs.InputFiles.{names_for, supplied_for};
+ghost use Rattle.call_cases.specs.meaning.InputFiles.{supplied_for};
+ghost use Rattle.call_cases.specs.InputFiles.{names_for};
 ghost use Rattle.call_cases.specs.declared.reading.Refusal.TheVariants.{OutOfMemory};
 ghost use Rattle.call_cases.specs.Decided.{IsAcceptedIn, accepted_case, case_of, IsRefusedWith, RefusesLexing, RefusesParsing, RefusesChecking, MayRun};
 ghost use Rattle.call_cases.specs.Refusals.{AnswersCase, AnswersNoCommand, ReadsAmong, TouchesShelf};
@@ -191,8 +193,8 @@ fn request_of<H: Shelf>(
     })
 }
 
-/// What is asked, on the program that its file has, with the files that the program names, and that of the faults. The first
-/// refusal met is the answer.
+/// What is asked, on the program that its file has, with the files that the program names, and that of the faults. The
+/// first refusal met is the answer.
 pub fn read_asked<H: Shelf>(alloc: Global, asked: Asked, shelf: &mut H) -> Result<Request, Refusal>
     requires { IsWithinLimits asked }
     ensures kept { H.files shelf.new ≡ H.files shelf.old }
@@ -213,7 +215,8 @@ pub fn read_asked<H: Shelf>(alloc: Global, asked: Asked, shelf: &mut H) -> Resul
     }
 }
 
-// What is asked, over the files that the program makes itself. All files of it are there, so none of them can fail to be read.
+// What is asked, over the files that the program makes itself. All files of it are there, so none of them can fail to
+// be read.
 fn read_made(alloc: Global, asked: Asked, soak: Soak) -> Result<Request, Refusal>
     requires within { IsWithinLimits asked }
     requires made { asked.command ≡ command.Soak soak }
@@ -230,7 +233,8 @@ fn read_made(alloc: Global, asked: Asked, soak: Soak) -> Result<Request, Refusal
     }
 }
 
-/// What is asked, over the files of the shelf, or over those that the program makes itself. The first refusal met is the answer.
+/// What is asked, over the files of the shelf, or over those that the program makes itself. The first refusal met is
+/// the answer.
 pub fn read_for<H: Shelf>(alloc: Global, asked: Asked, shelf: &mut H) -> Result<Request, Refusal>
     requires { IsWithinLimits asked }
     ensures unread { makes_files asked.command ≡ true → shelf.new ≡ shelf.old }
@@ -245,8 +249,8 @@ pub fn read_for<H: Shelf>(alloc: Global, asked: Asked, shelf: &mut H) -> Result<
     read_asked(alloc, asked, shelf)
 }
 
-/// What the words ask for, with the program that they name and the files that the program names, or with the files that the
-/// program makes itself. The first refusal met is the answer.
+/// What the words ask for, with the program that they name and the files that the program names, or with the files that
+/// the program makes itself. The first refusal met is the answer.
 pub fn read_request<H: Shelf>(
     alloc: Global,
     words: &[String],

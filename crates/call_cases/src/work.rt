@@ -1,6 +1,6 @@
 // What a call is to do.
 ghost use Rattle.std.specs.Prelude.{◌≡◌};
-ghost use Rattle.call_cases.specs.Work.{runs};
+ghost use Rattle.call_cases.specs.meaning.Work.{runs};
 
 use command_line::{Asked, Command};
 use gp_base::{Faults, Inputs};

@@ -43,8 +43,8 @@ fn gives<R: Threads + Sync + AllocGlobal>(
     Ok(tells(&answer, status, output, error))
 }
 
-// A run that a fault strikes, with a checkpoint after each so many subthreads: what is told up to the rollbacks, these, and how
-// many subthreads there were, rollbacks, subthreads that were redone, and faults that struck nothing.
+// A run that a fault strikes, with a checkpoint after each so many subthreads: what is told up to the rollbacks, these,
+// and how many subthreads there were, rollbacks, subthreads that were redone, and faults that struck nothing.
 #[derive(Clone, Copy)]
 struct Row {
     every: u32,
@@ -179,7 +179,8 @@ fn devices_that_fail(rt: HostRuntime) -> Result<(), Fail> {
     Ok(())
 }
 
-// The run of the batch of transfers with its 40 faults, by checkpoints, and that on one thread have the same lines and records.
+// The run of the batch of transfers with its 40 faults, by checkpoints, and that on one thread have the same lines and
+// records.
 fn keeps_records<R: Threads + Sync + AllocGlobal>(
     rt: &R,
     options: &str,

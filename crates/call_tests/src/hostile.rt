@@ -1,5 +1,5 @@
-// Hostile use: texts that are cut off, devices that fail at each of their calls, files that are refused, and schedules. The fault
-// strikes the first of the two threads that add to one total.
+// Hostile use: texts that are cut off, devices that fail at each of their calls, files that are refused, and schedules.
+// The fault strikes the first of the two threads that add to one total.
 
 use crate::calls::{ADD, Devices, EMPTY, Files, PRINTS, SOUND, USAGE, alone, answer_of, gives};
 use crate::rows::answer_over_batch;
@@ -86,8 +86,8 @@ fn holds(sink: &MemSink, text: &[u8], taken: Option<usize>) -> bool {
     written.len() == taken.unwrap_or(text.len()) && text.starts_with(written)
 }
 
-// A run, its text, and how many bytes of that are printed lines. They stand after the seven of the first line, and each of
-// the three parts is offered by itself.
+// A run, its text, and how many bytes of that are printed lines. They stand after the seven of the first line, and each
+// of the three parts is offered by itself.
 #[derive(Clone, Copy)]
 struct Run<'a> {
     words: &'a str,
@@ -356,7 +356,8 @@ fn files_of_faults(rt: HostRuntime) -> Result<(), Fail> {
     Ok(())
 }
 
-// The order in which the tasks that are out come back, each number modulo how many they are. After the last number the oldest comes first.
+// The order in which the tasks that are out come back, each number modulo how many they are. After the last number the
+// oldest comes first.
 const OLDEST: &[i64] = &[];
 
 // The first draws from 1 of the batch that the program makes, reckoned apart.

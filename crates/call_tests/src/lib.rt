@@ -1,5 +1,5 @@
-//! Tests of the top calls: the worked examples, devices that fail at each of their calls, runs that faults strike, also by
-//! checkpoints, logs of runs, runs that go on from them, and audits of their traces.
+//! Tests of the top calls: the worked examples, devices that fail at each of their calls, runs that faults strike, also
+//! by checkpoints, logs of runs, runs that go on from them, and audits of their traces.
 #![tactic(auto)]
 
 #[cfg(test)]

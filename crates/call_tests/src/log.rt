@@ -190,8 +190,8 @@ fn a_program_that_is_not_read(rt: HostRuntime) -> Result<(), Fail> {
     Ok(())
 }
 
-// Each piece of the text is one call of the output. Where one fails, the log has the rows of the positions before it, and no line
-// of that.
+// Each piece of the text is one call of the output. Where one fails, the log has the rows of the positions before it,
+// and no line of that.
 #[test]
 fn an_output_that_fails(rt: HostRuntime) -> Result<(), Fail> {
     for pieces in 0usize..6 {

@@ -1,5 +1,5 @@
-// The call that goes on from a log: worked examples, logs that are refused, and runs that were stopped. The texts were reckoned by
-// hand from the rules of the order.
+// The call that goes on from a log: worked examples, logs that are refused, and runs that were stopped. The texts were
+// reckoned by hand from the rules of the order.
 
 use crate::answers::{Answer, answered, tells};
 use crate::audits::shelf_with;
@@ -80,8 +80,8 @@ fn goes_on_from_rows(rt: HostRuntime) -> Result<(), Fail> {
     Ok(())
 }
 
-// Another form, and then rows that do not fit: a later position, a register more, a child without a fork, a cell without its lock, the
-// bytes, a position behind the end; the first row that is refused is told.
+// Another form, and then rows that do not fit: a later position, a register more, a child without a fork, a cell
+// without its lock, the bytes, a position behind the end; the first row that is refused is told.
 #[test]
 fn logs_that_are_refused(rt: HostRuntime) -> Result<(), Fail> {
     let behind = format!(in rt.alloc(); "{ADD_LOG}11 7 ; 0 ; ;\n")?;
@@ -155,8 +155,8 @@ fn what_was_not_written_is_written(rt: HostRuntime) -> Result<(), Fail> {
     Ok(())
 }
 
-// The run of `ADD` that a fault strikes, whose output fails at this call, is stopped by that, and what it wrote and what goes on from its
-// log is the text of one thread.
+// The run of `ADD` that a fault strikes, whose output fails at this call, is stopped by that, and what it wrote and
+// what goes on from its log is the text of one thread.
 fn is_joined<R: Threads + Sync + AllocGlobal>(rt: &R, fails: u64) -> Result<bool, AllocError> {
     let alloc = rt.alloc();
     let files = Files {

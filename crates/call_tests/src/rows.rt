@@ -92,7 +92,8 @@ fn rows_as_they_are_written(rt: HostRuntime) -> Result<(), Fail> {
     Ok(())
 }
 
-/// What the words come to over the files of the batch of 2,000 moves that are drawn from 1, where this read of them fails.
+/// What the words come to over the files of the batch of 2,000 moves that are drawn from 1, where this read of them
+/// fails.
 pub fn answer_over_batch<R: Threads + Sync + AllocGlobal>(
     rt: &R,
     words: &str,

@@ -84,8 +84,8 @@ fn reported(ran: Result<Report, EngineStop>, out: &MemSink) -> Result<Report, Fa
     }
 }
 
-/// The report of the run that these faults strike, by a crew that hands its tasks back in the order of these numbers. It
-/// writes nothing.
+/// The report of the run that these faults strike, by a crew that hands its tasks back in the order of these numbers.
+/// It writes nothing.
 pub fn ran_in_order<R: Threads + Sync + AllocGlobal>(
     rt: &R,
     faults: &str,

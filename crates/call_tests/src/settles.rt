@@ -1,5 +1,5 @@
-// Batches in which data becomes control: each settle is issued once all before it have retired, whoever runs the batch. Orders and restarts were
-// reckoned by hand from the rules of the order and of dependence.
+// Batches in which data becomes control: each settle is issued once all before it have retired, whoever runs the batch.
+// Orders and restarts were reckoned by hand from the rules of the order and of dependence.
 
 use crate::calls::{ADD, Files, SOUND, alone, answer_of, gives};
 use crate::struck::CREWS;
@@ -79,8 +79,9 @@ task other() { var n, $x; $x = 5; barrier meet; settle $x into n; print n; }
 task main() { var n, $x; fork other(); $x = 6; barrier meet; settle $x into n; print n; }
 ";
 
-// A batch that settles, and what it comes to: its options, its file of faults, the status, what is told up to the restarts, these, and how many subthreads
-// there were, restarts, subthreads that were redone, and faults that struck nothing.
+// A batch that settles, and what it comes to: its options, its file of faults, the status, what is told up to the
+// restarts, these, and how many subthreads there were, restarts, subthreads that were redone, and faults that struck
+// nothing.
 #[derive(Clone, Copy)]
 struct Row {
     options: &'static str,

@@ -159,7 +159,8 @@ fn faults_redo_their_dependents(rt: HostRuntime) -> Result<(), Fail> {
     Ok(())
 }
 
-// A fault redoes what named the record of the position that it strikes, and not what held the same lock, which would be 43 positions.
+// A fault redoes what named the record of the position that it strikes, and not what held the same lock, which would be
+// 43 positions.
 #[test]
 fn a_lock_over_ten_records_redoes_those_of_one(rt: HostRuntime) -> Result<(), Fail> {
     let program = ten_records(rt.alloc())?;
@@ -240,7 +241,8 @@ fn a_batch_of_transfers_keeps_its_sum(rt: HostRuntime) -> Result<(), Fail> {
     Ok(())
 }
 
-// A gate that holds the first task of positions 2 and 3 until the second has entered, or until it has looked often enough.
+// A gate that holds the first task of positions 2 and 3 until the second has entered, or until it has looked often
+// enough.
 #[derive(Drop)]
 struct Meeting {
     entered: AtomicU64,

@@ -3,8 +3,9 @@ use Rattle.std.proofs.Common.{◌≡◌, ◌∙◌, ◌≤◌, ap, refl, sym, ar
 use Rattle.std.specs.declared.alloc.Global.{Global}
 use Rattle.clap.specs.Words.{App, Kinds, Row, Text, fault_of, is_simple_and_free, matches_of, rows_of, found_of}
 use Rattle.clap.specs.declared.parser.matches.ArgMatches.{ArgMatches}
-use Rattle.command_line.specs.Arguments.{IsParsedAs, is_faultless}
-use Rattle.command_line.specs.Words.{texts, named_verb, app_for, asked_in, asked_of, asked_among}
+use Rattle.command_line.specs.meaning.Arguments.{is_faultless}
+use Rattle.command_line.specs.Arguments.{IsParsedAs}
+use Rattle.command_line.specs.meaning.Words.{texts, named_verb, app_for, asked_in, asked_of, asked_among}
 use Rattle.command_line.specs.declared.asked.Verb.{Verb}
 use Rattle.command_line.specs.declared.asked.Verb.TheVariants.{Run, One, Check, Soak}
 

@@ -5,10 +5,10 @@ use Rattle.std.specs.Str.{bytes_eq}
 use Rattle.std.specs.declared.option.Option.{Option}
 use Rattle.std.specs.declared.option.Option.TheVariants.{None, Some}
 use Rattle.clap.specs.Words.{Text, fault_of, matches_of}
-use Rattle.command_line.specs.Arguments.{is_faultless}
-use Rattle.command_line.specs.Words.{asked_in, asked_among}
-use Rattle.command_line.specs.CkptWords.{for_ckpt, every_in, ckpt_with, ckpt_by}
-use Rattle.command_line.specs.LogWords.{for_log, steals, log_with, log_by}
+use Rattle.command_line.specs.meaning.Arguments.{is_faultless}
+use Rattle.command_line.specs.meaning.Words.{asked_in, asked_among}
+use Rattle.command_line.specs.meaning.CkptWords.{for_ckpt, every_in, ckpt_with, ckpt_by}
+use Rattle.command_line.specs.meaning.LogWords.{for_log, steals, log_with, log_by}
 use Rattle.command_line.specs.declared.asked.Asked.{Asked}
 use Rattle.command_line.specs.declared.asked.Command.{Command}
 use Rattle.command_line.specs.declared.asked.Command.TheVariants.{Log}

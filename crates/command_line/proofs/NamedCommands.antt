@@ -5,8 +5,8 @@ use Rattle.std.specs.declared.option.Option.{Option}
 use Rattle.std.specs.declared.option.Option.TheVariants.{None, Some}
 use Rattle.clap.specs.Words.{Row, Text, fault_of, matches_of}
 use Rattle.gp_base.specs.declared.limits.Limits.{Limits}
-use Rattle.command_line.specs.Arguments.{is_faultless, text_of}
-use Rattle.command_line.specs.Words.{named_verb, app_for, soak_in, command_in, program_in, faults_in, limits_in, crew_in, workers_in, asked_with, asked_in, asked_of, asked_among}
+use Rattle.command_line.specs.meaning.Arguments.{is_faultless, text_of}
+use Rattle.command_line.specs.meaning.Words.{named_verb, app_for, soak_in, command_in, program_in, faults_in, limits_in, crew_in, workers_in, asked_with, asked_in, asked_of, asked_among}
 use Rattle.command_line.specs.declared.asked.Soak.{Soak}
 use Rattle.command_line.specs.declared.asked.CrewKind.{CrewKind}
 use Rattle.command_line.specs.declared.asked.Command.{Command}

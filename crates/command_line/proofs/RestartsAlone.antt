@@ -2,7 +2,7 @@
 use Rattle.std.proofs.Common.{false, List, IfSome}
 use Rattle.std.specs.Prelude.{⊤}
 use Rattle.clap.specs.Words.{Text}
-use Rattle.command_line.specs.Words.{asked_by}
+use Rattle.command_line.specs.meaning.Words.{asked_by}
 use Rattle.command_line.specs.declared.asked.Command.{Command}
 use Rattle.command_line.specs.declared.asked.Command.TheVariants.{Ckpt}
 use Rattle.command_line.proofs.NamedCommands.{named_command}

@@ -1,7 +1,8 @@
 // The arguments of a command, one parse by it, and the values that the parse found.
 ghost use Rattle.std.specs.Prelude.{◌≡◌, ◌≤◌, false, true, map, option_map, string_bytes, IfOk, IfSome};
 ghost use Rattle.clap.specs.Words.{app_of, found_of, is_simple_and_free, rows_of, rule_of};
-ghost use Rattle.command_line.specs.Arguments.{IsParsedAs, option_of, flag_of, is_on, positional, number_of, number_or, text_of};
+ghost use Rattle.command_line.specs.meaning.Arguments.{option_of, flag_of, is_on, positional, number_of, number_or, text_of};
+ghost use Rattle.command_line.specs.Arguments.{IsParsedAs};
 
 use crate::number::number_in;
 use clap::error::ErrorKind;

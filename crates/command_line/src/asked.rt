@@ -2,7 +2,8 @@
 ghost use Rattle.std.specs.Prelude.{◌≡◌, ◌<◌, ◌≤◌, IfOk, IfSome, option_map};
 ghost use Rattle.gp_base.specs.declared.limits.TheConstants.{MOST_WORKERS, MOST_SUBTHREADS, LEAST_MOVES, MOST_MOVES};
 ghost use Rattle.clap.specs.Words.{app_of, found_of, rows_of};
-ghost use Rattle.command_line.specs.Words.{texts, named_verb, named_crew, app_for, on_program, with_limits, with_crew, for_run, for_soak, asked_among, asked_by, asked_in, asked_of, asked_waiting, command_in, crew_in, soak_in, limits_in, program_in, faults_in, is_pipe, wants_pipe, IsWithinRanges, IsWithinLimits};
+ghost use Rattle.command_line.specs.meaning.Words.{texts, named_verb, named_crew, app_for, on_program, with_limits, with_crew, for_run, for_soak, asked_among, asked_by, asked_in, asked_of, asked_waiting, command_in, crew_in, soak_in, limits_in, program_in, faults_in, is_pipe, wants_pipe};
+ghost use Rattle.command_line.specs.Words.{IsWithinRanges, IsWithinLimits};
 
 use crate::arguments::{
     flag, found_number, found_text, is_given, option, option_number, positional, taken,
@@ -22,9 +23,9 @@ pub struct Soak {
     pub start: u64,
 }
 
-/// What is to be done: that a program is run; that it is run on one thread, without faults; that it is checked alone; that
-/// a batch is made and run; that a program is run by checkpoints, one after each so many subthreads; or that it is run, and a
-/// log is kept of what retires.
+/// What is to be done: that a program is run; that it is run on one thread, without faults; that it is checked alone;
+/// that a batch is made and run; that a program is run by checkpoints, one after each so many subthreads; or that it is
+/// run, and a log is kept of what retires.
 #[derive(Clone, Copy, PartialEq, Eq)]
 pub enum Command {
     Run,
@@ -35,8 +36,8 @@ pub enum Command {
     Log,
 }
 
-/// Who carries out the subthreads of a run: the calling thread, one after another; workers that share a wave of them out
-/// beforehand, that draw from a board, or that steal from one another; or lasting workers that wait for boards.
+/// Who carries out the subthreads of a run: the calling thread, one after another; workers that share a wave of them
+/// out beforehand, that draw from a board, or that steal from one another; or lasting workers that wait for boards.
 #[derive(Clone, Copy, PartialEq, Eq)]
 pub enum CrewKind {
     One,
@@ -46,8 +47,8 @@ pub enum CrewKind {
     Pipe,
 }
 
-/// What words ask for: a command, on the program of this file, with the faults of that one, under these limits, by such a
-/// crew of so many workers, and whether the run is traced. A batch that the program makes has these files in itself.
+/// What words ask for: a command, on the program of this file, with the faults of that one, under these limits, by such
+/// a crew of so many workers, and whether the run is traced. A batch that the program makes has these files in itself.
 #[derive(Drop)]
 pub struct Asked {
     pub command: Command,
@@ -295,8 +296,9 @@ pub fn asked_in(
     }))
 }
 
-/// What words ask for that stand behind the word of a command, or none where it does not take them. The first word is any that
-/// stands for the command, and `waits` tells whether lasting workers are a crew of it. The error is that memory is out.
+/// What words ask for that stand behind the word of a command, or none where it does not take them. The first word is
+/// any that stands for the command, and `waits` tells whether lasting workers are a crew of it. The error is that
+/// memory is out.
 pub fn asked_of(
     alloc: Global,
     waits: bool,
@@ -328,8 +330,8 @@ fn read_among(alloc: Global, waits: bool, words: &[String]) -> Result<Option<Ask
 }
 
 /// What the words ask for, or none where they are those of no command: the first word names none, the command does not
-/// take the others, a number is outside its range, or a crew's word names none. `words` are those after the program's own
-/// name. Lasting workers, which wait, are no crew here.
+/// take the others, a number is outside its range, or a crew's word names none. `words` are those after the program's
+/// own name. Lasting workers, which wait, are no crew here.
 pub fn read_words(alloc: Global, words: &[String]) -> Result<Option<Asked>, AllocError>
     ensures asked { IfOk result (λ asked. asked ≡ asked_by (texts words.now)) }
     ensures within { IfOk result (λ asked. IfSome asked IsWithinLimits) }
@@ -345,8 +347,8 @@ pub fn read_waiting_words(alloc: Global, words: &[String]) -> Result<Option<Aske
     read_among(alloc, true, words)
 }
 
-/// Whether the words are those of a command with the crew `pipe`, for which a call is needed that may wait. The error is
-/// that memory is out.
+/// Whether the words are those of a command with the crew `pipe`, for which a call is needed that may wait. The error
+/// is that memory is out.
 pub fn wants_pipe(alloc: Global, words: &[String]) -> Result<bool, AllocError>
     ensures { IfOk result (λ wants. wants ≡ wants_pipe (texts words.now)) }
 {

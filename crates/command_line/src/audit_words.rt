@@ -1,8 +1,9 @@
 // The words of `audit`: whose run is audited, and by which trace.
 ghost use Rattle.std.specs.Prelude.{◌≡◌, IfOk, IfSome};
 ghost use Rattle.clap.specs.Words.{app_of, found_of, rows_of};
-ghost use Rattle.command_line.specs.Words.{texts, IsWithinLimits};
-ghost use Rattle.command_line.specs.AuditWords.{for_audit, audited_in, audited_of, audited_by};
+ghost use Rattle.command_line.specs.meaning.Words.{texts};
+ghost use Rattle.command_line.specs.Words.{IsWithinLimits};
+ghost use Rattle.command_line.specs.meaning.AuditWords.{for_audit, audited_in, audited_of, audited_by};
 
 use crate::arguments::{found_text, option, positional, taken};
 use crate::asked::{Asked, Verb, asked_in, on_program, with_limits};
@@ -10,8 +11,8 @@ use clap::ArgMatches;
 use gp_base::Name;
 use std::alloc::{AllocError, Global};
 
-/// What words ask to be audited: the run that is said to have been, as `run` asks for it by the default crew and untraced, and
-/// the file of its trace.
+/// What words ask to be audited: the run that is said to have been, as `run` asks for it by the default crew and
+/// untraced, and the file of its trace.
 #[derive(Drop)]
 pub struct Audited {
     pub run: Asked,
@@ -59,8 +60,8 @@ fn audited_of(alloc: Global, words: &[String]) -> Result<Option<Audited>, AllocE
     }
 }
 
-/// What the words ask to be audited, or none where they are not those of `audit`: the first word is another, the command does
-/// not take the others, or a number is outside its range. `words` are those after the program's own name.
+/// What the words ask to be audited, or none where they are not those of `audit`: the first word is another, the
+/// command does not take the others, or a number is outside its range. `words` are those after the program's own name.
 pub fn read_audit_words(alloc: Global, words: &[String]) -> Result<Option<Audited>, AllocError>
     ensures audited { IfOk result (λ audited. audited ≡ audited_by (texts words.now)) }
     ensures within { IfOk result (λ audited. IfSome audited (λ a. IsWithinLimits a.run)) }

@@ -1,8 +1,9 @@
 // The words of `ckpt`: a run by checkpoints.
 ghost use Rattle.std.specs.Prelude.{◌≡◌, ◌≤◌, IfOk, IfSome};
 ghost use Rattle.clap.specs.Words.{app_of, found_of, rows_of};
-ghost use Rattle.command_line.specs.Words.{texts, IsWithinLimits};
-ghost use Rattle.command_line.specs.CkptWords.{for_ckpt, every_in, ckpt_in, ckpt_of, ckpt_by};
+ghost use Rattle.command_line.specs.meaning.Words.{texts};
+ghost use Rattle.command_line.specs.Words.{IsWithinLimits};
+ghost use Rattle.command_line.specs.meaning.CkptWords.{for_ckpt, every_in, ckpt_in, ckpt_of, ckpt_by};
 ghost use Rattle.command_line.specs.declared.ckpt_words.TheConstants.{LEAST_EVERY, MOST_EVERY};
 
 use crate::arguments::{option, option_number, taken};
@@ -72,8 +73,9 @@ fn ckpt_of(alloc: Global, words: &[String]) -> Result<Option<Asked>, AllocError>
     }
 }
 
-/// What the words ask for, or none where they are not those of `ckpt`: the first word is another, the command does not take the
-/// others, a number is outside its range, or a crew's word names none. `words` are those after the program's own name.
+/// What the words ask for, or none where they are not those of `ckpt`: the first word is another, the command does not
+/// take the others, a number is outside its range, or a crew's word names none. `words` are those after the program's
+/// own name.
 pub fn read_ckpt_words(alloc: Global, words: &[String]) -> Result<Option<Asked>, AllocError>
     ensures asked { IfOk result (λ asked. asked ≡ ckpt_by (texts words.now)) }
     ensures within { IfOk result (λ asked. IfSome asked IsWithinLimits) }

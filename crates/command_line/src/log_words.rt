@@ -1,8 +1,9 @@
 // The words of `log`: a run that keeps a log of what retires.
 ghost use Rattle.std.specs.Prelude.{◌≡◌, IfOk, IfSome};
 ghost use Rattle.clap.specs.Words.{app_of, found_of, rows_of};
-ghost use Rattle.command_line.specs.Words.{texts, IsWithinLimits};
-ghost use Rattle.command_line.specs.LogWords.{for_log, steals, log_in, log_of, log_by};
+ghost use Rattle.command_line.specs.meaning.Words.{texts};
+ghost use Rattle.command_line.specs.Words.{IsWithinLimits};
+ghost use Rattle.command_line.specs.meaning.LogWords.{for_log, steals, log_in, log_of, log_by};
 
 use crate::arguments::{option, taken};
 use crate::asked::{Asked, Command, CrewKind, Verb, asked_in, on_program, with_crew, with_limits};
@@ -27,7 +28,8 @@ fn steals(crew: CrewKind) -> bool
     crew == CrewKind::Steal
 }
 
-// What the matches of the command ask for, or none where a value is not one of its option, or no log is kept under the crew.
+// What the matches of the command ask for, or none where a value is not one of its option, or no log is kept under the
+// crew.
 fn log_in(alloc: Global, matches: &ArgMatches<'_>) -> Result<Option<Asked>, AllocError>
     ensures asked { IfOk result (λ asked. asked ≡ log_in (rows_of (found_of matches.now))) }
     ensures within { IfOk result (λ asked. IfSome asked IsWithinLimits) }
@@ -57,9 +59,9 @@ fn log_of(alloc: Global, words: &[String]) -> Result<Option<Asked>, AllocError>
     }
 }
 
-/// What the words ask for, or none where they are not those of `log`: the first word is another, the command does not take the
-/// others, a number is outside its range, a crew's word names none, or its workers steal from one another. `words` are those after
-/// the program's own name. The error is that memory is out.
+/// What the words ask for, or none where they are not those of `log`: the first word is another, the command does not
+/// take the others, a number is outside its range, a crew's word names none, or its workers steal from one another.
+/// `words` are those after the program's own name. The error is that memory is out.
 pub fn read_log_words(alloc: Global, words: &[String]) -> Result<Option<Asked>, AllocError>
     ensures asked { IfOk result (λ asked. asked ≡ log_by (texts words.now)) }
     ensures within { IfOk result (λ asked. IfSome asked IsWithinLimits) }

@@ -1,6 +1,6 @@
 // Decimal numbers.
 ghost use Rattle.std.specs.Prelude.{◌≡◌, ◌≤◌, ◌==◌, slice_index, IfSome};
-ghost use Rattle.command_line.specs.Numbers.{number_in};
+ghost use Rattle.command_line.specs.meaning.Numbers.{number_in};
 
 /// The value of a text that is one or more digits, where it lies within these limits.
 pub fn number_in(low: u64, high: u64, text: &str) -> Option<u64>

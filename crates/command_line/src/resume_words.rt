@@ -1,8 +1,9 @@
 // The words of `resume`: which run goes on, and from which log.
 ghost use Rattle.std.specs.Prelude.{◌≡◌, IfOk, IfSome};
 ghost use Rattle.clap.specs.Words.{app_of, found_of, rows_of};
-ghost use Rattle.command_line.specs.Words.{texts, IsWithinLimits};
-ghost use Rattle.command_line.specs.ResumeWords.{for_resume, resumed_in, resumed_of, resumed_by};
+ghost use Rattle.command_line.specs.meaning.Words.{texts};
+ghost use Rattle.command_line.specs.Words.{IsWithinLimits};
+ghost use Rattle.command_line.specs.meaning.ResumeWords.{for_resume, resumed_in, resumed_of, resumed_by};
 
 use crate::arguments::{found_text, positional, taken};
 use crate::asked::{Asked, Verb, asked_in, on_program, with_limits};
@@ -56,9 +57,9 @@ fn resumed_of(alloc: Global, words: &[String]) -> Result<Option<Resumed>, AllocE
     }
 }
 
-/// What the words ask to be gone on with, or none where they are not those of `resume`: the first word is another, the command
-/// does not take the others, or a number is outside its range. `words` are those after the program's own name. The error is that
-/// memory is out.
+/// What the words ask to be gone on with, or none where they are not those of `resume`: the first word is another, the
+/// command does not take the others, or a number is outside its range. `words` are those after the program's own name.
+/// The error is that memory is out.
 pub fn read_resume_words(alloc: Global, words: &[String]) -> Result<Option<Resumed>, AllocError>
     ensures resumed { IfOk result (λ resumed. resumed ≡ resumed_by (texts words.now)) }
     ensures within { IfOk result (λ resumed. IfSome resumed (λ r. IsWithinLimits r.run)) }

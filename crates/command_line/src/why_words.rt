@@ -1,8 +1,9 @@
 // The words of `why`: which position of which run.
 ghost use Rattle.std.specs.Prelude.{◌≡◌, IfOk, IfSome};
 ghost use Rattle.clap.specs.Words.{app_of, found_of, rows_of};
-ghost use Rattle.command_line.specs.Words.{texts, IsWithinLimits};
-ghost use Rattle.command_line.specs.WhyWords.{for_why, position_in, sought_in, sought_of, sought_by};
+ghost use Rattle.command_line.specs.meaning.Words.{texts};
+ghost use Rattle.command_line.specs.Words.{IsWithinLimits};
+ghost use Rattle.command_line.specs.meaning.WhyWords.{for_why, position_in, sought_in, sought_of, sought_by};
 
 use crate::arguments::{found_number, option, positional, taken};
 use crate::asked::{Asked, Verb, asked_in, on_program, with_limits};
@@ -62,8 +63,8 @@ fn sought_of(alloc: Global, words: &[String]) -> Result<Option<Sought>, AllocErr
     }
 }
 
-/// What the words ask to be told why, or none where they are not those of `why`: the first word is another, the command does
-/// not take the others, or a number is outside its range. `words` are those after the program's own name.
+/// What the words ask to be told why, or none where they are not those of `why`: the first word is another, the command
+/// does not take the others, or a number is outside its range. `words` are those after the program's own name.
 pub fn read_why_words(alloc: Global, words: &[String]) -> Result<Option<Sought>, AllocError>
     ensures sought { IfOk result (λ sought. sought ≡ sought_by (texts words.now)) }
     ensures within { IfOk result (λ sought. IfSome sought (λ s. IsWithinLimits s.run)) }

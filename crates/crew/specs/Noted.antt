@@ -1,25 +1,7 @@
--- What notes are taken of: what the subthreads of the plain run leave, and what a run with threads tells of it.
-use Rattle.std.specs.Prelude.{◌≡◌, ℕ, suc, List, [], ◌∷◌, ◌++◌, Option, Some, None, nat_eq, cond, length}
-use Rattle.gp_base.specs.declared.limits.Limits.{Limits}
-use Rattle.gp_base.specs.declared.feed.Inputs.{Inputs}
+-- What a run with threads tells of itself to those who take notes.
+use Rattle.std.specs.Prelude.{◌≡◌, ℕ, List, [], ◌∷◌, ◌++◌, Option, Some, nat_eq, cond, length}
 use Rattle.task_ast.specs.declared.effect.Effect.{Effect}
-use Rattle.task_ast.specs.Tree.{Program}
-use Rattle.task_ast.specs.Effect.{effect}
-use Rattle.task_ast.specs.Plain.{Subthread, order}
-use Rattle.task_ast.specs.Position.{before}
-
-module _ (program : Program) (inputs : Inputs) (limits : Limits) where
-  -- what a subthread leaves that stands at this position of the plain run
-  abbrev pub left_at : ℕ → Subthread → Effect
-  left_at p s = effect s.thread s.begins.sync s.child s.actions (before program inputs limits p).state
-
-  abbrev pub left_from : ℕ → List Subthread → List Effect
-  left_from p [] = []
-  left_from p (s ∷ rest) = left_at p s ∷ left_from (suc p) rest
-
-  -- what each subthread of the plain run leaves, in order
-  abbrev pub left_in_order : List Effect
-  left_in_order = left_from 0 (order program inputs limits)
+use Rattle.task_ast.specs.meaning.Position.{before}
 
 -- what notes tell: the known bytes of the log as it began and as it is, what the last result of each position left that
 -- was noted, and what the positions left that have retired, in order from the first

@@ -16,14 +16,15 @@ const UNSEEN: u64 = 0;
 const NEW_STEPS: u64 = 1_000_000;
 
 // How many control steps make up for one more thread. A step takes about 35 ns, so these take about a millisecond.
-// Measured on four processors: where they were idle, threads that are started and joined made up for themselves from 0.1 ms of
-// work on. Where other programs kept them busy, tasks that were shared out took 2 to 4 ms however light they were, and
-// gained from 10 ms on. This number lies between: it forgoes little on an idle machine, and loses little on a busy one.
+// Measured on four processors: where they were idle, threads that are started and joined made up for themselves from
+// 0.1 ms of work on. Where other programs kept them busy, tasks that were shared out took 2 to 4 ms however light they
+// were, and gained from 10 ms on. This number lies between: it forgoes little on an idle machine, and loses little on a
+// busy one.
 const THREAD_STEPS: u64 = 30_000;
 
 /// How many control steps the runs make that go on from each place of a program, as a mean in which the last ones count
-/// most. All workers of a batch share it. They read and write it in no order, so it says something else in each run; nothing
-/// hangs on it but how tasks are shared out.
+/// most. All workers of a batch share it. They read and write it in no order, so it says something else in each run;
+/// nothing hangs on it but how tasks are shared out.
 #[derive(Drop)]
 pub struct MeanSteps {
     by_place: Vec<Vec<AtomicU64>>,
@@ -61,8 +62,8 @@ fn all_places(alloc: Global, code: &Code) -> Result<Vec<Vec<AtomicU64>>, AllocEr
     Ok(by_place)
 }
 
-/// How many workers tasks are worth that make so many steps together, of which the longest makes so many: one, and another
-/// for each thread's worth of steps beside those of the longest, which is the most that sharing can save.
+/// How many workers tasks are worth that make so many steps together, of which the longest makes so many: one, and
+/// another for each thread's worth of steps beside those of the longest, which is the most that sharing can save.
 pub fn worth(sum: u64, longest: u64) -> u64
     ensures { result ≡ 1 + (sum - longest) / THREAD_STEPS }
 {
@@ -105,8 +106,8 @@ impl MeanSteps {
         sum
     }
 
-    /// Notes that the run of a task like this one, from the same place, made so many steps. The first run is the mean of its
-    /// place; each later one counts an eighth in it.
+    /// Notes that the run of a task like this one, from the same place, made so many steps. The first run is the mean
+    /// of its place; each later one counts an eighth in it.
     pub fn note(&self, task: &Task, steps: u64) {
         if let Some(mean) = self.mean(place_of(task)) {
             let next = match mean.load(Ordering::SeqCst) {
@@ -117,8 +118,9 @@ impl MeanSteps {
         }
     }
 
-    /// How many workers these tasks are worth, at most so many: one where the last runs from the same places were light,
-    /// and more the more steps lie beside those of the longest task. Tasks that go on from where none has count as heavy.
+    /// How many workers these tasks are worth, at most so many: one where the last runs from the same places were
+    /// light, and more the more steps lie beside those of the longest task. Tasks that go on from where none has count
+    /// as heavy.
     pub fn workers(&self, tasks: &[Task], most: u32) -> u32
         ensures some { 1 ≤ result }
         ensures most { result ≤ max 1 most }
@@ -132,8 +134,8 @@ impl MeanSteps {
         worth(self.sum(tasks), longest).min(most as u64) as u32
     }
 
-    /// How many of these tasks, from the last one back, make one of so many parts that take about as long: one at least,
-    /// where there is one.
+    /// How many of these tasks, from the last one back, make one of so many parts that take about as long: one at
+    /// least, where there is one.
     pub fn part(&self, tasks: &[Task], parts: u64) -> usize
         requires { 0 < parts }
     {

@@ -1,6 +1,6 @@
 // What a run tells of itself while it goes on.
 ghost use Rattle.std.specs.Prelude.{◌≡◌, ℕ, ⊤, List, Option, OnOk, OnErr};
-ghost use Rattle.gp_base.specs.Sinks.{HasCause};
+ghost use Rattle.gp_base.specs.meaning.Sinks.{HasCause};
 ghost use Rattle.task_ast.specs.declared.effect.Effect.{Effect};
 ghost use Rattle.subthread.specs.Tasks.{effect_of, IsRun};
 ghost use Rattle.crew.specs.Noted.{NotesResult, NotesNothing, NotesRetired, NotesPart};
@@ -9,11 +9,11 @@ use gp_base::{Pos, Sink, SinkFault};
 use std::alloc::AllocError;
 use subthread::{Done, Work};
 
-/// Who keeps a log of a run: is told each result that is applied, and each position that retires, which then goes out to a
-/// sink.
+/// Who keeps a log of a run: is told each result that is applied, and each position that retires, which then goes out
+/// to a sink.
 pub trait Notes {
-    // What was noted, and how the sink stands to it: its known bytes when the notes began and now, what the last result of
-    // each position left, and what those left that have retired, in order from the first.
+    // What was noted, and how the sink stands to it: its known bytes when the notes began and now, what the last result
+    // of each position left, and what those left that have retired, in order from the first.
     ghost tells: { Self → (start written : Option (List ℕ)) → (left : ℕ → Option Effect) → (told : List Effect) → Type 0 };
 
     // How a sink stands that did not take all that was to be told of the last of these positions.

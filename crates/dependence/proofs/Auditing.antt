@@ -12,8 +12,8 @@ use Rattle.gp_base.specs.declared.limits.TheConstants.{LONGEST_DELAY}
 use Rattle.gp_base.specs.declared.fault.Fault.{Fault}
 use Rattle.gp_base.specs.declared.journal.Event.{Event}
 use Rattle.gp_base.specs.declared.journal.Event.TheVariants as event
-use Rattle.dependence.specs.Restarts.{Dependence, Progress, drains, attempt_of, begun_of, is_live, is_due, least_struck, struck_next, IsFinal}
-use Rattle.dependence.specs.Journal.{Stage, initial_stage, Drained, MayFollow, Allowed, happens, LawfulFrom, Lawful, stage, Complete}
+use Rattle.dependence.specs.meaning.Restarts.{Dependence, Progress, drains, attempt_of, begun_of, is_live, is_due, least_struck, struck_next, IsFinal}
+use Rattle.dependence.specs.meaning.Journal.{Stage, initial_stage, Drained, MayFollow, Allowed, happens, LawfulFrom, Lawful, stage, Complete}
 use Rattle.dependence.specs.JournalTests.{same_attempt, all_below, is_drained, may_follow, is_allowed, is_lawful_from, is_lawful, is_final, is_complete}
 
 pub same_attempt-decides : (pair other : ℕ × ℕ) → Decides (same_attempt pair other) (pair ≡ other)

@@ -4,8 +4,8 @@
 -- later conflict leaves the set: by the law of removal its histories undo it, and the rest finds what it found.
 use Rattle.std.proofs.Common.{◌≡◌, inl, inr, ℕ, zero, suc, ◌+◌, ◌<◌, ◌≤◌, Bool, true, false, cond, [], nat_eq, ◌&&◌, ◌||◌, Some, None, refl, sym, ◌∙◌, ap, arith, add-one}
 use Rattle.std.proofs.lemmas.Bool.{false≢true, both_ways, cases_eq, cases_lt, eq-eqb, ne_eqb, and_parts, and_from, or_right}
-use Rattle.task_ast.specs.State.{Place, State}
-use Rattle.task_ast.specs.Effect.{after}
+use Rattle.task_ast.specs.meaning.State.{Place, State}
+use Rattle.task_ast.specs.meaning.Effect.{after}
 use Rattle.task_ast.specs.History.{old_of}
 use Rattle.task_ast.specs.Fold.{Member, applied, fold}
 use Rattle.dependence.specs.Histories.{HasCells}

@@ -8,7 +8,8 @@ use Rattle.std.specs.List.{list_any}
 use Rattle.gp_base.specs.declared.footprint.Loc.{Loc}
 use Rattle.gp_base.specs.declared.footprint.Loc.TheVariants.{Regs, Lock, Rec}
 use Rattle.gp_base.specs.declared.footprint.Footprint.{Footprint}
-use Rattle.dependence.specs.Conflict.{Conflict, Shared, same_location, shares, conflicting}
+use Rattle.dependence.specs.meaning.Conflict.{same_location, shares, conflicting}
+use Rattle.dependence.specs.Conflict.{Conflict, Shared}
 
 same_location-true : (x y : Loc) → same_location x y ≡ true → x ≡ y
 same_location-true (Regs a) (Regs b) e = ap Regs (eqb-true a b e)

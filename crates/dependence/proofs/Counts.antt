@@ -15,11 +15,13 @@ use Rattle.gp_base.specs.declared.fault.Fault.{Fault}
 use Rattle.gp_base.specs.declared.journal.Event.{Event}
 use Rattle.gp_base.specs.declared.journal.Event.TheVariants as event
 use Rattle.gp_base.specs.declared.journal.Restart.{Restart}
-use Rattle.task_ast.specs.Table.{numbers}
-use Rattle.dependence.specs.Restarts.{Dependence, RedoesStruck, redoes, attempt_of, struck_next, restart_of, restarts}
-use Rattle.dependence.specs.Journal.{Stage, initial_stage, Allowed, happens, restarted, LawfulFrom, Lawful, stage_from, stage, Complete}
+use Rattle.task_ast.specs.meaning.Table.{numbers}
+use Rattle.dependence.specs.meaning.Restarts.{Dependence, redoes, attempt_of, struck_next, restart_of, restarts}
+use Rattle.dependence.specs.Restarts.{RedoesStruck}
+use Rattle.dependence.specs.meaning.Journal.{Stage, initial_stage, Allowed, happens, restarted, LawfulFrom, Lawful, stage_from, stage, Complete}
 use Rattle.dependence.specs.JournalTests.{same_attempt}
-use Rattle.dependence.specs.Counts.{is_issue, is_restart, retirements, posts, takes, HasAll}
+use Rattle.dependence.specs.meaning.Counts.{is_restart}
+use Rattle.dependence.specs.Counts.{is_issue, retirements, posts, takes, HasAll}
 use Rattle.dependence.proofs.Auditing.{same_attempt-decides, contains-decides}
 use Rattle.task_ast.proofs.Counting.{count-cons}
 use Rattle.dependence.proofs.Counting.{passing-at}

@@ -7,8 +7,10 @@ use Rattle.std.proofs.lemmas.List.{map-append}
 use Rattle.std.specs.Cmp.{both_ways}
 use Rattle.std.specs.List.{list_any}
 use Rattle.gp_base.specs.declared.footprint.Footprint.{Footprint}
-use Rattle.dependence.specs.Conflict.{ClashIn, clash_in, foot_at}
-use Rattle.dependence.specs.Dependents.{IsDependent, itself, later, is_member, dependents, MarksDependents}
+use Rattle.dependence.specs.meaning.Conflict.{clash_in, foot_at}
+use Rattle.dependence.specs.Conflict.{ClashIn}
+use Rattle.dependence.specs.meaning.Dependents.{is_member, dependents}
+use Rattle.dependence.specs.Dependents.{IsDependent, itself, later, MarksDependents}
 use Rattle.dependence.proofs.Conflicting.{conflicting-is}
 use Rattle.dependence.proofs.DependentSets.{IsDependent-below, sound, complete, joins-is}
 

@@ -9,7 +9,8 @@ use Rattle.std.proofs.lemmas.Map.Views.{Contains-from_any, list_any-from_Contain
 use Rattle.std.specs.Cmp.{nat_eq_equiv}
 use Rattle.std.specs.List.{list_any}
 use Rattle.std.specs.List.Sorted.{IsStrictlyIncreasing}
-use Rattle.dependence.specs.Dependents.{IsDependent, itself, later, is_member, dependents}
+use Rattle.dependence.specs.meaning.Dependents.{is_member, dependents}
+use Rattle.dependence.specs.Dependents.{IsDependent, itself, later}
 
 -- the test of membership says what it tests
 pub is_member-is : (p : ℕ) (list : List ℕ) → (is_member p list ≡ true) ↔ Contains list p

@@ -9,9 +9,9 @@ use Rattle.std.specs.Cmp.{unsigned_tied}
 use Rattle.std.specs.FinMap.{find}
 use Rattle.std.proofs.lemmas.Bool.{eqb-true, eq-eqb, false≢true}
 use Rattle.std.proofs.Math.Path.{fun_ext}
-use Rattle.task_ast.specs.State.{Place, RegistersOf, CellOf, State, cell_value, number_at}
+use Rattle.task_ast.specs.meaning.State.{Place, RegistersOf, CellOf, State, cell_value, number_at}
 use Rattle.task_ast.specs.declared.effect.Effect.{Effect}
-use Rattle.task_ast.specs.Effect.{after, one_number, left_to}
+use Rattle.task_ast.specs.meaning.Effect.{after, one_number, left_to}
 use Rattle.task_ast.specs.History.{named_child, named, IsNamed, old_write, old_child, old_of}
 use Rattle.dependence.specs.Histories.{HasCells, AfterLaw, HistoryLaw, UndoLaw}
 

@@ -5,8 +5,8 @@
 use Rattle.std.proofs.Common.{◌≡◌, inl, inr, ℕ, zero, suc, ◌<◌, ◌≤◌, Bool, true, false, cond, nat_eq, refl, sym, ◌∙◌, ap, Some, arith}
 use Rattle.std.proofs.lemmas.Bool.{both_ways, cases_eq, eq-eqb, ne_eqb}
 use Rattle.task_ast.specs.declared.effect.Effect.{Effect}
-use Rattle.task_ast.specs.State.{Place, State}
-use Rattle.task_ast.specs.Effect.{after}
+use Rattle.task_ast.specs.meaning.State.{Place, State}
+use Rattle.task_ast.specs.meaning.Effect.{after}
 use Rattle.task_ast.specs.History.{IsNamed, old_of}
 use Rattle.task_ast.specs.Fold.{Member, applied, fold}
 use Rattle.dependence.specs.Histories.{HasCells}

@@ -3,7 +3,7 @@ use Rattle.std.proofs.Common.{◌≡◌, ℕ, ◌+◌, ◌<◌, ◌≤◌, min, 
 use Rattle.std.specs.Option.{option_map_or}
 use Rattle.std.proofs.lemmas.List.{drop_more, drop_all}
 use Rattle.gp_base.specs.declared.fault.Fault.{Fault}
-use Rattle.dependence.specs.Restarts.{least_struck}
+use Rattle.dependence.specs.meaning.Restarts.{least_struck}
 
 abbrev pub lesser : ℕ → Option ℕ → ℕ
 lesser p other = option_map_or (min p) other p

@@ -6,9 +6,9 @@ use Rattle.std.proofs.lemmas.List.Elements.{Contains-push_cases}
 use Rattle.gp_base.specs.declared.fault.Fault.{Fault}
 use Rattle.gp_base.specs.declared.journal.Event.{Event}
 use Rattle.gp_base.specs.declared.journal.Event.TheVariants as event
-use Rattle.dependence.specs.Dependents.{is_member}
-use Rattle.dependence.specs.Restarts.{Dependence, Progress, redoes, attempt_of, begun_of, restart_of, struck_next}
-use Rattle.dependence.specs.Journal.{Stage, initial_stage, Allowed, happens, restarted, LawfulFrom, stage_from}
+use Rattle.dependence.specs.meaning.Dependents.{is_member}
+use Rattle.dependence.specs.meaning.Restarts.{Dependence, Progress, redoes, attempt_of, begun_of, restart_of, struck_next}
+use Rattle.dependence.specs.meaning.Journal.{Stage, initial_stage, Allowed, happens, restarted, LawfulFrom, stage_from}
 use Rattle.dependence.specs.Standing.{RedoesConflicts, NamesIssued}
 use Rattle.dependence.proofs.DependentSets.{is_member-is}
 use Rattle.dependence.proofs.RestartEnds.{attempt-push, begun-push}

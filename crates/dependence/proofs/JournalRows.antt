@@ -4,14 +4,14 @@ use Rattle.std.proofs.lemmas.Bool.Decides.{not_from_Decides}
 use Rattle.gp_base.specs.declared.fault.Fault.{Fault}
 use Rattle.gp_base.specs.declared.journal.Event.{Event}
 use Rattle.gp_base.specs.declared.journal.Event.TheVariants.{Issue, Post, Take, Restart, Retire}
-use Rattle.task_ast.specs.Body.{body, stretch}
-use Rattle.task_ast.specs.Repeat.{steps, repeated, until_done}
-use Rattle.task_ast.specs.Plain.{order}
+use Rattle.task_ast.specs.meaning.Body.{body, stretch}
+use Rattle.task_ast.specs.meaning.Repeat.{steps, repeated, until_done}
+use Rattle.task_ast.specs.meaning.Plain.{order}
 use Rattle.task_ast.proofs.RowPrograms.{empty_batch, two_adders, settling}
 use Rattle.task_ast.proofs.RunRows.{zeros, limits}
-use Rattle.dependence.specs.Restarts.{Dependence}
-use Rattle.dependence.specs.Journal.{Lawful, Complete}
-use Rattle.dependence.specs.Runs.{dependence_of}
+use Rattle.dependence.specs.meaning.Restarts.{Dependence}
+use Rattle.dependence.specs.meaning.Journal.{Lawful, Complete}
+use Rattle.dependence.specs.meaning.Runs.{dependence_of}
 use Rattle.dependence.proofs.Auditing.{lawful-decides, complete-decides}
 
 abbrev empty_dependence : Dependence

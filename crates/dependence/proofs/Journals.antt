@@ -5,8 +5,8 @@ use Rattle.gp_base.specs.declared.fault.Fault.{Fault}
 use Rattle.gp_base.specs.declared.journal.Restart.{Restart}
 use Rattle.gp_base.specs.declared.journal.Event.{Event}
 use Rattle.gp_base.specs.declared.journal.Event.TheVariants as event
-use Rattle.dependence.specs.Restarts.{Dependence, IsFinal, Progress, struck_next, advance, advance_by, progress, restarts}
-use Rattle.dependence.specs.Journal.{Stage, initial_stage, Allowed, happens, restarted, LawfulFrom, Lawful, stage_from, stage, Complete}
+use Rattle.dependence.specs.meaning.Restarts.{Dependence, IsFinal, Progress, struck_next, advance, advance_by, progress, restarts}
+use Rattle.dependence.specs.meaning.Journal.{Stage, initial_stage, Allowed, happens, restarted, LawfulFrom, Lawful, stage_from, stage, Complete}
 use Rattle.dependence.specs.Standing.{StageStands, KeepsClean}
 use Rattle.dependence.proofs.Standing.{initial-stands, happens-stands, issue-passes}
 use Rattle.dependence.proofs.RestartEnds.{made-first, made-all, struck-is}

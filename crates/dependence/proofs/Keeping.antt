@@ -18,24 +18,27 @@ use Rattle.gp_base.specs.declared.footprint.Footprint.{Footprint}
 use Rattle.task_ast.specs.declared.sync.SyncOp.{SyncOp}
 use Rattle.task_ast.specs.declared.sync.SyncOp.TheVariants as sync
 use Rattle.task_ast.specs.declared.tree.Head.{Head}
-use Rattle.task_ast.specs.Names.{locks_of, cells_in}
-use Rattle.task_ast.specs.Layout.{cells_under, layout, IsLaidOut}
-use Rattle.task_ast.specs.Table.{numbers}
-use Rattle.task_ast.specs.State.{Place, RegistersOf, CellOf, State, number_at}
-use Rattle.task_ast.specs.Effect.{effect, joined_ret, one_number}
+use Rattle.task_ast.specs.meaning.Names.{locks_of, cells_in}
+use Rattle.task_ast.specs.meaning.Layout.{cells_under, layout}
+use Rattle.task_ast.specs.Layout.{IsLaidOut}
+use Rattle.task_ast.specs.meaning.Table.{numbers}
+use Rattle.task_ast.specs.meaning.State.{Place, RegistersOf, CellOf, State, number_at}
+use Rattle.task_ast.specs.meaning.Effect.{effect, joined_ret, one_number}
 use Rattle.task_ast.specs.Damage.{damaged, masked, all_masked}
-use Rattle.task_ast.specs.Footprint.{named_by, footprint, lock_footprint, joined_registers, child_registers}
-use Rattle.task_ast.specs.Plain.{Subthread}
+use Rattle.task_ast.specs.meaning.Footprint.{named_by, footprint, joined_registers, child_registers}
+use Rattle.task_ast.specs.Footprint.{lock_footprint}
+use Rattle.task_ast.specs.meaning.Plain.{Subthread}
 use Rattle.task_ast.specs.Fold.{Member}
 use Rattle.task_ast.specs.Members.{member_of}
 use Rattle.task_ast.specs.History.{named_child, IsNamed}
 use Rattle.task_ast.proofs.Keeping.{reads_same, writes_within}
 use Rattle.task_ast.proofs.Layouts.{length-numbers, get-numbers, laid_out}
-use Rattle.dependence.specs.Conflict.{InConflict, foot_at}
-use Rattle.dependence.specs.Dependents.{is_member}
-use Rattle.dependence.specs.Runs.{feet_of}
+use Rattle.dependence.specs.meaning.Conflict.{foot_at}
+use Rattle.dependence.specs.Conflict.{InConflict}
+use Rattle.dependence.specs.meaning.Dependents.{is_member}
+use Rattle.dependence.specs.meaning.Runs.{feet_of}
 use Rattle.dependence.specs.Touching.{MayWrite, MayTouch, Agree, done_by, KeepsTo, KeepToFeet, IsApart, own_location, lock_location, LocationLaw, KeepsLaw, RunKeepsLaw, LaidLaw}
-use Rattle.task_ast.specs.Under.{under_lock, is_under}
+use Rattle.task_ast.specs.meaning.Under.{under_lock, is_under}
 use Rattle.dependence.proofs.DependentSets.{is_member-is}
 use Rattle.dependence.proofs.Folds.{Kept}
 use Rattle.dependence.proofs.Naming.{to-map, names-named, writes-named}

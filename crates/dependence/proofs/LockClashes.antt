@@ -7,12 +7,15 @@ use Rattle.gp_base.specs.declared.footprint.Loc.TheVariants as loc
 use Rattle.gp_base.specs.declared.footprint.Footprint.{Footprint}
 use Rattle.task_ast.specs.declared.sync.SyncOp.{SyncOp}
 use Rattle.task_ast.specs.declared.sync.SyncOp.TheVariants as sync
-use Rattle.task_ast.specs.Footprint.{named_by, joined_registers, child_registers}
+use Rattle.task_ast.specs.meaning.Footprint.{named_by, joined_registers, child_registers}
 use Rattle.task_ast.specs.laws.Keeps.{AllName}
-use Rattle.task_ast.specs.Plain.{Subthread, foot_of, lock_foot_of}
-use Rattle.task_ast.specs.Under.{under_lock, is_under}
-use Rattle.dependence.specs.Conflict.{Shared, Conflict, idle_foot, foot_at}
-use Rattle.dependence.specs.Runs.{feet_of, lock_feet_of}
+use Rattle.task_ast.specs.meaning.Plain.{Subthread, foot_of}
+use Rattle.task_ast.specs.Plain.{lock_foot_of}
+use Rattle.task_ast.specs.meaning.Under.{under_lock, is_under}
+use Rattle.dependence.specs.meaning.Conflict.{idle_foot, foot_at}
+use Rattle.dependence.specs.Conflict.{Shared, Conflict}
+use Rattle.dependence.specs.meaning.Runs.{feet_of}
+use Rattle.dependence.specs.Runs.{lock_feet_of}
 use Rattle.dependence.specs.Touching.{IsApart, LocksClashLaw}
 use Rattle.dependence.proofs.Struck.{Contains-head, Contains-later}
 use Rattle.dependence.proofs.Naming.{named-passes, from-map}

@@ -3,7 +3,8 @@ use Rattle.std.proofs.Common.{◌≡◌, ◌↔◌, inr, inl, ℕ, ◌<◌, ◌�
 use Rattle.std.proofs.lemmas.Bool.{false≢true}
 use Rattle.std.proofs.lemmas.List.{get_or_default}
 use Rattle.gp_base.specs.declared.footprint.Footprint.{Footprint}
-use Rattle.dependence.specs.Conflict.{Conflict, idle_foot, ClashIn}
+use Rattle.dependence.specs.meaning.Conflict.{idle_foot}
+use Rattle.dependence.specs.Conflict.{Conflict, ClashIn}
 use Rattle.dependence.specs.Dependents.{IsDependent, itself, later, IsReached}
 use Rattle.dependence.proofs.DependentSets.{IsDependent-from, IsDependent-inverted}
 

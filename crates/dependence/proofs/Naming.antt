@@ -9,14 +9,19 @@ use Rattle.gp_base.specs.declared.footprint.Loc.TheVariants as loc
 use Rattle.gp_base.specs.declared.footprint.Footprint.{Footprint}
 use Rattle.task_ast.specs.declared.sync.SyncOp.{SyncOp}
 use Rattle.task_ast.specs.declared.sync.SyncOp.TheVariants as sync
-use Rattle.task_ast.specs.Action.{Action, Set, Load, Store, Say, Choose, Child, Give, Bring, Arm, NoAction, OneAction}
-use Rattle.task_ast.specs.Footprint.{with_cell, Named, naming, arm_naming, all_naming, named_by, joined_registers, child_registers, footprint, lock_footprint}
+use Rattle.task_ast.specs.meaning.Action.{Action, Set, Load, Store, Say, Choose, Child, Give, Bring, Arm, NoAction, OneAction}
+use Rattle.task_ast.specs.meaning.Footprint.{with_cell, Named, naming, arm_naming, all_naming, named_by, joined_registers, child_registers, footprint}
+use Rattle.task_ast.specs.Footprint.{lock_footprint}
 use Rattle.task_ast.specs.laws.Keeps.{NamesOnly, ArmNamesOnly, AllName, WritesOnly, ArmWritesOnly, AllWrite}
-use Rattle.task_ast.specs.Plain.{Subthread, foot_of, lock_foot_of}
-use Rattle.task_ast.specs.Under.{under_lock, is_under, KeepsToLocks, NamesHeld}
-use Rattle.dependence.specs.Conflict.{Shared, Conflict, idle_foot, foot_at, ClashIn}
-use Rattle.dependence.specs.Dependents.{is_member}
-use Rattle.dependence.specs.Runs.{feet_of, lock_feet_of}
+use Rattle.task_ast.specs.meaning.Plain.{Subthread, foot_of}
+use Rattle.task_ast.specs.Plain.{lock_foot_of}
+use Rattle.task_ast.specs.meaning.Under.{under_lock, is_under}
+use Rattle.task_ast.specs.Under.{KeepsToLocks, NamesHeld}
+use Rattle.dependence.specs.meaning.Conflict.{idle_foot, foot_at}
+use Rattle.dependence.specs.Conflict.{Shared, Conflict, ClashIn}
+use Rattle.dependence.specs.meaning.Dependents.{is_member}
+use Rattle.dependence.specs.meaning.Runs.{feet_of}
+use Rattle.dependence.specs.Runs.{lock_feet_of}
 use Rattle.dependence.specs.Touching.{IsApart, LocksClashLaw}
 use Rattle.dependence.proofs.DependentSets.{is_member-is}
 use Rattle.dependence.proofs.Struck.{Contains-head, Contains-later}

@@ -11,13 +11,16 @@ use Rattle.gp_base.specs.declared.footprint.Loc.TheVariants as loc
 use Rattle.gp_base.specs.declared.footprint.Footprint.{Footprint}
 use Rattle.gp_base.specs.declared.journal.Event.{Event}
 use Rattle.gp_base.specs.declared.journal.Event.TheVariants as event
-use Rattle.task_ast.specs.Footprint.{named_by, joined_registers, child_registers}
-use Rattle.task_ast.specs.Plain.{Subthread, foot_of, lock_foot_of}
-use Rattle.dependence.specs.Conflict.{Shared, Conflict, idle_foot, foot_at, clash_in}
-use Rattle.dependence.specs.Dependents.{is_member}
-use Rattle.dependence.specs.Restarts.{Dependence, struck_next, restart_of}
-use Rattle.dependence.specs.Journal.{Stage, Allowed, happens, restarted, MayPost}
-use Rattle.dependence.specs.Runs.{feet_of, lock_feet_of, dependence_of}
+use Rattle.task_ast.specs.meaning.Footprint.{named_by, joined_registers, child_registers}
+use Rattle.task_ast.specs.meaning.Plain.{Subthread, foot_of}
+use Rattle.task_ast.specs.Plain.{lock_foot_of}
+use Rattle.dependence.specs.meaning.Conflict.{idle_foot, foot_at, clash_in}
+use Rattle.dependence.specs.Conflict.{Shared, Conflict}
+use Rattle.dependence.specs.meaning.Dependents.{is_member}
+use Rattle.dependence.specs.meaning.Restarts.{Dependence, struck_next, restart_of}
+use Rattle.dependence.specs.meaning.Journal.{Stage, Allowed, happens, restarted, MayPost}
+use Rattle.dependence.specs.meaning.Runs.{feet_of, dependence_of}
+use Rattle.dependence.specs.Runs.{lock_feet_of}
 use Rattle.dependence.specs.Standing.{present, RedoesConflicts, StageStands}
 use Rattle.dependence.specs.RunBuffer.{IsOut}
 use Rattle.dependence.specs.Posting.{IsWithin, by_locks, OutReady, KeepsReady, PostLaw, OutReadyLaw, RunWithinLaw, NoLocksLaw}

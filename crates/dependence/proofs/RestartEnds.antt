@@ -11,7 +11,8 @@ use Rattle.std.proofs.lemmas.List.Sums.{count_by-le-length}
 use Rattle.std.specs.Option.{IsSomeAnd}
 use Rattle.gp_base.specs.declared.fault.Fault.{Fault}
 use Rattle.gp_base.specs.declared.journal.Restart.{Restart}
-use Rattle.dependence.specs.Restarts.{Dependence, RedoesStruck, IsFinal, Progress, redoes, attempt_of, begun_of, last_front, struck_next, restart_of, advance_by, advance, progress, restarts}
+use Rattle.dependence.specs.meaning.Restarts.{Dependence, IsFinal, Progress, redoes, attempt_of, begun_of, last_front, struck_next, restart_of, advance_by, advance, progress, restarts}
+use Rattle.dependence.specs.Restarts.{RedoesStruck}
 use Rattle.dependence.specs.Measure.{is_unused}
 use Rattle.dependence.specs.Standing.{NamesAttempt}
 use Rattle.dependence.proofs.DependentSets.{is_member-is}

@@ -11,20 +11,22 @@ use Rattle.gp_base.specs.declared.feed.Inputs.{Inputs}
 use Rattle.gp_base.specs.declared.fault.Fault.{Fault}
 use Rattle.gp_base.specs.declared.journal.Event.{Event}
 use Rattle.gp_base.specs.declared.journal.Event.TheVariants as event
-use Rattle.task_ast.specs.Tree.{Program}
-use Rattle.task_ast.specs.State.{Place, State}
-use Rattle.task_ast.specs.Effect.{effect}
-use Rattle.task_ast.specs.Plain.{Subthread, tree_machine, order, opening, last_state}
+use Rattle.task_ast.specs.meaning.Tree.{Program}
+use Rattle.task_ast.specs.meaning.State.{Place, State}
+use Rattle.task_ast.specs.meaning.Effect.{effect}
+use Rattle.task_ast.specs.meaning.Plain.{Subthread, tree_machine, order, opening, last_state}
 use Rattle.task_ast.specs.Fold.{fold}
 use Rattle.task_ast.specs.Members.{member_of, member_in}
-use Rattle.task_ast.specs.Position.{before}
+use Rattle.task_ast.specs.meaning.Position.{before}
 use Rattle.task_ast.proofs.Positions.{fold_below, lines_are, last_is}
 use Rattle.task_ast.proofs.WholeFolds.{undamaged}
-use Rattle.dependence.specs.Conflict.{ClashIn, foot_at}
-use Rattle.dependence.specs.Dependents.{is_member}
-use Rattle.dependence.specs.Restarts.{mask_of, mask_now, struck_next, restart_of}
-use Rattle.dependence.specs.Journal.{Stage, initial_stage, Allowed, happens, restarted, MayRetire, LawfulFrom, Lawful, stage, stage_from, Complete}
-use Rattle.dependence.specs.Runs.{feet_of, dependence_of}
+use Rattle.dependence.specs.meaning.Conflict.{foot_at}
+use Rattle.dependence.specs.Conflict.{ClashIn}
+use Rattle.dependence.specs.meaning.Dependents.{is_member}
+use Rattle.dependence.specs.meaning.Restarts.{struck_next, restart_of}
+use Rattle.dependence.specs.Restarts.{mask_of, mask_now}
+use Rattle.dependence.specs.meaning.Journal.{Stage, initial_stage, Allowed, happens, restarted, MayRetire, LawfulFrom, Lawful, stage, stage_from, Complete}
+use Rattle.dependence.specs.meaning.Runs.{feet_of, dependence_of}
 use Rattle.dependence.specs.Standing.{present, NamesAttempt, AreShort, StageStands}
 use Rattle.dependence.specs.Histories.{HasCells}
 use Rattle.dependence.specs.Touching.{Agree, MayWrite, MayTouch, done_by, own_location}

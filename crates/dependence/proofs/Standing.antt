@@ -8,12 +8,14 @@ use Rattle.gp_base.specs.declared.limits.TheConstants.{LONGEST_DELAY}
 use Rattle.gp_base.specs.declared.fault.Fault.{Fault}
 use Rattle.gp_base.specs.declared.journal.Event.{Event}
 use Rattle.gp_base.specs.declared.journal.Event.TheVariants as event
-use Rattle.task_ast.specs.Plain.{Subthread}
-use Rattle.dependence.specs.Conflict.{clash_in}
-use Rattle.dependence.specs.Dependents.{IsDependent, itself, is_member}
-use Rattle.dependence.specs.Restarts.{Dependence, RedoesStruck, NoneLive, attempt_of, begun_of, is_live, is_due, least_struck, struck_next, restart_of}
-use Rattle.dependence.specs.Journal.{Stage, initial_stage, Allowed, happens, restarted, LawfulFrom, Lawful, stage_from, stage}
-use Rattle.dependence.specs.Runs.{feet_of, dependence_of}
+use Rattle.task_ast.specs.meaning.Plain.{Subthread}
+use Rattle.dependence.specs.meaning.Conflict.{clash_in}
+use Rattle.dependence.specs.meaning.Dependents.{is_member}
+use Rattle.dependence.specs.Dependents.{IsDependent, itself}
+use Rattle.dependence.specs.meaning.Restarts.{Dependence, NoneLive, attempt_of, begun_of, is_live, is_due, least_struck, struck_next, restart_of}
+use Rattle.dependence.specs.Restarts.{RedoesStruck}
+use Rattle.dependence.specs.meaning.Journal.{Stage, initial_stage, Allowed, happens, restarted, LawfulFrom, Lawful, stage_from, stage}
+use Rattle.dependence.specs.meaning.Runs.{feet_of, dependence_of}
 use Rattle.dependence.specs.Standing.{present, NamesAttempt, AreShort, RedoesConflicts, RedoesLater, StageStands, KeepsRetired, KeepsClean}
 use Rattle.dependence.proofs.DependentSets.{is_member-is, IsDependent-from, IsDependent-front, dependents-are}
 use Rattle.dependence.proofs.RestartEnds.{attempt-push}

@@ -4,7 +4,7 @@ use Rattle.std.specs.Option.{option_or, option_map_or}
 use Rattle.std.proofs.lemmas.Bool.{both_ways, eqb-true, eq-eqb, ltb-true, lt-ltb, and_parts, and_from, cases_eq}
 use Rattle.std.proofs.lemmas.List.Elements.{Contains-append_left, Contains-append_right}
 use Rattle.gp_base.specs.declared.fault.Fault.{Fault}
-use Rattle.dependence.specs.Restarts.{Dependence, Progress, drains, attempt_of, is_live, is_due, least_struck, struck_next}
+use Rattle.dependence.specs.meaning.Restarts.{Dependence, Progress, drains, attempt_of, is_live, is_due, least_struck, struck_next}
 use Rattle.dependence.specs.Standing.{NamesAttempt}
 
 -- the head of a list stands in it, and so does each member of its tail

@@ -4,8 +4,8 @@ use Rattle.std.specs.Prelude.{◌≡◌, ◌≢◌, ℕ, ◌+◌, ◌<◌, ◌�
 use Rattle.gp_base.specs.declared.footprint.Loc.{Loc}
 use Rattle.gp_base.specs.declared.footprint.Footprint.{Footprint}
 use Rattle.task_ast.specs.declared.effect.Effect.{Effect}
-use Rattle.task_ast.specs.State.{Place, State}
-use Rattle.task_ast.specs.Effect.{after}
+use Rattle.task_ast.specs.meaning.State.{Place, State}
+use Rattle.task_ast.specs.meaning.Effect.{after}
 use Rattle.task_ast.specs.History.{old_of}
 use Rattle.task_ast.specs.Fold.{Member, fold}
 use Rattle.dependence.specs.Conflict.{InConflict}

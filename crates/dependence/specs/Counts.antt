@@ -5,19 +5,17 @@ use Rattle.gp_base.specs.declared.fault.Fault.{Fault}
 use Rattle.gp_base.specs.declared.journal.Event.{Event}
 use Rattle.gp_base.specs.declared.journal.Event.TheVariants as event
 use Rattle.gp_base.specs.declared.journal.Restart.{Restart}
-use Rattle.task_ast.specs.Table.{numbers}
-use Rattle.dependence.specs.Restarts.{Dependence, RedoesStruck, redoes, attempt_of, restarts}
-use Rattle.dependence.specs.Journal.{Lawful, Complete, stage}
+use Rattle.task_ast.specs.meaning.Table.{numbers}
+use Rattle.dependence.specs.meaning.Restarts.{Dependence, redoes, attempt_of, restarts}
+use Rattle.dependence.specs.Restarts.{RedoesStruck}
+use Rattle.dependence.specs.meaning.Journal.{Lawful, Complete, stage}
 use Rattle.dependence.specs.JournalTests.{same_attempt}
 use Rattle.dependence.specs.Standing.{KeepsClean}
+use Rattle.dependence.specs.meaning.Counts.{is_restart}
 
 abbrev pub is_issue : Event → Bool
 is_issue (event.Issue p) = true
 is_issue _ = false
-
-abbrev pub is_restart : Event → Bool
-is_restart (event.Restart number) = true
-is_restart _ = false
 
 -- the positions that retire, in order
 abbrev pub retirements : List Event → List ℕ

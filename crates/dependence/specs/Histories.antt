@@ -1,8 +1,8 @@
 -- An effect leaves what it names, and its history gives that back.
 use Rattle.std.specs.Prelude.{◌≡◌, ℕ, [], ◌∷◌, option_map, unwrap_or}
 use Rattle.task_ast.specs.declared.effect.Effect.{Effect}
-use Rattle.task_ast.specs.State.{Place, CellOf, State, cell_value}
-use Rattle.task_ast.specs.Effect.{after}
+use Rattle.task_ast.specs.meaning.State.{Place, CellOf, State, cell_value}
+use Rattle.task_ast.specs.meaning.Effect.{after}
 use Rattle.task_ast.specs.History.{named, old_of}
 
 -- each cell of the state has one value

@@ -2,7 +2,7 @@
 use Rattle.std.specs.Prelude.{◌≡◌, ◌||◌, ℕ, ◌<◌, Bool, true, false, nat_eq}
 use Rattle.gp_base.specs.declared.footprint.Loc.{Loc}
 use Rattle.gp_base.specs.declared.footprint.Footprint.{Footprint}
-use Rattle.task_ast.specs.State.{Place, State}
+use Rattle.task_ast.specs.meaning.State.{Place, State}
 use Rattle.task_ast.specs.Fold.{Member, applied, fold}
 use Rattle.dependence.specs.Conflict.{InConflict}
 use Rattle.dependence.specs.Touching.{KeepToFeet}

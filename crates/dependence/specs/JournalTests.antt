@@ -6,8 +6,8 @@ use Rattle.gp_base.specs.declared.limits.TheConstants.{LONGEST_DELAY}
 use Rattle.gp_base.specs.declared.fault.Fault.{Fault}
 use Rattle.gp_base.specs.declared.journal.Event.{Event}
 use Rattle.gp_base.specs.declared.journal.Event.TheVariants as event
-use Rattle.dependence.specs.Restarts.{Dependence, Progress, drains, attempt_of, begun_of, is_live, is_due, least_struck, struck_next}
-use Rattle.dependence.specs.Journal.{Stage, initial_stage, happens, stage}
+use Rattle.dependence.specs.meaning.Restarts.{Dependence, Progress, drains, attempt_of, begun_of, is_live, is_due, least_struck, struck_next}
+use Rattle.dependence.specs.meaning.Journal.{Stage, initial_stage, happens, stage}
 
 abbrev pub same_attempt : ℕ × ℕ → ℕ × ℕ → Bool
 same_attempt pair other = nat_eq pair.0 other.0 && nat_eq pair.1 other.1

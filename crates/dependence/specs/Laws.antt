@@ -7,14 +7,17 @@ use Rattle.gp_base.specs.declared.footprint.Footprint.{Footprint}
 use Rattle.gp_base.specs.declared.fault.Fault.{Fault}
 use Rattle.gp_base.specs.declared.journal.Event.{Event}
 use Rattle.gp_base.specs.declared.journal.Restart.{Restart}
-use Rattle.task_ast.specs.Plain.{Subthread}
-use Rattle.dependence.specs.Conflict.{Conflict, conflicting, clash_in}
-use Rattle.dependence.specs.Dependents.{IsDependent, is_member, dependents, MarksDependents}
-use Rattle.dependence.specs.Restarts.{Dependence, RedoesStruck, redoes, attempt_of, begun_of, struck_next, progress, IsFinal, restarts}
-use Rattle.dependence.specs.Journal.{Allowed, happens, Lawful, Complete, stage}
+use Rattle.task_ast.specs.meaning.Plain.{Subthread}
+use Rattle.dependence.specs.meaning.Conflict.{conflicting, clash_in}
+use Rattle.dependence.specs.Conflict.{Conflict}
+use Rattle.dependence.specs.meaning.Dependents.{is_member, dependents}
+use Rattle.dependence.specs.Dependents.{IsDependent, MarksDependents}
+use Rattle.dependence.specs.meaning.Restarts.{Dependence, redoes, attempt_of, begun_of, struck_next, progress, IsFinal, restarts}
+use Rattle.dependence.specs.Restarts.{RedoesStruck}
+use Rattle.dependence.specs.meaning.Journal.{Allowed, happens, Lawful, Complete, stage}
 use Rattle.dependence.specs.JournalTests.{is_lawful, is_complete}
 use Rattle.dependence.specs.Standing.{KeepsClean}
-use Rattle.dependence.specs.Runs.{dependence_of}
+use Rattle.dependence.specs.meaning.Runs.{dependence_of}
 
 -- the test says when two footprints are in conflict
 abbrev pub ConflictLaw : Type 0

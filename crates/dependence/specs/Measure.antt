@@ -4,8 +4,9 @@ use Rattle.std.specs.List.{list_any}
 use Rattle.gp_base.specs.declared.fault.Fault.{Fault}
 use Rattle.gp_base.specs.declared.journal.Event.{Event}
 use Rattle.gp_base.specs.declared.journal.Restart.{Restart}
-use Rattle.dependence.specs.Restarts.{Dependence, RedoesStruck, attempt_of}
-use Rattle.dependence.specs.Journal.{Stage, Allowed, happens, Lawful}
+use Rattle.dependence.specs.meaning.Restarts.{Dependence, attempt_of}
+use Rattle.dependence.specs.Restarts.{RedoesStruck}
+use Rattle.dependence.specs.meaning.Journal.{Stage, Allowed, happens, Lawful}
 use Rattle.dependence.specs.JournalTests.{same_attempt}
 use Rattle.dependence.specs.Standing.{present}
 

@@ -4,11 +4,12 @@ use Rattle.gp_base.specs.declared.fault.Fault.{Fault}
 use Rattle.gp_base.specs.declared.journal.Event.{Event}
 use Rattle.gp_base.specs.declared.journal.Event.TheVariants as event
 use Rattle.task_ast.specs.Under.{NamesHeld}
-use Rattle.task_ast.specs.Plain.{Subthread}
-use Rattle.dependence.specs.Conflict.{clash_in}
-use Rattle.dependence.specs.Restarts.{Dependence}
-use Rattle.dependence.specs.Journal.{Stage, Allowed, happens, MayPost}
-use Rattle.dependence.specs.Runs.{feet_of, lock_feet_of, dependence_of}
+use Rattle.task_ast.specs.meaning.Plain.{Subthread}
+use Rattle.dependence.specs.meaning.Conflict.{clash_in}
+use Rattle.dependence.specs.meaning.Restarts.{Dependence}
+use Rattle.dependence.specs.meaning.Journal.{Stage, Allowed, happens, MayPost}
+use Rattle.dependence.specs.meaning.Runs.{feet_of, dependence_of}
+use Rattle.dependence.specs.Runs.{lock_feet_of}
 use Rattle.dependence.specs.Standing.{RedoesConflicts, StageStands}
 use Rattle.dependence.specs.RunBuffer.{IsOut}
 use Rattle.dependence.specs.Touching.{IsApart}

@@ -5,17 +5,19 @@ use Rattle.gp_base.specs.declared.feed.Inputs.{Inputs}
 use Rattle.gp_base.specs.declared.fault.Fault.{Fault}
 use Rattle.gp_base.specs.declared.journal.Event.{Event}
 use Rattle.gp_base.specs.declared.journal.Event.TheVariants as event
-use Rattle.task_ast.specs.Tree.{Program}
-use Rattle.task_ast.specs.State.{State}
-use Rattle.task_ast.specs.Plain.{Subthread, order, opening, last_state}
-use Rattle.task_ast.specs.Position.{before}
+use Rattle.task_ast.specs.meaning.Tree.{Program}
+use Rattle.task_ast.specs.meaning.State.{State}
+use Rattle.task_ast.specs.meaning.Plain.{Subthread, order, opening, last_state}
+use Rattle.task_ast.specs.meaning.Position.{before}
 use Rattle.task_ast.specs.Fold.{Member}
 use Rattle.task_ast.specs.Members.{member_in}
-use Rattle.dependence.specs.Conflict.{ClashIn, foot_at}
-use Rattle.dependence.specs.Dependents.{is_member}
-use Rattle.dependence.specs.Restarts.{mask_now, struck_next}
-use Rattle.dependence.specs.Journal.{Stage, initial_stage, Allowed, happens, MayRetire, Lawful, Complete, stage}
-use Rattle.dependence.specs.Runs.{feet_of, dependence_of}
+use Rattle.dependence.specs.meaning.Conflict.{foot_at}
+use Rattle.dependence.specs.Conflict.{ClashIn}
+use Rattle.dependence.specs.meaning.Dependents.{is_member}
+use Rattle.dependence.specs.meaning.Restarts.{struck_next}
+use Rattle.dependence.specs.Restarts.{mask_now}
+use Rattle.dependence.specs.meaning.Journal.{Stage, initial_stage, Allowed, happens, MayRetire, Lawful, Complete, stage}
+use Rattle.dependence.specs.meaning.Runs.{feet_of, dependence_of}
 use Rattle.dependence.specs.Standing.{present, AreShort, StageStands}
 use Rattle.dependence.specs.Histories.{HasCells}
 use Rattle.dependence.specs.Touching.{Agree, MayTouch, done_by, own_location}

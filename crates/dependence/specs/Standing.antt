@@ -5,10 +5,11 @@ use Rattle.gp_base.specs.Faults.{IsInRange}
 use Rattle.gp_base.specs.declared.fault.Fault.{Fault}
 use Rattle.gp_base.specs.declared.journal.Event.{Event}
 use Rattle.gp_base.specs.declared.journal.Event.TheVariants as event
-use Rattle.task_ast.specs.Plain.{Subthread}
-use Rattle.dependence.specs.Restarts.{Dependence, RedoesStruck, NoneLive, attempt_of, begun_of, struck_next}
-use Rattle.dependence.specs.Journal.{Stage, initial_stage, Allowed, happens, LawfulFrom, Lawful, stage_from, stage}
-use Rattle.dependence.specs.Runs.{dependence_of}
+use Rattle.task_ast.specs.meaning.Plain.{Subthread}
+use Rattle.dependence.specs.meaning.Restarts.{Dependence, NoneLive, attempt_of, begun_of, struck_next}
+use Rattle.dependence.specs.Restarts.{RedoesStruck}
+use Rattle.dependence.specs.meaning.Journal.{Stage, initial_stage, Allowed, happens, LawfulFrom, Lawful, stage_from, stage}
+use Rattle.dependence.specs.meaning.Runs.{dependence_of}
 
 -- the present attempt of a position
 abbrev pub present : Stage → ℕ → ℕ

@@ -6,20 +6,24 @@ use Rattle.gp_base.specs.declared.footprint.Loc.TheVariants as loc
 use Rattle.gp_base.specs.declared.footprint.Footprint.{Footprint}
 use Rattle.task_ast.specs.declared.effect.Effect.{Effect}
 use Rattle.task_ast.specs.declared.tree.Head.{Head}
-use Rattle.task_ast.specs.State.{Place, RegistersOf, CellOf, State}
-use Rattle.task_ast.specs.Effect.{effect}
+use Rattle.task_ast.specs.meaning.State.{Place, RegistersOf, CellOf, State}
+use Rattle.task_ast.specs.meaning.Effect.{effect}
 use Rattle.task_ast.specs.Damage.{damaged}
-use Rattle.task_ast.specs.Footprint.{footprint}
+use Rattle.task_ast.specs.meaning.Footprint.{footprint}
 use Rattle.task_ast.specs.laws.Keeps.{AllName}
-use Rattle.task_ast.specs.Layout.{fits_array, layout}
+use Rattle.task_ast.specs.meaning.Layout.{layout}
+use Rattle.task_ast.specs.Layout.{fits_array}
 use Rattle.task_ast.specs.Fold.{Member}
 use Rattle.task_ast.specs.Members.{member_in}
-use Rattle.task_ast.specs.Under.{under_lock, NamesHeld}
-use Rattle.task_ast.specs.Plain.{Subthread}
+use Rattle.task_ast.specs.meaning.Under.{under_lock}
+use Rattle.task_ast.specs.Under.{NamesHeld}
+use Rattle.task_ast.specs.meaning.Plain.{Subthread}
 use Rattle.task_ast.specs.History.{IsNamed}
-use Rattle.dependence.specs.Conflict.{foot_at, ClashIn}
-use Rattle.dependence.specs.Dependents.{is_member}
-use Rattle.dependence.specs.Runs.{feet_of, lock_feet_of}
+use Rattle.dependence.specs.meaning.Conflict.{foot_at}
+use Rattle.dependence.specs.Conflict.{ClashIn}
+use Rattle.dependence.specs.meaning.Dependents.{is_member}
+use Rattle.dependence.specs.meaning.Runs.{feet_of}
+use Rattle.dependence.specs.Runs.{lock_feet_of}
 
 -- a subthread of this footprint may write the place, where each place has this location
 abbrev pub MayWrite : (location : Place → Loc) → Footprint → Place → Type 0

@@ -14,9 +14,9 @@ pub fn history_laws()
     ensures undo { UndoLaw }
 {}
 
-/// A layout has each record cell under one lock at most, which is its location by locks. A member keeps to its footprint,
-/// and so do all positions of a run. Where they name only cells under the locks that they hold, those in conflict by
-/// their footprints are so by their locks.
+/// A layout has each record cell under one lock at most, which is its location by locks. A member keeps to its
+/// footprint, and so do all positions of a run. Where they name only cells under the locks that they hold, those in
+/// conflict by their footprints are so by their locks.
 pub fn footprint_laws()
     ensures laid { LaidLaw }
     ensures location { LocationLaw }

@@ -46,8 +46,8 @@ pub fn restarts_laws()
 {}
 
 /// A beginning of a lawful journal is lawful, and one more event that is allowed keeps it so. Where what has retired
-/// stays clean, its restarts are the first of all restarts, one may come next exactly where the next of all has the present front, and a complete
-/// journal has them all.
+/// stays clean, its restarts are the first of all restarts, one may come next exactly where the next of all has the
+/// present front, and a complete journal has them all.
 pub fn journal_laws()
     ensures front { FrontLaw }
     ensures grow { GrowLaw }
@@ -88,8 +88,8 @@ pub fn run_laws()
     ensures stands { RunStandsLaw }
 {}
 
-/// What may be posted by the locks that are held may be posted, and what is out stays ready by locks, where a post waits
-/// by locks and a restart finds no lock away. A run whose subthreads name only cells under their locks is so.
+/// What may be posted by the locks that are held may be posted, and what is out stays ready by locks, where a post
+/// waits by locks and a restart finds no lock away. A run whose subthreads name only cells under their locks is so.
 pub fn posting_laws()
     ensures post { PostLaw }
     ensures ready { OutReadyLaw }

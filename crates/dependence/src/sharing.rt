@@ -90,8 +90,8 @@ fn share_rising(left: &[Loc], right: &[Loc]) -> bool
 // Lists this short are compared location by location: that is faster than first to look whether they rise.
 const FEW: usize = 8;
 
-/// Whether one location stands in both lists. Takes a time that grows with the lengths alone where both rise, as those of
-/// footprints do, or where one of them is short, and else with their product.
+/// Whether one location stands in both lists. Takes a time that grows with the lengths alone where both rise, as those
+/// of footprints do, or where one of them is short, and else with their product.
 pub fn share(left: &Seq<Loc>, right: &Seq<Loc>) -> bool
     ensures { IsTrue result ↔ Shared left.now right.now }
 {

@@ -20,7 +20,9 @@ use Rattle.desk_board.proofs.Steps.{drawn_by_all, none_twice}
 
 module _ {J W R : Type 0} (is_run : W → J → R → Type 0) (with : W) (s : State (Slot J R) (View J W)) (k : ℕ) (job : J) where
   -- the facts of a desk, stage by stage
-  desk_facts : (stage : Stage) → Stands is_run with k job (tickets s) (word_of s k) (get_elem? s.homes k) (drawns s.views k) (helds s.views k) (takens s.views k) stage → DeskFacts is_run with s k job
+  desk_facts : (stage : Stage)
+      → Stands is_run with k job (tickets s) (word_of s k) (get_elem? s.homes k) (drawns s.views k) (helds s.views k)
+      (takens s.views k) stage → DeskFacts is_run with s k job
   desk_facts waiting x = let low = x.0 in let word = x.1 in record {
     drawn = ((λ l. absurd (omega arith)), λ _. x.3);
     word = (omega (arith, word), λ _. word);
@@ -50,29 +52,44 @@ module _ {J W R : Type 0} (is_run : W → J → R → Type 0) (with : W) (s : St
     out = λ l ne. x.2;
   }
 
-module _ {J W R : Type 0} (fits : W → J → Type 0) (is_run : W → J → R → Type 0) (plan : Plan J W) (s : State (Slot J R) (View J W)) (r : Kept fits is_run plan s) where
+module _ {J W R : Type 0} (fits : W → J → Type 0) (is_run : W → J → R → Type 0) (plan : Plan J W) (s : State (Slot J R) (View J W))
+    (r : Kept fits is_run plan s) where
   abbrev m : ℕ
   m = length plan.jobs.value.items
 
   -- a view that has the whole share holds all desks that are held
   alone_held : (i : ℕ) (v : View J W) → IsView s i v → v.hand.share ≡ 64 → (k : ℕ) → helds s.views k ≡ times k v.hand.held
-  alone_held i v at all k = tally_alone (λ x. x.hand.share) (λ x. times k x.hand.held) s.views i v at (r.shares ∙ sym all) (λ j y there z. ap (times k) ((r.each_view j y there).idle z).1)
+  alone_held i v at all k =
+      tally_alone (λ x. x.hand.share) (λ x. times k x.hand.held) s.views i v at (r.shares ∙ sym all)
+      (λ j y there z. ap (times k) ((r.each_view j y there).idle z).1)
 
   has_ended : (i : ℕ) (v : View J W) → IsView s i v → HasEnded v.hand → m ≤ tickets s
   has_ended i v at h = (subst (λ (o : Option ℕ). IfSome o (λ t. (m ≤ t) × (m ≤ tickets s))) h.1 (r.each_view i v at).ended).1
 
   drawn_within : (i : ℕ) (v : View J W) → IsView s i v → (k : ℕ) → 1 ≤ times k v.hand.drawn → k < m
-  drawn_within i v at k h = dite (dec_le m k) (λ l. absurd (let p = tally_part (λ (x : View J W). times k x.hand.drawn) s.views i v at in let z = r.beyond k l in omega (arith, p, z, h))) (λ n. lt_of_not-le n)
+  drawn_within i v at k h =
+      dite (dec_le m k) (λ l. absurd (let p = tally_part (λ (x : View J W). times k x.hand.drawn) s.views i v at in let z = r.beyond k l in
+      omega (arith, p, z, h))) (λ n. lt_of_not-le n)
 
   held_is : (i : ℕ) (v : View J W) → IsView s i v → (k : ℕ) → Contains v.hand.held k → Contains v.hand.drawn k × (word_of s k ≡ 0)
   held_is i v at k c = let h = times_from_Contains k v.hand.held c in let own = (r.each_view i v at).own k in
-      let d : 1 ≤ times k v.hand.drawn = omega (arith, h, own) in let g = got plan.jobs.value.items k (drawn_within i v at k d) in let was = r.each_desk k g.0 g.1 in
-      (Contains_from_times k v.hand.drawn d, held_to_do is_run plan.with.value k g.0 _ _ _ _ _ _ was.0 was.1 (let p = tally_part (λ (x : View J W). times k x.hand.held) s.views i v at in omega (arith, p, h)))
+      let d : 1 ≤ times k v.hand.drawn = omega (arith, h, own) in
+      let g = got plan.jobs.value.items k (drawn_within i v at k d) in
+      let was = r.each_desk k g.0 g.1 in (
+        Contains_from_times k v.hand.drawn d,
+        held_to_do is_run plan.with.value k g.0 _ _ _ _ _ _ was.0 was.1
+            (let p = tally_part (λ (x : View J W). times k x.hand.held) s.views i v at in omega (arith, p, h)),
+      )
 
   is_held : (i : ℕ) (v : View J W) → IsView s i v → (k : ℕ) → Contains v.hand.drawn k → word_of s k ≡ 0 → Contains v.hand.held k
-  is_held i v at k c e = let d = times_from_Contains k v.hand.drawn c in let g = got plan.jobs.value.items k (drawn_within i v at k d) in let was = r.each_desk k g.0 g.1 in
+  is_held i v at k c e =
+      let d = times_from_Contains k v.hand.drawn c in
+      let g = got plan.jobs.value.items k (drawn_within i v at k d) in
+      let was = r.each_desk k g.0 g.1 in
       let more = held_from is_run plan.with.value k g.0 _ _ _ _ _ _ was.0 was.1 e in
-      let same = counted_alike (λ (x : View J W). times k x.hand.held) (λ x. times k x.hand.drawn) s.views (λ j y there. (r.each_view j y there).own k) more i v at in
+      let same =
+      counted_alike (λ (x : View J W). times k x.hand.held) (λ x. times k x.hand.drawn) s.views
+      (λ j y there. (r.each_view j y there).own k) more i v at in
       Contains_from_times k v.hand.held (omega (arith, d, same))
 
   view_facts : (i : ℕ) (v : View J W) → IsView s i v → ViewFacts m s v
@@ -81,20 +98,26 @@ module _ {J W R : Type 0} (fits : W → J → Type 0) (is_run : W → J → R �
     held = λ k. ((λ c. held_is i v at k c), λ x. is_held i v at k x.0 x.1);
     seen = λ k c. (r.each_view i v at).seen k (times_from_Contains k v.book.seen c);
     ended = λ h. has_ended i v at h;
-    gathered = λ whole k l. (let g = got plan.jobs.value.items k l in let was = r.each_desk k g.0 g.1 in let all = has_ended i v at whole.1 in
-        past_done is_run plan.with.value k g.0 _ _ _ _ _ _ (omega (arith, l, all)) (alone_held i v at whole.0 k ∙ ap (times k) whole.2) was.0 was.1);
+    gathered =
+        λ whole k l. (let g = got plan.jobs.value.items k l in let was = r.each_desk k g.0 g.1 in let all = has_ended i v at whole.1 in
+        past_done is_run plan.with.value k g.0 _ _ _ _ _ _ (omega (arith, l, all))
+        (alone_held i v at whole.0 k ∙ ap (times k) whole.2) was.0 was.1);
   }
 
-  taken_is : (i : ℕ) (v : View J W) → IsView s i v → v.book.clerk ≡ 1 → (k : ℕ) → k < m → (times k v.book.taken ≤ 1) × (Contains v.book.taken k ↔ (word_of s k ≡ 2))
+  taken_is : (i : ℕ) (v : View J W) → IsView s i v → v.book.clerk ≡ 1 → (k : ℕ) → k < m
+      → (times k v.book.taken ≤ 1) × (Contains v.book.taken k ↔ (word_of s k ≡ 2))
   taken_is i v at clerk k l =
       let g = got plan.jobs.value.items k l in let was = r.each_desk k g.0 g.1 in
       let alone : takens s.views k ≡ times k v.book.taken =
-      tally_alone (λ x. x.book.clerk) (λ x. times k x.book.taken) s.views i v at (r.clerks ∙ sym clerk) (λ j y there z. ap (times k) ((r.each_view j y there).others z)) in
+      tally_alone (λ x. x.book.clerk) (λ x. times k x.book.taken) s.views i v at (r.clerks ∙ sym clerk)
+      (λ j y there z. ap (times k) ((r.each_view j y there).others z)) in
       let most = taken_at_most is_run plan.with.value k g.0 _ _ _ _ _ _ was.0 was.1 in (
         omega (arith, alone, most),
         (
-          (λ c. let h = times_from_Contains k v.book.taken c in taken_two is_run plan.with.value k g.0 _ _ _ _ _ _ was.0 was.1 (omega (arith, alone, h))),
-          λ e. let h = two_taken is_run plan.with.value k g.0 _ _ _ _ _ _ was.0 was.1 e in Contains_from_times k v.book.taken (omega (arith, alone, h)),
+          (λ c. let h = times_from_Contains k v.book.taken c in
+              taken_two is_run plan.with.value k g.0 _ _ _ _ _ _ was.0 was.1 (omega (arith, alone, h))),
+          λ e. let h = two_taken is_run plan.with.value k g.0 _ _ _ _ _ _ was.0 was.1 e in
+              Contains_from_times k v.book.taken (omega (arith, alone, h)),
         ),
       )
 
@@ -102,7 +125,10 @@ module _ {J W R : Type 0} (fits : W → J → Type 0) (is_run : W → J → R �
   facts_hold = record {
     jobs = (r.all_fit, λ i v at. (r.each_view i v at).same);
     shares = r.shares;
-    drawn_once = λ k i j v u at there c d. counted_once (λ (x : View J W). times k x.hand.drawn) s.views (drawn_by_all fits is_run plan s r k) i j v u at there (times_from_Contains k v.hand.drawn c) (times_from_Contains k u.hand.drawn d);
+    drawn_once =
+        λ k i j v u at there c d. counted_once (λ (x : View J W). times k x.hand.drawn) s.views
+        (drawn_by_all fits is_run plan s r k) i j v u at there (times_from_Contains k v.hand.drawn c)
+        (times_from_Contains k u.hand.drawn d);
     taken = λ i v at clerk k l. taken_is i v at clerk k l;
     tickets = r.low;
     desks = λ k job has. (let was = r.each_desk k job has in desk_facts is_run plan.with.value s k job was.0 was.1);

@@ -16,8 +16,8 @@ impl<J: Job> Board<J> {
         self.count
     }
 
-    /// Whether the run of this desk is back, or was collected. Once the last pass is gathered, every desk's is. Takes no
-    /// memory.
+    /// Whether the run of this desk is back, or was collected. Once the last pass is gathered, every desk's is. Takes
+    /// no memory.
     pub fn look(&self, clerk: &mut Clerk<J>, desk: u32) -> bool
         requires of { IsClerkOf self.now clerk.old }
         requires desk { desk < length (about self.now).jobs }

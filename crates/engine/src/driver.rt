@@ -2,7 +2,7 @@
 ghost use Rattle.std.specs.Prelude.{◌≡◌, [], IfOk, OnOk};
 ghost use Rattle.std.specs.Io.KnownBytes.{Appends};
 ghost use Rattle.subthread.specs.Tasks.{Suits};
-ghost use Rattle.restart_log.specs.Lines.{printed};
+ghost use Rattle.restart_log.specs.meaning.Lines.{printed};
 ghost use Rattle.whole_run.specs.Drive.{journal_in, JournalStands, ReportsRun, all_lines, WritesRetired, HasRunCause, HasRunCauses, ArePosts, IsUntaken, RanOut};
 ghost use Rattle.whole_run.specs.Notes.{NotesRun};
 ghost use Rattle.engine.specs.Drive.{batch_of};
@@ -16,7 +16,8 @@ use subthread::Work;
 use task_ast::Layout;
 use whole_run::{Recovery, drive_by};
 
-/// Runs a batch as `drive` does, and has notes taken of it: what is applied is noted, and each position that retires is told to
+/// Runs a batch as `drive` does, and has notes taken of it: what is applied is noted, and each position that retires is
+/// told to
 /// `log` once its lines are written, with what its subthread leaves in the plain run. Where the run stops, a part of the last
 /// one may be missing. A fault of the log stops the run as one of the output does.
 pub fn drive_noted<R: Threads + Sync, C: Crew, O: Sink, N: Notes, L: Sink>(

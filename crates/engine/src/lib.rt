@@ -1,5 +1,6 @@
-//! The engine: a whole run that restarts selectively. Subthreads are issued in the order of the plain run, run by a crew out
-//! of order, and retired in order; where a fault strikes, what it ruined is undone and redone, and nothing else.
+//! The engine: a whole run that restarts selectively. Subthreads are issued in the order of the plain run, run by a
+//! crew out of order, and retired in order; where a fault strikes, what it ruined is undone and redone, and nothing
+//! else.
 #![tactic(auto)]
 
 mod driver;

@@ -11,9 +11,9 @@ use Rattle.std.proofs.lemmas.Bool.{false≢true, false_from_ne_true, eqb-true, e
 use Rattle.std.proofs.lemmas.List.Elements.{All-contains, All-filter, All-contains_itself, filter_passes, Contains-push_cases, Contains-push, Contains-append_left, Contains-append_right, Contains-append_cases}
 use Rattle.gp_base.specs.declared.journal.Event.TheVariants as event
 use Rattle.gp_base.specs.declared.journal.Restart.{Restart}
-use Rattle.dependence.specs.Dependents.{is_member}
-use Rattle.dependence.specs.Restarts.{Dependence, begun_of, restart_of, struck_next}
-use Rattle.dependence.specs.Journal.{Stage, MayIssue, MayPost, MayTake, MayRetire, happens, restarted}
+use Rattle.dependence.specs.meaning.Dependents.{is_member}
+use Rattle.dependence.specs.meaning.Restarts.{Dependence, begun_of, restart_of, struck_next}
+use Rattle.dependence.specs.meaning.Journal.{Stage, MayIssue, MayPost, MayTake, MayRetire, happens, restarted}
 use Rattle.dependence.specs.JournalTests.{same_attempt}
 use Rattle.dependence.specs.Standing.{present, StageStands, NamesIssued}
 use Rattle.dependence.proofs.RestartEnds.{attempt-push, begun-push}
@@ -23,7 +23,7 @@ use Rattle.gp_audit.specs.declared.state.Seen.{Seen}
 use Rattle.gp_audit.specs.declared.line.TraceLine.{TraceLine}
 use Rattle.gp_audit.specs.declared.line.TraceLine.TheVariants as line
 use Rattle.gp_audit.specs.Steps.{dependence_by}
-use Rattle.gp_audit.specs.Verdicts.{event_of}
+use Rattle.gp_audit.specs.meaning.Verdicts.{event_of}
 use Rattle.gp_audit.specs.inner.Audited.{Audited, seen_at, first_seen, posted_seen, taken_seen, raised_seen, changed_at, all_raised, left_waiting, where_applied, waits_again, after_line, IsSeen, Shows}
 use Rattle.gp_audit.proofs.Shown.{seen-is}
 use Rattle.gp_audit.proofs.StepOrder.{steps-redo}

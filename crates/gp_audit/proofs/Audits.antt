@@ -13,9 +13,9 @@ use Rattle.gp_base.specs.declared.limits.TheConstants.{MOST_FAULTS}
 use Rattle.gp_base.specs.declared.fault.Fault.{Fault}
 use Rattle.gp_base.specs.declared.journal.Restart.{Restart}
 use Rattle.one_thread.specs.declared.run.Step.{Step}
-use Rattle.dependence.specs.Conflict.{clash_in}
-use Rattle.dependence.specs.Restarts.{Dependence, least_struck}
-use Rattle.dependence.specs.Journal.{Stage, initial_stage, stage, Complete}
+use Rattle.dependence.specs.meaning.Conflict.{clash_in}
+use Rattle.dependence.specs.meaning.Restarts.{Dependence, least_struck}
+use Rattle.dependence.specs.meaning.Journal.{Stage, initial_stage, stage, Complete}
 use Rattle.dependence.specs.JournalTests.{same_attempt}
 use Rattle.dependence.specs.Standing.{AreShort, StageStands, NamesIssued}
 use Rattle.dependence.proofs.Auditing.{contains-decides}
@@ -26,7 +26,7 @@ use Rattle.gp_audit.specs.declared.line.TraceLine.{TraceLine}
 use Rattle.gp_audit.specs.declared.line.TraceLine.TheVariants as line
 use Rattle.gp_audit.specs.declared.state.Seen.{Seen}
 use Rattle.gp_audit.specs.Steps.{feet_in, dependence_by}
-use Rattle.gp_audit.specs.Verdicts.{events_of, LawfulLines}
+use Rattle.gp_audit.specs.meaning.Verdicts.{events_of, LawfulLines}
 use Rattle.gp_audit.specs.inner.Audited.{Audited, nothing_seen, seen_at, first_seen, strikes_one, strikes, least_of, drains_now, struck_in, takes, IsRestart, Takes, after_line, is_whole, IsNoteworthy, Shows}
 use Rattle.gp_audit.specs.inner.Told.{Told}
 use Rattle.gp_audit.proofs.After.{line-shows}

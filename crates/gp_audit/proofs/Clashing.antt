@@ -6,7 +6,8 @@ use Rattle.std.proofs.lemmas.Bool.{false≢true}
 use Rattle.std.proofs.lemmas.List.{get_or-map, take_more}
 use Rattle.std.proofs.lemmas.List.Folds.{list_any-append}
 use Rattle.one_thread.specs.declared.run.Step.{Step}
-use Rattle.dependence.specs.Conflict.{Conflict, conflicting, clash_in, idle_foot}
+use Rattle.dependence.specs.meaning.Conflict.{conflicting, clash_in, idle_foot}
+use Rattle.dependence.specs.Conflict.{Conflict}
 use Rattle.dependence.proofs.Conflicting.{conflicting-is}
 use Rattle.gp_audit.specs.Steps.{feet_in}
 

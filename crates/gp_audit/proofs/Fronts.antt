@@ -3,14 +3,14 @@ use Rattle.std.proofs.Common.{◌≡◌, inl, inr, ℕ, ◌<◌, ◌≤◌, List
 use Rattle.std.proofs.lemmas.Bool.{cases_lt, cases_eq}
 use Rattle.gp_base.specs.declared.fault.Fault.{Fault}
 use Rattle.gp_base.specs.declared.journal.Event.{Event}
-use Rattle.dependence.specs.Restarts.{Dependence}
-use Rattle.dependence.specs.Journal.{initial_stage, Lawful}
+use Rattle.dependence.specs.meaning.Restarts.{Dependence}
+use Rattle.dependence.specs.meaning.Journal.{initial_stage, Lawful}
 use Rattle.dependence.proofs.Journals.{LawfulFrom-front}
 use Rattle.gp_audit.specs.declared.line.TraceLine.{TraceLine}
 use Rattle.gp_audit.specs.declared.line.TraceLine.TheVariants as line
 use Rattle.gp_audit.specs.declared.verdict.Verdict.{Verdict}
 use Rattle.gp_audit.specs.declared.verdict.Verdict.TheVariants.{Lawful as IsLawful, Unlawful, Incomplete}
-use Rattle.gp_audit.specs.Verdicts.{event_of, made_after, events_from, events_of, restarts_told, LawfulLines, IsFirstUnlawful, IsVerdict}
+use Rattle.gp_audit.specs.meaning.Verdicts.{event_of, made_after, events_from, events_of, restarts_told, LawfulLines, IsFirstUnlawful, IsVerdict}
 
 told-append : (xs ys : List TraceLine) → restarts_told (xs ++ ys) ≡ restarts_told xs ++ restarts_told ys
 told-append [] ys = refl

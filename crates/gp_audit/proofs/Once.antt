@@ -10,7 +10,7 @@ use Rattle.gp_audit.specs.declared.line.TraceLine.TheVariants as line
 use Rattle.gp_audit.specs.declared.line.TraceFault.{TraceFault}
 use Rattle.gp_audit.specs.declared.line.TraceFault.TheVariants as fault
 use Rattle.gp_audit.specs.Reading.{AnswersTrace}
-use Rattle.gp_audit.specs.Lines.{line_text, trace_text, before_space, at_end, attempt_before, applies_word, redo_end, restart_end, IsNarrow, IsNarrowRestart, IsNarrowLine}
+use Rattle.gp_audit.specs.meaning.Lines.{line_text, trace_text, before_space, at_end, attempt_before, applies_word, redo_end, restart_end, IsNarrow, IsNarrowRestart, IsNarrowLine}
 use Rattle.gp_audit.proofs.Digits.{number_once}
 use Rattle.gp_audit.proofs.FirstWords.{only_issue, only_post, only_take, only_retire, only_restart}
 use Rattle.gp_audit.proofs.Parts.{cancel, before_once, attempt_once, space, line_end}

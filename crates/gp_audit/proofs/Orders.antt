@@ -3,13 +3,13 @@ use Rattle.std.proofs.Common.{◌≡◌, ℕ, zero, suc, List, [], ◌∷◌, le
 use Rattle.std.specs.Prelude.{slice_get}
 use Rattle.std.specs.Option.{option_map}
 use Rattle.std.proofs.lemmas.List.{length-map}
-use Rattle.task_ast.specs.Plain.{Subthread}
-use Rattle.task_ast.specs.Position.{is_of, last_below}
+use Rattle.task_ast.specs.meaning.Plain.{Subthread}
+use Rattle.task_ast.specs.meaning.Position.{is_of, last_below}
 use Rattle.one_thread.specs.PlainRuns.{shown}
-use Rattle.dependence.specs.Conflict.{clash_in}
-use Rattle.dependence.specs.Dependents.{dependents}
-use Rattle.dependence.specs.Restarts.{Dependence}
-use Rattle.dependence.specs.Runs.{feet_of, before_one, settles_one, dependence_of}
+use Rattle.dependence.specs.meaning.Conflict.{clash_in}
+use Rattle.dependence.specs.meaning.Dependents.{dependents}
+use Rattle.dependence.specs.meaning.Restarts.{Dependence}
+use Rattle.dependence.specs.meaning.Runs.{feet_of, before_one, settles_one, dependence_of}
 use Rattle.gp_audit.specs.Steps.{feet_in, is_step_of, last_step, before_step, settles_step, dependence_by}
 
 get-map : (run : List Subthread) (p : ℕ) → slice_get (map shown run) p ≡ option_map shown (slice_get run p)

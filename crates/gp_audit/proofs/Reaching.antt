@@ -4,7 +4,7 @@ use Rattle.std.specs.Prelude.{slice_get}
 use Rattle.std.proofs.lemmas.Option.{slice_get_within, slice_get-get_or}
 use Rattle.std.proofs.lemmas.Bool.{lt-ltb, le-ltb, cases_lt}
 use Rattle.gp_base.specs.declared.fault.Fault.{Fault}
-use Rattle.dependence.specs.Restarts.{Dependence, Progress, drains, begun_of, is_live, is_due, least_struck, struck_next}
+use Rattle.dependence.specs.meaning.Restarts.{Dependence, Progress, drains, begun_of, is_live, is_due, least_struck, struck_next}
 use Rattle.gp_audit.specs.declared.state.Seen.{Seen}
 use Rattle.gp_audit.specs.Steps.{dependence_by}
 use Rattle.gp_audit.specs.inner.Audited.{Audited, first_seen, strikes_one, strikes, least_of, is_last, drains_now, struck_in}

@@ -10,8 +10,8 @@ use Rattle.std.proofs.lemmas.Bool.{false≢true, false_from_ne_true, eqb-true, e
 use Rattle.gp_base.specs.declared.fault.Fault.{Fault}
 use Rattle.gp_base.specs.declared.journal.Restart.{Restart}
 use Rattle.one_thread.specs.declared.run.Step.{Step}
-use Rattle.dependence.specs.Dependents.{is_member}
-use Rattle.dependence.specs.Restarts.{Dependence, Progress, redoes, attempt_of, begun_of, struck_next, restart_of, advance_by, advance, progress, restarts}
+use Rattle.dependence.specs.meaning.Dependents.{is_member}
+use Rattle.dependence.specs.meaning.Restarts.{Dependence, Progress, redoes, attempt_of, begun_of, struck_next, restart_of, advance_by, advance, progress, restarts}
 use Rattle.dependence.proofs.DependentSets.{is_member-is, dependents_rise}
 use Rattle.dependence.proofs.RestartEnds.{attempt-push, begun-push, made-first, few-restarts}
 use Rattle.dependence.proofs.Struck.{struck-live}

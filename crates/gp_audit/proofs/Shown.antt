@@ -13,9 +13,9 @@ use Rattle.std.proofs.lemmas.Bool.Decides.{Decides-like, Decides-not, Decides-an
 use Rattle.gp_base.specs.declared.limits.TheConstants.{LONGEST_DELAY}
 use Rattle.gp_base.specs.declared.fault.Fault.{Fault}
 use Rattle.gp_base.specs.declared.journal.Restart.{Restart}
-use Rattle.dependence.specs.Conflict.{clash_in}
-use Rattle.dependence.specs.Restarts.{Dependence, drains, begun_of, is_live, is_due, least_struck, struck_next, restart_of, NoneDue, IsFinal}
-use Rattle.dependence.specs.Journal.{Stage, MayIssue, MayPost, MayTake, MayRetire, MayFollow, Drained}
+use Rattle.dependence.specs.meaning.Conflict.{clash_in}
+use Rattle.dependence.specs.meaning.Restarts.{Dependence, drains, begun_of, is_live, is_due, least_struck, struck_next, restart_of, NoneDue, IsFinal}
+use Rattle.dependence.specs.meaning.Journal.{Stage, MayIssue, MayPost, MayTake, MayRetire, MayFollow, Drained}
 use Rattle.dependence.specs.JournalTests.{same_attempt}
 use Rattle.dependence.specs.Standing.{present, StageStands}
 use Rattle.dependence.proofs.Auditing.{contains-decides}

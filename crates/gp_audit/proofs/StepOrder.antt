@@ -2,7 +2,7 @@
 use Rattle.std.proofs.Common.{◌≡◌, ℕ, Bool, true, List}
 use Rattle.gp_base.specs.declared.fault.Fault.{Fault}
 use Rattle.one_thread.specs.declared.run.Step.{Step}
-use Rattle.dependence.specs.Conflict.{clash_in}
+use Rattle.dependence.specs.meaning.Conflict.{clash_in}
 use Rattle.dependence.specs.Dependents.{IsDependent, itself}
 use Rattle.dependence.specs.Restarts.{RedoesStruck}
 use Rattle.dependence.specs.Standing.{AreShort, RedoesConflicts, RedoesLater, KeepsClean}

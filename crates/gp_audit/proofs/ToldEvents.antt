@@ -6,15 +6,15 @@ use Rattle.gp_base.specs.declared.fault.Fault.{Fault}
 use Rattle.gp_base.specs.declared.journal.Event.{Event}
 use Rattle.gp_base.specs.declared.journal.Event.TheVariants as event
 use Rattle.gp_base.specs.declared.journal.Restart.{Restart}
-use Rattle.dependence.specs.Restarts.{Dependence, struck_next, restart_of, restarts}
-use Rattle.dependence.specs.Journal.{Stage, initial_stage, Allowed, happens, LawfulFrom, Lawful, stage_from, stage, restarted}
-use Rattle.dependence.specs.Counts.{is_restart}
+use Rattle.dependence.specs.meaning.Restarts.{Dependence, struck_next, restart_of, restarts}
+use Rattle.dependence.specs.meaning.Journal.{Stage, initial_stage, Allowed, happens, LawfulFrom, Lawful, stage_from, stage, restarted}
+use Rattle.dependence.specs.meaning.Counts.{is_restart}
 use Rattle.dependence.specs.Standing.{KeepsClean}
 use Rattle.dependence.proofs.Counts.{counted}
 use Rattle.dependence.proofs.Journals.{LawfulFrom-push, stage_from-push, restarts-first}
 use Rattle.gp_audit.specs.declared.line.TraceLine.{TraceLine}
 use Rattle.gp_audit.specs.declared.line.TraceLine.TheVariants as line
-use Rattle.gp_audit.specs.Verdicts.{event_of, made_after, events_from, events_of, restarts_told, LawfulLines}
+use Rattle.gp_audit.specs.meaning.Verdicts.{event_of, made_after, events_from, events_of, restarts_told, LawfulLines}
 
 -- the restarts that a line tells
 abbrev told_by : TraceLine → List Restart

@@ -3,13 +3,13 @@ use Rattle.std.proofs.Common.{true, List, [], ◌∷◌, refl}
 use Rattle.std.proofs.lemmas.Bool.Decides.{not_from_Decides}
 use Rattle.one_thread.specs.declared.run.Step.{Step}
 use Rattle.task_ast.specs.declared.sync.SyncOp.TheVariants as sync
-use Rattle.dependence.specs.Restarts.{Dependence}
+use Rattle.dependence.specs.meaning.Restarts.{Dependence}
 use Rattle.dependence.proofs.Auditing.{lawful-decides, complete-decides}
 use Rattle.gp_audit.specs.declared.line.TraceLine.{TraceLine}
 use Rattle.gp_audit.specs.declared.line.TraceLine.TheVariants.{Issue, Post, Take, Retire}
 use Rattle.gp_audit.specs.declared.verdict.Verdict.TheVariants.{Lawful as IsLawful, Unlawful, Incomplete}
 use Rattle.gp_audit.specs.Steps.{dependence_by}
-use Rattle.gp_audit.specs.Verdicts.{IsVerdict, events_of}
+use Rattle.gp_audit.specs.meaning.Verdicts.{IsVerdict, events_of}
 
 -- it reads, writes and prints nothing
 one_step : List Step

@@ -1,11 +1,11 @@
 -- What the steps of a plain run say of conflicts, restarts and journals.
 use Rattle.std.specs.Prelude.{ℕ, zero, suc, Bool, false, cond, nat_eq, List, length, map, Option, Some, None, slice_get}
 use Rattle.gp_base.specs.declared.footprint.Footprint.{Footprint}
-use Rattle.task_ast.specs.Table.{is_settle}
+use Rattle.task_ast.specs.meaning.Table.{is_settle}
 use Rattle.one_thread.specs.declared.run.Step.{Step}
-use Rattle.dependence.specs.Conflict.{clash_in}
-use Rattle.dependence.specs.Dependents.{dependents}
-use Rattle.dependence.specs.Restarts.{Dependence}
+use Rattle.dependence.specs.meaning.Conflict.{clash_in}
+use Rattle.dependence.specs.meaning.Dependents.{dependents}
+use Rattle.dependence.specs.meaning.Restarts.{Dependence}
 
 abbrev pub feet_in : List Step → List Footprint
 feet_in steps = map (λ (s : Step). s.foot) steps

@@ -2,8 +2,8 @@
 ghost use Rattle.std.specs.Prelude.{◌≡◌, ◌↔◌, ◌<◌, ◌≤◌, length, min, IsTrue, slice_get, All, Some};
 ghost use Rattle.std.specs.Option.{option_map_or};
 ghost use Rattle.std.specs.List.{list_any};
-ghost use Rattle.dependence.specs.Dependents.{dependents};
-ghost use Rattle.dependence.specs.Conflict.{clash_in};
+ghost use Rattle.dependence.specs.meaning.Dependents.{dependents};
+ghost use Rattle.dependence.specs.meaning.Conflict.{clash_in};
 ghost use Rattle.gp_audit.specs.Steps.{feet_in, before_step};
 ghost use Rattle.gp_audit.specs.inner.Audited.{strikes, least_of, is_last, settles, drains_now, struck_in, follows, issues, is_held_up, posts, takes, retires, Takes, IsRestart, is_whole, kept};
 

@@ -1,6 +1,6 @@
 // How a verdict is told.
 ghost use Rattle.std.specs.Prelude.{◌≡◌, IfOk};
-ghost use Rattle.gp_audit.specs.Answer.{verdict_text, verdict_status};
+ghost use Rattle.gp_audit.specs.meaning.Answer.{verdict_text, verdict_status};
 
 use crate::verdict::Verdict;
 use gp_base::{Seq, Text};

@@ -1,9 +1,9 @@
 // The restarts that faults make of a run.
 ghost use Rattle.std.specs.Prelude.{◌≡◌, ◌<◌, ◌≤◌, length, IfOk, OnOk};
 ghost use Rattle.gp_base.specs.declared.limits.TheConstants.{MOST_FAULTS};
-ghost use Rattle.dependence.specs.Conflict.{clash_in};
-ghost use Rattle.dependence.specs.Dependents.{dependents};
-ghost use Rattle.dependence.specs.Restarts.{restarts};
+ghost use Rattle.dependence.specs.meaning.Conflict.{clash_in};
+ghost use Rattle.dependence.specs.meaning.Dependents.{dependents};
+ghost use Rattle.dependence.specs.meaning.Restarts.{restarts};
 ghost use Rattle.gp_audit.specs.Steps.{feet_in, dependence_by};
 ghost use Rattle.gp_audit.specs.inner.Audited.{kept, seen_at, restart_at};
 ghost use Rattle.gp_audit.specs.inner.Replayed.{Replays, Advances};

@@ -1,7 +1,7 @@
 // What an audit answers.
 ghost use Rattle.std.specs.Prelude.{◌<◌, length, IfOk};
 ghost use Rattle.gp_audit.specs.Steps.{dependence_by};
-ghost use Rattle.gp_audit.specs.Verdicts.{IsVerdict};
+ghost use Rattle.gp_audit.specs.meaning.Verdicts.{IsVerdict};
 
 use crate::line::TraceLine;
 use crate::state::Audit;

@@ -1,5 +1,5 @@
--- Which lists of faults a run may be given.
-use Rattle.std.specs.Prelude.{◌≢◌, ◌<◌, ◌≤◌, ◌^◌, pos, Bool, ◌&&◌, nat_eq, FitsSigned}
+-- Which faults a run may be given.
+use Rattle.std.specs.Prelude.{◌≢◌, ◌<◌, ◌≤◌, ◌^◌, pos, FitsSigned}
 use Rattle.std.specs.Int.{w64}
 use Rattle.gp_base.specs.declared.limits.TheConstants.{LONGEST_DELAY}
 use Rattle.gp_base.specs.declared.fault.Fault.{Fault}
@@ -11,7 +11,3 @@ pub record IsInRange (fault : Fault) : Type 0 where
   pub delay : fault.delay ≤ LONGEST_DELAY
   pub some_mask : fault.mask ≢ pos 0
   pub mask : FitsSigned w64 fault.mask
-
--- whether two faults strike the same attempt of the same position
-abbrev pub strikes_same : Fault → Fault → Bool
-strikes_same fault other = nat_eq fault.pos other.pos && nat_eq fault.attempt other.attempt

@@ -1,7 +1,8 @@
 // Faults, and the lists of them that a run may be given.
 ghost use Rattle.std.specs.Prelude.{◌≡◌, ◌≤◌, [], length};
 ghost use Rattle.std.specs.List.{All, IsDistinct};
-ghost use Rattle.gp_base.specs.Faults.{IsInRange, strikes_same};
+ghost use Rattle.gp_base.specs.meaning.Faults.{strikes_same};
+ghost use Rattle.gp_base.specs.Faults.{IsInRange};
 ghost use Rattle.gp_base.specs.declared.limits.TheConstants.{MOST_FAULTS};
 ghost use Rattle.std.proofs.Props.{props};
 
@@ -19,8 +20,8 @@ pub struct Fault {
     pub mask: i64,
 }
 
-/// The faults that a run is given: at most [`MOST_FAULTS`](crate::limits::MOST_FAULTS), each in its range, and no two on
-/// the same attempt of a position.
+/// The faults that a run is given: at most [`MOST_FAULTS`](crate::limits::MOST_FAULTS), each in its range, and no two
+/// on the same attempt of a position.
 #[derive(Drop)]
 pub struct Faults {
     pub list: Seq<Fault>,

@@ -17,7 +17,7 @@ pub struct Feed {
 
 impl Feed {
     ghost use Rattle.std.specs.Prelude.{pos};
-    ghost use Rattle.gp_base.specs.Feeds.{rows_in, cell_at};
+    ghost use Rattle.gp_base.specs.meaning.Feeds.{rows_in, cell_at};
 
     /// The feed of these cells. Takes no memory.
     pub fn new(fields: u32, cells: Nums) -> Feed

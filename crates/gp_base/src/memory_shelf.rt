@@ -1,7 +1,8 @@
 // Shelves in memory.
 ghost use Rattle.std.specs.Prelude.{◌≡◌, ◌<◌, ◌≤◌, ◌⊎◌, ◌++◌, ◌+◌, ◌-◌, ◌^◌, min, ◌∷◌, [], None, Some, option_copied, IfOk, OnOk, OnErr, IsErrOf, length};
 ghost use Rattle.gp_base.specs.Calls.{IsNextListed};
-ghost use Rattle.gp_base.specs.Files.{bytes_of, HasDistinctNames, GrowsByOnly, HasFileCause, IsWithin, AnswersRead, IsFailure};
+ghost use Rattle.gp_base.specs.meaning.Files.{bytes_of, GrowsByOnly, HasFileCause, IsWithin, AnswersRead, IsFailure};
+ghost use Rattle.gp_base.specs.Files.{HasDistinctNames};
 
 use crate::calls::Calls;
 use crate::{Name, Seq, Shelf, ShelfFault, Text};
@@ -88,8 +89,8 @@ impl Shelf for MemShelf {
         ensures size { IsWithin at_most result }
         ensures told { AnswersRead (bytes_of self.old.files name.now) at_most self.old.failed.items self.new.failed.items result }
 
-        // A call that is listed fails, and no other at a name that the shelf has; nor does another count as a failure. Running out
-        // of memory may stand for a failure.
+        // A call that is listed fails, and no other at a name that the shelf has; nor does another count as a failure.
+        // Running out of memory may stand for a failure.
         ensures listed { IsNextListed self.old.calls.failing self.old.calls.made → IsFailure result }
         ensures unlisted { IsErrOf result ShelfFault.Failed →
             IsNextListed self.old.calls.failing self.old.calls.made ⊎ (bytes_of self.old.files name.now ≡ None) }

@@ -2,7 +2,7 @@
 ghost use Rattle.std.specs.Prelude.{◌≡◌, ◌<◌, ◌≤◌, ◌↔◌, ◌+◌, ◌-◌, ◌^◌, min, [], Some, None, Ok, Err, length, IfOk};
 ghost use Rattle.std.specs.Io.KnownBytes.{WriteAppends};
 ghost use Rattle.gp_base.specs.Calls.{IsNextListed};
-ghost use Rattle.gp_base.specs.Sinks.{HasCause};
+ghost use Rattle.gp_base.specs.meaning.Sinks.{HasCause};
 
 use crate::calls::Calls;
 use crate::{Seq, Sink, SinkFault};

@@ -1,7 +1,7 @@
 // Files that are read by their names.
 ghost use Rattle.std.specs.Prelude.{◌≡◌, ℕ, List, Option, IfSome};
 ghost use Rattle.gp_base.specs.declared.shelf.ShelfFault.TheVariants.{OutOfMemory};
-ghost use Rattle.gp_base.specs.Files.{bytes_of, GrowsByOnly, HasFileCause, IsWithin, AnswersRead};
+ghost use Rattle.gp_base.specs.meaning.Files.{bytes_of, GrowsByOnly, HasFileCause, IsWithin, AnswersRead};
 
 use crate::{Name, Text};
 use std::alloc::{AllocError, AllocFailed};

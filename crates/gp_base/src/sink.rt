@@ -2,7 +2,7 @@
 ghost use Rattle.std.specs.Prelude.{◌≡◌, ◌<◌, ◌≤◌, ℕ, List, Option, length, IfOk, OnOk, OnErr};
 ghost use Rattle.std.specs.Io.KnownBytes.{Appends, WriteAppends};
 ghost use Rattle.gp_base.specs.declared.sink.SinkFault.TheVariants.{OutOfMemory};
-ghost use Rattle.gp_base.specs.Sinks.{HasCause, AppendsPrefix};
+ghost use Rattle.gp_base.specs.meaning.Sinks.{HasCause, AppendsPrefix};
 
 use std::alloc::{AllocError, AllocFailed};
 

@@ -2,7 +2,7 @@
 ghost use Rattle.std.specs.Prelude.{◌≡◌, ◌≤◌, [], IfOk, OnOk};
 ghost use Rattle.std.specs.Io.KnownBytes.{Appends};
 ghost use Rattle.subthread.specs.Tasks.{Suits};
-ghost use Rattle.restart_log.specs.Lines.{printed};
+ghost use Rattle.restart_log.specs.meaning.Lines.{printed};
 ghost use Rattle.whole_run.specs.Drive.{journal_in, JournalStands, ReportsRun, all_lines, WritesRetired, HasRunCause, ArePosts, IsUntaken, RanOut};
 ghost use Rattle.gp_checkpoint.specs.Drive.{batch_of};
 
@@ -15,7 +15,8 @@ use subthread::Work;
 use task_ast::Layout;
 use whole_run::{Recovery, drive_by};
 
-/// Runs a batch as `engine::drive` does, but by checkpoints: the data are copied at the cuts, which are the multiples of
+/// Runs a batch as `engine::drive` does, but by checkpoints: the data are copied at the cuts, which are the multiples
+/// of
 /// `every` and the subthreads that begin with a settle, and a fault rolls all from its cut on back to the copy there. The
 /// positions of a block, from one cut to the next, run once all before it is applied, and retire once no fault can strike any of
 /// it. The printed lines, the end and the records are those of the plain run all the same; the journal's restarts are the

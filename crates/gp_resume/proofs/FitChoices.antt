@@ -7,14 +7,14 @@ use Rattle.std.proofs.lemmas.Bool.{cases_eq}
 use Rattle.gp_base.specs.declared.limits.Limits.{Limits}
 use Rattle.gp_base.specs.declared.feed.Inputs.{Inputs}
 use Rattle.gp_base.specs.declared.ending.End.{End}
-use Rattle.task_ast.specs.Tree.{Program}
-use Rattle.task_ast.specs.State.{RegistersOf}
-use Rattle.task_ast.specs.Layout.{layout}
-use Rattle.task_ast.specs.Under.{is_under}
-use Rattle.task_ast.specs.Repeat.{Move, Goes, Ends}
-use Rattle.task_ast.specs.Plain.{Subthread, Plain, opening, move}
-use Rattle.retirement_log.specs.Rows.{Row}
-use Rattle.gp_resume.specs.Fitting.{writes_in, child_registers, StandsUnder, least_bytes, FitsIssue, FitsMove, replayed, FitFrom, Fit}
+use Rattle.task_ast.specs.meaning.Tree.{Program}
+use Rattle.task_ast.specs.meaning.State.{RegistersOf}
+use Rattle.task_ast.specs.meaning.Layout.{layout}
+use Rattle.task_ast.specs.meaning.Under.{is_under}
+use Rattle.task_ast.specs.meaning.Repeat.{Move, Goes, Ends}
+use Rattle.task_ast.specs.meaning.Plain.{Subthread, Plain, opening, move}
+use Rattle.retirement_log.specs.meaning.Rows.{Row}
+use Rattle.gp_resume.specs.meaning.Fitting.{writes_in, child_registers, StandsUnder, least_bytes, FitsIssue, FitsMove, replayed, FitFrom, Fit}
 use Rattle.gp_resume.proofs.Choices.{Choice, same-choice, is-true, same-int, no-more, all}
 
 stands-under : (under : List (List ℕ)) (held : List ℕ) (cell : ℤ) → Choice (StandsUnder under held cell)

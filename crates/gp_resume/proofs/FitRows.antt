@@ -6,14 +6,14 @@ use Rattle.std.proofs.lemmas.List.Elements.{All-nil, All-cons}
 use Rattle.std.specs.Int.Signed.{≤ℤ_refl}
 use Rattle.gp_base.specs.declared.ending.End.{End}
 use Rattle.gp_base.specs.declared.ending.End.TheVariants.{Finished}
-use Rattle.task_ast.specs.Layout.{layout}
-use Rattle.task_ast.specs.Body.{body, stretch}
-use Rattle.task_ast.specs.Repeat.{steps, state_after, repeated, until_done}
+use Rattle.task_ast.specs.meaning.Layout.{layout}
+use Rattle.task_ast.specs.meaning.Body.{body, stretch}
+use Rattle.task_ast.specs.meaning.Repeat.{steps, state_after, repeated, until_done}
 use Rattle.task_ast.proofs.RowPrograms.{two_adders}
 use Rattle.task_ast.proofs.RunRows.{zeros, limits}
-use Rattle.retirement_log.specs.Rows.{Row}
-use Rattle.gp_resume.specs.Fitting.{StandsUnder, Fit}
-use Rattle.gp_resume.specs.Resumed.{end, final_records, count, lines}
+use Rattle.retirement_log.specs.meaning.Rows.{Row}
+use Rattle.gp_resume.specs.meaning.Fitting.{StandsUnder, Fit}
+use Rattle.gp_resume.specs.meaning.Resumed.{end, final_records, count, lines}
 use Rattle.gp_resume.specs.Laws.{own_rows}
 
 abbrev row : ℕ → List ℤ → List ℤ → List (ℤ × ℤ) → Row
@@ -44,10 +44,27 @@ first_rows_fit = (
   (
     record { position = refl; registers = refl; child = refl; cells_held = All-nil (Held []); cells_rise = refl; bytes = ≤ℤ_refl (pos 7) },
     (
-      record { position = refl; registers = refl; child = refl; cells_held = All-nil (Held []); cells_rise = refl; bytes = ≤ℤ_refl (pos 7) },
+      record {
+        position = refl;
+        registers = refl;
+        child = refl;
+        cells_held = All-nil (Held []);
+        cells_rise = refl;
+        bytes = ≤ℤ_refl (pos 7);
+      },
       (
-        record { position = refl; registers = refl; child = refl; cells_held = All-nil (Held []); cells_rise = refl; bytes = ≤ℤ_refl (pos 7) },
-        (record { position = refl; registers = refl; child = refl; cells_held = adds_held; cells_rise = refl; bytes = ≤ℤ_refl (pos 7) }, tt),
+        record {
+          position = refl;
+          registers = refl;
+          child = refl;
+          cells_held = All-nil (Held []);
+          cells_rise = refl;
+          bytes = ≤ℤ_refl (pos 7);
+        },
+        (
+          record { position = refl; registers = refl; child = refl; cells_held = adds_held; cells_rise = refl; bytes = ≤ℤ_refl (pos 7) },
+          tt,
+        ),
       ),
     ),
   ),

@@ -15,24 +15,26 @@ use Rattle.task_ast.specs.declared.sync.SyncOp.TheVariants as sync
 use Rattle.task_ast.specs.declared.sync.Next.{Next}
 use Rattle.task_ast.specs.declared.tree.Param.{Param}
 use Rattle.task_ast.specs.declared.tree.Param.TheVariants as param
-use Rattle.task_ast.specs.Tree.{Name, Expr, Stmt, At, What, SetCtl, While, If, Lock, Unlock, Fork, Join, Barrier, Settle, SetReg, Read, Write, Print, When, Block, Nothing, Then, TaskText, Program}
-use Rattle.task_ast.specs.Names.{is_name, barriers_of, registers_of, task_named, task_number}
-use Rattle.task_ast.specs.Value.{value}
-use Rattle.task_ast.specs.Action.{term, Action, Set, Load, Store, Say, Choose, Child, Give, Bring, Arm, NoAction, OneAction}
-use Rattle.task_ast.specs.Body.{Step, Silent, Iteration, Act, Stop, Body, follow, stretch, body}
-use Rattle.task_ast.specs.Control.{Setting, Point, known, branch, action, arm, lock_number, record_number, register_number, all_of, control_arguments, data_arguments, fork_arguments, fork_of, step_at, step_from, step, size, begin_actions, env_at, tree_body}
-use Rattle.task_ast.specs.State.{State, RegistersOf, cell_value}
-use Rattle.task_ast.specs.Effect.{Doing, picked, cell_now, term_value, done, arm_done, all_done, joined_ret, effect}
-use Rattle.task_ast.specs.Turn.{child_of}
-use Rattle.task_ast.specs.Under.{is_under, KeepsToLocks}
-use Rattle.task_ast.specs.Plain.{Subthread, Plain, task_at, no_task, setting, tree_machine, from_by}
+use Rattle.task_ast.specs.meaning.Tree.{Name, Expr, Stmt, At, What, SetCtl, While, If, Lock, Unlock, Fork, Join, Barrier, Settle, SetReg, Read, Write, Print, When, Block, Nothing, Then, TaskText, Program}
+use Rattle.task_ast.specs.meaning.Names.{is_name, barriers_of, registers_of, task_named, task_number}
+use Rattle.task_ast.specs.meaning.Value.{value}
+use Rattle.task_ast.specs.meaning.Action.{term, Action, Set, Load, Store, Say, Choose, Child, Give, Bring, Arm, NoAction, OneAction}
+use Rattle.task_ast.specs.meaning.Body.{Step, Silent, Iteration, Act, Stop, Body, follow, stretch, body}
+use Rattle.task_ast.specs.meaning.Control.{Setting, Point, known, branch, action, arm, lock_number, record_number, register_number, all_of, control_arguments, data_arguments, fork_arguments, fork_of, step_at, step_from, step, size, begin_actions, env_at, tree_body}
+use Rattle.task_ast.specs.meaning.State.{State, RegistersOf, cell_value}
+use Rattle.task_ast.specs.meaning.Effect.{Doing, picked, cell_now, term_value, done, arm_done, all_done, joined_ret, effect}
+use Rattle.task_ast.specs.meaning.Turn.{child_of}
+use Rattle.task_ast.specs.meaning.Under.{is_under}
+use Rattle.task_ast.specs.Under.{KeepsToLocks}
+use Rattle.task_ast.specs.meaning.Plain.{Subthread, Plain, task_at, no_task, tree_machine, from_by}
+use Rattle.task_ast.specs.Plain.{setting}
 use Rattle.task_ast.specs.Position.{IsStep, point_in}
 use Rattle.task_ast.proofs.Keeping.{names_write, writes_within}
 use Rattle.task_ast.proofs.LessTurns.{inside_of}
 use Rattle.lock_checker.specs.Soundness.{LocksStand, IsAhead, at_start, at_stop, at_limit}
 use Rattle.lock_checker.proofs.StepStops.{IsOther, Stops, locking, unlocking, forking, ending, otherwise, failing, stops_from, task_there}
-use Rattle.retirement_log.specs.Log.{numbered, child_left}
-use Rattle.gp_resume.specs.Fitting.{StandsUnder, child_registers}
+use Rattle.retirement_log.specs.meaning.Log.{numbered, child_left}
+use Rattle.gp_resume.specs.meaning.Fitting.{StandsUnder, child_registers}
 
 -- ---- registers
 

@@ -7,10 +7,10 @@ use Rattle.std.specs.Prelude.{All}
 use Rattle.std.proofs.lemmas.List.Elements.{All-head, All-tail}
 use Rattle.gp_base.specs.declared.limits.Limits.{Limits}
 use Rattle.gp_base.specs.declared.feed.Inputs.{Inputs}
-use Rattle.task_ast.specs.Tree.{Program}
-use Rattle.retirement_log.specs.Rows.{Row, row_text, log_text}
-use Rattle.gp_resume.specs.Fitting.{Fit}
-use Rattle.gp_resume.specs.Reading.{IsWideRow, EndsNoLine, BeginsWithRow, BeginsWith, LogAnswer, Rows, Broken, Unfit, IsAnswer}
+use Rattle.task_ast.specs.meaning.Tree.{Program}
+use Rattle.retirement_log.specs.meaning.Rows.{Row, row_text, log_text}
+use Rattle.gp_resume.specs.meaning.Fitting.{Fit}
+use Rattle.gp_resume.specs.meaning.Reading.{IsWideRow, EndsNoLine, BeginsWithRow, BeginsWith, LogAnswer, Rows, Broken, Unfit, IsAnswer}
 use Rattle.gp_resume.proofs.Choices.{Choice, contains}
 use Rattle.gp_resume.proofs.FitChoices.{one-more, fit-upto}
 use Rattle.gp_resume.proofs.FoundRows.{row-found}

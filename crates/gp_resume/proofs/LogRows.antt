@@ -5,10 +5,10 @@ use Rattle.std.specs.Fmt.{signed_decimal}
 use Rattle.std.proofs.lemmas.List.Elements.{All-nil, All-push, All-head, All-tail, Contains-append_left, Contains-append_right}
 use Rattle.gp_base.specs.declared.limits.Limits.{Limits}
 use Rattle.gp_base.specs.declared.feed.Inputs.{Inputs}
-use Rattle.task_ast.specs.Tree.{Program}
-use Rattle.retirement_log.specs.Rows.{Row, group, cell_numbers, groups_text, row_text, log_text}
-use Rattle.gp_resume.specs.Fitting.{Fit}
-use Rattle.gp_resume.specs.Reading.{IsWideRow, EndsNoLine, BeginsWith}
+use Rattle.task_ast.specs.meaning.Tree.{Program}
+use Rattle.retirement_log.specs.meaning.Rows.{Row, group, cell_numbers, groups_text, row_text, log_text}
+use Rattle.gp_resume.specs.meaning.Fitting.{Fit}
+use Rattle.gp_resume.specs.meaning.Reading.{IsWideRow, EndsNoLine, BeginsWith}
 use Rattle.gp_resume.proofs.RowsOnce.{row-once}
 
 -- ---- rows

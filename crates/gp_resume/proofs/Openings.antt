@@ -5,13 +5,13 @@ use Rattle.std.proofs.lemmas.List.{length-map}
 use Rattle.gp_base.specs.declared.feed.Inputs.{Inputs}
 use Rattle.task_ast.specs.declared.layout.Layout.{Layout}
 use Rattle.task_ast.specs.declared.sync.SyncOp.TheVariants as sync
-use Rattle.task_ast.specs.Tree.{Program}
-use Rattle.task_ast.specs.Names.{locks_of, records_of, barriers_of, registers_of, cells_in}
-use Rattle.task_ast.specs.Layout.{layout, cells_under}
+use Rattle.task_ast.specs.meaning.Tree.{Program}
+use Rattle.task_ast.specs.meaning.Names.{locks_of, records_of, barriers_of, registers_of, cells_in}
+use Rattle.task_ast.specs.meaning.Layout.{layout, cells_under}
 use Rattle.task_ast.specs.Reached.{Reached, start_table}
-use Rattle.task_ast.specs.Table.{Table, numbers}
+use Rattle.task_ast.specs.meaning.Table.{Table, numbers}
 use Rattle.task_ast.specs.laws.Ends.{IsWhole}
-use Rattle.task_ast.specs.Plain.{Plain, tree_machine, opening, opening_by, move, main_task, main_number}
+use Rattle.task_ast.specs.meaning.Plain.{Plain, tree_machine, opening, opening_by, move, main_task, main_number}
 use Rattle.task_ast.proofs.Layouts.{length-numbers, accepted_sizes}
 use Rattle.task_ast.proofs.PlainRuns.{tables_law}
 use Rattle.task_ast.proofs.Repeats.{state_after_none}

@@ -4,12 +4,12 @@ use Rattle.std.specs.Prelude.{codes}
 use Rattle.std.proofs.lemmas.List.{take-append-drop}
 use Rattle.gp_base.specs.declared.limits.Limits.{Limits}
 use Rattle.gp_base.specs.declared.feed.Inputs.{Inputs}
-use Rattle.task_ast.specs.Tree.{Program}
-use Rattle.task_ast.specs.Plain.{order}
-use Rattle.crew.specs.Noted.{left_in_order}
-use Rattle.retirement_log.specs.Rows.{Row}
-use Rattle.retirement_log.specs.Log.{rows_of, log}
-use Rattle.gp_resume.specs.Reading.{IsLogOf}
+use Rattle.task_ast.specs.meaning.Tree.{Program}
+use Rattle.task_ast.specs.meaning.Plain.{order}
+use Rattle.crew.specs.meaning.Noted.{left_in_order}
+use Rattle.retirement_log.specs.meaning.Rows.{Row}
+use Rattle.retirement_log.specs.meaning.Log.{rows_of, log}
+use Rattle.gp_resume.specs.meaning.Reading.{IsLogOf}
 use Rattle.gp_resume.specs.Laws.{own_rows}
 use Rattle.gp_resume.proofs.LogRows.{first-rows}
 use Rattle.gp_resume.proofs.Replaying.{length-left, length-rows}

@@ -12,21 +12,21 @@ use Rattle.std.proofs.lemmas.Option.{slice_get_within}
 use Rattle.gp_base.specs.declared.limits.Limits.{Limits}
 use Rattle.gp_base.specs.declared.feed.Inputs.{Inputs}
 use Rattle.task_ast.specs.declared.effect.Effect.{Effect}
-use Rattle.task_ast.specs.Tree.{Program}
-use Rattle.task_ast.specs.Layout.{layout}
+use Rattle.task_ast.specs.meaning.Tree.{Program}
+use Rattle.task_ast.specs.meaning.Layout.{layout}
 use Rattle.task_ast.specs.Shaped.{IsAccepted}
-use Rattle.task_ast.specs.State.{cell_value}
-use Rattle.task_ast.specs.Effect.{joined_ret}
-use Rattle.task_ast.specs.Plain.{Subthread, Plain, tree_machine, opening, move, order}
-use Rattle.task_ast.specs.Position.{before}
+use Rattle.task_ast.specs.meaning.State.{cell_value}
+use Rattle.task_ast.specs.meaning.Effect.{joined_ret}
+use Rattle.task_ast.specs.meaning.Plain.{Subthread, Plain, tree_machine, opening, move, order}
+use Rattle.task_ast.specs.meaning.Position.{before}
 use Rattle.task_ast.proofs.Repeats.{state_after_none, step_there}
 use Rattle.task_ast.proofs.Positions.{plain_stands, step_is}
 use Rattle.task_ast.proofs.Writes.{writes_rise}
 use Rattle.lock_checker.proofs.LocksHeld.{before_stands, sound}
-use Rattle.crew.specs.Noted.{left_at, left_from}
-use Rattle.retirement_log.specs.Rows.{Row}
-use Rattle.retirement_log.specs.Log.{row_of, size_of, rows_from}
-use Rattle.gp_resume.specs.Fitting.{least_bytes, FitsIssue, FitsMove, replayed, FitFrom, Fit}
+use Rattle.crew.specs.meaning.Noted.{left_at, left_from}
+use Rattle.retirement_log.specs.meaning.Rows.{Row}
+use Rattle.retirement_log.specs.meaning.Log.{row_of, size_of, rows_from}
+use Rattle.gp_resume.specs.meaning.Fitting.{least_bytes, FitsIssue, FitsMove, replayed, FitFrom, Fit}
 use Rattle.gp_resume.specs.Laws.{own_rows}
 use Rattle.gp_resume.proofs.Lefts.{all_registers, child_is, cells_under_held}
 use Rattle.gp_resume.proofs.Replaying.{writes-back, replay-step}

@@ -1,8 +1,8 @@
 -- The first rows of the plain run's own log lead back into it, and the run goes on from there as it does.
 --
 -- A row of the run's own log says all that its subthread left, but for the lines, which change no data: so a replayed row leads where the
--- move leads (`replay-step`), and one row after another (`replay`). The steps from there are the rest of the plain run's (`steps-drop`), and
--- they end where it ends (`state-rest`).
+-- move leads (`replay-step`), and one row after another (`replay`). The steps from there are the rest of the plain run's (`steps-drop`),
+-- and they end where it ends (`state-rest`).
 use Rattle.std.proofs.Common.{◌≡◌, ℕ, zero, suc, ℤ, pos, ◌+◌, ◌-◌, ◌≤◌, List, [], ◌∷◌, ◌++◌, length, map, take, drop, Option, Some, None, refl, sym, ap, ◌∙◌, arith, get_or}
 use Rattle.std.specs.Prelude.{codes, slice_get}
 use Rattle.std.proofs.lemmas.List.{take_more, length-take-le, length-drop}
@@ -12,24 +12,24 @@ use Rattle.gp_base.specs.declared.feed.Inputs.{Inputs}
 use Rattle.task_ast.specs.declared.effect.Effect.{Effect}
 use Rattle.task_ast.specs.declared.sync.SyncOp.{SyncOp}
 use Rattle.task_ast.specs.declared.sync.SyncOp.TheVariants as sync
-use Rattle.task_ast.specs.Tree.{Program}
-use Rattle.task_ast.specs.Names.{natural, records_of, cells_in}
-use Rattle.task_ast.specs.State.{State, cell_value}
-use Rattle.task_ast.specs.Action.{Action}
-use Rattle.task_ast.specs.Effect.{effect, after}
-use Rattle.task_ast.specs.Repeat.{Move, Goes, Ends, steps_from, steps, state_from, state_after}
-use Rattle.task_ast.specs.Table.{numbers}
-use Rattle.task_ast.specs.Plain as plain
-use Rattle.task_ast.specs.Plain.{Subthread, Plain, tree_machine, ending_of, opening, move, order, last_state}
-use Rattle.task_ast.specs.Position.{before}
+use Rattle.task_ast.specs.meaning.Tree.{Program}
+use Rattle.task_ast.specs.meaning.Names.{natural, records_of, cells_in}
+use Rattle.task_ast.specs.meaning.State.{State, cell_value}
+use Rattle.task_ast.specs.meaning.Action.{Action}
+use Rattle.task_ast.specs.meaning.Effect.{effect, after}
+use Rattle.task_ast.specs.meaning.Repeat.{Move, Goes, Ends, steps_from, steps, state_from, state_after}
+use Rattle.task_ast.specs.meaning.Table.{numbers}
+use Rattle.task_ast.specs.meaning.Plain as plain
+use Rattle.task_ast.specs.meaning.Plain.{Subthread, Plain, tree_machine, ending_of, opening, move, order, last_state}
+use Rattle.task_ast.specs.meaning.Position.{before}
 use Rattle.task_ast.proofs.Repeats.{state_after_none, step_there, step_reached}
 use Rattle.task_ast.proofs.PlainRuns.{count_law}
 use Rattle.task_ast.proofs.Positions.{step_is}
-use Rattle.crew.specs.Noted.{left_at, left_from, left_in_order}
-use Rattle.retirement_log.specs.Rows.{Row}
-use Rattle.retirement_log.specs.Log.{row_of, size_of, rows_from, rows_of}
-use Rattle.gp_resume.specs.Fitting.{left_by, led_by, replayed, run_after, resumed_at}
-use Rattle.gp_resume.specs.Resumed.{steps_left, rest, last, final_records, count}
+use Rattle.crew.specs.meaning.Noted.{left_at, left_from, left_in_order}
+use Rattle.retirement_log.specs.meaning.Rows.{Row}
+use Rattle.retirement_log.specs.meaning.Log.{row_of, size_of, rows_from, rows_of}
+use Rattle.gp_resume.specs.meaning.Fitting.{left_by, led_by, replayed, run_after, resumed_at}
+use Rattle.gp_resume.specs.meaning.Resumed.{steps_left, rest, last, final_records, count}
 use Rattle.gp_resume.specs.Laws.{own_rows, IsRest}
 
 -- ---- what goes on step by step, from a step on
@@ -74,13 +74,15 @@ module _ {A S E : Type 0} (move : A → Move A S E) where
 -- ---- what a row says
 
 -- the cells that a row names are those that were written
-pub writes-back : (writes : List (ℕ × ℤ)) → map (λ cell. (natural cell.0, cell.1)) (map (λ write. let cell : ℤ × ℤ = (pos write.0, write.1) in cell) writes) ≡ writes
+pub writes-back : (writes : List (ℕ × ℤ))
+    → map (λ cell. (natural cell.0, cell.1)) (map (λ write. let cell : ℤ × ℤ = (pos write.0, write.1) in cell) writes) ≡ writes
 writes-back [] = refl
 writes-back (w ∷ ws) = ap (λ rest. w ∷ rest) (writes-back ws)
 
 -- an effect is what its row says, but for the lines
 left-back : (p bytes t : ℕ) (begins : SyncOp) (child : Option ℕ) (actions : List Action) (state : State)
-    → after (left_by (row_of p bytes (effect t begins child actions state)) t child) state ≡ after (effect t begins child actions state) state
+    → after (left_by (row_of p bytes (effect t begins child actions state)) t child) state
+    ≡ after (effect t begins child actions state) state
 left-back p bytes t begins None actions state =
     let e : Effect = effect t begins None actions state in
     ap (λ ws. after (record { thread = t; writes = ws; regs = e.regs; child = None; prints = [] }) state) (writes-back e.writes)
@@ -89,7 +91,8 @@ left-back p bytes t begins (Some c) actions state =
     ap (λ ws. after (record { thread = t; writes = ws; regs = e.regs; child = e.child; prints = [] }) state) (writes-back e.writes)
 
 -- each position left something, and has a row
-pub length-left : (program : Program) (inputs : Inputs) (limits : Limits) (k : ℕ) (run : List Subthread) → length (left_from program inputs limits k run) ≡ length run
+pub length-left : (program : Program) (inputs : Inputs) (limits : Limits) (k : ℕ) (run : List Subthread)
+    → length (left_from program inputs limits k run) ≡ length run
 length-left program inputs limits k [] = refl
 length-left program inputs limits k (s ∷ run) = ap suc (length-left program inputs limits (suc k) run)
 
@@ -102,15 +105,18 @@ length-rows k bytes (e ∷ told) = ap suc (length-rows (suc k) (bytes + size_of 
 module _ (program : Program) (inputs : Inputs) (limits : Limits) where
   -- the row of a position leads to the next one
   pub replay-step : (p bytes : ℕ) (s : Subthread) → slice_get (order program inputs limits) p ≡ Some s
-      → replayed program inputs limits (before program inputs limits p) (row_of p bytes (left_at program inputs limits p s)) ≡ before program inputs limits (suc p)
+      → replayed program inputs limits (before program inputs limits p) (row_of p bytes (left_at program inputs limits p s))
+      ≡ before program inputs limits (suc p)
   replay-step p bytes s e =
       let there = step_there (move program inputs limits) (suc limits.subthreads) p (opening program inputs limits) s e in
       let next : Plain = there.next in
       let reached : before program inputs limits (suc p) ≡ next =
       step_reached (move program inputs limits) (suc limits.subthreads) p (opening program inputs limits) s e in
-      let state : (before program inputs limits (suc p)).state ≡ after (left_at program inputs limits p s) (before program inputs limits p).state =
+      let state : (before program inputs limits (suc p)).state
+      ≡ after (left_at program inputs limits p s) (before program inputs limits p).state =
       (step_is (tree_machine program inputs limits) program inputs limits p s e).state in
-      let same_data : after (left_by (row_of p bytes (left_at program inputs limits p s)) s.thread s.child) (before program inputs limits p).state ≡ next.state =
+      let same_data : after (left_by (row_of p bytes (left_at program inputs limits p s)) s.thread s.child)
+      (before program inputs limits p).state ≡ next.state =
       left-back p bytes s.thread s.begins.sync s.child s.actions (before program inputs limits p).state
       ∙ (sym state ∙ ap (λ (x : Plain). x.state) reached) in
       ap (led_by (before program inputs limits p) (row_of p bytes (left_at program inputs limits p s))) there.moves
@@ -123,7 +129,8 @@ module _ (program : Program) (inputs : Inputs) (limits : Limits) where
 
   -- a position has the row of what it left
   rows-at : (k b : ℕ) (run : List Subthread) (p : ℕ) (s : Subthread) → slice_get run p ≡ Some s
-      → (bytes : ℕ) × (slice_get (rows_from k b (left_from program inputs limits k run)) p ≡ Some (row_of (k + p) bytes (left_at program inputs limits (k + p) s)))
+      → (bytes : ℕ) × (slice_get (rows_from k b (left_from program inputs limits k run)) p
+      ≡ Some (row_of (k + p) bytes (left_at program inputs limits (k + p) s)))
   rows-at k b [] p s e = absurd (cc e)
   rows-at k b (x ∷ run) zero s e =
       let same : x ≡ s = cc e in
@@ -143,12 +150,15 @@ module _ (program : Program) (inputs : Inputs) (limits : Limits) where
   all = rows_of (left_in_order program inputs limits)
 
   length-all : length all ≡ length (order program inputs limits)
-  length-all = length-rows 0 (length (codes "output\n")) (left_in_order program inputs limits) ∙ length-left program inputs limits 0 (order program inputs limits)
+  length-all =
+      length-rows 0 (length (codes "output\n")) (left_in_order program inputs limits)
+      ∙ length-left program inputs limits 0 (order program inputs limits)
 
   pub length-own : (p : ℕ) → p ≤ length (order program inputs limits) → length (own_rows program inputs limits p) ≡ p
   length-own p l = length-take-le p all (omega (arith, length-all))
 
-  pub replay : (p : ℕ) → p ≤ length (order program inputs limits) → resumed_at program inputs limits (own_rows program inputs limits p) ≡ before program inputs limits p
+  pub replay : (p : ℕ) → p ≤ length (order program inputs limits)
+      → resumed_at program inputs limits (own_rows program inputs limits p) ≡ before program inputs limits p
   replay zero l = state_after_none (move program inputs limits) (opening program inputs limits)
   replay (suc p) l = go (replay p (omega arith))
     where
@@ -190,7 +200,14 @@ module _ (program : Program) (inputs : Inputs) (limits : Limits) where
 
   -- the run goes on as the plain run does
   pub is-rest : (p : ℕ) → p ≤ length (order program inputs limits) → IsRest program inputs limits p
-  is-rest p l = record { rest = after_them; last = at_end; end = ap (λ x. ending_of (move program inputs limits x)) at_end; final_records = cells; count = counted }
+  is-rest p l =
+      record {
+        rest = after_them;
+        last = at_end;
+        end = ap (λ x. ending_of (move program inputs limits x)) at_end;
+        final_records = cells;
+        count = counted;
+      }
     where
       most : length (order program inputs limits) ≤ limits.subthreads
       most = count_law (tree_machine program inputs limits) program inputs limits
@@ -210,7 +227,8 @@ module _ (program : Program) (inputs : Inputs) (limits : Limits) where
 
       at_end : last program inputs limits (own_rows program inputs limits p) ≡ last_state program inputs limits
       at_end =
-          ap (λ (k : ℕ). state_after (move program inputs limits) k (resumed_at program inputs limits (own_rows program inputs limits p))) left
+          ap (λ (k : ℕ). state_after (move program inputs limits) k (resumed_at program inputs limits (own_rows program inputs limits p)))
+          left
           ∙ (ap (state_after (move program inputs limits) (suc limits.subthreads - p)) (replay p l)
           ∙ (state-rest (move program inputs limits) p (suc limits.subthreads - p) (opening program inputs limits)
           ∙ ap (λ (k : ℕ). state_after (move program inputs limits) k (opening program inputs limits)) all_steps))

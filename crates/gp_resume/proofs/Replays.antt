@@ -5,24 +5,24 @@ use Rattle.std.proofs.lemmas.List.{map-set}
 use Rattle.std.proofs.lemmas.List.Elements.{All-map}
 use Rattle.task_ast.specs.declared.effect.Effect.{Effect}
 use Rattle.task_ast.specs.declared.sync.Next.{Next}
-use Rattle.task_ast.specs.Tree.{Program}
-use Rattle.task_ast.specs.Body.{Body}
-use Rattle.task_ast.specs.Control.{Point}
-use Rattle.task_ast.specs.State.{State}
-use Rattle.task_ast.specs.Effect.{after}
-use Rattle.task_ast.specs.Table.{learning}
-use Rattle.task_ast.specs.Under.{is_under}
-use Rattle.task_ast.specs.Plain.{Subthread, Plain, tree_machine}
+use Rattle.task_ast.specs.meaning.Tree.{Program}
+use Rattle.task_ast.specs.meaning.Body.{Body}
+use Rattle.task_ast.specs.meaning.Control.{Point}
+use Rattle.task_ast.specs.meaning.State.{State}
+use Rattle.task_ast.specs.meaning.Effect.{after}
+use Rattle.task_ast.specs.meaning.Table.{learning}
+use Rattle.task_ast.specs.meaning.Under.{is_under}
+use Rattle.task_ast.specs.meaning.Plain.{Subthread, Plain, tree_machine}
 use Rattle.task_ast.specs.Position.{body_by}
 use Rattle.task_code.specs.Reading.{Place}
 use Rattle.task_code.specs.Relation.{Rests}
 use Rattle.record_store.specs.Stored.{state_of, SameShape}
 use Rattle.subthread.specs.Tasks.{program_in, body_from}
-use Rattle.retirement_log.specs.Rows.{Row}
+use Rattle.retirement_log.specs.meaning.Rows.{Row}
 use Rattle.gp_resume.specs.declared.course.Plan.{Plan}
 use Rattle.gp_resume.specs.declared.course.Begun.{Begun}
 use Rattle.gp_resume.specs.declared.course.Course.{Course}
-use Rattle.gp_resume.specs.Fitting.{StandsUnder, child_in, left_by, led_by, replayed}
+use Rattle.gp_resume.specs.meaning.Fitting.{StandsUnder, child_in, left_by, led_by, replayed}
 use Rattle.gp_resume.specs.inner.Course.{IsSuited, IsHome, IsSound, AreNumbered, Begins, IsSameRun, Stands, spot_place, run_in}
 use Rattle.gp_resume.specs.inner.RowsRead.{write_in, with_cells}
 use Rattle.gp_resume.proofs.Tasks.{numbered-set, begun-next, begun-rests}
@@ -85,7 +85,8 @@ module _ (plan : Plan) (suits : IsSuited plan) (x : Plain) (s : Subthread) (y : 
 
   module _ (place : Place) (next : Next)
       (next_is : next
-      ≡ (body_from plan.work.now begun.begins.sync begun.child (record { at = begun.spot.at; ctl = begun.spot.ctl; me = begun.thread })).next)
+      ≡ (body_from plan.work.now begun.begins.sync begun.child
+      (record { at = begun.spot.at; ctl = begun.spot.ctl; me = begun.thread })).next)
       (place_is : place
       ≡ (body_from plan.work.now begun.begins.sync begun.child (record { at = begun.spot.at; ctl = begun.spot.ctl; me = begun.thread })).at)
       (mine : place.me ≡ begun.thread) (left : Course)

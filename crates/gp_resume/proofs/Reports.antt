@@ -4,33 +4,34 @@ use Rattle.std.specs.Prelude.{ℤ, pos, negsuc, ◌≤ℤ◌, Result}
 use Rattle.std.specs.List.{IsDistinct, AllByRecursion}
 use Rattle.std.specs.Io.KnownBytes.{Appends}
 use Rattle.std.proofs.lemmas.Bool.{cases_eq, ne_eqb}
-use Rattle.gp_base.specs.Sinks.{AppendsPrefix}
+use Rattle.gp_base.specs.meaning.Sinks.{AppendsPrefix}
 use Rattle.gp_base.specs.declared.ending.End.{End}
 use Rattle.gp_base.specs.declared.feed.Inputs.{Inputs}
 use Rattle.gp_base.specs.declared.limits.Limits.{Limits}
-use Rattle.task_ast.specs.Tree.{Program}
-use Rattle.task_ast.specs.Names.{records_of, cells_in}
-use Rattle.task_ast.specs.State.{cell_value}
-use Rattle.task_ast.specs.Repeat.{Move, Goes, Ends, steps, state_after}
-use Rattle.task_ast.specs.Table.{numbers}
-use Rattle.task_ast.specs.Plain.{Subthread, Plain, tree_machine, ending_of, move, opening}
+use Rattle.task_ast.specs.meaning.Tree.{Program}
+use Rattle.task_ast.specs.meaning.Names.{records_of, cells_in}
+use Rattle.task_ast.specs.meaning.State.{cell_value}
+use Rattle.task_ast.specs.meaning.Repeat.{Move, Goes, Ends, steps, state_after}
+use Rattle.task_ast.specs.meaning.Table.{numbers}
+use Rattle.task_ast.specs.meaning.Plain.{Subthread, Plain, tree_machine, ending_of, move, opening}
 use Rattle.task_ast.proofs.PlainSteps.{begins_of}
 use Rattle.dependence.specs.JournalTests.{same_attempt}
 use Rattle.dependence.proofs.Struck.{Contains-head, Contains-later}
 use Rattle.record_store.proofs.States.{records_law}
 use Rattle.reorder_list.specs.declared.report.Report.{Report}
-use Rattle.restart_log.specs.Lines.{printed}
-use Rattle.retirement_log.specs.Rows.{Row}
+use Rattle.restart_log.specs.meaning.Lines.{printed}
+use Rattle.retirement_log.specs.meaning.Rows.{Row}
 use Rattle.subthread.specs.Tasks.{program_in}
 use Rattle.gp_resume.specs.declared.course.Plan.{Plan}
 use Rattle.gp_resume.specs.declared.course.Course.{Course}
-use Rattle.gp_resume.specs.Fitting.{FitsMove, led_by, replayed, run_after, FitFrom, Fit, resumed_at, least_bytes}
-use Rattle.gp_resume.specs.Resumed as resumed
-use Rattle.gp_resume.specs.Resumed.{lines_of, bytes_from, bytes_before}
+use Rattle.gp_resume.specs.meaning.Fitting.{FitsMove, led_by, replayed, run_after, FitFrom, Fit, resumed_at, least_bytes}
+use Rattle.gp_resume.specs.meaning.Resumed as resumed
+use Rattle.gp_resume.specs.meaning.Resumed.{lines_of}
+use Rattle.gp_resume.specs.Resumed.{bytes_from, bytes_before}
 use Rattle.gp_resume.specs.Resuming.{AnswersLog, IsRefused, ReportsRest, IsEachOnce, AreSomeOnce}
 use Rattle.gp_resume.specs.declared.stop.ResumeStop.{ResumeStop}
 use Rattle.gp_resume.specs.declared.stop.ResumeStop.TheVariants as stop
-use Rattle.gp_resume.specs.Reading.{Rows, IsLogOf}
+use Rattle.gp_resume.specs.meaning.Reading.{Rows, IsLogOf}
 use Rattle.gp_resume.specs.declared.log.Logged.{Logged}
 use Rattle.gp_resume.specs.inner.Course.{Stands}
 use Rattle.gp_resume.specs.inner.Going.{left, rest, last, firsts_from, WentOn, Replays}

@@ -8,7 +8,7 @@ use Rattle.std.specs.FinMap.{is_sorted}
 use Rattle.std.specs.FinMap.Entries.{below_all}
 use Rattle.std.proofs.lemmas.Bool.{and_parts, and_from, cases_lt, false≢true}
 use Rattle.std.proofs.lemmas.Cmp.{ranked}
-use Rattle.task_ast.specs.Names.{natural}
+use Rattle.task_ast.specs.meaning.Names.{natural}
 use Rattle.gp_resume.specs.inner.RowsRead.{write_in}
 
 -- the number of the cell at a place

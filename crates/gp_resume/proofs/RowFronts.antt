@@ -5,9 +5,9 @@ use Rattle.std.specs.Fmt.{signed_decimal}
 use Rattle.std.specs.Char.{is_ascii_digit}
 use Rattle.std.specs.Str.{all_ascii_digits}
 use Rattle.std.proofs.lemmas.Bool.{and_parts}
-use Rattle.restart_log.specs.Lines.{spaced}
-use Rattle.retirement_log.specs.Rows.{Row, group, cell_numbers, row_text}
-use Rattle.gp_resume.specs.Reading.{IsWide, IsWideRow, BeginsWithRow}
+use Rattle.restart_log.specs.meaning.Lines.{spaced}
+use Rattle.retirement_log.specs.meaning.Rows.{Row, group, cell_numbers, row_text}
+use Rattle.gp_resume.specs.meaning.Reading.{IsWide, IsWideRow, BeginsWithRow}
 use Rattle.gp_resume.specs.inner.Fronts.{IsOnlyFront, EndsNumber, EndsNumbers, EndsCells, IsWideCell, Anything, is_numeral, spaced_number, cell_text, cells_end, head_text}
 use Rattle.gp_resume.proofs.Fronts.{NoFront, both, both_fit, then-some, then-none, first-none, word-then, no-word, word-then-none, then-word, then-no-word}
 use Rattle.gp_resume.proofs.Printed.{printed-numeral, printed-some}

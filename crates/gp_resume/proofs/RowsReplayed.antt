@@ -6,16 +6,16 @@ use Rattle.std.proofs.lemmas.Int.{ints, clamps}
 use Rattle.gp_base.specs.declared.limits.Limits.{Limits}
 use Rattle.gp_base.specs.declared.feed.Inputs.{Inputs}
 use Rattle.gp_base.specs.declared.ending.End.{End}
-use Rattle.task_ast.specs.Tree.{Program}
-use Rattle.task_ast.specs.Repeat.{Move, Goes, Ends}
-use Rattle.task_ast.specs.Plain.{Subthread, Plain, opening, move}
-use Rattle.retirement_log.specs.Rows.{Row, row_text}
+use Rattle.task_ast.specs.meaning.Tree.{Program}
+use Rattle.task_ast.specs.meaning.Repeat.{Move, Goes, Ends}
+use Rattle.task_ast.specs.meaning.Plain.{Subthread, Plain, opening, move}
+use Rattle.retirement_log.specs.meaning.Rows.{Row, row_text}
 use Rattle.subthread.specs.Tasks.{program_in}
 use Rattle.gp_resume.specs.declared.course.Plan.{Plan}
 use Rattle.gp_resume.specs.declared.course.Course.{Course}
 use Rattle.gp_resume.specs.declared.log.Logged.{Logged}
-use Rattle.gp_resume.specs.Fitting.{least_bytes, FitsMove, replayed, run_after, FitFrom, Fit, resumed_at}
-use Rattle.gp_resume.specs.Reading.{IsWideRow, BeginsWith, IsUnfitAt}
+use Rattle.gp_resume.specs.meaning.Fitting.{least_bytes, FitsMove, replayed, run_after, FitFrom, Fit, resumed_at}
+use Rattle.gp_resume.specs.meaning.Reading.{IsWideRow, BeginsWith, IsUnfitAt}
 use Rattle.gp_resume.specs.Resumed.{bytes_from, bytes_before}
 use Rattle.gp_resume.specs.inner.Course.{Stands}
 use Rattle.gp_resume.specs.inner.Going.{HasReplayed}
@@ -129,7 +129,8 @@ module _ (plan : Plan) (log : List ℕ) where
       one-replayed here bytes bytes_are next stands =
           record {
             rows = replays.rows ++ row ∷ [];
-            begins = next-row (program_in plan.work.now) plan.inputs.value plan.limits log rest later replays.rows row replays.begins wide is
+            begins =
+                next-row (program_in plan.work.now) plan.inputs.value plan.limits log rest later replays.rows row replays.begins wide is
                 (fits-push (program_in plan.work.now) plan.inputs.value plan.limits
                 (opening (program_in plan.work.now) plan.inputs.value plan.limits) None replays.rows row replays.begins.fit here);
             count = counted ∙ sym (length-append replays.rows (row ∷ []));

@@ -9,18 +9,18 @@ use Rattle.task_ast.specs.declared.effect.Effect.{Effect}
 use Rattle.task_ast.specs.declared.sync.Next.{Next}
 use Rattle.task_ast.specs.declared.sync.SyncOp.{SyncOp}
 use Rattle.task_ast.specs.declared.sync.SyncOp.TheVariants as sync
-use Rattle.task_ast.specs.Tree.{Program}
-use Rattle.task_ast.specs.Body.{Body}
-use Rattle.task_ast.specs.Control.{Point}
-use Rattle.task_ast.specs.Effect.{effect, effect_on, after}
+use Rattle.task_ast.specs.meaning.Tree.{Program}
+use Rattle.task_ast.specs.meaning.Body.{Body}
+use Rattle.task_ast.specs.meaning.Control.{Point}
+use Rattle.task_ast.specs.meaning.Effect.{effect, effect_on, after}
 use Rattle.task_ast.specs.Damage.{damaged}
-use Rattle.task_ast.specs.Table.{Table, owned_from, learning}
-use Rattle.task_ast.specs.Turn.{child_of}
-use Rattle.task_ast.specs.Under.{under_lock, is_under}
+use Rattle.task_ast.specs.meaning.Table.{Table, owned_from, learning}
+use Rattle.task_ast.specs.meaning.Turn.{child_of}
+use Rattle.task_ast.specs.meaning.Under.{under_lock, is_under}
 use Rattle.task_ast.specs.laws.Following.{Agrees, Follows}
 use Rattle.task_ast.specs.laws.Keeps.{AllName}
 use Rattle.task_ast.specs.laws.Threads.{MayBegin, with_child}
-use Rattle.task_ast.specs.Plain.{Subthread, Plain, Machine, tree_machine}
+use Rattle.task_ast.specs.meaning.Plain.{Subthread, Plain, Machine, tree_machine}
 use Rattle.task_ast.specs.Position.{body_by, from_in, IsStep}
 use Rattle.task_ast.specs.Reached.{Reached}
 use Rattle.task_ast.proofs.IssuedTables.{get_set_here, get_set_other}

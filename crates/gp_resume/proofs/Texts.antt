@@ -8,18 +8,19 @@ use Rattle.gp_base.specs.declared.limits.Limits.{Limits}
 use Rattle.gp_base.specs.declared.feed.Inputs.{Inputs}
 use Rattle.gp_base.specs.declared.ending.End.{End}
 use Rattle.task_ast.specs.declared.effect.Effect.{Effect}
-use Rattle.task_ast.specs.Tree.{Program}
-use Rattle.task_ast.specs.Names.{records_of}
-use Rattle.task_ast.specs.Layout.{cut}
-use Rattle.task_ast.specs.Plain as plain
-use Rattle.task_ast.specs.Plain.{Subthread, tree_machine, order}
+use Rattle.task_ast.specs.meaning.Tree.{Program}
+use Rattle.task_ast.specs.meaning.Names.{records_of}
+use Rattle.task_ast.specs.meaning.Layout.{cut}
+use Rattle.task_ast.specs.meaning.Plain as plain
+use Rattle.task_ast.specs.meaning.Plain.{Subthread, tree_machine, order}
 use Rattle.task_ast.proofs.Positions.{step_is}
-use Rattle.restart_log.specs.Lines.{printed_line, printed}
-use Rattle.restart_log.specs.Tail.{tail_text}
-use Rattle.crew.specs.Noted.{left_at, left_from, left_in_order}
-use Rattle.retirement_log.specs.Rows.{Row}
-use Rattle.retirement_log.specs.Log.{size_of, rows_from}
-use Rattle.gp_resume.specs.Resumed.{lines_of, bytes_from, bytes_before, first_line, end, final_records, count, text}
+use Rattle.restart_log.specs.meaning.Lines.{printed_line, printed}
+use Rattle.restart_log.specs.meaning.Tail.{tail_text}
+use Rattle.crew.specs.meaning.Noted.{left_at, left_from, left_in_order}
+use Rattle.retirement_log.specs.meaning.Rows.{Row}
+use Rattle.retirement_log.specs.meaning.Log.{size_of, rows_from}
+use Rattle.gp_resume.specs.meaning.Resumed.{lines_of, first_line, end, final_records, count, text}
+use Rattle.gp_resume.specs.Resumed.{bytes_from, bytes_before}
 use Rattle.gp_resume.specs.Laws.{own_rows, text_before, text_of_one, IsRest}
 use Rattle.gp_resume.proofs.Replaying.{length-left, length-own, is-rest}
 
@@ -38,7 +39,8 @@ bytes-upto k b (e ∷ told) (suc p) start l =
 
 -- the lines of two runs
 printed-split : (xs ys : List Subthread) → printed (lines_of (xs ++ ys)) ≡ printed (lines_of xs) ++ printed (lines_of ys)
-printed-split xs ys = ap printed (flat_map-append (λ (s : Subthread). s.lines) xs ys) ∙ flat_map-append printed_line (lines_of xs) (lines_of ys)
+printed-split xs ys =
+    ap printed (flat_map-append (λ (s : Subthread). s.lines) xs ys) ∙ flat_map-append printed_line (lines_of xs) (lines_of ys)
 
 -- no first line is to come where there is a row
 no-first-line : (rows : List Row) (p : ℕ) → suc p ≤ length rows → first_line rows ≡ []
@@ -47,14 +49,16 @@ no-first-line (row ∷ rows) p l = refl
 
 module _ (program : Program) (inputs : Inputs) (limits : Limits) where
   -- what positions left has the bytes of their lines
-  lines-size : (k : ℕ) (run : List Subthread) → ((i : ℕ) (s : Subthread) → slice_get run i ≡ Some s → s.lines ≡ (left_at program inputs limits (k + i) s).prints) → (p : ℕ)
+  lines-size : (k : ℕ) (run : List Subthread)
+      → ((i : ℕ) (s : Subthread) → slice_get run i ≡ Some s → s.lines ≡ (left_at program inputs limits (k + i) s).prints) → (p : ℕ)
       → length (printed (lines_of (take p run))) ≡ sum_by size_of (take p (left_from program inputs limits k run))
   lines-size k [] same zero = refl
   lines-size k [] same (suc p) = refl
   lines-size k (x ∷ run) same zero = refl
   lines-size k (x ∷ run) same (suc p) =
       let at : k + 0 ≡ k = omega arith in
-      let here : x.lines ≡ (left_at program inputs limits k x).prints = same 0 x refl ∙ ap (λ (n : ℕ). (left_at program inputs limits n x).prints) at in
+      let here : x.lines ≡ (left_at program inputs limits k x).prints =
+      same 0 x refl ∙ ap (λ (n : ℕ). (left_at program inputs limits n x).prints) at in
       let again = lines-size (suc k) run (λ i s e. same_later i s (same (suc i) s e)) p in
       ap length (flat_map-append printed_line x.lines (lines_of (take p run)))
       ∙ (length-append (printed x.lines) (printed (lines_of (take p run)))
@@ -62,15 +66,19 @@ module _ (program : Program) (inputs : Inputs) (limits : Limits) where
       ∙ (ap (λ (n : ℕ). size_of (left_at program inputs limits k x) + n) again
       ∙ sym (sum_by-cons size_of (left_at program inputs limits k x) (take p (left_from program inputs limits (suc k) run))))))
     where
-      same_later : (i : ℕ) (s : Subthread) → s.lines ≡ (left_at program inputs limits (k + suc i) s).prints → s.lines ≡ (left_at program inputs limits (suc k + i) s).prints
+      same_later : (i : ℕ) (s : Subthread) → s.lines ≡ (left_at program inputs limits (k + suc i) s).prints
+          → s.lines ≡ (left_at program inputs limits (suc k + i) s).prints
       same_later i s e = let at : k + suc i ≡ suc k + i = omega arith in e ∙ ap (λ (n : ℕ). (left_at program inputs limits n s).prints) at
 
-  own-lines : (p : ℕ) → length (printed (lines_of (take p (order program inputs limits)))) ≡ sum_by size_of (take p (left_in_order program inputs limits))
+  own-lines : (p : ℕ)
+      → length (printed (lines_of (take p (order program inputs limits)))) ≡ sum_by size_of (take p (left_in_order program inputs limits))
   own-lines =
       lines-size 0 (order program inputs limits) (λ i s e. let at : i ≡ 0 + i = omega arith in
-      (step_is (tree_machine program inputs limits) program inputs limits i s e).lines ∙ ap (λ (n : ℕ). (left_at program inputs limits n s).prints) at)
+      (step_is (tree_machine program inputs limits) program inputs limits i s e).lines
+      ∙ ap (λ (n : ℕ). (left_at program inputs limits n s).prints) at)
 
-  pub bytes-known : (p : ℕ) → p ≤ length (order program inputs limits) → bytes_before (own_rows program inputs limits p) ≡ pos (length (text_before program inputs limits p))
+  pub bytes-known : (p : ℕ) → p ≤ length (order program inputs limits)
+      → bytes_before (own_rows program inputs limits p) ≡ pos (length (text_before program inputs limits p))
   bytes-known zero l = refl
   bytes-known (suc p) l =
       let told = length-left program inputs limits 0 (order program inputs limits) in
@@ -84,7 +92,8 @@ module _ (program : Program) (inputs : Inputs) (limits : Limits) where
 
   abbrev own_tail : ℕ → List ℕ
   own_tail p =
-      tail_of (end program inputs limits (own_rows program inputs limits p)) (final_records program inputs limits (own_rows program inputs limits p))
+      tail_of (end program inputs limits (own_rows program inputs limits p))
+      (final_records program inputs limits (own_rows program inputs limits p))
       (count program inputs limits (own_rows program inputs limits p))
 
   abbrev tail_of_one : List ℕ
@@ -103,10 +112,12 @@ module _ (program : Program) (inputs : Inputs) (limits : Limits) where
       ≡ first_line (own_rows program inputs limits p) ++ (printed (lines_of (drop p (order program inputs limits))) ++ tail_of_one)
   text-rest p r =
       ap (λ (run : List Subthread). first_line (own_rows program inputs limits p) ++ (printed (lines_of run) ++ own_tail p)) r.rest
-      ∙ ap (λ (t : List ℕ). first_line (own_rows program inputs limits p) ++ (printed (lines_of (drop p (order program inputs limits))) ++ t)) (same-tail p r)
+      ∙ ap (λ (t : List ℕ). first_line (own_rows program inputs limits p)
+      ++ (printed (lines_of (drop p (order program inputs limits))) ++ t)) (same-tail p r)
 
   pub joined : (p : ℕ) → p ≤ length (order program inputs limits)
-      → text_before program inputs limits p ++ text program inputs limits (own_rows program inputs limits p) ≡ text_of_one program inputs limits
+      → text_before program inputs limits p ++ text program inputs limits (own_rows program inputs limits p)
+      ≡ text_of_one program inputs limits
   joined zero l = text-rest 0 (is-rest program inputs limits 0 l)
   joined (suc p) l =
       ap (λ (t : List ℕ). text_before program inputs limits (suc p) ++ t)
@@ -115,7 +126,8 @@ module _ (program : Program) (inputs : Inputs) (limits : Limits) where
       ∙ ap (λ (t : List ℕ). codes "output\n" ++ t)
       (sym (append_assoc before_them after_them tail_of_one)
       ∙ ap (λ (t : List ℕ). t ++ tail_of_one)
-      (sym (printed-split (take (suc p) run) (drop (suc p) run)) ∙ ap (λ (s : List Subthread). printed (lines_of s)) (take-append-drop (suc p) run))))
+      (sym (printed-split (take (suc p) run) (drop (suc p) run))
+      ∙ ap (λ (s : List Subthread). printed (lines_of s)) (take-append-drop (suc p) run))))
     where
       run : List Subthread
       run = order program inputs limits
@@ -127,4 +139,6 @@ module _ (program : Program) (inputs : Inputs) (limits : Limits) where
       after_them = printed (lines_of (drop (suc p) run))
 
       none : first_line (own_rows program inputs limits (suc p)) ≡ []
-      none = let known = length-own program inputs limits (suc p) l in no-first-line (own_rows program inputs limits (suc p)) p (omega arith)
+      none =
+          let known = length-own program inputs limits (suc p) l in
+          no-first-line (own_rows program inputs limits (suc p)) p (omega arith)

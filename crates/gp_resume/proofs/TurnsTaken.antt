@@ -10,16 +10,16 @@ use Rattle.gp_base.specs.declared.limits.TheConstants.{MOST_THREADS}
 use Rattle.task_ast.specs.declared.sync.SyncOp.{SyncOp}
 use Rattle.task_ast.specs.declared.sync.SyncOp.TheVariants as sync
 use Rattle.task_ast.specs.declared.sync.Next.{Next}
-use Rattle.task_ast.specs.Control.{Point}
-use Rattle.task_ast.specs.Tree.{Program}
-use Rattle.task_ast.specs.Repeat.{Done}
-use Rattle.task_ast.specs.State.{State}
-use Rattle.task_ast.specs.Table.{Table, learning, owned}
-use Rattle.task_ast.specs.Turn.{Issue, Needs, Ended, child_of, turn}
+use Rattle.task_ast.specs.meaning.Control.{Point}
+use Rattle.task_ast.specs.meaning.Tree.{Program}
+use Rattle.task_ast.specs.meaning.Repeat.{Done}
+use Rattle.task_ast.specs.meaning.State.{State}
+use Rattle.task_ast.specs.meaning.Table.{Table, learning, owned}
+use Rattle.task_ast.specs.meaning.Turn.{Issue, Needs, Ended, child_of, turn}
 use Rattle.task_ast.specs.laws.Following.{Follows}
 use Rattle.task_ast.specs.laws.Standing.{PassesTo}
 use Rattle.task_ast.specs.laws.Threads.{with_child}
-use Rattle.task_ast.specs.Plain.{Subthread, Plain, Machine, tree_machine, points_with, settled_by, from_by}
+use Rattle.task_ast.specs.meaning.Plain.{Subthread, Plain, Machine, tree_machine, points_with, settled_by, from_by}
 use Rattle.task_ast.specs.Position.{body_by}
 use Rattle.task_ast.proofs.IssuedTables.{get_last, get_past, length_push, points_get, learnt_length}
 use Rattle.task_ast.proofs.SeatLimits.{most_threads_law}

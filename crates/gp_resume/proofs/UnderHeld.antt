@@ -9,18 +9,19 @@ use Rattle.std.proofs.lemmas.List.Elements.{All-nil}
 use Rattle.std.proofs.lemmas.List.Folds.{list_any_at}
 use Rattle.task_ast.specs.declared.tree.Head.{Head}
 use Rattle.task_ast.specs.declared.tree.Head.TheVariants.{LockHead, BarrierHead, RecHead, FeedHead}
-use Rattle.task_ast.specs.Tree.{Name, Program}
-use Rattle.task_ast.specs.Names.{natural, cell_number, locks_of, records_of, cells_in}
-use Rattle.task_ast.specs.Layout.{lock_over, cells_under, layout, IsLaidOut}
+use Rattle.task_ast.specs.meaning.Tree.{Name, Program}
+use Rattle.task_ast.specs.meaning.Names.{natural, cell_number, locks_of, records_of, cells_in}
+use Rattle.task_ast.specs.meaning.Layout.{lock_over, cells_under, layout}
+use Rattle.task_ast.specs.Layout.{IsLaidOut}
 use Rattle.task_ast.specs.Shaped.{IsAccepted}
-use Rattle.task_ast.specs.Table.{numbers}
-use Rattle.task_ast.specs.Under.{under_lock, is_under}
+use Rattle.task_ast.specs.meaning.Table.{numbers}
+use Rattle.task_ast.specs.meaning.Under.{under_lock, is_under}
 use Rattle.task_ast.proofs.Layouts.{length-numbers, get-numbers, laid_out, accepted_sizes}
 use Rattle.dependence.proofs.Keeping.{under-held}
 use Rattle.record_store.specs.declared.given.Bundle.{Bundle}
 use Rattle.subthread.specs.inner.Places.{IsPlaceIn}
 use Rattle.subthread.proofs.Grounds.{searchable}
-use Rattle.gp_resume.specs.Fitting.{StandsUnder}
+use Rattle.gp_resume.specs.meaning.Fitting.{StandsUnder}
 
 -- past the record cells no lock stands over a number
 none-past : (arrays : List (Name × ℕ)) (heads : List Head) (c : ℕ) → cells_in (records_of heads) ≤ c → lock_over arrays heads c ≡ None

@@ -2,21 +2,22 @@
 use Rattle.std.specs.Prelude.{◌≡◌, ℕ, zero, suc, ◌≤◌, pos, List, [], ◌++◌, length, take, drop, codes}
 use Rattle.gp_base.specs.declared.limits.Limits.{Limits}
 use Rattle.gp_base.specs.declared.feed.Inputs.{Inputs}
-use Rattle.task_ast.specs.Tree.{Program}
-use Rattle.task_ast.specs.Names.{records_of}
-use Rattle.task_ast.specs.Layout.{cut}
+use Rattle.task_ast.specs.meaning.Tree.{Program}
+use Rattle.task_ast.specs.meaning.Names.{records_of}
+use Rattle.task_ast.specs.meaning.Layout.{cut}
 use Rattle.task_ast.specs.Shaped.{IsAccepted}
-use Rattle.task_ast.specs.Plain as plain
-use Rattle.task_ast.specs.Position.{before}
-use Rattle.restart_log.specs.Lines.{printed}
-use Rattle.restart_log.specs.Tail.{tail_text}
-use Rattle.crew.specs.Noted.{left_in_order}
-use Rattle.retirement_log.specs.Rows.{Row}
-use Rattle.retirement_log.specs.Log.{rows_of, log}
-use Rattle.gp_resume.specs.Fitting.{Fit, resumed_at}
-use Rattle.gp_resume.specs.Reading.{LogAnswer, IsAnswer, IsLogOf}
-use Rattle.gp_resume.specs.Resumed as resumed
-use Rattle.gp_resume.specs.Resumed.{lines_of, bytes_before}
+use Rattle.task_ast.specs.meaning.Plain as plain
+use Rattle.task_ast.specs.meaning.Position.{before}
+use Rattle.restart_log.specs.meaning.Lines.{printed}
+use Rattle.restart_log.specs.meaning.Tail.{tail_text}
+use Rattle.crew.specs.meaning.Noted.{left_in_order}
+use Rattle.retirement_log.specs.meaning.Rows.{Row}
+use Rattle.retirement_log.specs.meaning.Log.{rows_of, log}
+use Rattle.gp_resume.specs.meaning.Fitting.{Fit, resumed_at}
+use Rattle.gp_resume.specs.meaning.Reading.{LogAnswer, IsAnswer, IsLogOf}
+use Rattle.gp_resume.specs.meaning.Resumed as resumed
+use Rattle.gp_resume.specs.meaning.Resumed.{lines_of}
+use Rattle.gp_resume.specs.Resumed.{bytes_before}
 
 module _ (program : Program) (inputs : Inputs) (limits : Limits) where
   -- the first rows of the plain run's own log
@@ -65,7 +66,8 @@ BytesLaw =
 abbrev pub JoinedLaw : Type 0
 JoinedLaw =
     (program : Program) (inputs : Inputs) (limits : Limits) (p : ℕ) → p ≤ length (plain.order program inputs limits)
-    → text_before program inputs limits p ++ resumed.text program inputs limits (own_rows program inputs limits p) ≡ text_of_one program inputs limits
+    → text_before program inputs limits p ++ resumed.text program inputs limits (own_rows program inputs limits p)
+    ≡ text_of_one program inputs limits
 
 -- the first rows of the log of a run fit, where the check accepts its program
 abbrev pub OwnLaw : Type 0
@@ -82,7 +84,8 @@ OneAnswerLaw =
 -- and all bytes come to something
 abbrev pub SomeAnswerLaw : Type 0
 SomeAnswerLaw =
-    (program : Program) (inputs : Inputs) (limits : Limits) (bytes : List ℕ) → (answer : LogAnswer) × IsAnswer program inputs limits bytes answer
+    (program : Program) (inputs : Inputs) (limits : Limits) (bytes : List ℕ)
+    → (answer : LogAnswer) × IsAnswer program inputs limits bytes answer
 
 -- the rows of a first part of the run's own log are the first of its own rows
 abbrev pub OwnRowsLaw : Type 0

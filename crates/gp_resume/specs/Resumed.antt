@@ -1,23 +1,6 @@
--- The run that goes on from rows, and its text.
-use Rattle.std.specs.Prelude.{ℕ, suc, ℤ, pos, ◌+◌, ◌-◌, List, [], ◌∷◌, ◌++◌, length, map, flat_map, codes}
-use Rattle.gp_base.specs.declared.limits.Limits.{Limits}
-use Rattle.gp_base.specs.declared.feed.Inputs.{Inputs}
-use Rattle.gp_base.specs.declared.ending.End.{End}
-use Rattle.task_ast.specs.Tree.{Program}
-use Rattle.task_ast.specs.Names.{records_of, cells_in}
-use Rattle.task_ast.specs.State.{cell_value}
-use Rattle.task_ast.specs.Repeat.{steps, state_after}
-use Rattle.task_ast.specs.Table.{numbers}
-use Rattle.task_ast.specs.Layout.{cut}
-use Rattle.task_ast.specs.Plain.{Subthread, Plain, ending_of, move}
-use Rattle.restart_log.specs.Lines.{printed}
-use Rattle.restart_log.specs.Tail.{tail_text}
-use Rattle.retirement_log.specs.Rows.{Row}
-use Rattle.gp_resume.specs.Fitting.{resumed_at}
-
--- the lines of subthreads, in order
-abbrev pub lines_of : List Subthread → List (List ℤ)
-lines_of run = flat_map (λ (s : Subthread). s.lines) run
+-- How long the text was that rows tell of.
+use Rattle.std.specs.Prelude.{ℤ, pos, List, [], ◌∷◌}
+use Rattle.retirement_log.specs.meaning.Rows.{Row}
 
 -- the bytes of the text up to the lines of the last of these rows, or so many where there is none
 abbrev pub bytes_from : ℤ → List Row → ℤ
@@ -27,45 +10,3 @@ bytes_from b (row ∷ rows) = bytes_from row.bytes rows
 -- the bytes of the text that was there before
 abbrev pub bytes_before : List Row → ℤ
 bytes_before rows = bytes_from (pos 0) rows
-
--- the first line of the text, where it was not there before
-abbrev pub first_line : List Row → List ℕ
-first_line [] = codes "output\n"
-first_line (row ∷ rows) = []
-
-module _ (program : Program) (inputs : Inputs) (limits : Limits) (rows : List Row) where
-  -- where the run goes on
-  abbrev pub start : Plain
-  start = resumed_at program inputs limits rows
-
-  -- how many steps there are at most; one more than the limit leaves finds the end
-  abbrev pub steps_left : ℕ
-  steps_left = suc limits.subthreads - length rows
-
-  -- the subthreads that are still to come
-  abbrev pub rest : List Subthread
-  rest = steps (move program inputs limits) steps_left start
-
-  -- where the run has ended
-  abbrev pub last : Plain
-  last = state_after (move program inputs limits) steps_left start
-
-  -- how it ends
-  abbrev pub end : End
-  end = ending_of (move program inputs limits last)
-
-  -- the cells of all records at the end
-  abbrev pub final_records : List ℤ
-  final_records = map (cell_value last.state) (numbers 0 (cells_in (records_of program.heads)))
-
-  -- how many subthreads the whole run has, those of the rows among them
-  abbrev pub count : ℕ
-  count = length rows + length rest
-
-  -- the lines that are still to come
-  abbrev pub lines : List (List ℤ)
-  lines = lines_of rest
-
-  -- the text that is still to come: that of one thread, but for what was there before
-  abbrev pub text : List ℕ
-  text = first_line rows ++ (printed lines ++ tail_text end (cut (records_of program.heads) final_records) count [] 0)

@@ -1,17 +1,18 @@
 -- What a call leaves that goes on from a log.
 use Rattle.std.specs.Prelude.{◌≡◌, ◌≢◌, ◌↔◌, ℕ, pos, ◌≤◌, ◌<◌, ⊤, List, [], Option, Result, Ok, Err, Contains}
 use Rattle.std.specs.List.{IsDistinct}
-use Rattle.gp_base.specs.Sinks.{Rose}
+use Rattle.gp_base.specs.meaning.Sinks.{Rose}
 use Rattle.gp_base.specs.declared.limits.Limits.{Limits}
 use Rattle.gp_base.specs.declared.feed.Inputs.{Inputs}
-use Rattle.task_ast.specs.Tree.{Program}
+use Rattle.task_ast.specs.meaning.Tree.{Program}
 use Rattle.dependence.specs.JournalTests.{same_attempt}
 use Rattle.reorder_list.specs.declared.report.Report.{Report}
-use Rattle.retirement_log.specs.Rows.{Row}
+use Rattle.retirement_log.specs.meaning.Rows.{Row}
 use Rattle.gp_resume.specs.declared.stop.ResumeStop.{ResumeStop}
 use Rattle.gp_resume.specs.declared.stop.ResumeStop.TheVariants.{LogLine, LogFit, WriteFault, OutOfMemory}
-use Rattle.gp_resume.specs.Reading.{LogAnswer, Rows, Broken, Unfit, IsAnswer, IsLogOf}
-use Rattle.gp_resume.specs.Resumed.{bytes_before, end, final_records, count}
+use Rattle.gp_resume.specs.meaning.Reading.{LogAnswer, Rows, Broken, Unfit, IsAnswer, IsLogOf}
+use Rattle.gp_resume.specs.meaning.Resumed.{end, final_records, count}
+use Rattle.gp_resume.specs.Resumed.{bytes_before}
 
 -- The log is refused at its first row that is none or doesn't fit, and only such a row; else it has rows, unless memory is out.
 abbrev pub AnswersLog : {T : Type 0} → Program → Inputs → Limits → (bytes : List ℕ) → Result T ResumeStop → Type 0
@@ -27,9 +28,10 @@ IsRefused (Err (LogLine number)) = ⊤
 IsRefused (Err (LogFit number)) = ⊤
 IsRefused result = ⊥
 
--- How the run ended that went on from these rows, whose text had so many bytes: with the end, the records and the count that it has by definition; nothing was
--- restarted, no fault was there, and no journal was kept.
-pub record ReportsRest (program : Program) (inputs : Inputs) (limits : Limits) (rows : List Row) (bytes : ℕ) (report : Report) : Type 0 where
+-- How the run ended that went on from these rows, whose text had so many bytes: with the end, the records and the count that it has by
+-- definition; nothing was restarted, no fault was there, and no journal was kept.
+pub record ReportsRest (program : Program) (inputs : Inputs) (limits : Limits) (rows : List Row) (bytes : ℕ)
+    (report : Report) : Type 0 where
   pub bytes_are : pos bytes ≡ bytes_before rows
   pub end : report.end ≡ end program inputs limits rows
   pub records : report.records ≡ final_records program inputs limits rows

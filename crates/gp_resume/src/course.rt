@@ -1,7 +1,7 @@
 // How far a run has come that goes on from a log.
 
 ghost use Rattle.std.specs.Prelude.{◌≡◌, ◌<◌, length, slice_set, IfOk};
-ghost use Rattle.task_ast.specs.Table.{learning};
+ghost use Rattle.task_ast.specs.meaning.Table.{learning};
 
 use gp_base::{At, End, Inputs, Limits, LockNo, Nums, Pos, Seq, ThreadNo};
 use record_store::Store;
@@ -27,8 +27,8 @@ pub struct Spot {
     pub me: ThreadNo,
 }
 
-/// How far a run has come: the ring of its threads, where each of them stands, the data, which are all at home, and how many subthreads have
-/// begun.
+/// How far a run has come: the ring of its threads, where each of them stands, the data, which are all at home, and how
+/// many subthreads have begun.
 #[derive(Drop)]
 pub struct Course {
     pub ring: Ring,
@@ -37,8 +37,8 @@ pub struct Course {
     pub issued: u32,
 }
 
-/// A subthread that begins: its position, thread, synchronisation and child, where its thread stands, after what a settle sets, and the locks
-/// that it holds.
+/// A subthread that begins: its position, thread, synchronisation and child, where its thread stands, after what a
+/// settle sets, and the locks that it holds.
 #[derive(Drop)]
 pub struct Begun {
     pub pos: Pos,

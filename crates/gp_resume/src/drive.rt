@@ -2,16 +2,16 @@
 
 ghost use Rattle.std.specs.Prelude.{◌≡◌, ◌⊎◌, ◌≤◌, ◌+◌, ℕ, List, [], ◌∷◌, ◌++◌, length, take, pos, Contains, IfOk, IfErr, OnOk};
 ghost use Rattle.std.specs.Io.KnownBytes.{Appends};
-ghost use Rattle.gp_base.specs.Sinks.{AppendsPrefix};
+ghost use Rattle.gp_base.specs.meaning.Sinks.{AppendsPrefix};
 ghost use Rattle.gp_base.specs.declared.limits.TheConstants.{MOST_FILE_BYTES};
-ghost use Rattle.task_ast.specs.Plain.{Plain, Subthread};
-ghost use Rattle.task_ast.specs.Layout.{layout};
+ghost use Rattle.task_ast.specs.meaning.Plain.{Plain, Subthread};
+ghost use Rattle.task_ast.specs.meaning.Layout.{layout};
 ghost use Rattle.record_store.specs.Stored.{IsAllHome};
 ghost use Rattle.subthread.specs.Tasks.{Suits, program_in};
-ghost use Rattle.restart_log.specs.Lines.{printed};
-ghost use Rattle.retirement_log.specs.Rows.{Row};
-ghost use Rattle.gp_resume.specs.Reading.{IsLogOf};
-ghost use Rattle.gp_resume.specs.Resumed.{lines_of, lines, count};
+ghost use Rattle.restart_log.specs.meaning.Lines.{printed};
+ghost use Rattle.retirement_log.specs.meaning.Rows.{Row};
+ghost use Rattle.gp_resume.specs.meaning.Reading.{IsLogOf};
+ghost use Rattle.gp_resume.specs.meaning.Resumed.{lines_of, lines, count};
 ghost use Rattle.gp_resume.specs.Resuming.{AnswersLog, IsRefused, ReportsRest, IsEachOnce, AreSomeOnce, HasResumeCause};
 ghost use Rattle.gp_resume.specs.inner.Course.{IsSuited, IsBegun, Stands, StandsSomewhere, Begins};
 ghost use Rattle.gp_resume.specs.inner.Going.{rest, WentOn, firsts_from, Replays};
@@ -160,9 +160,10 @@ fn report_of(alloc: Global, end: End, course: Course) -> Report
     }
 }
 
-/// Goes on with a run from a log of its retirements, without running the positions again that the log has, by a crew, which has not been
-/// posted to, and writes the printed lines of the others to `out`. Nothing else is written. Gives how many bytes the text had up to the lines of the last row, or 0
-/// where there is none, and what the run comes to, whose count has the positions of the log too.
+/// Goes on with a run from a log of its retirements, without running the positions again that the log has, by a crew,
+/// which has not been posted to, and writes the printed lines of the others to `out`. Nothing else is written. Gives
+/// how many bytes the text had up to the lines of the last row, or 0 where there is none, and what the run comes to,
+/// whose count has the positions of the log too.
 ///
 /// `LogLine` and `LogFit` tell the first row of the log that is none, or that does not fit the program, these inputs and limits; nothing is
 /// written or posted then. `WriteFault` and `OutOfMemory` are that the output took no more, or memory is out; a part of the lines is written then. What the rows say that

@@ -6,13 +6,13 @@ ghost use Rattle.std.specs.List.{Contains};
 ghost use Rattle.std.specs.List.Sorted.{IsStrictlyIncreasing};
 ghost use Rattle.std.specs.Ordering.{nat_cmp};
 ghost use Rattle.std.specs.FinMap.{is_sorted};
-ghost use Rattle.task_ast.specs.Names.{natural};
-ghost use Rattle.task_ast.specs.Layout.{layout};
-ghost use Rattle.task_ast.specs.Plain.{Plain, Subthread};
+ghost use Rattle.task_ast.specs.meaning.Names.{natural};
+ghost use Rattle.task_ast.specs.meaning.Layout.{layout};
+ghost use Rattle.task_ast.specs.meaning.Plain.{Plain, Subthread};
 ghost use Rattle.task_code.specs.Flat.{code_of};
 ghost use Rattle.subthread.specs.Tasks.{program_in};
-ghost use Rattle.retirement_log.specs.Rows.{Row};
-ghost use Rattle.gp_resume.specs.Fitting.{StandsUnder, child_registers, FitsIssue, least_bytes};
+ghost use Rattle.retirement_log.specs.meaning.Rows.{Row};
+ghost use Rattle.gp_resume.specs.meaning.Fitting.{StandsUnder, child_registers, FitsIssue, least_bytes};
 ghost use Rattle.gp_resume.specs.inner.Course.{IsSuited, Begins, IsBegun};
 ghost use Rattle.gp_resume.specs.inner.RowsRead.{row_in, write_in};
 
@@ -112,7 +112,8 @@ fn fits_cells(code: &Code, held: &[LockNo], cells: &[(i64, i64)]) -> bool
     all_stand_under(code, held, cells) && rise(cells)
 }
 
-/// Whether a row may be that of the subthread that begins, where the text had at least so many bytes before. The error is that memory is out.
+/// Whether a row may be that of the subthread that begins, where the text had at least so many bytes before. The error
+/// is that memory is out.
 pub fn fits(
     alloc: Global,
     plan: &Plan,

@@ -2,27 +2,28 @@
 
 ghost use Rattle.gp_resume.specs.Laws.{ReplayLaw, RestLaw, BytesLaw, JoinedLaw, OwnLaw, OneAnswerLaw, SomeAnswerLaw, OwnRowsLaw};
 
-/// After the first rows of the plain run's own log the run stands where the plain run does, and goes on as it does: with the
-/// same subthreads, the same end, records and count.
+/// After the first rows of the plain run's own log the run stands where the plain run does, and goes on as it does:
+/// with the same subthreads, the same end, records and count.
 pub fn replay_laws()
     ensures replay { ReplayLaw }
     ensures rest { RestLaw }
 {}
 
-/// The text up to the lines of these rows has as many bytes as the last row says, and with the text that is still to come it is
-/// that of the run of one thread.
+/// The text up to the lines of these rows has as many bytes as the last row says, and with the text that is still to
+/// come it is that of the run of one thread.
 pub fn text_laws()
     ensures bytes { BytesLaw }
     ensures joined { JoinedLaw }
 {}
 
-/// Each log that a run of an accepted program wrote fits that program, and so does a first part of it: with such rows a run goes on.
+/// Each log that a run of an accepted program wrote fits that program, and so does a first part of it: with such rows a
+/// run goes on.
 pub fn own_law()
     ensures own { OwnLaw }
 {}
 
-/// The bytes of a log come to one thing: to rows that fit, or to the first row that is none or does not fit. The rows of a first part of
-/// a run's own log are the first of its own rows.
+/// The bytes of a log come to one thing: to rows that fit, or to the first row that is none or does not fit. The rows
+/// of a first part of a run's own log are the first of its own rows.
 pub fn log_laws()
     ensures one { OneAnswerLaw }
     ensures some { SomeAnswerLaw }

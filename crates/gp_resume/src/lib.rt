@@ -1,7 +1,8 @@
 //! Goes on with a run from the log of its retirements, without running the positions again that the log has.
 //!
-//! The rows of the log are read one after another. Each has to fit the run that the rows before it leave: the next subthread of that run takes its turn, its control
-//! is walked without its data, and the data are those of the row. Behind the last row the run goes on by a crew, one subthread after another.
+//! The rows of the log are read one after another. Each has to fit the run that the rows before it leave: the next
+//! subthread of that run takes its turn, its control is walked without its data, and the data are those of the row.
+//! Behind the last row the run goes on by a crew, one subthread after another.
 #![tactic(auto)]
 
 mod beginning;

@@ -3,11 +3,11 @@
 ghost use Rattle.std.specs.Prelude.{◌≡◌, ◌≤◌, length, IsTrue, Option, IfOk, IfErr};
 ghost use Rattle.std.specs.Bool.{Decides};
 ghost use Rattle.gp_base.specs.declared.limits.TheConstants.{MOST_FILE_BYTES};
-ghost use Rattle.task_ast.specs.Plain.{Plain, opening, move};
+ghost use Rattle.task_ast.specs.meaning.Plain.{Plain, opening, move};
 ghost use Rattle.subthread.specs.Tasks.{program_in};
-ghost use Rattle.retirement_log.specs.Rows.{Row};
+ghost use Rattle.retirement_log.specs.meaning.Rows.{Row};
 ghost use Rattle.gp_resume.specs.inner.Course.{IsSuited, Stands, StandsSomewhere};
-ghost use Rattle.gp_resume.specs.Fitting.{least_bytes, FitsMove, replayed};
+ghost use Rattle.gp_resume.specs.meaning.Fitting.{least_bytes, FitsMove, replayed};
 ghost use Rattle.gp_resume.specs.inner.Going.{Replays};
 ghost use Rattle.gp_resume.specs.inner.RowsRead.{row_in};
 ghost use Rattle.gp_resume.specs.Resuming.{AnswersLog};
@@ -31,8 +31,9 @@ pub struct Logged {
 /// The bytes of the first line of the text, which come before those of all lines.
 const FIRST_LINE: i64 = 7;
 
-// Leaves what a row says, if it fits the subthread that begins next, where the text had at least so many bytes before, and tells whether it
-// fits; a row doesn't where the run has ended. The error is that memory is out; nothing is said then of the course, nor where the row doesn't fit.
+// Leaves what a row says, if it fits the subthread that begins next, where the text had at least so many bytes before,
+// and tells whether it fits; a row doesn't where the run has ended. The error is that memory is out; nothing is said
+// then of the course, nor where the row doesn't fit.
 fn replay_row(
     alloc: Global,
     plan: &Plan,
@@ -57,8 +58,8 @@ fn replay_row(
     Ok(true)
 }
 
-/// Leaves what the rows of a log say, of the first subthreads of a run. A row that is none, or does not fit, is the error, or that
-/// memory is out.
+/// Leaves what the rows of a log say, of the first subthreads of a run. A row that is none, or does not fit, is the
+/// error, or that memory is out.
 pub fn replay_log(
     alloc: Global,
     plan: &Plan,

@@ -4,12 +4,12 @@ ghost use Rattle.std.specs.Prelude.{◌≡◌, ◌<◌, ℤ, [], length, map, op
 ghost use Rattle.std.specs.List.Sorted.{IsStrictlyIncreasing};
 ghost use Rattle.std.specs.Ordering.{nat_cmp};
 ghost use Rattle.std.specs.FinMap.{is_sorted};
-ghost use Rattle.task_ast.specs.Effect.{after};
-ghost use Rattle.task_ast.specs.Plain.{Plain, Subthread};
+ghost use Rattle.task_ast.specs.meaning.Effect.{after};
+ghost use Rattle.task_ast.specs.meaning.Plain.{Plain, Subthread};
 ghost use Rattle.record_store.specs.Stored.{state_of, SameShape, FitsChild, IsAtHome};
 ghost use Rattle.subthread.specs.Tasks.{program_in, under_of, body_from};
-ghost use Rattle.retirement_log.specs.Rows.{Row};
-ghost use Rattle.gp_resume.specs.Fitting.{StandsUnder, left_by, FitsIssue, replayed};
+ghost use Rattle.retirement_log.specs.meaning.Rows.{Row};
+ghost use Rattle.gp_resume.specs.meaning.Fitting.{StandsUnder, left_by, FitsIssue, replayed};
 ghost use Rattle.gp_resume.specs.inner.Course.{IsSuited, Stands, Begins};
 ghost use Rattle.gp_resume.specs.inner.Replayed.{FitsBegun};
 ghost use Rattle.gp_resume.specs.inner.RowsRead.{row_in, write_in, with_cells};
@@ -22,7 +22,8 @@ use std::alloc::{AllocError, Global};
 use subthread::{Work, control_of, room_for, set_cells};
 use task_ast::Next;
 
-// The cells of a row, each with its value. A number that is too large for a cell is taken as a want of memory; a row that fits has none.
+// The cells of a row, each with its value. A number that is too large for a cell is taken as a want of memory; a row
+// that fits has none.
 fn writes_of(alloc: Global, cells: &Seq<(i64, i64)>) -> Result<Vec<(RecNo, i64)>, AllocError>
     ensures { IfOk result (λ writes. writes.items ≡ map write_in cells.now) }
 {
@@ -36,7 +37,8 @@ fn writes_of(alloc: Global, cells: &Seq<(i64, i64)>) -> Result<Vec<(RecNo, i64)>
     Ok(writes)
 }
 
-// Leaves the values that a row says in cells under these locks, which rise and are at home, and an effect beside them. The error is that memory is out.
+// Leaves the values that a row says in cells under these locks, which rise and are at home, and an effect beside them.
+// The error is that memory is out.
 fn leave_data(
     alloc: Global,
     work: &Work,
@@ -82,7 +84,8 @@ fn effect_of(
     }
 }
 
-// Leaves what a row says in the place of the subthread that begins, whose locks rise and are at home. The error is that memory is out.
+// Leaves what a row says in the place of the subthread that begins, whose locks rise and are at home. The error is that
+// memory is out.
 fn leave_row(
     alloc: Global,
     work: &Work,
@@ -112,8 +115,8 @@ fn leave_row(
     leave_data(alloc, work, store, &begun.held, &cells, effect)
 }
 
-// The control part of the subthread that begins: what comes next, and where its thread then stands, with its control variables. The error is
-// that memory is out.
+// The control part of the subthread that begins: what comes next, and where its thread then stands, with its control
+// variables. The error is that memory is out.
 fn control(alloc: Global, work: &Work, begun: &Begun) -> Result<(Next, At, Nums), AllocError>
     ensures next { IfOk result (λ left. left.0 ≡ (body_from work.now begun.now.begins.sync begun.now.child (record { at = begun.now.spot.at; ctl = begun.now.spot.ctl; me = begun.now.thread })).next) }
     ensures place { IfOk result (λ left. record { at = left.1; ctl = left.2; me = begun.now.thread } ≡ (body_from work.now begun.now.begins.sync begun.now.child (record { at = begun.now.spot.at; ctl = begun.now.spot.ctl; me = begun.now.thread })).at) }
@@ -130,8 +133,8 @@ fn control(alloc: Global, work: &Work, begun: &Begun) -> Result<(Next, At, Nums)
     )
 }
 
-/// Leaves what a row that fits says in the place of the subthread that begins, whose control is walked without its data. The error is that
-/// memory is out; nothing is said then of the course.
+/// Leaves what a row that fits says in the place of the subthread that begins, whose control is walked without its
+/// data. The error is that memory is out; nothing is said then of the course.
 pub fn replay(
     alloc: Global,
     plan: &Plan,

@@ -2,7 +2,7 @@
 
 ghost use Rattle.std.specs.Prelude.{◌≡◌, ◌⊎◌, ◌<◌, true, [], ◌∷◌, ◌++◌, length, All, Contains, OnOk, OnErr, IfOk};
 ghost use Rattle.std.specs.List.Sorted.{IsStrictlyIncreasing};
-ghost use Rattle.task_ast.specs.Plain.{Plain, Subthread};
+ghost use Rattle.task_ast.specs.meaning.Plain.{Plain, Subthread};
 ghost use Rattle.record_store.specs.Lent.{marked, MayComeHome};
 ghost use Rattle.record_store.specs.Stored.{FitsChild, IsAtHome};
 ghost use Rattle.subthread.specs.Footprints.{IsNumbered};
@@ -135,8 +135,8 @@ fn take(course: &mut Course, done: Done) -> Lines
     lines
 }
 
-/// Has a crew run the subthread that begins, and takes what it leaves. Gives the lines that it printed. The error is that memory is out;
-/// nothing is said then of the course.
+/// Has a crew run the subthread that begins, and takes what it leaves. Gives the lines that it printed. The error is
+/// that memory is out; nothing is said then of the course.
 pub fn run<R: Threads + Sync, C: Crew>(
     rt: &R,
     alloc: Global,

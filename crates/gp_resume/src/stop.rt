@@ -5,8 +5,8 @@ ghost use Rattle.gp_resume.specs.declared.stop.ResumeStop.TheVariants as stop;
 
 use std::alloc::AllocError;
 
-/// Why a run does not go on from a log to its end: this row of the log, counted from 1, is none, or does not fit; the output took no
-/// more; or memory is out.
+/// Why a run does not go on from a log to its end: this row of the log, counted from 1, is none, or does not fit; the
+/// output took no more; or memory is out.
 #[derive(Clone, Copy, PartialEq, Eq)]
 pub enum ResumeStop {
     LogLine(u32),

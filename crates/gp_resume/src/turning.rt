@@ -2,7 +2,7 @@
 
 ghost use Rattle.std.specs.Prelude.{◌≡◌, ◌<◌, ◌≤◌, ◌+◌, ◌^◌, length, option_map, IfOk};
 ghost use Rattle.gp_base.specs.declared.limits.TheConstants.{MOST_THREADS};
-ghost use Rattle.task_ast.specs.Plain.{Plain};
+ghost use Rattle.task_ast.specs.meaning.Plain.{Plain};
 ghost use Rattle.record_store.specs.Stored.{state_of};
 ghost use Rattle.subthread.specs.Tasks.{machine_of};
 ghost use Rattle.gp_resume.specs.inner.Course.{spot_place, IsSuited, Stands, StandsSomewhere, Gives};
@@ -96,7 +96,8 @@ impl Course {
         })
     }
 
-    /// The next subthread, which begins, or the end. The error is that memory is out; nothing is said then of the course.
+    /// The next subthread, which begins, or the end. The error is that memory is out; nothing is said then of the
+    /// course.
     pub fn next(&mut self, alloc: Global, plan: &Plan) -> Result<Step, AllocError>
         requires suits { IsSuited plan.now }
         requires stands { StandsSomewhere plan.now self.old }

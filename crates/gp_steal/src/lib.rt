@@ -1,6 +1,6 @@
-//! A board of jobs that threads share without a lock, each of them claimed by its number. Each job lies on a desk of its
-//! own. Whoever has a *pass* claims desks and puts the runs back on them; the one *clerk* looks at desks, collects the
-//! runs, and in the end gathers the passes, joined into one.
+//! A board of jobs that threads share without a lock, each of them claimed by its number. Each job lies on a desk of
+//! its own. Whoever has a *pass* claims desks and puts the runs back on them; the one *clerk* looks at desks, collects
+//! the runs, and in the end gathers the passes, joined into one.
 #![tactic(auto)]
 
 mod clerk;

@@ -37,8 +37,8 @@ fn swept_after(desk: u32, swept: u32) -> u32
 }
 
 impl<J: Job> StealBoard<J> {
-    /// Claims a desk with its job, which no other pass has or will have. `None` where the desk was claimed before. In both
-    /// cases the pass keeps what it found, and has swept one desk more where this was the next. Takes no memory.
+    /// Claims a desk with its job, which no other pass has or will have. `None` where the desk was claimed before. In
+    /// both cases the pass keeps what it found, and has swept one desk more where this was the next. Takes no memory.
     pub fn claim(&self, pass: &mut StealPass<J>, desk: u32) -> Option<(StealDesk<J>, J)>
         requires of { IsPassOf self.now pass.old }
         requires desk { desk < length (about self.now).jobs }
@@ -101,8 +101,8 @@ impl<J: Job> StealBoard<J> {
         StealPass { seat, swept: 0 }
     }
 
-    /// Adds the share and the claimed desks of another pass, which holds no desk. The pass has swept as far as either had.
-    /// Takes no memory.
+    /// Adds the share and the claimed desks of another pass, which holds no desk. The pass has swept as far as either
+    /// had. Takes no memory.
     pub fn join(&self, into: &mut StealPass<J>, other: StealPass<J>)
         requires of { IsPassOf self.now into.old × IsPassOf self.now other }
         requires idle { (hand other).held ≡ [] }

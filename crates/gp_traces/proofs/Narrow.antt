@@ -10,15 +10,15 @@ use Rattle.gp_base.specs.declared.journal.Restart.{Restart}
 use Rattle.gp_base.specs.declared.journal.Event.{Event}
 use Rattle.gp_base.specs.declared.journal.Event.TheVariants as event
 use Rattle.gp_base.specs.Faults.{IsInRange}
-use Rattle.dependence.specs.Restarts.{Dependence, Progress, attempt_of, struck_next, restart_of, advance_by, progress, restarts}
-use Rattle.dependence.specs.Journal.{Stage, initial_stage, Allowed, happens, LawfulFrom, Lawful, stage_from, stage}
+use Rattle.dependence.specs.meaning.Restarts.{Dependence, Progress, attempt_of, struck_next, restart_of, advance_by, progress, restarts}
+use Rattle.dependence.specs.meaning.Journal.{Stage, initial_stage, Allowed, happens, LawfulFrom, Lawful, stage_from, stage}
 use Rattle.dependence.specs.Standing.{KeepsClean, StageStands}
 use Rattle.dependence.proofs.Counts.{few-attempts}
 use Rattle.dependence.proofs.Journals.{LawfulFrom-front}
 use Rattle.dependence.proofs.Standing.{initial-stands, stands-from}
 use Rattle.dependence.proofs.Struck.{struck-live}
 use Rattle.gp_audit.specs.declared.line.TraceLine.TheVariants as line
-use Rattle.gp_audit.specs.Lines.{IsNarrow, IsNarrowRestart, IsNarrowLine}
+use Rattle.gp_audit.specs.meaning.Lines.{IsNarrow, IsNarrowRestart, IsNarrowLine}
 use Rattle.gp_traces.specs.Told.{restart_line, line_of}
 
 allowed-at : (dependence : Dependence) (faults : List Fault) (at : Stage) (done : List Event) (e : Event) (more : List Event)

@@ -8,10 +8,10 @@ use Rattle.gp_base.specs.declared.fault.Fault.{Fault}
 use Rattle.gp_base.specs.declared.journal.Restart.{Restart}
 use Rattle.gp_base.specs.declared.journal.Event.{Event}
 use Rattle.gp_base.specs.declared.journal.Event.TheVariants as event
-use Rattle.dependence.specs.Restarts.{Dependence, struck_next, restart_of, restarts as all_restarts}
-use Rattle.dependence.specs.Journal.{Stage, initial_stage, Lawful, LawfulFrom, happens, restarted}
-use Rattle.dependence.specs.Counts.{is_restart}
-use Rattle.gp_audit.specs.Verdicts.{events_from, events_of, restarts_told, LawfulLines}
+use Rattle.dependence.specs.meaning.Restarts.{Dependence, struck_next, restart_of, restarts as all_restarts}
+use Rattle.dependence.specs.meaning.Journal.{Stage, initial_stage, Lawful, LawfulFrom, happens, restarted}
+use Rattle.dependence.specs.meaning.Counts.{is_restart}
+use Rattle.gp_audit.specs.meaning.Verdicts.{events_from, events_of, restarts_told, LawfulLines}
 use Rattle.gp_traces.specs.Told.{restart_line, line_of}
 
 past-none : {A : Type 0} (xs : List A) (k : ℕ) → slice_get xs k ≡ None → length xs ≤ k

@@ -6,23 +6,23 @@ use Rattle.gp_base.specs.declared.fault.Fault.{Fault}
 use Rattle.gp_base.specs.declared.journal.Restart.{Restart}
 use Rattle.gp_base.specs.declared.journal.Journal.{Journal}
 use Rattle.gp_base.specs.Faults.{IsInRange}
-use Rattle.task_ast.specs.Plain.{Subthread}
+use Rattle.task_ast.specs.meaning.Plain.{Subthread}
 use Rattle.one_thread.specs.PlainRuns.{shown}
-use Rattle.dependence.specs.Restarts.{Dependence}
-use Rattle.dependence.specs.Journal.{Complete}
-use Rattle.dependence.specs.Runs.{dependence_of}
+use Rattle.dependence.specs.meaning.Restarts.{Dependence}
+use Rattle.dependence.specs.meaning.Journal.{Complete}
+use Rattle.dependence.specs.meaning.Runs.{dependence_of}
 use Rattle.dependence.specs.Standing.{AreShort, KeepsClean}
 use Rattle.dependence.proofs.Standing.{run-clean}
-use Rattle.restart_log.specs.Trace.{trace_text}
+use Rattle.restart_log.specs.meaning.Trace.{trace_text}
 use Rattle.gp_audit.specs.declared.line.TraceLine.{TraceLine}
 use Rattle.gp_audit.specs.declared.line.TraceFault.{TraceFault}
 use Rattle.gp_audit.specs.declared.line.TraceFault.TheVariants as fault
 use Rattle.gp_audit.specs.declared.verdict.Verdict.{Verdict}
 use Rattle.gp_audit.specs.declared.verdict.Verdict.TheVariants.{Lawful as IsLawful}
-use Rattle.gp_audit.specs.Lines.{IsNarrowRestart, IsNarrowLine}
+use Rattle.gp_audit.specs.meaning.Lines.{IsNarrowRestart, IsNarrowLine}
 use Rattle.gp_audit.specs.Reading.{AnswersTrace}
 use Rattle.gp_audit.specs.Steps.{dependence_by}
-use Rattle.gp_audit.specs.Verdicts.{IsVerdict}
+use Rattle.gp_audit.specs.meaning.Verdicts.{IsVerdict}
 use Rattle.gp_audit.proofs.Fronts.{verdict_once}
 use Rattle.gp_audit.proofs.Once.{read_once}
 use Rattle.gp_traces.specs.Laws.{IsWholeRun, IsNarrowRun}

@@ -5,22 +5,22 @@ use Rattle.gp_base.specs.declared.fault.Fault.{Fault}
 use Rattle.gp_base.specs.declared.journal.Restart.{Restart}
 use Rattle.gp_base.specs.declared.journal.Journal.{Journal}
 use Rattle.gp_base.specs.Faults.{IsInRange}
-use Rattle.task_ast.specs.Plain.{Subthread}
+use Rattle.task_ast.specs.meaning.Plain.{Subthread}
 use Rattle.one_thread.specs.PlainRuns.{shown}
-use Rattle.dependence.specs.Restarts.{Dependence, restarts}
-use Rattle.dependence.specs.Journal.{Lawful, Complete}
-use Rattle.dependence.specs.Runs.{dependence_of, restarts_of}
-use Rattle.dependence.specs.Counts.{is_restart}
-use Rattle.restart_log.specs.Trace.{trace_text}
+use Rattle.dependence.specs.meaning.Restarts.{Dependence, restarts}
+use Rattle.dependence.specs.meaning.Journal.{Lawful, Complete}
+use Rattle.dependence.specs.meaning.Runs.{dependence_of, restarts_of}
+use Rattle.dependence.specs.meaning.Counts.{is_restart}
+use Rattle.restart_log.specs.meaning.Trace.{trace_text}
 use Rattle.gp_audit.specs.declared.line.TraceLine.{TraceLine}
 use Rattle.gp_audit.specs.declared.line.TraceFault.{TraceFault}
 use Rattle.gp_audit.specs.declared.line.TraceFault.TheVariants as fault
 use Rattle.gp_audit.specs.declared.verdict.Verdict.{Verdict}
 use Rattle.gp_audit.specs.declared.verdict.Verdict.TheVariants.{Lawful as IsLawful}
-use Rattle.gp_audit.specs.Lines.{trace_text as text_of}
+use Rattle.gp_audit.specs.meaning.Lines.{trace_text as text_of}
 use Rattle.gp_audit.specs.Reading.{AnswersTrace}
 use Rattle.gp_audit.specs.Steps.{dependence_by}
-use Rattle.gp_audit.specs.Verdicts.{events_of, LawfulLines, IsVerdict}
+use Rattle.gp_audit.specs.meaning.Verdicts.{events_of, LawfulLines, IsVerdict}
 use Rattle.gp_traces.specs.Told.{lines_of}
 
 -- the trace of a journal is the text of its lines

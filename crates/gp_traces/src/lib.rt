@@ -1,5 +1,5 @@
-//! What an audit says of the trace that a run writes. The writer and the audit share no code and no definition of the text;
-//! these laws join the two.
+//! What an audit says of the trace that a run writes. The writer and the audit share no code and no definition of the
+//! text; these laws join the two.
 #![tactic(auto)]
 
 pub mod laws;

@@ -1,1 +1,1 @@
-pub mod Choice
+pub mod meaning

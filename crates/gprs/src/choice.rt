@@ -1,13 +1,13 @@
 // Which of the top calls takes the words.
 ghost use Rattle.std.specs.Prelude.{◌≡◌, IfOk};
-ghost use Rattle.command_line.specs.Words.{texts};
-ghost use Rattle.gprs.specs.Choice.{begins_with, call_of};
+ghost use Rattle.command_line.specs.meaning.Words.{texts};
+ghost use Rattle.gprs.specs.meaning.Choice.{begins_with, call_of};
 
 use command_line::wants_pipe;
 use std::alloc::{AllocError, Global};
 
-/// The top calls: that which runs or checks a batch, the same by lasting workers, that which audits a trace, that which runs a
-/// batch by checkpoints, that which keeps a log of a run, and that which goes on from such a log.
+/// The top calls: that which runs or checks a batch, the same by lasting workers, that which audits a trace, that which
+/// runs a batch by checkpoints, that which keeps a log of a run, and that which goes on from such a log.
 #[derive(Clone, Copy)]
 pub enum TopCall {
     Run,
@@ -28,9 +28,10 @@ fn begins_with(name: &str, words: &[String]) -> bool
     }
 }
 
-/// Which top call takes the words: that of an audit where the first word is `audit`, that by checkpoints where it is `ckpt`, that
-/// with a log where it is `log`, that from a log where it is `resume`, that by lasting workers where the words are those of a
-/// command with the crew `pipe`, and else, also for words of no command, the first. The error is that memory is out.
+/// Which top call takes the words: that of an audit where the first word is `audit`, that by checkpoints where it is
+/// `ckpt`, that with a log where it is `log`, that from a log where it is `resume`, that by lasting workers where the
+/// words are those of a command with the crew `pipe`, and else, also for words of no command, the first. The error is
+/// that memory is out.
 pub fn call_of(alloc: Global, words: &[String]) -> Result<TopCall, AllocError>
     ensures { IfOk result (λ call. call ≡ call_of (texts words.now)) }
 {

@@ -16,8 +16,8 @@ use std::process::ExitCode;
 use std::sync::{Arc, Wait};
 use std::thread::Threads;
 
-// Does what the words ask for by the top call that takes them, and answers the status. The error is that memory was out before
-// that call.
+// Does what the words ask for by the top call that takes them, and answers the status. The error is that memory was out
+// before that call.
 fn status_of<
     R: Threads + Wait + Clone + Send + Sync + Drop + AllocGlobal + 'static,
     H: Shelf,

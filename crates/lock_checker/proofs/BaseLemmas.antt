@@ -5,11 +5,11 @@ use Rattle.std.specs.Prelude.{Bool, true, false, cond, if◌then◌else◌, opti
 use Rattle.task_ast.specs.Layout.{base_of}
 use Rattle.task_ast.specs.declared.check_kind.CheckKind.{CheckKind}
 use Rattle.task_ast.specs.declared.tree.Head.{Head}
-use Rattle.task_ast.specs.Tree.{Name, Program}
-use Rattle.task_ast.specs.Names.{is_name, locks_of, records_of, cells_in, head_name}
-use Rattle.task_ast.specs.Declarations.{head_visit, head_visits, task_visits, main_visit, line_of}
-use Rattle.task_ast.specs.Visit.{first_fault}
-use Rattle.task_ast.specs.Check.{bodies_visits, check_fault}
+use Rattle.task_ast.specs.meaning.Tree.{Name, Program}
+use Rattle.task_ast.specs.meaning.Names.{is_name, locks_of, records_of, cells_in, head_name}
+use Rattle.task_ast.specs.meaning.Declarations.{head_visit, head_visits, task_visits, main_visit, line_of}
+use Rattle.task_ast.specs.meaning.Visit.{first_fault}
+use Rattle.task_ast.specs.meaning.Check.{bodies_visits, check_fault}
 use Rattle.lock_checker.specs.inner.Faults.{lowest}
 use Rattle.lock_checker.proofs.VisitLemmas.{or_later, on_line, fault_at-lowest, first_fault-append}
 use Rattle.lock_checker.proofs.HeadLemmas.{cells_small}

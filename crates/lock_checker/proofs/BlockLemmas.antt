@@ -3,15 +3,15 @@ use Rattle.std.proofs.Common.{◌≡◌, ℕ, ◌+◌, ◌<◌, List, [], ◌∷
 use Rattle.std.proofs.lemmas.List.{at_drop_more}
 use Rattle.task_ast.specs.declared.check_kind.CheckKind.{CheckKind}
 use Rattle.task_ast.specs.declared.tree.Stmt.{Stmt}
-use Rattle.task_ast.specs.Tree as plain
-use Rattle.task_ast.specs.Declarations.{Scope}
-use Rattle.task_ast.specs.Held.{Pair, has, held_after, held_at_end}
-use Rattle.task_ast.specs.Check.{visits_of, visits_in}
+use Rattle.task_ast.specs.meaning.Tree as plain
+use Rattle.task_ast.specs.meaning.Declarations.{Scope}
+use Rattle.task_ast.specs.meaning.Held.{Pair, has, held_after, held_at_end}
+use Rattle.task_ast.specs.meaning.Check.{visits_of, visits_in}
 use Rattle.task_ast.specs.View.{plain_expr, plain_what, plain_stmt, plain_block}
 use Rattle.task_ast.specs.declared.tree.Expr.{Expr}
 use Rattle.task_ast.specs.declared.tree.What.{When}
 use Rattle.task_ast.proofs.Views.{stmt_At, what_When}
-use Rattle.task_ast.specs.Visit.{Visit, visit, first_fault}
+use Rattle.task_ast.specs.meaning.Visit.{Visit, visit, first_fault}
 use Rattle.lock_checker.specs.declared.fault.CheckFault.{CheckFault}
 use Rattle.lock_checker.specs.Accepted.{Told}
 use Rattle.lock_checker.specs.inner.Faults.{later_visits}

@@ -3,10 +3,10 @@ use Rattle.std.proofs.Common.{◌≡◌, ℕ, ◌+◌, ◌<◌, List, ◌++◌, 
 use Rattle.std.proofs.lemmas.List.{at_drop_more}
 use Rattle.task_ast.specs.declared.check_kind.CheckKind.{CheckKind}
 use Rattle.task_ast.specs.declared.tree.TaskText.{TaskText}
-use Rattle.task_ast.specs.Tree.{Program}
-use Rattle.task_ast.specs.Check.{body_visits, bodies_visits}
+use Rattle.task_ast.specs.meaning.Tree.{Program}
+use Rattle.task_ast.specs.meaning.Check.{body_visits, bodies_visits}
 use Rattle.task_ast.specs.View.{plain_task}
-use Rattle.task_ast.specs.Visit.{Visit, first_fault}
+use Rattle.task_ast.specs.meaning.Visit.{Visit, first_fault}
 use Rattle.lock_checker.specs.declared.fault.CheckFault.{CheckFault}
 use Rattle.lock_checker.specs.Accepted.{Told}
 use Rattle.lock_checker.proofs.VisitLemmas.{found_after, told_before}

@@ -1,10 +1,10 @@
 -- What a body does from a point that its thread comes to.
 use Rattle.std.proofs.Common.{◌≡◌, ◌⊎◌, inl, inr, ℕ, zero, suc, Bool, List, [], ◌∷◌, ◌++◌, Contains, Option, Some, None, refl}
 use Rattle.std.specs.Prelude.{⊤, slice_get}
-use Rattle.task_ast.specs.Action.{Action}
-use Rattle.task_ast.specs.Tree.{statements, TaskText}
-use Rattle.task_ast.specs.Body.{Step, Silent, Iteration, Act, Stop, Body, spent, follow, stretch, body}
-use Rattle.task_ast.specs.Control.{Setting, Point, step, size, tree_body}
+use Rattle.task_ast.specs.meaning.Action.{Action}
+use Rattle.task_ast.specs.meaning.Tree.{statements, TaskText}
+use Rattle.task_ast.specs.meaning.Body.{Step, Silent, Iteration, Act, Stop, Body, spent, follow, stretch, body}
+use Rattle.task_ast.specs.meaning.Control.{Setting, Point, step, size, tree_body}
 use Rattle.task_ast.specs.laws.Keeps.{AllName}
 use Rattle.task_ast.specs.Layout.{IsLaidOut}
 use Rattle.task_ast.specs.Shaped.{IsAccepted}

@@ -6,8 +6,8 @@ use Rattle.std.specs.Prelude.{not, ◌&&◌, ◌||◌, ◌↔◌, if◌then◌el
 use Rattle.std.specs.List.{list_all}
 use Rattle.std.proofs.lemmas.Bool.{false_from_ne_true, and_from}
 use Rattle.task_ast.specs.declared.check_kind.CheckKind.TheVariants.{HeldAtEnd}
-use Rattle.task_ast.specs.Check.{held_fails}
-use Rattle.task_ast.specs.Held.{Pair, same_pair, has, without, same_pairs}
+use Rattle.task_ast.specs.meaning.Check.{held_fails}
+use Rattle.task_ast.specs.meaning.Held.{Pair, same_pair, has, without, same_pairs}
 use Rattle.lock_checker.specs.inner.Pairs.{differ, IsFlipped, flips, Leads, HaveSame, Moves, TellsAlike}
 use Rattle.lock_checker.proofs.SamePairs.{same_pair_is, same_pair_itself, same_from_test, has-append, or_true}
 

@@ -2,8 +2,8 @@
 use Rattle.std.proofs.Common.{◌≡◌, ℕ, List, [], ◌∷◌, ◌++◌, Bool, true, false, Some, None, refl, ap, ◌∙◌, sym, subst}
 use Rattle.std.specs.Prelude.{not, if◌then◌else◌}
 use Rattle.task_ast.specs.declared.check_kind.CheckKind.TheVariants.{BranchesDiffer}
-use Rattle.task_ast.specs.Held.{Pair, same_pairs}
-use Rattle.task_ast.specs.Visit.{Visit, visit, fails_if, first_fault}
+use Rattle.task_ast.specs.meaning.Held.{Pair, same_pairs}
+use Rattle.task_ast.specs.meaning.Visit.{Visit, visit, fails_if, first_fault}
 use Rattle.lock_checker.specs.declared.fault.CheckFault.{CheckFault}
 use Rattle.lock_checker.specs.Accepted.{Told}
 use Rattle.lock_checker.specs.inner.Pairs.{Leads, HaveSame, Moves, TellsAlike}

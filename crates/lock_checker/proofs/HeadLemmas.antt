@@ -5,15 +5,15 @@ use Rattle.std.proofs.lemmas.Bool.{ltb-false}
 use Rattle.std.proofs.lemmas.List.{map-append, at_drop_more, take_more}
 use Rattle.task_ast.specs.declared.check_kind.CheckKind.{CheckKind}
 use Rattle.task_ast.specs.declared.check_kind.CheckKind.TheVariants.{TooMany}
-use Rattle.task_ast.specs.Declarations.{line_of, passes_limit, head_visit, head_visits}
-use Rattle.task_ast.specs.Visit.{fails_if, first_fault}
+use Rattle.task_ast.specs.meaning.Declarations.{line_of, passes_limit, head_visit, head_visits}
+use Rattle.task_ast.specs.meaning.Visit.{fails_if, first_fault}
 use Rattle.lock_checker.specs.inner.Faults.{lowest}
 use Rattle.lock_checker.proofs.VisitLemmas.{or_later, on_line, fault_at-lowest}
 use Rattle.std.proofs.lemmas.List.Folds.{list_any-append}
 use Rattle.task_ast.specs.declared.tree.Head.{Head}
 use Rattle.task_ast.specs.declared.tree.Head.TheVariants.{LockHead, BarrierHead, RecHead, FeedHead}
-use Rattle.task_ast.specs.Tree.{Name, Program}
-use Rattle.task_ast.specs.Names.{is_name, is_among, natural, head_name, locks_of, records_of, cells_in}
+use Rattle.task_ast.specs.meaning.Tree.{Name, Program}
+use Rattle.task_ast.specs.meaning.Names.{is_name, is_among, natural, head_name, locks_of, records_of, cells_in}
 use Rattle.lock_checker.specs.declared.heads.Heads.{Heads}
 use Rattle.lock_checker.specs.declared.symbol_table.SymbolTable.{SymbolTable}
 use Rattle.lock_checker.specs.inner.Heads.{HasNames, AreHeads}

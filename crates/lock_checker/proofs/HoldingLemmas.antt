@@ -5,12 +5,12 @@ use Rattle.std.specs.List.{list_any}
 use Rattle.task_ast.specs.declared.check_kind.CheckKind.{CheckKind}
 use Rattle.task_ast.specs.declared.check_kind.CheckKind.TheVariants.{UnknownName, WrongCount, DataInControl, NotHeld, HeldTwice, BranchesDiffer, IndexChangedWhileHeld}
 use Rattle.task_ast.specs.declared.tree.Atom.{Atom}
-use Rattle.task_ast.specs.Tree.{Name, Stmt, At, What, SetCtl, While, If, Lock, Unlock, Fork, Join, Barrier, Settle, SetReg, Read, Write, Print, When, Block, Nothing, Then, statements}
-use Rattle.task_ast.specs.Names.{task_named}
-use Rattle.task_ast.specs.Visit.{Visit, visit, fails_if, first_fault}
-use Rattle.task_ast.specs.Declarations.{Scope, is_control, is_register, is_lock, is_atom, has_unknown, has_data, has_data_index, counts_differ, any_misplaced}
-use Rattle.task_ast.specs.Held.{Pair, is_index, held_after, held_by, held_at_end}
-use Rattle.task_ast.specs.Check.{array_over, lacks, into_unknown, into_index, fails_at, fails_after, visits_of, visits_inside, visits_in}
+use Rattle.task_ast.specs.meaning.Tree.{Name, Stmt, At, What, SetCtl, While, If, Lock, Unlock, Fork, Join, Barrier, Settle, SetReg, Read, Write, Print, When, Block, Nothing, Then, statements}
+use Rattle.task_ast.specs.meaning.Names.{task_named}
+use Rattle.task_ast.specs.meaning.Visit.{Visit, visit, fails_if, first_fault}
+use Rattle.task_ast.specs.meaning.Declarations.{Scope, is_control, is_register, is_lock, is_atom, has_unknown, has_data, has_data_index, counts_differ, any_misplaced}
+use Rattle.task_ast.specs.meaning.Held.{Pair, is_index, held_after, held_by, held_at_end}
+use Rattle.task_ast.specs.meaning.Check.{array_over, lacks, into_unknown, into_index, fails_at, fails_after, visits_of, visits_inside, visits_in}
 use Rattle.task_ast.specs.Shaped.{is_shaped_stmt, is_shaped_block}
 use Rattle.lock_checker.proofs.SamePairs.{Same, nothing_same, any_same, same_pairs_same, same-append, same-without, and_parts}
 use Rattle.lock_checker.proofs.VisitLemmas.{or_later, first_fault-append}

@@ -9,11 +9,12 @@ use Rattle.std.proofs.lemmas.Bool.{ne_eqb, eq-eqb, lt-ltb, le-ltb, and_parts}
 use Rattle.std.proofs.lemmas.List.{map-append, length-append, length-map, length-take-le, take_more}
 use Rattle.task_ast.specs.declared.tree.Head.{Head}
 use Rattle.task_ast.specs.declared.tree.Head.TheVariants.{LockHead, BarrierHead, RecHead, FeedHead}
-use Rattle.task_ast.specs.Tree.{Name}
-use Rattle.task_ast.specs.Names.{is_name, natural, named, place, locks_of, records_of, cell_number, cells_in}
-use Rattle.task_ast.specs.Declarations.{is_other_size}
-use Rattle.task_ast.specs.Layout.{base_of, lock_over, is_lock_cell, cells_under, fits_array}
-use Rattle.task_ast.specs.Table.{numbers}
+use Rattle.task_ast.specs.meaning.Tree.{Name}
+use Rattle.task_ast.specs.meaning.Names.{is_name, natural, named, place, locks_of, records_of, cell_number, cells_in}
+use Rattle.task_ast.specs.meaning.Declarations.{is_other_size}
+use Rattle.task_ast.specs.meaning.Layout.{lock_over, is_lock_cell, cells_under}
+use Rattle.task_ast.specs.Layout.{base_of, fits_array}
+use Rattle.task_ast.specs.meaning.Table.{numbers}
 use Rattle.task_ast.proofs.Layouts.{array_found, length-numbers}
 use Rattle.lock_checker.specs.inner.Positions.{positions, numbers_at, cells_over}
 

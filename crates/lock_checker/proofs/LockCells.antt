@@ -11,16 +11,17 @@ use Rattle.std.proofs.lemmas.List.Folds.{list_any_at}
 use Rattle.task_ast.specs.declared.env.Env.{Env}
 use Rattle.task_ast.specs.declared.tree.Atom.{Atom}
 use Rattle.task_ast.specs.declared.tree.Head.{Head}
-use Rattle.task_ast.specs.Tree.{Name, At, What, SetCtl, While, If, Lock, Unlock, Fork, Join, Barrier, Settle, SetReg, Read, Write, Print, When, Block, Nothing, Then}
-use Rattle.task_ast.specs.Names.{is_name, place, locks_of, records_of, cell_number, cells_in}
-use Rattle.task_ast.specs.Action.{Action, Load, Store, Choose, Arm, OneAction, term, Say, Set}
-use Rattle.task_ast.specs.Control.{Setting, action, arm, record_number, register_number, index_of, all_of}
-use Rattle.task_ast.specs.Held.{same_pair, has}
+use Rattle.task_ast.specs.meaning.Tree.{Name, At, What, SetCtl, While, If, Lock, Unlock, Fork, Join, Barrier, Settle, SetReg, Read, Write, Print, When, Block, Nothing, Then}
+use Rattle.task_ast.specs.meaning.Names.{is_name, place, locks_of, records_of, cell_number, cells_in}
+use Rattle.task_ast.specs.meaning.Action.{Action, Load, Store, Choose, Arm, OneAction, term, Say, Set}
+use Rattle.task_ast.specs.meaning.Control.{Setting, action, arm, record_number, register_number, index_of, all_of}
+use Rattle.task_ast.specs.meaning.Held.{same_pair, has}
 use Rattle.task_ast.specs.laws.Keeps.{NamesOnly, ArmNamesOnly}
-use Rattle.task_ast.specs.Layout.{lock_over, is_lock_cell, cells_under, layout, IsLaidOut}
-use Rattle.task_ast.specs.Table.{numbers}
+use Rattle.task_ast.specs.meaning.Layout.{lock_over, is_lock_cell, cells_under, layout}
+use Rattle.task_ast.specs.Layout.{IsLaidOut}
+use Rattle.task_ast.specs.meaning.Table.{numbers}
 use Rattle.task_ast.proofs.Layouts.{over_is}
-use Rattle.task_ast.specs.Under.{under_lock, is_under}
+use Rattle.task_ast.specs.meaning.Under.{under_lock, is_under}
 use Rattle.lock_checker.specs.WalkLaw.{Holding, pairs_held, IsUnderHeld, TouchesHeld, TouchesAllHeld, StillNamed, one_held}
 use Rattle.lock_checker.proofs.SamePairs.{same_pair_is}
 use Rattle.lock_checker.specs.Soundness.{Each}

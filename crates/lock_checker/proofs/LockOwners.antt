@@ -5,9 +5,9 @@ use Rattle.std.proofs.lemmas.Bool.{eq-eqb}
 use Rattle.std.proofs.lemmas.List.Elements.{Contains-append_right}
 use Rattle.task_ast.specs.declared.sync.SyncOp.{SyncOp}
 use Rattle.task_ast.specs.declared.sync.SyncOp.TheVariants as sync
-use Rattle.task_ast.specs.Held.{Pair, same_pair}
-use Rattle.task_ast.specs.Table.{owned_from}
-use Rattle.task_ast.specs.Turn.{owner_in, owners_after}
+use Rattle.task_ast.specs.meaning.Held.{Pair, same_pair}
+use Rattle.task_ast.specs.meaning.Table.{owned_from}
+use Rattle.task_ast.specs.meaning.Turn.{owner_in, owners_after}
 use Rattle.lock_checker.specs.WalkLaw.{Holding, released}
 use Rattle.lock_checker.specs.Soundness.{Each, Apart, HasCell}
 use Rattle.task_ast.proofs.IssuedTables.{get_set_here, get_set_other, length_set}

@@ -14,24 +14,29 @@ use Rattle.task_ast.specs.declared.env.Env.{Env}
 use Rattle.task_ast.specs.declared.sync.SyncOp.{SyncOp}
 use Rattle.task_ast.specs.declared.sync.SyncOp.TheVariants as sync
 use Rattle.task_ast.specs.declared.sync.Next.{Next}
-use Rattle.task_ast.specs.Tree.{statements, TaskText, Program, Stmt}
-use Rattle.task_ast.specs.Names.{head_name, locks_of, cells_in, task_named}
-use Rattle.task_ast.specs.Visit.{visit, fails_if, first_fault}
-use Rattle.task_ast.specs.Declarations.{main, head_visits, task_visits, main_visit}
-use Rattle.task_ast.specs.Check.{bodies_visits}
+use Rattle.task_ast.specs.meaning.Tree.{statements, TaskText, Program, Stmt}
+use Rattle.task_ast.specs.meaning.Names.{head_name, locks_of, cells_in, task_named}
+use Rattle.task_ast.specs.meaning.Visit.{visit, fails_if, first_fault}
+use Rattle.task_ast.specs.meaning.Declarations.{main, head_visits, task_visits, main_visit}
+use Rattle.task_ast.specs.meaning.Check.{bodies_visits}
 use Rattle.task_ast.specs.Shaped.{IsAccepted}
-use Rattle.task_ast.specs.Body.{Body, Stop, spent}
-use Rattle.task_ast.specs.State.{RegistersOf, number_at}
-use Rattle.task_ast.specs.Control.{Setting, Point, with_number, step, env_at, beginning, first_actions}
+use Rattle.task_ast.specs.meaning.Body.{Body, Stop, spent}
+use Rattle.task_ast.specs.meaning.State.{RegistersOf, number_at}
+use Rattle.task_ast.specs.meaning.Control.{Setting, Point, with_number, step, env_at, beginning, first_actions}
 use Rattle.task_ast.specs.laws.Keeps.{AllName}
-use Rattle.task_ast.specs.Layout.{layout, IsLaidOut}
-use Rattle.task_ast.specs.Under.{is_under, KeepsToLocks}
-use Rattle.task_ast.specs.Repeat.{Move, Goes, Ends, state_from, state_after}
-use Rattle.task_ast.specs.Table.{next_of, is_end, is_known_end, owned_from}
-use Rattle.task_ast.specs.Turn.{owner_in, child_of, owners_after}
+use Rattle.task_ast.specs.meaning.Layout.{layout}
+use Rattle.task_ast.specs.Layout.{IsLaidOut}
+use Rattle.task_ast.specs.meaning.Under.{is_under}
+use Rattle.task_ast.specs.Under.{KeepsToLocks}
+use Rattle.task_ast.specs.meaning.Repeat.{Move, Goes, Ends, state_from, state_after}
+use Rattle.task_ast.specs.meaning.Table.{next_of, is_end, owned_from}
+use Rattle.task_ast.specs.Table.{is_known_end}
+use Rattle.task_ast.specs.meaning.Turn.{owner_in, child_of, owners_after}
 use Rattle.task_ast.specs.laws.Threads.{MayBegin, with_child}
-use Rattle.task_ast.specs.Plain.{Subthread, Plain, Machine, settled_by, from_by, no_task, main_number, setting, tree_machine, move, opening, order}
-use Rattle.task_ast.specs.Position.{IsStep, body_by, before, point_in}
+use Rattle.task_ast.specs.meaning.Plain.{Subthread, Plain, Machine, settled_by, from_by, no_task, main_number, tree_machine, move, opening, order}
+use Rattle.task_ast.specs.Plain.{setting}
+use Rattle.task_ast.specs.meaning.Position.{before}
+use Rattle.task_ast.specs.Position.{IsStep, body_by, point_in}
 use Rattle.task_ast.proofs.Layouts.{laid_out, accepted_sizes}
 use Rattle.task_ast.proofs.LessTurns.{inside_of}
 use Rattle.task_ast.proofs.PlainSteps.{begins_of, is_step, points_kept}

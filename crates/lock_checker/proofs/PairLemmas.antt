@@ -20,9 +20,9 @@ use Rattle.std.proofs.lemmas.Cmp.{nat_list_cmp_total, tied_itself}
 use Rattle.std.proofs.lemmas.Map.Text.{is_eq-slice_cmp}
 use Rattle.task_ast.specs.declared.tree.Atom.{Atom}
 use Rattle.task_ast.specs.declared.tree.Atom.TheVariants as atom
-use Rattle.task_ast.specs.Tree.{Name}
-use Rattle.task_ast.specs.Names.{is_name}
-use Rattle.task_ast.specs.Held as plain
+use Rattle.task_ast.specs.meaning.Tree.{Name}
+use Rattle.task_ast.specs.meaning.Names.{is_name}
+use Rattle.task_ast.specs.meaning.Held as plain
 use Rattle.lock_checker.specs.declared.pair.Index.{Index}
 use Rattle.lock_checker.specs.declared.pair.Index.TheVariants.{Number, Variable}
 use Rattle.lock_checker.specs.declared.pair.Pair.{Pair}

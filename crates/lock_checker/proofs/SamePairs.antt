@@ -5,8 +5,8 @@ use Rattle.std.specs.List.{list_any, list_all}
 use Rattle.std.proofs.lemmas.Bool.Decides.{Decides-int_eq}
 use Rattle.task_ast.specs.declared.tree.Atom.{Atom}
 use Rattle.task_ast.specs.declared.tree.Atom.TheVariants as atom
-use Rattle.task_ast.specs.Names.{is_name}
-use Rattle.task_ast.specs.Held.{Pair, same_atom, same_pair, has, without, same_pairs}
+use Rattle.task_ast.specs.meaning.Names.{is_name}
+use Rattle.task_ast.specs.meaning.Held.{Pair, same_atom, same_pair, has, without, same_pairs}
 use Rattle.lock_checker.proofs.TableLemmas.{is_name-is, is_name-itself}
 
 pub record Same (a b : List Pair) : Type 0 where

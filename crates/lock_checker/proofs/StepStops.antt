@@ -15,17 +15,17 @@ use Rattle.task_ast.specs.declared.sync.Next.{Next}
 use Rattle.task_ast.specs.declared.tree.Atom.{Atom}
 use Rattle.task_ast.specs.declared.tree.Param.{Param}
 use Rattle.task_ast.specs.declared.tree.Param.TheVariants as param
-use Rattle.task_ast.specs.Tree.{Name, Expr, Stmt, At, What, SetCtl, While, If, Lock, Unlock, Fork, Join, Barrier, Settle, SetReg, Read, Write, Print, When, TaskText, Program}
-use Rattle.task_ast.specs.Names.{is_name, slot, firsts, locks_of, barriers_of, cells_in, cell_number, registers_of, is_task, task_named, task_number}
-use Rattle.task_ast.specs.Value.{value}
-use Rattle.task_ast.specs.Action.{Action, Child, Give, term, Term}
-use Rattle.task_ast.specs.Body.{Step, Act, Stop, spent}
-use Rattle.task_ast.specs.Control.{Setting, Point, step_at, step_from, known, branch, action, env_at, index_of, lock_number, register_number, fork_of, control_arguments, data_arguments, first_actions, begin_actions, going, fork_arguments}
-use Rattle.task_ast.specs.Held.{same_pair}
+use Rattle.task_ast.specs.meaning.Tree.{Name, Expr, Stmt, At, What, SetCtl, While, If, Lock, Unlock, Fork, Join, Barrier, Settle, SetReg, Read, Write, Print, When, TaskText, Program}
+use Rattle.task_ast.specs.meaning.Names.{is_name, slot, firsts, locks_of, barriers_of, cells_in, cell_number, registers_of, is_task, task_named, task_number}
+use Rattle.task_ast.specs.meaning.Value.{value}
+use Rattle.task_ast.specs.meaning.Action.{Action, Child, Give, term, Term}
+use Rattle.task_ast.specs.meaning.Body.{Step, Act, Stop, spent}
+use Rattle.task_ast.specs.meaning.Control.{Setting, Point, step_at, step_from, known, branch, action, env_at, index_of, lock_number, register_number, fork_of, control_arguments, data_arguments, first_actions, begin_actions, going, fork_arguments}
+use Rattle.task_ast.specs.meaning.Held.{same_pair}
 use Rattle.task_ast.specs.laws.Keeps.{NamesOnly, AllName}
 use Rattle.task_ast.specs.Layout.{IsLaidOut}
-use Rattle.task_ast.specs.Table.{Table}
-use Rattle.task_ast.specs.Turn.{owner_in, owners_after}
+use Rattle.task_ast.specs.meaning.Table.{Table}
+use Rattle.task_ast.specs.meaning.Turn.{owner_in, owners_after}
 use Rattle.lock_checker.specs.WalkLaw.{Holding, pairs_held, held_past, NextTouchesHeld, StillNamed}
 use Rattle.task_ast.specs.laws.Threads.{MayBegin}
 use Rattle.lock_checker.proofs.LockOwners.{Owners, has_old, has_new, has_left, each_then, each_push, each_left, both, apart_push, apart_left, set_here, set_other}

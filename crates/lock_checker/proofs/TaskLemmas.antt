@@ -9,10 +9,10 @@ use Rattle.task_ast.specs.declared.check_kind.CheckKind.TheVariants.{DoubleName,
 use Rattle.task_ast.specs.declared.tree.Param.{Param}
 use Rattle.task_ast.specs.declared.tree.TaskText.{TaskText}
 use Rattle.task_ast.specs.declared.tree.VarLine.{VarLine}
-use Rattle.task_ast.specs.Tree.{Name}
-use Rattle.task_ast.specs.Declarations.{task_visit, task_visits, vars_visits, has_double, are_many}
+use Rattle.task_ast.specs.meaning.Tree.{Name}
+use Rattle.task_ast.specs.meaning.Declarations.{task_visit, task_visits, vars_visits, has_double, are_many}
 use Rattle.task_ast.specs.View.{plain_task}
-use Rattle.task_ast.specs.Visit.{Visit, visit, fails_if, fault_at, first_fault}
+use Rattle.task_ast.specs.meaning.Visit.{Visit, visit, fails_if, fault_at, first_fault}
 use Rattle.lock_checker.specs.declared.fault.CheckFault.{CheckFault}
 use Rattle.lock_checker.specs.Accepted.{Told}
 use Rattle.lock_checker.specs.inner.TaskNames.{name_of, names_of}

@@ -5,8 +5,8 @@ use Rattle.std.proofs.lemmas.List.{take_more}
 use Rattle.task_ast.specs.declared.tree.Param.{Param}
 use Rattle.task_ast.specs.declared.tree.Param.TheVariants as param
 use Rattle.task_ast.specs.declared.tree.VarLine.{VarLine}
-use Rattle.task_ast.specs.Tree.{Name}
-use Rattle.task_ast.specs.Names.{is_name, is_among, ret, controls, datas, declared_in}
+use Rattle.task_ast.specs.meaning.Tree.{Name}
+use Rattle.task_ast.specs.meaning.Names.{is_name, is_among, ret, controls, datas, declared_in}
 use Rattle.lock_checker.specs.declared.variables.Variables.{Variables}
 use Rattle.lock_checker.specs.declared.symbol_table.SymbolTable.{SymbolTable}
 use Rattle.lock_checker.specs.inner.Tables.{found, or_else}

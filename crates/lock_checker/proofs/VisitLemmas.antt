@@ -1,7 +1,7 @@
 -- The first fault of visits that follow one another.
 use Rattle.std.proofs.Common.{◌≡◌, ℕ, List, [], ◌∷◌, ◌++◌, Option, Some, None, refl, ap, ◌∙◌, sym, subst}
 use Rattle.task_ast.specs.declared.check_kind.CheckKind.{CheckKind}
-use Rattle.task_ast.specs.Visit.{Visit, fault_at, first_fault}
+use Rattle.task_ast.specs.meaning.Visit.{Visit, fault_at, first_fault}
 use Rattle.lock_checker.specs.declared.fault.CheckFault.{CheckFault}
 use Rattle.lock_checker.specs.declared.fault.CheckFault.TheVariants.{Bad, OutOfMemory}
 use Rattle.lock_checker.specs.Accepted.{Told}

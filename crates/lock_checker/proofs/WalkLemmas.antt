@@ -16,16 +16,16 @@ use Rattle.task_ast.specs.declared.sync.Next.{Next}
 use Rattle.task_ast.specs.declared.tree.Atom.{Atom}
 use Rattle.task_ast.specs.declared.tree.Atom.TheVariants as atom
 use Rattle.task_ast.specs.declared.tree.Head.{Head}
-use Rattle.task_ast.specs.Tree.{Name, Stmt, At, What, SetCtl, While, If, Lock, Unlock, Fork, Join, Barrier, Settle, SetReg, Read, Write, Print, When, Block, Nothing, Then, statements, TaskText, Program}
-use Rattle.task_ast.specs.Names.{is_name, slot, firsts, head_name, locks_of, cell_number, registers_of, barriers_of}
-use Rattle.task_ast.specs.Value.{value_at, value}
-use Rattle.task_ast.specs.Action.{Action}
-use Rattle.task_ast.specs.Body.{Step, Silent, Iteration, Act, Stop}
-use Rattle.task_ast.specs.Control.{Setting, Point, step_at, step_from, known, branch, action, env_at, lock_number, fork_of, index_of, with_value, with_number, going, behind, beginning}
-use Rattle.task_ast.specs.Visit.{Visit, visit, fails_if, first_fault}
-use Rattle.task_ast.specs.Declarations.{Scope, is_lock, is_register, is_atom, has_unknown, has_data_index, head_visits, task_visits, main_visit}
-use Rattle.task_ast.specs.Held.{Pair, same_pair, has, without, same_pairs, is_index, held_by, held_at_end}
-use Rattle.task_ast.specs.Check.{array_over, lacks, fails_at, fails_after, held_fails, visits_of, visits_inside, visits_in, body_visits, bodies_visits}
+use Rattle.task_ast.specs.meaning.Tree.{Name, Stmt, At, What, SetCtl, While, If, Lock, Unlock, Fork, Join, Barrier, Settle, SetReg, Read, Write, Print, When, Block, Nothing, Then, statements, TaskText, Program}
+use Rattle.task_ast.specs.meaning.Names.{is_name, slot, firsts, head_name, locks_of, cell_number, registers_of, barriers_of}
+use Rattle.task_ast.specs.meaning.Value.{value_at, value}
+use Rattle.task_ast.specs.meaning.Action.{Action}
+use Rattle.task_ast.specs.meaning.Body.{Step, Silent, Iteration, Act, Stop}
+use Rattle.task_ast.specs.meaning.Control.{Setting, Point, step_at, step_from, known, branch, action, env_at, lock_number, fork_of, index_of, with_value, with_number, going, behind, beginning}
+use Rattle.task_ast.specs.meaning.Visit.{Visit, visit, fails_if, first_fault}
+use Rattle.task_ast.specs.meaning.Declarations.{Scope, is_lock, is_register, is_atom, has_unknown, has_data_index, head_visits, task_visits, main_visit}
+use Rattle.task_ast.specs.meaning.Held.{Pair, same_pair, has, without, same_pairs, is_index, held_by, held_at_end}
+use Rattle.task_ast.specs.meaning.Check.{array_over, lacks, fails_at, fails_after, held_fails, visits_of, visits_inside, visits_in, body_visits, bodies_visits}
 use Rattle.task_ast.specs.Shaped.{is_data, all_data, is_shaped_what, is_shaped_stmt, is_shaped_block, is_shaped_head}
 use Rattle.lock_checker.specs.WalkLaw.{Holding, pair_in, pairs_held, released, held_past, Comes, begins, silently, by_turn, acting, past, by_settle, IsUnderHeld, TouchesHeld, TouchesAllHeld, NextTouchesHeld, StillNamed, none_held, one_held, WalkLaw}
 use Rattle.task_ast.proofs.Slots.{slot_sets}

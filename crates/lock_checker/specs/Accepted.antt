@@ -2,7 +2,7 @@
 use Rattle.std.specs.Prelude.{◌≡◌, ℕ, Option, Some}
 use Rattle.task_ast.specs.declared.check_kind.CheckKind.{CheckKind}
 use Rattle.task_ast.specs.declared.tree.Program.{Program}
-use Rattle.task_ast.specs.Check.{check_fault}
+use Rattle.task_ast.specs.meaning.Check.{check_fault}
 use Rattle.task_ast.specs.View.{plain_program}
 use Rattle.lock_checker.specs.declared.checked.Checked.{Checked}
 use Rattle.lock_checker.specs.declared.fault.CheckFault.{CheckFault}

@@ -4,18 +4,21 @@ use Rattle.gp_base.specs.declared.limits.Limits.{Limits}
 use Rattle.gp_base.specs.declared.feed.Inputs.{Inputs}
 use Rattle.task_ast.specs.declared.sync.SyncOp.TheVariants as sync
 use Rattle.task_ast.specs.declared.sync.Next.{Next}
-use Rattle.task_ast.specs.Tree.{statements, TaskText, Program}
-use Rattle.task_ast.specs.Names.{locks_of, cells_in}
-use Rattle.task_ast.specs.Body.{Stop, spent}
-use Rattle.task_ast.specs.Control.{Setting, Point, step}
-use Rattle.task_ast.specs.Layout.{layout}
+use Rattle.task_ast.specs.meaning.Tree.{statements, TaskText, Program}
+use Rattle.task_ast.specs.meaning.Names.{locks_of, cells_in}
+use Rattle.task_ast.specs.meaning.Body.{Stop, spent}
+use Rattle.task_ast.specs.meaning.Control.{Setting, Point, step}
+use Rattle.task_ast.specs.meaning.Layout.{layout}
 use Rattle.task_ast.specs.Shaped.{IsAccepted}
 use Rattle.task_ast.specs.Under.{KeepsToLocks, NamesHeld}
-use Rattle.task_ast.specs.Repeat.{Goes}
-use Rattle.task_ast.specs.Table.{next_of, is_known_end}
-use Rattle.task_ast.specs.Turn.{owner_in, owner_of}
-use Rattle.task_ast.specs.Plain.{Subthread, Plain, setting, opening, move, order}
-use Rattle.task_ast.specs.Position.{before, point_in}
+use Rattle.task_ast.specs.meaning.Repeat.{Goes}
+use Rattle.task_ast.specs.meaning.Table.{next_of}
+use Rattle.task_ast.specs.Table.{is_known_end}
+use Rattle.task_ast.specs.meaning.Turn.{owner_in, owner_of}
+use Rattle.task_ast.specs.meaning.Plain.{Subthread, Plain, opening, move, order}
+use Rattle.task_ast.specs.Plain.{setting}
+use Rattle.task_ast.specs.meaning.Position.{before}
+use Rattle.task_ast.specs.Position.{point_in}
 use Rattle.lock_checker.specs.WalkLaw.{Holding, Comes}
 
 -- each holding passes

@@ -6,12 +6,12 @@ use Rattle.task_ast.specs.declared.sync.SyncOp.TheVariants as sync
 use Rattle.task_ast.specs.declared.sync.Next.{Next}
 use Rattle.task_ast.specs.declared.tree.Atom.{Atom}
 use Rattle.task_ast.specs.declared.tree.Head.{Head}
-use Rattle.task_ast.specs.Tree.{Name, Stmt, At, What, Lock, Unlock, Read, Write, When, Block, Nothing, Then, statements, TaskText}
-use Rattle.task_ast.specs.Names.{locks_of, arrays_over, named, cell_number}
-use Rattle.task_ast.specs.Action.{Action}
-use Rattle.task_ast.specs.Body.{Silent, Iteration, Act, Stop}
-use Rattle.task_ast.specs.Control.{Setting, Point, with_number, step, env_at, index_of, beginning}
-use Rattle.task_ast.specs.Held.{Pair, same_pair, has}
+use Rattle.task_ast.specs.meaning.Tree.{Name, Stmt, At, What, Lock, Unlock, Read, Write, When, Block, Nothing, Then, statements, TaskText}
+use Rattle.task_ast.specs.meaning.Names.{locks_of, arrays_over, named, cell_number}
+use Rattle.task_ast.specs.meaning.Action.{Action}
+use Rattle.task_ast.specs.meaning.Body.{Silent, Iteration, Act, Stop}
+use Rattle.task_ast.specs.meaning.Control.{Setting, Point, with_number, step, env_at, index_of, beginning}
+use Rattle.task_ast.specs.meaning.Held.{Pair, same_pair, has}
 use Rattle.task_ast.specs.Shaped.{IsAccepted}
 
 -- a pair that is held, with the value that its atom had at the lock and the cell that was locked

@@ -1,9 +1,9 @@
 // An accepted program.
 ghost use Rattle.std.specs.Prelude.{◌≡◌};
 ghost use Rattle.task_ast.specs.Layout.{base_of};
-ghost use Rattle.task_ast.specs.Names.{locks_of, records_of};
+ghost use Rattle.task_ast.specs.meaning.Names.{locks_of, records_of};
 ghost use Rattle.task_ast.specs.Shaped.{IsAccepted};
-ghost use Rattle.task_ast.specs.Tree as plain;
+ghost use Rattle.task_ast.specs.meaning.Tree as plain;
 ghost use Rattle.task_ast.specs.View.{plain_program};
 ghost use Rattle.lock_checker.specs.inner.Tables.{found};
 
@@ -28,8 +28,9 @@ pub struct Checked {
 impl Checked {
     ghost use Rattle.std.specs.Prelude.{◌≡◌, ℕ, ◌≤◌, slice_get, IfOk, IfSome};
     ghost use Rattle.gp_base.specs.declared.limits.TheConstants.{MOST_CELLS};
-    ghost use Rattle.task_ast.specs.Names.{locks_of, records_of, cells_in};
-    ghost use Rattle.task_ast.specs.Layout.{base_of, lock_over, layout};
+    ghost use Rattle.task_ast.specs.meaning.Names.{locks_of, records_of, cells_in};
+    ghost use Rattle.task_ast.specs.meaning.Layout.{lock_over, layout};
+    ghost use Rattle.task_ast.specs.Layout.{base_of};
     ghost use Rattle.lock_checker.specs.Accepted.{program_of};
     ghost use Rattle.lock_checker.specs.inner.Positions.{cells_over};
 

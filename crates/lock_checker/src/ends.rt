@@ -1,7 +1,7 @@
 // The ends of statements with blocks.
 ghost use Rattle.std.specs.Prelude.{◌≡◌, ℕ, None, not, List, [], ◌∷◌, ◌++◌};
-ghost use Rattle.task_ast.specs.Held.{Pair as PlainPair, same_pairs};
-ghost use Rattle.task_ast.specs.Visit.{Visit, visit, fails_if, first_fault};
+ghost use Rattle.task_ast.specs.meaning.Held.{Pair as PlainPair, same_pairs};
+ghost use Rattle.task_ast.specs.meaning.Visit.{Visit, visit, fails_if, first_fault};
 ghost use Rattle.task_ast.specs.declared.check_kind.CheckKind.TheVariants.{BranchesDiffer};
 ghost use Rattle.lock_checker.specs.inner.Pairs.{pairs_of, Leads, Moves};
 ghost use Rattle.lock_checker.specs.inner.Faults.{Walks, WalksAside};

@@ -1,8 +1,8 @@
 // What stands in an expression: names that aren't declared, and data variables.
 ghost use Rattle.std.specs.Prelude.{◌≡◌};
 ghost use Rattle.std.specs.List.{list_any};
-ghost use Rattle.task_ast.specs.Tree as plain;
-ghost use Rattle.task_ast.specs.Declarations.{has_unknown, has_data, has_data_index};
+ghost use Rattle.task_ast.specs.meaning.Tree as plain;
+ghost use Rattle.task_ast.specs.meaning.Declarations.{has_unknown, has_data, has_data_index};
 ghost use Rattle.task_ast.specs.View.{plain_expr, plain_exprs, plain_links};
 ghost use Rattle.lock_checker.specs.inner.Scopes.{scope_of, IsScope};
 ghost use Rattle.lock_checker.specs.inner.Sought.{IsSought, found_in, found_among, inside_cell};

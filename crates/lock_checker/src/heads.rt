@@ -3,8 +3,8 @@ ghost use Rattle.std.specs.Prelude.{◌≡◌, ◌≤◌, ◌<◌, ◌^◌, List
 ghost use Rattle.gp_base.specs.declared.limits.TheConstants.{MOST_CELLS};
 ghost use Rattle.task_ast.specs.declared.tree.Head.{Head as PlainHead};
 ghost use Rattle.task_ast.specs.declared.tree.Program.{Program as PlainProgram};
-ghost use Rattle.task_ast.specs.Names.{head_name, locks_of, records_of, cells_in};
-ghost use Rattle.task_ast.specs.Declarations.{line_of, count_of, lacks_array, sizes_differ, passes_limit, head_visit};
+ghost use Rattle.task_ast.specs.meaning.Names.{head_name, locks_of, records_of, cells_in};
+ghost use Rattle.task_ast.specs.meaning.Declarations.{line_of, count_of, lacks_array, sizes_differ, passes_limit, head_visit};
 ghost use Rattle.task_ast.specs.View.{plain_program};
 ghost use Rattle.lock_checker.specs.inner.Indexes.{IsIndexOf};
 ghost use Rattle.lock_checker.specs.inner.Heads.{AreHeads};

@@ -1,7 +1,7 @@
 // Sets of pairs, and the changes that lead from one to another.
 ghost use Rattle.std.specs.Prelude.{◌≡◌, ◌↔◌, [], ◌∷◌, ◌++◌, IsTrue, OnOk, IfOk};
 ghost use Rattle.std.specs.List.{list_any};
-ghost use Rattle.task_ast.specs.Held.{has, without, is_index};
+ghost use Rattle.task_ast.specs.meaning.Held.{has, without, is_index};
 ghost use Rattle.lock_checker.specs.inner.Pairs.{pair_of, pairs_of, pairs_in, IsFlipped, Leads, Moves, TellsAlike};
 
 use crate::pair::{Index, Pair};

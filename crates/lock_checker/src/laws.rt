@@ -10,9 +10,10 @@ pub fn walk_law()
     ensures { WalkLaw }
 {}
 
-/// The check is sound over whole runs. At the opening of an accepted program each thread owns exactly the locks of what it
-/// locked and did not unlock; each move, from any state in which that holds, keeps it, whatever the data; and the actions
-/// of each subthread name only record cells under the locks that it holds. A thread that has ended owns no lock.
+/// The check is sound over whole runs. At the opening of an accepted program each thread owns exactly the locks of what
+/// it locked and did not unlock; each move, from any state in which that holds, keeps it, whatever the data; and the
+/// actions of each subthread name only record cells under the locks that it holds. A thread that has ended owns no
+/// lock.
 pub fn soundness_laws()
     ensures first { HeldFirstLaw }
     ensures moves { HeldMoveLaw }

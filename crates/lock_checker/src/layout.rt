@@ -2,9 +2,9 @@
 ghost use Rattle.std.specs.Prelude.{◌≡◌, ◌+◌, ◌≤◌, ◌^◌, [], ◌++◌, map, length, IfOk, OnOk};
 ghost use Rattle.gp_base.specs.declared.limits.TheConstants.{MOST_CELLS};
 ghost use Rattle.task_ast.specs.Layout.{base_of};
-ghost use Rattle.task_ast.specs.Names.{locks_of, records_of, cells_in};
-ghost use Rattle.task_ast.specs.Table.{numbers};
-ghost use Rattle.task_ast.specs.Tree as plain;
+ghost use Rattle.task_ast.specs.meaning.Names.{locks_of, records_of, cells_in};
+ghost use Rattle.task_ast.specs.meaning.Table.{numbers};
+ghost use Rattle.task_ast.specs.meaning.Tree as plain;
 ghost use Rattle.lock_checker.specs.inner.Positions.{positions};
 ghost use Rattle.lock_checker.specs.inner.Tables.{found};
 

@@ -1,15 +1,15 @@
 // The check of a program.
 ghost use Rattle.std.specs.Prelude.{◌≡◌, None, List, [], ◌∷◌, map, IsTrue, OnOk, IfOk, IfErr};
-ghost use Rattle.task_ast.specs.Held.{Pair as PlainPair};
-ghost use Rattle.task_ast.specs.Names.{head_name};
-ghost use Rattle.task_ast.specs.Declarations.{head_visits};
-ghost use Rattle.task_ast.specs.Check.{check_fault, held_fails, body_visits, bodies_visits, program_visits};
+ghost use Rattle.task_ast.specs.meaning.Held.{Pair as PlainPair};
+ghost use Rattle.task_ast.specs.meaning.Names.{head_name};
+ghost use Rattle.task_ast.specs.meaning.Declarations.{head_visits};
+ghost use Rattle.task_ast.specs.meaning.Check.{check_fault, held_fails, body_visits, bodies_visits, program_visits};
 ghost use Rattle.task_ast.specs.Shaped.{is_shaped};
 ghost use Rattle.task_ast.specs.View.{plain_task, plain_program};
 ghost use Rattle.lock_checker.specs.Accepted.{program_of, IsFaultOf};
 ghost use Rattle.lock_checker.specs.inner.Heads.{HasNames};
 ghost use Rattle.lock_checker.specs.inner.Indexes.{IsIndexOf};
-ghost use Rattle.task_ast.specs.Visit.{visit};
+ghost use Rattle.task_ast.specs.meaning.Visit.{visit};
 ghost use Rattle.lock_checker.specs.inner.Pairs.{pairs_in, HaveSame};
 ghost use Rattle.lock_checker.specs.inner.Faults.{Passes};
 

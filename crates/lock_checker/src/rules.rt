@@ -1,9 +1,9 @@
 // The rules at the beginning of a statement.
 ghost use Rattle.std.specs.Prelude.{◌≡◌, [], zip, length};
 ghost use Rattle.std.specs.List.{list_any};
-ghost use Rattle.task_ast.specs.Tree as plain;
-ghost use Rattle.task_ast.specs.Check.{fails_at, into_unknown, into_index};
-ghost use Rattle.task_ast.specs.Declarations.{is_control, is_register, is_misplaced};
+ghost use Rattle.task_ast.specs.meaning.Tree as plain;
+ghost use Rattle.task_ast.specs.meaning.Check.{fails_at, into_unknown, into_index};
+ghost use Rattle.task_ast.specs.meaning.Declarations.{is_control, is_register, is_misplaced};
 ghost use Rattle.task_ast.specs.View.{plain_expr, plain_exprs, plain_what};
 ghost use Rattle.lock_checker.specs.inner.Scopes.{scope_of, IsScope};
 ghost use Rattle.lock_checker.specs.inner.Pairs.{pairs_in};

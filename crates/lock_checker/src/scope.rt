@@ -1,9 +1,9 @@
 // What the names of a task's statements stand for.
 ghost use Rattle.std.specs.Prelude.{◌≡◌, option_map};
 ghost use Rattle.std.specs.Option.{option_copied};
-ghost use Rattle.task_ast.specs.Names.{is_name, task_named};
-ghost use Rattle.task_ast.specs.Declarations.{is_control, is_register, is_feed, is_lock, is_atom};
-ghost use Rattle.task_ast.specs.Check.{array_over, is_barrier};
+ghost use Rattle.task_ast.specs.meaning.Names.{is_name, task_named};
+ghost use Rattle.task_ast.specs.meaning.Declarations.{is_control, is_register, is_feed, is_lock, is_atom};
+ghost use Rattle.task_ast.specs.meaning.Check.{array_over, is_barrier};
 ghost use Rattle.task_ast.specs.View.{plain_task, plain_program};
 ghost use Rattle.lock_checker.specs.inner.Scopes.{scope_of, IsScope};
 

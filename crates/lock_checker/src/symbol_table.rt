@@ -1,7 +1,7 @@
 // Names with what was declared under them first.
 ghost use Rattle.std.specs.Prelude.{◌≡◌, OnOk, Some, None, if◌then◌else◌};
-ghost use Rattle.task_ast.specs.Names.{is_name};
-ghost use Rattle.task_ast.specs.Tree as plain;
+ghost use Rattle.task_ast.specs.meaning.Names.{is_name};
+ghost use Rattle.task_ast.specs.meaning.Tree as plain;
 ghost use Rattle.lock_checker.specs.inner.Tables.{found, or_else};
 
 use gp_base::Name;

@@ -1,9 +1,9 @@
 // The rules of the heads of tasks.
 ghost use Rattle.std.specs.Prelude.{◌≡◌, ◌<◌, List, [], ◌∷◌, map, length};
 ghost use Rattle.gp_base.specs.declared.limits.TheConstants.{MOST_VARIABLES};
-ghost use Rattle.task_ast.specs.Tree.{Name as PlainName};
-ghost use Rattle.task_ast.specs.Names.{is_name, is_among};
-ghost use Rattle.task_ast.specs.Declarations.{main, task_visit, task_visits, vars_visits, main_visit};
+ghost use Rattle.task_ast.specs.meaning.Tree.{Name as PlainName};
+ghost use Rattle.task_ast.specs.meaning.Names.{is_name, is_among};
+ghost use Rattle.task_ast.specs.meaning.Declarations.{main, task_visit, task_visits, vars_visits, main_visit};
 ghost use Rattle.task_ast.specs.View.{plain_task, plain_program};
 ghost use Rattle.lock_checker.specs.inner.Heads.{HasNames};
 ghost use Rattle.lock_checker.specs.inner.TaskVariables.{AreVariables};

@@ -1,7 +1,7 @@
 // The walk over a task's body with the pairs held.
 ghost use Rattle.std.specs.Prelude.{◌≡◌, List};
-ghost use Rattle.task_ast.specs.Check.{visits_of, visits_in};
-ghost use Rattle.task_ast.specs.Held.{Pair as PlainPair, held_after, held_at_end};
+ghost use Rattle.task_ast.specs.meaning.Check.{visits_of, visits_in};
+ghost use Rattle.task_ast.specs.meaning.Held.{Pair as PlainPair, held_after, held_at_end};
 ghost use Rattle.task_ast.specs.View.{plain_stmt, plain_block};
 ghost use Rattle.lock_checker.specs.inner.Scopes.{scope_of, IsScope};
 ghost use Rattle.lock_checker.specs.inner.Pairs.{pairs_in, HaveSame};

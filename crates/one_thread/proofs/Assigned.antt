@@ -1,8 +1,8 @@
 -- A value is put beside the first of a name.
 use Rattle.std.proofs.Common.{◌≡◌, ℕ, zero, suc, ◌<◌, ◌≤◌, ℤ, true, false, cond, List, [], ◌∷◌, ◌++◌, length, take, drop, get_or, set, refl, ap, sym, ◌∙◌, arith}
-use Rattle.task_ast.specs.Tree.{Name}
-use Rattle.task_ast.specs.Names.{is_name}
-use Rattle.task_ast.specs.Control.{with_value}
+use Rattle.task_ast.specs.meaning.Tree.{Name}
+use Rattle.task_ast.specs.meaning.Names.{is_name}
+use Rattle.task_ast.specs.meaning.Control.{with_value}
 
 -- the first i pairs have other names
 abbrev pub Passed : ℕ → List (Name × ℤ) → Name → Type 0

@@ -3,9 +3,9 @@ use Rattle.std.proofs.Common.{◌≡◌, ℕ, ℤ, Bool, true, false, List, [], 
 use Rattle.std.specs.Prelude.{slice_set}
 use Rattle.std.proofs.lemmas.Bool.{false≢true}
 use Rattle.task_ast.specs.declared.tree.Stmt.{Stmt as CodeStmt}
-use Rattle.task_ast.specs.Tree.{Name, Expr, Stmt, At, What, SetCtl, While, If, Lock, Unlock, Fork, Join, Barrier, Settle, SetReg, Read, Write, Print, When}
-use Rattle.task_ast.specs.Names.{slot, registers_of}
-use Rattle.task_ast.specs.Control.{Setting, Point, going, begin_actions, behind, fork_of}
+use Rattle.task_ast.specs.meaning.Tree.{Name, Expr, Stmt, At, What, SetCtl, While, If, Lock, Unlock, Fork, Join, Barrier, Settle, SetReg, Read, Write, Print, When}
+use Rattle.task_ast.specs.meaning.Names.{slot, registers_of}
+use Rattle.task_ast.specs.meaning.Control.{Setting, Point, going, begin_actions, behind, fork_of}
 use Rattle.task_ast.specs.View.{plain_stmt, plain_what, plain_task}
 use Rattle.task_ast.proofs.Views.{stmt_At}
 use Rattle.one_thread.specs.declared.left.Left.{Left}

@@ -1,8 +1,8 @@
 -- Changed seats.
 use Rattle.std.proofs.Common.{◌≡◌, ℕ, suc, ◌+◌, map, Some, refl, arith, set, true}
 use Rattle.std.specs.Prelude.{slice_get}
-use Rattle.task_ast.specs.Repeat.{More}
-use Rattle.task_ast.specs.Turn.{passing}
+use Rattle.task_ast.specs.meaning.Repeat.{More}
+use Rattle.task_ast.specs.meaning.Turn.{passing}
 use Rattle.task_ast.proofs.ChangedSeats.{map-replaced}
 use Rattle.one_thread.specs.declared.seats.Table.{Table}
 use Rattle.one_thread.specs.declared.seats.Seat.{Seat as SeatHere}
@@ -21,5 +21,6 @@ pub passed-as : (before : Table) (t : ℕ) (seat : SeatHere) → slice_get befor
     })
 passed-as before t seat at =
     let one : t + 1 ≡ suc t = omega arith in
-    let replaced = map-replaced seat_of before.seats.items t (λ s. record s { passed = true }) seat (record seat { passed = true }) at refl in
+    let replaced =
+    map-replaced seat_of before.seats.items t (λ s. record s { passed = true }) seat (record seat { passed = true }) at refl in
     rw (one, replaced) refl

@@ -3,7 +3,7 @@ use Rattle.std.proofs.Common.{◌≡◌, List, [], ◌∷◌, ◌++◌, refl, ap
 use Rattle.std.specs.Borrow.{Bor}
 use Rattle.task_ast.specs.declared.tree.Stmt as code
 use Rattle.one_thread.specs.declared.left.Left.{Left}
-use Rattle.task_ast.specs.Tree.{Stmt, block, statements}
+use Rattle.task_ast.specs.meaning.Tree.{Stmt, block, statements}
 use Rattle.task_ast.specs.View.{plain_stmts}
 use Rattle.one_thread.specs.inner.Remaining.{around_of, left_of}
 

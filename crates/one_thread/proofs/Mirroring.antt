@@ -6,9 +6,9 @@ use Rattle.std.specs.FinMap.{put, find, nat_cmp-IsAntisymmetric}
 use Rattle.std.specs.FinMap.Entries.{find-put}
 use Rattle.std.proofs.lemmas.Cmp.{nat_cmp_total}
 use Rattle.std.proofs.lemmas.Bool.{false≢true, ltb-true, le-ltb, eq-eqb}
-use Rattle.task_ast.specs.Action.{Term, Action, Set, Load, Store, Say, Choose, Child, Give, Bring, Arm, NoAction, OneAction}
-use Rattle.task_ast.specs.State.{number_at}
-use Rattle.task_ast.specs.Effect.{term_value, Doing, picked, done, arm_done, all_done}
+use Rattle.task_ast.specs.meaning.Action.{Term, Action, Set, Load, Store, Say, Choose, Child, Give, Bring, Arm, NoAction, OneAction}
+use Rattle.task_ast.specs.meaning.State.{number_at}
+use Rattle.task_ast.specs.meaning.Effect.{term_value, Doing, picked, done, arm_done, all_done}
 use Rattle.task_ast.specs.laws.Keeps.{NamesOnly, ArmNamesOnly, AllName}
 use Rattle.one_thread.specs.declared.data.Data.{Data}
 use Rattle.one_thread.specs.inner.Working.{first_unless, worked, arm_worked, recorded, all_worked}

@@ -3,9 +3,9 @@ use Rattle.std.proofs.Common.{◌≡◌, ℕ, zero, suc, ℤ, pos, negsuc, Bool,
 use Rattle.std.specs.Prelude.{nat_eq}
 use Rattle.std.specs.Ordering.{nat_cmp, match_ordering}
 use Rattle.std.specs.BTreeSet.{insert_key}
-use Rattle.task_ast.specs.Action.{Term, Action, Set, Load, Store, Say, Choose, Child, Give, Bring, Arm, NoAction, OneAction}
-use Rattle.task_ast.specs.Effect.{term_value}
-use Rattle.task_ast.specs.Footprint.{Named, with_cell, naming, arm_naming, all_naming}
+use Rattle.task_ast.specs.meaning.Action.{Term, Action, Set, Load, Store, Say, Choose, Child, Give, Bring, Arm, NoAction, OneAction}
+use Rattle.task_ast.specs.meaning.Effect.{term_value}
+use Rattle.task_ast.specs.meaning.Footprint.{Named, with_cell, naming, arm_naming, all_naming}
 use Rattle.one_thread.specs.declared.data.Data.{Data}
 use Rattle.one_thread.specs.inner.Working.{first_unless, worked, arm_worked, recorded, all_worked, Works, Notes, ArmNotes}
 use Rattle.task_ast.proofs.Arms.{chosen, some_is}

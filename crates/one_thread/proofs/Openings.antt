@@ -8,12 +8,12 @@ use Rattle.gp_base.specs.declared.limits.Limits.{Limits}
 use Rattle.gp_base.specs.declared.feed.Inputs.{Inputs}
 use Rattle.task_ast.specs.declared.tree.Program.{Program as Code}
 use Rattle.task_ast.specs.declared.tree.TaskText.{TaskText as CodeTask}
-use Rattle.task_ast.specs.Tree.{Name}
-use Rattle.task_ast.specs.Names.{is_name, is_task, registers_of, records_of, feeds_of, cells_in}
-use Rattle.task_ast.specs.Declarations.{main}
-use Rattle.task_ast.specs.State.{number_at}
-use Rattle.task_ast.specs.Table.{numbers}
-use Rattle.task_ast.specs.Plain.{no_task, task_at, main_number, start_point, opening}
+use Rattle.task_ast.specs.meaning.Tree.{Name}
+use Rattle.task_ast.specs.meaning.Names.{is_name, is_task, registers_of, records_of, feeds_of, cells_in}
+use Rattle.task_ast.specs.meaning.Declarations.{main}
+use Rattle.task_ast.specs.meaning.State.{number_at}
+use Rattle.task_ast.specs.meaning.Table.{numbers}
+use Rattle.task_ast.specs.meaning.Plain.{no_task, task_at, main_number, start_point, opening}
 use Rattle.task_ast.specs.View.{plain_task, plain_program}
 use Rattle.task_ast.proofs.Terms.{position-cons}
 use Rattle.task_ast.proofs.Arms.{some_is}
@@ -33,7 +33,8 @@ numbers-next c n less = go (n - c) refl
     go (suc m) is = ap (λ l. c ∷ l) (ap (λ a. numbers a m) (sym (add-one c)) ∙ ap (numbers (c + 1)) (omega arith))
 
 -- one cell more
-pub cell-more : (f : ℕ → ℤ) (cells more : List ℤ) (v : ℤ) (c n : ℕ) → c < n → more ≡ cells ++ v ∷ [] → v ≡ f c → more ++ map f (numbers (c + 1) (n - (c + 1))) ≡ cells ++ map f (numbers c (n - c))
+pub cell-more : (f : ℕ → ℤ) (cells more : List ℤ) (v : ℤ) (c n : ℕ) → c < n → more ≡ cells ++ v ∷ [] → v ≡ f c
+    → more ++ map f (numbers (c + 1) (n - (c + 1))) ≡ cells ++ map f (numbers c (n - c))
 cell-more f cells more v c n less pushed is =
     ap (λ l. l ++ map f (numbers (c + 1) (n - (c + 1)))) pushed ∙ append_assoc cells (v ∷ []) (map f (numbers (c + 1) (n - (c + 1))))
     ∙ ap (λ x. cells ++ x ∷ map f (numbers (c + 1) (n - (c + 1)))) is
@@ -52,16 +53,20 @@ at-number f a (suc n) (suc c) less = at-number f (suc a) n c (omega arith) ∙ a
 position-map : {A B : Type 0} (f : A → B) (p : B → Bool) (xs : List A) → position p (map f xs) ≡ position (λ x. p (f x)) xs
 position-map f p [] = refl
 position-map f p (x ∷ xs) =
-    position-cons p (f x) (map f xs) ∙ ap (λ o. cond (p (f x)) (Some 0) (option_map suc o)) (position-map f p xs) ∙ sym (position-cons (λ x. p (f x)) x xs)
+    position-cons p (f x) (map f xs) ∙ ap (λ o. cond (p (f x)) (Some 0) (option_map suc o)) (position-map f p xs)
+    ∙ sym (position-cons (λ x. p (f x)) x xs)
 
-main-is : (code : Code) (k : ℕ) → k ≡ unwrap_or (position {X = CodeTask} (λ task. is_name main task.name) code.tasks) 0 → k ≡ main_number (plain_program code)
+main-is : (code : Code) (k : ℕ) → k ≡ unwrap_or (position {X = CodeTask} (λ task. is_name main task.name) code.tasks) 0
+    → k ≡ main_number (plain_program code)
 main-is code k is = is ∙ ap (λ o. unwrap_or o 0) (sym (position-map plain_task (is_task main) code.tasks))
 
-names-are : (code : Code) (slots : List (List Name)) (k : ℕ) (names : List Name) → slots ≡ map slots_of code.tasks → slice_get slots k ≡ Some names → names ≡ registers_of (task_at (plain_program code) k)
+names-are : (code : Code) (slots : List (List Name)) (k : ℕ) (names : List Name) → slots ≡ map slots_of code.tasks
+    → slice_get slots k ≡ Some names → names ≡ registers_of (task_at (plain_program code) k)
 names-are code slots k names same at = go (slice_get code.tasks k) refl
   where
     go : (o : Option CodeTask) → slice_get code.tasks k ≡ o → names ≡ registers_of (task_at (plain_program code) k)
-    go None there = absurd (cc (sym at ∙ ap (λ l. slice_get l k) same ∙ slice_get-map slots_of code.tasks k ∙ ap (option_map slots_of) there))
+    go None there =
+        absurd (cc (sym at ∙ ap (λ l. slice_get l k) same ∙ slice_get-map slots_of code.tasks k ∙ ap (option_map slots_of) there))
     go (Some text) there =
         some_is (sym at ∙ ap (λ l. slice_get l k) same ∙ slice_get-map slots_of code.tasks k ∙ ap (option_map slots_of) there)
         ∙ ap (λ o. registers_of (unwrap_or o no_task)) (sym (slice_get-map plain_task code.tasks k ∙ ap (option_map plain_task) there))
@@ -73,25 +78,35 @@ one-sound code w sound = record { each = each }
     each zero v at = subst (IsSound code) (some_is at) sound
     each (suc u) v at = absurd (cc at)
 
-one-register : (code : Code) (inputs : Inputs) (limits : Limits) (w : Walk) (registers : List ℤ) (u : ℕ) → w.data.registers ≡ registers → registers ≡ replicate (length (registers_of (task_at (plain_program code) (main_number (plain_program code))))) (pos 0)
-    → registers_at (w ∷ []) u ≡ cond (nat_eq 0 u) (replicate (length (registers_of (task_at (plain_program code) (main_number (plain_program code))))) (pos 0)) []
+one-register : (code : Code) (inputs : Inputs) (limits : Limits) (w : Walk) (registers : List ℤ) (u : ℕ) → w.data.registers ≡ registers
+    → registers ≡ replicate (length (registers_of (task_at (plain_program code) (main_number (plain_program code))))) (pos 0)
+    → registers_at (w ∷ []) u ≡ cond (nat_eq 0 u)
+    (replicate (length (registers_of (task_at (plain_program code) (main_number (plain_program code))))) (pos 0)) []
 one-register code inputs limits w registers zero here all = go (nat_eq 0 0) refl
   where
-    go : (b : Bool) → nat_eq 0 0 ≡ b → w.data.registers ≡ cond b (replicate (length (registers_of (task_at (plain_program code) (main_number (plain_program code))))) (pos 0)) []
+    go : (b : Bool) → nat_eq 0 0 ≡ b
+        → w.data.registers ≡ cond b (replicate (length (registers_of (task_at (plain_program code) (main_number (plain_program code)))))
+        (pos 0)) []
     go true is = here ∙ all
     go false is = absurd (false≢true (sym is ∙ eq-eqb 0 0 refl))
 one-register code inputs limits w registers (suc u) here all = go (nat_eq 0 (suc u)) refl
   where
-    go : (b : Bool) → nat_eq 0 (suc u) ≡ b → [] ≡ cond b (replicate (length (registers_of (task_at (plain_program code) (main_number (plain_program code))))) (pos 0)) []
+    go : (b : Bool) → nat_eq 0 (suc u) ≡ b
+        → [] ≡ cond b (replicate (length (registers_of (task_at (plain_program code) (main_number (plain_program code))))) (pos 0)) []
     go true is = absurd (let e = eqb-true 0 (suc u) is in omega (arith, e))
     go false is = refl
 
 -- the run before its first subthread
-pub opening-holds : (code : Code) (inputs : Inputs) (limits : Limits) (run : Run) (k : ℕ) (names : List Name) (registers : List ℤ) (w : Walk)
-    → run.program.now ≡ code → run.slots.now ≡ map slots_of code.tasks → run.turns ≡ limits.turns → k ≡ unwrap_or (position {X = CodeTask} (λ task. is_name main task.name) code.tasks) 0
-    → slice_get run.slots.now k ≡ Some names → registers ≡ replicate (length names) (pos 0) → IsNew code k 0 [] registers w → run.threads.items ≡ w ∷ []
-    → table_of run.table ≡ (opening (plain_program code) inputs limits).table → AreHeld run.table.owners.owners.items run.table.owners.held.items
-    → run.shared.cells ≡ map (number_at inputs.records) (numbers 0 (cells_in (records_of code.heads))) → run.shared.feeds ≡ zip (feeds_of code.heads) inputs.feeds
+pub opening-holds : (code : Code) (inputs : Inputs) (limits : Limits) (run : Run) (k : ℕ) (names : List Name)
+    (registers : List ℤ) (w : Walk)
+    → run.program.now ≡ code → run.slots.now ≡ map slots_of code.tasks → run.turns ≡ limits.turns
+    → k ≡ unwrap_or (position {X = CodeTask} (λ task. is_name main task.name) code.tasks) 0
+    → slice_get run.slots.now k ≡ Some names → registers ≡ replicate (length names) (pos 0) → IsNew code k 0 [] registers w
+    → run.threads.items ≡ w ∷ []
+    → table_of run.table ≡ (opening (plain_program code) inputs limits).table
+    → AreHeld run.table.owners.owners.items run.table.owners.held.items
+    → run.shared.cells ≡ map (number_at inputs.records) (numbers 0 (cells_in (records_of code.heads)))
+    → run.shared.feeds ≡ zip (feeds_of code.heads) inputs.feeds
     → Holds code inputs limits run (opening (plain_program code) inputs limits)
 opening-holds code inputs limits run k names registers w program slots turns main_is at registers_are new threads table held cells feeds =
     record {
@@ -102,11 +117,18 @@ opening-holds code inputs limits run k names registers w program slots turns mai
       held = held;
       table = table;
       sound = subst (AreSound code) (sym threads) (one-sound code w new.sound);
-      points = ap (map point_of) threads ∙ ap (λ p. p ∷ []) (new.at ∙ ap (λ n. start_point (task_at (plain_program code) n) 0 []) (main-is code k main_is));
+      points =
+          ap (map point_of) threads ∙ ap (λ p. p ∷ [])
+          (new.at ∙ ap (λ n. start_point (task_at (plain_program code) n) 0 []) (main-is code k main_is));
       registers = λ u.
           ap (λ l. registers_at l u) threads
           ∙ one-register code inputs limits w registers u new.data_are
-          (registers_are ∙ ap (λ n. replicate (length n) (pos 0)) (names-are code run.slots.now k names slots at) ∙ ap (λ n. replicate (length (registers_of (task_at (plain_program code) n))) (pos 0)) (main-is code k main_is));
-      cells = λ c less. ap (λ l. number_at l c) cells ∙ at-number (number_at inputs.records) 0 (cells_in (records_of code.heads)) c less ∙ ap (number_at inputs.records) (omega arith);
-      many = ap length cells ∙ length-map (numbers 0 (cells_in (records_of code.heads))) (number_at inputs.records) ∙ length-numbers 0 (cells_in (records_of code.heads));
+          (registers_are ∙ ap (λ n. replicate (length n) (pos 0)) (names-are code run.slots.now k names slots at)
+          ∙ ap (λ n. replicate (length (registers_of (task_at (plain_program code) n))) (pos 0)) (main-is code k main_is));
+      cells =
+          λ c less. ap (λ l. number_at l c) cells ∙ at-number (number_at inputs.records) 0 (cells_in (records_of code.heads)) c less
+          ∙ ap (number_at inputs.records) (omega arith);
+      many =
+          ap length cells ∙ length-map (numbers 0 (cells_in (records_of code.heads))) (number_at inputs.records)
+          ∙ length-numbers 0 (cells_in (records_of code.heads));
     }

@@ -11,14 +11,14 @@ use Rattle.task_ast.specs.declared.tree.Program.{Program as Code}
 use Rattle.task_ast.specs.declared.sync.SyncOp.{SyncOp}
 use Rattle.task_ast.specs.declared.sync.SyncOp.TheVariants as sync
 use Rattle.task_ast.specs.declared.sync.Next.{Next}
-use Rattle.task_ast.specs.Names.{records_of, cells_in}
-use Rattle.task_ast.specs.State.{number_at, cell_value}
-use Rattle.task_ast.specs.Action.{Action}
-use Rattle.task_ast.specs.Footprint.{named_by}
-use Rattle.task_ast.specs.Repeat.{Move, Goes, Ends, steps, state_after, steps_from, state_from}
-use Rattle.task_ast.specs.Table.{Table as PlainTable, numbers, owned_from}
-use Rattle.task_ast.specs.Turn.{Turn as PlainTurn, Issue, next_issue, child_of}
-use Rattle.task_ast.specs.Plain.{Subthread, Plain, on_turn, move, opening, last_state, ending_of}
+use Rattle.task_ast.specs.meaning.Names.{records_of, cells_in}
+use Rattle.task_ast.specs.meaning.State.{number_at, cell_value}
+use Rattle.task_ast.specs.meaning.Action.{Action}
+use Rattle.task_ast.specs.meaning.Footprint.{named_by}
+use Rattle.task_ast.specs.meaning.Repeat.{Move, Goes, Ends, steps, state_after, steps_from, state_from}
+use Rattle.task_ast.specs.meaning.Table.{Table as PlainTable, numbers, owned_from}
+use Rattle.task_ast.specs.meaning.Turn.{Turn as PlainTurn, Issue, next_issue, child_of}
+use Rattle.task_ast.specs.meaning.Plain.{Subthread, Plain, on_turn, move, opening, last_state, ending_of}
 use Rattle.task_ast.specs.View.{plain_program}
 use Rattle.task_ast.proofs.Counting.{length-with_nth}
 use Rattle.one_thread.specs.declared.seats.Table.{Table}

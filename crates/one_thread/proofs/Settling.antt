@@ -1,9 +1,9 @@
 -- A settle sets a control variable by its number.
 use Rattle.std.proofs.Common.{◌≡◌, ℕ, zero, suc, ◌<◌, ◌≤◌, ℤ, cond, List, [], ◌∷◌, length, get_or, set, Some, unwrap_or, option_map, refl, ap, sym, ◌∙◌, arith}
 use Rattle.std.specs.Prelude.{position}
-use Rattle.task_ast.specs.Tree.{Name}
-use Rattle.task_ast.specs.Names.{is_name, slot, firsts}
-use Rattle.task_ast.specs.Control.{with_number}
+use Rattle.task_ast.specs.meaning.Tree.{Name}
+use Rattle.task_ast.specs.meaning.Names.{is_name, slot, firsts}
+use Rattle.task_ast.specs.meaning.Control.{with_number}
 use Rattle.task_ast.proofs.Terms.{position-cons}
 
 pub number_set : (pairs : List (Name × ℤ)) (k : ℕ) (v : ℤ) (p : Name × ℤ) → k < length pairs → p ≡ get_or pairs k p

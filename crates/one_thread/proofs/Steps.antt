@@ -8,12 +8,12 @@ use Rattle.std.proofs.lemmas.Bool.Decides.{Decides-int_eq}
 use Rattle.task_ast.specs.declared.env.Env.{Env}
 use Rattle.task_ast.specs.declared.tree.Stmt as code
 use Rattle.task_ast.specs.declared.sync.SyncOp.TheVariants as sync
-use Rattle.task_ast.specs.Tree.{Stmt, At, What, SetCtl, While, If, Lock, Unlock, Fork, Join, Barrier, Settle, SetReg, Read, Write, Print, When, Expr, block, statements}
-use Rattle.task_ast.specs.Names.{registers_of}
-use Rattle.task_ast.specs.Value.{value}
-use Rattle.task_ast.specs.Action.{Action}
-use Rattle.task_ast.specs.Body.{Step, Silent, Iteration, Act}
-use Rattle.task_ast.specs.Control.{Setting, Point, known, branch, going, env_at, action, step_at}
+use Rattle.task_ast.specs.meaning.Tree.{Stmt, At, What, SetCtl, While, If, Lock, Unlock, Fork, Join, Barrier, Settle, SetReg, Read, Write, Print, When, Expr, block, statements}
+use Rattle.task_ast.specs.meaning.Names.{registers_of}
+use Rattle.task_ast.specs.meaning.Value.{value}
+use Rattle.task_ast.specs.meaning.Action.{Action}
+use Rattle.task_ast.specs.meaning.Body.{Step, Silent, Iteration, Act}
+use Rattle.task_ast.specs.meaning.Control.{Setting, Point, known, branch, going, env_at, action, step_at}
 use Rattle.task_ast.specs.Shaped.{is_data}
 use Rattle.task_ast.specs.View.{plain_stmts, plain_block}
 use Rattle.one_thread.specs.declared.walk.Walk.{Walk}

@@ -5,7 +5,7 @@ use Rattle.std.proofs.lemmas.Bool.{false≢true}
 use Rattle.std.specs.declared.alloc.AllocError.{AllocError}
 use Rattle.task_ast.specs.declared.sync.SyncOp.{SyncOp}
 use Rattle.task_ast.specs.declared.sync.SyncOp.TheVariants as sync
-use Rattle.task_ast.specs.Control.{beginning, first_actions, begin_actions, behind, tree_body}
+use Rattle.task_ast.specs.meaning.Control.{beginning, first_actions, begin_actions, behind, tree_body}
 use Rattle.one_thread.specs.declared.walk.Walk.{Walk}
 use Rattle.one_thread.specs.declared.work.Shared.{Shared}
 use Rattle.one_thread.specs.declared.work.Done.{Done}

@@ -4,10 +4,10 @@ use Rattle.std.proofs.lemmas.List.{at_drop_more}
 use Rattle.task_ast.specs.declared.tree.Param.{Param}
 use Rattle.task_ast.specs.declared.tree.Param.TheVariants as param
 use Rattle.task_ast.specs.declared.tree.VarLine.{VarLine}
-use Rattle.task_ast.specs.Tree.{Name}
-use Rattle.task_ast.specs.Names.{controls, datas, declared_in}
-use Rattle.task_ast.specs.State.{number_at}
-use Rattle.task_ast.specs.Plain.{given}
+use Rattle.task_ast.specs.meaning.Tree.{Name}
+use Rattle.task_ast.specs.meaning.Names.{controls, datas, declared_in}
+use Rattle.task_ast.specs.meaning.State.{number_at}
+use Rattle.task_ast.specs.meaning.Plain.{given}
 
 given-next : (x : Name) (names : List Name) (values : List ℤ) (k : ℕ)
     → given (x ∷ names) (drop k values) ≡ (x, number_at values k) ∷ given names (drop (suc k) values)

@@ -8,11 +8,12 @@ use Rattle.task_ast.specs.declared.sync.SyncOp.TheVariants as sync
 use Rattle.task_ast.specs.declared.sync.Next.{Next}
 use Rattle.task_ast.specs.declared.tree.Stmt.{Stmt as CodeStmt}
 use Rattle.std.specs.declared.alloc.AllocError.{AllocError}
-use Rattle.task_ast.specs.Tree.{Name, Expr, At, What, Fork}
-use Rattle.task_ast.specs.Body.{Step, Silent, Iteration, Act, Stop, Body, stopped, spent, follow, after_turn}
-use Rattle.task_ast.specs.Control.{Setting, Point, known, stop, going, step, step_at, step_from, size, tree_body}
+use Rattle.task_ast.specs.meaning.Tree.{Name, Expr, At, What, Fork}
+use Rattle.task_ast.specs.meaning.Body.{Step, Silent, Iteration, Act, Stop, Body, stopped, spent, follow}
+use Rattle.task_ast.specs.Body.{after_turn}
+use Rattle.task_ast.specs.meaning.Control.{Setting, Point, known, stop, going, step, step_at, step_from, size, tree_body}
 use Rattle.task_ast.specs.View.{plain_stmt, plain_stmts, plain_what, plain_program, plain_task}
-use Rattle.task_ast.specs.Names.{locks_of, records_of, cells_in, registers_of}
+use Rattle.task_ast.specs.meaning.Names.{locks_of, records_of, cells_in, registers_of}
 use Rattle.task_ast.proofs.Views.{stmt_At}
 use Rattle.task_ast.proofs.Bodies.{body_step}
 use Rattle.task_ast.proofs.Sizes.{tree_sized}

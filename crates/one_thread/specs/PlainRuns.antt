@@ -2,8 +2,8 @@
 use Rattle.std.specs.Prelude.{◌≡◌, map}
 use Rattle.gp_base.specs.declared.limits.Limits.{Limits}
 use Rattle.gp_base.specs.declared.feed.Inputs.{Inputs}
-use Rattle.task_ast.specs.Tree.{Program}
-use Rattle.task_ast.specs.Plain.{Subthread, foot_of, order, end, final_records}
+use Rattle.task_ast.specs.meaning.Tree.{Program}
+use Rattle.task_ast.specs.meaning.Plain.{Subthread, foot_of, order, end, final_records}
 use Rattle.one_thread.specs.declared.run.Step.{Step}
 use Rattle.one_thread.specs.declared.run.PlainRun.{PlainRun}
 

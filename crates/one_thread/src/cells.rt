@@ -1,6 +1,6 @@
 // The cells of lock arrays and of records, numbered in declared order, and the barriers.
 ghost use Rattle.std.specs.Prelude.{◌≡◌, ◌<◌, ◌≤◌, ◌^◌, map, option_map, position, IfOk, IfSome};
-ghost use Rattle.task_ast.specs.Names.{is_name, natural, locks_of, records_of, barriers_of, cells_in, cell_number};
+ghost use Rattle.task_ast.specs.meaning.Names.{is_name, natural, locks_of, records_of, barriers_of, cells_in, cell_number};
 
 use gp_base::Name;
 use std::alloc::{AllocError, Global};
@@ -23,7 +23,7 @@ pub fn same_name(x: &Name, y: &Name) -> bool
 
 // The place of an index, where it is below the size.
 fn place(size: u64, index: i64) -> Option<u64>
-    ensures value { result ≡ Rattle.task_ast.specs.Names.place size index }
+    ensures value { result ≡ Rattle.task_ast.specs.meaning.Names.place size index }
     ensures below { IfSome result (λ n. n < size) }
 {
     if index >= 0 && (index as u64) < size {

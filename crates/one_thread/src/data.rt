@@ -1,13 +1,13 @@
 // Data statements.
 ghost use Rattle.std.specs.Prelude.{◌≡◌, ℤ, ◌≤◌, List, map, is_some, option_map, unwrap_or, position, pos, IfOk, OnOk, Some};
 ghost use Rattle.std.specs.Ordering.{int_eq};
-ghost use Rattle.task_ast.specs.Names.{slot, is_name, records_of, cells_in, cell_number};
-ghost use Rattle.task_ast.specs.Value.{value_at};
-ghost use Rattle.task_ast.specs.Action.{term, terms, register};
-ghost use Rattle.task_ast.specs.Effect.{term_value, terms_value};
-ghost use Rattle.task_ast.specs.Control.{action, arm, all_of};
+ghost use Rattle.task_ast.specs.meaning.Names.{slot, is_name, records_of, cells_in, cell_number};
+ghost use Rattle.task_ast.specs.meaning.Value.{value_at};
+ghost use Rattle.task_ast.specs.meaning.Action.{term, terms, register};
+ghost use Rattle.task_ast.specs.meaning.Effect.{term_value, terms_value};
+ghost use Rattle.task_ast.specs.meaning.Control.{action, arm, all_of};
 ghost use Rattle.task_ast.specs.View.{plain_expr, plain_exprs, plain_links, plain_what, plain_stmts, plain_block};
-ghost use Rattle.task_ast.specs.Tree.{Name as PlainName};
+ghost use Rattle.task_ast.specs.meaning.Tree.{Name as PlainName};
 ghost use Rattle.one_thread.specs.inner.Working.{setting_in, Works, ArmWorks, Notes, ArmNotes};
 
 use crate::cells::{record_number, same_name};
@@ -30,7 +30,7 @@ pub struct Data {
 
 /// The number that an atom stands for.
 pub fn index_of(atom: &Atom, env: &Env) -> i64
-    ensures { result ≡ Rattle.task_ast.specs.Control.index_of atom.now env.now }
+    ensures { result ≡ Rattle.task_ast.specs.meaning.Control.index_of atom.now env.now }
 {
     match atom {
         Atom::Num(v) => *v,

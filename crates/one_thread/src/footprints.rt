@@ -1,6 +1,6 @@
 // What a subthread reads and what it writes.
 ghost use Rattle.std.specs.Prelude.{◌≡◌, ◌++◌, IfOk, OnOk};
-ghost use Rattle.task_ast.specs.Footprint.{joined_registers, child_registers};
+ghost use Rattle.task_ast.specs.meaning.Footprint.{joined_registers, child_registers};
 ghost use Rattle.one_thread.specs.inner.Moves.{foot_with};
 
 use crate::names::Names;

@@ -1,7 +1,7 @@
 // The record cells that a subthread names.
 ghost use Rattle.std.specs.Prelude.{◌≡◌, [], ◌++◌, map, OnOk};
 ghost use Rattle.gp_base.specs.declared.footprint.Loc.TheVariants as loc;
-ghost use Rattle.task_ast.specs.Footprint.{with_cell};
+ghost use Rattle.task_ast.specs.meaning.Footprint.{with_cell};
 
 use gp_base::{Loc, RecNo, Seq};
 use std::alloc::{AllocError, Global};
@@ -16,7 +16,7 @@ pub struct Names {
 }
 
 impl Model for Names {
-    ghost use Rattle.task_ast.specs.Footprint.{Named};
+    ghost use Rattle.task_ast.specs.meaning.Footprint.{Named};
 
     ghost Value = { Named };
 

@@ -2,8 +2,8 @@
 ghost use Rattle.std.specs.Prelude.{◌≡◌, ℕ, replicate, IfOk, OnOk, is_none, slice_get, slice_set, None, Some};
 ghost use Rattle.std.specs.Option.{option_and_then};
 ghost use Rattle.task_ast.specs.LockLists.{with_lock, held_at};
-ghost use Rattle.task_ast.specs.Table.{owned_from};
-ghost use Rattle.task_ast.specs.Turn.{owners_after};
+ghost use Rattle.task_ast.specs.meaning.Table.{owned_from};
+ghost use Rattle.task_ast.specs.meaning.Turn.{owners_after};
 ghost use Rattle.one_thread.specs.inner.Holding.{after_change, AreHeld};
 
 use gp_base::Seq;

@@ -1,7 +1,7 @@
 // The threads of a run.
 ghost use Rattle.std.specs.Prelude.{◌≡◌, ◌<◌, ◌≤◌, map, length, IfOk, OnOk};
 ghost use Rattle.task_ast.specs.declared.sync.Next.{Next as NextThere};
-ghost use Rattle.task_ast.specs.State;
+ghost use Rattle.task_ast.specs.meaning.State;
 ghost use Rattle.one_thread.specs.inner.Subthreads.{settled};
 ghost use Rattle.one_thread.specs.inner.Runs.{slots_of, registers_at, joined_of, AreSound, IsNew, Forks, Performed, IsSmall};
 

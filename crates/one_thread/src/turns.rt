@@ -3,8 +3,8 @@ ghost use Rattle.std.specs.Prelude.{◌≡◌, ℕ, ℤ, ◌<◌, length, map, L
 ghost use Rattle.gp_base.specs.declared.ending.End.TheVariants.{Stuck};
 ghost use Rattle.task_ast.specs.declared.sync.Next.{Next as NextThere};
 ghost use Rattle.task_ast.specs.declared.sync.SyncOp.TheVariants as sync;
-ghost use Rattle.task_ast.specs.Table.{next_of, waits_at};
-ghost use Rattle.task_ast.specs.Turn.{turn, next_issue, tried, issuing, passing, look, seats_after, child_of, deadlocked, all_threads, met, arrived, released_at};
+ghost use Rattle.task_ast.specs.meaning.Table.{next_of, waits_at};
+ghost use Rattle.task_ast.specs.meaning.Turn.{turn, next_issue, tried, issuing, passing, look, seats_after, child_of, deadlocked, all_threads, met, arrived, released_at};
 ghost use Rattle.one_thread.specs.inner.Holding.{AreHeld};
 ghost use Rattle.one_thread.specs.inner.View.{table_of, seat_of, gives, gave, begun, joined_in, is_free_to_go, Halts};
 
@@ -326,7 +326,7 @@ fn release(seats: &mut [Seat], barrier: u32)
 
 // Whether the thread has not arrived.
 fn is_away(seat: &Seat) -> bool
-    ensures { result ≡ Rattle.task_ast.specs.Turn.is_away (seat_of seat.now).stand }
+    ensures { result ≡ Rattle.task_ast.specs.meaning.Turn.is_away (seat_of seat.now).stand }
 {
     matches!(seat.stand, Stand::Away)
 }

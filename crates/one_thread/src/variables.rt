@@ -1,9 +1,9 @@
 // The variables of tasks and threads.
 ghost use Rattle.std.specs.Prelude.{◌≡◌, ◌++◌, [], replicate, position, slice_set, unwrap_or, length, pos, IfOk, OnOk};
-ghost use Rattle.task_ast.specs.Names.{is_name, datas, controls, declared_in, registers_of};
-ghost use Rattle.task_ast.specs.State.{number_at};
-ghost use Rattle.task_ast.specs.Control.{with_value, with_number};
-ghost use Rattle.task_ast.specs.Plain.{given};
+ghost use Rattle.task_ast.specs.meaning.Names.{is_name, datas, controls, declared_in, registers_of};
+ghost use Rattle.task_ast.specs.meaning.State.{number_at};
+ghost use Rattle.task_ast.specs.meaning.Control.{with_value, with_number};
+ghost use Rattle.task_ast.specs.meaning.Plain.{given};
 ghost use Rattle.task_ast.specs.View.{plain_task};
 ghost use Rattle.one_thread.specs.inner.Places.{IsPlaceOf};
 

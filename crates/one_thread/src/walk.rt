@@ -1,13 +1,13 @@
 // The walk of one thread over its task's statements.
 ghost use Rattle.std.specs.Prelude.{◌≡◌, ◌≤◌, ◌^◌, ℕ, ℤ, IsTrue, List, Option, Some, is_some, [], ◌∷◌, ◌++◌, position, IfOk, OnOk};
-ghost use Rattle.task_ast.specs.Names.{is_task, is_name, locks_of, records_of, barriers_of, cells_in, registers_of};
-ghost use Rattle.task_ast.specs.Tree as plain;
-ghost use Rattle.task_ast.specs.Tree.{Name as PlainName};
+ghost use Rattle.task_ast.specs.meaning.Names.{is_task, is_name, locks_of, records_of, barriers_of, cells_in, registers_of};
+ghost use Rattle.task_ast.specs.meaning.Tree as plain;
+ghost use Rattle.task_ast.specs.meaning.Tree.{Name as PlainName};
 ghost use Rattle.task_ast.specs.declared.sync.SyncOp.TheVariants as sync;
-ghost use Rattle.task_ast.specs.Control.{step, step_at, tree_body, control_arguments, data_arguments, fork_of, begin_actions, behind, Setting, lock_number as lock_number_at};
+ghost use Rattle.task_ast.specs.meaning.Control.{step, step_at, tree_body, control_arguments, data_arguments, fork_of, begin_actions, behind, Setting, lock_number as lock_number_at};
 ghost use Rattle.task_ast.specs.View.{plain_expr, plain_exprs, plain_stmts, plain_block, plain_what, plain_task, plain_program};
 ghost use Rattle.task_ast.specs.Shaped.{is_data};
-ghost use Rattle.task_ast.specs.Action.{Action};
+ghost use Rattle.task_ast.specs.meaning.Action.{Action};
 ghost use Rattle.one_thread.specs.inner.Working.{all_worked};
 ghost use Rattle.one_thread.specs.inner.Remaining.{left_of, rest_of};
 ghost use Rattle.one_thread.specs.inner.Walking.{setting_of, point_of, LeadsTo, Stepped, Came, Halted, Ran, Begun, Gives};

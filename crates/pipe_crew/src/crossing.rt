@@ -1,5 +1,5 @@
-// What threads share and send each other. Both functions do nothing: the proofs that threads may share or send what holds a
-// type start from them.
+// What threads share and send each other. Both functions do nothing: the proofs that threads may share or send what
+// holds a type start from them.
 ghost use Rattle.std.specs.Thread.{IsSync, IsSend};
 
 /// Threads may share values of this type.

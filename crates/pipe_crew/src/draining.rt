@@ -13,8 +13,8 @@ use std::thread;
 use std::thread::Threads;
 use subthread::{Task, Work};
 
-/// Draws tasks until the pass has ended, and puts the run of each back. The gate is entered before each run, and how many
-/// steps it made is noted.
+/// Draws tasks until the pass has ended, and puts the run of each back. The gate is entered before each run, and how
+/// many steps it made is noted.
 pub fn drain<G: Gate>(
     alloc: Global,
     board: &Board<Task>,
@@ -39,9 +39,9 @@ pub fn drain<G: Gate>(
     pass
 }
 
-/// Works a board of tasks to its end, in at most so many threads at once, each with a pass of its own: the passes are split
-/// off the given one and joined into it again. Each thread enters the gate before each of its runs. A run that finds no
-/// memory is put back as such, so there is no error.
+/// Works a board of tasks to its end, in at most so many threads at once, each with a pass of its own: the passes are
+/// split off the given one and joined into it again. Each thread enters the gate before each of its runs. A run that
+/// finds no memory is put back as such, so there is no error.
 pub fn work_board<G: Gate, R: Threads + Sync>(
     rt: &R,
     alloc: Global,

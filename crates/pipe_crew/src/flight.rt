@@ -16,8 +16,8 @@ use std::sync::{Arc, Wait};
 use std::thread::yield_now;
 use subthread::{Done, Task, Work};
 
-/// A board that is worked: the calling thread's pass and clerk, and how many runs were taken off it, which is the oldest
-/// desk whose run was not taken.
+/// A board that is worked: the calling thread's pass and clerk, and how many runs were taken off it, which is the
+/// oldest desk whose run was not taken.
 #[derive(Drop)]
 pub struct Flight {
     board: Arc<Board<Task>>,
@@ -72,8 +72,9 @@ impl Flight {
         self.board.look(&mut self.clerk, self.taken)
     }
 
-    /// Runs tasks of the board in this thread until the oldest run is back, and where none is left to draw it looks again and
-    /// again, and lets other threads run between. It enters the gate before each run, and notes how many steps it made.
+    /// Runs tasks of the board in this thread until the oldest run is back, and where none is left to draw it looks
+    /// again and again, and lets other threads run between. It enters the gate before each run, and notes how many
+    /// steps it made.
     pub fn help<H: Wait, G: Enter>(
         &mut self,
         rt: &H,

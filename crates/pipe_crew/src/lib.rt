@@ -1,5 +1,5 @@
-//! Crews whose workers share their tasks over a board: threads that are started for each board and joined again, or lasting
-//! threads that get boards over a channel.
+//! Crews whose workers share their tasks over a board: threads that are started for each board and joined again, or
+//! lasting threads that get boards over a channel.
 #![tactic(auto)]
 
 mod boards;

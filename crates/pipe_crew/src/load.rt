@@ -2,8 +2,8 @@
 
 use crew::worth;
 
-/// How many steps the tasks that wait were reckoned to make together when they were posted, and the longest of them. No clause
-/// rests on it: it says how many threads they are worth.
+/// How many steps the tasks that wait were reckoned to make together when they were posted, and the longest of them. No
+/// clause rests on it: it says how many threads they are worth.
 #[derive(Clone, Copy, Drop)]
 pub struct Load {
     sum: u64,

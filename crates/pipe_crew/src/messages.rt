@@ -28,8 +28,8 @@ where
     ghost same: { (about (arc_value board)).with ≡ arc_value with },
 }
 
-/// Sends a pass of a board to the threads. One that can't be sent is let go: it holds no desk, and others draw what it would
-/// have drawn. The error is that memory is out.
+/// Sends a pass of a board to the threads. One that can't be sent is let go: it holds no desk, and others draw what it
+/// would have drawn. The error is that memory is out.
 pub fn send<H: Wait>(
     rt: &H,
     to: &Sender<Message<Task>>,
@@ -50,8 +50,8 @@ pub fn send<H: Wait>(
     Ok(())
 }
 
-/// Drains the board of each message, until the channel is empty and its last sender is gone. The gate is entered before each
-/// run, and how many steps it made is noted.
+/// Drains the board of each message, until the channel is empty and its last sender is gone. The gate is entered before
+/// each run, and how many steps it made is noted.
 pub fn serve<H: Wait, G: Gate>(
     rt: &H,
     alloc: Global,

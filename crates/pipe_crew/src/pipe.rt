@@ -30,10 +30,10 @@ const MOST_TASKS: usize = 65_536;
 // The most workers: each has a pass of its own, and the first pass has so many shares.
 const MOST_WORKERS: u32 = 64;
 
-/// Runs the posted tasks over boards that lasting threads share with the calling one, and hands their runs back in the order
-/// of the posts, each as soon as it and all before it are done. Where the tasks that wait are worth one worker by the steps of
-/// the last runs, the calling thread runs the oldest itself. The threads get the boards over a channel, and end once the crew
-/// is dropped; nobody joins them. A call may wait for a thread that has drawn a task.
+/// Runs the posted tasks over boards that lasting threads share with the calling one, and hands their runs back in the
+/// order of the posts, each as soon as it and all before it are done. Where the tasks that wait are worth one worker by
+/// the steps of the last runs, the calling thread runs the oldest itself. The threads get the boards over a channel,
+/// and end once the crew is dropped; nobody joins them. A call may wait for a thread that has drawn a task.
 #[derive(Drop)]
 pub struct PipeCrew<'a, H, G> {
     alloc: Global,
@@ -87,8 +87,8 @@ impl<
     H: Threads + Wait + Clone + Send + Sync + Drop + 'static,
     G: Gate + Send + Drop + 'static,
 > PipeCrew<'a, H, G> {
-    /// A crew to which nothing was posted, with one lasting thread less than workers (64 where that is more). A thread that
-    /// can't be started is missed by nobody: the others do its work. The error is that memory is out.
+    /// A crew to which nothing was posted, with one lasting thread less than workers (64 where that is more). A thread
+    /// that can't be started is missed by nobody: the others do its work. The error is that memory is out.
     pub fn new(
         alloc: Global,
         rt: H,
@@ -126,8 +126,8 @@ impl<
 }
 
 impl<'a, H: Wait, G: Enter> PipeCrew<'a, H, G> {
-    // How many threads get a pass of the next board, where its tasks are worth so many: at most so many, and none that has
-    // a message waiting.
+    // How many threads get a pass of the next board, where its tasks are worth so many: at most so many, and none that
+    // has a message waiting.
     fn helpers(&self, worth: u64, most: usize) -> u32
         ensures few { result ≤ 63 }
         ensures most { result ≤ most }

@@ -3,9 +3,10 @@ use Rattle.std.proofs.Common.{◌≡◌, ℕ, Bool, true, List, [], ◌∷◌, l
 use Rattle.std.specs.Prelude.{All, slice_get}
 use Rattle.std.specs.List.Sorted.{IsStrictlyIncreasing}
 use Rattle.task_ast.specs.declared.sync.SyncOp.TheVariants as sync
-use Rattle.task_ast.specs.Body.{Body, follow, body, after_turn}
+use Rattle.task_ast.specs.meaning.Body.{Body, follow, body}
+use Rattle.task_ast.specs.Body.{after_turn}
 use Rattle.task_ast.specs.laws.Keeps.{AllName}
-use Rattle.task_ast.specs.Under.{under_lock, is_under}
+use Rattle.task_ast.specs.meaning.Under.{under_lock, is_under}
 use Rattle.task_ast.proofs.Bodies.{body_step}
 use Rattle.record_store.specs.declared.given.Bundle.{Bundle}
 use Rattle.record_store.specs.Lent.{lock_in}

@@ -1,6 +1,6 @@
-//! Tests of what is read, and of the small types beneath: texts of programs, words, files, values of expressions, shelves
-//! and sinks in memory. They stand in a crate of their own, above the crates that they call: a crate with tests is proved
-//! twice.
+//! Tests of what is read, and of the small types beneath: texts of programs, words, files, values of expressions,
+//! shelves and sinks in memory. They stand in a crate of their own, above the crates that they call: a crate with tests
+//! is proved twice.
 #![tactic(auto)]
 
 #[cfg(test)]

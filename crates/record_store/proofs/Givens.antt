@@ -7,13 +7,13 @@ use Rattle.gp_base.specs.declared.footprint.Loc.TheVariants as loc
 use Rattle.task_ast.specs.declared.effect.Effect.{Effect}
 use Rattle.task_ast.specs.declared.sync.SyncOp.{SyncOp}
 use Rattle.task_ast.specs.declared.sync.SyncOp.TheVariants as sync
-use Rattle.task_ast.specs.State.{State, RegistersOf, CellOf, cell_value, number_at}
-use Rattle.task_ast.specs.Effect.{Doing, all_done, joined_ret}
+use Rattle.task_ast.specs.meaning.State.{State, RegistersOf, CellOf, cell_value, number_at}
+use Rattle.task_ast.specs.meaning.Effect.{Doing, all_done, joined_ret}
 use Rattle.task_ast.specs.Fold.{Member}
-use Rattle.task_ast.specs.Footprint.{child_registers}
-use Rattle.task_ast.specs.Under.{under_lock, is_under}
+use Rattle.task_ast.specs.meaning.Footprint.{child_registers}
+use Rattle.task_ast.specs.meaning.Under.{under_lock, is_under}
 use Rattle.task_ast.proofs.Keeping.{all_same}
-use Rattle.dependence.specs.Dependents.{is_member}
+use Rattle.dependence.specs.meaning.Dependents.{is_member}
 use Rattle.dependence.proofs.DependentSets.{is_member-is}
 use Rattle.dependence.proofs.Keeping.{under-writes, joined_same}
 use Rattle.dependence.proofs.Struck.{Contains-head, Contains-later}

@@ -5,7 +5,7 @@ use Rattle.std.proofs.lemmas.Bool.{cases_lt, eqb-true, eqb-false}
 use Rattle.std.proofs.lemmas.List.Elements.{All-contains}
 use Rattle.std.proofs.lemmas.Option.{slice_get_within}
 use Rattle.task_ast.proofs.IssuedTables.{get_set_here, get_set_other, get_past, length_set}
-use Rattle.dependence.specs.Dependents.{is_member}
+use Rattle.dependence.specs.meaning.Dependents.{is_member}
 use Rattle.dependence.proofs.DependentSets.{is_member-is}
 use Rattle.record_store.specs.Lent.{marked}
 

@@ -2,8 +2,8 @@
 
 ghost use Rattle.std.specs.Prelude.{◌≡◌, ◌<◌, ℕ, false, length, map, slice_get, Some, All, IfOk, OnOk};
 ghost use Rattle.std.specs.List.Sorted.{IsStrictlyIncreasing};
-ghost use Rattle.task_ast.specs.State.{number_at};
-ghost use Rattle.task_ast.specs.Under.{under_lock};
+ghost use Rattle.task_ast.specs.meaning.State.{number_at};
+ghost use Rattle.task_ast.specs.meaning.Under.{under_lock};
 ghost use Rattle.record_store.specs.Lent.{IsSharedOut};
 ghost use Rattle.record_store.specs.inner.Shelves.{seen, is_away, value_on, cells_on, ArePlaced, new_shelf};
 
@@ -57,8 +57,8 @@ fn note(places: &mut [(LockNo, u32)], lock: LockNo, numbers: &[RecNo]) -> Result
     Ok(())
 }
 
-/// The place of each cell: the number of the lock cell over it, and how many cells stand there before it. A layout of more
-/// cells than have numbers is taken as a want of memory.
+/// The place of each cell: the number of the lock cell over it, and how many cells stand there before it. A layout of
+/// more cells than have numbers is taken as a want of memory.
 pub fn places_of(
     alloc: Global,
     count: usize,

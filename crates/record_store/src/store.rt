@@ -4,10 +4,10 @@ ghost use Rattle.std.specs.Prelude.{◌≡◌, ◌<◌, ◌≤◌, ℕ, [], cond
 ghost use Rattle.std.specs.List.Sorted.{IsStrictlyIncreasing};
 ghost use Rattle.std.specs.Ordering.{nat_cmp};
 ghost use Rattle.std.specs.FinMap.{find};
-ghost use Rattle.task_ast.specs.State.{RegistersOf, number_at};
-ghost use Rattle.task_ast.specs.Effect.{after};
+ghost use Rattle.task_ast.specs.meaning.State.{RegistersOf, number_at};
+ghost use Rattle.task_ast.specs.meaning.Effect.{after};
 ghost use Rattle.task_ast.specs.History.{old_of};
-ghost use Rattle.task_ast.specs.Under.{under_lock};
+ghost use Rattle.task_ast.specs.meaning.Under.{under_lock};
 ghost use Rattle.record_store.specs.Stored.{state_of, Fits, FitsChild, SameShape, IsAtHome, IsAway, IsAllHome, CellsAtHome, without_threads, with_thread};
 ghost use Rattle.record_store.specs.Given.{joined_value, bundle_of, value_beside};
 ghost use Rattle.record_store.specs.Lent.{marked, lock_in, whole_effect, AreAsLent, MayComeHome, IsSharedOut};
@@ -24,18 +24,18 @@ use std::marker::Model;
 use std::sync::Arc;
 use task_ast::Layout;
 
-/// Where the record cells stand: the place of each, and those under each lock cell. It never changes, and the copies of a
-/// store share it.
+/// Where the record cells stand: the place of each, and those under each lock cell. It never changes, and the copies of
+/// a store share it.
 #[derive(Drop)]
 struct Standing {
     places: Vec<(LockNo, u32)>,
     layout: Layout,
 }
 
-/// The registers of all threads, the cells of all records on a shelf for each lock cell, where the record cells stand, and
-/// the list of the records as they began, which is kept as room for the answer. Contracts see registers and cells as lists,
-/// the cells of a shelf that is lent at the values with which it was lent; what a run rests on is the state that they stand
-/// for.
+/// The registers of all threads, the cells of all records on a shelf for each lock cell, where the record cells stand,
+/// and the list of the records as they began, which is kept as room for the answer. Contracts see registers and cells
+/// as lists, the cells of a shelf that is lent at the values with which it was lent; what a run rests on is the state
+/// that they stand for.
 #[derive(Drop)]
 pub struct Store {
     threads: Vec<Nums>,
@@ -58,8 +58,8 @@ impl Model for Store {
 }
 
 impl Store {
-    /// These record cells, all at home, and no thread. The error is that memory is out, or that there are more cells than
-    /// have numbers.
+    /// These record cells, all at home, and no thread. The error is that memory is out, or that there are more cells
+    /// than have numbers.
     pub fn new(alloc: Global, records: Nums, layout: Layout) -> Result<Store, AllocError>
         requires { IsSharedOut (length records) layout.under }
         ensures { IfOk result (λ store. store ≡ without_threads records layout.under) }
@@ -75,8 +75,8 @@ impl Store {
         })
     }
 
-    /// A copy of the store, whose cells are all at home; where they stand is shared with it. A copy has room for the answer
-    /// too, since it may take the store's place. The error is that memory is out.
+    /// A copy of the store, whose cells are all at home; where they stand is shared with it. A copy has room for the
+    /// answer too, since it may take the store's place. The error is that memory is out.
     pub fn copy(&self, alloc: Global) -> Result<Store, AllocError>
         requires { IsAllHome self.now }
         ensures { IfOk result (λ copy. copy ≡ self.now) }
@@ -135,7 +135,8 @@ impl Store {
         Ok(())
     }
 
-    /// The registers of a thread, and `$ret` of the thread that is joined, if any, or 0. The error is that memory is out.
+    /// The registers of a thread, and `$ret` of the thread that is joined, if any, or 0. The error is that memory is
+    /// out.
     pub fn regs_of(
         &self,
         alloc: Global,

@@ -8,13 +8,13 @@ use Rattle.gp_base.specs.declared.fault.Fault.{Fault}
 use Rattle.gp_base.specs.declared.footprint.Footprint.{Footprint}
 use Rattle.gp_base.specs.declared.journal.Event.TheVariants as event
 use Rattle.task_ast.specs.declared.effect.Effect.{Effect}
-use Rattle.task_ast.specs.Plain.{Subthread}
-use Rattle.task_ast.specs.State.{State}
-use Rattle.task_ast.specs.Effect.{after}
+use Rattle.task_ast.specs.meaning.Plain.{Subthread}
+use Rattle.task_ast.specs.meaning.State.{State}
+use Rattle.task_ast.specs.meaning.Effect.{after}
 use Rattle.task_ast.specs.History.{old_of}
 use Rattle.dependence.specs.Removal.{undone_part}
-use Rattle.dependence.specs.Journal.{Stage, happens}
-use Rattle.dependence.specs.Runs.{dependence_of}
+use Rattle.dependence.specs.meaning.Journal.{Stage, happens}
+use Rattle.dependence.specs.meaning.Runs.{dependence_of}
 use Rattle.dependence.specs.Buffer.{Buffer, buffer_with, buffer_without}
 use Rattle.dependence.specs.RunBuffer.{RunStands}
 use Rattle.record_store.specs.Stored.{Stored, state_of}

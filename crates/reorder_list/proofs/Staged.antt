@@ -11,13 +11,16 @@ use Rattle.gp_base.specs.declared.footprint.Footprint.{Footprint}
 use Rattle.gp_base.specs.declared.journal.Event.TheVariants as event
 use Rattle.gp_base.specs.declared.journal.Restart.{Restart}
 use Rattle.task_ast.specs.declared.effect.Effect.{Effect}
-use Rattle.task_ast.specs.Plain.{Subthread, foot_of, lock_foot_of}
-use Rattle.dependence.specs.Conflict.{Conflict, foot_at, clash_in}
-use Rattle.dependence.specs.Dependents.{is_member}
-use Rattle.dependence.specs.Restarts.{Dependence, attempt_of, begun_of, struck_next, restart_of}
-use Rattle.dependence.specs.Journal.{Stage, Allowed, happens, restarted, WasTaken, MayPost}
+use Rattle.task_ast.specs.meaning.Plain.{Subthread, foot_of}
+use Rattle.task_ast.specs.Plain.{lock_foot_of}
+use Rattle.dependence.specs.meaning.Conflict.{foot_at, clash_in}
+use Rattle.dependence.specs.Conflict.{Conflict}
+use Rattle.dependence.specs.meaning.Dependents.{is_member}
+use Rattle.dependence.specs.meaning.Restarts.{Dependence, attempt_of, begun_of, struck_next, restart_of}
+use Rattle.dependence.specs.meaning.Journal.{Stage, Allowed, happens, restarted, WasTaken, MayPost}
 use Rattle.dependence.specs.Posting.{by_locks}
-use Rattle.dependence.specs.Runs.{feet_of, lock_feet_of}
+use Rattle.dependence.specs.meaning.Runs.{feet_of}
+use Rattle.dependence.specs.Runs.{lock_feet_of}
 use Rattle.dependence.specs.Standing.{present, StageStands, NamesIssued}
 use Rattle.dependence.proofs.Conflicting.{conflicting-is}
 use Rattle.dependence.proofs.RestartEnds.{attempt-push, begun-push}
@@ -42,7 +45,8 @@ change-twice p first then' [] keeps = refl
 change-twice p first then' (e ∷ entries) keeps = λ i. go (nat_eq e.pos p) refl i ∷ change-twice p first then' entries keeps i
   where
     go : (b : Bool) → nat_eq e.pos p ≡ b
-        → let x = changed_where (nat_eq e.pos p) first e in changed_where (nat_eq x.pos p) then' x ≡ changed_where (nat_eq e.pos p) (λ y. then' (first y)) e
+        → let x = changed_where (nat_eq e.pos p) first e in
+        changed_where (nat_eq x.pos p) then' x ≡ changed_where (nat_eq e.pos p) (λ y. then' (first y)) e
     go true same = rw (same, ap (λ k. nat_eq k p) (keeps e) ∙ same) refl
     go false same = rw (same, same) refl
 
@@ -51,11 +55,13 @@ known-some (Some f) foot same some = ap Some same
 known-some None foot same some = absurd (false≢true some)
 
 -- the entry that a change leaves at a position
-pub changed-there : (test : ℕ → Bool) (change : Entry → Entry) (entries : List Entry) (q : ℕ) (x : Entry) → KeepsPosition change → entry_at (with_change test change entries) q ≡ Some x
+pub changed-there : (test : ℕ → Bool) (change : Entry → Entry) (entries : List Entry) (q : ℕ) (x : Entry) → KeepsPosition change
+    → entry_at (with_change test change entries) q ≡ Some x
     → (y : Entry) × (entry_at entries q ≡ Some y) × (x ≡ changed_where (test q) change y)
 changed-there test change entries q x keeps there = go (entry_at entries q) refl (sym (changed test change entries q keeps) ∙ there)
   where
-    go : (o : Option Entry) → entry_at entries q ≡ o → option_map (changed_where (test q) change) o ≡ Some x → (y : Entry) × (entry_at entries q ≡ Some y) × (x ≡ changed_where (test q) change y)
+    go : (o : Option Entry) → entry_at entries q ≡ o → option_map (changed_where (test q) change) o ≡ Some x
+        → (y : Entry) × (entry_at entries q ≡ Some y) × (x ≡ changed_where (test q) change y)
     go None is found = absurd (cc found)
     go (Some y) is found = (y, is, let same : changed_where (test q) change y ≡ x = cc found in sym same)
 
@@ -73,7 +79,8 @@ same-of s y z is thread begins child held locks =
 
 module _ (run : List Subthread) where
   -- where a stage has the same of a position, its entry stands as before
-  carried : (at later : Stage) (p : ℕ) (e : Entry) → later.progress.made ≡ at.progress.made → Contains later.posted (p, present at p) ↔ Contains at.posted (p, present at p) → later.applied p ≡ at.applied p
+  carried : (at later : Stage) (p : ℕ) (e : Entry) → later.progress.made ≡ at.progress.made
+      → Contains later.posted (p, present at p) ↔ Contains at.posted (p, present at p) → later.applied p ≡ at.applied p
       → WasTaken later p ↔ WasTaken at p → IsEntry run at p e → IsEntry run later p e
   carried at later p e made posted applied taken is =
       let same : present later p ≡ present at p = ap (λ m. attempt_of m p) made in
@@ -175,10 +182,12 @@ module _ (run : List Subthread) where
               let both = (conflicting-is (foot_at (lock_feet_of run) q) (foot_at (lock_feet_of run) p)).0 clash in
               (stand.each q found.0 found.1).applied.0
               (runnable.ready q found.0 l found.1
-              (subst (λ f. Conflict f runnable.entry.locks) (sym (locks-is q found.0 found.1)) (subst (Conflict (foot_at (lock_feet_of run) q)) (sym (locks-is p runnable.entry runnable.is_there)) both)))
+              (subst (λ f. Conflict f runnable.entry.locks) (sym (locks-is q found.0 found.1))
+              (subst (Conflict (foot_at (lock_feet_of run) q)) (sym (locks-is p runnable.entry runnable.is_there)) both)))
 
       pub is-runnable : (p : ℕ) → MayPost posting at p (present at p) → IsRunnable entries p
-      is-runnable p may = found (is-there at.retired entries p stand.row may.unretired (let l = may.issued in let f = stand.front in omega arith))
+      is-runnable p may =
+          found (is-there at.retired entries p stand.row may.unretired (let l = may.issued in let f = stand.front in omega arith))
         where
           found : (x : Entry) × (entry_at entries p ≡ Some x) → IsRunnable entries p
           found here =
@@ -188,10 +197,12 @@ module _ (run : List Subthread) where
                 waits = (stand.each p here.0 here.1).waits.1 may.unposted;
                 ready = λ q x l there clash. (stand.each q x there).applied.1
                     (may.ready q l ((conflicting-is (foot_at (lock_feet_of run) q) (foot_at (lock_feet_of run) p)).1
-                    (subst (λ f. Conflict f (foot_at (lock_feet_of run) p)) (locks-is q x there) (subst (Conflict x.locks) (locks-is p here.0 here.1) clash))));
+                    (subst (λ f. Conflict f (foot_at (lock_feet_of run) p)) (locks-is q x there)
+                    (subst (Conflict x.locks) (locks-is p here.0 here.1) clash))));
               }
 
-      module _ (p : ℕ) (e : Entry) (names : NamesIssued at) (allowed : Allowed dependence faults at (event.Issue p)) (first : IsFirst run p e) where
+      module _ (p : ℕ) (e : Entry) (names : NamesIssued at) (allowed : Allowed dependence faults at (event.Issue p))
+          (first : IsFirst run p e) where
         abbrev issued : Stage
         issued = happens dependence faults at (event.Issue p)
 
@@ -204,8 +215,14 @@ module _ (run : List Subthread) where
               attempt = first.attempt ∙ sym (names.attempt p (let n = allowed.next in omega arith));
               begun = first.begun ∙ sym (names.begun p (let n = allowed.next in omega arith));
               waits = (λ w h. (let l = names.posted p (present at p) h in let n = allowed.next in omega arith), λ free. first.fresh.waits);
-              applied = (λ s. absurd (let both = sym first.fresh.waits ∙ s in cc both), λ a. absurd (let l = names.applied p a in let n = allowed.next in omega arith));
-              foot = (let Q : Option Footprint → Type 0 = λ o. IfSome o (λ f. f ≡ foot_of first.subthread) in subst Q (sym first.fresh.unknown) tt);
+              applied = (
+                λ s. absurd (let both = sym first.fresh.waits ∙ s in cc both),
+                λ a.
+                    absurd (let l = names.applied p a in let n = allowed.next in omega arith),
+              );
+              foot =
+                  (let Q : Option Footprint → Type 0 = λ o. IfSome o (λ f. f ≡ foot_of first.subthread) in
+                  subst Q (sym first.fresh.unknown) tt);
               known = (
                 λ some. absurd (false≢true (sym (ap is_some first.fresh.unknown) ∙ some)),
                 λ was. absurd (let l = names.taken p was.0 was.1 in let n = allowed.next in omega arith),
@@ -215,7 +232,9 @@ module _ (run : List Subthread) where
         pub issue-stand : EntriesStand run issued (entries ++ e ∷ [])
         issue-stand =
             record {
-              row = stands-push at.retired entries e stand.row (let n = allowed.next in let f = stand.front in let q = first.position in omega arith);
+              row =
+                  stands-push at.retired entries e stand.row
+                  (let n = allowed.next in let f = stand.front in let q = first.position in omega arith);
               front = let l = length-append entries (e ∷ []) in let f = stand.front in omega arith;
               each = λ q x there. go q x (entry_at entries q) refl (sym (pushed entries e q) ∙ there);
             }
@@ -226,7 +245,8 @@ module _ (run : List Subthread) where
                 let same : e ≡ x = cc found in
                 subst (IsEntry run issued q) same (subst (λ k. IsEntry run issued k e) (sym first.position ∙ eqb-true e.pos q is) new-entry)
 
-            go : (q : ℕ) (x : Entry) (o : Option Entry) → entry_at entries q ≡ o → Rattle.std.specs.Option.option_or o (cond (nat_eq e.pos q) (Some e) None) ≡ Some x → IsEntry run issued q x
+            go : (q : ℕ) (x : Entry) (o : Option Entry) → entry_at entries q ≡ o
+                → Rattle.std.specs.Option.option_or o (cond (nat_eq e.pos q) (Some e) None) ≡ Some x → IsEntry run issued q x
             go q x None is found = last q x (nat_eq e.pos q) refl found
             go q x (Some y) is found =
                 carried at issued q x refl (λ h. h, λ h. h) refl (λ h. h, λ h. h) (stand.each q x (is ∙ found))
@@ -244,8 +264,18 @@ module _ (run : List Subthread) where
               is_of = same-of is.subthread y (out_entry y) is.is_of refl refl refl refl refl;
               attempt = is.attempt;
               begun = is.begun;
-              waits = (λ w. absurd (cc w), λ free. absurd (free (subst (λ a. Contains (at.posted ++ (p, attempt) ∷ []) (p, a)) allowed.present (Contains-push at.posted (p, attempt)))));
-              applied = (λ s. absurd (cc s), λ a. absurd (let both = sym (is.waits.1 (λ h. allowed.unposted (subst (λ a. Contains at.posted (p, a)) (sym allowed.present) h))) ∙ is.applied.1 a in cc both));
+              waits = (
+                λ w. absurd (cc w),
+                λ free. absurd (free
+                    (subst (λ a. Contains (at.posted ++ (p, attempt) ∷ []) (p, a)) allowed.present
+                    (Contains-push at.posted (p, attempt)))),
+              );
+              applied = (
+                λ s. absurd (cc s),
+                λ a. absurd (let both =
+                    sym (is.waits.1 (λ h. allowed.unposted (subst (λ a. Contains at.posted (p, a)) (sym allowed.present) h)))
+                    ∙ is.applied.1 a in cc both),
+              );
               foot = is.foot;
               known = is.known;
             }
@@ -294,7 +324,8 @@ module _ (run : List Subthread) where
             (λ q y other is.
             carried at (taken false) q y refl (λ h. h, λ h. h) refl (taken-too dependence at p attempt q false faults other) is)
 
-        module _ (history : Option Effect) (lines : List (List ℤ)) (allowed : Allowed dependence faults at (event.Take p attempt true)) where
+        module _ (history : Option Effect) (lines : List (List ℤ))
+            (allowed : Allowed dependence faults at (event.Take p attempt true)) where
           -- it is known what the entry's subthread touches, and its result is applied
           abbrev done : Entry → Entry
           done e = applied_entry history lines (known_entry foot e)
@@ -307,7 +338,11 @@ module _ (run : List Subthread) where
                 is_of = same-of is.subthread y (done y) is.is_of refl refl refl refl refl;
                 attempt = is.attempt;
                 begun = is.begun;
-                waits = (λ w. absurd (cc w), λ free. absurd (free (subst (λ a. Contains at.posted (p, a)) (eqb-true attempt (present at p) (sym allowed.decided)) allowed.posted)));
+                waits = (
+                  λ w. absurd (cc w),
+                  λ free. absurd (free
+                      (subst (λ a. Contains at.posted (p, a)) (eqb-true attempt (present at p) (sym allowed.decided)) allowed.posted)),
+                );
                 applied = (λ s. ap (λ b. b || at.applied p) (eq-eqb p p refl), λ a. refl);
                 foot = now-known y is;
                 known = (λ some. was-taken true, λ was. refl);
@@ -320,9 +355,11 @@ module _ (run : List Subthread) where
               carried at (taken true) q y refl (λ h. h, λ h. h) (ap (λ b. b || at.applied q) other)
               (taken-too dependence at p attempt q true faults other) is)
 
-          pub take-stand : EntriesStand run (taken true) (with_change_at p (applied_entry history lines) (with_change_at p (known_entry foot) entries))
+          pub take-stand : EntriesStand run (taken true)
+              (with_change_at p (applied_entry history lines) (with_change_at p (known_entry foot) entries))
           take-stand =
-              subst (EntriesStand run (taken true)) (sym (change-twice p (known_entry foot) (applied_entry history lines) entries (λ e. refl))) done-stand
+              subst (EntriesStand run (taken true)) (sym
+              (change-twice p (known_entry foot) (applied_entry history lines) entries (λ e. refl))) done-stand
 
       -- a position that has no entry leaves the others as they are
       pub gone-stand : (p attempt : ℕ) → entry_at entries p ≡ None
@@ -338,7 +375,8 @@ module _ (run : List Subthread) where
               → IsEntry run (happens dependence faults at (event.Take p attempt false)) q x
           go q x there true same = absurd (let both = sym gone ∙ (ap (entry_at entries) (sym (eqb-true q p same)) ∙ there) in cc both)
           go q x there false other =
-              carried at (happens dependence faults at (event.Take p attempt false)) q x refl (λ h. h, λ h. h) refl (taken-too dependence at p attempt q false faults other)
+              carried at (happens dependence faults at (event.Take p attempt false)) q x refl (λ h. h, λ h. h) refl
+              (taken-too dependence at p attempt q false faults other)
               (stand.each q x there)
 
       module _ (struck : ℕ) (stands : StageStands dependence faults at) where
@@ -380,7 +418,11 @@ module _ (run : List Subthread) where
                 λ w h. is.waits.0 w (subst (λ a. Contains at.posted (q, a)) attempt h),
                 λ free. is.waits.1 (λ h. free (subst (λ a. Contains at.posted (q, a)) (sym attempt) h)),
               );
-              applied = (λ s. ap (λ b. cond b false (at.applied q)) redo ∙ is.applied.0 s, λ a. is.applied.1 (sym (ap (λ b. cond b false (at.applied q)) redo) ∙ a));
+              applied = (
+                λ s. ap (λ b. cond b false (at.applied q)) redo
+                    ∙ is.applied.0 s,
+                λ a. is.applied.1 (sym (ap (λ b. cond b false (at.applied q)) redo) ∙ a),
+              );
               foot = is.foot;
               known = is.known;
             }
@@ -394,20 +436,28 @@ module _ (run : List Subthread) where
                   subst (IsEntry run behind q) (sym y.2) (go q y.0 (part q) refl (stand.each q y.0 y.1)));
             }
           where
-            go : (q : ℕ) (y : Entry) (b : Bool) → part q ≡ b → IsEntry run at q y → IsEntry run behind q (changed_where b (raised_entry at.progress.front) y)
+            go : (q : ℕ) (y : Entry) (b : Bool) → part q ≡ b → IsEntry run at q y
+                → IsEntry run behind q (changed_where b (raised_entry at.progress.front) y)
             go q y true redo is = raised q redo y is
             go q y false redo is = kept q redo y is
 
         pub restart-event : (number : ℕ) → struck_next dependence faults at.progress ≡ Some struck
-            → EntriesStand run (happens dependence faults at (event.Restart number)) (with_change part (raised_entry at.progress.front) entries)
-        restart-event number next = subst (λ o. EntriesStand run (restarted dependence at o) (with_change part (raised_entry at.progress.front) entries)) (sym next) restart-stand
+            → EntriesStand run (happens dependence faults at (event.Restart number))
+            (with_change part (raised_entry at.progress.front) entries)
+        restart-event number next =
+            subst (λ o. EntriesStand run (restarted dependence at o) (with_change part (raised_entry at.progress.front) entries))
+            (sym next) restart-stand
 
-  pub retire-stand : (dependence : Dependence) (faults : List Fault) (at : Stage) (e : Entry) (entries : List Entry) → EntriesStand run at (e ∷ entries)
+  pub retire-stand : (dependence : Dependence) (faults : List Fault) (at : Stage) (e : Entry) (entries : List Entry)
+      → EntriesStand run at (e ∷ entries)
       → EntriesStand run (happens dependence faults at (event.Retire at.retired)) entries
   retire-stand dependence faults at e entries stand =
       record {
         row = subst (λ b. StandFrom b entries) (let s : suc at.retired ≡ at.retired + 1 = omega arith in s) stand.row.1;
         front = let f = stand.front in omega arith;
-        each = λ q x there. carried at (happens dependence faults at (event.Retire at.retired)) q x refl (λ h. h, λ h. h) refl (λ h. h, λ h. h)
-            (stand.each q x (rw (ne_eqb e.pos q (λ same. (let low = (from-first (suc at.retired) entries q x stand.row.1 there).0 in let first = stand.row.0 in omega arith))) there));
+        each =
+            λ q x there. carried at (happens dependence faults at (event.Retire at.retired)) q x refl (λ h. h, λ h. h) refl (λ h. h, λ h. h)
+            (stand.each q x (rw (ne_eqb e.pos q (λ same.
+            (let low = (from-first (suc at.retired) entries q x stand.row.1 there).0 in let first = stand.row.0 in omega arith)))
+            there));
       }

@@ -4,16 +4,18 @@ use Rattle.gp_base.specs.declared.fault.Fault.{Fault}
 use Rattle.gp_base.specs.declared.footprint.Footprint.{Footprint}
 use Rattle.gp_base.specs.declared.journal.Event.TheVariants as event
 use Rattle.task_ast.specs.declared.effect.Effect.{Effect}
-use Rattle.task_ast.specs.Plain.{Subthread, foot_of, lock_foot_of}
-use Rattle.task_ast.specs.State.{State}
+use Rattle.task_ast.specs.meaning.Plain.{Subthread, foot_of}
+use Rattle.task_ast.specs.Plain.{lock_foot_of}
+use Rattle.task_ast.specs.meaning.State.{State}
 use Rattle.task_ast.specs.History.{old_of}
-use Rattle.task_ast.specs.Effect.{after}
-use Rattle.dependence.specs.Dependents.{is_member}
-use Rattle.dependence.specs.Restarts.{Dependence, begun_of, struck_next}
-use Rattle.dependence.specs.Journal.{Stage, Allowed, happens, WasTaken, MayPost}
+use Rattle.task_ast.specs.meaning.Effect.{after}
+use Rattle.dependence.specs.meaning.Dependents.{is_member}
+use Rattle.dependence.specs.meaning.Restarts.{Dependence, begun_of, struck_next}
+use Rattle.dependence.specs.meaning.Journal.{Stage, Allowed, happens, WasTaken, MayPost}
 use Rattle.dependence.specs.Standing.{present, StageStands, NamesIssued}
-use Rattle.dependence.specs.Runs.{dependence_of, lock_feet_of}
-use Rattle.dependence.specs.Conflict.{clash_in}
+use Rattle.dependence.specs.meaning.Runs.{dependence_of}
+use Rattle.dependence.specs.Runs.{lock_feet_of}
+use Rattle.dependence.specs.meaning.Conflict.{clash_in}
 use Rattle.dependence.specs.Posting.{by_locks}
 use Rattle.dependence.specs.Removal.{undone_part}
 use Rattle.dependence.specs.Buffer.{Buffer, buffer_with, buffer_without}

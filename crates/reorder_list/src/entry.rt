@@ -18,8 +18,8 @@ pub enum State {
 
 /// A subthread that has begun: its position and thread, the synchronisation that begins it, where its code and its
 /// control variables stand then, the locks that it holds and the child that it forks; its present attempt and the front
-/// at which that began; what it may read and write by its locks; what it reads and writes, where that is known; and, where
-/// it is applied, its lines and, if it is kept, its history.
+/// at which that began; what it may read and write by its locks; what it reads and writes, where that is known; and,
+/// where it is applied, its lines and, if it is kept, its history.
 #[derive(Drop)]
 pub struct Entry {
     pub pos: Pos,

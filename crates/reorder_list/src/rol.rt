@@ -116,8 +116,8 @@ impl Rol {
         self.entries.len()
     }
 
-    /// Whether an attempt that is out holds a lock, whose record cells are lent to it then. Looks at each entry. Takes no
-    /// memory.
+    /// Whether an attempt that is out holds a lock, whose record cells are lent to it then. Looks at each entry. Takes
+    /// no memory.
     pub fn lent(&self) -> bool
         ensures { result ≡ list_any lends self.now.entries }
     {
@@ -187,9 +187,9 @@ impl Rol {
         }
     }
 
-    /// The first position from one on and before another whose entry is runnable. It first raises the marks as far as they
-    /// go, also beyond the other position; the search itself goes over no entry from the other position on. The list that
-    /// contracts see stays as it is.
+    /// The first position from one on and before another whose entry is runnable. It first raises the marks as far as
+    /// they go, also beyond the other position; the search itself goes over no entry from the other position on. The
+    /// list that contracts see stays as it is.
     pub fn next_runnable(&mut self, from: Pos, below: Pos) -> Option<Pos>
         ensures found { IfSome result (λ p. IsFirstRunnable self.old.entries from p) }
         ensures within { IfSome result (λ p. p < below) }
@@ -224,8 +224,8 @@ impl Rol {
         }
     }
 
-    /// The result of a position's attempt is applied, with the history that it left, where one is kept, and the lines that
-    /// it printed.
+    /// The result of a position's attempt is applied, with the history that it left, where one is kept, and the lines
+    /// that it printed.
     pub fn set_applied(&mut self, p: Pos, history: Option<History>, lines: Lines)
         requires { IsSomeAnd (entry_at self.old.entries p) (λ e. e.state ≡ Out) }
         ensures entries { self.new.entries ≡ with_change_at p (applied_entry history lines) self.old.entries }
@@ -236,9 +236,9 @@ impl Rol {
         }
     }
 
-    /// The next attempt of a position begins at this front and waits, and its lines are dropped; it stays known what the
-    /// subthread touches. Answers the history, which there is only where the result of the last attempt was applied, and there
-    /// if it was kept.
+    /// The next attempt of a position begins at this front and waits, and its lines are dropped; it stays known what
+    /// the subthread touches. Answers the history, which there is only where the result of the last attempt was
+    /// applied, and there if it was kept.
     pub fn raise(&mut self, alloc: Global, p: Pos, front: Pos) -> Option<History>
         requires { IsSomeAnd (entry_at self.old.entries p) (λ e. e.attempt < 4294967295) }
         ensures history { result ≡ histories_of self.old.entries p }

@@ -143,8 +143,8 @@ pub fn first_waiting(entries: &VecDeque<Entry>, idle: Pos) -> Pos
     first
 }
 
-/// A position before which each entry is applied, from one that is so on: that of the first entry that is not applied, or
-/// of the last.
+/// A position before which each entry is applied, from one that is so on: that of the first entry that is not applied,
+/// or of the last.
 pub fn first_unapplied(entries: &VecDeque<Entry>, whole: Pos) -> Pos
     requires in_row { IsInRow entries.now.items }
     requires all_applied { AllApplied entries.now.items whole }

@@ -5,9 +5,9 @@ use Rattle.std.proofs.lemmas.List.{at_drop_more}
 use Rattle.std.proofs.lemmas.Grind.{flat_map-append}
 use Rattle.task_ast.specs.declared.tree.Head.{Head}
 use Rattle.task_ast.specs.declared.tree.Head.TheVariants.{LockHead, BarrierHead, RecHead, FeedHead}
-use Rattle.task_ast.specs.Names.{natural, records_of, cells_in}
-use Rattle.task_ast.specs.Layout.{cut}
-use Rattle.restart_log.specs.Tail.{record_line}
+use Rattle.task_ast.specs.meaning.Names.{natural, records_of, cells_in}
+use Rattle.task_ast.specs.meaning.Layout.{cut}
+use Rattle.restart_log.specs.meaning.Tail.{record_line}
 
 -- the records of a head, and those of the heads after it
 cut-cons : (head : Head) (heads : List Head) (cells : List ℤ)

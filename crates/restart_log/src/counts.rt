@@ -1,6 +1,6 @@
 // The counts of a run.
 ghost use Rattle.std.specs.Prelude.{◌≡◌, ◌++◌, OnOk};
-ghost use Rattle.restart_log.specs.Tail.{count_line, redone, counts_section};
+ghost use Rattle.restart_log.specs.meaning.Tail.{count_line, redone, counts_section};
 
 use crate::lines::push_number;
 use gp_base::Restart;

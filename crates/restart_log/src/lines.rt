@@ -1,7 +1,7 @@
 // Numbers and printed lines, as bytes.
 ghost use Rattle.std.specs.Prelude.{◌≡◌, ◌++◌, OnOk, IfOk};
 ghost use Rattle.std.specs.Fmt.{signed_decimal};
-ghost use Rattle.restart_log.specs.Lines.{spaced, printed_line, printed};
+ghost use Rattle.restart_log.specs.meaning.Lines.{spaced, printed_line, printed};
 
 use gp_base::Lines;
 use itoa::{Buffer, Integer};

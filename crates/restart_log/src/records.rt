@@ -1,8 +1,8 @@
 // The lines of records.
 ghost use Rattle.std.specs.Prelude.{◌≡◌, ◌++◌, [], ◌∷◌, drop, min, flat_map, IfOk, OnOk};
-ghost use Rattle.task_ast.specs.Names.{natural, records_of, cells_in};
-ghost use Rattle.task_ast.specs.Layout.{cut};
-ghost use Rattle.restart_log.specs.Tail.{record_line};
+ghost use Rattle.task_ast.specs.meaning.Names.{natural, records_of, cells_in};
+ghost use Rattle.task_ast.specs.meaning.Layout.{cut};
+ghost use Rattle.restart_log.specs.meaning.Tail.{record_line};
 
 use crate::lines::push_spaced;
 use gp_base::Name;

@@ -1,6 +1,6 @@
 // The lines of restarts.
 ghost use Rattle.std.specs.Prelude.{◌≡◌, ◌++◌, OnOk};
-ghost use Rattle.restart_log.specs.Tail.{redo_text, restart_line, restart_lines};
+ghost use Rattle.restart_log.specs.meaning.Tail.{redo_text, restart_line, restart_lines};
 
 use crate::lines::push_number;
 use gp_base::{Pos, Restart};

@@ -1,6 +1,6 @@
 // The summary of a batch that the program made itself.
 ghost use Rattle.std.specs.Prelude.{◌≡◌, ◌++◌, IfOk, OnOk};
-ghost use Rattle.restart_log.specs.Soak.{wrapped_sum, sum_line, soak_end, soak_text};
+ghost use Rattle.restart_log.specs.meaning.Soak.{wrapped_sum, sum_line, soak_end, soak_text};
 
 use crate::counts::push_counts;
 use crate::lines::push_number;
@@ -9,7 +9,7 @@ use reorder_list::Report;
 use std::alloc::{AllocError, Global};
 
 // The sum of all cells, as far as 64 bits hold it.
-#[tactic(auto, unfolding(crate::specs::Soak::wrapped_sum))]
+#[tactic(auto, unfolding(crate::specs::meaning::Soak::wrapped_sum))]
 fn wrapped_sum(cells: &[i64]) -> i64
     ensures { result ≡ wrapped_sum cells.now }
 {

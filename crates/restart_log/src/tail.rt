@@ -1,9 +1,9 @@
 // What follows the printed lines of a run.
 ghost use Rattle.std.specs.Prelude.{◌≡◌, ◌++◌, [], IfOk, OnOk};
-ghost use Rattle.task_ast.specs.Names.{records_of};
-ghost use Rattle.task_ast.specs.Layout.{cut};
+ghost use Rattle.task_ast.specs.meaning.Names.{records_of};
+ghost use Rattle.task_ast.specs.meaning.Layout.{cut};
 ghost use Rattle.lock_checker.specs.Accepted.{program_of};
-ghost use Rattle.restart_log.specs.Tail.{why_word, end_section, tail_text};
+ghost use Rattle.restart_log.specs.meaning.Tail.{why_word, end_section, tail_text};
 
 use crate::counts::push_counts;
 use crate::lines::push_number;

@@ -1,6 +1,6 @@
 // The trace of a run's events.
 ghost use Rattle.std.specs.Prelude.{◌≡◌, ◌++◌, IfOk, OnOk};
-ghost use Rattle.restart_log.specs.Trace.{attempt_text, event_restart, event_line, trace_text};
+ghost use Rattle.restart_log.specs.meaning.Trace.{attempt_text, event_restart, event_line, trace_text};
 
 use crate::lines::push_number;
 use crate::restarts::push_redo;

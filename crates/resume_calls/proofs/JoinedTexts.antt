@@ -3,18 +3,18 @@ use Rattle.std.proofs.Common.{◌≡◌, ◌≤◌, ℕ, pos, List, ◌++◌, le
 use Rattle.std.proofs.Math.Seq.{take-append_seam}
 use Rattle.gp_base.specs.declared.feed.Inputs.{Inputs}
 use Rattle.gp_base.specs.declared.limits.Limits.{Limits}
-use Rattle.task_ast.specs.Tree.{Program}
-use Rattle.task_ast.specs.Plain.{order}
-use Rattle.retirement_log.specs.Rows.{Row}
+use Rattle.task_ast.specs.meaning.Tree.{Program}
+use Rattle.task_ast.specs.meaning.Plain.{order}
+use Rattle.retirement_log.specs.meaning.Rows.{Row}
 use Rattle.gp_resume.specs.Laws.{own_rows, text_before, text_of_one}
 use Rattle.gp_resume.specs.Resumed.{bytes_before}
-use Rattle.gp_resume.specs.Resumed as rest
+use Rattle.gp_resume.specs.meaning.Resumed as rest
 use Rattle.gp_resume.proofs.OwnLogs.{first-own}
 use Rattle.gp_resume.proofs.Texts.{bytes-known, joined}
 use Rattle.command_line.specs.declared.asked.Command.TheVariants.{One}
-use Rattle.call_cases.specs.Work.{ToDo}
-use Rattle.call_cases.specs.PlainText.{plain_ran}
-use Rattle.call_cases.specs.RunCommands.{work_text}
+use Rattle.call_cases.specs.meaning.Work.{ToDo}
+use Rattle.call_cases.specs.meaning.PlainText.{plain_ran}
+use Rattle.call_cases.specs.meaning.RunCommands.{work_text}
 use Rattle.resume_calls.specs.Laws.{JoinedTextLaw}
 
 -- the first bytes and those after them are all
@@ -36,7 +36,8 @@ module _ (program : Program) (inputs : Inputs) (limits : Limits) (all : List ℕ
       subst (λ r. (count : ℕ) × (bytes_before r ≡ pos count) × (take count all ++ rest.text program inputs limits r ≡ all)) (sym are) (
         length before,
         bytes-known program inputs limits p within,
-        cut_joined before (rest.text program inputs limits (own_rows program inputs limits p)) all (joined program inputs limits p within ∙ text),
+        cut_joined before (rest.text program inputs limits (own_rows program inputs limits p)) all
+            (joined program inputs limits p within ∙ text),
       )
 
 pub joined_text : JoinedTextLaw

@@ -9,16 +9,16 @@ use Rattle.std.specs.declared.result.Result.TheVariants.{Ok, Err}
 use Rattle.clap.specs.Words.{Row, Text, fault_of, matches_of}
 use Rattle.gp_base.specs.declared.limits.Limits.{Limits}
 use Rattle.gp_base.specs.declared.limits.TheConstants.{MOST_FILE_BYTES}
-use Rattle.command_line.specs.Arguments.{is_faultless, text_of}
-use Rattle.command_line.specs.Words.{program_in, faults_in, limits_in, crew_in, workers_in, asked_with, asked_in}
-use Rattle.command_line.specs.ResumeWords.{for_resume, resumed_with, resumed_in as found_in, resumed_by}
+use Rattle.command_line.specs.meaning.Arguments.{is_faultless, text_of}
+use Rattle.command_line.specs.meaning.Words.{program_in, faults_in, limits_in, crew_in, workers_in, asked_with, asked_in}
+use Rattle.command_line.specs.meaning.ResumeWords.{for_resume, resumed_with, resumed_in as found_in, resumed_by}
 use Rattle.command_line.specs.declared.asked.Asked.{Asked}
 use Rattle.command_line.specs.declared.asked.CrewKind.{CrewKind}
 use Rattle.command_line.specs.declared.asked.Command.TheVariants as command
 use Rattle.command_line.specs.declared.asked.Verb.TheVariants as verb
 use Rattle.command_line.specs.declared.resume_words.Resumed.{Resumed}
 use Rattle.call_cases.specs.declared.reading.Refusal.{Refusal}
-use Rattle.call_cases.specs.Work.{runs}
+use Rattle.call_cases.specs.meaning.Work.{runs}
 use Rattle.call_cases.specs.Decided.{MayRun}
 use Rattle.resume_calls.specs.declared.halted.Halted.{Halted}
 use Rattle.resume_calls.specs.inner.Halting.{MayGoOn, resumed_in}
@@ -40,7 +40,8 @@ one_with (Some program) faults (Some limits) (Some crew) (Some workers) trace = 
 
 one_in : (rows : List Row) → IfSome (asked_in false verb.One rows) IsOne
 one_in rows =
-    one_with (program_in verb.One rows) (faults_in verb.One rows) (limits_in rows) (crew_in false rows) (workers_in rows) (text_of (codes "trace") rows)
+    one_with (program_in verb.One rows) (faults_in verb.One rows) (limits_in rows) (crew_in false rows) (workers_in rows)
+    (text_of (codes "trace") rows)
 
 resumed_one : (run : Option Asked) (log : Option Text) → IfSome run IsOne → IfSome (resumed_with run log) RunsOne
 resumed_one None log is = tt
@@ -56,15 +57,18 @@ words_ask [] = tt
 words_ask (word ∷ words) =
     let rows = matches_of for_resume (word ∷ words) in
     let taken = is_faultless (fault_of for_resume (word ∷ words)) in
-    if_taken (if taken then found_in rows else None) (if_taken (found_in rows) (resumed_one (asked_in false verb.One rows) (text_of (codes "log_file") rows) (one_in rows)) taken)
+    if_taken (if taken then found_in rows else None)
+    (if_taken (found_in rows) (resumed_one (asked_in false verb.One rows) (text_of (codes "log_file") rows) (one_in rows)) taken)
     (bytes_eq word (codes "resume"))
 
 -- what is asked for has that command, and so the run may begin
 pub asks_one : (words : List Text) (resumed : Resumed) → resumed_by words ≡ Some resumed → resumed.run.command ≡ command.One
 asks_one words resumed is = subst (λ asked. IfSome asked RunsOne) is (words_ask words)
 
-pub may_go_on : (words : List Text) (resumed : Resumed) (result : Result Halted Refusal) → resumed_by words ≡ Some resumed → IfOk result (λ halted. MayRun halted.request)
-    → IfOk result (λ halted. length halted.text ≤ MOST_FILE_BYTES) → IfOk result (λ halted. resumed_in halted ≡ resumed) → IfOk result MayGoOn
+pub may_go_on : (words : List Text) (resumed : Resumed) (result : Result Halted Refusal) → resumed_by words ≡ Some resumed
+    → IfOk result (λ halted. MayRun halted.request)
+    → IfOk result (λ halted. length halted.text ≤ MOST_FILE_BYTES) → IfOk result (λ halted. resumed_in halted ≡ resumed)
+    → IfOk result MayGoOn
 may_go_on words resumed (Ok halted) asks run short is =
     record { sound = run (ap runs (ap (λ (r : Resumed). r.run.command) is ∙ asks_one words resumed asks)); short = short }
 may_go_on words resumed (Err refusal) asks run short is = tt

@@ -7,24 +7,24 @@ use Rattle.std.specs.Io.KnownBytes.{Appends}
 use Rattle.std.specs.Fmt.{signed_decimal}
 use Rattle.std.specs.Prelude.{flat_map}
 use Rattle.std.proofs.lemmas.List.Elements.{Contains-append_left, Contains-append_right}
-use Rattle.gp_base.specs.Sinks.{AppendsPrefix}
+use Rattle.gp_base.specs.meaning.Sinks.{AppendsPrefix}
 use Rattle.gp_base.specs.declared.feed.Inputs.{Inputs}
 use Rattle.gp_base.specs.declared.limits.Limits.{Limits}
 use Rattle.gp_base.proofs.Written.{Appends-append, prefix_first, prefix_second, prefix_whole, prefix_none, Rose-later}
-use Rattle.task_ast.specs.Tree.{Program}
-use Rattle.task_ast.specs.Names.{records_of}
-use Rattle.task_ast.specs.Layout.{cut}
+use Rattle.task_ast.specs.meaning.Tree.{Program}
+use Rattle.task_ast.specs.meaning.Names.{records_of}
+use Rattle.task_ast.specs.meaning.Layout.{cut}
 use Rattle.reorder_list.specs.declared.report.Report.{Report}
-use Rattle.restart_log.specs.Lines.{printed}
-use Rattle.restart_log.specs.Tail.{tail_text}
-use Rattle.retirement_log.specs.Rows.{Row, group, cell_numbers, groups_text, row_text, log_text}
+use Rattle.restart_log.specs.meaning.Lines.{printed}
+use Rattle.restart_log.specs.meaning.Tail.{tail_text}
+use Rattle.retirement_log.specs.meaning.Rows.{Row, group, cell_numbers, groups_text, row_text, log_text}
 use Rattle.gp_resume.specs.declared.stop.ResumeStop.{ResumeStop}
 use Rattle.gp_resume.specs.declared.stop.ResumeStop.TheVariants.{LogLine, LogFit, WriteFault, OutOfMemory}
-use Rattle.gp_resume.specs.Reading.{EndsNoLine, IsLogOf}
-use Rattle.gp_resume.specs.Resumed as rest
+use Rattle.gp_resume.specs.meaning.Reading.{EndsNoLine, IsLogOf}
+use Rattle.gp_resume.specs.meaning.Resumed as rest
 use Rattle.gp_resume.specs.Resuming.{AnswersLog, IsRefused, ReportsRest}
-use Rattle.call_cases.specs.Answers.{Change}
-use Rattle.call_cases.specs.RunCommands.{end_status}
+use Rattle.call_cases.specs.meaning.Answers.{Change}
+use Rattle.call_cases.specs.meaning.RunCommands.{end_status}
 use Rattle.call_cases.proofs.Headlines.{none_taken}
 use Rattle.resume_calls.specs.inner.Resting.{PutsFirst, PutsTail, Drives, Resumes}
 
@@ -32,7 +32,8 @@ use Rattle.resume_calls.specs.inner.Resting.{PutsFirst, PutsTail, Drives, Resume
 row_ends : (row : Row) → Contains (row_text row) 10
 row_ends row =
     Contains-append_right (signed_decimal row.position ++ codes " " ++ signed_decimal row.bytes) (groups_text row) 10
-    (Contains-append_right (group row.regs ++ group row.child ++ group (flat_map cell_numbers row.cells)) (codes "\n") 10 (0, omega arith, refl))
+    (Contains-append_right (group row.regs ++ group row.child ++ group (flat_map cell_numbers row.cells))
+    (codes "\n") 10 (0, omega arith, refl))
 
 -- what was done to a stream
 abbrev between : (before after : Option (List ℕ)) → (faults faults' : ℕ) → Change
@@ -44,7 +45,12 @@ module _ (program : Program) (inputs : Inputs) (limits : Limits) (bytes : List �
 
   -- a log in which no line ends has no row, and only such a log has none
   unlined : EndsNoLine bytes → IsLog []
-  unlined none = record { rest = bytes; begins = record { wide = λ k d below. absurd (omega (arith, below)); fit = tt; bytes_are = refl }; ends = none }
+  unlined none =
+      record {
+        rest = bytes;
+        begins = record { wide = λ k d below. absurd (omega (arith, below)); fit = tt; bytes_are = refl };
+        ends = none;
+      }
 
   lined : (row : Row) (rows : List Row) → IsLog (row ∷ rows) → EndsNoLine bytes → ⊥
   lined row rows log none =
@@ -55,13 +61,15 @@ module _ (program : Program) (inputs : Inputs) (limits : Limits) (bytes : List �
   rowless log = subst EndsNoLine (sym log.begins.bytes_are) log.ends
 
   -- the answer to a log that is not refused, and the same of another type
-  has_rows : (T : Type 0) (stop : ResumeStop) → (IsRefused {T = T} (Err stop) → ⊥) → (rows : List Row) → IsLog rows → AnswersLog {T = ℕ} program inputs limits bytes (Err stop)
+  has_rows : (T : Type 0) (stop : ResumeStop) → (IsRefused {T = T} (Err stop) → ⊥) → (rows : List Row) → IsLog rows
+      → AnswersLog {T = ℕ} program inputs limits bytes (Err stop)
   has_rows T (LogLine number) told rows log = absurd (told tt)
   has_rows T (LogFit number) told rows log = absurd (told tt)
   has_rows T WriteFault told rows log = (rows, log)
   has_rows T OutOfMemory told rows log = tt
 
-  same_log : (T : Type 0) (stop : ResumeStop) → AnswersLog {T = T} program inputs limits bytes (Err stop) → AnswersLog {T = ℕ} program inputs limits bytes (Err stop)
+  same_log : (T : Type 0) (stop : ResumeStop) → AnswersLog {T = T} program inputs limits bytes (Err stop)
+      → AnswersLog {T = ℕ} program inputs limits bytes (Err stop)
   same_log T (LogLine number) is = is
   same_log T (LogFit number) is = is
   same_log T WriteFault is = is
@@ -76,15 +84,19 @@ module _ (program : Program) (inputs : Inputs) (limits : Limits) (bytes : List �
       (rest.count program inputs limits rows) [] 0
 
   abbrev told_ending : Report → List ℕ
-  told_ending report = tail_text report.end (cut (records_of program.heads) report.records) report.subthreads report.journal.restarts report.unused
+  told_ending report =
+      tail_text report.end (cut (records_of program.heads) report.records) report.subthreads report.journal.restarts report.unused
 
-  same_ending : (rows : List Row) (count : ℕ) (report : Report) → ReportsRest program inputs limits rows count report → told_ending report ≡ ending rows
+  same_ending : (rows : List Row) (count : ℕ) (report : Report) → ReportsRest program inputs limits rows count report
+      → told_ending report ≡ ending rows
   same_ending rows count report is =
       let records = cut (records_of program.heads) (rest.final_records program inputs limits rows) in
       ap (λ e. tail_text e (cut (records_of program.heads) report.records) report.subthreads report.journal.restarts report.unused) is.end
-      ∙ ap (λ r. tail_text (rest.end program inputs limits rows) (cut (records_of program.heads) r) report.subthreads report.journal.restarts report.unused) is.records
+      ∙ ap (λ r. tail_text (rest.end program inputs limits rows)
+      (cut (records_of program.heads) r) report.subthreads report.journal.restarts report.unused) is.records
       ∙ ap (λ n. tail_text (rest.end program inputs limits rows) records n report.journal.restarts report.unused) is.subthreads
-      ∙ ap (λ r. tail_text (rest.end program inputs limits rows) records (rest.count program inputs limits rows) r report.unused) is.restarts
+      ∙ ap (λ r. tail_text (rest.end program inputs limits rows) records (rest.count program inputs limits rows) r report.unused)
+      is.restarts
       ∙ ap (λ u. tail_text (rest.end program inputs limits rows) records (rest.count program inputs limits rows) [] u) is.unused
 
   module _ (before first : Option (List ℕ)) (f f' : ℕ) where
@@ -95,7 +107,8 @@ module _ (program : Program) (inputs : Inputs) (limits : Limits) (bytes : List �
     first_taken puts (row ∷ rows) log =
         subst (λ written. Appends before written []) (sym (puts.kept (lined row rows log)).written) (none_taken before)
 
-    first_part : {T : Type 0} (stop : ResumeStop) → PutsFirst {T = T} bytes (between before first f f') (Err stop) → (rows : List Row) → IsLog rows
+    first_part : {T : Type 0} (stop : ResumeStop) → PutsFirst {T = T} bytes (between before first f f') (Err stop) → (rows : List Row)
+        → IsLog rows
         → AppendsPrefix before first (rest.text program inputs limits rows)
     first_part stop puts [] log = prefix_first before first (codes "output\n") (lines_text [] ++ ending []) (puts.part puts.lacks)
     first_part stop puts (row ∷ rows) log = absurd (lined row rows log puts.lacks)
@@ -112,7 +125,8 @@ module _ (program : Program) (inputs : Inputs) (limits : Limits) (bytes : List �
       cause = λ is. puts.cause.failed (ap Err is);
     }
 
-    module _ (second : Option (List ℕ)) (f'' : ℕ) {T : Type 0} {value : T} (puts : PutsFirst bytes (between before first f f') (Ok value)) where
+    module _ (second : Option (List ℕ)) (f'' : ℕ) {T : Type 0} {value : T}
+        (puts : PutsFirst bytes (between before first f f') (Ok value)) where
       -- the lines were not all written
       pub without_lines : (stop : ResumeStop) → Drives program inputs limits bytes (between first second f' f'') (Err stop)
           → Resumes program inputs limits bytes (between before second f f'') (Err stop)
@@ -148,7 +162,8 @@ module _ (program : Program) (inputs : Inputs) (limits : Limits) (bytes : List �
         }
 
         -- all was written
-        pub with_tail : {S : Type 0} {done : S} (status : ℕ) → status ≡ end_status report.end → PutsTail program report (between second third f'' f''') (Ok done)
+        pub with_tail : {S : Type 0} {done : S} (status : ℕ) → status ≡ end_status report.end
+            → PutsTail program report (between second third f'' f''') (Ok done)
             → Resumes program inputs limits bytes (between before third f f''') (Ok status)
         with_tail status is tail = record {
           log = drives.log;

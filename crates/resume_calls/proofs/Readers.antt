@@ -1,6 +1,6 @@
 -- There is one reader of logs.
 use Rattle.gp_resume.specs.Laws.{OneAnswerLaw, SomeAnswerLaw}
-use Rattle.resume_calls.specs.Resumption.{Reader}
+use Rattle.resume_calls.specs.meaning.Resumption.{Reader}
 use Rattle.resume_calls.specs.Laws.{OneReader}
 
 pub one_reader : OneAnswerLaw → OneReader
@@ -10,4 +10,7 @@ one_reader one reader other program inputs limits bytes =
 
 pub some_reader : SomeAnswerLaw → Reader
 some_reader some =
-    record { answer_of = λ program inputs limits bytes. (some program inputs limits bytes).0; answers = λ program inputs limits bytes. (some program inputs limits bytes).1 }
+    record {
+      answer_of = λ program inputs limits bytes. (some program inputs limits bytes).0;
+      answers = λ program inputs limits bytes. (some program inputs limits bytes).1;
+    }

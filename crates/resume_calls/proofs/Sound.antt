@@ -2,12 +2,12 @@
 use Rattle.std.proofs.Common.{inl, inr, refl}
 use Rattle.gp_base.specs.declared.ending.End.{End}
 use Rattle.gp_base.specs.declared.ending.End.TheVariants.{Finished, Stuck, Spent}
-use Rattle.gp_resume.specs.Resumed as rest
+use Rattle.gp_resume.specs.meaning.Resumed as rest
 use Rattle.call_cases.specs.Commands.{AreSound}
-use Rattle.call_cases.specs.RunCommands.{IsWhole, end_status}
+use Rattle.call_cases.specs.meaning.RunCommands.{IsWhole, end_status}
 use Rattle.call_cases.proofs.RunSound.{whole_apart}
-use Rattle.resume_calls.specs.Resumption.{Reader, Resumption}
-use Rattle.resume_calls.specs.ResumeCommands.{rest_status, commands}
+use Rattle.resume_calls.specs.meaning.Resumption.{Reader, Resumption}
+use Rattle.resume_calls.specs.meaning.ResumeCommands.{rest_status, commands}
 
 end_whole : (end : End) → IsWhole (end_status end)
 end_whole Finished = inl refl
@@ -20,4 +20,9 @@ rest_whole resumption =
 
 pub commands_sound : (reader : Reader) → AreSound (commands reader)
 commands_sound reader =
-    record { ends = rest_whole; apart = whole_apart; begins = λ resumption journal empty. tt; unbegun = λ resumption journal written faults empty. tt }
+    record {
+      ends = rest_whole;
+      apart = whole_apart;
+      begins = λ resumption journal empty. tt;
+      unbegun = λ resumption journal written faults empty. tt;
+    }

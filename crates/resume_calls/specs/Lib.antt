@@ -1,4 +1,3 @@
 pub mod Laws
-pub mod ResumeCommands
-pub mod Resumption
 pub mod inner
+pub mod meaning

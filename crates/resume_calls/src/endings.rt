@@ -1,5 +1,5 @@
 // How a call ends that went on with a run, or stopped.
-ghost use Rattle.call_cases.specs.Answers.{change_of};
+ghost use Rattle.call_cases.specs.meaning.Answers.{change_of};
 ghost use Rattle.resume_calls.specs.inner.Resting.{EndsSo, StopsSo};
 
 use call_cases::{OUT_OF_MEMORY, WRITE_FAULT, end_with, refuse, refused_input};
@@ -19,8 +19,8 @@ fn stop_with<E: Sink>(alloc: Global, stop: ResumeStop, log: &Name, err: &mut E) 
     }
 }
 
-/// The status of a call whose text was written, or which stopped; the file of the log has this name. Where it stopped, `err` took the
-/// line that tells why.
+/// The status of a call whose text was written, or which stopped; the file of the log has this name. Where it stopped,
+/// `err` took the line that tells why.
 pub fn status_by<E: Sink>(alloc: Global, put: Result<u8, ResumeStop>, log: &Name, err: &mut E) -> u8
     ensures { EndsSo log.now put (change_of E.written E.faults err.old err.new) result }
 {

@@ -1,4 +1,5 @@
-//! The top call that goes on with a run from the log of what has retired in it, over a shelf, two sinks and a gate that are handed in.
+//! The top call that goes on with a run from the log of what has retired in it, over a shelf, two sinks and a gate that
+//! are handed in.
 #![tactic(auto)]
 
 mod endings;

@@ -1,13 +1,14 @@
 // What words ask to be gone on with, from the shelf.
 ghost use Rattle.std.specs.Prelude.{◌≡◌, ◌≤◌, Some, None, IfOk, IfSome, length};
 ghost use Rattle.gp_base.specs.declared.limits.TheConstants.{MOST_FILE_BYTES};
-ghost use Rattle.command_line.specs.Words.{texts, IsWithinLimits};
-ghost use Rattle.command_line.specs.ResumeWords.{resumed_by};
-ghost use Rattle.call_cases.specs.Case.{IsCase, IsCaseOf};
+ghost use Rattle.command_line.specs.meaning.Words.{texts};
+ghost use Rattle.command_line.specs.Words.{IsWithinLimits};
+ghost use Rattle.command_line.specs.meaning.ResumeWords.{resumed_by};
+ghost use Rattle.call_cases.specs.meaning.Case.{IsCase, IsCaseOf};
 ghost use Rattle.call_cases.specs.Decided.{MayRun};
 ghost use Rattle.call_cases.specs.Refusals.{AnswersCase, AnswersNoCommand, TouchesShelf};
-ghost use Rattle.resume_calls.specs.Resumption.{Reader};
-ghost use Rattle.resume_calls.specs.ResumeCommands.{MayRead, asking};
+ghost use Rattle.resume_calls.specs.meaning.Resumption.{Reader};
+ghost use Rattle.resume_calls.specs.meaning.ResumeCommands.{MayRead, asking};
 ghost use Rattle.resume_calls.specs.inner.Halting.{MayGoOn, resumed_in, case_of};
 
 use crate::halted::Halted;
@@ -36,8 +37,8 @@ fn read_resumed<H: Shelf>(alloc: Global, resumed: Resumed, shelf: &mut H) -> Res
     }
 }
 
-/// What the words ask to be gone on with, with all that the run reads and the text of its log. The first refusal met is the
-/// answer.
+/// What the words ask to be gone on with, with all that the run reads and the text of its log. The first refusal met is
+/// the answer.
 pub fn read_halted<H: Shelf>(
     alloc: Global,
     words: &[String],

@@ -4,7 +4,7 @@ ghost use Rattle.gp_base.specs.declared.limits.TheConstants.{MOST_FILE_BYTES};
 ghost use Rattle.task_ast.specs.View.{plain_program};
 ghost use Rattle.lock_checker.specs.Accepted.{program_of};
 ghost use Rattle.subthread.specs.Tasks.{Suits, program_in};
-ghost use Rattle.call_cases.specs.Answers.{change_of};
+ghost use Rattle.call_cases.specs.meaning.Answers.{change_of};
 ghost use Rattle.resume_calls.specs.inner.Resting.{IsPlanOf, PutsFirst, PutsTail, Drives, Resumes};
 
 use crate::plan::Plan;
@@ -69,8 +69,9 @@ fn drive_rest<R: Threads + Sync, C: Crew, O: Sink>(
     resume_drive(rt, alloc, code, layout, inputs, limits, log, crew, out)
 }
 
-/// Goes on with the run of a plan from the text of its log, by a crew to which nothing was posted, and writes the text that is
-/// still to come: the first line where it was not written before, the printed lines, and the tail. The answer is the status.
+/// Goes on with the run of a plan from the text of its log, by a crew to which nothing was posted, and writes the text
+/// that is still to come: the first line where it was not written before, the printed lines, and the tail. The answer
+/// is the status.
 pub fn put_rest<R: Threads + Sync, C: Crew, O: Sink>(
     rt: &R,
     alloc: Global,

@@ -5,7 +5,7 @@ ghost use Rattle.task_ast.specs.View.{plain_program};
 ghost use Rattle.lock_checker.specs.Accepted.{program_of};
 ghost use Rattle.subthread.specs.Tasks.{Fits};
 ghost use Rattle.crew.specs.Out.{AreRuns};
-ghost use Rattle.call_cases.specs.Answers.{change_of};
+ghost use Rattle.call_cases.specs.meaning.Answers.{change_of};
 ghost use Rattle.call_cases.specs.Decided.{IsSound, program_in};
 ghost use Rattle.resume_calls.specs.inner.Resting.{IsPlanOf, Resumes};
 
@@ -22,7 +22,8 @@ use subthread::{Done, Task, Work};
 /// How many workers a wave has at most.
 const WORKERS: u32 = 4;
 
-// Goes on with the run of a plan by waves of workers, and writes the text that is still to come. The answer is the status.
+// Goes on with the run of a plan by waves of workers, and writes the text that is still to come. The answer is the
+// status.
 fn put_by_waves<R: Threads + Sync, O: Sink, G: Gate>(
     rt: &R,
     alloc: Global,
@@ -45,7 +46,8 @@ fn put_by_waves<R: Threads + Sync, O: Sink, G: Gate>(
     put_rest(rt, alloc, work, plan, log, &mut crew, out)
 }
 
-/// Goes on with what is requested from the text of its log, and writes the text that is still to come. The answer is the status.
+/// Goes on with what is requested from the text of its log, and writes the text that is still to come. The answer is
+/// the status.
 pub fn put_resumed<R: Threads + Sync, O: Sink, G: Gate>(
     rt: &R,
     alloc: Global,

@@ -2,7 +2,7 @@
 use Rattle.std.proofs.Common.{◌≡◌, ◌≢◌, ℕ, ◌+◌, ◌<◌, ◌≤◌, List, [], ◌∷◌, length, drop, get_or, min, refl, inl, inr, sym, ap, ◌∙◌, arith, cond, Bool, true, false}
 use Rattle.std.specs.Prelude.{ℤ, pos, nat_eq}
 use Rattle.std.proofs.lemmas.Bool.{eq-eqb, eqb-true, cases_lt}
-use Rattle.task_ast.specs.Under.{under_lock}
+use Rattle.task_ast.specs.meaning.Under.{under_lock}
 use Rattle.record_store.specs.declared.given.Bundle.{Bundle}
 use Rattle.record_store.specs.Given.{value_beside, value_in}
 use Rattle.record_store.proofs.Homing.{drop_next, drop_none}

@@ -2,13 +2,13 @@
 use Rattle.std.proofs.Common.{◌≡◌, ℕ, ℤ, pos, List, [], ◌∷◌, refl}
 use Rattle.std.specs.Prelude.{Option, Some, slice_get}
 use Rattle.std.specs.Int.{int_wrap}
-use Rattle.task_ast.specs.Body.{body, stretch}
-use Rattle.task_ast.specs.Repeat.{steps, state_after, repeated, until_done}
+use Rattle.task_ast.specs.meaning.Body.{body, stretch}
+use Rattle.task_ast.specs.meaning.Repeat.{steps, state_after, repeated, until_done}
 use Rattle.task_ast.proofs.RowPrograms.{two_adders}
 use Rattle.task_ast.proofs.RunRows.{zeros, limits}
-use Rattle.retirement_log.specs.Rows.{Row}
-use Rattle.crew.specs.Noted.{left_in_order}
-use Rattle.retirement_log.specs.Log.{rows_of}
+use Rattle.retirement_log.specs.meaning.Rows.{Row}
+use Rattle.crew.specs.meaning.Noted.{left_in_order}
+use Rattle.retirement_log.specs.meaning.Log.{rows_of}
 
 abbrev adders : List Row
 adders = rows_of (left_in_order two_adders (zeros 1) (limits 1000 20))

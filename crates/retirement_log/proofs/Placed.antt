@@ -5,13 +5,13 @@ use Rattle.std.specs.Prelude.{pos, codes, flat_map, slice_get, Some, None}
 use Rattle.std.proofs.lemmas.Grind.{flat_map-append}
 use Rattle.gp_base.specs.declared.limits.Limits.{Limits}
 use Rattle.gp_base.specs.declared.feed.Inputs.{Inputs}
-use Rattle.task_ast.specs.Tree.{Program}
-use Rattle.task_ast.specs.Plain.{Subthread, order, tree_machine}
+use Rattle.task_ast.specs.meaning.Tree.{Program}
+use Rattle.task_ast.specs.meaning.Plain.{Subthread, order, tree_machine}
 use Rattle.task_ast.proofs.Positions.{step_is}
-use Rattle.restart_log.specs.Lines.{printed, printed_line}
-use Rattle.crew.specs.Noted.{left_at, left_from, left_in_order}
-use Rattle.retirement_log.specs.Rows.{Row}
-use Rattle.retirement_log.specs.Log.{size_of, row_of, rows_from, rows_of}
+use Rattle.restart_log.specs.meaning.Lines.{printed, printed_line}
+use Rattle.crew.specs.meaning.Noted.{left_at, left_from, left_in_order}
+use Rattle.retirement_log.specs.meaning.Rows.{Row}
+use Rattle.retirement_log.specs.meaning.Log.{size_of, row_of, rows_from, rows_of}
 use Rattle.retirement_log.specs.Laws.{text_of_first}
 
 -- the bytes of the lines of these subthreads

@@ -11,15 +11,16 @@ use Rattle.std.proofs.lemmas.Grind.{flat_map-append}
 use Rattle.std.proofs.Math.Seq.{take-append_seam, take-append-add}
 use Rattle.std.specs.Fmt.{signed_decimal}
 use Rattle.std.specs.Io.KnownBytes.{Appends}
-use Rattle.gp_base.specs.Sinks.{AppendsPrefix}
+use Rattle.gp_base.specs.meaning.Sinks.{AppendsPrefix}
 use Rattle.gp_base.proofs.Written.{Appends-append, prefix_none}
 use Rattle.task_ast.specs.declared.effect.Effect.{Effect}
 use Rattle.crew.specs.Noted.{with_left, NotesResult, NotesNothing, NotesRetired, NotesPart}
 use Rattle.retirement_log.specs.declared.notes.Pending.{Pending}
 use Rattle.retirement_log.specs.declared.notes.LogNotes.{LogNotes}
-use Rattle.retirement_log.specs.Rows.{row_text, log_text}
-use Rattle.retirement_log.specs.Log.{row_of, size_of, rows_from, log_of}
-use Rattle.retirement_log.specs.Telling.{IsPending, KeepsRows, KeepsOthers, LacksFirst, Tells, TellsPart}
+use Rattle.retirement_log.specs.meaning.Rows.{row_text, log_text}
+use Rattle.retirement_log.specs.meaning.Log.{row_of, size_of, rows_from, log_of}
+use Rattle.retirement_log.specs.meaning.Telling.{TellsPart}
+use Rattle.retirement_log.specs.Telling.{IsPending, KeepsRows, KeepsOthers, LacksFirst, Tells}
 
 some_same : {X : Type 0} (x y : X) → Some x ≡ Some y → x ≡ y
 some_same x y e = cc

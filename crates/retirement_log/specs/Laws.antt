@@ -2,12 +2,12 @@
 use Rattle.std.specs.Prelude.{◌≡◌, ℕ, suc, pos, List, ◌++◌, length, take, codes, flat_map, slice_get, Some}
 use Rattle.gp_base.specs.declared.limits.Limits.{Limits}
 use Rattle.gp_base.specs.declared.feed.Inputs.{Inputs}
-use Rattle.task_ast.specs.Tree.{Program}
-use Rattle.task_ast.specs.Plain.{order}
-use Rattle.restart_log.specs.Lines.{printed}
-use Rattle.crew.specs.Noted.{left_in_order}
-use Rattle.retirement_log.specs.Rows.{Row}
-use Rattle.retirement_log.specs.Log.{rows_of}
+use Rattle.task_ast.specs.meaning.Tree.{Program}
+use Rattle.task_ast.specs.meaning.Plain.{order}
+use Rattle.restart_log.specs.meaning.Lines.{printed}
+use Rattle.crew.specs.meaning.Noted.{left_in_order}
+use Rattle.retirement_log.specs.meaning.Rows.{Row}
+use Rattle.retirement_log.specs.meaning.Log.{rows_of}
 
 -- the text of a run up to the end of the lines of its first positions
 abbrev pub text_of_first : (positions : ℕ) → Program → Inputs → Limits → List ℕ

@@ -1,4 +1,3 @@
 pub mod Laws
-pub mod Log
-pub mod Rows
 pub mod Telling
+pub mod meaning

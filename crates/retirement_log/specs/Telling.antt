@@ -1,9 +1,9 @@
 -- What notes that keep a log tell.
-use Rattle.std.specs.Prelude.{◌≡◌, ◌≢◌, ℕ, ◌+◌, ◌-◌, ◌≤◌, List, length, take, codes, sum_by, slice_get, Option, Some}
+use Rattle.std.specs.Prelude.{◌≡◌, ◌≢◌, ℕ, ◌+◌, ◌-◌, ◌≤◌, List, length, codes, sum_by, slice_get, Option, Some}
 use Rattle.std.specs.Io.KnownBytes.{Appends}
 use Rattle.task_ast.specs.declared.effect.Effect.{Effect}
-use Rattle.retirement_log.specs.Rows.{groups_text}
-use Rattle.retirement_log.specs.Log.{row_of, size_of, log_of}
+use Rattle.retirement_log.specs.meaning.Rows.{groups_text}
+use Rattle.retirement_log.specs.meaning.Log.{row_of, size_of, log_of}
 use Rattle.retirement_log.specs.declared.notes.Pending.{Pending}
 use Rattle.retirement_log.specs.declared.notes.LogNotes.{LogNotes}
 
@@ -33,8 +33,3 @@ pub record Tells (notes : LogNotes) (start written : Option (List ℕ)) (left : 
   pub bytes : notes.bytes ≡ length (codes "output\n") + sum_by size_of told
   pub next : notes.next ≡ length told
   pub rows : (p : ℕ) (e : Effect) → notes.next ≤ p → left p ≡ Some e → IsPending (slice_get notes.rows.items (p - notes.next)) e
-
--- the sink took a part of the log of these positions, with the whole rows of all but the last
-abbrev pub TellsPart : (start written : Option (List ℕ)) → (told : List Effect) → Type 0
-TellsPart start written told =
-    (part : ℕ) × (length (log_of (take (length told - 1) told)) ≤ part) × Appends start written (take part (log_of told))

@@ -1,7 +1,8 @@
 // Notes that keep a log.
 ghost use Rattle.std.specs.Prelude.{◌≡◌, ◌≢◌, ◌≤◌, ◌<◌, ℕ, List, [], ◌∷◌, length, slice_get, Option, Some, None, IfOk, OnOk, MatchOption};
 ghost use Rattle.subthread.specs.Tasks.{effect_of};
-ghost use Rattle.retirement_log.specs.Telling.{IsPending, Tells, TellsPart, KeepsRows, KeepsOthers, LacksFirst};
+ghost use Rattle.retirement_log.specs.meaning.Telling.{TellsPart};
+ghost use Rattle.retirement_log.specs.Telling.{IsPending, Tells, KeepsRows, KeepsOthers, LacksFirst};
 
 use crate::rows::{groups_of, row_with};
 use crew::Notes;
@@ -18,8 +19,8 @@ pub struct Pending {
     pub size: u64,
 }
 
-/// Keeps the log of one run, a row for each position that retires: what its subthread left, and how many bytes of the text
-/// there are up to the end of its lines. The row goes out when the position has retired.
+/// Keeps the log of one run, a row for each position that retires: what its subthread left, and how many bytes of the
+/// text there are up to the end of its lines. The row goes out when the position has retired.
 #[derive(Drop)]
 pub struct LogNotes {
     alloc: Global,

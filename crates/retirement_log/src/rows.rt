@@ -1,13 +1,13 @@
 // The rows of a log, as bytes.
 ghost use Rattle.std.specs.Prelude.{◌≡◌, ℤ, pos, ◌++◌, codes, map, flat_map, unwrap_or, IfOk, OnOk};
 ghost use Rattle.std.specs.Fmt.{signed_decimal};
-ghost use Rattle.task_ast.specs.Under.{under_lock};
+ghost use Rattle.task_ast.specs.meaning.Under.{under_lock};
 ghost use Rattle.record_store.specs.Given.{value_beside, value_in};
 ghost use Rattle.record_store.specs.Lent.{new_write};
 ghost use Rattle.subthread.specs.Tasks.{effect_of};
-ghost use Rattle.restart_log.specs.Lines.{spaced};
-ghost use Rattle.retirement_log.specs.Rows.{group, cell_numbers, groups_text};
-ghost use Rattle.retirement_log.specs.Log.{child_left, numbered, row_of};
+ghost use Rattle.restart_log.specs.meaning.Lines.{spaced};
+ghost use Rattle.retirement_log.specs.meaning.Rows.{group, cell_numbers, groups_text};
+ghost use Rattle.retirement_log.specs.meaning.Log.{child_left, numbered, row_of};
 
 use gp_base::{LockNo, Nums, RecNo, Seq, ThreadNo};
 use record_store::Bundle;
@@ -96,8 +96,8 @@ fn push_cells(
     Ok(())
 }
 
-/// The three groups of the row of a run: the registers of its thread, those of its child, and each cell that was written with
-/// its value. The error is that memory is out.
+/// The three groups of the row of a run: the registers of its thread, those of its child, and each cell that was
+/// written with its value. The error is that memory is out.
 pub fn groups_of(alloc: Global, work: &Work, done: &Done) -> Result<Vec<u8>, AllocError>
     ensures { IfOk result (λ text. text.items ≡ groups_text (row_of 0 0 (effect_of work.now done.now))) }
 {
@@ -111,7 +111,8 @@ pub fn groups_of(alloc: Global, work: &Work, done: &Done) -> Result<Vec<u8>, All
     Ok(text)
 }
 
-/// A row: a position, the bytes of the text up to the end of its lines, and its groups. The error is that memory is out.
+/// A row: a position, the bytes of the text up to the end of its lines, and its groups. The error is that memory is
+/// out.
 pub fn row_with(
     alloc: Global,
     position: u32,

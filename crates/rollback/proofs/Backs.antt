@@ -1,15 +1,17 @@
 -- What is rolled back.
 use Rattle.std.proofs.Common.{◌≡◌, ◌↔◌, ℕ, zero, suc, ◌+◌, ◌-◌, ◌%◌, ◌==◌, ◌<◌, ◌≤◌, Bool, true, false, cond, Contains, Some, refl, ap, ◌∙◌, inl, inr, arith}
 use Rattle.std.proofs.lemmas.Bool.{both_ways, false_from_ne_true, or_right, cases_lt}
-use Rattle.task_ast.specs.Table.{numbers}
+use Rattle.task_ast.specs.meaning.Table.{numbers}
 use Rattle.task_ast.proofs.Layouts.{length-numbers, get-numbers}
-use Rattle.dependence.specs.Dependents.{dependents, is_member}
-use Rattle.dependence.specs.Restarts.{Dependence, RedoesStruck, restart_of}
-use Rattle.dependence.specs.Journal.{Stage, restarted}
+use Rattle.dependence.specs.meaning.Dependents.{dependents, is_member}
+use Rattle.dependence.specs.meaning.Restarts.{Dependence, restart_of}
+use Rattle.dependence.specs.Restarts.{RedoesStruck}
+use Rattle.dependence.specs.meaning.Journal.{Stage, restarted}
 use Rattle.dependence.specs.Standing.{present, RedoesConflicts}
 use Rattle.dependence.proofs.DependentSets.{is_member-is, IsDependent-from, IsDependent-front, dependents-are}
 use Rattle.dependence.proofs.RestartEnds.{attempt-push}
-use Rattle.rollback.specs.Cuts.{is_cut, SettlesCut, cut_at, back, rolling}
+use Rattle.rollback.specs.meaning.Cuts.{is_cut, cut_at, back, rolling}
+use Rattle.rollback.specs.Cuts.{SettlesCut}
 
 -- the members of a row of numbers
 numbers-within : (a n q : ℕ) → Contains (numbers a n) q → (a ≤ q) × (q < a + n)

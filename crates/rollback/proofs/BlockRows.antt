@@ -4,13 +4,13 @@ use Rattle.std.proofs.Common.{ℕ, true, false, List, [], ◌∷◌, ◌++◌, m
 use Rattle.std.proofs.lemmas.Bool.Decides.{not_from_Decides}
 use Rattle.gp_base.specs.declared.journal.Event.{Event}
 use Rattle.gp_base.specs.declared.journal.Event.TheVariants.{Issue, Post, Take, Restart, Retire}
-use Rattle.task_ast.specs.Body.{body, stretch}
-use Rattle.task_ast.specs.Repeat.{steps, repeated, until_done}
-use Rattle.task_ast.specs.Table.{numbers}
-use Rattle.dependence.specs.Restarts.{Dependence}
+use Rattle.task_ast.specs.meaning.Body.{body, stretch}
+use Rattle.task_ast.specs.meaning.Repeat.{steps, repeated, until_done}
+use Rattle.task_ast.specs.meaning.Table.{numbers}
+use Rattle.dependence.specs.meaning.Restarts.{Dependence}
 use Rattle.dependence.proofs.JournalRows.{adders, faults, runs, runs_again, settler, early_fault}
-use Rattle.rollback.specs.Cuts.{is_cut}
-use Rattle.rollback.specs.Journal.{LawfulByBlocks, CompleteByBlocks}
+use Rattle.rollback.specs.meaning.Cuts.{is_cut}
+use Rattle.rollback.specs.meaning.Journal.{LawfulByBlocks, CompleteByBlocks}
 use Rattle.rollback.proofs.Deciding.{lawful-decides, complete-decides}
 
 -- all from position 4 on runs again

@@ -8,12 +8,12 @@ use Rattle.gp_base.specs.declared.limits.TheConstants.{LONGEST_DELAY}
 use Rattle.gp_base.specs.declared.fault.Fault.{Fault}
 use Rattle.gp_base.specs.declared.journal.Event.{Event}
 use Rattle.gp_base.specs.declared.journal.Event.TheVariants as event
-use Rattle.dependence.specs.Restarts.{Dependence, Progress, drains, begun_of, is_live, is_due, least_struck, struck_next, IsFinal}
-use Rattle.dependence.specs.Journal.{Stage, initial_stage, happens, stage}
+use Rattle.dependence.specs.meaning.Restarts.{Dependence, Progress, drains, begun_of, is_live, is_due, least_struck, struck_next, IsFinal}
+use Rattle.dependence.specs.meaning.Journal.{Stage, initial_stage, happens, stage}
 use Rattle.dependence.specs.JournalTests.{all_below, is_final}
 use Rattle.dependence.proofs.Auditing.{allowed-decides}
-use Rattle.rollback.specs.Cuts.{cut_at, rolling}
-use Rattle.rollback.specs.Journal.{IsSafe, RestIsSafe, IsDrained, AllowedByBlocks, LawfulByBlocksFrom, LawfulByBlocks, CompleteByBlocks}
+use Rattle.rollback.specs.meaning.Cuts.{cut_at, rolling}
+use Rattle.rollback.specs.meaning.Journal.{IsSafe, RestIsSafe, IsDrained, AllowedByBlocks, LawfulByBlocksFrom, LawfulByBlocks, CompleteByBlocks}
 use Rattle.rollback.specs.JournalTests.{any_below, is_safe, ends_safely, rest_is_safe, is_drained_at, is_allowed_by_blocks, is_lawful_by_blocks_from, is_lawful_by_blocks, is_complete_by_blocks}
 
 none-decides : (o : Option ℕ) → Decides (is_none o) (o ≡ None)

@@ -8,14 +8,14 @@ use Rattle.gp_base.specs.declared.limits.TheConstants.{LONGEST_DELAY}
 use Rattle.gp_base.specs.declared.fault.Fault.{Fault}
 use Rattle.gp_base.specs.declared.journal.Event.{Event}
 use Rattle.gp_base.specs.declared.journal.Event.TheVariants as event
-use Rattle.dependence.specs.Dependents.{is_member}
-use Rattle.dependence.specs.Restarts.{Dependence, begun_of, struck_next, restart_of}
-use Rattle.dependence.specs.Journal.{Stage, initial_stage, happens, restarted, stage_from, stage}
+use Rattle.dependence.specs.meaning.Dependents.{is_member}
+use Rattle.dependence.specs.meaning.Restarts.{Dependence, begun_of, struck_next, restart_of}
+use Rattle.dependence.specs.meaning.Journal.{Stage, initial_stage, happens, restarted, stage_from, stage}
 use Rattle.dependence.specs.Standing.{NamesIssued}
 use Rattle.dependence.proofs.IssuedPositions.{initial-issued, issued-from}
 use Rattle.dependence.proofs.RestartEnds.{begun-push}
-use Rattle.rollback.specs.Cuts.{cut_at, back, rolling}
-use Rattle.rollback.specs.Journal.{IsSafe, AllowedByBlocks, LawfulByBlocksFrom, LawfulByBlocks}
+use Rattle.rollback.specs.meaning.Cuts.{cut_at, back, rolling}
+use Rattle.rollback.specs.meaning.Journal.{IsSafe, AllowedByBlocks, LawfulByBlocksFrom, LawfulByBlocks}
 use Rattle.rollback.specs.Driving.{DrivingStands}
 use Rattle.rollback.proofs.Backs.{redone, unredone, rolls-conflicts}
 use Rattle.rollback.proofs.Standing.{allowed-narrower}

@@ -6,15 +6,16 @@ use Rattle.gp_base.specs.declared.fault.Fault.{Fault}
 use Rattle.gp_base.specs.declared.journal.Restart.{Restart}
 use Rattle.gp_base.specs.declared.journal.Event.{Event}
 use Rattle.gp_base.specs.declared.journal.Event.TheVariants as event
-use Rattle.dependence.specs.Restarts.{Dependence, IsFinal, Progress, struck_next, advance, advance_by, progress}
-use Rattle.dependence.specs.Journal.{Stage, initial_stage, Lawful, happens, restarted, stage_from, stage}
+use Rattle.dependence.specs.meaning.Restarts.{Dependence, IsFinal, Progress, struck_next, advance, advance_by, progress}
+use Rattle.dependence.specs.meaning.Journal.{Stage, initial_stage, Lawful, happens, restarted, stage_from, stage}
 use Rattle.dependence.specs.Counts.{HasAll}
 use Rattle.dependence.specs.Standing.{AreShort}
 use Rattle.dependence.proofs.Counts.{counted}
 use Rattle.dependence.proofs.Standing.{issue-passes}
 use Rattle.dependence.proofs.RestartEnds.{made-first, made-all, struck-is}
-use Rattle.rollback.specs.Cuts.{SettlesCut, rolling, rollbacks}
-use Rattle.rollback.specs.Journal.{AllowedByBlocks, LawfulByBlocksFrom, LawfulByBlocks, CompleteByBlocks}
+use Rattle.rollback.specs.meaning.Cuts.{rolling}
+use Rattle.rollback.specs.Cuts.{SettlesCut, rollbacks}
+use Rattle.rollback.specs.meaning.Journal.{AllowedByBlocks, LawfulByBlocksFrom, LawfulByBlocks, CompleteByBlocks}
 use Rattle.rollback.specs.Standing.{BlocksStand}
 use Rattle.rollback.proofs.Backs.{rolls-struck}
 use Rattle.rollback.proofs.Standing.{initial-blocks, happens-blocks, lawful-narrower}

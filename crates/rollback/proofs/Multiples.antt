@@ -3,10 +3,10 @@ use Rattle.std.proofs.Common.{◌≡◌, ◌↔◌, inl, inr, ℕ, ◌+◌, ◌-
 use Rattle.std.proofs.lemmas.Bool.{false_from_ne_true, eqb-true, eq-eqb, or_left, or_from, cases_lt}
 use Rattle.std.proofs.lemmas.Nat.{mod_below, mod-mul-add}
 use Rattle.std.proofs.Math.Nat.{div-add-mod, mul-mod_right, add-mod_right}
-use Rattle.dependence.specs.Restarts.{Dependence}
-use Rattle.dependence.specs.Journal.{Stage}
-use Rattle.rollback.specs.Cuts.{is_cut, cut_at}
-use Rattle.rollback.specs.Journal.{IsNextCut, IsSafe, RestIsSafe}
+use Rattle.dependence.specs.meaning.Restarts.{Dependence}
+use Rattle.dependence.specs.meaning.Journal.{Stage}
+use Rattle.rollback.specs.meaning.Cuts.{is_cut, cut_at}
+use Rattle.rollback.specs.meaning.Journal.{IsNextCut, IsSafe, RestIsSafe}
 use Rattle.rollback.specs.Driving.{DrivingStands, multiple_at}
 use Rattle.rollback.proofs.Backs.{settle-cuts, cut-above, cut-under}
 

@@ -3,11 +3,11 @@ use Rattle.std.proofs.Common.{◌≡◌, inl, inr, ℕ, Bool, false, cond, List,
 use Rattle.std.proofs.lemmas.Bool.{cases_lt}
 use Rattle.gp_base.specs.declared.fault.Fault.{Fault}
 use Rattle.gp_base.specs.declared.journal.Event.TheVariants as event
-use Rattle.dependence.specs.Restarts.{Dependence, struck_next}
-use Rattle.dependence.specs.Journal.{Stage, happens, restarted}
+use Rattle.dependence.specs.meaning.Restarts.{Dependence, struck_next}
+use Rattle.dependence.specs.meaning.Journal.{Stage, happens, restarted}
 use Rattle.dependence.specs.Standing.{present}
 use Rattle.dependence.specs.RunBuffer.{IsOut}
-use Rattle.rollback.specs.Cuts.{cut_at, rolling}
+use Rattle.rollback.specs.meaning.Cuts.{cut_at, rolling}
 use Rattle.rollback.specs.Standing.{BlocksStand}
 use Rattle.rollback.specs.Driving.{RollsBack}
 use Rattle.rollback.proofs.Backs.{redone, unredone, attempt-raised, attempt-kept}

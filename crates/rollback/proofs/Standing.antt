@@ -9,14 +9,15 @@ use Rattle.gp_base.specs.declared.limits.TheConstants.{LONGEST_DELAY}
 use Rattle.gp_base.specs.declared.fault.Fault.{Fault}
 use Rattle.gp_base.specs.declared.journal.Event.{Event}
 use Rattle.gp_base.specs.declared.journal.Event.TheVariants as event
-use Rattle.dependence.specs.Restarts.{Dependence, drains, begun_of, is_live, is_due, struck_next, NoneDue, NoneLive}
-use Rattle.dependence.specs.Journal.{Stage, initial_stage, Allowed, LawfulFrom, Lawful, Complete, happens, restarted, stage_from, stage}
+use Rattle.dependence.specs.meaning.Restarts.{Dependence, drains, begun_of, is_live, is_due, struck_next, NoneDue, NoneLive}
+use Rattle.dependence.specs.meaning.Journal.{Stage, initial_stage, Allowed, LawfulFrom, Lawful, Complete, happens, restarted, stage_from, stage}
 use Rattle.dependence.specs.Standing.{present, NamesAttempt, AreShort, KeepsRetired}
 use Rattle.dependence.specs.RunBuffer.{IsOut}
 use Rattle.dependence.proofs.Standing.{happens-stands, initial-stands}
 use Rattle.dependence.proofs.Struck.{none-among, struck-live, names-live}
-use Rattle.rollback.specs.Cuts.{SettlesCut, cut_at, rolling}
-use Rattle.rollback.specs.Journal.{AllowedByBlocks, LawfulByBlocksFrom, LawfulByBlocks, CompleteByBlocks}
+use Rattle.rollback.specs.meaning.Cuts.{cut_at, rolling}
+use Rattle.rollback.specs.Cuts.{SettlesCut}
+use Rattle.rollback.specs.meaning.Journal.{AllowedByBlocks, LawfulByBlocksFrom, LawfulByBlocks, CompleteByBlocks}
 use Rattle.rollback.specs.Standing.{BlocksStand}
 use Rattle.rollback.proofs.Backs.{cut-low, cut-kept, cut-above, back-within, redone, unredone, attempt-raised, attempt-kept, rolls-conflicts}
 

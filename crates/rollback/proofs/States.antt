@@ -9,18 +9,20 @@ use Rattle.gp_base.specs.declared.feed.Inputs.{Inputs}
 use Rattle.gp_base.specs.declared.fault.Fault.{Fault}
 use Rattle.gp_base.specs.declared.journal.Event.{Event}
 use Rattle.gp_base.specs.declared.journal.Event.TheVariants as event
-use Rattle.task_ast.specs.Tree.{Program}
-use Rattle.task_ast.specs.State.{Place, State}
+use Rattle.task_ast.specs.meaning.Tree.{Program}
+use Rattle.task_ast.specs.meaning.State.{Place, State}
 use Rattle.task_ast.specs.Fold.{Member, applied, fold}
 use Rattle.task_ast.specs.Members.{member_of}
-use Rattle.task_ast.specs.Plain.{Subthread, tree_machine, order, opening, last_state}
-use Rattle.task_ast.specs.Position.{before}
+use Rattle.task_ast.specs.meaning.Plain.{Subthread, tree_machine, order, opening, last_state}
+use Rattle.task_ast.specs.meaning.Position.{before}
 use Rattle.task_ast.proofs.Positions.{last_is}
-use Rattle.dependence.specs.Conflict.{ClashIn, foot_at}
-use Rattle.dependence.specs.Dependents.{is_member}
-use Rattle.dependence.specs.Restarts.{Dependence, mask_of, mask_now, struck_next}
-use Rattle.dependence.specs.Journal.{Stage, initial_stage, MayRetire, happens, restarted, stage, stage_from}
-use Rattle.dependence.specs.Runs.{feet_of, dependence_of}
+use Rattle.dependence.specs.meaning.Conflict.{foot_at}
+use Rattle.dependence.specs.Conflict.{ClashIn}
+use Rattle.dependence.specs.meaning.Dependents.{is_member}
+use Rattle.dependence.specs.meaning.Restarts.{Dependence, struck_next}
+use Rattle.dependence.specs.Restarts.{mask_of, mask_now}
+use Rattle.dependence.specs.meaning.Journal.{Stage, initial_stage, MayRetire, happens, restarted, stage, stage_from}
+use Rattle.dependence.specs.meaning.Runs.{feet_of, dependence_of}
 use Rattle.dependence.specs.Standing.{present, AreShort, StageStands}
 use Rattle.dependence.specs.Histories.{HasCells}
 use Rattle.dependence.specs.Touching.{Agree, MayWrite, MayTouch, done_by, own_location}
@@ -31,8 +33,9 @@ use Rattle.dependence.proofs.Struck.{struck-live}
 use Rattle.dependence.proofs.Folds.{Kept, fold_later}
 use Rattle.dependence.proofs.Keeping.{run-keeps, kept-feet}
 use Rattle.dependence.proofs.RunBuffers.{event-stands, out-finds, retired-lines, drained-state}
-use Rattle.rollback.specs.Cuts.{SettlesCut, cut_at, back, rolling_of}
-use Rattle.rollback.specs.Journal.{AllowedByBlocks, MayRetireByBlocks, LawfulByBlocksFrom, LawfulByBlocks, CompleteByBlocks}
+use Rattle.rollback.specs.meaning.Cuts.{cut_at, back, rolling_of}
+use Rattle.rollback.specs.Cuts.{SettlesCut}
+use Rattle.rollback.specs.meaning.Journal.{AllowedByBlocks, MayRetireByBlocks, LawfulByBlocksFrom, LawfulByBlocks, CompleteByBlocks}
 use Rattle.rollback.specs.Standing.{BlocksStand}
 use Rattle.rollback.specs.States.{Held, initial_held, state_before, HeldStands, IsCopy, held_restarted, held_happens, held_from, held_after, StaysBehind}
 use Rattle.rollback.proofs.Backs.{cut-low, redone, unredone, attempt-raised, attempt-kept}

@@ -4,12 +4,12 @@ use Rattle.gp_base.specs.declared.limits.TheConstants.{LONGEST_DELAY}
 use Rattle.gp_base.specs.declared.fault.Fault.{Fault}
 use Rattle.gp_base.specs.declared.journal.Event.{Event}
 use Rattle.gp_base.specs.declared.journal.Event.TheVariants as event
-use Rattle.dependence.specs.Restarts.{Dependence, begun_of, struck_next}
-use Rattle.dependence.specs.Journal.{Stage, initial_stage, happens, stage}
+use Rattle.dependence.specs.meaning.Restarts.{Dependence, begun_of, struck_next}
+use Rattle.dependence.specs.meaning.Journal.{Stage, initial_stage, happens, stage}
 use Rattle.dependence.specs.Standing.{present, NamesIssued}
 use Rattle.dependence.specs.RunBuffer.{IsOut}
-use Rattle.rollback.specs.Cuts.{is_cut, cut_at, rolling}
-use Rattle.rollback.specs.Journal.{IsNextCut, IsSafe, RestIsSafe, AllowedByBlocks, LawfulByBlocks}
+use Rattle.rollback.specs.meaning.Cuts.{is_cut, cut_at, rolling}
+use Rattle.rollback.specs.meaning.Journal.{IsNextCut, IsSafe, RestIsSafe, AllowedByBlocks, LawfulByBlocks}
 use Rattle.rollback.specs.Standing.{BlocksStand}
 
 -- what holds between two events of where attempts began and of settles

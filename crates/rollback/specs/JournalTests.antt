@@ -4,10 +4,10 @@ use Rattle.gp_base.specs.declared.limits.TheConstants.{LONGEST_DELAY}
 use Rattle.gp_base.specs.declared.fault.Fault.{Fault}
 use Rattle.gp_base.specs.declared.journal.Event.{Event}
 use Rattle.gp_base.specs.declared.journal.Event.TheVariants as event
-use Rattle.dependence.specs.Restarts.{Dependence, begun_of}
-use Rattle.dependence.specs.Journal.{Stage, initial_stage, happens, stage}
+use Rattle.dependence.specs.meaning.Restarts.{Dependence, begun_of}
+use Rattle.dependence.specs.meaning.Journal.{Stage, initial_stage, happens, stage}
 use Rattle.dependence.specs.JournalTests.{all_below, none_due, is_drained, is_final, is_allowed}
-use Rattle.rollback.specs.Cuts.{cut_at, rolling}
+use Rattle.rollback.specs.meaning.Cuts.{cut_at, rolling}
 
 -- whether some number below n passes the test
 abbrev pub any_below : (ℕ → Bool) → (n : ℕ) → Bool

@@ -5,14 +5,16 @@ use Rattle.gp_base.specs.declared.fault.Fault.{Fault}
 use Rattle.gp_base.specs.declared.journal.Event.{Event}
 use Rattle.gp_base.specs.declared.journal.Event.TheVariants as event
 use Rattle.gp_base.specs.declared.journal.Restart.{Restart}
-use Rattle.dependence.specs.Dependents.{dependents}
-use Rattle.dependence.specs.Restarts.{Dependence, RedoesStruck, struck_next}
-use Rattle.dependence.specs.Journal.{Stage, initial_stage, happens, Lawful, Complete, stage}
+use Rattle.dependence.specs.meaning.Dependents.{dependents}
+use Rattle.dependence.specs.meaning.Restarts.{Dependence, struck_next}
+use Rattle.dependence.specs.Restarts.{RedoesStruck}
+use Rattle.dependence.specs.meaning.Journal.{Stage, initial_stage, happens, Lawful, Complete, stage}
 use Rattle.dependence.specs.Counts.{HasAll}
 use Rattle.dependence.specs.Standing.{present, AreShort, KeepsRetired, RedoesConflicts}
 use Rattle.dependence.specs.RunBuffer.{IsOut}
-use Rattle.rollback.specs.Cuts.{is_cut, SettlesCut, cut_at, back, rolling, rollbacks}
-use Rattle.rollback.specs.Journal.{AllowedByBlocks, LawfulByBlocks, CompleteByBlocks}
+use Rattle.rollback.specs.meaning.Cuts.{is_cut, cut_at, back, rolling}
+use Rattle.rollback.specs.Cuts.{SettlesCut, rollbacks}
+use Rattle.rollback.specs.meaning.Journal.{AllowedByBlocks, LawfulByBlocks, CompleteByBlocks}
 use Rattle.rollback.specs.JournalTests.{is_lawful_by_blocks, is_complete_by_blocks}
 use Rattle.rollback.specs.Standing.{BlocksStand}
 

@@ -1,10 +1,10 @@
 -- What stands after the events of a journal that is lawful by blocks.
 use Rattle.std.specs.Prelude.{◌≡◌, ℕ, ◌<◌, Bool, true, List, Contains}
 use Rattle.gp_base.specs.declared.fault.Fault.{Fault}
-use Rattle.dependence.specs.Restarts.{Dependence}
-use Rattle.dependence.specs.Journal.{Stage}
+use Rattle.dependence.specs.meaning.Restarts.{Dependence}
+use Rattle.dependence.specs.meaning.Journal.{Stage}
 use Rattle.dependence.specs.Standing.{present, NamesAttempt, StageStands}
-use Rattle.rollback.specs.Cuts.{cut_at, rolling}
+use Rattle.rollback.specs.meaning.Cuts.{cut_at, rolling}
 
 -- what holds between two events
 pub record BlocksStand (cuts : ℕ → Bool) (dependence : Dependence) (faults : List Fault) (at : Stage) : Type 0 where

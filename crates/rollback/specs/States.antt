@@ -6,16 +6,17 @@ use Rattle.gp_base.specs.declared.feed.Inputs.{Inputs}
 use Rattle.gp_base.specs.declared.fault.Fault.{Fault}
 use Rattle.gp_base.specs.declared.journal.Event.{Event}
 use Rattle.gp_base.specs.declared.journal.Event.TheVariants as event
-use Rattle.task_ast.specs.Tree.{Program}
-use Rattle.task_ast.specs.State.{State}
-use Rattle.task_ast.specs.Effect.{after}
+use Rattle.task_ast.specs.meaning.Tree.{Program}
+use Rattle.task_ast.specs.meaning.State.{State}
+use Rattle.task_ast.specs.meaning.Effect.{after}
 use Rattle.task_ast.specs.Fold.{fold}
-use Rattle.task_ast.specs.Plain.{Subthread, order, opening, last_state}
-use Rattle.task_ast.specs.Position.{before}
-use Rattle.dependence.specs.Conflict.{ClashIn, foot_at}
-use Rattle.dependence.specs.Restarts.{struck_next}
-use Rattle.dependence.specs.Journal.{Stage, initial_stage, happens, stage}
-use Rattle.dependence.specs.Runs.{feet_of, dependence_of}
+use Rattle.task_ast.specs.meaning.Plain.{Subthread, order, opening, last_state}
+use Rattle.task_ast.specs.meaning.Position.{before}
+use Rattle.dependence.specs.meaning.Conflict.{foot_at}
+use Rattle.dependence.specs.Conflict.{ClashIn}
+use Rattle.dependence.specs.meaning.Restarts.{struck_next}
+use Rattle.dependence.specs.meaning.Journal.{Stage, initial_stage, happens, stage}
+use Rattle.dependence.specs.meaning.Runs.{feet_of, dependence_of}
 use Rattle.dependence.specs.Standing.{AreShort}
 use Rattle.dependence.specs.Histories.{HasCells}
 use Rattle.dependence.specs.Touching.{Agree, MayTouch, done_by, own_location}
@@ -23,8 +24,9 @@ use Rattle.dependence.specs.Insertion.{ClosedBefore}
 use Rattle.dependence.specs.Removal.{done_in}
 use Rattle.dependence.specs.Buffer.{with_at}
 use Rattle.dependence.specs.RunBuffer.{members_at, IsOut}
-use Rattle.rollback.specs.Cuts.{SettlesCut, cut_at, rolling_of}
-use Rattle.rollback.specs.Journal.{AllowedByBlocks, MayRetireByBlocks, LawfulByBlocks, CompleteByBlocks}
+use Rattle.rollback.specs.meaning.Cuts.{cut_at, rolling_of}
+use Rattle.rollback.specs.Cuts.{SettlesCut}
+use Rattle.rollback.specs.meaning.Journal.{AllowedByBlocks, MayRetireByBlocks, LawfulByBlocks, CompleteByBlocks}
 use Rattle.rollback.specs.Standing.{BlocksStand}
 
 -- the data, and the lines of each position that is applied

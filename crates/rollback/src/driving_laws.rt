@@ -2,9 +2,9 @@
 
 ghost use Rattle.rollback.specs.Driving.{InitialDrivingLaw, DrivingEventLaw, DrivingJournalLaw, SafeLaw, CutLaw, WholeLaw, NextCutLaw, RestLaw, StruckLaw, StillOutLaw, RolledLaw, UnbegunLaw};
 
-/// The later of two positions did not begin earlier, and all before a settle that was issued has retired: so it is before the
-/// first event, after each that is allowed, and so after each journal that is lawful by blocks. Of positions that are applied
-/// the last tells whether all are safe.
+/// The later of two positions did not begin earlier, and all before a settle that was issued has retired: so it is
+/// before the first event, after each that is allowed, and so after each journal that is lawful by blocks. Of positions
+/// that are applied the last tells whether all are safe.
 pub fn stage_laws()
     ensures initial { InitialDrivingLaw }
     ensures event { DrivingEventLaw }
@@ -12,8 +12,8 @@ pub fn stage_laws()
     ensures safe { SafeLaw }
 {}
 
-/// Where the multiples of a number and the settles are cuts, the cut of a position that has not retired is found with no look at
-/// a settle but the oldest position, and the next one above it with none.
+/// Where the multiples of a number and the settles are cuts, the cut of a position that has not retired is found with
+/// no look at a settle but the oldest position, and the next one above it with none.
 pub fn multiple_laws()
     ensures cut { CutLaw }
     ensures whole { WholeLaw }
@@ -21,9 +21,9 @@ pub fn multiple_laws()
     ensures rest { RestLaw }
 {}
 
-/// No rollback goes back to before what has retired. After it nothing is out that was not out before it, from its cut on
-/// nothing is applied and no present attempt is posted, and before it all is as it was. Nor is anything applied from the cut
-/// of a block on of which no present attempt is posted.
+/// No rollback goes back to before what has retired. After it nothing is out that was not out before it, from its cut
+/// on nothing is applied and no present attempt is posted, and before it all is as it was. Nor is anything applied from
+/// the cut of a block on of which no present attempt is posted.
 pub fn rolled_laws()
     ensures struck { StruckLaw }
     ensures out { StillOutLaw }

@@ -2,8 +2,8 @@
 
 ghost use Rattle.rollback.specs.Laws.{SettlesLaw, RisesLaw, AgainLaw, DependentsLaw, LaterLaw, RollsLaw, NarrowerLaw, FrontLaw, GrowLaw, InitialLaw, KeepsLaw, EventLaw, StandsLaw, OneBlockLaw, WaitsLaw, PostsLaw, FirstLaw, NextLaw, AllLaw, CompleteLaw, LawfulTestLaw, CompleteTestLaw};
 
-/// The multiples of a number and the settles of a run are cuts of it: each settle is one, so that what has retired before it is
-/// not rolled back. A later position has no earlier cut, and that of a cut is the cut itself.
+/// The multiples of a number and the settles of a run are cuts of it: each settle is one, so that what has retired
+/// before it is not rolled back. A later position has no earlier cut, and that of a cut is the cut itself.
 pub fn cut_laws()
     ensures settles { SettlesLaw }
     ensures rises { RisesLaw }
@@ -26,9 +26,10 @@ pub fn journal_laws()
     ensures grow { GrowLaw }
 {}
 
-/// What holds between two events, where settles are cuts and delays are short: it holds before the first, and each event that
-/// is allowed keeps it, so that nothing of a block that has begun to retire is rolled back. What is out is of one block,
-/// a later block waits for each position before it, and the first position that is not applied may be posted.
+/// What holds between two events, where settles are cuts and delays are short: it holds before the first, and each
+/// event that is allowed keeps it, so that nothing of a block that has begun to retire is rolled back. What is out is
+/// of one block, a later block waits for each position before it, and the first position that is not applied may be
+/// posted.
 pub fn standing_laws()
     ensures initial { InitialLaw }
     ensures keeps { KeepsLaw }
@@ -39,9 +40,9 @@ pub fn standing_laws()
     ensures posts { PostsLaw }
 {}
 
-/// The restarts of a journal that is lawful by blocks are the first of all rollbacks, one may come next exactly where the
-/// next of all has the present front, and a complete journal has them all. It is complete exactly where it has an issue and a
-/// retirement for each position and all rollbacks.
+/// The restarts of a journal that is lawful by blocks are the first of all rollbacks, one may come next exactly where
+/// the next of all has the present front, and a complete journal has them all. It is complete exactly where it has an
+/// issue and a retirement for each position and all rollbacks.
 pub fn rollbacks_laws()
     ensures first { FirstLaw }
     ensures next { NextLaw }

@@ -5,14 +5,15 @@ use Rattle.std.specs.Option.{option_map_or}
 use Rattle.std.proofs.lemmas.Bool.{false≢true, eqb-true, eq-eqb}
 use Rattle.std.proofs.lemmas.Bool.Decides.{nat_tests}
 use Rattle.task_ast.specs.declared.tree.Head.{Head}
-use Rattle.task_ast.specs.Plain.{Subthread, foot_of}
-use Rattle.dependence.specs.Conflict.{clash_in}
-use Rattle.dependence.specs.Dependents.{IsDependent, itself, later, is_member}
-use Rattle.dependence.specs.Runs.{feet_of}
+use Rattle.task_ast.specs.meaning.Plain.{Subthread, foot_of}
+use Rattle.dependence.specs.meaning.Conflict.{clash_in}
+use Rattle.dependence.specs.meaning.Dependents.{is_member}
+use Rattle.dependence.specs.Dependents.{IsDependent, itself, later}
+use Rattle.dependence.specs.meaning.Runs.{feet_of}
 use Rattle.dependence.proofs.DependentSets.{sound, complete}
 use Rattle.run_views.specs.Laws.{redone, IsRedone, LinkLaw, ChainLaw}
-use Rattle.run_views.specs.Links.{Party, party_of, linked}
-use Rattle.run_views.specs.Why.{struck_line, link_text, chain}
+use Rattle.run_views.specs.meaning.Links.{Party, party_of, linked}
+use Rattle.run_views.specs.meaning.Why.{struck_line, link_text, chain}
 
 -- ---- the first member that passes a test
 module _ (test : ℕ → Bool) where

@@ -9,23 +9,24 @@ use Rattle.gp_base.specs.declared.footprint.Footprint.{Footprint}
 use Rattle.gp_base.specs.declared.journal.Restart.{Restart}
 use Rattle.gp_base.specs.declared.limits.Limits.{Limits}
 use Rattle.task_ast.specs.declared.tree.Head.{Head}
-use Rattle.task_ast.specs.Tree.{Program}
-use Rattle.task_ast.specs.Names.{records_of, cells_in}
-use Rattle.task_ast.specs.Plain.{Subthread, foot_of, order, last_state}
-use Rattle.task_ast.specs.State.{cell_value}
-use Rattle.task_ast.specs.Table.{numbers}
+use Rattle.task_ast.specs.meaning.Tree.{Program}
+use Rattle.task_ast.specs.meaning.Names.{records_of, cells_in}
+use Rattle.task_ast.specs.meaning.Plain.{Subthread, foot_of, order, last_state}
+use Rattle.task_ast.specs.meaning.State.{cell_value}
+use Rattle.task_ast.specs.meaning.Table.{numbers}
 use Rattle.one_thread.specs.declared.run.PlainRun.{PlainRun}
 use Rattle.one_thread.specs.declared.run.Step.{Step}
 use Rattle.one_thread.specs.PlainRuns.{IsPlainRun, shown}
-use Rattle.dependence.specs.Conflict.{Conflict, clash_in}
-use Rattle.dependence.specs.Restarts.{restarts}
-use Rattle.dependence.specs.Runs.{restarts_of}
+use Rattle.dependence.specs.meaning.Conflict.{clash_in}
+use Rattle.dependence.specs.Conflict.{Conflict}
+use Rattle.dependence.specs.meaning.Restarts.{restarts}
+use Rattle.dependence.specs.meaning.Runs.{restarts_of}
 use Rattle.gp_audit.specs.Steps.{feet_in, dependence_by}
 use Rattle.gp_audit.proofs.Clashing.{clash-is}
 use Rattle.gp_audit.proofs.Orders.{order-is}
 use Rattle.run_views.specs.declared.links.Link.{Link}
-use Rattle.run_views.specs.Links.{Party, party_of, linked, link_of}
-use Rattle.run_views.specs.Why.{link_line, struck_line, link_text, chain, restart_texts, redone_line, why_lines, why_text}
+use Rattle.run_views.specs.meaning.Links.{Party, party_of, linked, link_of}
+use Rattle.run_views.specs.meaning.Why.{link_line, struck_line, link_text, chain, restart_texts, redone_line, why_lines, why_text}
 use Rattle.run_views.specs.inner.Seen.{seen, party_in}
 use Rattle.run_views.proofs.SeenSteps.{child_written, line_seen}
 

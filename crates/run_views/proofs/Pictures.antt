@@ -11,20 +11,20 @@ use Rattle.gp_base.specs.declared.journal.Restart.{Restart}
 use Rattle.gp_base.specs.declared.limits.Limits.{Limits}
 use Rattle.gp_base.specs.declared.limits.TheConstants.{MOST_SUBTHREADS, MOST_FAULTS}
 use Rattle.task_ast.specs.declared.tree.Head.{Head}
-use Rattle.task_ast.specs.Tree.{Program}
-use Rattle.task_ast.specs.Plain.{Subthread, order, end, tree_machine}
+use Rattle.task_ast.specs.meaning.Tree.{Program}
+use Rattle.task_ast.specs.meaning.Plain.{Subthread, order, end, tree_machine}
 use Rattle.task_ast.proofs.PlainRuns.{count_law}
 use Rattle.one_thread.specs.declared.run.PlainRun.{PlainRun}
 use Rattle.one_thread.specs.PlainRuns.{IsPlainRun, shown}
-use Rattle.dependence.specs.Restarts.{Dependence, redoes, advance_by, progress, restarts, struck_next, restart_of}
-use Rattle.dependence.specs.Runs.{restarts_of}
+use Rattle.dependence.specs.meaning.Restarts.{Dependence, redoes, advance_by, progress, restarts, struck_next, restart_of}
+use Rattle.dependence.specs.meaning.Runs.{restarts_of}
 use Rattle.dependence.proofs.RestartEnds.{few-restarts}
 use Rattle.gp_audit.specs.declared.line.TraceLine.{TraceLine}
 use Rattle.gp_audit.specs.Steps.{dependence_by}
 use Rattle.gp_audit.proofs.Orders.{order-is}
 use Rattle.gp_audit.proofs.StepOrder.{steps-struck}
 use Rattle.run_views.specs.declared.frame.Frame.{Frame}
-use Rattle.run_views.specs.Timeline.{rows_for, lanes_for, frame_of, left, top, words, rows, Tells, told_of, opening, title, attempt_box, ended_by, boxes, column_of, columns, restart_marks, picture, timeline_text}
+use Rattle.run_views.specs.meaning.Timeline.{rows_for, lanes_for, frame_of, left, top, words, rows, Tells, told_of, opening, title, attempt_box, ended_by, boxes, column_of, columns, restart_marks, picture, timeline_text}
 use Rattle.run_views.specs.inner.Seen.{seen}
 use Rattle.run_views.proofs.SeenSteps.{child_written}
 

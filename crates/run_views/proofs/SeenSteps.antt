@@ -5,13 +5,13 @@ use Rattle.gp_base.specs.declared.footprint.Loc.TheVariants as loc
 use Rattle.gp_base.specs.declared.feed.Inputs.{Inputs}
 use Rattle.gp_base.specs.declared.limits.Limits.{Limits}
 use Rattle.task_ast.specs.declared.tree.Head.{Head}
-use Rattle.task_ast.specs.Tree.{Program}
-use Rattle.task_ast.specs.Footprint.{named_by, child_registers}
-use Rattle.task_ast.specs.Plain.{Subthread, foot_of, order, end}
+use Rattle.task_ast.specs.meaning.Tree.{Program}
+use Rattle.task_ast.specs.meaning.Footprint.{named_by, child_registers}
+use Rattle.task_ast.specs.meaning.Plain.{Subthread, foot_of, order, end}
 use Rattle.one_thread.specs.declared.run.PlainRun.{PlainRun}
 use Rattle.one_thread.specs.declared.run.Step.{Step}
 use Rattle.one_thread.specs.PlainRuns.{IsPlainRun, shown}
-use Rattle.run_views.specs.Order.{order_line, order_lines, end_line, order_text}
+use Rattle.run_views.specs.meaning.Order.{order_line, order_lines, end_line, order_text}
 use Rattle.run_views.specs.inner.Seen.{thread_in, child_in, seen}
 
 -- the thread that is forked is the second whose registers are written

@@ -12,7 +12,7 @@ use Rattle.std.proofs.lemmas.List.{drop_more}
 use Rattle.std.proofs.lemmas.Bool.Decides.{nat_tests}
 use Rattle.gp_audit.specs.declared.line.TraceLine.{TraceLine}
 use Rattle.run_views.specs.declared.told.Told.{Told}
-use Rattle.run_views.specs.Timeline.{told_by, told_from}
+use Rattle.run_views.specs.meaning.Timeline.{told_by, told_from}
 
 abbrev pub key_cmp : ℕ × ℕ → ℕ × ℕ → Ordering
 key_cmp a b = ordering_then (nat_cmp a.0 b.0) (nat_cmp a.1 b.1)

@@ -1,6 +1,3 @@
 pub mod Laws
-pub mod Links
-pub mod Order
-pub mod Timeline
-pub mod Why
 pub mod inner
+pub mod meaning

@@ -1,12 +1,12 @@
 // The elements of a picture.
 ghost use Rattle.std.specs.Prelude.{◌≡◌, ◌++◌, codes, decimal, OnOk};
-ghost use Rattle.run_views.specs.Timeline.{at_place, placed, sized, words_from, words};
+ghost use Rattle.run_views.specs.meaning.Timeline.{at_place, placed, sized, words_from, words};
 
 use crate::names::push_number;
 use std::alloc::AllocError;
 
 // Appends the place of an element.
-#[tactic(auto, unfolding(crate::specs::Timeline::at_place))]
+#[tactic(auto, unfolding(crate::specs::meaning::Timeline::at_place))]
 fn push_place(text: &mut Vec<u8>, x: u64, y: u64) -> Result<(), AllocError>
     ensures { OnOk result (text.new.items ≡ text.old.items ++ at_place x y) }
 {
@@ -18,7 +18,7 @@ fn push_place(text: &mut Vec<u8>, x: u64, y: u64) -> Result<(), AllocError>
 }
 
 /// Appends its size.
-#[tactic(auto, unfolding(crate::specs::Timeline::sized))]
+#[tactic(auto, unfolding(crate::specs::meaning::Timeline::sized))]
 pub fn push_sized(text: &mut Vec<u8>, width: u64, height: u64) -> Result<(), AllocError>
     ensures { OnOk result (text.new.items ≡ text.old.items ++ sized width height) }
 {
@@ -30,7 +30,7 @@ pub fn push_sized(text: &mut Vec<u8>, width: u64, height: u64) -> Result<(), All
 }
 
 /// Appends how an element of a class at a place begins, from its opening bracket and name on.
-#[tactic(auto, unfolding(crate::specs::Timeline::placed))]
+#[tactic(auto, unfolding(crate::specs::meaning::Timeline::placed))]
 pub fn push_placed(
     text: &mut Vec<u8>,
     name: &[u8],
@@ -48,7 +48,7 @@ pub fn push_placed(
 }
 
 /// Appends how words of a class at a place begin.
-#[tactic(auto, unfolding(crate::specs::Timeline::words_from))]
+#[tactic(auto, unfolding(crate::specs::meaning::Timeline::words_from))]
 pub fn push_words(text: &mut Vec<u8>, class: &[u8], x: u64, y: u64) -> Result<(), AllocError>
     ensures { OnOk result (text.new.items ≡ text.old.items ++ words_from class.now x y) }
 {
@@ -64,7 +64,7 @@ pub fn end_words(text: &mut Vec<u8>) -> Result<(), AllocError>
 }
 
 /// Appends a number as words of a class at a place.
-#[tactic(auto, unfolding(crate::specs::Timeline::words))]
+#[tactic(auto, unfolding(crate::specs::meaning::Timeline::words))]
 pub fn push_numeral(
     text: &mut Vec<u8>,
     class: &[u8],

@@ -1,8 +1,9 @@
-// The places of a picture: bands of forty positions, in each a row for each thread, and in a row a lane for each attempt.
+// The places of a picture: bands of forty positions, in each a row for each thread, and in a row a lane for each
+// attempt.
 ghost use Rattle.std.specs.Prelude.{◌≡◌, ◌<◌, ◌≤◌, ◌+◌, ◌*◌, ◌^◌, ℕ, length, map, drop, count_by};
-ghost use Rattle.dependence.specs.Dependents.{is_member};
-ghost use Rattle.dependence.specs.Restarts.{redoes, attempt_of};
-ghost use Rattle.run_views.specs.Timeline.{rows_for, lanes_for, frame_of, left, width, row_height, band_height, top, row_top, lane_top, foot};
+ghost use Rattle.dependence.specs.meaning.Dependents.{is_member};
+ghost use Rattle.dependence.specs.meaning.Restarts.{redoes, attempt_of};
+ghost use Rattle.run_views.specs.meaning.Timeline.{rows_for, lanes_for, frame_of, left, width, row_height, band_height, top, row_top, lane_top, foot};
 ghost use Rattle.run_views.specs.inner.Seen.{seen};
 ghost use Rattle.run_views.specs.inner.Small.{IsSmall};
 

@@ -1,4 +1,5 @@
-//! Texts that show a run: the order of its subthreads, why one of them was redone, and a picture of the run and of its restarts.
+//! Texts that show a run: the order of its subthreads, why one of them was redone, and a picture of the run and of its
+//! restarts.
 #![tactic(auto)]
 
 mod elements;

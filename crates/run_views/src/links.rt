@@ -1,7 +1,7 @@
 // How a subthread that is redone is linked to an earlier one.
 ghost use Rattle.std.specs.Prelude.{◌≡◌, ◌<◌, length, map, IfSome};
-ghost use Rattle.dependence.specs.Conflict.{clash_in};
-ghost use Rattle.run_views.specs.Links.{Party, linked, joins, has_cell, is_shared, shared_cell, link_by, link_of};
+ghost use Rattle.dependence.specs.meaning.Conflict.{clash_in};
+ghost use Rattle.run_views.specs.meaning.Links.{Party, linked, joins, has_cell, is_shared, shared_cell, link_by, link_of};
 ghost use Rattle.run_views.specs.inner.Seen.{party_in};
 
 use crate::order::child_in;
@@ -10,8 +10,8 @@ use gp_base::{Footprint, Loc, Pos, ThreadNo};
 use one_thread::Step;
 use task_ast::SyncOp;
 
-/// The link of a subthread to an earlier one: it goes on in this thread, joins it, runs in it as a child of the other one, or
-/// joins such a child; or both name this record cell.
+/// The link of a subthread to an earlier one: it goes on in this thread, joins it, runs in it as a child of the other
+/// one, or joins such a child; or both name this record cell.
 #[derive(Clone, Copy)]
 pub enum Link {
     GoesOn(ThreadNo),

@@ -1,7 +1,7 @@
 // The names of a program's lock cells, record cells and barriers.
 ghost use Rattle.std.specs.Prelude.{◌≡◌, ◌<◌, ◌^◌, ◌++◌, OnOk};
-ghost use Rattle.task_ast.specs.Names.{natural, locks_of, records_of, barriers_of};
-ghost use Rattle.run_views.specs.Order.{cell_name, cell_text, barrier_name};
+ghost use Rattle.task_ast.specs.meaning.Names.{natural, locks_of, records_of, barriers_of};
+ghost use Rattle.run_views.specs.meaning.Order.{cell_name, cell_text, barrier_name};
 
 use gp_base::{LockNo, Name};
 use itoa::{Buffer, Integer};

@@ -2,8 +2,8 @@
 ghost use Rattle.std.specs.Prelude.{◌≡◌, ◌++◌, map, IfOk, OnOk};
 ghost use Rattle.task_ast.specs.View.{plain_program};
 ghost use Rattle.lock_checker.specs.Accepted.{program_of};
-ghost use Rattle.restart_log.specs.Tail.{why_word};
-ghost use Rattle.run_views.specs.Order.{sync_text, held_text, order_line, order_lines, end_line, order_text};
+ghost use Rattle.restart_log.specs.meaning.Tail.{why_word};
+ghost use Rattle.run_views.specs.meaning.Order.{sync_text, held_text, order_line, order_lines, end_line, order_text};
 ghost use Rattle.run_views.specs.inner.Seen.{child_in, seen};
 
 use crate::names::{push_barrier, push_lock, push_number};
@@ -140,9 +140,9 @@ pub fn push_end(text: &mut Vec<u8>, end: End) -> Result<(), AllocError>
     }
 }
 
-/// The text that shows the order of a program's run on one thread without faults: a line for each subthread by its position,
-/// with its thread, the synchronisation that it begins with, how many lines it prints and the locks that it holds; then how
-/// the run ends. The error is that memory is out.
+/// The text that shows the order of a program's run on one thread without faults: a line for each subthread by its
+/// position, with its thread, the synchronisation that it begins with, how many lines it prints and the locks that it
+/// holds; then how the run ends. The error is that memory is out.
 pub fn order_text(
     alloc: Global,
     c: &Checked,

@@ -3,7 +3,7 @@ ghost use Rattle.std.specs.Prelude.{◌≡◌, ◌<◌, ◌≤◌, ◌++◌, len
 ghost use Rattle.gp_base.specs.declared.limits.TheConstants.{MOST_SUBTHREADS};
 ghost use Rattle.task_ast.specs.View.{plain_program};
 ghost use Rattle.lock_checker.specs.Accepted.{program_of};
-ghost use Rattle.run_views.specs.Timeline.{svg_start, colours, legend, told_legend, told_part, summary, opening, rows, row, mark, fate_class, stale_class, class_of, fate_text, told_text, outcome_text, title, attempt_box, ended_by, boxes, column_of, columns, struck_text, note, restart_mark, restart_marks, picture, timeline_text};
+ghost use Rattle.run_views.specs.meaning.Timeline.{svg_start, colours, legend, told_legend, told_part, summary, opening, rows, row, mark, fate_class, stale_class, class_of, fate_text, told_text, outcome_text, title, attempt_box, ended_by, boxes, column_of, columns, struck_text, note, restart_mark, restart_marks, picture, timeline_text};
 ghost use Rattle.run_views.specs.inner.Seen.{seen};
 ghost use Rattle.run_views.specs.inner.Small.{IsSmall};
 ghost use Rattle.run_views.specs.inner.Tellings.{found};
@@ -37,7 +37,8 @@ pub enum Fate {
     Undone(u64),
 }
 
-// A subthread at its position, in a picture of this frame of a program with these heads, and what is told of its attempts.
+// A subthread at its position, in a picture of this frame of a program with these heads, and what is told of its
+// attempts.
 #[derive(Clone, Copy)]
 struct Column<'a> {
     frame: Frame,
@@ -48,7 +49,7 @@ struct Column<'a> {
 }
 
 // Appends how a picture begins.
-#[tactic(auto, unfolding(crate::specs::Timeline::svg_start))]
+#[tactic(auto, unfolding(crate::specs::meaning::Timeline::svg_start))]
 fn push_start(text: &mut Vec<u8>) -> Result<(), AllocError>
     ensures { OnOk result (text.new.items ≡ text.old.items ++ svg_start) }
 {
@@ -56,7 +57,7 @@ fn push_start(text: &mut Vec<u8>) -> Result<(), AllocError>
 }
 
 // Appends the colours of a picture.
-#[tactic(auto, unfolding(crate::specs::Timeline::colours))]
+#[tactic(auto, unfolding(crate::specs::meaning::Timeline::colours))]
 fn push_colours(text: &mut Vec<u8>) -> Result<(), AllocError>
     ensures { OnOk result (text.new.items ≡ text.old.items ++ colours) }
 {
@@ -64,7 +65,7 @@ fn push_colours(text: &mut Vec<u8>) -> Result<(), AllocError>
 }
 
 // Appends what they mean.
-#[tactic(auto, unfolding(crate::specs::Timeline::legend))]
+#[tactic(auto, unfolding(crate::specs::meaning::Timeline::legend))]
 fn push_legend(text: &mut Vec<u8>) -> Result<(), AllocError>
     ensures { OnOk result (text.new.items ≡ text.old.items ++ legend) }
 {
@@ -72,7 +73,7 @@ fn push_legend(text: &mut Vec<u8>) -> Result<(), AllocError>
 }
 
 // Appends the colours of what a trace tells, and what they mean.
-#[tactic(auto, unfolding(crate::specs::Timeline::told_legend))]
+#[tactic(auto, unfolding(crate::specs::meaning::Timeline::told_legend))]
 fn push_told_legend(text: &mut Vec<u8>) -> Result<(), AllocError>
     ensures { OnOk result (text.new.items ≡ text.old.items ++ told_legend) }
 {
@@ -91,7 +92,7 @@ fn push_told(text: &mut Vec<u8>, traced: bool) -> Result<(), AllocError>
 }
 
 // Appends how many subthreads and restarts there are, and how the run ends.
-#[tactic(auto, unfolding(crate::specs::Timeline::summary))]
+#[tactic(auto, unfolding(crate::specs::meaning::Timeline::summary))]
 fn push_summary(
     text: &mut Vec<u8>,
     frame: &Frame,
@@ -108,7 +109,7 @@ fn push_summary(
 }
 
 // Appends the head of a picture.
-#[tactic(auto, unfolding(crate::specs::Timeline::opening, crate::specs::Timeline::words))]
+#[tactic(auto, unfolding(crate::specs::meaning::Timeline::opening, crate::specs::meaning::Timeline::words))]
 fn push_opening(
     text: &mut Vec<u8>,
     traced: bool,
@@ -132,7 +133,7 @@ fn push_opening(
 }
 
 // Appends the row of a thread in the band of a position.
-#[tactic(auto, unfolding(crate::specs::Timeline::row))]
+#[tactic(auto, unfolding(crate::specs::meaning::Timeline::row))]
 fn push_row(text: &mut Vec<u8>, frame: &Frame, position: u64, thread: u64) -> Result<(), AllocError>
     requires small { IsSmall frame.now }
     requires position { position ≤ 200040 }
@@ -254,7 +255,7 @@ fn push_telling(text: &mut Vec<u8>, told: Told) -> Result<(), AllocError>
 }
 
 // Appends both.
-#[tactic(auto, unfolding(crate::specs::Timeline::outcome_text))]
+#[tactic(auto, unfolding(crate::specs::meaning::Timeline::outcome_text))]
 fn push_outcome(text: &mut Vec<u8>, fate: Fate, told: Told) -> Result<(), AllocError>
     ensures { OnOk result (text.new.items ≡ text.old.items ++ outcome_text fate told) }
 {
@@ -274,7 +275,7 @@ fn ended_by(position: usize, number: u64, restart: &Restart) -> Fate
 }
 
 // Appends what the box of an attempt says when it is pointed at.
-#[tactic(auto, unfolding(crate::specs::Timeline::title))]
+#[tactic(auto, unfolding(crate::specs::meaning::Timeline::title))]
 fn push_title(
     text: &mut Vec<u8>,
     column: &Column<'_>,
@@ -292,7 +293,7 @@ fn push_title(
 }
 
 // Appends the box of an attempt.
-#[tactic(auto, unfolding(crate::specs::Timeline::attempt_box, crate::specs::Timeline::words))]
+#[tactic(auto, unfolding(crate::specs::meaning::Timeline::attempt_box, crate::specs::meaning::Timeline::words))]
 fn push_box(
     text: &mut Vec<u8>,
     column: &Column<'_>,
@@ -346,7 +347,7 @@ fn push_boxes(
 }
 
 // Appends the column of a subthread, the first of a band with the rows.
-#[tactic(auto, unfolding(crate::specs::Timeline::column_of))]
+#[tactic(auto, unfolding(crate::specs::meaning::Timeline::column_of))]
 fn push_column(
     text: &mut Vec<u8>,
     column: &Column<'_>,
@@ -396,7 +397,7 @@ fn push_columns(
 }
 
 // Appends which attempt a restart found struck, in words.
-#[tactic(auto, unfolding(crate::specs::Timeline::struck_text))]
+#[tactic(auto, unfolding(crate::specs::meaning::Timeline::struck_text))]
 fn push_struck(text: &mut Vec<u8>, restart: &Restart) -> Result<(), AllocError>
     ensures { OnOk result (text.new.items ≡ text.old.items ++ struck_text restart.now) }
 {
@@ -408,7 +409,7 @@ fn push_struck(text: &mut Vec<u8>, restart: &Restart) -> Result<(), AllocError>
 }
 
 // Appends what a restart of this number did, in words.
-#[tactic(auto, unfolding(crate::specs::Timeline::note))]
+#[tactic(auto, unfolding(crate::specs::meaning::Timeline::note))]
 fn push_note(text: &mut Vec<u8>, number: u64, restart: &Restart) -> Result<(), AllocError>
     ensures { OnOk result (text.new.items ≡ text.old.items ++ note number restart.now) }
 {
@@ -421,7 +422,7 @@ fn push_note(text: &mut Vec<u8>, number: u64, restart: &Restart) -> Result<(), A
 }
 
 // Appends a restart by its number: a line behind the last position before its front, and a note at the foot.
-#[tactic(auto, unfolding(crate::specs::Timeline::restart_mark, crate::specs::Timeline::words))]
+#[tactic(auto, unfolding(crate::specs::meaning::Timeline::restart_mark, crate::specs::meaning::Timeline::words))]
 fn push_restart(
     text: &mut Vec<u8>,
     frame: &Frame,
@@ -463,7 +464,8 @@ fn push_restarts(text: &mut Vec<u8>, frame: &Frame, restarts: &[Restart]) -> Res
     Ok(())
 }
 
-// The picture of a run of a program with these heads, of these restarts, and of what is told of the attempts, by a trace or by none.
+// The picture of a run of a program with these heads, of these restarts, and of what is told of the attempts, by a
+// trace or by none.
 fn picture(
     alloc: Global,
     traced: bool,
@@ -488,9 +490,10 @@ fn picture(
     Ok(text)
 }
 
-/// The picture, as SVG, of a program's run and of the restarts that these faults make of it. Columns are positions, in bands of
-/// forty; rows are threads, with a lane for each attempt. Where there is a trace of the run, the boxes of attempts whose results
-/// came after the restart, and of those that were not run, tell that. The error is that memory is out.
+/// The picture, as SVG, of a program's run and of the restarts that these faults make of it. Columns are positions, in
+/// bands of forty; rows are threads, with a lane for each attempt. Where there is a trace of the run, the boxes of
+/// attempts whose results came after the restart, and of those that were not run, tell that. The error is that memory
+/// is out.
 pub fn timeline_text(
     alloc: Global,
     c: &Checked,

@@ -1,6 +1,6 @@
 // What a trace tells of the attempts of a run.
 ghost use Rattle.std.specs.Prelude.{◌≡◌, ℕ, cond, OnOk, IfOk, option_map};
-ghost use Rattle.run_views.specs.Timeline.{told_by, told_from, told_of};
+ghost use Rattle.run_views.specs.meaning.Timeline.{told_by, told_from, told_of};
 ghost use Rattle.run_views.specs.declared.told.Told.TheVariants.{Taken, Stale, Unrun};
 ghost use Rattle.run_views.specs.inner.Tellings.{found};
 
@@ -8,8 +8,8 @@ use gp_audit::TraceLine;
 use std::alloc::{AllocError, Global};
 use std::collections::BTreeMap;
 
-/// What is told of an attempt: nothing, since there is no trace; that its result was applied; that its result came after a
-/// restart that redid the attempt; or that it was not run, or at least that no result came.
+/// What is told of an attempt: nothing, since there is no trace; that its result was applied; that its result came
+/// after a restart that redid the attempt; or that it was not run, or at least that no result came.
 #[derive(Clone, Copy)]
 pub enum Told {
     Untold,
@@ -18,7 +18,8 @@ pub enum Told {
     Unrun,
 }
 
-/// What is told of attempts: of those whose results were taken, by position and number of the attempt, and of all others.
+/// What is told of attempts: of those whose results were taken, by position and number of the attempt, and of all
+/// others.
 #[derive(Drop)]
 pub struct Tellings {
     pub taken: BTreeMap<(u32, u32), Told>,

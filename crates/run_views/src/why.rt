@@ -2,9 +2,9 @@
 ghost use Rattle.std.specs.Prelude.{◌≡◌, ◌<◌, ◌≤◌, ◌++◌, length, map, codes, decimal, slice_get, IfOk, OnOk};
 ghost use Rattle.gp_base.specs.declared.limits.TheConstants.{MOST_SUBTHREADS};
 ghost use Rattle.task_ast.specs.View.{plain_program};
-ghost use Rattle.task_ast.specs.Names.{records_of, cells_in};
+ghost use Rattle.task_ast.specs.meaning.Names.{records_of, cells_in};
 ghost use Rattle.lock_checker.specs.Accepted.{program_of};
-ghost use Rattle.run_views.specs.Why.{record_text, link_line, struck_line, link_text, chain, restart_line, restart_text, restart_texts, redone_line, why_lines, why_text};
+ghost use Rattle.run_views.specs.meaning.Why.{record_text, link_line, struck_line, link_text, chain, restart_line, restart_text, restart_texts, redone_line, why_lines, why_text};
 ghost use Rattle.run_views.specs.inner.Seen.{seen, party_in};
 
 use crate::frame::{attempt_of, redoes};
@@ -235,9 +235,9 @@ impl Order<'_> {
     }
 }
 
-/// Why a position of a program's run was redone, where these faults make restarts of it: its line in the order; each restart
-/// that redoes it, with the links from it down to the position that was struck; and how many restarts redo it. None where
-/// the run has no such position. The error is that memory is out.
+/// Why a position of a program's run was redone, where these faults make restarts of it: its line in the order; each
+/// restart that redoes it, with the links from it down to the position that was struck; and how many restarts redo it.
+/// None where the run has no such position. The error is that memory is out.
 pub fn why_text(
     alloc: Global,
     c: &Checked,

@@ -10,10 +10,10 @@ use Rattle.std.proofs.lemmas.Bool.{ltb-true}
 use Rattle.gp_base.specs.declared.feed.Feed.{Feed}
 use Rattle.task_ast.specs.declared.sync.SyncOp.{SyncOp}
 use Rattle.task_ast.specs.declared.sync.SyncOp.TheVariants as sync
-use Rattle.task_ast.specs.Names.{place}
-use Rattle.task_ast.specs.Action.{Term, Action, Arm, Set, Load, Store, Say, Choose, Child, Give, Bring, NoAction, OneAction}
-use Rattle.task_ast.specs.Body.{Step, Silent, Iteration, Act, Stop, Body, follow, stretch, body}
-use Rattle.task_ast.specs.Control.{all_of}
+use Rattle.task_ast.specs.meaning.Names.{place}
+use Rattle.task_ast.specs.meaning.Action.{Term, Action, Arm, Set, Load, Store, Say, Choose, Child, Give, Bring, NoAction, OneAction}
+use Rattle.task_ast.specs.meaning.Body.{Step, Silent, Iteration, Act, Stop, Body, follow, stretch, body}
+use Rattle.task_ast.specs.meaning.Control.{all_of}
 use Rattle.task_ast.specs.laws.Keeps.{NamesOnly, ArmNamesOnly, AllName}
 use Rattle.task_code.specs.declared.instrs.Cells.{Cells}
 use Rattle.task_code.specs.Instructions.{Deed, SetReg, Read, Write, Print, When, Deeds, NoDeeds, Also, Does, Assign, GoOn, Unless, Again, Lock, Unlock, Fork, Join, Barrier, Settle, Do, Instr, At, Calc}
@@ -23,7 +23,7 @@ use Rattle.subthread.specs.declared.task.Work.{Work}
 use Rattle.subthread.specs.declared.task.Task.{Task}
 use Rattle.subthread.specs.Footprints.{IsNumbered}
 use Rattle.subthread.specs.Tasks.{actions_from, place_of, under_of, Fits}
-use Rattle.task_ast.specs.Under.{under_lock, is_under}
+use Rattle.task_ast.specs.meaning.Under.{under_lock, is_under}
 use Rattle.record_store.specs.declared.given.Bundle.{Bundle}
 use Rattle.record_store.specs.Lent.{lock_in}
 use Rattle.running_tests.specs.Named.{IsBelow, DeedBelow, ArmBelow, DoesBelow, AllBelow, NamesBelow}

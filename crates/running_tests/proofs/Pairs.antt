@@ -8,9 +8,9 @@ use Rattle.std.specs.Cmp.{unsigned_tied}
 use Rattle.std.specs.FinMap.{find}
 use Rattle.std.proofs.lemmas.List.Elements.{All-nil, All-cons}
 use Rattle.task_ast.specs.declared.effect.Effect.{Effect}
-use Rattle.task_ast.specs.State.{State, CellOf, number_at}
-use Rattle.task_ast.specs.Effect.{after, one_number}
-use Rattle.task_ast.specs.Under.{under_lock, is_under}
+use Rattle.task_ast.specs.meaning.State.{State, CellOf, number_at}
+use Rattle.task_ast.specs.meaning.Effect.{after, one_number}
+use Rattle.task_ast.specs.meaning.Under.{under_lock, is_under}
 use Rattle.record_store.specs.declared.effect.Effect as left
 use Rattle.record_store.specs.declared.given.Bundle.{Bundle}
 use Rattle.record_store.specs.Given.{value_in}

@@ -9,8 +9,8 @@ use one_thread::{Step, run_plain};
 use std::alloc::{AllocError, Global};
 use std::test::Fail;
 
-// Rows that are no line of a trace: another word, a number that is not canonical or too wide, a part too few or too many,
-// another space or line end.
+// Rows that are no line of a trace: another word, a number that is not canonical or too wide, a part too few or too
+// many, another space or line end.
 const NO_LINES: [&[u8]; 30] = [
     b"issue x\n",
     b"issue 00\n",
@@ -212,8 +212,8 @@ fn a_trace_with_a_restart(rt: HostRuntime) -> Result<(), Fail> {
     let alloc = rt.alloc();
     let is_lawful = matches!(after_fault(alloc, AFTER_FAULT)?, Verdict::Lawful);
     assert!(rt; is_lawful);
-    // Each of these comes after 23 lawful lines: nothing is issued and nothing retires while a fault is due, and a restart
-    // redoes the dependents and nothing else.
+    // Each of these comes after 23 lawful lines: nothing is issued and nothing retires while a fault is due, and a
+    // restart redoes the dependents and nothing else.
     let unlawful: [&[u8]; 5] = [
         b"issue 8\n",
         b"restart 8 4 0 redo 4 6\n",

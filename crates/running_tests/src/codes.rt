@@ -5,8 +5,8 @@ use std::alloc::{AllocError, Global};
 use std::test::Fail;
 use task_code::{Code, lower};
 
-// In text order: task 0 is one instruction. In task 1 an assignment is one, the loop three, the choice four, and each of
-// the ten statements after them one.
+// In text order: task 0 is one instruction. In task 1 an assignment is one, the loop three, the choice four, and each
+// of the ten statements after them one.
 const EACH: &[u8] =
     b"lock bank[2]; barrier gate(1); record acct[2] by bank; feed moves[2] from \"m\";
 task pay(n, $v) { $ret = $v; }
@@ -27,8 +27,8 @@ task main() {
   print $x, i;
 }";
 
-// The code of each task: its number, how many instructions, control variables and registers it has, and with which values
-// a thread starts that is given 7 and 9.
+// The code of each task: its number, how many instructions, control variables and registers it has, and with which
+// values a thread starts that is given 7 and 9.
 const TASKS: [(u32, usize, u32, u32, &[i64]); 2] = [(0, 1, 1, 2, &[7]), (1, 18, 2, 2, &[0, 0])];
 
 // Whether a task begins at its first instruction, and has so many control variables and registers.

@@ -259,8 +259,8 @@ fn a_task_is_stolen_from_a_worker_that_is_held(rt: HostRuntime) -> Result<(), Fa
     Ok(())
 }
 
-// How many workers three tasks from one place are worth: of 64 and of 2 where no run has gone on from there, and of 64 after
-// one light run, after a heavy one beside, and after twenty more light ones.
+// How many workers three tasks from one place are worth: of 64 and of 2 where no run has gone on from there, and of 64
+// after one light run, after a heavy one beside, and after twenty more light ones.
 fn worths(alloc: Global, work: &Work) -> Result<(u32, u32, u32, u32, u32), AllocError> {
     let mean_steps = MeanSteps::new(alloc, work);
     let task = start(alloc, 3)?;
@@ -278,8 +278,9 @@ fn worths(alloc: Global, work: &Work) -> Result<(u32, u32, u32, u32, u32), Alloc
     Ok((new, new_of_two, light, heavy, again))
 }
 
-// New tasks are worth as many workers as they are, and as may be had; light ones are worth one. A heavy run weighs an eighth: 125,000
-// steps a task, so 250,000 beside those of the longest, which are worth more workers than there are tasks.
+// New tasks are worth as many workers as they are, and as may be had; light ones are worth one. A heavy run weighs an
+// eighth: 125,000 steps a task, so 250,000 beside those of the longest, which are worth more workers than there are
+// tasks.
 #[test]
 fn light_tasks_are_worth_one_worker(rt: HostRuntime) -> Result<(), Fail> {
     let alloc = rt.alloc();

@@ -1,6 +1,6 @@
 // What a store lends and takes home, and what undoing some of it leaves.
 ghost use Rattle.std.specs.Prelude.{◌≡◌, ◌<◌, ℕ, pos, [], ◌∷◌, cond, nat_eq, IfOk, OnOk};
-ghost use Rattle.task_ast.specs.State.{number_at};
+ghost use Rattle.task_ast.specs.meaning.State.{number_at};
 ghost use Rattle.record_store.specs.Stored.{Fits, FitsChild};
 ghost use Rattle.running_tests.specs.Pairs.{IsPair, each_alone};
 

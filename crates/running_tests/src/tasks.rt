@@ -1,6 +1,6 @@
 // Runs of tasks on flat code.
 ghost use Rattle.std.specs.Prelude.{◌≡◌, ◌<◌, ◌^◌, [], ◌∷◌, IsTrue, IfOk, IfSome, length};
-ghost use Rattle.task_ast.specs.Under.{under_lock};
+ghost use Rattle.task_ast.specs.meaning.Under.{under_lock};
 ghost use Rattle.subthread.specs.declared.task.Work.{Work as PlainWork};
 ghost use Rattle.subthread.specs.Footprints.{IsNumbered};
 ghost use Rattle.subthread.specs.Tasks.{Fits, under_of};

@@ -1,7 +1,7 @@
 -- One row more.
 use Rattle.std.proofs.Common.{◌≡◌, ℕ, suc, ◌+◌, ◌-◌, ◌<◌, List, [], ◌∷◌, ◌++◌, sym, ap, ◌∙◌, append_assoc, add-one, arith}
-use Rattle.soak_batch.specs.Draws.{after_row}
-use Rattle.soak_batch.specs.Rows.{row, account_rows, move_row, move_rows, after_rows, fault_row, fault_rows}
+use Rattle.soak_batch.specs.meaning.Draws.{after_row}
+use Rattle.soak_batch.specs.meaning.Rows.{row, account_rows, move_row, move_rows, after_rows, fault_row, fault_rows}
 
 pub account_more : (most account : ℕ) (text after all : List ℕ) → account < most → text ++ account_rows account (most - account) ≡ all
     → after ≡ text ++ row account (1000 ∷ [])

@@ -1,3 +1,1 @@
-pub mod Draws
-pub mod Files
-pub mod Rows
+pub mod meaning

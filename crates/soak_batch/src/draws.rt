@@ -1,6 +1,6 @@
 // Numbers drawn one after another.
 ghost use Rattle.std.specs.Prelude.{◌≡◌, ◌<◌, ◌^◌};
-ghost use Rattle.soak_batch.specs.Draws.{next, drawn};
+ghost use Rattle.soak_batch.specs.meaning.Draws.{next, drawn};
 
 /// The state of a linear congruential generator (Knuth's constants of MMIX).
 #[derive(Drop)]
@@ -10,7 +10,7 @@ pub struct Draws {
 
 impl Draws {
     /// The next draw.
-    #[tactic(auto, unfolding(crate::specs::Draws::next, crate::specs::Draws::drawn))]
+    #[tactic(auto, unfolding(crate::specs::meaning::Draws::next, crate::specs::meaning::Draws::drawn))]
     pub fn draw(&mut self) -> u64
         ensures state { self.new.state ≡ next self.old.state }
         ensures drawn { result ≡ drawn self.new.state }

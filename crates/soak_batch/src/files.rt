@@ -2,7 +2,7 @@
 ghost use Rattle.std.specs.Prelude.{◌≡◌, ◌≤◌, codes, IfOk};
 ghost use Rattle.gp_base.specs.declared.limits.TheConstants.{LEAST_MOVES};
 ghost use Rattle.gp_base.specs.Files.{HasDistinctNames};
-ghost use Rattle.soak_batch.specs.Files.{program_text, soak_files};
+ghost use Rattle.soak_batch.specs.meaning.Files.{program_text, soak_files};
 
 use crate::draws::Draws;
 use crate::program::PROGRAM;
@@ -11,15 +11,15 @@ use gp_base::{Name, Seq, Text};
 use std::alloc::{AllocError, Global};
 
 // The program's text.
-#[tactic(auto, unfolding(crate::specs::Files::program_text))]
+#[tactic(auto, unfolding(crate::specs::meaning::Files::program_text))]
 fn program_text(alloc: Global) -> Result<Text, AllocError>
     ensures { IfOk result (λ text. text ≡ program_text) }
 {
     Seq::from_slice(alloc, PROGRAM)
 }
 
-/// The files of a batch of so many moves, each by its name: the program `soak.gp`, and beside it the accounts, the moves
-/// and the faults, which are drawn from the start. The error is that memory is out.
+/// The files of a batch of so many moves, each by its name: the program `soak.gp`, and beside it the accounts, the
+/// moves and the faults, which are drawn from the start. The error is that memory is out.
 pub fn soak_files(alloc: Global, moves: u32, start: u64) -> Result<Seq<(Name, Text)>, AllocError>
     requires { LEAST_MOVES ≤ moves }
     ensures files { IfOk result (λ files. files ≡ soak_files moves start) }

@@ -1,7 +1,8 @@
 // The program of the batch.
 
-/// Eight threads carry out the moves of a feed between accounts, each eighth move by one of them. A move takes the locks
-/// of its two accounts in rising order, and is left out where an account would go below 0; their number is printed.
+/// Eight threads carry out the moves of a feed between accounts, each eighth move by one of them. A move takes the
+/// locks of its two accounts in rising order, and is left out where an account would go below 0; their number is
+/// printed.
 pub const PROGRAM: &[u8] = b"lock bank[100];
 record acct[100] by bank from \"acct.csv\";
 feed moves[3] from \"moves.csv\";

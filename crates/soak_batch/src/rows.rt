@@ -1,7 +1,7 @@
 // The rows of the batch's files.
 ghost use Rattle.std.specs.Prelude.{◌≡◌, ◌<◌, ◌^◌, [], ◌∷◌, ◌++◌, decimal, OnOk, IfOk};
-ghost use Rattle.soak_batch.specs.Rows.{row, account_rows, move_row, move_rows, after_rows, fault_row, fault_rows};
-ghost use Rattle.soak_batch.specs.Draws.{after_row};
+ghost use Rattle.soak_batch.specs.meaning.Rows.{row, account_rows, move_row, move_rows, after_rows, fault_row, fault_rows};
+ghost use Rattle.soak_batch.specs.meaning.Draws.{after_row};
 
 use crate::draws::Draws;
 use gp_base::{Seq, Text};

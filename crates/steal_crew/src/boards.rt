@@ -84,8 +84,8 @@ fn share_out<G: Gate, R: Threads + Sync>(
     Ok((runs, counts))
 }
 
-// Runs tasks over one board, in as many threads as they are worth, at most so many; in the calling thread without a board
-// where they are worth one.
+// Runs tasks over one board, in as many threads as they are worth, at most so many; in the calling thread without a
+// board where they are worth one.
 fn run_some<G: Gate, R: Threads + Sync>(
     rt: &R,
     alloc: Global,
@@ -115,10 +115,10 @@ fn run_some<G: Gate, R: Threads + Sync>(
 }
 
 /// Runs tasks over boards of at most 65,536 of them, the oldest first, each in at most so many threads at once (1 where
-/// that is 0, and 64 where it is more), of which each enters the gate before each of its runs. It answers the runs in the
-/// order of the tasks, and how many of them were claimed by hints of a worker's own deque, by stolen hints and by sweeps. A
-/// board has no more threads than its tasks are worth by the steps of the last runs: tasks that are known to be light stay in
-/// the calling thread, without a board, and count as its own. The error is that memory is out.
+/// that is 0, and 64 where it is more), of which each enters the gate before each of its runs. It answers the runs in
+/// the order of the tasks, and how many of them were claimed by hints of a worker's own deque, by stolen hints and by
+/// sweeps. A board has no more threads than its tasks are worth by the steps of the last runs: tasks that are known to
+/// be light stay in the calling thread, without a board, and count as its own. The error is that memory is out.
 pub fn run_steal<G: Gate, R: Threads + Sync>(
     rt: &R,
     alloc: Global,

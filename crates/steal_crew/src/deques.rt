@@ -16,8 +16,8 @@ fn dealt(alloc: Global, first: u32, step: u32, count: u32) -> Result<Worker<u32>
     Ok(deque)
 }
 
-/// A deque for each of so many workers, to whom the numbers below `count` are dealt in turn. Which numbers lie there is said
-/// by no clause: each is a hint. The error is that memory is out.
+/// A deque for each of so many workers, to whom the numbers below `count` are dealt in turn. Which numbers lie there is
+/// said by no clause: each is a hint. The error is that memory is out.
 pub fn deal(alloc: Global, workers: u32, count: u32) -> Result<Vec<Worker<u32>>, AllocError>
     requires { 1 ≤ workers }
     ensures { IfOk result (λ deques. length deques.items ≡ workers) }

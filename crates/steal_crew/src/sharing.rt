@@ -21,9 +21,9 @@ fn shared<T: Sync>(_value: &T)
     ensures { IsSync T.row }
 {}
 
-/// Works a board to its end with a pass that has claimed nothing, in a thread for each of the deques, each with a pass of its
-/// own: the passes are split off the given one and joined into it again. A run that finds no memory is put back as such, so
-/// there is no error.
+/// Works a board to its end with a pass that has claimed nothing, in a thread for each of the deques, each with a pass
+/// of its own: the passes are split off the given one and joined into it again. A run that finds no memory is put back
+/// as such, so there is no error.
 pub fn work_board<G: Gate, R: Threads + Sync>(
     rt: &R,
     alloc: Global,

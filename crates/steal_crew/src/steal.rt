@@ -12,8 +12,8 @@ use std::collections::VecDeque;
 use std::thread::Threads;
 use subthread::{Done, Task, Work};
 
-/// Runs all posted tasks together by a function of its caller's, as `run_steal`, which counts how they were claimed, and hands
-/// their runs back in the order of the tasks.
+/// Runs all posted tasks together by a function of its caller's, as `run_steal`, which counts how they were claimed,
+/// and hands their runs back in the order of the tasks.
 #[derive(Drop)]
 pub struct StealCrew<'a, F> {
     inbox: Inbox<'a>,

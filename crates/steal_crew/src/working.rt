@@ -13,8 +13,8 @@ use gp_steal::{StealBoard, StealPass};
 use std::alloc::Global;
 use subthread::{Task, Work};
 
-// Tries a desk: where the pass claims it, enters the gate, runs the task and puts the run back. How many desks it claimed: 1
-// or 0.
+// Tries a desk: where the pass claims it, enters the gate, runs the task and puts the run back. How many desks it
+// claimed: 1 or 0.
 fn try_desk<G: Gate>(
     alloc: Global,
     board: &StealBoard<Task>,
@@ -167,9 +167,9 @@ fn sweep<G: Gate>(
     claimed
 }
 
-/// Works a board with a pass that has claimed nothing: first by the hints of the worker's own deque, then by those that it
-/// steals from the others, beginning after its own, and in the end by trying each desk. So each desk was claimed then, by
-/// this worker or by another, whichever hints were lost.
+/// Works a board with a pass that has claimed nothing: first by the hints of the worker's own deque, then by those that
+/// it steals from the others, beginning after its own, and in the end by trying each desk. So each desk was claimed
+/// then, by this worker or by another, whichever hints were lost.
 pub fn work_alone<G: Gate>(
     alloc: Global,
     board: &StealBoard<Task>,

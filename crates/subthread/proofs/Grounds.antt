@@ -7,12 +7,12 @@ use Rattle.std.proofs.lemmas.Bool.{cases_lt, eqb-true, false≢true}
 use Rattle.std.proofs.lemmas.List.{get_or-map, get_or_past, length-map}
 use Rattle.std.proofs.lemmas.List.Elements.{All-contains, filter_passes}
 use Rattle.task_ast.specs.declared.tree.Head.{Head}
-use Rattle.task_ast.specs.Tree.{Program}
-use Rattle.task_ast.specs.Names.{locks_of, records_of, cells_in}
-use Rattle.task_ast.specs.Layout.{lock_over, is_lock_cell, cells_under, layout}
+use Rattle.task_ast.specs.meaning.Tree.{Program}
+use Rattle.task_ast.specs.meaning.Names.{locks_of, records_of, cells_in}
+use Rattle.task_ast.specs.meaning.Layout.{lock_over, is_lock_cell, cells_under, layout}
 use Rattle.task_ast.specs.Shaped.{IsAccepted}
-use Rattle.task_ast.specs.Table.{numbers}
-use Rattle.task_ast.specs.Under.{under_lock}
+use Rattle.task_ast.specs.meaning.Table.{numbers}
+use Rattle.task_ast.specs.meaning.Under.{under_lock}
 use Rattle.task_ast.proofs.Layouts.{length-numbers, get-numbers, laid_out, accepted_sizes}
 use Rattle.record_store.specs.declared.given.Bundle.{Bundle}
 use Rattle.record_store.specs.Lent.{lock_in}

@@ -3,15 +3,16 @@ use Rattle.std.proofs.Common.{◌≡◌, ℕ, suc, ◌++◌, sym, ap, ◌∙◌,
 use Rattle.gp_base.specs.declared.limits.Limits.{Limits}
 use Rattle.gp_base.specs.declared.feed.Inputs.{Inputs}
 use Rattle.task_ast.specs.declared.layout.Layout.{Layout}
-use Rattle.task_ast.specs.Body.{Body}
-use Rattle.task_ast.specs.Control.{Point}
-use Rattle.task_ast.specs.State.{State}
-use Rattle.task_ast.specs.Effect.{effect, effect_on}
+use Rattle.task_ast.specs.meaning.Body.{Body}
+use Rattle.task_ast.specs.meaning.Control.{Point}
+use Rattle.task_ast.specs.meaning.State.{State}
+use Rattle.task_ast.specs.meaning.Effect.{effect, effect_on}
 use Rattle.task_ast.specs.Damage.{damaged}
-use Rattle.task_ast.specs.Footprint.{footprint}
+use Rattle.task_ast.specs.meaning.Footprint.{footprint}
 use Rattle.task_ast.specs.laws.Following.{Agrees, Follows}
-use Rattle.task_ast.specs.Plain.{Subthread, Machine, tree_machine}
-use Rattle.task_ast.specs.Position.{before, body_at, IsStep, from_in}
+use Rattle.task_ast.specs.meaning.Plain.{Subthread, Machine, tree_machine}
+use Rattle.task_ast.specs.meaning.Position.{before}
+use Rattle.task_ast.specs.Position.{body_at, IsStep, from_in}
 use Rattle.task_ast.proofs.Positions.{step_is}
 use Rattle.lock_checker.proofs.LocksHeld.{sound}
 use Rattle.record_store.specs.Given.{given_of, joined_by, found_of}

@@ -8,8 +8,8 @@ use Rattle.gp_base.specs.declared.feed.Feed.{Feed}
 use Rattle.gp_base.specs.declared.numbers.At.{At}
 use Rattle.task_ast.specs.declared.sync.Next.{Next}
 use Rattle.task_ast.specs.declared.sync.SyncOp.{SyncOp}
-use Rattle.task_ast.specs.Body.{Step, Silent, Iteration, Act, Stop, Body, spent}
-use Rattle.task_ast.specs.Footprint.{named_by}
+use Rattle.task_ast.specs.meaning.Body.{Step, Silent, Iteration, Act, Stop, Body, spent}
+use Rattle.task_ast.specs.meaning.Footprint.{named_by}
 use Rattle.task_code.specs.Flat.{code_of}
 use Rattle.task_code.specs.Instructions.{Does, Assign, GoOn, Unless, Again, Lock, Unlock, Fork, Join, Barrier, Settle, Do}
 use Rattle.task_code.specs.Reading.{Place, goto, given_value, either, index_at, cell_of, calc_value, fork_arguments, step_does, step_instr, code_step, code_begins, code_body, env_of}

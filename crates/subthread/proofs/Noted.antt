@@ -7,9 +7,9 @@ use Rattle.std.specs.BTreeSet.{insert_key}
 use Rattle.gp_base.specs.declared.feed.Feed.{Feed}
 use Rattle.task_ast.specs.declared.sync.SyncOp.{SyncOp}
 use Rattle.task_ast.specs.declared.sync.SyncOp.TheVariants as sync
-use Rattle.task_ast.specs.Action.{Term, Action, Set, Load, Store, Say, Child, Give, Arm}
-use Rattle.task_ast.specs.Control.{all_of}
-use Rattle.task_ast.specs.Footprint.{with_cell, Named, naming, arm_naming, all_naming}
+use Rattle.task_ast.specs.meaning.Action.{Term, Action, Set, Load, Store, Say, Child, Give, Arm}
+use Rattle.task_ast.specs.meaning.Control.{all_of}
+use Rattle.task_ast.specs.meaning.Footprint.{with_cell, Named, naming, arm_naming, all_naming}
 use Rattle.task_code.specs.Instructions.{Instr, At, Assign, GoOn, Unless, Again, Lock, Unlock, Fork, Join, Barrier, Settle, Do, Calc}
 use Rattle.task_code.specs.Reading.{CalcEnv, Place, begin_actions, calc_term, calc_value, code_first, env_of, gift_action, instr_at}
 use Rattle.subthread.specs.inner.Running.{Notes, ArmNotes}
@@ -37,9 +37,11 @@ pub said_noted : (o : Option (List Term)) (n : Named) → Notes (option_map Say 
 said_noted None n a is = absurd (cc is)
 said_noted (Some ts) n a is = ap (λ x. naming x n) (some_is is)
 
-pub read_noted : (o : Option ℕ) (k cell : ℕ) (n : Named) → Some cell ≡ o → Notes (option_map (λ c. Load c k) o) n (record n { reads = with_cell cell n.reads })
+pub read_noted : (o : Option ℕ) (k cell : ℕ) (n : Named) → Some cell ≡ o
+    → Notes (option_map (λ c. Load c k) o) n (record n { reads = with_cell cell n.reads })
 read_noted None k cell n there a is = absurd (cc there)
-read_noted (Some c) k cell n there a is = ap (λ x. record n { reads = with_cell x n.reads }) (some_is there) ∙ ap (λ x. naming x n) (some_is is)
+read_noted (Some c) k cell n there a is =
+    ap (λ x. record n { reads = with_cell x n.reads }) (some_is there) ∙ ap (λ x. naming x n) (some_is is)
 
 pub none_read : (o : Option ℕ) (k : ℕ) (n : Named) → None ≡ o → Notes (option_map (λ c. Load c k) o) n n
 none_read None k n none a is = absurd (cc is)
@@ -49,14 +51,16 @@ pub write_noted : (o : Option ℕ) (t : Option Term) (cell : ℕ) (n : Named) �
     → Notes (option_and_then (λ c. option_map (Store c) t) o) n (record n { writes = with_cell cell n.writes })
 write_noted None t cell n there a is = absurd (cc there)
 write_noted (Some c) None cell n there a is = absurd (cc is)
-write_noted (Some c) (Some t) cell n there a is = ap (λ x. record n { writes = with_cell x n.writes }) (some_is there) ∙ ap (λ x. naming x n) (some_is is)
+write_noted (Some c) (Some t) cell n there a is =
+    ap (λ x. record n { writes = with_cell x n.writes }) (some_is there) ∙ ap (λ x. naming x n) (some_is is)
 
 pub none_written : (o : Option ℕ) (t : Option Term) (n : Named) → None ≡ o → Notes (option_and_then (λ c. option_map (Store c) t) o) n n
 none_written None t n none a is = absurd (cc is)
 none_written (Some c) t n none a is = absurd (cc none)
 
 -- of a choice both arms
-pub both_noted : (t : Option Term) (a b : Option Arm) (old between new : Named) → ArmNotes a old between → ArmNotes b between new → Notes (chosen t a b) old new
+pub both_noted : (t : Option Term) (a b : Option Arm) (old between new : Named) → ArmNotes a old between → ArmNotes b between new
+    → Notes (chosen t a b) old new
 both_noted None a b old between new first second act is = absurd (cc is)
 both_noted (Some t) None b old between new first second act is = absurd (cc is)
 both_noted (Some t) (Some x) None old between new first second act is = absurd (cc is)
@@ -70,11 +74,13 @@ both_named [] second n = refl
 both_named (a ∷ first) second n = both_named first second (naming a n)
 
 -- what a fork gives names no cells
-gifts_name : (gifts : List (ℕ × Calc)) (env : CalcEnv) (n : Named) → all_naming (unwrap_or (all_of (map (λ g. gift_action g env) gifts)) []) n ≡ n
+gifts_name : (gifts : List (ℕ × Calc)) (env : CalcEnv) (n : Named)
+    → all_naming (unwrap_or (all_of (map (λ g. gift_action g env) gifts)) []) n ≡ n
 gifts_name [] env n = refl
 gifts_name (g ∷ gifts) env n = go (calc_term g.1 env) (all_of (map (λ g. gift_action g env) gifts)) (gifts_name gifts env n)
   where
-    more : (t : Term) (r : Option (List Action)) → all_naming (unwrap_or r []) n ≡ n → all_naming (unwrap_or (option_map (λ all. Give g.0 t ∷ all) r) []) n ≡ n
+    more : (t : Term) (r : Option (List Action)) → all_naming (unwrap_or r []) n ≡ n
+        → all_naming (unwrap_or (option_map (λ all. Give g.0 t ∷ all) r) []) n ≡ n
     more t None none = refl
     more t (Some actions) none = none
 
@@ -84,7 +90,8 @@ gifts_name (g ∷ gifts) env n = go (calc_term g.1 env) (all_of (map (λ g. gift
     go (Some t) r none = more t (all_of (map (λ g. gift_action g env) gifts)) none
 
 arguments_name : (o : Option (List ℤ)) (r : Option (List Action)) (count : ℕ) (n : Named) → all_naming (unwrap_or r []) n ≡ n
-    → all_naming (unwrap_or (option_map (λ (a : List ℤ × List Action). a.1) (option_and_then (λ values. option_map (λ actions. (values, Child count ∷ actions)) r) o)) []) n ≡ n
+    → all_naming (unwrap_or (option_map (λ (a : List ℤ × List Action). a.1)
+    (option_and_then (λ values. option_map (λ actions. (values, Child count ∷ actions)) r) o)) []) n ≡ n
 arguments_name None r count n none = refl
 arguments_name (Some values) None count n none = refl
 arguments_name (Some values) (Some actions) count n none = none
@@ -92,7 +99,8 @@ arguments_name (Some values) (Some actions) count n none = none
 begin_names : (feeds : List Feed) (o : Option Instr) (q : Place) (n : Named) → all_naming (begin_actions feeds o q) n ≡ n
 begin_names feeds None q n = refl
 begin_names feeds (Some (At line (Fork f))) q n =
-    arguments_name (all_of (map (λ c. calc_value c (env_of feeds q)) f.controls)) (all_of (map (λ g. gift_action g (env_of feeds q)) f.gifts)) f.registers n
+    arguments_name (all_of (map (λ c. calc_value c (env_of feeds q)) f.controls))
+    (all_of (map (λ g. gift_action g (env_of feeds q)) f.gifts)) f.registers n
     (gifts_name f.gifts (env_of feeds q) n)
 begin_names feeds (Some (At line (Join c (Some k)))) q n = refl
 begin_names feeds (Some (At line (Join c None))) q n = refl
@@ -107,7 +115,8 @@ begin_names feeds (Some (At line (Settle k c))) q n = refl
 begin_names feeds (Some (At line (Do d))) q n = refl
 
 -- a run names no cells before its body
-pub first_names : (tasks : List (List Instr)) (feeds : List Feed) (op : SyncOp) (q : Place) (n : Named) → all_naming (code_first tasks feeds op q) n ≡ n
+pub first_names : (tasks : List (List Instr)) (feeds : List Feed) (op : SyncOp) (q : Place) (n : Named)
+    → all_naming (code_first tasks feeds op q) n ≡ n
 first_names tasks feeds sync.Start q n = refl
 first_names tasks feeds (sync.Lock l) q n = begin_names feeds (instr_at tasks q q.at.pc) q n
 first_names tasks feeds (sync.Unlock l) q n = begin_names feeds (instr_at tasks q q.at.pc) q n

@@ -5,8 +5,8 @@ use Rattle.std.specs.List.{Contains}
 use Rattle.std.specs.List.Sorted.{IsStrictlyIncreasing}
 use Rattle.std.proofs.lemmas.List.{length-map}
 use Rattle.std.proofs.lemmas.Option.{slice_get_within}
-use Rattle.task_ast.specs.State.{number_at}
-use Rattle.task_ast.specs.Under.{under_lock}
+use Rattle.task_ast.specs.meaning.State.{number_at}
+use Rattle.task_ast.specs.meaning.Under.{under_lock}
 use Rattle.record_store.specs.declared.given.Bundle.{Bundle}
 use Rattle.record_store.specs.Lent.{lock_in}
 use Rattle.record_store.proofs.Stocked.{contains-at, apart}
@@ -22,12 +22,14 @@ place_less [] i k b has is = absurd has
 place_less (x ∷ bundles) zero k b has is = subst (λ (y : Bundle). k < length y.cells) (sym is) has
 place_less (x ∷ bundles) (suc i) k b has is = place_less bundles i k b has is
 
-pub value_is : (bundles : List Bundle) (i k : ℕ) (b : Bundle) → HasPlace bundles i k → b ≡ get_or bundles i b → number_at b.cells k ≡ value_at bundles i k
+pub value_is : (bundles : List Bundle) (i k : ℕ) (b : Bundle) → HasPlace bundles i k → b ≡ get_or bundles i b
+    → number_at b.cells k ≡ value_at bundles i k
 value_is [] i k b has is = absurd has
 value_is (x ∷ bundles) zero k b has is = ap (λ (y : Bundle). number_at y.cells k) is
 value_is (x ∷ bundles) (suc i) k b has is = value_is bundles i k b has is
 
-pub set_is : (bundles : List Bundle) (i k : ℕ) (b : Bundle) (v : ℤ) → HasPlace bundles i k → b ≡ get_or bundles i b → set bundles i (record { lock = b.lock; cells = slice_set b.cells k v }) ≡ with_value i k v bundles
+pub set_is : (bundles : List Bundle) (i k : ℕ) (b : Bundle) (v : ℤ) → HasPlace bundles i k → b ≡ get_or bundles i b
+    → set bundles i (record { lock = b.lock; cells = slice_set b.cells k v }) ≡ with_value i k v bundles
 set_is [] i k b v has is = absurd has
 set_is (x ∷ bundles) zero k b v has is = ap (λ (y : Bundle). record { lock = y.lock; cells = slice_set y.cells k v } ∷ bundles) is
 set_is (x ∷ bundles) (suc i) k b v has is = ap (λ bs. x ∷ bs) (set_is bundles i k b v has is)
@@ -46,16 +48,21 @@ index-get (x ∷ xs) (suc k) c less is = index-get xs k c (omega arith) is
 
 module _ (under : List (List ℕ)) (over : List ℕ) (cell : ℕ) where
   -- no bundle has a cell over which another lock stands
-  lacks : (over_is : (cell lock : ℕ) → Contains (under_lock under lock) cell → slice_get over cell ≡ Some lock) (b : Bundle) → (slice_get over cell ≡ Some b.lock → ⊥) → Lacks under cell b
+  lacks : (over_is : (cell lock : ℕ) → Contains (under_lock under lock) cell → slice_get over cell ≡ Some lock) (b : Bundle)
+      → (slice_get over cell ≡ Some b.lock → ⊥) → Lacks under cell b
   lacks over_is b apart j is = apart (over_is cell b.lock (contains-at (under_lock under b.lock) j cell is))
 
-  pub none_over : (over_is : (cell lock : ℕ) → Contains (under_lock under lock) cell → slice_get over cell ≡ Some lock) (bundles : List Bundle) → slice_get over cell ≡ None → AllLack under cell bundles
+  pub none_over : (over_is : (cell lock : ℕ) → Contains (under_lock under lock) cell → slice_get over cell ≡ Some lock)
+      (bundles : List Bundle) → slice_get over cell ≡ None → AllLack under cell bundles
   none_over over_is [] none = tt
   none_over over_is (b ∷ bundles) none = (lacks over_is b (λ is. let both = sym none ∙ is in cc both), none_over over_is bundles none)
 
-  module _ (over_is : (cell lock : ℕ) → Contains (under_lock under lock) cell → slice_get over cell ≡ Some lock) (lock : ℕ) (is_over : slice_get over cell ≡ Some lock) where
+  module _ (over_is : (cell lock : ℕ) → Contains (under_lock under lock) cell → slice_get over cell ≡ Some lock) (lock : ℕ)
+      (is_over : slice_get over cell ≡ Some lock) where
     other : (b : Bundle) → (b.lock ≡ lock → ⊥) → Lacks under cell b
-    other b differ = lacks over_is b (λ is. let both : Some lock ≡ Some b.lock = sym is_over ∙ is in let same : lock ≡ b.lock = cc both in differ (sym same))
+    other b differ =
+        lacks over_is b (λ is. let both : Some lock ≡ Some b.lock = sym is_over ∙ is in let same : lock ≡ b.lock = cc both in
+        differ (sym same))
 
     pub none_bundled : (bundles : List Bundle) → IsPlaceIn (map lock_in bundles) lock None → AllLack under cell bundles
     none_bundled [] none = tt
@@ -65,25 +72,31 @@ module _ (under : List (List ℕ)) (over : List ℕ) (cell : ℕ) where
     rises_on : (x : ℕ) (xs : List ℕ) → IsStrictlyIncreasing (x ∷ xs) → IsStrictlyIncreasing xs
     rises_on x xs up k below = let next : suc k + 1 ≡ suc (k + 1) = omega arith in rw next at (up (suc k) (omega arith))
 
-    later : (locks : List ℕ) → IsStrictlyIncreasing locks → (i k : ℕ) → i < k → k < length locks → get_or locks i 0 ≡ lock → get_or locks k 0 ≡ lock → ⊥
+    later : (locks : List ℕ) → IsStrictlyIncreasing locks → (i k : ℕ) → i < k → k < length locks → get_or locks i 0 ≡ lock
+        → get_or locks k 0 ≡ lock → ⊥
     later locks up i k less inside left right =
-        let more = apart locks up i k lock lock (index-get locks i lock (omega arith) left) (index-get locks k lock inside right) less in omega arith
+        let more = apart locks up i k lock lock (index-get locks i lock (omega arith) left) (index-get locks k lock inside right) less in
+        omega arith
 
     pub none_placed : (bundles : List Bundle) → IsPlaceIn (under_lock under lock) cell None → AllLack under cell bundles
     none_placed [] none = tt
     none_placed (b ∷ bundles) none = (
       λ j is.
-          let same : lock ≡ b.lock = (let both : Some lock ≡ Some b.lock = sym is_over ∙ over_is cell b.lock (contains-at (under_lock under b.lock) j cell is) in cc both) in
+          let same : lock ≡ b.lock =
+          (let both : Some lock ≡ Some b.lock = sym is_over ∙ over_is cell b.lock (contains-at (under_lock under b.lock) j cell is) in
+          cc both) in
           let there = subst (λ l. slice_get (under_lock under l) j ≡ Some cell) (sym same) is in
           none j (slice_get_within (under_lock under lock) j cell there) (get-index (under_lock under lock) j cell there),
       none_placed bundles none,
     )
 
-    pub all_others : (bundles : List Bundle) → ((k : ℕ) → k < length (map lock_in bundles) → get_or (map lock_in bundles) k 0 ≡ lock → ⊥) → AllLack under cell bundles
+    pub all_others : (bundles : List Bundle) → ((k : ℕ) → k < length (map lock_in bundles) → get_or (map lock_in bundles) k 0 ≡ lock → ⊥)
+        → AllLack under cell bundles
     all_others [] none = tt
     all_others (b ∷ bundles) none = (other b (none 0 (omega arith)), all_others bundles (λ k less. none (suc k) (omega arith)))
 
-    pub stands_so : (rises : IsStrictlyIncreasing (under_lock under lock)) (bundles : List Bundle) (i k : ℕ) → IsStrictlyIncreasing (map lock_in bundles)
+    pub stands_so : (rises : IsStrictlyIncreasing (under_lock under lock)) (bundles : List Bundle) (i k : ℕ)
+        → IsStrictlyIncreasing (map lock_in bundles)
         → All (λ (b : Bundle). length b.cells ≡ length (under_lock under b.lock)) bundles
         → IsPlaceIn (map lock_in bundles) lock (Some i) → IsPlaceIn (under_lock under lock) cell (Some k) → StandsAt under cell i k bundles
     stands_so rises [] i k up sizes at place = absurd (let less = at.0 in omega arith)
@@ -107,5 +120,6 @@ module _ (under : List (List ℕ)) (over : List ℕ) (cell : ℕ) where
         )
     stands_so rises (b ∷ bundles) (suc i) k up sizes at place = (
       other b (λ same. later (b.lock ∷ map lock_in bundles) up 0 (suc i) (omega arith) (omega (arith, at.0)) same at.1),
-      stands_so rises bundles i k (rises_on b.lock (map lock_in bundles) up) (λ n d less. sizes (suc n) d (omega arith)) (omega (arith, at.0), at.1) place,
+      stands_so rises bundles i k (rises_on b.lock (map lock_in bundles) up) (λ n d less. sizes (suc n) d (omega arith))
+          (omega (arith, at.0), at.1) place,
     )

@@ -30,10 +30,14 @@ found_put q c v old = find-put nat_cmp nat_cmp_total q c v old ∙ ap (λ b. con
 
 -- the value of a cell now is the one written, or the one that came
 pub now_is : (under : List (List ℕ)) (bundles : List Bundle) (old : List (ℕ × ℤ)) (c : ℕ)
-    → unwrap_or (find nat_cmp c (map (new_write under bundles) old)) (value_in under (put_back under old bundles) c) ≡ value_in under bundles c
-now_is under bundles old c = ap (λ o. unwrap_or o (value_in under (put_back under old bundles) c)) (found_write under bundles old c) ∙ go (find nat_cmp c old) refl
+    → unwrap_or (find nat_cmp c (map (new_write under bundles) old)) (value_in under (put_back under old bundles) c)
+    ≡ value_in under bundles c
+now_is under bundles old c =
+    ap (λ o. unwrap_or o (value_in under (put_back under old bundles) c)) (found_write under bundles old c) ∙ go (find nat_cmp c old) refl
   where
-    go : (o : Option ℤ) → find nat_cmp c old ≡ o → unwrap_or (option_map (λ _. value_in under bundles c) o) (value_in under (put_back under old bundles) c) ≡ value_in under bundles c
+    go : (o : Option ℤ) → find nat_cmp c old ≡ o
+        → unwrap_or (option_map (λ _. value_in under bundles c) o) (value_in under (put_back under old bundles) c)
+        ≡ value_in under bundles c
     go (Some v) some = refl
     go None none =
         sym (in_over under (put_back under old bundles) c)
@@ -74,24 +78,33 @@ module _ (under : List (List ℕ)) (bundles : List Bundle) (old : List (ℕ × �
   changed = with_value i k v bundles
 
   pub came_same : put_back under later changed ≡ put_back under old bundles
-  came_same = set_back under c old later (others_with c (value_at bundles i k) old) v i k bundles at (ap (λ o. unwrap_or o v) (here_with c (value_at bundles i k) old))
+  came_same =
+      set_back under c old later (others_with c (value_at bundles i k) old) v i k bundles at
+      (ap (λ o. unwrap_or o v) (here_with c (value_at bundles i k) old))
 
-  pub written_then : is_sorted nat_cmp old ≡ true → map (new_write under changed) later ≡ put nat_cmp c v (map (new_write under bundles) old)
+  pub written_then : is_sorted nat_cmp old ≡ true
+      → map (new_write under changed) later ≡ put nat_cmp c v (map (new_write under bundles) old)
   written_then rises =
-      same_entries nat_cmp nat_cmp_total (λ x y e. ranked x y _ (sym e)) (map (new_write under changed) later) (put nat_cmp c v (map (new_write under bundles) old))
+      same_entries nat_cmp nat_cmp_total (λ x y e. ranked x y _ (sym e)) (map (new_write under changed) later)
+      (put nat_cmp c v (map (new_write under bundles) old))
       (is_t _ (rising_same (λ w. value_in under changed w.0) later ∙ sorted_with c (value_at bundles i k) old rises))
-      (is_sorted-put nat_cmp nat_cmp_total c v (map (new_write under bundles) old) (is_t _ (rising_same (λ w. value_in under bundles w.0) old ∙ rises)))
+      (is_sorted-put nat_cmp nat_cmp_total c v (map (new_write under bundles) old)
+      (is_t _ (rising_same (λ w. value_in under bundles w.0) old ∙ rises)))
       finds
     where
-      finds : (q : ℕ) → find nat_cmp q (map (new_write under changed) later) ≡ find nat_cmp q (put nat_cmp c v (map (new_write under bundles) old))
+      finds : (q : ℕ) → find nat_cmp q (map (new_write under changed) later)
+          ≡ find nat_cmp q (put nat_cmp c v (map (new_write under bundles) old))
       finds q = found_write under changed later q ∙ go (nat_eq q c) refl ∙ sym (found_put q c v (map (new_write under bundles) old))
         where
-          go : (b : Bool) → nat_eq q c ≡ b → option_map (λ _. value_in under changed q) (find nat_cmp q later) ≡ cond b (Some v) (find nat_cmp q (map (new_write under bundles) old))
+          go : (b : Bool) → nat_eq q c ≡ b
+              → option_map (λ _. value_in under changed q) (find nat_cmp q later)
+              ≡ cond b (Some v) (find nat_cmp q (map (new_write under bundles) old))
           go true same =
               let is = eqb-true q c same in
               ap (λ n. option_map (λ _. value_in under changed q) (find nat_cmp n later)) is
               ∙ ap (option_map (λ _. value_in under changed q)) (here_with c (value_at bundles i k) old)
               ∙ ap Some (value_set under c i k v bundles q at ∙ ap (λ b. cond b v (value_in under bundles q)) same)
           go false differ =
-              (λ j. option_map (λ _. (value_set under c i k v bundles q at ∙ ap (λ b. cond b v (value_in under bundles q)) differ) j) (others_with c (value_at bundles i k) old q (eqb-false q c differ) j))
+              (λ j. option_map (λ _. (value_set under c i k v bundles q at ∙ ap (λ b. cond b v (value_in under bundles q)) differ) j)
+              (others_with c (value_at bundles i k) old q (eqb-false q c differ) j))
               ∙ sym (found_write under bundles old q)

@@ -3,11 +3,12 @@ use Rattle.std.specs.Prelude.{◌≡◌, ℕ, Some, slice_get}
 use Rattle.gp_base.specs.declared.limits.Limits.{Limits}
 use Rattle.gp_base.specs.declared.feed.Inputs.{Inputs}
 use Rattle.task_ast.specs.declared.layout.Layout.{Layout}
-use Rattle.task_ast.specs.State.{State}
-use Rattle.task_ast.specs.Effect.{effect, effect_on}
+use Rattle.task_ast.specs.meaning.State.{State}
+use Rattle.task_ast.specs.meaning.Effect.{effect, effect_on}
 use Rattle.task_ast.specs.Damage.{damaged}
-use Rattle.task_ast.specs.Plain.{Subthread, foot_of, order}
-use Rattle.task_ast.specs.Position.{before, from_in, body_at}
+use Rattle.task_ast.specs.meaning.Plain.{Subthread, foot_of, order}
+use Rattle.task_ast.specs.meaning.Position.{before}
+use Rattle.task_ast.specs.Position.{from_in, body_at}
 use Rattle.record_store.specs.Given.{given_of, joined_by, found_of}
 use Rattle.task_code.specs.Relation.{Rests}
 use Rattle.subthread.specs.declared.task.Work.{Work}

@@ -1,6 +1,6 @@
 // The synchronisation with which a run begins.
 ghost use Rattle.std.specs.Prelude.{◌≡◌, ◌<◌, ◌^◌, ℕ, map, option_map, slice_get, unwrap_or, [], OnOk, Some};
-ghost use Rattle.task_ast.specs.Control.{all_of};
+ghost use Rattle.task_ast.specs.meaning.Control.{all_of};
 ghost use Rattle.task_code.specs.Instructions.{At as PlainAt};
 ghost use Rattle.task_code.specs.Reading.{begin_actions, behind, code_begins, code_first, fork_arguments, gift_action, passed};
 ghost use Rattle.task_code.specs.View.{plain_calc, plain_does, plain_forking, plain_gifts, plain_instrs};
@@ -120,8 +120,8 @@ fn begin_data(
     }
 }
 
-// Stands behind the synchronisation at an instruction, which may be a choice as a whole. The number of a fork's child goes
-// into the variable that takes it.
+// Stands behind the synchronisation at an instruction, which may be a choice as a whole. The number of a fork's child
+// goes into the variable that takes it.
 fn go_behind(does: &Does, ground: &Ground, child: Option<ThreadNo>, stand: &mut Stand)
     requires task { IsTask ground.now }
     requires inside { StaysInside (plain_does does.now) stand.old.pc }
@@ -178,8 +178,8 @@ fn is_start(begins: &SyncOp) -> bool
 }
 
 /// Performs the synchronisation with which a run begins, and stands after it: the data arguments of a fork go into the
-/// registers of its child, whose number goes into the variable that takes it; the value that a joined thread returns goes
-/// into the register that takes it.
+/// registers of its child, whose number goes into the variable that takes it; the value that a joined thread returns
+/// goes into the register that takes it.
 pub fn begin(
     alloc: Global,
     begins: &SyncOp,

@@ -4,7 +4,7 @@ ghost use Rattle.std.specs.Int.{int_bit_xor, w64};
 ghost use Rattle.std.specs.FinMap.{put, find, is_sorted};
 ghost use Rattle.std.specs.Ordering.{nat_cmp};
 ghost use Rattle.record_store.specs.Given.{value_in};
-ghost use Rattle.task_ast.specs.Under.{is_under};
+ghost use Rattle.task_ast.specs.meaning.Under.{is_under};
 ghost use Rattle.record_store.specs.Lent.{lock_in, put_back, new_write};
 ghost use Rattle.subthread.specs.inner.Places.{AreSearchable, AreHandy, HasPlace, with_value, value_at};
 ghost use Rattle.subthread.specs.inner.Hand.{with_old, damaged_write, turned_write};
@@ -192,9 +192,9 @@ impl<'a> Cells<'a> {
         Ok(())
     }
 
-    /// Ends a run that a fault of this mask strikes, or none, where it is 0: the mask falls on each cell that was written.
-    /// Gives the bundles with their new values, and the old ones. The error is that memory is out, and has the bundles as
-    /// they came.
+    /// Ends a run that a fault of this mask strikes, or none, where it is 0: the mask falls on each cell that was
+    /// written. Gives the bundles with their new values, and the old ones. The error is that memory is out, and has the
+    /// bundles as they came.
     pub fn finish(
         self,
         alloc: Global,

@@ -28,8 +28,8 @@ pub struct Stand {
     pub ctl: Nums,
 }
 
-/// What a run did so far: the registers of its thread and of the child that it forked, the cells at hand, which it writes
-/// in place, the lines that it printed, and how many control steps it made.
+/// What a run did so far: the registers of its thread and of the child that it forked, the cells at hand, which it
+/// writes in place, the lines that it printed, and how many control steps it made.
 #[derive(Drop)]
 pub struct Doing<'a> {
     pub regs: Nums,

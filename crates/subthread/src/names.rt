@@ -1,6 +1,6 @@
 // The record cells that the actions of a run name.
 ghost use Rattle.std.specs.Prelude.{◌≡◌, [], OnOk};
-ghost use Rattle.task_ast.specs.Footprint.{with_cell};
+ghost use Rattle.task_ast.specs.meaning.Footprint.{with_cell};
 
 use std::alloc::{AllocError, Global};
 use std::collections::BTreeSet;
@@ -14,7 +14,7 @@ pub struct Names {
 }
 
 impl Model for Names {
-    ghost use Rattle.task_ast.specs.Footprint.{Named};
+    ghost use Rattle.task_ast.specs.meaning.Footprint.{Named};
 
     ghost Value = { Named };
 

@@ -1,7 +1,7 @@
 // Where a record cell stands among bundles.
 ghost use Rattle.std.specs.Prelude.{◌≡◌, map, slice_get};
 ghost use Rattle.std.specs.List.Sorted.{IsStrictlyIncreasing};
-ghost use Rattle.task_ast.specs.Under.{under_lock};
+ghost use Rattle.task_ast.specs.meaning.Under.{under_lock};
 ghost use Rattle.record_store.specs.Lent.{lock_in};
 ghost use Rattle.subthread.specs.inner.Places.{IsPlaceIn, AreSearchable, IsFoundAt};
 

@@ -4,7 +4,7 @@ ghost use Rattle.std.specs.List.Sorted.{IsStrictlyIncreasing};
 ghost use Rattle.std.specs.Ordering.{nat_cmp};
 ghost use Rattle.std.specs.FinMap.{is_sorted};
 ghost use Rattle.task_ast.specs.Damage.{damaged};
-ghost use Rattle.task_ast.specs.Under.{under_lock, is_under};
+ghost use Rattle.task_ast.specs.meaning.Under.{under_lock, is_under};
 ghost use Rattle.record_store.specs.Lent.{lock_in, put_back, whole_effect};
 ghost use Rattle.record_store.specs.declared.given.Bundle.{Bundle as BundleThere};
 ghost use Rattle.subthread.specs.Footprints.{IsNumbered};
@@ -58,8 +58,8 @@ pub fn cells_of<'a>(alloc: Global, work: &'a Work, bundles: Seq<Bundle>) -> Cell
     Cells::new(alloc, under, over, bundles)
 }
 
-// Walks from where a task stands to its next synchronisation; the task's bundles are with the cells at hand. Gives that, and
-// what the subthread reads and writes.
+// Walks from where a task stands to its next synchronisation; the task's bundles are with the cells at hand. Gives
+// that, and what the subthread reads and writes.
 fn walk(
     alloc: Global,
     work: &Work,
@@ -83,8 +83,8 @@ fn walk(
     Ok((next, foot))
 }
 
-// Ends a run: the mask falls on all that it did. Gives the bundles with their new values, the old ones, and the effect. The
-// error is that memory is out, and has the bundles as they came.
+// Ends a run: the mask falls on all that it did. Gives the bundles with their new values, the old ones, and the effect.
+// The error is that memory is out, and has the bundles as they came.
 fn end(
     alloc: Global,
     mask: i64,
@@ -161,10 +161,10 @@ fn ended(
     }
 }
 
-/// Runs a task, whose cells it changes in place. What comes next and where the thread then stands follow from the task's
-/// beginning, place, control variables, thread and child; the effect is what its actions do on what was given, damaged by
-/// its mask. An index fault and spent loop turns are values of what comes next. The error is that memory is out, and has the
-/// task as it was.
+/// Runs a task, whose cells it changes in place. What comes next and where the thread then stands follow from the
+/// task's beginning, place, control variables, thread and child; the effect is what its actions do on what was given,
+/// damaged by its mask. An index fault and spent loop turns are values of what comes next. The error is that memory is
+/// out, and has the task as it was.
 pub fn run_task(alloc: Global, work: &Work, task: Task) -> Result<Done, AllocFailed<Task>>
     requires { Fits work.now task }
     ensures of_task { IfOk result (λ done. task_of work.now done ≡ task) }
@@ -175,8 +175,8 @@ pub fn run_task(alloc: Global, work: &Work, task: Task) -> Result<Done, AllocFai
     run_counted(alloc, work, task, &mut steps)
 }
 
-/// Runs a task, as `run_task` does, and leaves in `steps` how many control steps the run made: how long it took, by a measure
-/// that does not hang on the machine. No clause speaks of that number.
+/// Runs a task, as `run_task` does, and leaves in `steps` how many control steps the run made: how long it took, by a
+/// measure that does not hang on the machine. No clause speaks of that number.
 pub fn run_counted(
     alloc: Global,
     work: &Work,

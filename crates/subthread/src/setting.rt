@@ -3,7 +3,7 @@ ghost use Rattle.std.specs.Prelude.{◌≡◌, ◌++◌, length, map, All, true,
 ghost use Rattle.std.specs.List.Sorted.{IsStrictlyIncreasing};
 ghost use Rattle.std.specs.Ordering.{nat_cmp};
 ghost use Rattle.std.specs.FinMap.{is_sorted};
-ghost use Rattle.task_ast.specs.Under.{under_lock, is_under};
+ghost use Rattle.task_ast.specs.meaning.Under.{under_lock, is_under};
 ghost use Rattle.record_store.specs.Lent.{lock_in, put_back, new_write};
 ghost use Rattle.record_store.specs.declared.given.Bundle.{Bundle as BundleThere};
 ghost use Rattle.subthread.specs.Tasks.{under_of};

@@ -1,6 +1,6 @@
 // The walk of a run over its task's instructions.
 ghost use Rattle.std.specs.Prelude.{◌≡◌, is_some, map, option_map, slice_get, IfOk};
-ghost use Rattle.task_ast.specs.Control.{all_of};
+ghost use Rattle.task_ast.specs.meaning.Control.{all_of};
 ghost use Rattle.task_code.specs.Reading.{fork_arguments, gift_action, step_does, step_instr};
 ghost use Rattle.task_code.specs.View.{plain_does, plain_forking, plain_gifts, plain_instrs};
 ghost use Rattle.subthread.specs.inner.Moving.{Moved};

@@ -3,15 +3,16 @@ use Rattle.std.proofs.Common.{◌≡◌, ℕ, ◌+◌, ◌<◌, true, false, Lis
 use Rattle.std.specs.Prelude.{is_some}
 use Rattle.std.proofs.lemmas.Bool.{false≢true}
 use Rattle.std.proofs.lemmas.List.{at_drop_more}
-use Rattle.task_ast.specs.Action.{Term, Action, Say, Choose, Arm, NoAction, OneAction}
-use Rattle.task_ast.specs.Footprint.{naming, arm_naming}
+use Rattle.task_ast.specs.meaning.Action.{Term, Action, Say, Choose, Arm, NoAction, OneAction}
+use Rattle.task_ast.specs.meaning.Footprint.{naming, arm_naming}
 
 pub map_some : {A B : Type 0} (f : A → B) (o : Option A) → is_some (option_map f o) ≡ is_some o
 map_some f None = refl
 map_some f (Some x) = refl
 
 -- what is left of a list begins with the member at the index
-pub from-here : {X B : Type 0} (f : List X → B) (xs : List X) (i : ℕ) (x : X) → i < length xs → x ≡ get_or xs i x → f (drop i xs) ≡ f (x ∷ drop (i + 1) xs)
+pub from-here : {X B : Type 0} (f : List X → B) (xs : List X) (i : ℕ) (x : X) → i < length xs → x ≡ get_or xs i x
+    → f (drop i xs) ≡ f (x ∷ drop (i + 1) xs)
 from-here f xs i x below is = at_drop_more f xs i x below ∙ ap (λ y. f (y ∷ drop (i + 1) xs)) (sym is)
 
 -- an arm with one action before it
@@ -67,7 +68,8 @@ module _ {D : Type 0} (act : Action → D → D) (arm_act : Arm → D → D) (do
   on_arm (Some a) (Some left) now new d rest is same works =
       (left, refl, ap (arm_act left) (works a refl) ∙ sym (does.more a left now) ∙ ap (λ x. arm_act x now) (some_is is) ∙ same)
 
-  pub ahead_on : (whole : Option Arm) (o : Option Action) (r : Option Arm) (now new start : D) → ((a : Action) → o ≡ Some a → new ≡ act a now)
+  pub ahead_on : (whole : Option Arm) (o : Option Action) (r : Option Arm) (now new start : D)
+      → ((a : Action) → o ≡ Some a → new ≡ act a now)
       → Ahead arm_act whole (also o r) now start → Ahead arm_act whole r new start
   ahead_on whole o r now new start works ahead arm is =
       let so_far = ahead arm is in on_arm o r now new (arm_act arm start) so_far.0 so_far.1 so_far.2 works

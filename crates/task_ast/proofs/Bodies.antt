@@ -1,7 +1,8 @@
 -- How a body goes, step by step.
 use Rattle.std.proofs.Common.{◌≡◌, ℕ, zero, suc, ◌<◌, Option, Some, None, refl, ap, arith}
-use Rattle.task_ast.specs.Action.{Action}
-use Rattle.task_ast.specs.Body.{Step, Silent, Iteration, Act, Stop, Body, with_action, follow, IsSized, stretch, body, after_turn}
+use Rattle.task_ast.specs.meaning.Action.{Action}
+use Rattle.task_ast.specs.meaning.Body.{Step, Silent, Iteration, Act, Stop, Body, with_action, follow, stretch, body}
+use Rattle.task_ast.specs.Body.{IsSized, after_turn}
 
 module _ {P : Type 0} (step : P → Step P) (size : P → ℕ) (sized : IsSized step size) where
   -- more steps than the size change nothing

@@ -6,8 +6,8 @@ use Rattle.task_ast.specs.declared.check_kind.CheckKind.TheVariants.{UnknownName
 use Rattle.task_ast.specs.declared.tree.Atom.TheVariants as atom
 use Rattle.task_ast.specs.declared.tree.Head.TheVariants.{LockHead, RecHead}
 use Rattle.task_ast.specs.declared.tree.Param.TheVariants as param
-use Rattle.task_ast.specs.Tree.{Num, Reg, At, SetCtl, If, Lock, Unlock, Settle, Write, Nothing, Then, TaskText, Program}
-use Rattle.task_ast.specs.Check.{check_fault}
+use Rattle.task_ast.specs.meaning.Tree.{Num, Reg, At, SetCtl, If, Lock, Unlock, Settle, Write, Nothing, Then, TaskText, Program}
+use Rattle.task_ast.specs.meaning.Check.{check_fault}
 
 abbrev index_changed_main : TaskText
 index_changed_main = record {

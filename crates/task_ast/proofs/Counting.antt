@@ -3,7 +3,7 @@ use Rattle.std.proofs.Common.{◌≡◌, ℕ, zero, suc, ◌+◌, ◌*◌, ◌<�
 use Rattle.std.specs.Prelude.{slice_get}
 use Rattle.std.proofs.lemmas.List.Sums.{sum_by-append}
 use Rattle.std.proofs.Math.Nat.{mul-suc}
-use Rattle.task_ast.specs.Table.{with_nth}
+use Rattle.task_ast.specs.meaning.Table.{with_nth}
 
 abbrev pub one : Bool → ℕ
 one b = cond b 1 0

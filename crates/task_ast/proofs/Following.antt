@@ -1,7 +1,8 @@
 -- Bodies of points that follow one another are equal.
 use Rattle.std.proofs.Common.{◌≡◌, ℕ, zero, suc, ◌<◌, ◌∷◌, Option, Some, None, refl, sym, ap, ◌∙◌, subst, ⊎_elim, arith}
 use Rattle.std.specs.Prelude.{◌⊎◌}
-use Rattle.task_ast.specs.Body.{Step, Silent, Iteration, Body, follow, after_turn, IsSized, body, stopped, spent}
+use Rattle.task_ast.specs.meaning.Body.{Step, Silent, Iteration, Body, follow, body, stopped, spent}
+use Rattle.task_ast.specs.Body.{after_turn, IsSized}
 use Rattle.task_ast.specs.laws.Following.{Matches, both_silent, both_turn, both_act, both_stop, IsFollowing, Agrees}
 use Rattle.task_ast.proofs.Bodies.{body_step}
 

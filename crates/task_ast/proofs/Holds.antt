@@ -4,7 +4,7 @@ use Rattle.std.specs.Prelude.{◌==◌, slice_get, slice_set, replicate}
 use Rattle.std.specs.List.{filter}
 use Rattle.std.proofs.lemmas.Bool.{lt-ltb, le-ltb, eqb-true}
 use Rattle.std.proofs.lemmas.Option.{slice_get_within}
-use Rattle.task_ast.specs.Table.{owned_from}
+use Rattle.task_ast.specs.meaning.Table.{owned_from}
 use Rattle.task_ast.specs.LockLists.{is_owner, with_lock, held_at}
 
 above : (n m : ℕ) (owners : List (Option ℕ)) (t : ℕ) → n < m → filter (λ x. nat_lt n x) (owned_from m owners t) ≡ owned_from m owners t
@@ -13,7 +13,8 @@ above n m (None ∷ owners) t l = above n (suc m) owners t (omega arith)
 above n m (Some u ∷ owners) t l = go (t == u) (above n (suc m) owners t (omega arith))
   where
     go : (b : Bool) → filter (λ x. nat_lt n x) (owned_from (suc m) owners t) ≡ owned_from (suc m) owners t
-        → filter (λ x. nat_lt n x) (cond b (m ∷ owned_from (suc m) owners t) (owned_from (suc m) owners t)) ≡ cond b (m ∷ owned_from (suc m) owners t) (owned_from (suc m) owners t)
+        → filter (λ x. nat_lt n x) (cond b (m ∷ owned_from (suc m) owners t) (owned_from (suc m) owners t))
+        ≡ cond b (m ∷ owned_from (suc m) owners t) (owned_from (suc m) owners t)
     go true same = rw (lt-ltb n m l) (ap (λ xs. m ∷ xs) same)
     go false same = same
 
@@ -22,7 +23,8 @@ below n m [] t l = refl
 below n m (None ∷ owners) t l = below n (suc m) owners t (omega arith)
 below n m (Some u ∷ owners) t l = go (t == u) (below n (suc m) owners t (omega arith))
   where
-    go : (b : Bool) → filter (λ x. nat_lt x n) (owned_from (suc m) owners t) ≡ [] → filter (λ x. nat_lt x n) (cond b (m ∷ owned_from (suc m) owners t) (owned_from (suc m) owners t)) ≡ []
+    go : (b : Bool) → filter (λ x. nat_lt x n) (owned_from (suc m) owners t) ≡ []
+        → filter (λ x. nat_lt x n) (cond b (m ∷ owned_from (suc m) owners t) (owned_from (suc m) owners t)) ≡ []
     go true same = rw (le-ltb m n l) same
     go false same = same
 
@@ -32,40 +34,54 @@ first_stays holds m n rest l = let le : n ≤ m = omega arith in rw (lt-ltb n m 
 
 -- the lock itself
 first_changes : (holds : Bool) (n : ℕ) (b : Bool) (owners : List (Option ℕ)) (t : ℕ) →
-    with_lock holds n (cond b (n ∷ owned_from (suc n) owners t) (owned_from (suc n) owners t)) ≡ cond holds (n ∷ owned_from (suc n) owners t) (owned_from (suc n) owners t)
-first_changes true n true owners t = let le : n ≤ n = omega arith in rw (le-ltb n n le, below n (suc n) owners t (omega arith), above n (suc n) owners t (omega arith)) refl
-first_changes false n true owners t = let le : n ≤ n = omega arith in rw (le-ltb n n le, below n (suc n) owners t (omega arith), above n (suc n) owners t (omega arith)) refl
+    with_lock holds n (cond b (n ∷ owned_from (suc n) owners t) (owned_from (suc n) owners t))
+    ≡ cond holds (n ∷ owned_from (suc n) owners t) (owned_from (suc n) owners t)
+first_changes true n true owners t =
+    let le : n ≤ n = omega arith in
+    rw (le-ltb n n le, below n (suc n) owners t (omega arith), above n (suc n) owners t (omega arith)) refl
+first_changes false n true owners t =
+    let le : n ≤ n = omega arith in
+    rw (le-ltb n n le, below n (suc n) owners t (omega arith), above n (suc n) owners t (omega arith)) refl
 first_changes true n false owners t = rw (below n (suc n) owners t (omega arith), above n (suc n) owners t (omega arith)) refl
 first_changes false n false owners t = rw (below n (suc n) owners t (omega arith), above n (suc n) owners t (omega arith)) refl
 
-owned_first : (n : ℕ) (o : Option ℕ) (owners : List (Option ℕ)) (t : ℕ) → owned_from n (o ∷ owners) t ≡ cond (is_owner t o) (n ∷ owned_from (suc n) owners t) (owned_from (suc n) owners t)
+owned_first : (n : ℕ) (o : Option ℕ) (owners : List (Option ℕ)) (t : ℕ)
+    → owned_from n (o ∷ owners) t ≡ cond (is_owner t o) (n ∷ owned_from (suc n) owners t) (owned_from (suc n) owners t)
 owned_first n None owners t = refl
 owned_first n (Some u) owners t = refl
 
 -- a thread's locks after an owner changes
-pub changed : (n l : ℕ) (owners : List (Option ℕ)) (t : ℕ) (o : Option ℕ) → l < length owners → owned_from n (slice_set owners l o) t ≡ with_lock (is_owner t o) (n + l) (owned_from n owners t)
+pub changed : (n l : ℕ) (owners : List (Option ℕ)) (t : ℕ) (o : Option ℕ) → l < length owners
+    → owned_from n (slice_set owners l o) t ≡ with_lock (is_owner t o) (n + l) (owned_from n owners t)
 changed n l [] t o within = absurd (omega arith)
 changed n zero (x ∷ owners) t o within =
     let z : n + 0 ≡ n = omega arith in
-    owned_first n o owners t ∙ sym (first_changes (is_owner t o) n (is_owner t x) owners t) ∙ ap (with_lock (is_owner t o) n) (sym (owned_first n x owners t)) ∙ ap (λ k. with_lock (is_owner t o) k (owned_from n (x ∷ owners) t)) (sym z)
+    owned_first n o owners t ∙ sym (first_changes (is_owner t o) n (is_owner t x) owners t)
+    ∙ ap (with_lock (is_owner t o) n) (sym (owned_first n x owners t))
+    ∙ ap (λ k. with_lock (is_owner t o) k (owned_from n (x ∷ owners) t)) (sym z)
 changed n (suc l) (x ∷ owners) t o within =
     let s : suc n + l ≡ n + suc l = omega arith in
-    owned_first n x (slice_set owners l o) t ∙ go (is_owner t x) (subst (λ k. owned_from (suc n) (slice_set owners l o) t ≡ with_lock (is_owner t o) k (owned_from (suc n) owners t)) s (changed (suc n) l owners t o (omega arith)))
+    owned_first n x (slice_set owners l o) t ∙ go (is_owner t x)
+    (subst (λ k. owned_from (suc n) (slice_set owners l o) t ≡ with_lock (is_owner t o) k (owned_from (suc n) owners t)) s
+    (changed (suc n) l owners t o (omega arith)))
     ∙ ap (with_lock (is_owner t o) (n + suc l)) (sym (owned_first n x owners t))
   where
     go : (b : Bool) → owned_from (suc n) (slice_set owners l o) t ≡ with_lock (is_owner t o) (n + suc l) (owned_from (suc n) owners t)
-        → cond b (n ∷ owned_from (suc n) (slice_set owners l o) t) (owned_from (suc n) (slice_set owners l o) t) ≡ with_lock (is_owner t o) (n + suc l) (cond b (n ∷ owned_from (suc n) owners t) (owned_from (suc n) owners t))
+        → cond b (n ∷ owned_from (suc n) (slice_set owners l o) t) (owned_from (suc n) (slice_set owners l o) t)
+        ≡ with_lock (is_owner t o) (n + suc l) (cond b (n ∷ owned_from (suc n) owners t) (owned_from (suc n) owners t))
     go true same = ap (λ xs. n ∷ xs) same ∙ sym (first_stays (is_owner t o) (n + suc l) n (owned_from (suc n) owners t) (omega arith))
     go false same = same
 
 -- a thread that was no owner and becomes none
-pub kept : (n l : ℕ) (owners : List (Option ℕ)) (t : ℕ) (old new : Option ℕ) → slice_get owners l ≡ Some old → is_owner t old ≡ false → is_owner t new ≡ false → owned_from n (slice_set owners l new) t ≡ owned_from n owners t
+pub kept : (n l : ℕ) (owners : List (Option ℕ)) (t : ℕ) (old new : Option ℕ) → slice_get owners l ≡ Some old → is_owner t old ≡ false
+    → is_owner t new ≡ false → owned_from n (slice_set owners l new) t ≡ owned_from n owners t
 kept n l [] t old new at was is = refl
 kept n zero (x ∷ owners) t old new at was is =
     let same : x ≡ old = cc at in
     owned_first n new owners t ∙ rw is (sym (owned_first n x owners t ∙ rw (same, was) refl))
 kept n (suc l) (x ∷ owners) t old new at was is =
-    owned_first n x (slice_set owners l new) t ∙ ap (λ r. cond (is_owner t x) (n ∷ r) r) (kept (suc n) l owners t old new at was is) ∙ sym (owned_first n x owners t)
+    owned_first n x (slice_set owners l new) t ∙ ap (λ r. cond (is_owner t x) (n ∷ r) r) (kept (suc n) l owners t old new at was is)
+    ∙ sym (owned_first n x owners t)
 
 pub set-set : (owners : List (Option ℕ)) (l : ℕ) (a b : Option ℕ) → slice_set (slice_set owners l a) l b ≡ slice_set owners l b
 set-set [] l a b = refl
@@ -84,7 +100,8 @@ abbrev pub IsPut : ℕ → (holds : Bool) → (lock : ℕ) → List (List ℕ) �
 IsPut t holds l held other = (u : ℕ) → held_at other u ≡ cond (u == t) (with_lock holds l (held_at held t)) (held_at held u)
 
 -- the owner gives a lock back
-pub released : (owners : List (Option ℕ)) (held other : List (List ℕ)) (l b : ℕ) → Each held owners → l < length owners → slice_get owners l ≡ Some (Some b)
+pub released : (owners : List (Option ℕ)) (held other : List (List ℕ)) (l b : ℕ) → Each held owners → l < length owners
+    → slice_get owners l ≡ Some (Some b)
     → IsPut b false l held other → Each other (slice_set owners l None)
 released owners held other l b each within at same u = same u ∙ go (u == b) refl
   where
@@ -103,12 +120,14 @@ taken owners held other l t each at same u = same u ∙ go (u == t) refl
     within : l < length owners
     within = slice_get_within owners l None at
 
-    go : (e : Bool) → (u == t) ≡ e → cond e (with_lock true l (held_at held t)) (held_at held u) ≡ owned_from 0 (slice_set owners l (Some t)) u
+    go : (e : Bool) → (u == t) ≡ e
+        → cond e (with_lock true l (held_at held t)) (held_at held u) ≡ owned_from 0 (slice_set owners l (Some t)) u
     go true e =
         let is : u ≡ t = eqb-true u t e in
         ap (with_lock true l) (each t) ∙ ap (λ k. with_lock true l (owned_from 0 owners k)) (sym is)
         ∙ ap (λ b. with_lock b l (owned_from 0 owners u)) (sym e)
-        ∙ ap (λ k. with_lock (is_owner u (Some t)) k (owned_from 0 owners u)) (sym (zero_plus l)) ∙ sym (changed 0 l owners u (Some t) within)
+        ∙ ap (λ k. with_lock (is_owner u (Some t)) k (owned_from 0 owners u)) (sym (zero_plus l))
+        ∙ sym (changed 0 l owners u (Some t) within)
     go false e = each u ∙ sym (kept 0 l owners u None (Some t) at refl e)
 
 nobody : (n count t : ℕ) → owned_from n (replicate count None) t ≡ []

@@ -8,9 +8,9 @@ use Rattle.std.proofs.lemmas.Cmp.{nat_cmp_total}
 use Rattle.std.proofs.lemmas.Bool.{false≢true}
 use Rattle.task_ast.specs.declared.sync.SyncOp.{SyncOp}
 use Rattle.task_ast.specs.declared.effect.Effect.{Effect}
-use Rattle.task_ast.specs.Action.{Action, Set, Load, Store, Say, Choose, Child, Give, Bring, Arm, NoAction, OneAction}
-use Rattle.task_ast.specs.State.{State, RegistersOf, cell_value, number_at}
-use Rattle.task_ast.specs.Effect.{Doing, picked, done, arm_done, all_done, term_value, joined_ret, effect}
+use Rattle.task_ast.specs.meaning.Action.{Action, Set, Load, Store, Say, Choose, Child, Give, Bring, Arm, NoAction, OneAction}
+use Rattle.task_ast.specs.meaning.State.{State, RegistersOf, cell_value, number_at}
+use Rattle.task_ast.specs.meaning.Effect.{Doing, picked, done, arm_done, all_done, term_value, joined_ret, effect}
 use Rattle.task_ast.specs.laws.Keeps.{NamesOnly, ArmNamesOnly, AllName, WritesOnly, ArmWritesOnly, AllWrite, AgreeAt}
 
 picked_same : (v : ℤ) {a b c d : Doing} → a ≡ c → b ≡ d → picked v a b ≡ picked v c d

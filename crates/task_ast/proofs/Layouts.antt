@@ -10,16 +10,17 @@ use Rattle.std.proofs.lemmas.List.Elements.{All-contains, All-contains_itself, A
 use Rattle.std.proofs.lemmas.List.Kept.{IsStrictlyIncreasing-filter}
 use Rattle.task_ast.specs.declared.tree.Head.{Head}
 use Rattle.task_ast.specs.declared.tree.Head.TheVariants.{LockHead, BarrierHead, RecHead, FeedHead}
-use Rattle.task_ast.specs.Tree.{Name, Program}
-use Rattle.task_ast.specs.Names.{is_name, is_among, head_name, natural, named, place, locks_of, records_of, arrays_over, cell_number, cells_in}
+use Rattle.task_ast.specs.meaning.Tree.{Name, Program}
+use Rattle.task_ast.specs.meaning.Names.{is_name, is_among, head_name, natural, named, place, locks_of, records_of, arrays_over, cell_number, cells_in}
 use Rattle.task_ast.specs.declared.check_kind.CheckKind.{CheckKind}
 use Rattle.task_ast.specs.declared.check_kind.CheckKind.TheVariants.{UnknownName, DoubleName, WrongCount, SizesDiffer, TooMany}
-use Rattle.task_ast.specs.Visit.{Visit, fails_if, fault_at, first_fault}
-use Rattle.task_ast.specs.Declarations.{lacks_array, sizes_differ, is_other_size, line_of, count_of, passes_limit, head_visit, head_visits, task_visits, main_visit}
-use Rattle.task_ast.specs.Check.{bodies_visits}
+use Rattle.task_ast.specs.meaning.Visit.{Visit, fails_if, fault_at, first_fault}
+use Rattle.task_ast.specs.meaning.Declarations.{lacks_array, sizes_differ, is_other_size, line_of, count_of, passes_limit, head_visit, head_visits, task_visits, main_visit}
+use Rattle.task_ast.specs.meaning.Check.{bodies_visits}
 use Rattle.task_ast.specs.Shaped.{IsAccepted}
-use Rattle.task_ast.specs.Table.{numbers}
-use Rattle.task_ast.specs.Layout.{base_of, lock_over, is_lock_cell, cells_under, fits_array, IsLaidOut}
+use Rattle.task_ast.specs.meaning.Table.{numbers}
+use Rattle.task_ast.specs.meaning.Layout.{lock_over, is_lock_cell, cells_under}
+use Rattle.task_ast.specs.Layout.{base_of, fits_array, IsLaidOut}
 
 -- an index below an array's size is that of a cell
 cell_there : (arrays : List (Name × ℕ)) (name : Name) (size k : ℕ) → named name arrays ≡ Some size → k < size

@@ -4,8 +4,9 @@ use Rattle.std.specs.Prelude.{slice_get}
 use Rattle.std.proofs.lemmas.Bool.{false≢true}
 use Rattle.std.proofs.lemmas.Option.{slice_get-get_or}
 use Rattle.task_ast.specs.declared.sync.Next.{Next}
-use Rattle.task_ast.specs.Table.{Table, numbers, next_of, is_end, is_known_end}
-use Rattle.task_ast.specs.Turn.{Look, To, Unknown, NoThread, look, look_at}
+use Rattle.task_ast.specs.meaning.Table.{Table, numbers, next_of, is_end}
+use Rattle.task_ast.specs.Table.{is_known_end}
+use Rattle.task_ast.specs.meaning.Turn.{Look, To, Unknown, NoThread, look, look_at}
 
 -- what is read at an index within the list
 pub get-at : {X : Type 0} (xs : List X) (i : ℕ) (x : X) → i < length xs → x ≡ get_or xs i x → slice_get xs i ≡ Some x
@@ -34,4 +35,5 @@ look_at-or t (Some next) a b = go (is_end next.sync)
 
 pub look-append : (table : Table) (xs ys : List ℕ) → look table (xs ++ ys) ≡ or_look (look table xs) (look table ys)
 look-append table [] ys = refl
-look-append table (t ∷ ts) ys = ap (look_at t (next_of table t)) (look-append table ts ys) ∙ look_at-or t (next_of table t) (look table ts) (look table ys)
+look-append table (t ∷ ts) ys =
+    ap (look_at t (next_of table t)) (look-append table ts ys) ∙ look_at-or t (next_of table t) (look table ts) (look table ys)

@@ -11,14 +11,16 @@ use Rattle.gp_base.specs.declared.feed.Inputs.{Inputs}
 use Rattle.gp_base.specs.declared.ending.End.{End}
 use Rattle.task_ast.specs.declared.sync.SyncOp.{SyncOp}
 use Rattle.task_ast.specs.declared.sync.SyncOp.TheVariants as sync
-use Rattle.task_ast.specs.Tree.{Program}
-use Rattle.task_ast.specs.Effect.{effect, after}
-use Rattle.task_ast.specs.Repeat.{Move, Goes, Ends, state_after, step_of}
-use Rattle.task_ast.specs.Table.{Table, new_seat, last_in}
-use Rattle.task_ast.specs.Turn.{Ended, child_of, next_issue}
+use Rattle.task_ast.specs.meaning.Tree.{Program}
+use Rattle.task_ast.specs.meaning.Effect.{effect, after}
+use Rattle.task_ast.specs.meaning.Repeat.{Move, Goes, Ends, state_after}
+use Rattle.task_ast.specs.Repeat.{step_of}
+use Rattle.task_ast.specs.meaning.Table.{Table, new_seat, last_in}
+use Rattle.task_ast.specs.meaning.Turn.{Ended, child_of, next_issue}
 use Rattle.task_ast.specs.laws.Threads.{MayBegin}
-use Rattle.task_ast.specs.Plain.{Subthread, PlainOf, Machine, on_turn_by, move_by, opening_by, order_by, before_by, last_by, end_by, ending_of}
-use Rattle.task_ast.specs.Position.{is_of, last_below, LeftBy, IsStep, IsForked}
+use Rattle.task_ast.specs.meaning.Plain.{Subthread, PlainOf, Machine, on_turn_by, move_by, opening_by, order_by, before_by, last_by, end_by, ending_of}
+use Rattle.task_ast.specs.meaning.Position.{is_of, last_below}
+use Rattle.task_ast.specs.Position.{LeftBy, IsStep, IsForked}
 use Rattle.task_ast.specs.Fold.{applied, fold}
 use Rattle.task_ast.specs.Members.{member_of, member_in}
 use Rattle.task_ast.proofs.WholeFolds.{undamaged}

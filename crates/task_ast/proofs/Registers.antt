@@ -3,10 +3,10 @@ use Rattle.std.proofs.Common.{◌≡◌, Bool, true, false, ◌||◌, List, Opti
 use Rattle.std.specs.Prelude.{ℤ}
 use Rattle.std.proofs.lemmas.Bool.{false≢true}
 use Rattle.task_ast.specs.declared.env.Env.{Env}
-use Rattle.task_ast.specs.Tree.{Name, Expr, Num, Ctl, Reg, Me, Rows, Cell, Neg, Not, Chain, Links, NoLinks, Link}
-use Rattle.task_ast.specs.Names.{named}
-use Rattle.task_ast.specs.Value.{operate_on, value, value_on, cell_in}
-use Rattle.task_ast.specs.Declarations.{has_data, have_data}
+use Rattle.task_ast.specs.meaning.Tree.{Name, Expr, Num, Ctl, Reg, Me, Rows, Cell, Neg, Not, Chain, Links, NoLinks, Link}
+use Rattle.task_ast.specs.meaning.Names.{named}
+use Rattle.task_ast.specs.meaning.Value.{operate_on, value, value_on, cell_in}
+use Rattle.task_ast.specs.meaning.Declarations.{has_data, have_data}
 
 pub or_false : (a b : Bool) → (a || b) ≡ false → (a ≡ false) × (b ≡ false)
 or_false true b e = absurd (false≢true (sym e))

@@ -1,7 +1,8 @@
 -- Laws of what goes on step by step.
 use Rattle.std.proofs.Common.{◌≡◌, ℕ, zero, suc, ◌+◌, ◌<◌, ◌≤◌, List, ◌∷◌, take, Some, None, refl, sym, ap, ◌∙◌, subst, arith}
 use Rattle.std.specs.Prelude.{slice_get}
-use Rattle.task_ast.specs.Repeat.{Again, More, Done, IsFalling, go_on, repeated, until_done, Move, Goes, Ends, steps_from, steps, state_from, state_after, step_of}
+use Rattle.task_ast.specs.meaning.Repeat.{Again, More, Done, go_on, repeated, until_done, Move, Goes, Ends, steps_from, steps, state_from, state_after}
+use Rattle.task_ast.specs.Repeat.{IsFalling, step_of}
 
 module _ {A B : Type 0} (turn : A → Again A B) (size : A → ℕ) (none : B) (falling : IsFalling turn size) where
   go_on_same : (r : Again A B) (f g : A → B) → ((a : A) → r ≡ More a → f a ≡ g a) → go_on turn size none f r ≡ go_on turn size none g r

@@ -10,7 +10,7 @@ use Rattle.task_ast.specs.declared.tree.Op.TheVariants.{Lt, Add, Sub, Div, Rem}
 use Rattle.task_ast.specs.declared.tree.Param.{Param}
 use Rattle.task_ast.specs.declared.tree.Param.TheVariants as param
 use Rattle.task_ast.specs.declared.tree.VarLine.{VarLine}
-use Rattle.task_ast.specs.Tree.{Name, Expr, Num, Ctl, Reg, Neg, Chain, NoLinks, Link, Stmt, At, SetCtl, While, Lock, Unlock, Fork, Join, Barrier, Settle, SetReg, Read, Write, Print, Nothing, block, TaskText, Program}
+use Rattle.task_ast.specs.meaning.Tree.{Name, Expr, Num, Ctl, Reg, Neg, Chain, NoLinks, Link, Stmt, At, SetCtl, While, Lock, Unlock, Fork, Join, Barrier, Settle, SetReg, Read, Write, Print, Nothing, block, TaskText, Program}
 
 abbrev task : Name → List Param → List VarLine → (line : ℕ) → List Stmt → TaskText
 task name params vars line stmts = record { name = name; params = params; vars = vars; body = block stmts; line = line }

@@ -11,10 +11,10 @@ use Rattle.gp_base.specs.declared.ending.End.{End}
 use Rattle.gp_base.specs.declared.ending.End.TheVariants.{Finished, Stuck, Spent}
 use Rattle.task_ast.specs.declared.sync.SyncOp.{SyncOp}
 use Rattle.task_ast.specs.declared.sync.SyncOp.TheVariants as sync
-use Rattle.task_ast.specs.Body.{body, stretch}
-use Rattle.task_ast.specs.Repeat.{steps, state_after, repeated, until_done}
-use Rattle.task_ast.specs.Plain.{Subthread, foot_of, order, end, final_records}
-use Rattle.task_ast.specs.Tree.{Program}
+use Rattle.task_ast.specs.meaning.Body.{body, stretch}
+use Rattle.task_ast.specs.meaning.Repeat.{steps, state_after, repeated, until_done}
+use Rattle.task_ast.specs.meaning.Plain.{Subthread, foot_of, order, end, final_records}
+use Rattle.task_ast.specs.meaning.Tree.{Program}
 use Rattle.task_ast.proofs.RowPrograms.{empty_batch, arithmetic, two_adders, reader_and_adder, crossed_locks, account, endless_loop, ten_turns, meeting, doubling, joining, settling}
 
 -- so many record cells of 0

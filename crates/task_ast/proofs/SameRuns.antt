@@ -11,18 +11,19 @@ use Rattle.gp_base.specs.declared.ending.End.{End}
 use Rattle.task_ast.specs.declared.sync.SyncOp.{SyncOp}
 use Rattle.task_ast.specs.declared.sync.SyncOp.TheVariants as sync
 use Rattle.task_ast.specs.declared.sync.Next.{Next}
-use Rattle.task_ast.specs.Tree.{Program}
-use Rattle.task_ast.specs.Action.{Action}
-use Rattle.task_ast.specs.State.{State, RegistersOf, number_at}
-use Rattle.task_ast.specs.Effect.{effect, after}
-use Rattle.task_ast.specs.Repeat.{Move, Goes, Ends, steps, steps_from, state_after, state_from, step_of}
-use Rattle.task_ast.specs.Table.{Seat, Table, new_seat, next_of, owned, learning}
-use Rattle.task_ast.specs.Turn.{Turn, Issue, Needs, Ended, child_of, next_issue}
+use Rattle.task_ast.specs.meaning.Tree.{Program}
+use Rattle.task_ast.specs.meaning.Action.{Action}
+use Rattle.task_ast.specs.meaning.State.{State, RegistersOf, number_at}
+use Rattle.task_ast.specs.meaning.Effect.{effect, after}
+use Rattle.task_ast.specs.meaning.Repeat.{Move, Goes, Ends, steps, steps_from, state_after, state_from}
+use Rattle.task_ast.specs.Repeat.{step_of}
+use Rattle.task_ast.specs.meaning.Table.{Seat, Table, new_seat, next_of, owned, learning}
+use Rattle.task_ast.specs.meaning.Turn.{Turn, Issue, Needs, Ended, child_of, next_issue}
 use Rattle.task_ast.specs.laws.Threads.{with_child}
-use Rattle.task_ast.specs.Plain.{Subthread, PlainOf, Machine, point_by, settled_by, from_by, main_number, on_turn_by, move_by, opening_by, order_by, before_by, last_by, ending_of}
+use Rattle.task_ast.specs.meaning.Plain.{Subthread, PlainOf, Machine, point_by, settled_by, from_by, main_number, on_turn_by, move_by, opening_by, order_by, before_by, last_by, ending_of}
 use Rattle.task_ast.specs.Position.{body_by, IsStep}
-use Rattle.task_ast.specs.Control.{Point}
-use Rattle.task_ast.specs.Plain.{tree_machine}
+use Rattle.task_ast.specs.meaning.Control.{Point}
+use Rattle.task_ast.specs.meaning.Plain.{tree_machine}
 use Rattle.task_ast.specs.Position.{SettlesAlike, plan_of, IsSameControl}
 use Rattle.task_ast.specs.laws.Following.{Follows, Agrees, InStep, IsSameRun}
 use Rattle.task_ast.proofs.Repeats.{step_at, stays_after}

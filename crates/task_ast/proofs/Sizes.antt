@@ -2,11 +2,12 @@
 use Rattle.std.proofs.Common.{◌≡◌, ℕ, zero, suc, ◌+◌, ◌<◌, List, [], ◌∷◌, ◌++◌, Option, Some, None, refl, subst, arith}
 use Rattle.std.specs.Prelude.{ℤ, pos, negsuc}
 use Rattle.task_ast.specs.declared.sync.Next.{Next}
-use Rattle.task_ast.specs.Tree.{Stmt, At, What, SetCtl, While, If, Lock, Unlock, Fork, Join, Barrier, Settle, SetReg, Read, Write, Print, When, Block, Nothing, Then, statements}
-use Rattle.task_ast.specs.Action.{Action}
-use Rattle.task_ast.specs.Names.{registers_of}
-use Rattle.task_ast.specs.Body.{Step, Silent, Iteration, Act, Stop, IsSized}
-use Rattle.task_ast.specs.Control.{Setting, Point, step, step_at, step_from, known, branch, going, env_at, action, inner, weight_of, weights, size}
+use Rattle.task_ast.specs.meaning.Tree.{Stmt, At, What, SetCtl, While, If, Lock, Unlock, Fork, Join, Barrier, Settle, SetReg, Read, Write, Print, When, Block, Nothing, Then, statements}
+use Rattle.task_ast.specs.meaning.Action.{Action}
+use Rattle.task_ast.specs.meaning.Names.{registers_of}
+use Rattle.task_ast.specs.meaning.Body.{Step, Silent, Iteration, Act, Stop}
+use Rattle.task_ast.specs.Body.{IsSized}
+use Rattle.task_ast.specs.meaning.Control.{Setting, Point, step, step_at, step_from, known, branch, going, env_at, action, inner, weight_of, weights, size}
 
 weights-statements : (b : Block) (rest : List Stmt) → weights (statements b ++ rest) ≡ weight_of b + weights rest
 weights-statements Nothing rest = omega arith

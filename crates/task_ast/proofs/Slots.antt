@@ -3,9 +3,10 @@ use Rattle.std.proofs.Common.{◌≡◌, ℕ, zero, suc, ◌≤◌, Bool, true, 
 use Rattle.std.specs.Prelude.{ℤ, position, slice_set}
 use Rattle.std.proofs.lemmas.Bool.{true≢false}
 use Rattle.std.proofs.lemmas.List.{set_past}
-use Rattle.task_ast.specs.Tree.{Name}
-use Rattle.task_ast.specs.Names.{is_name, is_among, slot, firsts, seconds}
-use Rattle.task_ast.specs.Control.{with_value, with_number}
+use Rattle.task_ast.specs.meaning.Tree.{Name}
+use Rattle.task_ast.specs.meaning.Names.{is_name, is_among, slot, firsts}
+use Rattle.task_ast.specs.Names.{seconds}
+use Rattle.task_ast.specs.meaning.Control.{with_value, with_number}
 use Rattle.task_ast.proofs.Terms.{position-cons}
 
 set_slot : (names : List (Name × ℤ)) (x : Name) (v : ℤ)

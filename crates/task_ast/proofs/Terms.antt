@@ -5,13 +5,13 @@ use Rattle.std.specs.List.{prefix_len}
 use Rattle.std.proofs.lemmas.Bool.{lt-ltb, le-ltb, cases_lt}
 use Rattle.task_ast.specs.declared.env.Env.{Env}
 use Rattle.task_ast.specs.declared.tree.Op.{Op}
-use Rattle.task_ast.specs.Tree.{Name, Expr, Num, Ctl, Reg, Me, Rows, Cell, Neg, Not, Chain, Links, NoLinks, Link}
-use Rattle.task_ast.specs.Names.{is_name, named}
-use Rattle.task_ast.specs.Value.{operate_on, value, value_on, value_at}
-use Rattle.task_ast.specs.Action.{Term, Constant, Negated, Inverted, Joined, MoreTerms, NoTerms, OneTerm, register, term, terms}
-use Rattle.task_ast.specs.Declarations.{has_data_index, have_data_index}
-use Rattle.task_ast.specs.State.{number_at}
-use Rattle.task_ast.specs.Effect.{term_value, terms_value}
+use Rattle.task_ast.specs.meaning.Tree.{Name, Expr, Num, Ctl, Reg, Me, Rows, Cell, Neg, Not, Chain, Links, NoLinks, Link}
+use Rattle.task_ast.specs.meaning.Names.{is_name, named}
+use Rattle.task_ast.specs.meaning.Value.{operate_on, value, value_on, value_at}
+use Rattle.task_ast.specs.meaning.Action.{Term, Constant, Negated, Inverted, Joined, MoreTerms, NoTerms, OneTerm, register, term, terms}
+use Rattle.task_ast.specs.meaning.Declarations.{has_data_index, have_data_index}
+use Rattle.task_ast.specs.meaning.State.{number_at}
+use Rattle.task_ast.specs.meaning.Effect.{term_value, terms_value}
 use Rattle.task_ast.proofs.Registers.{or_false, value-registers}
 
 shifted : (k n : ℕ) → cond (nat_lt (1 + k) (suc n)) (Some (1 + k)) None ≡ option_map suc (cond (nat_lt k n) (Some k) None)

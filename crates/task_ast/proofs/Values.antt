@@ -1,8 +1,8 @@
 -- Values of chains.
 use Rattle.std.proofs.Common.{◌≡◌, ℕ, ◌+◌, ◌<◌, ℤ, List, length, drop, get_or, Option, Some, None, refl, ap, sym, ◌∙◌}
 use Rattle.std.proofs.lemmas.List.{at_drop_more}
-use Rattle.task_ast.specs.Tree.{Links, NoLinks, Link}
-use Rattle.task_ast.specs.Value.{value, value_on, operate, operate_on}
+use Rattle.task_ast.specs.meaning.Tree.{Links, NoLinks, Link}
+use Rattle.task_ast.specs.meaning.Value.{value, value_on, operate, operate_on}
 use Rattle.task_ast.specs.View.{plain_expr, plain_links}
 use Rattle.task_ast.specs.declared.env.Env.{Env}
 use Rattle.task_ast.specs.declared.tree.Op.{Op}

@@ -1,6 +1,6 @@
 -- The view of a tree at each variant.
 use Rattle.std.proofs.Common.{◌≡◌, ℕ, ℤ, List, Option, Box, Global, ap, sym, ◌∙◌}
-use Rattle.task_ast.specs.Tree as plain
+use Rattle.task_ast.specs.meaning.Tree as plain
 use Rattle.task_ast.specs.View.{expr_of, plain_expr, plain_links, plain_exprs, what_of, stmt_of, plain_what, plain_stmt, plain_block}
 use Rattle.task_ast.specs.declared.tree.Op.{Op}
 use Rattle.task_ast.specs.declared.tree.Atom.{Atom}

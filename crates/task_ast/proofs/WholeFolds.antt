@@ -4,14 +4,14 @@ use Rattle.std.specs.Prelude.{ℤ, pos}
 use Rattle.gp_base.specs.declared.limits.Limits.{Limits}
 use Rattle.gp_base.specs.declared.feed.Inputs.{Inputs}
 use Rattle.gp_base.specs.declared.ending.End.{End}
-use Rattle.task_ast.specs.Tree.{Program}
-use Rattle.task_ast.specs.Repeat.{Move, Goes, Ends, steps, steps_from, state_after, state_from}
-use Rattle.task_ast.specs.State.{State}
+use Rattle.task_ast.specs.meaning.Tree.{Program}
+use Rattle.task_ast.specs.meaning.Repeat.{Move, Goes, Ends, steps, steps_from, state_after, state_from}
+use Rattle.task_ast.specs.meaning.State.{State}
 use Rattle.task_ast.specs.declared.effect.Effect.{Effect}
-use Rattle.task_ast.specs.Effect.{effect, after}
+use Rattle.task_ast.specs.meaning.Effect.{effect, after}
 use Rattle.task_ast.specs.Damage.{masked, all_masked, damaged}
-use Rattle.task_ast.specs.Turn.{Turn, Issue, Needs, Ended, next_issue}
-use Rattle.task_ast.specs.Plain.{Plain, Subthread, on_turn, move}
+use Rattle.task_ast.specs.meaning.Turn.{Turn, Issue, Needs, Ended, next_issue}
+use Rattle.task_ast.specs.meaning.Plain.{Plain, Subthread, on_turn, move}
 use Rattle.task_ast.specs.Fold.{Member, applied, fold}
 use Rattle.task_ast.specs.Members.{member_in}
 

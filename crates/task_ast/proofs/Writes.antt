@@ -6,9 +6,9 @@ use Rattle.std.specs.Cmp.{nat_cmp_total}
 use Rattle.std.specs.FinMap.{is_sorted}
 use Rattle.std.specs.FinMap.Entries.{is_sorted-put}
 use Rattle.task_ast.specs.declared.sync.SyncOp.{SyncOp}
-use Rattle.task_ast.specs.Action.{Action, Set, Load, Store, Say, Choose, Child, Give, Bring, Arm, NoAction, OneAction}
-use Rattle.task_ast.specs.Effect.{Doing, picked, done, arm_done, all_done, term_value, joined_ret, effect}
-use Rattle.task_ast.specs.State.{State, RegistersOf, cell_value}
+use Rattle.task_ast.specs.meaning.Action.{Action, Set, Load, Store, Say, Choose, Child, Give, Bring, Arm, NoAction, OneAction}
+use Rattle.task_ast.specs.meaning.Effect.{Doing, picked, done, arm_done, all_done, term_value, joined_ret, effect}
+use Rattle.task_ast.specs.meaning.State.{State, RegistersOf, cell_value}
 
 abbrev Rising : Doing → Type 0
 Rising d = T (is_sorted nat_cmp d.written)

@@ -1,7 +1,7 @@
 -- What a fault does to the effect of an attempt.
 use Rattle.std.specs.Prelude.{ℤ, List, map, option_map, cond}
 use Rattle.std.specs.Int.{int_bit_xor, w64}
-use Rattle.task_ast.specs.Value.{is_zero}
+use Rattle.task_ast.specs.meaning.Value.{is_zero}
 use Rattle.task_ast.specs.declared.effect.Effect.{Effect}
 
 -- the bits of the mask turned round; the test for mask 0 says that it changes nothing, whatever the value

@@ -1,10 +1,10 @@
 -- The fold of a set of positions: what a history buffer restores, said without old values (J. E. Smith and A. R. Pleszkun,
 -- Implementation of precise interrupts in pipelined processors, ISCA 1985).
 use Rattle.std.specs.Prelude.{ℕ, zero, suc, ℤ, Bool, List, Option, cond}
-use Rattle.task_ast.specs.Action.{Action}
+use Rattle.task_ast.specs.meaning.Action.{Action}
 use Rattle.task_ast.specs.declared.sync.SyncOp.{SyncOp}
-use Rattle.task_ast.specs.State.{State}
-use Rattle.task_ast.specs.Effect.{effect, after}
+use Rattle.task_ast.specs.meaning.State.{State}
+use Rattle.task_ast.specs.meaning.Effect.{effect, after}
 use Rattle.task_ast.specs.Damage.{damaged}
 
 -- a position with one attempt: its thread, how it begins, its child, its actions, and the mask of the attempt

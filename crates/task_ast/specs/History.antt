@@ -4,8 +4,8 @@ use Rattle.std.specs.Prelude.{◌≡◌, ℕ, ℤ, true, List, [], map, Option, 
 use Rattle.std.specs.Ordering.{nat_cmp}
 use Rattle.std.specs.FinMap.{find}
 use Rattle.task_ast.specs.declared.effect.Effect.{Effect}
-use Rattle.task_ast.specs.State.{Place, RegistersOf, CellOf, State, cell_value}
-use Rattle.task_ast.specs.Effect.{one_number}
+use Rattle.task_ast.specs.meaning.State.{Place, RegistersOf, CellOf, State, cell_value}
+use Rattle.task_ast.specs.meaning.Effect.{one_number}
 
 -- the registers that are left to a thread where it is the child
 abbrev pub named_child : Option (ℕ × List ℤ) → ℕ → Option (List ℤ)

@@ -4,8 +4,8 @@ use Rattle.gp_base.specs.declared.feed.Feed.{Feed}
 use Rattle.gp_base.specs.declared.feed.Inputs.{Inputs}
 use Rattle.task_ast.specs.declared.tree.Head.{Head}
 use Rattle.task_ast.specs.declared.tree.Head.TheVariants.{FeedHead}
-use Rattle.task_ast.specs.Tree.{Program}
-use Rattle.task_ast.specs.Names.{natural, records_of, cells_in}
+use Rattle.task_ast.specs.meaning.Tree.{Program}
+use Rattle.task_ast.specs.meaning.Names.{natural, records_of, cells_in}
 
 -- how many fields the feeds have, in declared order
 abbrev pub fields_of : List Head → List ℕ

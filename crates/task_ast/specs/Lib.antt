@@ -1,13 +1,7 @@
-pub mod Action
 pub mod Body
-pub mod Check
-pub mod Control
 pub mod Damage
-pub mod Declarations
-pub mod Effect
 pub mod Fold
 pub mod Footprint
-pub mod Held
 pub mod History
 pub mod Inputs
 pub mod Layout
@@ -19,12 +13,8 @@ pub mod Position
 pub mod Reached
 pub mod Repeat
 pub mod Shaped
-pub mod State
 pub mod Table
-pub mod Tree
-pub mod Turn
 pub mod Under
-pub mod Value
 pub mod View
-pub mod Visit
 pub mod laws
+pub mod meaning

@@ -2,7 +2,7 @@
 use Rattle.std.specs.Prelude.{ℕ, ℤ, pos, List, [], Option, Some, None, slice_get}
 use Rattle.task_ast.specs.declared.sync.SyncOp.TheVariants as sync
 use Rattle.task_ast.specs.Fold.{Member}
-use Rattle.task_ast.specs.Plain.{Subthread}
+use Rattle.task_ast.specs.meaning.Plain.{Subthread}
 
 -- the position of the order as a member of a fold, with the mask of its attempt; a position past the order has no actions and
 -- is never damaged, so it keeps to the footprint that its thread, beginning and child give: the registers of thread 0

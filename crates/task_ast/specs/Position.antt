@@ -1,29 +1,20 @@
--- The plain run, position by position.
-use Rattle.std.specs.Prelude.{◌≡◌, ℕ, zero, suc, ◌<◌, ℤ, pos, Bool, false, cond, nat_eq, List, [], ◌++◌, map, Option, Some, None, length, slice_get}
+-- The plain run, position by position: what a step of it leaves, and which runs have the same control.
+use Rattle.std.specs.Prelude.{◌≡◌, ℕ, ◌<◌, ℤ, pos, List, [], ◌++◌, map, Some, length, slice_get}
 use Rattle.gp_base.specs.declared.limits.Limits.{Limits}
 use Rattle.gp_base.specs.declared.feed.Inputs.{Inputs}
 use Rattle.task_ast.specs.declared.sync.SyncOp.{SyncOp}
 use Rattle.task_ast.specs.declared.sync.SyncOp.TheVariants as sync
 use Rattle.task_ast.specs.declared.sync.Next.{Next}
-use Rattle.task_ast.specs.Tree.{Program}
-use Rattle.task_ast.specs.Body.{Body}
-use Rattle.task_ast.specs.Control.{Point}
-use Rattle.task_ast.specs.Effect.{effect, after}
-use Rattle.task_ast.specs.Table.{next_of, owned}
-use Rattle.task_ast.specs.Turn.{owners_after, child_of}
+use Rattle.task_ast.specs.meaning.Tree.{Program}
+use Rattle.task_ast.specs.meaning.Body.{Body}
+use Rattle.task_ast.specs.meaning.Control.{Point}
+use Rattle.task_ast.specs.meaning.Effect.{effect, after}
+use Rattle.task_ast.specs.meaning.Table.{next_of, owned}
+use Rattle.task_ast.specs.meaning.Turn.{owners_after, child_of}
 use Rattle.task_ast.specs.laws.Threads.{MayBegin, with_child}
-use Rattle.task_ast.specs.State.{RegistersOf, number_at}
-use Rattle.task_ast.specs.Plain.{Subthread, PlainOf, Machine, point_by, from_by, before_by, order_by, Plain, tree_machine, order, end}
-
--- whether the thread has the position
-abbrev pub is_of : ℕ → Option Subthread → Bool
-is_of t None = false
-is_of t (Some s) = nat_eq s.thread t
-
--- the last position below this one of the same thread
-abbrev pub last_below : List Subthread → (thread position : ℕ) → Option ℕ
-last_below run t zero = None
-last_below run t (suc p) = cond (is_of t (slice_get run p)) (Some p) (last_below run t p)
+use Rattle.task_ast.specs.meaning.State.{RegistersOf, number_at}
+use Rattle.task_ast.specs.meaning.Plain.{Subthread, PlainOf, Machine, point_by, from_by, before_by, order_by, Plain, tree_machine, order, end}
+use Rattle.task_ast.specs.meaning.Position.{before}
 
 -- the body with which a subthread goes on, where its thread stands so
 abbrev pub body_by : {P : Type 0} → Machine P → PlainOf P → Subthread → Body P
@@ -66,13 +57,9 @@ pub record IsForked (threads : ℕ) (s : Subthread) : Type 0 where
   pub child : (c : ℕ) → s.child ≡ Some c → c ≡ threads
 
 module _ (program : Program) (inputs : Inputs) (limits : Limits) where
-  -- the plain run before the subthread at a position, or at its end where that comes before
-  abbrev pub before : (position : ℕ) → Plain
-  before p = before_by (tree_machine program inputs limits) program inputs limits p
-
   -- how many threads there are before a position
   abbrev pub threads_before : (position : ℕ) → ℕ
-  threads_before p = length (before p).table.seats
+  threads_before p = length (before program inputs limits p).table.seats
 
   -- where a thread stands
   abbrev pub point_in : Plain → (thread : ℕ) → Point
@@ -84,7 +71,7 @@ module _ (program : Program) (inputs : Inputs) (limits : Limits) where
 
   -- the body of the subthread at a position
   abbrev pub body_at : (position : ℕ) → Subthread → Body Point
-  body_at p s = body_by (tree_machine program inputs limits) (before p) s
+  body_at p s = body_by (tree_machine program inputs limits) (before program inputs limits p) s
 
 -- a subthread but for its lines
 abbrev pub plan_of : Subthread → Subthread

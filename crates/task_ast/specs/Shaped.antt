@@ -1,10 +1,10 @@
 -- Which trees are shaped as those of a text are.
 use Rattle.std.specs.Prelude.{ℤ, pos, negsuc, Bool, true, false, ◌&&◌, None, IsTrue, ◌≡◌}
 use Rattle.std.specs.List.{list_all}
-use Rattle.task_ast.specs.Tree.{Stmt, At, What, While, If, SetReg, Read, Write, Print, When, Block, Nothing, Then, Program}
+use Rattle.task_ast.specs.meaning.Tree.{Stmt, At, What, While, If, SetReg, Read, Write, Print, When, Block, Nothing, Then, Program}
 use Rattle.task_ast.specs.declared.tree.Head.{Head}
 use Rattle.task_ast.specs.declared.tree.Head.TheVariants.{LockHead, BarrierHead, RecHead, FeedHead}
-use Rattle.task_ast.specs.Check.{check_fault}
+use Rattle.task_ast.specs.meaning.Check.{check_fault}
 
 abbrev pub is_natural : ℤ → Bool
 is_natural (pos n) = true

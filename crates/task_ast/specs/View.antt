@@ -1,7 +1,7 @@
 -- A tree of the code as the tree that definitions see.
 use Rattle.std.specs.Prelude.{List, map}
-use Rattle.task_ast.specs.Tree as plain
-use Rattle.task_ast.specs.Tree.{links, block, Links, Block}
+use Rattle.task_ast.specs.meaning.Tree as plain
+use Rattle.task_ast.specs.meaning.Tree.{links, block, Links, Block}
 use Rattle.task_ast.specs.declared.tree.Op.{Op}
 use Rattle.task_ast.specs.declared.tree.Expr.{Expr}
 use Rattle.task_ast.specs.declared.tree.Expr.TheOpen as e

@@ -1,8 +1,8 @@
 // What an expression is read under.
 ghost use Rattle.std.specs.Prelude.{◌≡◌, pos};
 ghost use Rattle.std.specs.Option.{option_copied};
-ghost use Rattle.task_ast.specs.Names.{named};
-ghost use Rattle.task_ast.specs.Value.{value_at};
+ghost use Rattle.task_ast.specs.meaning.Names.{named};
+ghost use Rattle.task_ast.specs.meaning.Value.{value_at};
 
 use gp_base::{Feed, Name, Seq, ThreadNo};
 

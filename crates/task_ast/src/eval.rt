@@ -1,9 +1,9 @@
 // The values of expressions.
 ghost use Rattle.std.specs.Prelude.{◌≡◌, IsFalse, pos, unwrap_or, option_map, Some};
 ghost use Rattle.std.specs.Option.{option_copied};
-ghost use Rattle.gp_base.specs.Feeds.{rows_in};
-ghost use Rattle.task_ast.specs.Declarations.{has_data};
-ghost use Rattle.task_ast.specs.Value.{value, value_on};
+ghost use Rattle.gp_base.specs.meaning.Feeds.{rows_in};
+ghost use Rattle.task_ast.specs.meaning.Declarations.{has_data};
+ghost use Rattle.task_ast.specs.meaning.Value.{value, value_on};
 ghost use Rattle.task_ast.specs.View.{plain_expr, plain_links};
 
 use crate::env::{find_named, find_value};

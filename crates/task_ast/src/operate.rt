@@ -1,7 +1,7 @@
 // The operators on 64-bit numbers.
 ghost use Rattle.std.specs.Prelude.{◌≡◌, neg_ℤ};
 ghost use Rattle.std.specs.Int.{int_wrap, w64};
-ghost use Rattle.task_ast.specs.Value.{operate};
+ghost use Rattle.task_ast.specs.meaning.Value.{operate};
 
 use crate::Op;
 

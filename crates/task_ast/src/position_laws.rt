@@ -16,8 +16,8 @@ pub fn threads_law()
     ensures { ThreadsLaw }
 {}
 
-/// The fold of all positions below one, none of them damaged, is the state before it, and a subthread's lines are those of
-/// its effect on that fold.
+/// The fold of all positions below one, none of them damaged, is the state before it, and a subthread's lines are those
+/// of its effect on that fold.
 pub fn fold_below_laws()
     ensures fold { FoldBelowLaw }
     ensures lines { LinesLaw }
@@ -28,15 +28,15 @@ pub fn last_law()
     ensures { LastLaw }
 {}
 
-/// No value of a record reaches the order but by a settle: inputs with the same feeds, of which the settles find the same
-/// values, give the same subthreads but for their lines, the same end, and before each position the same table and the
-/// same points.
+/// No value of a record reaches the order but by a settle: inputs with the same feeds, of which the settles find the
+/// same values, give the same subthreads but for their lines, the same end, and before each position the same table and
+/// the same points.
 pub fn control_law()
     ensures { ControlLaw }
 {}
 
-/// A run from any table that turns lead to, with all known, ends by its rules within its limit, and its tables are again
-/// such.
+/// A run from any table that turns lead to, with all known, ends by its rules within its limit, and its tables are
+/// again such.
 pub fn onward_laws()
     ensures end { EndFromLaw }
     ensures count { CountFromLaw }

@@ -18,8 +18,8 @@ pub fn known_less_laws()
 {}
 
 /// The thread that a turn tries is there, with a known next synchronisation. A pass leaves the threads as they are. An
-/// issue begins a subthread of the thread that was tried, as it may: a lock that it takes was free, a thread that it joins
-/// had ended, and no body of it ended by a fault.
+/// issue begins a subthread of the thread that was tried, as it may: a lock that it takes was free, a thread that it
+/// joins had ended, and no body of it ended by a fault.
 pub fn turn_laws()
     ensures ahead { AheadLaw }
     ensures pass { PassLaw }
@@ -32,16 +32,16 @@ pub fn seat_laws()
     ensures most { MostThreadsLaw }
 {}
 
-/// Only a thread that is there and whose next synchronisation is unknown is needed. Where a thread that has passed comes up
-/// again, the least thread that has not ended is needed, if it is unknown.
+/// Only a thread that is there and whose next synchronisation is unknown is needed. Where a thread that has passed
+/// comes up again, the least thread that has not ended is needed, if it is unknown.
 pub fn need_laws()
     ensures needed { NeededLaw }
     ensures least { NeedsLaw }
 {}
 
-/// A table that knows less than the plain run's at a position, as the run's own table does: it counts as the run does, and
-/// has its threads, owners and last subthreads; its turns issue the run's subthreads in order, and find its end; and it
-/// stands so still when it learns what a thread's last subthread left.
+/// A table that knows less than the plain run's at a position, as the run's own table does: it counts as the run does,
+/// and has its threads, owners and last subthreads; its turns issue the run's subthreads in order, and find its end;
+/// and it stands so still when it learns what a thread's last subthread left.
 pub fn standing_laws()
     ensures own { OwnLaw }
     ensures agrees { AgreesLaw }

@@ -8,11 +8,11 @@ use Rattle.task_ast.specs.declared.sync.SyncOp.{SyncOp}
 use Rattle.task_ast.specs.declared.sync.SyncOp.TheVariants as sync
 use Rattle.task_ast.specs.declared.tree.Param.{Param}
 use Rattle.task_ast.specs.declared.tree.Param.TheVariants as param
-use Rattle.task_ast.specs.Tree as tree
-use Rattle.task_ast.specs.Tree.{Name, Expr, Stmt, What, statements, TaskText, Program}
-use Rattle.task_ast.specs.Names.{is_name, slot, firsts, barriers_of, controls, declared_in, controls_of, task_named, task_number}
-use Rattle.task_ast.specs.Control.{Setting, Point, going, begin_actions, behind, beginning, first_actions}
-use Rattle.task_ast.specs.Plain.{no_task, task_at, given, setting_of, start_point}
+use Rattle.task_ast.specs.meaning.Tree as tree
+use Rattle.task_ast.specs.meaning.Tree.{Name, Expr, Stmt, What, statements, TaskText, Program}
+use Rattle.task_ast.specs.meaning.Names.{is_name, slot, firsts, barriers_of, controls, declared_in, controls_of, task_named, task_number}
+use Rattle.task_ast.specs.meaning.Control.{Setting, Point, going, begin_actions, behind, beginning, first_actions}
+use Rattle.task_ast.specs.meaning.Plain.{no_task, task_at, given, setting_of, start_point}
 use Rattle.task_code.specs.Instructions.{Instr, At, GoOn, Unless}
 use Rattle.task_code.specs.Reading.{Place, goto, next_place, with_child, passed, instrs_of, instr_at, code_begins, code_first, start_place}
 use Rattle.task_code.specs.Reading as code

@@ -4,8 +4,9 @@ use Rattle.std.specs.Prelude.{ℤ, pos, negsuc}
 use Rattle.std.proofs.lemmas.Option.{slice_get_within}
 use Rattle.gp_base.specs.declared.feed.Feed.{Feed}
 use Rattle.task_ast.specs.declared.sync.Next.{Next}
-use Rattle.task_ast.specs.Action.{Action}
-use Rattle.task_ast.specs.Body.{Step, Silent, Iteration, Act, Stop, IsSized}
+use Rattle.task_ast.specs.meaning.Action.{Action}
+use Rattle.task_ast.specs.meaning.Body.{Step, Silent, Iteration, Act, Stop}
+use Rattle.task_ast.specs.Body.{IsSized}
 use Rattle.task_code.specs.Instructions.{Does, Assign, GoOn, Unless, Again, Lock, Unlock, Fork, Join, Barrier, Settle, Do, Instr, At}
 use Rattle.task_code.specs.Reading.{Place, given_value, either, step_does, step_instr, instrs_of, instr_at, code_step, code_size}
 

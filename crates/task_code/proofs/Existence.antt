@@ -12,14 +12,14 @@ use Rattle.task_ast.specs.declared.tree.Atom.{Atom}
 use Rattle.task_ast.specs.declared.tree.Atom.TheVariants as atom
 use Rattle.task_ast.specs.declared.tree.Param.{Param}
 use Rattle.task_ast.specs.declared.tree.Param.TheVariants as param
-use Rattle.task_ast.specs.Tree as tree
-use Rattle.task_ast.specs.Tree.{Name, Expr, Links, What, Stmt, Block, TaskText, Program}
-use Rattle.task_ast.specs.Names.{is_name, is_among, slot, ret, datas, declared_in, controls_of, registers_of, head_name, barriers_of, feeds_of, task_named, task_number}
-use Rattle.task_ast.specs.Visit.{Visit, visit, fails_if, fault_at, first_fault}
-use Rattle.task_ast.specs.Held.{Pair, held_after}
-use Rattle.task_ast.specs.Declarations.{Scope, is_control, is_register, is_feed, is_lock, is_atom, has_unknown, have_unknown, head_visits, task_visits, main_visit}
-use Rattle.task_ast.specs.Plain.{no_task, task_at}
-use Rattle.task_ast.specs.Check.{array_over, into_unknown, fails_at, fails_after, visits_of, visits_inside, visits_in, body_visits, bodies_visits, check_fault}
+use Rattle.task_ast.specs.meaning.Tree as tree
+use Rattle.task_ast.specs.meaning.Tree.{Name, Expr, Links, What, Stmt, Block, TaskText, Program}
+use Rattle.task_ast.specs.meaning.Names.{is_name, is_among, slot, ret, datas, declared_in, controls_of, registers_of, head_name, barriers_of, feeds_of, task_named, task_number}
+use Rattle.task_ast.specs.meaning.Visit.{Visit, visit, fails_if, fault_at, first_fault}
+use Rattle.task_ast.specs.meaning.Held.{Pair, held_after}
+use Rattle.task_ast.specs.meaning.Declarations.{Scope, is_control, is_register, is_feed, is_lock, is_atom, has_unknown, have_unknown, head_visits, task_visits, main_visit}
+use Rattle.task_ast.specs.meaning.Plain.{no_task, task_at}
+use Rattle.task_ast.specs.meaning.Check.{array_over, into_unknown, fails_at, fails_after, visits_of, visits_inside, visits_in, body_visits, bodies_visits, check_fault}
 use Rattle.task_ast.proofs.Registers.{or_false}
 use Rattle.task_ast.proofs.Terms.{position-cons}
 use Rattle.lock_checker.proofs.TableLemmas.{is_name-itself}

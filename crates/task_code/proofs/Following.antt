@@ -6,13 +6,14 @@ use Rattle.std.specs.Prelude.{◌⊎◌, ℤ, pos, negsuc, position, slice_get, 
 use Rattle.gp_base.specs.declared.feed.Inputs.{Inputs}
 use Rattle.task_ast.specs.declared.sync.SyncOp.TheVariants as sync
 use Rattle.task_ast.specs.declared.tree.Atom.{Atom}
-use Rattle.task_ast.specs.Tree as tree
-use Rattle.task_ast.specs.Tree.{Name, Expr, Stmt, What, Block, statements, TaskText, Program}
-use Rattle.task_ast.specs.Names.{is_name, slot, seconds, locks_of, barriers_of, controls_of, registers_of, task_named, task_number}
-use Rattle.task_ast.specs.Value.{value}
-use Rattle.task_ast.specs.Body.{Step, Silent, Act}
-use Rattle.task_ast.specs.Control.{Setting, Point, with_value, going, stop, known, branch, env_at, lock_number, action, fork_of, step_at, step_from, step}
-use Rattle.task_ast.specs.Plain.{setting_of}
+use Rattle.task_ast.specs.meaning.Tree as tree
+use Rattle.task_ast.specs.meaning.Tree.{Name, Expr, Stmt, What, Block, statements, TaskText, Program}
+use Rattle.task_ast.specs.meaning.Names.{is_name, slot, locks_of, barriers_of, controls_of, registers_of, task_named, task_number}
+use Rattle.task_ast.specs.Names.{seconds}
+use Rattle.task_ast.specs.meaning.Value.{value}
+use Rattle.task_ast.specs.meaning.Body.{Step, Silent, Act}
+use Rattle.task_ast.specs.meaning.Control.{Setting, Point, with_value, going, stop, known, branch, env_at, lock_number, action, fork_of, step_at, step_from, step}
+use Rattle.task_ast.specs.meaning.Plain.{setting_of}
 use Rattle.task_ast.specs.laws.Following.{Matches, both_silent, both_turn, both_act, both_stop, IsFollowing}
 use Rattle.task_ast.proofs.Slots.{sets_first}
 use Rattle.task_code.specs.Instructions.{Instr, At, Does, Assign, GoOn, Unless, Again, Lock, Unlock, Fork, Join, Settle, Do}

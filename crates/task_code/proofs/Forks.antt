@@ -7,8 +7,8 @@ use Rattle.std.proofs.lemmas.List.Folds.{find_at}
 use Rattle.std.proofs.lemmas.Option.{slice_get_past}
 use Rattle.task_ast.specs.declared.tree.Param.{Param}
 use Rattle.task_ast.specs.declared.tree.Param.TheVariants as param
-use Rattle.task_ast.specs.Tree.{Name, TaskText}
-use Rattle.task_ast.specs.Names.{is_task}
+use Rattle.task_ast.specs.meaning.Tree.{Name, TaskText}
+use Rattle.task_ast.specs.meaning.Names.{is_task}
 use Rattle.task_code.specs.Lowering.{Scope, control_calcs, gifts}
 
 -- where a task of this name has a number, it is the task of that number

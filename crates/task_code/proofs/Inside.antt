@@ -2,9 +2,9 @@
 use Rattle.std.proofs.Common.{◌≡◌, ℕ, zero, suc, ◌+◌, ◌-◌, ◌≤◌, List, [], ◌∷◌, ◌++◌, length, Option, Some, None, subst, arith, length-append, position}
 use Rattle.std.specs.Prelude.{⊤, slice_get}
 use Rattle.std.proofs.lemmas.Option.{slice_get_within}
-use Rattle.task_ast.specs.Tree as tree
-use Rattle.task_ast.specs.Tree.{Stmt, What, Block}
-use Rattle.task_ast.specs.Names.{is_name, barriers_of}
+use Rattle.task_ast.specs.meaning.Tree as tree
+use Rattle.task_ast.specs.meaning.Tree.{Stmt, What, Block}
+use Rattle.task_ast.specs.meaning.Names.{is_name, barriers_of}
 use Rattle.task_code.specs.Instructions.{Does, Assign, GoOn, Unless, Again, Lock, Unlock, Fork, Join, Barrier, Settle, Do, Instr, At}
 use Rattle.task_code.specs.Lowering.{Scope, barrier_code, calc, what_code, block_code, stmt_code}
 use Rattle.task_code.specs.Jumps.{AreInside}

@@ -3,9 +3,9 @@ use Rattle.std.proofs.Common.{ℕ, List, Option, Some, None, inl, inr, refl, sym
 use Rattle.std.specs.Prelude.{ℤ, slice_set}
 use Rattle.gp_base.specs.declared.feed.Feed.{Feed}
 use Rattle.task_ast.specs.declared.sync.SyncOp.TheVariants as sync
-use Rattle.task_ast.specs.Tree.{Program}
-use Rattle.task_ast.specs.Control.{Point, with_number, beginning, size, step}
-use Rattle.task_ast.specs.Plain.{setting_of, tree_machine}
+use Rattle.task_ast.specs.meaning.Tree.{Program}
+use Rattle.task_ast.specs.meaning.Control.{Point, with_number, beginning, size, step}
+use Rattle.task_ast.specs.meaning.Plain.{setting_of, tree_machine}
 use Rattle.task_ast.proofs.Sizes.{tree_sized}
 use Rattle.task_ast.proofs.Following.{bodies_agree}
 use Rattle.task_ast.proofs.SameRuns.{same_run}

@@ -3,7 +3,7 @@ use Rattle.std.proofs.Common.{◌≡◌, ℕ, ◌+◌, ◌<◌, List, [], ◌∷
 use Rattle.std.proofs.lemmas.List.{map-append, map_more}
 use Rattle.task_ast.specs.declared.tree.Op.{Op}
 use Rattle.task_ast.specs.declared.tree.Stmt as here
-use Rattle.task_ast.specs.Tree.{Expr, links}
+use Rattle.task_ast.specs.meaning.Tree.{Expr, links}
 use Rattle.task_ast.specs.View.{plain_stmt, plain_block}
 use Rattle.task_code.specs.Instructions.{Operand, operands, Also, deeds}
 use Rattle.task_code.specs.Lowering.{Scope, calc, operands_of, deed_in, arm}

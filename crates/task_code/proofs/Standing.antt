@@ -3,7 +3,7 @@ use Rattle.std.proofs.Common.{◌≡◌, ℕ, ◌+◌, ◌<◌, List, [], ◌∷
 use Rattle.std.specs.Prelude.{slice_get}
 use Rattle.std.proofs.lemmas.Option.{slice_get-get_or, slice_get_past}
 use Rattle.std.proofs.Math.Seq.{get_or-append_seam}
-use Rattle.task_ast.specs.Tree.{Stmt, At, Block, Nothing, Then, statements}
+use Rattle.task_ast.specs.meaning.Tree.{Stmt, At, Block, Nothing, Then, statements}
 use Rattle.task_code.specs.Instructions.{Instr}
 use Rattle.task_code.specs.Lowering.{Scope, what_code, block_code}
 use Rattle.task_code.specs.Relation.{HasAt, Left, ends, stands}

@@ -2,9 +2,10 @@
 use Rattle.std.proofs.Common.{◌≡◌, ℕ, zero, suc, ◌+◌, ◌-◌, ◌≤◌, List, [], ◌∷◌, ◌++◌, length, take, map, Option, Some, None, refl, sym, ap, ◌∙◌, arith, append_assoc, length-append}
 use Rattle.std.specs.Prelude.{ℤ, pos, replicate, slice_get, option_map, unwrap_or}
 use Rattle.std.proofs.lemmas.List.{replicate-append-replicate, length-take}
-use Rattle.task_ast.specs.Tree.{Name, TaskText}
-use Rattle.task_ast.specs.Names.{seconds, controls, declared_in, controls_of}
-use Rattle.task_ast.specs.Plain.{given, no_task}
+use Rattle.task_ast.specs.meaning.Tree.{Name, TaskText}
+use Rattle.task_ast.specs.meaning.Names.{controls, declared_in, controls_of}
+use Rattle.task_ast.specs.Names.{seconds}
+use Rattle.task_ast.specs.meaning.Plain.{given, no_task}
 use Rattle.task_ast.specs.View.{plain_task}
 use Rattle.task_code.specs.declared.instrs.Shape.{Shape}
 use Rattle.task_code.specs.declared.parts.Parts.{Parts}

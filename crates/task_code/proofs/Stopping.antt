@@ -1,7 +1,8 @@
 -- A body ends before a stop or a loop turn.
 use Rattle.std.proofs.Common.{◌≡◌, ℕ, zero, suc, ◌<◌, Option, Some, None, refl, sym, subst, arith}
 use Rattle.task_ast.specs.declared.sync.Next.{Next}
-use Rattle.task_ast.specs.Body.{Step, Silent, Iteration, Act, Stop, Body, follow, IsSized, body, after_turn}
+use Rattle.task_ast.specs.meaning.Body.{Step, Silent, Iteration, Act, Stop, Body, follow, body}
+use Rattle.task_ast.specs.Body.{IsSized, after_turn}
 use Rattle.task_ast.proofs.Bodies.{body_step}
 
 -- the step is a stop or a loop turn

@@ -1,7 +1,7 @@
 -- What is found in tables by name.
 use Rattle.std.proofs.Common.{◌≡◌, ℕ, suc, ◌+◌, Bool, true, false, cond, List, [], ◌∷◌, map, Option, Some, None, unwrap_or, option_map, refl, sym, ap, ◌∙◌, arith, position}
-use Rattle.task_ast.specs.Tree.{Name, TaskText}
-use Rattle.task_ast.specs.Names.{is_name, is_task, named, firsts}
+use Rattle.task_ast.specs.meaning.Tree.{Name, TaskText}
+use Rattle.task_ast.specs.meaning.Names.{is_name, is_task, named, firsts}
 use Rattle.task_ast.specs.Layout.{base_of}
 use Rattle.task_ast.proofs.Terms.{position-cons}
 use Rattle.task_code.specs.declared.instrs.Cells.{Cells}

@@ -4,10 +4,10 @@ use Rattle.std.specs.Prelude.{slice_get}
 use Rattle.std.proofs.lemmas.List.{map-append, map_more}
 use Rattle.task_ast.specs.declared.tree.Program as program_here
 use Rattle.task_ast.specs.declared.tree.TaskText as here
-use Rattle.task_ast.specs.Tree.{Program}
-use Rattle.task_ast.specs.Layout.{layout, lock_over}
-use Rattle.task_ast.specs.Names.{locks_of}
-use Rattle.task_ast.specs.Plain.{main_number, task_at}
+use Rattle.task_ast.specs.meaning.Tree.{Program}
+use Rattle.task_ast.specs.meaning.Layout.{layout, lock_over}
+use Rattle.task_ast.specs.meaning.Names.{locks_of}
+use Rattle.task_ast.specs.meaning.Plain.{main_number, task_at}
 use Rattle.task_ast.specs.Shaped.{IsAccepted}
 use Rattle.task_ast.specs.View.{plain_task, plain_program}
 use Rattle.task_code.specs.declared.instrs.Instr as instr_here

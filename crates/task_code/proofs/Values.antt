@@ -4,21 +4,22 @@
 use Rattle.std.proofs.Common.{◌≡◌, ℕ, suc, ◌+◌, Bool, true, false, cond, List, [], ◌∷◌, map, length, Option, Some, None, unwrap_or, option_map, option_and_then, refl, sym, ap, ◌∙◌, arith}
 use Rattle.std.specs.Prelude.{ℤ, pos, negsuc, position, slice_get, zip}
 use Rattle.std.proofs.lemmas.Bool.{le-ltb}
-use Rattle.gp_base.specs.Feeds.{rows_in}
+use Rattle.gp_base.specs.meaning.Feeds.{rows_in}
 use Rattle.gp_base.specs.declared.feed.Feed.{Feed}
 use Rattle.task_ast.specs.declared.env.Env.{Env}
 use Rattle.task_ast.specs.declared.tree.Atom.{Atom}
 use Rattle.task_ast.specs.declared.tree.Atom.TheVariants as atom
 use Rattle.task_ast.specs.declared.tree.Param.{Param}
 use Rattle.task_ast.specs.declared.tree.Param.TheVariants as param
-use Rattle.task_ast.specs.Tree as tree
-use Rattle.task_ast.specs.Tree.{Name, Expr, Links, What, Stmt, Block, TaskText, Program}
-use Rattle.task_ast.specs.Names.{is_name, named, slot, place, firsts, seconds, cell_number, records_of, feeds_of, registers_of}
+use Rattle.task_ast.specs.meaning.Tree as tree
+use Rattle.task_ast.specs.meaning.Tree.{Name, Expr, Links, What, Stmt, Block, TaskText, Program}
+use Rattle.task_ast.specs.meaning.Names.{is_name, named, slot, place, firsts, cell_number, records_of, feeds_of, registers_of}
+use Rattle.task_ast.specs.Names.{seconds}
 use Rattle.task_ast.specs.Layout.{base_of}
-use Rattle.task_ast.specs.State.{number_at}
-use Rattle.task_ast.specs.Value.{value, value_on, value_at, operate_on, cell_in}
-use Rattle.task_ast.specs.Action.{Term, Constant, Negated, Inverted, Joined, OneTerm, register, term, terms, Action, Set, Load, Store, Say, Choose, Child, Give, OneAction}
-use Rattle.task_ast.specs.Control.{Setting, index_of, all_of, action, arm, action_of, control_arguments, data_arguments}
+use Rattle.task_ast.specs.meaning.State.{number_at}
+use Rattle.task_ast.specs.meaning.Value.{value, value_on, value_at, operate_on, cell_in}
+use Rattle.task_ast.specs.meaning.Action.{Term, Constant, Negated, Inverted, Joined, OneTerm, register, term, terms, Action, Set, Load, Store, Say, Choose, Child, Give, OneAction}
+use Rattle.task_ast.specs.meaning.Control.{Setting, index_of, all_of, action, arm, action_of, control_arguments, data_arguments}
 use Rattle.task_ast.proofs.Terms.{position-cons}
 use Rattle.task_code.specs.Instructions.{Calc}
 use Rattle.task_code.specs.Reading.{CalcEnv, calc_value, calc_value_on, calc_term, calc_terms, index_at, cell_of, deed_action, deeds_arm, gift_action}

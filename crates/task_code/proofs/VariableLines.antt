@@ -4,8 +4,8 @@ use Rattle.std.proofs.lemmas.List.{at_drop_more}
 use Rattle.task_ast.specs.declared.tree.Param.{Param}
 use Rattle.task_ast.specs.declared.tree.Param.TheVariants as param
 use Rattle.task_ast.specs.declared.tree.VarLine.{VarLine}
-use Rattle.task_ast.specs.Tree.{Name}
-use Rattle.task_ast.specs.Names.{controls, datas, declared_in}
+use Rattle.task_ast.specs.meaning.Tree.{Name}
+use Rattle.task_ast.specs.meaning.Names.{controls, datas, declared_in}
 
 pub controls-append : (first second : List Param) → controls (first ++ second) ≡ controls first ++ controls second
 controls-append [] second = refl

@@ -1,7 +1,7 @@
 -- Code names only variables that exist.
 use Rattle.std.specs.Prelude.{◌≡◌, ⊤, ℕ, ◌<◌, List, [], ◌∷◌, Option, Some, None, slice_get, length}
-use Rattle.task_ast.specs.Tree.{TaskText}
-use Rattle.task_ast.specs.Names.{controls, controls_of, registers_of}
+use Rattle.task_ast.specs.meaning.Tree.{TaskText}
+use Rattle.task_ast.specs.meaning.Names.{controls, controls_of, registers_of}
 use Rattle.task_code.specs.declared.instrs.Index.{Index}
 use Rattle.task_code.specs.declared.instrs.Index.TheVariants.{Number, Variable}
 use Rattle.task_code.specs.declared.instrs.Shape.{Shape}

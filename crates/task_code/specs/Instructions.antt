@@ -1,7 +1,7 @@
 -- Flat code as definitions see it: that of the code without boxes.
 use Rattle.std.specs.Prelude.{ℕ, ℤ, List, [], ◌∷◌, Option}
 use Rattle.task_ast.specs.declared.tree.Op.{Op}
-use Rattle.task_ast.specs.Tree.{Program}
+use Rattle.task_ast.specs.meaning.Tree.{Program}
 use Rattle.task_code.specs.declared.instrs.Cells.{Cells}
 use Rattle.task_code.specs.declared.instrs.Index.{Index}
 

@@ -1,8 +1,8 @@
 -- What holds of lowered code beside what it does.
 use Rattle.std.specs.Prelude.{◌≡◌, ℕ, ◌+◌, ◌≤◌, ◌<◌, ◌^◌, List, Some, slice_get, length}
 use Rattle.task_ast.specs.Shaped.{IsAccepted}
-use Rattle.task_ast.specs.Tree.{TaskText, Program}
-use Rattle.task_ast.specs.Plain.{task_at}
+use Rattle.task_ast.specs.meaning.Tree.{TaskText, Program}
+use Rattle.task_ast.specs.meaning.Plain.{task_at}
 use Rattle.task_code.specs.Existing.{shape_of, VariablesExist}
 use Rattle.task_code.specs.Instructions.{Instr, At, Calc, GoOn, Unless, Again, Lowered}
 use Rattle.task_code.specs.Lowering.{task_code, lowered}

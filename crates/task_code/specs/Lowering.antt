@@ -4,9 +4,9 @@ use Rattle.task_ast.specs.declared.tree.Atom.{Atom}
 use Rattle.task_ast.specs.declared.tree.Atom.TheVariants as atom
 use Rattle.task_ast.specs.declared.tree.Param.{Param}
 use Rattle.task_ast.specs.declared.tree.Param.TheVariants as param
-use Rattle.task_ast.specs.Tree as tree
-use Rattle.task_ast.specs.Tree.{Name, Expr, Links, What, Stmt, Block, TaskText, Program}
-use Rattle.task_ast.specs.Names.{is_name, named, slot, locks_of, records_of, barriers_of, feeds_of, controls_of, registers_of, task_named, task_number}
+use Rattle.task_ast.specs.meaning.Tree as tree
+use Rattle.task_ast.specs.meaning.Tree.{Name, Expr, Links, What, Stmt, Block, TaskText, Program}
+use Rattle.task_ast.specs.meaning.Names.{is_name, named, slot, locks_of, records_of, barriers_of, feeds_of, controls_of, registers_of, task_named, task_number}
 use Rattle.task_ast.specs.Layout.{base_of}
 use Rattle.task_code.specs.declared.instrs.Cells.{Cells}
 use Rattle.task_code.specs.declared.instrs.Index.{Index}

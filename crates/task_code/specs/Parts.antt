@@ -1,11 +1,11 @@
 -- What contracts see of code, from its parts.
 use Rattle.std.specs.Prelude.{◌≡◌, ℕ, List, map, Option, option_map, slice_get}
 use Rattle.gp_base.specs.declared.numbers.At.{At}
-use Rattle.task_ast.specs.Tree.{Program}
+use Rattle.task_ast.specs.meaning.Tree.{Program}
 use Rattle.task_ast.specs.View.{plain_program}
-use Rattle.task_ast.specs.Names.{locks_of, barriers_of}
-use Rattle.task_ast.specs.Layout.{layout, lock_over}
-use Rattle.task_ast.specs.Plain.{main_number}
+use Rattle.task_ast.specs.meaning.Names.{locks_of, barriers_of}
+use Rattle.task_ast.specs.meaning.Layout.{layout, lock_over}
+use Rattle.task_ast.specs.meaning.Plain.{main_number}
 use Rattle.task_code.specs.declared.parts.Parts.{Parts}
 use Rattle.task_code.specs.Existing.{shape_of, params_of}
 use Rattle.task_code.specs.Flat.{Flat, code_of}

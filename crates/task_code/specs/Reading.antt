@@ -1,19 +1,20 @@
 -- What flat code does, one instruction at a time.
 use Rattle.std.specs.Prelude.{ℕ, zero, suc, ℤ, pos, negsuc, ◌+◌, ◌-◌, List, [], ◌∷◌, map, length, Option, Some, None, unwrap_or, option_map, option_and_then, neg_ℤ, slice_get, slice_set}
 use Rattle.std.specs.Int.{int_wrap, w64}
-use Rattle.gp_base.specs.Feeds.{rows_in}
+use Rattle.gp_base.specs.meaning.Feeds.{rows_in}
 use Rattle.gp_base.specs.declared.feed.Feed.{Feed}
 use Rattle.gp_base.specs.declared.numbers.At as numbers
 use Rattle.task_ast.specs.declared.sync.SyncOp.{SyncOp}
 use Rattle.task_ast.specs.declared.sync.SyncOp.TheVariants as sync
-use Rattle.task_ast.specs.Tree.{Program}
-use Rattle.task_ast.specs.Names.{place, seconds}
-use Rattle.task_ast.specs.State.{number_at}
-use Rattle.task_ast.specs.Value.{truth, is_zero, operate_on, cell_in}
-use Rattle.task_ast.specs.Action.{Term, Constant, Register, Negated, Inverted, Joined, MoreTerms, NoTerms, OneTerm, Action, Set, Load, Store, Say, Choose, Child, Give, Bring, Arm, NoAction, OneAction}
-use Rattle.task_ast.specs.Body.{Step, Silent, Iteration, Act, Stop, Body, body}
-use Rattle.task_ast.specs.Control.{all_of}
-use Rattle.task_ast.specs.Plain.{Machine, task_at, start_point}
+use Rattle.task_ast.specs.meaning.Tree.{Program}
+use Rattle.task_ast.specs.meaning.Names.{place}
+use Rattle.task_ast.specs.Names.{seconds}
+use Rattle.task_ast.specs.meaning.State.{number_at}
+use Rattle.task_ast.specs.meaning.Value.{truth, is_zero, operate_on, cell_in}
+use Rattle.task_ast.specs.meaning.Action.{Term, Constant, Register, Negated, Inverted, Joined, MoreTerms, NoTerms, OneTerm, Action, Set, Load, Store, Say, Choose, Child, Give, Bring, Arm, NoAction, OneAction}
+use Rattle.task_ast.specs.meaning.Body.{Step, Silent, Iteration, Act, Stop, Body, body}
+use Rattle.task_ast.specs.meaning.Control.{all_of}
+use Rattle.task_ast.specs.meaning.Plain.{Machine, task_at, start_point}
 use Rattle.task_code.specs.declared.instrs.Cells.{Cells}
 use Rattle.task_code.specs.declared.instrs.Index.{Index}
 use Rattle.task_code.specs.declared.instrs.Index.TheVariants.{Number, Variable}

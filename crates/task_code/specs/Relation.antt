@@ -4,11 +4,12 @@ use Rattle.gp_base.specs.declared.limits.Limits.{Limits}
 use Rattle.gp_base.specs.declared.feed.Inputs.{Inputs}
 use Rattle.task_ast.specs.declared.sync.SyncOp.{SyncOp}
 use Rattle.task_ast.specs.declared.sync.SyncOp.TheVariants as sync
-use Rattle.task_ast.specs.Tree as tree
-use Rattle.task_ast.specs.Tree.{Stmt, What, While, Expr, Block, TaskText, Program}
-use Rattle.task_ast.specs.Names.{firsts, seconds, controls_of}
-use Rattle.task_ast.specs.Control.{Point, beginning, first_actions, step, tree_body}
-use Rattle.task_ast.specs.Plain.{setting_of, task_at, start_point, tree_machine}
+use Rattle.task_ast.specs.meaning.Tree as tree
+use Rattle.task_ast.specs.meaning.Tree.{Stmt, What, While, Expr, Block, TaskText, Program}
+use Rattle.task_ast.specs.meaning.Names.{firsts, controls_of}
+use Rattle.task_ast.specs.Names.{seconds}
+use Rattle.task_ast.specs.meaning.Control.{Point, beginning, first_actions, step, tree_body}
+use Rattle.task_ast.specs.meaning.Plain.{setting_of, task_at, start_point, tree_machine}
 use Rattle.task_ast.specs.laws.Following.{IsFollowing, Agrees, Follows, IsSameRun}
 use Rattle.task_code.specs.Instructions.{Instr, At, GoOn, Again}
 use Rattle.task_code.specs.Lowering.{Scope, calc, what_code, block_code, scope_of, lowered}

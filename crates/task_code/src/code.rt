@@ -1,9 +1,9 @@
 // The code of a program.
 
 ghost use Rattle.std.specs.Prelude.{◌≡◌, ℕ, ◌≤◌, option_map, unwrap_or, slice_get, IfOk};
-ghost use Rattle.task_ast.specs.Layout.{layout, lock_over};
-ghost use Rattle.task_ast.specs.Names.{locks_of};
-ghost use Rattle.task_ast.specs.Plain.{main_number};
+ghost use Rattle.task_ast.specs.meaning.Layout.{layout, lock_over};
+ghost use Rattle.task_ast.specs.meaning.Names.{locks_of};
+ghost use Rattle.task_ast.specs.meaning.Plain.{main_number};
 ghost use Rattle.task_code.specs.Existing.{shape_of};
 ghost use Rattle.task_code.specs.Flat.{code_of};
 ghost use Rattle.task_code.specs.Jumps.{IsCode};
@@ -19,8 +19,8 @@ use std::alloc::{AllocError, Global};
 use std::marker::Model;
 use task_ast::Layout;
 
-/// The code of an accepted program, beside its layout. Contracts see the program and the instructions of each task; each
-/// jump leads to an instruction or after the last one, each variable exists, and a number of 32 bits counts the
+/// The code of an accepted program, beside its layout. Contracts see the program and the instructions of each task;
+/// each jump leads to an instruction or after the last one, each variable exists, and a number of 32 bits counts the
 /// instructions of a task.
 #[derive(Drop)]
 pub struct Code {
@@ -151,8 +151,8 @@ impl Code {
         &self.parts.over
     }
 
-    /// The code is that of its program, which is accepted; its jumps stay inside it, it is short, and the variables that it
-    /// names exist. Does nothing.
+    /// The code is that of its program, which is accepted; its jumps stay inside it, it is short, and the variables
+    /// that it names exist. Does nothing.
     pub fn facts(&self)
         ensures { IsCode (code_of self.now) }
     {

@@ -1,7 +1,7 @@
 // Blocks of statements to instructions.
 
 ghost use Rattle.std.specs.Prelude.{◌≡◌, ◌<◌, [], ◌∷◌, ◌++◌, length, slice_get, slice_set, unwrap_or, option_map, map, IfOk, OnOk};
-ghost use Rattle.task_ast.specs.Names.{slot, task_named, task_number};
+ghost use Rattle.task_ast.specs.meaning.Names.{slot, task_named, task_number};
 ghost use Rattle.task_ast.specs.View.{plain_expr, plain_exprs, plain_what, plain_stmt, plain_block};
 ghost use Rattle.task_code.specs.Instructions.{At, Do, NoValue as no_value};
 ghost use Rattle.task_code.specs.Lowering as lowering;

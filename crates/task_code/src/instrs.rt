@@ -45,8 +45,9 @@ pub enum Deed {
     When(Calc, Seq<Deed>, Seq<Deed>),
 }
 
-/// What a fork begins: the number of the task, how many registers it has, the values of its control parameters in order,
-/// the values of its data parameters beside their registers, and the control variable that takes the child's number.
+/// What a fork begins: the number of the task, how many registers it has, the values of its control parameters in
+/// order, the values of its data parameters beside their registers, and the control variable that takes the child's
+/// number.
 #[derive(Drop)]
 pub struct Forking {
     pub task: u32,

@@ -2,9 +2,9 @@
 
 ghost use Rattle.std.specs.Prelude.{◌≡◌, ℕ, ◌<◌, ◌^◌, length, map, IfOk};
 ghost use Rattle.lock_checker.specs.Accepted.{program_of};
-ghost use Rattle.task_ast.specs.Names.{registers_of, natural};
-ghost use Rattle.task_ast.specs.Plain.{main_number};
-ghost use Rattle.task_ast.specs.Tree as plain;
+ghost use Rattle.task_ast.specs.meaning.Names.{registers_of, natural};
+ghost use Rattle.task_ast.specs.meaning.Plain.{main_number};
+ghost use Rattle.task_ast.specs.meaning.Tree as plain;
 ghost use Rattle.task_ast.specs.View.{plain_program, plain_task};
 ghost use Rattle.task_code.specs.Existing.{shape_of};
 ghost use Rattle.task_code.specs.Flat.{code_of};

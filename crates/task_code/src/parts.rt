@@ -5,8 +5,8 @@ use gp_base::{LockNo, Seq};
 use std::snapshot::Snapshot;
 use task_ast::{Layout, Program};
 
-/// The instructions, the shape and the number of control parameters of each task in text order, the number of `main`, the
-/// stated numbers of the barriers, the record cells under each lock cell, and the lock cell over each record cell.
+/// The instructions, the shape and the number of control parameters of each task in text order, the number of `main`,
+/// the stated numbers of the barriers, the record cells under each lock cell, and the lock cell over each record cell.
 #[derive(Drop)]
 pub struct Parts {
     pub program: Snapshot<Program>,

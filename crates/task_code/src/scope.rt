@@ -2,7 +2,7 @@
 
 ghost use Rattle.std.specs.Prelude.{◌≡◌, ◌≤◌, map, option_map, position, IfOk};
 ghost use Rattle.gp_base.specs.declared.limits.TheConstants.{MOST_CELLS};
-ghost use Rattle.task_ast.specs.Names.{is_name, slot, locks_of, records_of, barriers_of, feeds_of, cells_in, registers_of, task_named, task_number};
+ghost use Rattle.task_ast.specs.meaning.Names.{is_name, slot, locks_of, records_of, barriers_of, feeds_of, cells_in, registers_of, task_named, task_number};
 ghost use Rattle.task_ast.specs.View.{plain_task, plain_program};
 ghost use Rattle.task_code.specs.Lowering.{cells_of, index};
 ghost use Rattle.task_code.specs.inner.Scopes.{scope_here, IsIndexOf, IsScope};
@@ -16,8 +16,8 @@ use lock_checker::SymbolTable;
 use std::alloc::{AllocError, Global};
 use task_ast::{Atom, Program, TaskText};
 
-/// The cells of the lock arrays and of the records, and the places of the barriers, the feeds and the tasks, by name; and
-/// the names of each task's registers.
+/// The cells of the lock arrays and of the records, and the places of the barriers, the feeds and the tasks, by name;
+/// and the names of each task's registers.
 #[derive(Drop)]
 pub struct Index {
     pub locks: SymbolTable<Cells>,

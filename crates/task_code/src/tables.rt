@@ -3,8 +3,8 @@
 ghost use Rattle.std.specs.Prelude.{◌≡◌, ◌≤◌, ◌<◌, ◌^◌, map, position, IfOk};
 ghost use Rattle.gp_base.specs.declared.limits.TheConstants.{MOST_CELLS};
 ghost use Rattle.lock_checker.specs.inner.Tables.{found};
-ghost use Rattle.task_ast.specs.Names.{is_name, natural, locks_of, records_of, barriers_of, feeds_of, cells_in, firsts};
-ghost use Rattle.task_ast.specs.Tree as plain;
+ghost use Rattle.task_ast.specs.meaning.Names.{is_name, natural, locks_of, records_of, barriers_of, feeds_of, cells_in, firsts};
+ghost use Rattle.task_ast.specs.meaning.Tree as plain;
 ghost use Rattle.task_ast.specs.View.{plain_task};
 ghost use Rattle.task_code.specs.inner.Tables.{targets, cells_from};
 

@@ -1,7 +1,7 @@
 // The names of the variables of tasks.
 
 ghost use Rattle.std.specs.Prelude.{◌≡◌, ◌++◌, length, map, position, IfOk, OnOk};
-ghost use Rattle.task_ast.specs.Names.{is_name, slot, controls, datas, controls_of, registers_of};
+ghost use Rattle.task_ast.specs.meaning.Names.{is_name, slot, controls, datas, controls_of, registers_of};
 ghost use Rattle.task_ast.specs.View.{plain_task};
 ghost use Rattle.task_code.specs.Existing.{params_of};
 

@@ -1,11 +1,11 @@
 -- Facts about placed tokens, verdicts and lists that go on alike.
 use Rattle.std.proofs.Common.{◌≡◌, ℕ, Bool, true, false, cond, leb, List, [], ◌∷◌, ◌++◌, Result, Err, refl, sym, ap, append_assoc}
 use Rattle.task_parser.specs.declared.token.Token.{Token}
-use Rattle.task_parser.specs.Words.{Placed, tokens_of}
+use Rattle.task_parser.specs.meaning.Words.{Placed, tokens_of}
 use Rattle.task_parser.specs.inner.Reading.{begins, ◌>>=◌}
-use Rattle.task_parser.specs.Promise.{Stop}
+use Rattle.task_parser.specs.meaning.Promise.{Stop}
 use Rattle.task_parser.specs.inner.Laws.{Same, GoesBeyond, verdict}
-use Rattle.task_parser.specs.Promise.{Within}
+use Rattle.task_parser.specs.meaning.Promise.{Within}
 
 pub tokens-append : (a b : List Placed) → tokens_of (a ++ b) ≡ tokens_of a ++ tokens_of b
 tokens-append [] b = refl

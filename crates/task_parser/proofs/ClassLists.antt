@@ -2,7 +2,7 @@
 use Rattle.std.proofs.Common.{◌≡◌, ℕ, Bool, true, false, cond, List, [], ◌∷◌, nat_eq, ◌||◌, ◌+◌, ◌-◌, ◌≤◌, pos, suc, zero, leb, refl, ◌∙◌, ◌⊎◌, inl, inr, arith}
 use Rattle.std.proofs.lemmas.Bool.{eqb-true, eq-eqb, leb-true}
 use Rattle.task_parser.specs.declared.token.Token.{Token}
-use Rattle.task_parser.specs.Classes.{class, holds, among}
+use Rattle.task_parser.specs.meaning.Classes.{class, holds, among}
 use Rattle.task_parser.specs.declared.token.Kind.{Kind}
 use Rattle.task_parser.specs.declared.token.Kind.TheVariants.{Num, Name, Reg, Quoted, Word, Mark}
 use Rattle.task_parser.proofs.Exact.{Covers, Apart, no_token}

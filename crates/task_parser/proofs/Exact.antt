@@ -5,9 +5,9 @@
 use Rattle.std.proofs.Common.{◌≡◌, ℕ, suc, ◌+◌, ◌≤◌, Bool, true, false, cond, leb, List, [], ◌∷◌, ◌++◌, Option, Some, None, Result, Ok, Err, refl, sym, ap, subst, ◌∙◌, inl, inr, append_assoc, arith}
 use Rattle.std.proofs.lemmas.Bool.{le-leb, lt-leb}
 use Rattle.task_parser.specs.declared.token.Token.{Token}
-use Rattle.task_parser.specs.Words.{Placed, Form, One, Both, Made, ◌∣◌, Opened, tokens_of}
+use Rattle.task_parser.specs.meaning.Words.{Placed, Form, One, Both, Made, ◌∣◌, Opened, tokens_of}
 use Rattle.task_parser.specs.inner.Reading.{Reader, begins, unexpected, ◌>>=◌, read_one, read_both, read_made, read_either, enter, read_opened}
-use Rattle.task_parser.specs.Promise.{Stop}
+use Rattle.task_parser.specs.meaning.Promise.{Stop}
 use Rattle.task_parser.specs.inner.Laws.{Same, Took, Outcome, Sound, verdict, Complete, Starts, Inhabited, Parted}
 use Rattle.task_parser.proofs.Basics.{tokens-append, tokens_parts, Within-append, same_behind, begins_same, verdict-bind, verdict-append, GoesBeyond-append}
 

@@ -2,11 +2,11 @@
 -- begins, and with which it could go on, are lists of kinds here, so that what the laws of Exact ask of them (apart,
 -- within) is computed.
 use Rattle.std.proofs.Common.{◌≡◌, ℕ, zero, suc, true, List, [], ◌∷◌, Option, Some, None, option_map}
-use Rattle.task_parser.specs.Words.{Form, One, Both, Made, ◌∣◌, many, perhaps, Opened, nothing, first_of, second_of, put_first, the, ◌◂◌, after, some, separated}
+use Rattle.task_parser.specs.meaning.Words.{Form, One, Both, Made, ◌∣◌, many, perhaps, Opened, nothing, first_of, second_of, put_first, the, ◌◂◌, after, some, separated}
 use Rattle.task_parser.specs.inner.Reading.{Reader, read_one, read_both, read_made, read_either, repeat, read_perhaps, read_opened, read_the, ◌◃◌, read_after, read_some, read_separated}
 use Rattle.task_parser.specs.inner.Laws.{Sound, Complete, Starts, Inhabited, Parted}
 use Rattle.task_parser.proofs.Exact.{sound_one, sound_both, sound_made, sound_either, sound_opened, sound_opened_none, complete_one, complete_both, complete_made, complete_either, complete_opened, complete_opened_none, complete_wider, starts_one, starts_both, starts_made, starts_either, starts_opened, starts_wider, inhabited_one, inhabited_both, inhabited_made, inhabited_left, inhabited_opened, parted_starts, parted_made}
-use Rattle.task_parser.specs.Classes.{among}
+use Rattle.task_parser.specs.meaning.Classes.{among}
 use Rattle.task_parser.proofs.ClassLists.{disjoint, subset, apart, covers, token_of, token_among}
 use Rattle.task_parser.proofs.Perhaps.{sound_perhaps, complete_perhaps, parted_perhaps, inhabited_perhaps}
 use Rattle.task_parser.proofs.Many.{shortens_sound, sound_many, complete_many, parted_many, inhabited_many}

@@ -1,13 +1,13 @@
 -- The levels of operators.
 use Rattle.std.proofs.Common.{◌≡◌, ◌↔◌, ℕ, Bool, false, IsTrue, List, [], ◌∷◌, refl}
-use Rattle.task_ast.specs.Tree as plain
+use Rattle.task_ast.specs.meaning.Tree as plain
 use Rattle.task_ast.specs.View.{plain_members, plain_links}
 use Rattle.task_ast.specs.declared.tree.Op.{Op}
 use Rattle.task_ast.specs.declared.tree.Expr.{Expr}
 use Rattle.task_parser.specs.declared.classes.TheConstants.{AND, OR, EQ, NE, LT, LE, GT, GE, ADD, SUB, MUL, DIV, REM}
 use Rattle.task_parser.specs.declared.expressions.Level.{Level}
 use Rattle.task_parser.specs.declared.expressions.Level.TheVariants.{Or, And, Comparison, Sum, Product}
-use Rattle.task_parser.specs.Expressions.{Text, chain_or}
+use Rattle.task_parser.specs.meaning.Expressions.{Text, chain_or}
 use Rattle.task_parser.specs.inner.ExpressionReaders.{read_member}
 use Rattle.task_parser.specs.inner.Gives.{operators, read_part}
 use Rattle.task_parser.proofs.Many.{Shortens}

@@ -8,7 +8,7 @@ use Rattle.std.proofs.lemmas.Bool.{eqb-true, eq-eqb, false≢true}
 use Rattle.std.proofs.lemmas.Bool.Decides.{nat_tests}
 use Rattle.task_parser.specs.declared.token.Kind.{Kind}
 use Rattle.task_parser.specs.declared.token.Kind.TheVariants.{Reg, Quoted, Mark}
-use Rattle.task_parser.specs.Pieces.{decimal, number_limit, is_letter, is_name_byte, is_quoted_byte, begins, row_of, marks}
+use Rattle.task_parser.specs.meaning.Pieces.{decimal, number_limit, is_letter, is_name_byte, is_quoted_byte, begins, row_of, marks}
 use Rattle.task_parser.specs.TokenTable.{IsToken}
 use Rattle.task_parser.specs.Splitting.{CannotGoOn, StopsShort, BeginsTooBig}
 use Rattle.task_parser.proofs.LexPieces.{IsOther}

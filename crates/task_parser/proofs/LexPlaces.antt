@@ -6,7 +6,7 @@ use Rattle.std.proofs.Math.Seq.{take-append_seam, drop-append_seam}
 use Rattle.task_parser.specs.declared.token.Token.{Token}
 use Rattle.task_parser.specs.declared.token.Kind.{Kind}
 use Rattle.task_parser.specs.TokenTable.{IsToken, IsLongest}
-use Rattle.task_parser.specs.Lexing.{token_behind}
+use Rattle.task_parser.specs.meaning.Lexing.{token_behind}
 use Rattle.task_parser.specs.Splitting.{Splits, nothing, gap, token, IsPlaced, AreInOrder, TokensArePlaced}
 use Rattle.task_parser.proofs.LexSplits.{lexings_split}
 

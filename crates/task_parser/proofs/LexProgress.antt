@@ -11,8 +11,10 @@ use Rattle.task_parser.specs.declared.fault.LexFault.{LexFault}
 use Rattle.task_parser.specs.declared.fault.LexFault.TheVariants.{BadByte, NumberTooBig}
 use Rattle.task_parser.specs.declared.lexer.Piece.{Piece}
 use Rattle.task_parser.specs.declared.lexer.Piece.TheVariants.{Skip, Take, TooBig, Bad}
-use Rattle.task_parser.specs.Pieces.{piece_of, FitsIn}
-use Rattle.task_parser.specs.Lexing.{IsTokenOf, AreTokensOf, lexed_behind, followed_by, line_behind}
+use Rattle.task_parser.specs.meaning.Pieces.{piece_of}
+use Rattle.task_parser.specs.Pieces.{FitsIn}
+use Rattle.task_parser.specs.meaning.Lexing.{lexed_behind, followed_by, line_behind}
+use Rattle.task_parser.specs.Lexing.{IsTokenOf, AreTokensOf}
 use Rattle.task_parser.proofs.LexPieces.{piece_fits}
 use Rattle.task_parser.proofs.LexSteps.{lexed_at, lexed_from, lexed_step, length_front}
 

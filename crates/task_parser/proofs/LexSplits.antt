@@ -13,9 +13,10 @@ use Rattle.task_parser.specs.declared.fault.LexFault.{LexFault}
 use Rattle.task_parser.specs.declared.fault.LexFault.TheVariants.{TooLong}
 use Rattle.task_parser.specs.declared.lexer.Piece.{Piece}
 use Rattle.task_parser.specs.declared.lexer.Piece.TheVariants.{Skip, Take, TooBig, Bad}
-use Rattle.task_parser.specs.Pieces.{FitsIn, word_kind, piece_of, is_comment_byte, is_quoted_byte}
+use Rattle.task_parser.specs.meaning.Pieces.{word_kind, piece_of, is_comment_byte, is_quoted_byte}
+use Rattle.task_parser.specs.Pieces.{FitsIn}
 use Rattle.task_parser.specs.TokenTable.{IsToken, IsInRange, IsLongest, IsGap, IsComment}
-use Rattle.task_parser.specs.Lexing.{lexed_behind, followed_by, token_behind}
+use Rattle.task_parser.specs.meaning.Lexing.{lexed_behind, followed_by, token_behind}
 use Rattle.task_parser.specs.Splitting.{Splits, nothing, gap, token, StopsShort, BeginsTooBig, StopsAt, LexingsSplit, FaultsStop}
 use Rattle.task_parser.proofs.LexPieces.{Stands, space, comment, number, too_big, word, register, no_name, quoted, no_end, pair, single, no_equals, stray, piece_stands, stands_fits, piece_fits, front_some, hash_is_comment_byte}
 use Rattle.task_parser.proofs.LexTokens.{prefix_passes, prefix_stops}

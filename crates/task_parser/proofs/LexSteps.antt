@@ -9,8 +9,9 @@ use Rattle.task_parser.specs.declared.fault.LexFault.{LexFault}
 use Rattle.task_parser.specs.declared.fault.LexFault.TheVariants.{BadByte, NumberTooBig}
 use Rattle.task_parser.specs.declared.lexer.Piece.{Piece}
 use Rattle.task_parser.specs.declared.lexer.Piece.TheVariants.{Skip, Take, TooBig, Bad}
-use Rattle.task_parser.specs.Pieces.{piece_of, least_length, FitsIn}
-use Rattle.task_parser.specs.Lexing.{lexed_behind, followed_by, token_behind}
+use Rattle.task_parser.specs.meaning.Pieces.{piece_of}
+use Rattle.task_parser.specs.Pieces.{least_length, FitsIn}
+use Rattle.task_parser.specs.meaning.Lexing.{lexed_behind, followed_by, token_behind}
 use Rattle.task_parser.proofs.LexPieces.{piece_fits}
 
 -- the rest of a piece is passed over

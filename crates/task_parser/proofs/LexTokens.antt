@@ -12,7 +12,7 @@ use Rattle.std.proofs.lemmas.Bool.{false≢true, eqb-true}
 use Rattle.std.proofs.lemmas.Bool.Decides.{nat_tests}
 use Rattle.task_parser.specs.declared.token.Kind.{Kind}
 use Rattle.task_parser.specs.declared.token.Kind.TheVariants.{Num, Name, Reg, Quoted, Word, Mark}
-use Rattle.task_parser.specs.Pieces.{is_space, is_letter, begins, row_of, words, marks}
+use Rattle.task_parser.specs.meaning.Pieces.{is_space, is_letter, begins, row_of, words, marks}
 use Rattle.task_parser.specs.TokenTable.{IsToken, IsDigits}
 use Rattle.task_parser.proofs.LexPieces.{IsOther}
 

@@ -12,9 +12,10 @@ use Rattle.task_parser.specs.declared.token.Kind.{Kind}
 use Rattle.task_parser.specs.declared.token.Kind.TheVariants.{Num, Name, Reg, Quoted, Word, Mark}
 use Rattle.task_parser.specs.declared.lexer.Piece.{Piece}
 use Rattle.task_parser.specs.declared.lexer.Piece.TheVariants.{Skip, Take}
-use Rattle.task_parser.specs.Pieces.{FitsIn, piece_of, is_comment_byte, is_quoted_byte, begins}
+use Rattle.task_parser.specs.meaning.Pieces.{piece_of, is_comment_byte, is_quoted_byte, begins}
+use Rattle.task_parser.specs.Pieces.{FitsIn}
 use Rattle.task_parser.specs.TokenTable.{IsToken, IsInRange, IsLongest, IsGap, IsComment}
-use Rattle.task_parser.specs.Lexing.{lexed_behind, followed_by, token_behind}
+use Rattle.task_parser.specs.meaning.Lexing.{lexed_behind, followed_by, token_behind}
 use Rattle.task_parser.specs.Splitting.{Splits, nothing, gap, token, StopsShort, BeginsTooBig, SplittingsAreLexed}
 use Rattle.task_parser.proofs.LexPieces.{Stands, space, comment, number, too_big, word, register, no_name, quoted, no_end, pair, single, no_equals, stray, piece_stands, stands_fits}
 use Rattle.task_parser.proofs.LexTokens.{class_of, class_some, class_space, class_hash, class_quote, first_class}

@@ -2,10 +2,10 @@
 use Rattle.std.proofs.Common.{◌≡◌, ℕ, Bool, true, false, List, [], ◌∷◌, ◌++◌, Result, Ok, Err, refl, sym, ap, ◌∙◌, append_assoc, append-nil, map}
 use Rattle.std.proofs.lemmas.List.{map-append}
 use Rattle.task_parser.specs.declared.token.Token.{Token}
-use Rattle.task_parser.specs.Words.{Form}
+use Rattle.task_parser.specs.meaning.Words.{Form}
 use Rattle.task_parser.specs.inner.Reading.{Reader, begins, ◌>>=◌, read_made, repeat}
-use Rattle.task_parser.specs.Promise.{Stop}
-use Rattle.task_parser.specs.Classes.{among}
+use Rattle.task_parser.specs.meaning.Promise.{Stop}
+use Rattle.task_parser.specs.meaning.Classes.{among}
 use Rattle.task_parser.proofs.Many.{Shortens, shortens_sound, repeat_more, repeat_none}
 use Rattle.task_parser.proofs.Forms.{Reads}
 

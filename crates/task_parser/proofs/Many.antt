@@ -2,9 +2,9 @@
 use Rattle.std.proofs.Common.{◌≡◌, ℕ, zero, suc, ◌+◌, ◌≤◌, ◌<◌, Bool, true, false, cond, List, [], ◌∷◌, ◌++◌, length, Result, Ok, Err, refl, sym, ap, subst, ◌∙◌, arith}
 use Rattle.std.proofs.lemmas.List.{length-append}
 use Rattle.task_parser.specs.declared.token.Token.{Token}
-use Rattle.task_parser.specs.Words.{Placed, Form, Both, Made, many, put_first, tokens_of}
+use Rattle.task_parser.specs.meaning.Words.{Placed, Form, Both, Made, many, put_first, tokens_of}
 use Rattle.task_parser.specs.inner.Reading.{Reader, begins, ◌>>=◌, read_both, read_made, read_many, repeat}
-use Rattle.task_parser.specs.Promise.{Stop}
+use Rattle.task_parser.specs.meaning.Promise.{Stop}
 use Rattle.task_parser.specs.inner.Laws.{Took, Outcome, Sound, verdict, Complete, Starts, Inhabited, Parted}
 use Rattle.task_parser.proofs.Basics.{tokens_parts, begins_same, verdict-bind, verdict-append}
 use Rattle.task_parser.proofs.Exact.{both_first, made_any, outcome_as, Covers, Apart, begins_narrow, begins_apart, begins_longer}

@@ -6,17 +6,17 @@ use Rattle.std.proofs.Common.{◌≡◌, ℕ, suc, ◌+◌, ◌≤◌, ◌⊎◌
 use Rattle.std.proofs.lemmas.List.{append-nil, append_cancel_right}
 use Rattle.std.proofs.lemmas.Bool.{le-leb}
 use Rattle.gp_base.specs.declared.limits.TheConstants.{DEEPEST_NESTING}
-use Rattle.task_ast.specs.Tree.{Program}
+use Rattle.task_ast.specs.meaning.Tree.{Program}
 use Rattle.task_parser.specs.declared.token.Token.{Token}
-use Rattle.task_parser.specs.Words.{Placed, tokens_of}
+use Rattle.task_parser.specs.meaning.Words.{Placed, tokens_of}
 use Rattle.task_parser.specs.inner.Reading.{◌>>=◌, unexpected}
-use Rattle.task_parser.specs.Promise.{Stop}
+use Rattle.task_parser.specs.meaning.Promise.{Stop}
 use Rattle.task_parser.specs.inner.Laws.{Same, Outcome, verdict}
-use Rattle.task_parser.specs.Promise.{Within}
-use Rattle.task_parser.specs.Expressions.{Text}
-use Rattle.task_parser.specs.Programs.{program}
+use Rattle.task_parser.specs.meaning.Promise.{Within}
+use Rattle.task_parser.specs.meaning.Expressions.{Text}
+use Rattle.task_parser.specs.meaning.Programs.{program}
 use Rattle.task_parser.specs.inner.ProgramReaders.{read_program}
-use Rattle.task_parser.specs.Promise.{Spelled, StandFor, Begins, CannotGoOn, NestsBeyond, FaultThere, StopFirst}
+use Rattle.task_parser.specs.meaning.Promise.{Spelled, StandFor, Begins, CannotGoOn, NestsBeyond, FaultThere, StopFirst}
 use Rattle.task_parser.specs.inner.WholeText.{to_end, read_all}
 use Rattle.task_parser.specs.OneReading.{ProgramOrFault, NoFault, OneFault}
 use Rattle.task_parser.proofs.Basics.{tokens-append, tokens_parts, verdict-append}

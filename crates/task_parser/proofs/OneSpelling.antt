@@ -1,17 +1,17 @@
 -- A text stands for one program, or has one first fault.
 use Rattle.std.proofs.Common.{◌≡◌, ◌≢◌, ◌⊎◌, inl, inr, Bool, true, false, List, Result, Ok, Err, refl, sym, ap, ◌∙◌}
-use Rattle.task_ast.specs.Tree.{Program}
+use Rattle.task_ast.specs.meaning.Tree.{Program}
 use Rattle.task_parser.specs.declared.token.Token.{Token}
 use Rattle.task_parser.specs.declared.fault.LexFault.{LexFault}
 use Rattle.task_parser.specs.declared.fault.ParseFault.{ParseFault}
 use Rattle.task_parser.specs.declared.fault.ParseFault.TheVariants.{Unexpected, TooDeep, OutOfMemory}
-use Rattle.task_parser.specs.Lexing.{lexed}
-use Rattle.task_parser.specs.Promise.{Stop}
-use Rattle.task_parser.specs.Expressions.{Text}
-use Rattle.task_parser.specs.Promise.{StandFor, StopFirst}
-use Rattle.task_parser.specs.Answer.{place, IsFirstFault}
+use Rattle.task_parser.specs.meaning.Lexing.{lexed}
+use Rattle.task_parser.specs.meaning.Promise.{Stop}
+use Rattle.task_parser.specs.meaning.Expressions.{Text}
+use Rattle.task_parser.specs.meaning.Promise.{StandFor, StopFirst}
+use Rattle.task_parser.specs.meaning.Answer.{place, IsFirstFault}
 use Rattle.task_parser.specs.inner.WholeText.{read_all}
-use Rattle.task_parser.specs.Spelling.{HasFault, Meaning, Stands, LexFails, ParseFails, Means}
+use Rattle.task_parser.specs.meaning.Spelling.{HasFault, Meaning, Stands, LexFails, ParseFails, Means}
 use Rattle.task_parser.specs.OneReading.{OnePlace, SomeMeaning, OneMeaning, OneSpelling}
 use Rattle.task_parser.proofs.Whole.{spelled_read}
 use Rattle.task_parser.proofs.OneReading.{first_fault_answer, program_or_fault, one_fault}

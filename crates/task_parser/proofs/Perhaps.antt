@@ -1,7 +1,7 @@
 -- At most one of a form is read exactly where the form is.
 use Rattle.std.proofs.Common.{◌≡◌, ℕ, ◌+◌, Bool, true, false, cond, List, [], Option, Some, None, Ok, refl, sym, subst}
 use Rattle.task_parser.specs.declared.token.Token.{Token}
-use Rattle.task_parser.specs.Words.{Placed, Form, Made, perhaps, tokens_of}
+use Rattle.task_parser.specs.meaning.Words.{Placed, Form, Made, perhaps, tokens_of}
 use Rattle.task_parser.specs.inner.Reading.{Reader, begins, read_made, given, read_perhaps}
 use Rattle.task_parser.specs.inner.Laws.{Outcome, Sound, Complete, Starts, Inhabited, Parted}
 use Rattle.task_parser.proofs.Basics.{begins_same, verdict-bind}

@@ -1,12 +1,12 @@
 -- Expressions are read exactly.
 use Rattle.std.proofs.Common.{◌≡◌, ℕ, zero, suc, true, List, [], ◌∷◌, Option, Some, None, option_map, refl, inl, inr}
-use Rattle.task_ast.specs.Tree.{Expr, Neg, Not}
+use Rattle.task_ast.specs.meaning.Tree.{Expr, Neg, Not}
 use Rattle.task_parser.specs.declared.classes.TheConstants.{NUM, NAME, REG, AND, OR, NOT, SELF, ROWS, OPEN_BRACKET, CLOSE_BRACKET, OPEN_PAREN, CLOSE_PAREN, COMMA, EQ, NE, LT, LE, GT, GE, ADD, SUB, MUL, DIV, REM}
-use Rattle.task_parser.specs.Classes.{among}
-use Rattle.task_parser.specs.Words.{Form, ◌▸◌, Made, many, perhaps, Opened, the, ◌◂◌, first_of}
+use Rattle.task_parser.specs.meaning.Classes.{among}
+use Rattle.task_parser.specs.meaning.Words.{Form, ◌▸◌, Made, many, perhaps, Opened, the, ◌◂◌, first_of}
 use Rattle.task_parser.specs.inner.Reading.{Reader, read_opened}
 use Rattle.task_parser.specs.inner.Laws.{Inhabited}
-use Rattle.task_parser.specs.Expressions.{Text, comparisons, member_of, chain_of, compared_of, num_of, reg_of, me_of, rows_of, named_of, member, level, sum, compared, disjunction, place_in, operand, unary, expression}
+use Rattle.task_parser.specs.meaning.Expressions.{Text, comparisons, member_of, chain_of, compared_of, num_of, reg_of, me_of, rows_of, named_of, member, level, sum, compared, disjunction, place_in, operand, unary, expression}
 use Rattle.task_parser.specs.inner.ExpressionReaders.{starting, read_member, read_level, read_product, read_sum, read_compared, read_conjunction, read_disjunction, read_pair, read_place, read_named, read_rows, read_group, read_operand, read_unary, read_expression}
 use Rattle.task_parser.proofs.Exact.{inhabited_made, inhabited_one, inhabited_both}
 use Rattle.task_parser.proofs.Many.{inhabited_many}

@@ -1,15 +1,15 @@
 -- Heads, tasks and programs are read exactly.
 use Rattle.std.proofs.Common.{ℕ, suc, List, [], ◌∷◌, refl}
-use Rattle.task_ast.specs.Tree.{block, TaskText}
+use Rattle.task_ast.specs.meaning.Tree.{block, TaskText}
 use Rattle.task_parser.specs.declared.classes.TheConstants.{NUM, NAME, REG, QUOTED, LOCK, BARRIER, RECORD, BY, FROM, FEED, TASK, VAR, ELSE, OPEN_BRACKET, CLOSE_BRACKET, OPEN_PAREN, CLOSE_PAREN, OPEN_BRACE, CLOSE_BRACE, COMMA, SEMICOLON}
-use Rattle.task_parser.specs.Classes.{among}
-use Rattle.task_parser.specs.Words.{Form, Both, ◌▸◌, many, some, the, ◌◂◌, separated}
+use Rattle.task_parser.specs.meaning.Classes.{among}
+use Rattle.task_parser.specs.meaning.Words.{Form, Both, ◌▸◌, many, some, the, ◌◂◌, separated}
 use Rattle.task_parser.specs.inner.Reading.{read_both, repeat, read_after, read_some, read_separated}
 use Rattle.task_parser.specs.inner.Laws.{Sound, Complete}
-use Rattle.task_parser.specs.Expressions.{Text}
-use Rattle.task_parser.specs.Statements.{or_empty, listed_in}
+use Rattle.task_parser.specs.meaning.Expressions.{Text}
+use Rattle.task_parser.specs.meaning.Statements.{or_empty, listed_in}
 use Rattle.task_parser.specs.inner.StatementReaders.{statement_starts, read_list}
-use Rattle.task_parser.specs.Programs.{lock_head_of, barrier_head_of, record_head_of, feed_head_of, file_in, ctl_param, reg_param, var_line_of, task_of, program_from, lock_head, barrier_head, from_file, record_head, feed_head, head, param, var_line, task, program}
+use Rattle.task_parser.specs.meaning.Programs.{lock_head_of, barrier_head_of, record_head_of, feed_head_of, file_in, ctl_param, reg_param, var_line_of, task_of, program_from, lock_head, barrier_head, from_file, record_head, feed_head, head, param, var_line, task, program}
 use Rattle.task_parser.specs.inner.ProgramReaders.{read_sized, read_lock_head, read_barrier_head, read_from_file, read_record_head, read_feed_head, head_starts, param_starts, read_head, read_param, read_var_line, read_task, read_program}
 use Rattle.task_parser.proofs.Exact.{sound_both, complete_both, sound_made, complete_made, parted_starts}
 use Rattle.task_parser.proofs.ClassLists.{apart}

@@ -2,15 +2,15 @@
 -- with the words that it may begin with. What a block holds is read with one less of the room for nesting, and by no
 -- reader where no room is left; the two main lemmas go by recursion on that room.
 use Rattle.std.proofs.Common.{◌≡◌, ℕ, zero, suc, true, List, [], ◌∷◌, Option, Some, None, option_map, refl, inl, inr}
-use Rattle.task_ast.specs.Tree.{Expr, Stmt, block}
+use Rattle.task_ast.specs.meaning.Tree.{Expr, Stmt, block}
 use Rattle.task_parser.specs.declared.classes.TheConstants.{NUM, NAME, REG, LOCK, UNLOCK, BARRIER, WHILE, IF, ELSE, FORK, INTO, JOIN, READ, WRITE, PRINT, WHEN, SETTLE, NOT, SELF, ROWS, OPEN_BRACKET, CLOSE_BRACKET, OPEN_PAREN, CLOSE_PAREN, OPEN_BRACE, CLOSE_BRACE, COMMA, SEMICOLON, ASSIGN}
-use Rattle.task_parser.specs.Classes.{among}
-use Rattle.task_parser.specs.Words.{Form, ◌▸◌, ◌∣◌, Made, many, the, ◌◂◌, separated}
+use Rattle.task_parser.specs.meaning.Classes.{among}
+use Rattle.task_parser.specs.meaning.Words.{Form, ◌▸◌, ◌∣◌, Made, many, the, ◌◂◌, separated}
 use Rattle.task_parser.specs.inner.Reading.{Reader, read_either, read_after, read_separated}
 use Rattle.task_parser.specs.inner.Laws.{Inhabited}
-use Rattle.task_parser.specs.Expressions.{Text}
+use Rattle.task_parser.specs.meaning.Expressions.{Text}
 use Rattle.task_parser.specs.inner.ExpressionReaders.{starting, read_expression}
-use Rattle.task_parser.specs.Statements.{number_atom, name_atom, set_ctl_of, while_of, if_of, lock_of, unlock_of, fork_of, join_of, barrier_of, settle_of, set_reg_of, read_of, write_of, print_of, when_of, or_nothing, or_empty, named_in, reg_in, listed_in, into_name, into_reg, atom, block_of, else_block, set_ctl, looping, branching, locking, unlocking, forking, joining, waiting, settling, set_reg, reading, writing, printing, choosing, data_form, control_form, data_statement, statement}
+use Rattle.task_parser.specs.meaning.Statements.{number_atom, name_atom, set_ctl_of, while_of, if_of, lock_of, unlock_of, fork_of, join_of, barrier_of, settle_of, set_reg_of, read_of, write_of, print_of, when_of, or_nothing, or_empty, named_in, reg_in, listed_in, into_name, into_reg, atom, block_of, else_block, set_ctl, looping, branching, locking, unlocking, forking, joining, waiting, settling, set_reg, reading, writing, printing, choosing, data_form, control_form, data_statement, statement}
 use Rattle.task_parser.specs.inner.StatementReaders.{data_starts, control_starts, statement_starts, read_atom, read_indexed, read_inner_block, read_block, read_else, read_set_ctl, read_looping, read_branching, read_locking, read_unlocking, read_list, read_into_name, read_into_reg, read_forking, read_joining, read_waiting, read_settling, read_set_reg, read_reading, read_writing, read_printing, read_choosing, read_data_form, read_control_form, read_data_statement, read_statement}
 use Rattle.task_parser.proofs.Exact.{inhabited_made}
 use Rattle.task_parser.proofs.Many.{inhabited_many}

@@ -6,18 +6,18 @@ use Rattle.std.specs.Prelude.{◌&&◌}
 use Rattle.std.specs.List.{list_all}
 use Rattle.std.proofs.lemmas.Bool.{and_parts}
 use Rattle.std.proofs.lemmas.List.Folds.{list_all-append}
-use Rattle.task_ast.specs.Tree.{Stmt, At, Block, Nothing, Then, block, TaskText}
+use Rattle.task_ast.specs.meaning.Tree.{Stmt, At, Block, Nothing, Then, block, TaskText}
 use Rattle.task_ast.specs.Shaped.{is_natural, is_shaped_head, is_data, all_data, is_shaped_what, is_shaped_stmt, is_shaped_block, is_shaped}
 use Rattle.task_parser.specs.declared.token.Token.{Token}
 use Rattle.task_parser.specs.declared.token.Kind.{Kind}
 use Rattle.task_parser.specs.declared.token.Kind.TheVariants.{Num}
 use Rattle.task_parser.specs.declared.classes.TheConstants.{NUM}
-use Rattle.task_parser.specs.Words.{Placed, Form, ◌▸◌, Made, ◌∣◌, many, perhaps, Opened, first_of, second_of, the, tokens_of}
+use Rattle.task_parser.specs.meaning.Words.{Placed, Form, ◌▸◌, Made, ◌∣◌, many, perhaps, Opened, first_of, second_of, the, tokens_of}
 use Rattle.task_parser.specs.TokenTable.{IsToken}
 use Rattle.task_parser.specs.Splitting.{Splits, nothing, gap, token}
-use Rattle.task_parser.specs.Expressions.{Text, number_in}
-use Rattle.task_parser.specs.Statements.{or_nothing, block_of, else_block, data_statement, statement}
-use Rattle.task_parser.specs.Programs.{head, task, program}
+use Rattle.task_parser.specs.meaning.Expressions.{Text, number_in}
+use Rattle.task_parser.specs.meaning.Statements.{or_nothing, block_of, else_block, data_statement, statement}
+use Rattle.task_parser.specs.meaning.Programs.{head, task, program}
 use Rattle.task_parser.specs.ShapedLaw.{SpelledIsShaped}
 use Rattle.task_parser.proofs.Basics.{tokens-append}
 use Rattle.task_parser.proofs.LexSplits.{lexings_split}

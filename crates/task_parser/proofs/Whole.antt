@@ -6,21 +6,22 @@ use Rattle.std.proofs.Common.{◌≡◌, ℕ, suc, ◌+◌, Bool, true, false, c
 use Rattle.std.proofs.lemmas.List.{append-nil}
 use Rattle.std.proofs.lemmas.Bool.{le-leb}
 use Rattle.gp_base.specs.declared.limits.TheConstants.{DEEPEST_NESTING}
-use Rattle.task_ast.specs.Tree.{Program}
+use Rattle.task_ast.specs.meaning.Tree.{Program}
 use Rattle.task_parser.specs.declared.token.Token.{Token}
 use Rattle.task_parser.specs.declared.halt.Halt.{Halt}
 use Rattle.task_parser.specs.declared.halt.Halt.TheVariants.{Memory, Unexpected, TooDeep}
-use Rattle.task_parser.specs.Words.{Placed, tokens_of}
+use Rattle.task_parser.specs.meaning.Words.{Placed, tokens_of}
 use Rattle.task_parser.specs.inner.Reading.{◌>>=◌, unexpected}
-use Rattle.task_parser.specs.Promise.{Stop}
+use Rattle.task_parser.specs.meaning.Promise.{Stop}
 use Rattle.task_parser.specs.inner.Laws.{Same, GoesBeyond, Took, Halted, Outcome, verdict}
-use Rattle.task_parser.specs.Promise.{Within}
-use Rattle.task_parser.specs.Expressions.{Text}
-use Rattle.task_parser.specs.Programs.{program}
+use Rattle.task_parser.specs.meaning.Promise.{Within}
+use Rattle.task_parser.specs.meaning.Expressions.{Text}
+use Rattle.task_parser.specs.meaning.Programs.{program}
 use Rattle.task_parser.specs.inner.ProgramReaders.{read_program}
 use Rattle.task_parser.specs.inner.Gives.{Fails}
-use Rattle.task_parser.specs.Promise.{Spelled, StandFor, Begins, CannotGoOn, NestsBeyond, StopFirst}
-use Rattle.task_parser.specs.Answer.{IsFirstFault, Answers}
+use Rattle.task_parser.specs.meaning.Promise.{Spelled, StandFor, Begins, CannotGoOn, NestsBeyond, StopFirst}
+use Rattle.task_parser.specs.meaning.Answer.{IsFirstFault}
+use Rattle.task_parser.specs.Answer.{Answers}
 use Rattle.task_parser.specs.inner.WholeText.{fault_at, to_end, read_all, Exactly}
 use Rattle.task_parser.proofs.Basics.{tokens-append, verdict-bind}
 use Rattle.task_parser.proofs.ReadPrograms.{sound_program, complete_program}

@@ -1,26 +1,10 @@
--- What parsing answers.
-use Rattle.std.specs.Prelude.{◌≡◌, ℕ, true, false, List, [], ◌∷◌, length, Result, Ok, Err}
-use Rattle.task_ast.specs.Tree.{Program}
+-- What a parse answers.
+use Rattle.std.specs.Prelude.{◌≡◌, Result, Ok, Err}
+use Rattle.task_ast.specs.meaning.Tree.{Program}
 use Rattle.task_ast.specs.declared.tree.Program.{Program as CodeProgram}
 use Rattle.task_ast.specs.View.{plain_program}
-use Rattle.task_parser.specs.declared.token.Token.{Token}
 use Rattle.task_parser.specs.declared.fault.ParseFault.{ParseFault}
-use Rattle.task_parser.specs.declared.fault.ParseFault.TheVariants.{Unexpected, TooDeep, OutOfMemory}
-use Rattle.task_parser.specs.Expressions.{Text}
-use Rattle.task_parser.specs.Promise.{StopFirst}
-
--- where the rest of the tokens begins in the text
-abbrev pub place : Text → List Token → ℕ
-place text [] = length text
-place text (t ∷ ts) = t.from
-
--- The fault is the first one, and stands at its place.
-abbrev pub IsFirstFault : Text → List Token → ParseFault → Type 0
-IsFirstFault text tokens OutOfMemory = Unit {0}
-IsFirstFault text tokens (Unexpected at) =
-    (rest : List Token) × (at ≡ place text rest) × StopFirst text tokens (record { deep = false; rest = rest })
-IsFirstFault text tokens (TooDeep at) =
-    (rest : List Token) × (at ≡ place text rest) × StopFirst text tokens (record { deep = true; rest = rest })
+use Rattle.task_parser.specs.declared.fault.ParseFault.TheVariants.{OutOfMemory}
 
 -- The program is answered, unless memory ran out.
 abbrev pub Answers : Result CodeProgram ParseFault → Program → Type 0

@@ -2,8 +2,8 @@
 use Rattle.std.specs.Prelude.{◌≡◌, ℕ, List, [], ◌∷◌, Option, Some, option_map, codes}
 use Rattle.task_parser.specs.declared.token.Kind.TheVariants.{Word, Mark}
 use Rattle.task_parser.specs.declared.classes.TheConstants.{LOCK, UNLOCK, BARRIER, RECORD, BY, FROM, FEED, TASK, VAR, WHILE, IF, ELSE, FORK, INTO, JOIN, READ, WRITE, PRINT, WHEN, AND, OR, NOT, SELF, ROWS, SETTLE, OPEN_BRACKET, CLOSE_BRACKET, OPEN_PAREN, CLOSE_PAREN, OPEN_BRACE, CLOSE_BRACE, COMMA, SEMICOLON, ASSIGN, EQ, NE, LT, LE, GT, GE, ADD, SUB, MUL, DIV, REM}
-use Rattle.task_parser.specs.Pieces.{words, marks, row_of}
-use Rattle.task_parser.specs.Classes.{class}
+use Rattle.task_parser.specs.meaning.Pieces.{words, marks, row_of}
+use Rattle.task_parser.specs.meaning.Classes.{class}
 
 -- the class of a reserved word, and of a mark, by its text
 abbrev pub word_class : List ℕ → Option ℕ

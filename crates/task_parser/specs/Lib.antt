@@ -1,16 +1,10 @@
 pub mod Answer
 pub mod ClassTable
-pub mod Classes
-pub mod Expressions
 pub mod Lexing
 pub mod OneReading
 pub mod Pieces
-pub mod Programs
-pub mod Promise
 pub mod ShapedLaw
-pub mod Spelling
 pub mod Splitting
-pub mod Statements
 pub mod TokenTable
-pub mod Words
 pub mod inner
+pub mod meaning

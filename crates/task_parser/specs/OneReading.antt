@@ -1,12 +1,12 @@
 -- The laws of what tokens and texts stand for: one program, or else one first fault.
 use Rattle.std.specs.Prelude.{◌≡◌, ◌⊎◌, List}
-use Rattle.task_ast.specs.Tree.{Program}
+use Rattle.task_ast.specs.meaning.Tree.{Program}
 use Rattle.task_parser.specs.declared.token.Token.{Token}
 use Rattle.task_parser.specs.declared.fault.ParseFault.{ParseFault}
-use Rattle.task_parser.specs.Expressions.{Text}
-use Rattle.task_parser.specs.Promise.{Stop}
-use Rattle.task_parser.specs.Promise.{StandFor, StopFirst}
-use Rattle.task_parser.specs.Spelling.{Spells, HasFault, Meaning, Means}
+use Rattle.task_parser.specs.meaning.Expressions.{Text}
+use Rattle.task_parser.specs.meaning.Promise.{Stop}
+use Rattle.task_parser.specs.meaning.Promise.{StandFor, StopFirst}
+use Rattle.task_parser.specs.meaning.Spelling.{Spells, HasFault, Meaning, Means}
 
 -- tokens stand for a program, or have a first fault
 abbrev pub ProgramOrFault : Type 0

@@ -6,9 +6,9 @@ use Rattle.task_parser.specs.declared.token.Kind.{Kind}
 use Rattle.task_parser.specs.declared.token.Kind.TheVariants.{Num}
 use Rattle.task_parser.specs.declared.fault.LexFault.{LexFault}
 use Rattle.task_parser.specs.declared.fault.LexFault.TheVariants.{BadByte, NumberTooBig, TooLong, OutOfMemory}
-use Rattle.task_parser.specs.Pieces.{is_space, number_limit}
+use Rattle.task_parser.specs.meaning.Pieces.{is_space, number_limit}
 use Rattle.task_parser.specs.TokenTable.{IsToken, IsInRange, IsLongest, IsGap}
-use Rattle.task_parser.specs.Lexing.{lexed, token_behind, line_behind}
+use Rattle.task_parser.specs.meaning.Lexing.{lexed, token_behind, line_behind}
 
 -- Behind the bytes before it, a text splits into spaces, comments and tokens, the longest token at each place. They give
 -- the tokens, and something may be left.

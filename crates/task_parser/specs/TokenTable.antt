@@ -4,7 +4,7 @@ use Rattle.std.specs.List.{AllPass}
 use Rattle.std.specs.Char.{is_ascii_digit}
 use Rattle.task_parser.specs.declared.token.Kind.{Kind}
 use Rattle.task_parser.specs.declared.token.Kind.TheVariants.{Num, Name, Reg, Quoted, Word, Mark}
-use Rattle.task_parser.specs.Pieces.{words, marks, row_of, is_space, is_comment_byte, is_letter, is_name_byte, is_quoted_byte, begins, decimal, number_limit}
+use Rattle.task_parser.specs.meaning.Pieces.{words, marks, row_of, is_space, is_comment_byte, is_letter, is_name_byte, is_quoted_byte, begins, decimal, number_limit}
 
 -- one digit or more
 pub record IsDigits (text : List ℕ) : Type 0 where

@@ -1,6 +1,6 @@
 // The declarations at the head of a program.
 ghost use Rattle.std.specs.Prelude.{◌≡◌, ◌<◌};
-ghost use Rattle.task_parser.specs.Classes.{among};
+ghost use Rattle.task_parser.specs.meaning.Classes.{among};
 ghost use Rattle.task_parser.specs.inner.Reading.{begins, repeat};
 ghost use Rattle.task_parser.specs.inner.ProgramReaders.{read_sized, read_lock_head, read_barrier_head, read_from_file, read_record_head, read_feed_head, head_starts, read_head};
 ghost use Rattle.task_parser.specs.inner.Gives.{Gives};

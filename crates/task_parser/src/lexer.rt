@@ -3,25 +3,10 @@ ghost use Rattle.std.specs.Prelude.{◌≡◌, ◌≤◌, ◌<◌, ◌^◌, ◌�
 ghost use Rattle.std.specs.List.{prefix_len};
 ghost use Rattle.std.specs.Char.{is_ascii_digit};
 ghost use Rattle.gp_base.specs.declared.limits.TheConstants.{MOST_PROGRAM_BYTES};
-ghost use Rattle.task_parser.specs.Pieces.{
-  is_space,
-  is_comment_byte,
-  is_letter,
-  is_name_byte,
-  is_quoted_byte,
-  words,
-  marks,
-  row_of,
-  number_piece,
-  word_piece,
-  register_piece,
-  quoted_piece,
-  mark_piece,
-  piece_of,
-  decimal,
-  FitsIn,
-};
-ghost use Rattle.task_parser.specs.Lexing.{lexed, IsFaultOf, AreTokensOf};
+ghost use Rattle.task_parser.specs.meaning.Pieces.{is_space, is_comment_byte, is_letter, is_name_byte, is_quoted_byte, words, marks, row_of, number_piece, word_piece, register_piece, quoted_piece, mark_piece, piece_of, decimal};
+ghost use Rattle.task_parser.specs.Pieces.{FitsIn};
+ghost use Rattle.task_parser.specs.meaning.Lexing.{lexed};
+ghost use Rattle.task_parser.specs.Lexing.{IsFaultOf, AreTokensOf};
 
 use crate::fault::LexFault;
 use crate::token::{Kind, Token};

@@ -1,6 +1,6 @@
 // What stands next in a list of tokens.
 ghost use Rattle.std.specs.Prelude.{◌≡◌, [], ◌∷◌};
-ghost use Rattle.task_parser.specs.Classes.{class, among};
+ghost use Rattle.task_parser.specs.meaning.Classes.{class, among};
 ghost use Rattle.task_parser.specs.inner.Gives.{Gives};
 ghost use Rattle.task_parser.specs.inner.Reading.{begins, read_one};
 

@@ -1,7 +1,7 @@
 // What statements are made of: indices, lists of expressions, and what stands after an `into`.
 ghost use Rattle.std.specs.Prelude.{◌≡◌};
 ghost use Rattle.task_ast.specs.View.{plain_expr, plain_exprs};
-ghost use Rattle.task_parser.specs.Classes.{among};
+ghost use Rattle.task_parser.specs.meaning.Classes.{among};
 ghost use Rattle.task_parser.specs.inner.Reading.{begins, read_after, read_separated};
 ghost use Rattle.task_parser.specs.inner.ExpressionReaders.{starting, read_expression};
 ghost use Rattle.task_parser.specs.inner.StatementReaders.{read_atom, read_indexed, read_list, read_into_name, read_into_reg};

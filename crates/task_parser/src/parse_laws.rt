@@ -19,7 +19,8 @@ pub fn one_meaning()
     ensures program { OneSpelling }
 {}
 
-/// The program that a text stands for has no negative size, number of fields or barrier's number, and the blocks of each
+/// The program that a text stands for has no negative size, number of fields or barrier's number, and the blocks of
+/// each
 /// `when` in it hold data statements alone.
 pub fn spelled_is_shaped()
     ensures { SpelledIsShaped }

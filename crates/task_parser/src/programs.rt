@@ -1,12 +1,13 @@
 // Programs from tokens.
 ghost use Rattle.std.specs.Prelude.{◌≡◌, ◌<◌, ◌^◌, [], length, IfOk, IfErr};
-ghost use Rattle.task_ast.specs.Tree.{Program as PlainProgram};
+ghost use Rattle.task_ast.specs.meaning.Tree.{Program as PlainProgram};
 ghost use Rattle.task_ast.specs.View.{plain_program};
 ghost use Rattle.task_parser.specs.inner.Reading.{begins};
 ghost use Rattle.task_parser.specs.inner.ProgramReaders.{read_program};
 ghost use Rattle.task_parser.specs.inner.Gives.{Gives};
-ghost use Rattle.task_parser.specs.Promise.{StandFor};
-ghost use Rattle.task_parser.specs.Answer.{place, IsFirstFault, Answers};
+ghost use Rattle.task_parser.specs.meaning.Promise.{StandFor};
+ghost use Rattle.task_parser.specs.meaning.Answer.{place, IsFirstFault};
+ghost use Rattle.task_parser.specs.Answer.{Answers};
 ghost use Rattle.task_parser.specs.inner.WholeText.{fault_at, read_all};
 
 use crate::classes::*;
@@ -68,8 +69,9 @@ fn fault_of(text: &[u8], halt: Halt<'_>) -> ParseFault
 
 /// The program that the tokens of the text stand for, in the grammar of batch programs.
 ///
-/// Names and file names are the bytes that their tokens cover, without the `$` of a data variable and the quotes of
-/// a file. At most [`DEEPEST_NESTING`] blocks, parentheses and brackets of expressions, and unary operators may be open at a place.
+/// Names and file names are the bytes that their tokens cover, without the `$` of a data variable and the quotes of a
+/// file. At most [`DEEPEST_NESTING`] blocks, parentheses and brackets of expressions, and unary operators may be open
+/// at a place.
 ///
 /// # Errors
 ///

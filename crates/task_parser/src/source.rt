@@ -1,7 +1,7 @@
 // What is read, and what the bytes of a token stand for.
 ghost use Rattle.std.specs.Prelude.{◌≡◌, IfOk};
-ghost use Rattle.task_parser.specs.Expressions.{between, name_of, reg_name, number_in};
-ghost use Rattle.task_parser.specs.Programs.{file_of};
+ghost use Rattle.task_parser.specs.meaning.Expressions.{between, name_of, reg_name, number_in};
+ghost use Rattle.task_parser.specs.meaning.Programs.{file_of};
 
 use crate::token::{Kind, Token};
 use gp_base::Name;

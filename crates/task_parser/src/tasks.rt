@@ -1,7 +1,7 @@
 // Tasks: parameters, lines of variables, and statements.
 ghost use Rattle.std.specs.Prelude.{◌≡◌, ◌<◌, [], ◌∷◌, map};
 ghost use Rattle.task_ast.specs.View.{plain_task};
-ghost use Rattle.task_parser.specs.Classes.{among};
+ghost use Rattle.task_parser.specs.meaning.Classes.{among};
 ghost use Rattle.task_parser.specs.inner.Reading.{begins, repeat, read_after, read_some, read_separated};
 ghost use Rattle.task_parser.specs.inner.StatementReaders.{read_list};
 ghost use Rattle.task_parser.specs.inner.ProgramReaders.{param_starts, read_param, read_var_line, read_task};

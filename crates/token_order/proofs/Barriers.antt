@@ -7,9 +7,9 @@ use Rattle.gp_base.specs.declared.ending.End.TheVariants.{Spent}
 use Rattle.task_ast.specs.declared.sync.SyncOp.{SyncOp}
 use Rattle.task_ast.specs.declared.sync.SyncOp.TheVariants as sync
 use Rattle.task_ast.specs.declared.sync.Next.{Next}
-use Rattle.task_ast.specs.Repeat.{Done}
-use Rattle.task_ast.specs.Table.{Seat, Stand, Away, Waits, Released, Table, next_of, unpassed, meets, waits_at}
-use Rattle.task_ast.specs.Turn.{Ended, tried, stand_of, met, arrived, released_at, issuing, passing, is_away}
+use Rattle.task_ast.specs.meaning.Repeat.{Done}
+use Rattle.task_ast.specs.meaning.Table.{Seat, Stand, Away, Waits, Released, Table, next_of, unpassed, meets, waits_at}
+use Rattle.task_ast.specs.meaning.Turn.{Ended, tried, stand_of, met, arrived, released_at, issuing, passing, is_away}
 use Rattle.task_ast.proofs.Counting.{one, count-with_nth, count-map, get-map, get-with_nth}
 use Rattle.task_ast.proofs.Rounds.{keeps_nth, keeps_map}
 use Rattle.token_order.specs.Turned.{is_free_to_go}

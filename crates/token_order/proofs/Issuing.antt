@@ -3,9 +3,9 @@ use Rattle.std.proofs.Common.{◌≡◌, ℕ, suc, ◌+◌, true, nat_lt, List, 
 use Rattle.std.specs.Prelude.{slice_get}
 use Rattle.std.proofs.lemmas.List.{length-map}
 use Rattle.task_ast.specs.declared.sync.Next.{Next}
-use Rattle.task_ast.specs.Repeat.{Done}
-use Rattle.task_ast.specs.Table.{next_of, unpassed}
-use Rattle.task_ast.specs.Turn.{Issue, issuing, owners_after, seats_after, child_of}
+use Rattle.task_ast.specs.meaning.Repeat.{Done}
+use Rattle.task_ast.specs.meaning.Table.{next_of, unpassed}
+use Rattle.task_ast.specs.meaning.Turn.{Issue, issuing, owners_after, seats_after, child_of}
 use Rattle.token_order.specs.declared.threads.Threads.{Threads}
 use Rattle.token_order.specs.declared.threads.Seat.{Seat}
 use Rattle.token_order.specs.View.{table, seat_of}
@@ -13,7 +13,8 @@ use Rattle.token_order.specs.Turned.{begun}
 use Rattle.token_order.proofs.Looking.{seat-next}
 use Rattle.task_ast.proofs.ChangedSeats.{map-replaced}
 
-pub issued-as : (before : Threads) (t : ℕ) (seat begun_seat : Seat) (next : Next) (first : Next) (cleared old_seats after_seats : List Seat) (owners : List (Option ℕ)) (child : Option ℕ)
+pub issued-as : (before : Threads) (t : ℕ) (seat begun_seat : Seat) (next : Next) (first : Next) (cleared old_seats after_seats : List Seat)
+    (owners : List (Option ℕ)) (child : Option ℕ)
     → slice_get before.seats.items t ≡ Some seat
     → seat.next ≡ Some first
     → seat_of begun_seat ≡ begun before.issued (seat_of seat)
@@ -26,8 +27,16 @@ pub issued-as : (before : Threads) (t : ℕ) (seat begun_seat : Seat) (next : Ne
     → nat_lt before.issued before.limit ≡ true
     → next_of (table before) t ≡ Some next
     → issuing (table before) t next
-    ≡ Done (Issue t (first) child (record { limit = before.limit; barriers = before.barriers.items; seats = map seat_of after_seats; owners = owners; token = Some t; issued = before.issued + 1 }))
-issued-as before t seat begun_seat next first cleared old_seats after_seats owners child at first_is begun_is cleared_is owners_is old_is seats_is child_is len less e =
+    ≡ Done (Issue t (first) child (record {
+      limit = before.limit;
+      barriers = before.barriers.items;
+      seats = map seat_of after_seats;
+      owners = owners;
+      token = Some t;
+      issued = before.issued + 1;
+    }))
+issued-as before t seat begun_seat next first cleared old_seats after_seats owners child at first_is begun_is cleared_is owners_is old_is
+    seats_is child_is len less e =
     let n : next ≡ first = cc (sym e ∙ seat-next before t seat at ∙ first_is) in
     let one : before.issued + 1 ≡ suc before.issued = omega arith in
     let replaced = map-replaced seat_of before.seats.items t (begun before.issued) seat begun_seat at begun_is in

@@ -2,7 +2,7 @@
 use Rattle.std.proofs.Common.{◌≡◌, ℕ, List, length, Option, Some, None, refl}
 use Rattle.task_ast.specs.declared.sync.SyncOp.{SyncOp}
 use Rattle.task_ast.specs.declared.sync.SyncOp.TheVariants as sync
-use Rattle.task_ast.specs.Turn.{owners_after}
+use Rattle.task_ast.specs.meaning.Turn.{owners_after}
 use Rattle.task_ast.proofs.IssuedTables.{length_set}
 
 pub length-after : (op : SyncOp) (t : ℕ) (owners : List (Option ℕ)) → length (owners_after op t owners) ≡ length owners

@@ -5,9 +5,9 @@ use Rattle.std.proofs.lemmas.Bool.{lt-ltb}
 use Rattle.task_ast.specs.declared.sync.SyncOp.{SyncOp}
 use Rattle.task_ast.specs.declared.sync.SyncOp.TheVariants as sync
 use Rattle.task_ast.specs.declared.sync.Next.{Next}
-use Rattle.task_ast.specs.Repeat.{Again, More, Done}
-use Rattle.task_ast.specs.Table.{Table, ring, is_settle}
-use Rattle.task_ast.specs.Turn.{Turn, Issue, Needs, Ended, To, Unknown, NoThread, look, turn, tried, issuing, has_passed}
+use Rattle.task_ast.specs.meaning.Repeat.{Again, More, Done}
+use Rattle.task_ast.specs.meaning.Table.{Table, ring, is_settle}
+use Rattle.task_ast.specs.meaning.Turn.{Turn, Issue, Needs, Ended, To, Unknown, NoThread, look, turn, tried, issuing, has_passed}
 use Rattle.task_ast.specs.laws.Threads.{tries, ahead}
 use Rattle.task_ast.proofs.TurnLaws.{issue_law}
 use Rattle.token_order.specs.declared.threads.Threads.{Threads}

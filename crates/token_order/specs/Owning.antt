@@ -2,8 +2,8 @@
 use Rattle.std.specs.Prelude.{◌≡◌, ℕ, ◌<◌, List, length, Option, Some, None, slice_set}
 use Rattle.std.specs.Option.{ForSome}
 use Rattle.task_ast.specs.LockLists.{is_owner, with_lock, held_at}
-use Rattle.task_ast.specs.Table.{owned_from}
-use Rattle.task_ast.specs.Turn.{owners_after}
+use Rattle.task_ast.specs.meaning.Table.{owned_from}
+use Rattle.task_ast.specs.meaning.Turn.{owners_after}
 use Rattle.token_order.specs.declared.held.Change.{Change}
 use Rattle.token_order.specs.declared.held.Held.{Held}
 use Rattle.token_order.specs.declared.rules.Turn.{Turn}

@@ -1,8 +1,8 @@
 -- What a turn answers, by the rules of turns.
 use Rattle.std.specs.Prelude.{◌≡◌, ◌⊎◌, ⊤, ℕ, ℤ, pos, negsuc, Bool, true, false, cond, Option, Some, None, nat_lt}
-use Rattle.task_ast.specs.Repeat.{Again, More, Done}
-use Rattle.task_ast.specs.Table.{Stand, Released, Away, Seat, Table, is_settle}
-use Rattle.task_ast.specs.Turn.{Turn, Issue, Needs, Ended, turn}
+use Rattle.task_ast.specs.meaning.Repeat.{Again, More, Done}
+use Rattle.task_ast.specs.meaning.Table.{Stand, Released, Away, Seat, Table, is_settle}
+use Rattle.task_ast.specs.meaning.Turn.{Turn, Issue, Needs, Ended, turn}
 use Rattle.token_order.specs.declared.rules.Turn.{Turn as TurnHere}
 use Rattle.token_order.specs.declared.rules.Turn.TheVariants as here
 

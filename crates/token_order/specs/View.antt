@@ -2,8 +2,8 @@
 use Rattle.std.specs.Prelude.{ℕ, Bool, suc, ◌<◌, ◌≤◌, ⊤, cond, length, map, Option, Some, None, is_none}
 use Rattle.gp_base.specs.declared.limits.TheConstants.{MOST_THREADS}
 use Rattle.task_ast.specs.declared.sync.Next.{Next}
-use Rattle.task_ast.specs.Table.{Stand, Away, Waits, Released, Seat, Table, next_of, last_in}
-use Rattle.task_ast.specs.Turn.{Look, To, Unknown, NoThread}
+use Rattle.task_ast.specs.meaning.Table.{Stand, Away, Waits, Released, Seat, Table, next_of, last_in}
+use Rattle.task_ast.specs.meaning.Turn.{Look, To, Unknown, NoThread}
 use Rattle.token_order.specs.declared.threads.Stand.{Stand as StandHere}
 use Rattle.token_order.specs.declared.threads.Stand.TheVariants as stands
 use Rattle.token_order.specs.declared.threads.Seat.{Seat as SeatHere}

@@ -2,8 +2,8 @@
 
 ghost use Rattle.std.specs.Prelude.{◌≡◌, ℕ, ◌<◌, List, Option, Some, None, true, false, is_none, length, slice_set, slice_get, ◌==◌, if◌then◌else◌, replicate, IfOk, IfSome, OnOk, OnErr};
 ghost use Rattle.task_ast.specs.LockLists.{is_owner, with_lock, held_at};
-ghost use Rattle.task_ast.specs.Table.{owned_from};
-ghost use Rattle.task_ast.specs.Turn.{owners_after};
+ghost use Rattle.task_ast.specs.meaning.Table.{owned_from};
+ghost use Rattle.task_ast.specs.meaning.Turn.{owners_after};
 ghost use Rattle.token_order.specs.Owning.{owners_with, locks_with, owners_now, HeldStands, noted};
 ghost use Rattle.token_order.specs.Turned.{is_issue};
 
@@ -19,8 +19,8 @@ pub struct Change {
     pub owner: Option<u32>,
 }
 
-/// The owner of each lock cell before the change of the last issue, and for each thread the locks that it owned then, in
-/// rising order. A turn takes no memory, so what it changes is told to the lists later.
+/// The owner of each lock cell before the change of the last issue, and for each thread the locks that it owned then,
+/// in rising order. A turn takes no memory, so what it changes is told to the lists later.
 #[derive(Drop)]
 pub struct Held {
     pub owners: Vec<Option<u32>>,

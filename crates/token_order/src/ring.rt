@@ -3,8 +3,8 @@
 ghost use Rattle.std.specs.Prelude.{◌≡◌, ◌<◌, ◌≤◌, true, false, length, None, IfOk, OnOk, replicate};
 ghost use Rattle.std.specs.Option.{option_map, option_copied};
 ghost use Rattle.task_ast.specs.Reached.{start_table};
-ghost use Rattle.task_ast.specs.Table.{next_of, learning, owned_from};
-ghost use Rattle.task_ast.specs.Turn.{owners_after};
+ghost use Rattle.task_ast.specs.meaning.Table.{next_of, learning, owned_from};
+ghost use Rattle.task_ast.specs.meaning.Turn.{owners_after};
 ghost use Rattle.task_ast.specs.laws.Threads.{ahead};
 ghost use Rattle.token_order.specs.Turned.{Turned, LeavesRoom, cleared_after};
 ghost use Rattle.token_order.specs.View.{awaited};
@@ -124,8 +124,8 @@ impl Ring {
         self.threads.learn(thread.0, next);
     }
 
-    /// The thread whose rules the next turn tries: none where a next synchronisation is needed, or every thread has passed
-    /// or ended.
+    /// The thread whose rules the next turn tries: none where a next synchronisation is needed, or every thread has
+    /// passed or ended.
     pub fn ahead(&self) -> Option<ThreadNo>
         ensures { result ≡ option_map (λ tried. tried.0) (ahead self.now.table) }
     {
@@ -158,8 +158,8 @@ impl Ring {
         }
     }
 
-    /// The locks that the thread holds once it has performed the synchronisation, in rising order. The error is that memory
-    /// is out.
+    /// The locks that the thread holds once it has performed the synchronisation, in rising order. The error is that
+    /// memory is out.
     pub fn held_after(
         &self,
         alloc: Global,

@@ -5,9 +5,9 @@ ghost use Rattle.std.specs.Option.{option_and_then};
 ghost use Rattle.gp_base.specs.declared.ending.End.TheVariants as ends;
 ghost use Rattle.gp_base.specs.declared.limits.TheConstants.{MOST_THREADS};
 ghost use Rattle.task_ast.specs.declared.sync.SyncOp.TheVariants as sync;
-ghost use Rattle.task_ast.specs.Repeat.{More};
-ghost use Rattle.task_ast.specs.Table.{Away, next_of, waits_at};
-ghost use Rattle.task_ast.specs.Turn.{tried, issuing, passing, look, owners_after, seats_after, child_of, deadlocked, all_threads, arrived, stand_of, released_at};
+ghost use Rattle.task_ast.specs.meaning.Repeat.{More};
+ghost use Rattle.task_ast.specs.meaning.Table.{Away, next_of, waits_at};
+ghost use Rattle.task_ast.specs.meaning.Turn.{tried, issuing, passing, look, owners_after, seats_after, child_of, deadlocked, all_threads, arrived, stand_of, released_at};
 ghost use Rattle.token_order.specs.View.{table, seat_of, StandsInside};
 ghost use Rattle.token_order.specs.declared.rules.Turn.TheVariants as here;
 ghost use Rattle.token_order.specs.Turned.{Answered, is_free_to_go, begun, joined_in};
@@ -18,7 +18,8 @@ use gp_base::{End, Pos, ThreadNo, Why};
 use task_ast::{Next, SyncOp};
 
 /// What a turn answers: a thread begins a subthread, with the child where it forks one; the thread would begin one with
-/// a settle, which waits to be let; the thread passes; the next synchronisation of a thread is needed; the run has ended.
+/// a settle, which waits to be let; the thread passes; the next synchronisation of a thread is needed; the run has
+/// ended.
 #[derive(Drop)]
 pub enum Turn {
     Issue {
@@ -276,7 +277,7 @@ impl Threads {
     /// The thread that the next turn would issue with a settle.
     pub fn settling(&self) -> Option<u32>
         requires inside { StandsInside self.now }
-        ensures { result ≡ Rattle.token_order.specs.Turned.settling_in (Rattle.task_ast.specs.Turn.turn (table self.now)) }
+        ensures { result ≡ Rattle.token_order.specs.Turned.settling_in (Rattle.task_ast.specs.meaning.Turn.turn (table self.now)) }
     {
         if self.limit <= self.issued {
             return None;
@@ -298,7 +299,7 @@ impl Threads {
     pub fn turn(&mut self) -> Turn
         requires inside { StandsInside self.old }
         requires spare { vec_len self.old.seats < vec_capacity self.old.seats }
-        ensures answer { Answered (Rattle.task_ast.specs.Turn.turn (table self.old)) (table self.old) result (table self.new) }
+        ensures answer { Answered (Rattle.task_ast.specs.meaning.Turn.turn (table self.old)) (table self.old) result (table self.new) }
         ensures capacity { vec_capacity self.new.seats ≡ vec_capacity self.old.seats }
     {
         let Some(t) = self.token_at() else {
@@ -350,14 +351,14 @@ fn stuck(why: Why, t: u32, line: u32) -> Turn
 
 // Whether it is a settle.
 fn is_settle(next: &Next) -> bool
-    ensures { result ≡ Rattle.task_ast.specs.Table.is_settle next.now.sync }
+    ensures { result ≡ Rattle.task_ast.specs.meaning.Table.is_settle next.now.sync }
 {
     matches!(next.sync, SyncOp::Settle { reg: _, ctl: _ })
 }
 
 // Whether the thread ends with it.
 fn is_end(next: &Next) -> bool
-    ensures { result ≡ Rattle.task_ast.specs.Table.is_end next.now.sync }
+    ensures { result ≡ Rattle.task_ast.specs.meaning.Table.is_end next.now.sync }
 {
     matches!(next.sync, SyncOp::End)
 }
@@ -429,7 +430,7 @@ fn release(seats: &mut [Seat], barrier: u32)
 
 // Whether the thread has not arrived.
 fn is_away(seat: &Seat) -> bool
-    ensures { result ≡ Rattle.task_ast.specs.Turn.is_away (seat_of seat.now).stand }
+    ensures { result ≡ Rattle.task_ast.specs.meaning.Turn.is_away (seat_of seat.now).stand }
 {
     matches!(seat.stand, Stand::Away)
 }

@@ -3,8 +3,9 @@
 ghost use Rattle.std.specs.Prelude.{◌≡◌, ◌<◌, ◌≤◌, ◌-◌, length, map, Option, Some, None, IfSome, IfOk, replicate, vec_capacity};
 ghost use Rattle.gp_base.specs.declared.limits.TheConstants.{MOST_THREADS};
 ghost use Rattle.task_ast.specs.Reached.{start_table};
-ghost use Rattle.task_ast.specs.Table.{numbers, ring, learning, unpassed};
-ghost use Rattle.task_ast.specs.Turn.{look};
+ghost use Rattle.task_ast.specs.meaning.Table.{numbers, ring, learning, unpassed};
+ghost use Rattle.task_ast.specs.meaning.Turn.{look};
+ghost use Rattle.task_ast.specs.Table;
 ghost use Rattle.token_order.specs.View.{table, seat_of, look_of, start_of, StandsInside};
 
 use gp_base::limits::MOST_THREADS;
@@ -42,7 +43,7 @@ pub struct Threads {
 
 /// A thread that has begun no subthread.
 pub fn new_seat(next: Next) -> Seat
-    ensures { seat_of result ≡ record (Rattle.task_ast.specs.Table.new_seat) { next = Some next } }
+    ensures { seat_of result ≡ record (Rattle.task_ast.specs.meaning.Table.new_seat) { next = Some next } }
 {
     Seat {
         next: Some(next),

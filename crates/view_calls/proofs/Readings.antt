@@ -6,22 +6,23 @@ use Rattle.std.specs.declared.option.Option.TheVariants.{None, Some}
 use Rattle.std.specs.declared.result.Result.{Result}
 use Rattle.std.specs.declared.result.Result.TheVariants.{Ok, Err}
 use Rattle.std.proofs.lemmas.Bool.Decides.{nat_tests}
-use Rattle.gp_base.specs.Files.{bytes_of}
+use Rattle.gp_base.specs.meaning.Files.{bytes_of}
 use Rattle.gp_base.specs.declared.limits.TheConstants.{MOST_FILE_BYTES}
-use Rattle.task_ast.specs.Tree.{Name}
+use Rattle.task_ast.specs.meaning.Tree.{Name}
 use Rattle.gp_audit.specs.declared.line.TraceLine.{TraceLine}
-use Rattle.gp_audit.specs.Reading.{AnswersTrace, IsBrokenAt}
+use Rattle.gp_audit.specs.meaning.Reading.{IsBrokenAt}
+use Rattle.gp_audit.specs.Reading.{AnswersTrace}
 use Rattle.call_cases.specs.declared.reading.Refusal.{Refusal}
 use Rattle.call_cases.specs.declared.reading.Refusal.TheVariants.{Usage, BadProgram, BadInput, ReadFault, OutOfMemory}
-use Rattle.call_cases.specs.Work.{Files, ToDo, Supplied, Spoils}
-use Rattle.call_cases.specs.Journals.{dependence_for}
-use Rattle.call_cases.specs.Lines.{input_line}
+use Rattle.call_cases.specs.meaning.Work.{Files, ToDo, Supplied, Spoils}
+use Rattle.call_cases.specs.meaning.Journals.{dependence_for}
+use Rattle.call_cases.specs.meaning.Lines.{input_line}
 use Rattle.call_cases.specs.Refusals.{IsInputRefused, ReadsAmong, AnswersFile}
 use Rattle.call_cases.proofs.Loads.{only_one}
-use Rattle.audit_calls.specs.Tried.{Judge}
+use Rattle.audit_calls.specs.meaning.Tried.{Judge}
 use Rattle.audit_calls.proofs.Readings.{one_reading}
-use Rattle.view_calls.specs.Traces.{unlawful_in}
-use Rattle.view_calls.specs.Sights.{Sight, by_lines, by_rows}
+use Rattle.view_calls.specs.meaning.Traces.{unlawful_in}
+use Rattle.view_calls.specs.meaning.Sights.{Sight, by_lines, by_rows}
 use Rattle.view_calls.specs.inner.Answers.{AnswersLines}
 
 within_file : (text : List ℕ) → length text ≤ MOST_FILE_BYTES → nat_lt MOST_FILE_BYTES (length text) ≡ false

@@ -7,24 +7,27 @@ use Rattle.gp_base.specs.declared.sink.SinkFault.{SinkFault}
 use Rattle.gp_base.specs.declared.sink.SinkFault.TheVariants.{Failed}
 use Rattle.gp_base.specs.declared.sink.SinkFault.TheVariants as sink
 use Rattle.gp_base.proofs.Written.{prefix_whole}
-use Rattle.task_ast.specs.Tree.{Name}
+use Rattle.task_ast.specs.meaning.Tree.{Name}
 use Rattle.call_cases.specs.declared.reading.Refusal.{Refusal}
 use Rattle.call_cases.specs.declared.reading.Refusal.TheVariants.{Usage as RefusedUsage, BadProgram as RefusedProgram, BadInput as RefusedInput, ReadFault, OutOfMemory}
-use Rattle.call_cases.specs.Work.{Files}
+use Rattle.call_cases.specs.meaning.Work.{Files}
 use Rattle.call_cases.specs.Commands.{IsApart, AreSound}
-use Rattle.call_cases.specs.Lines as gprs_lines
-use Rattle.call_cases.specs.Case.{Case, Usage, BadProgram, BadInput, Go, IsCase, ForCase, names_read}
+use Rattle.call_cases.specs.meaning.Lines as gprs_lines
+use Rattle.call_cases.specs.meaning.Case.{Case, Usage, BadProgram, BadInput, Go, IsCase, ForCase, names_read}
 use Rattle.call_cases.specs.Refusals.{RefusesCase, RefusesWords, RefusesShelf, RefusalEnds, usage_told, program_told, input_told, read_told, refusal_no_memory, refusal_failed}
-use Rattle.call_cases.specs.Answers.{Change, unwritten, TakesAll, TakesPart, Fails, LineEnds, whole, line_failed, line_no_memory, RunEnds, finished}
-use Rattle.call_cases.specs.Headline.{IsStop, ReadsNothing}
+use Rattle.call_cases.specs.meaning.Answers.{Change, TakesAll, TakesPart, Fails}
+use Rattle.call_cases.specs.Answers.{unwritten, LineEnds, whole, line_failed, line_no_memory, RunEnds, finished}
+use Rattle.call_cases.specs.meaning.Headline.{IsStop, ReadsNothing}
 use Rattle.call_cases.proofs.OneCase.{for_known, for_each}
 use Rattle.call_cases.proofs.Headlines.{run_of_failed, run_of_memory, run_of_whole, run_headline, refused_headline, for_some, reads_failed}
-use Rattle.audit_calls.specs.Tried.{Judge}
+use Rattle.audit_calls.specs.meaning.Tried.{Judge}
 use Rattle.view_calls.specs.declared.words.Viewed.{Viewed}
-use Rattle.view_calls.specs.Commands.{MayRead, IsShown, asking, commands}
-use Rattle.view_calls.specs.Sights.{Sight, text_of, status_by, status_of, absent_of}
-use Rattle.view_calls.specs.Lines.{absent_line, usage_line, read_fault_line, out_of_memory_line, line_of, under_own_name, refusal_line, refusal_status, fault_line, fault_status}
-use Rattle.view_calls.specs.Shows.{untold, FailsToRead, IsLine, HasOwnLine, Shows, ShowEnds, shown, absent, unshown}
+use Rattle.view_calls.specs.meaning.Commands.{MayRead, IsShown, asking, commands}
+use Rattle.view_calls.specs.meaning.Sights.{Sight, text_of, status_by, status_of, absent_of}
+use Rattle.view_calls.specs.meaning.Lines.{absent_line, usage_line, read_fault_line, out_of_memory_line, line_of, under_own_name}
+use Rattle.view_calls.specs.Lines.{refusal_line, refusal_status, fault_line, fault_status}
+use Rattle.view_calls.specs.meaning.Shows.{untold, FailsToRead, IsLine, HasOwnLine, Shows}
+use Rattle.view_calls.specs.Shows.{ShowEnds, shown, absent, unshown}
 
 sight_status : (absent : Option ℕ) → IsShown (status_by absent)
 sight_status None = inl refl

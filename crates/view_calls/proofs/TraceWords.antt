@@ -4,8 +4,8 @@ use Rattle.std.specs.Str.{bytes_eq}
 use Rattle.std.specs.declared.alloc.Global.{Global}
 use Rattle.std.proofs.lemmas.Bool.Decides.{nat_tests}
 use Rattle.std.proofs.lemmas.List.{drop_more, length-drop, take-map, drop-map, map-append, length-map, get_or-map}
-use Rattle.command_line.specs.Words.{texts}
-use Rattle.view_calls.specs.Commands.{order_by, trace_at, untraced, traced_by, timeline_at, timeline_by, run_by}
+use Rattle.command_line.specs.meaning.Words.{texts}
+use Rattle.view_calls.specs.meaning.Commands.{order_by, trace_at, untraced, traced_by, timeline_at, timeline_by, run_by}
 
 drop-past : {A : Type 0} (xs : List A) (i : ℕ) → length xs ≤ i → drop i xs ≡ []
 drop-past [] zero past = refl

@@ -6,28 +6,28 @@ use Rattle.std.specs.declared.option.Option.TheVariants.{None, Some}
 use Rattle.std.specs.declared.result.Result.{Result}
 use Rattle.std.specs.declared.result.Result.TheVariants.{Ok, Err}
 use Rattle.std.proofs.lemmas.List.Elements.{Contains-append_left, Contains-append_right}
-use Rattle.gp_base.specs.Files.{bytes_of}
+use Rattle.gp_base.specs.meaning.Files.{bytes_of}
 use Rattle.gp_base.specs.declared.limits.TheConstants.{MOST_FILE_BYTES}
-use Rattle.task_ast.specs.Tree.{Name, Program}
+use Rattle.task_ast.specs.meaning.Tree.{Name, Program}
 use Rattle.gp_audit.specs.declared.line.TraceLine.{TraceLine}
 use Rattle.call_cases.specs.declared.reading.Refusal.{Refusal}
 use Rattle.call_cases.specs.declared.reading.Refusal.TheVariants as refused
-use Rattle.call_cases.specs.Work.{Files, ToDo, Supplied, Supplies, Lacks, Spoils}
-use Rattle.call_cases.specs.InputFiles.{supplied_by, then_load}
-use Rattle.call_cases.specs.Journals.{dependence_for}
-use Rattle.call_cases.specs.Lines.{input_line}
-use Rattle.call_cases.specs.RunCommands as run
-use Rattle.call_cases.specs.Case.{Case, Missing, BadInput, Go, IsCaseOf, no_program, of_text, supplied_case, names_read}
+use Rattle.call_cases.specs.meaning.Work.{Files, ToDo, Supplied, Supplies, Lacks, Spoils}
+use Rattle.call_cases.specs.meaning.InputFiles.{supplied_by, then_load}
+use Rattle.call_cases.specs.meaning.Journals.{dependence_for}
+use Rattle.call_cases.specs.meaning.Lines.{input_line}
+use Rattle.call_cases.specs.meaning.RunCommands as run
+use Rattle.call_cases.specs.meaning.Case.{Case, Missing, BadInput, Go, IsCaseOf, no_program, of_text, supplied_case, names_read}
 use Rattle.call_cases.specs.Refusals.{RefusesCase, RefusesShelf, ReadsAmong}
-use Rattle.call_cases.specs.Headline.{ReadsNothing}
+use Rattle.call_cases.specs.meaning.Headline.{ReadsNothing}
 use Rattle.call_cases.proofs.Answering.{refuses_map}
 use Rattle.call_cases.proofs.Further.{further_asking, further_case, further, refuses_further}
 use Rattle.call_cases.proofs.Loads.{only_one}
-use Rattle.audit_calls.specs.Tried.{Judge}
+use Rattle.audit_calls.specs.meaning.Tried.{Judge}
 use Rattle.view_calls.specs.declared.words.Viewed.{Viewed}
-use Rattle.view_calls.specs.Traces.{unlawful_in}
-use Rattle.view_calls.specs.Commands.{MayRead, of_run, the_trace, viewed_by, asking, commands}
-use Rattle.view_calls.specs.Sights.{Sight, by_lines, by_rows, by_bytes, by_trace, supplied}
+use Rattle.view_calls.specs.meaning.Traces.{unlawful_in}
+use Rattle.view_calls.specs.meaning.Commands.{MayRead, of_run, the_trace, viewed_by, asking, commands}
+use Rattle.view_calls.specs.meaning.Sights.{Sight, by_lines, by_rows, by_bytes, by_trace, supplied}
 use Rattle.view_calls.specs.inner.Answers.{AnswersLines}
 
 -- the case of what a trace comes to

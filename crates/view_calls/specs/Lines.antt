@@ -1,49 +1,10 @@
--- The lines on the error stream.
-use Rattle.std.specs.Prelude.{ℕ, List, [], ◌++◌, Option, Some, None, codes, decimal, drop}
+-- The lines and statuses of this program's refusals and faults.
+use Rattle.std.specs.Prelude.{ℕ, List}
 use Rattle.gp_base.specs.declared.sink.SinkFault.{SinkFault}
 use Rattle.gp_base.specs.declared.sink.SinkFault.TheVariants as sink
 use Rattle.call_cases.specs.declared.reading.Refusal.{Refusal}
 use Rattle.call_cases.specs.declared.reading.Refusal.TheVariants.{Usage as RefusedUsage, BadProgram as RefusedProgram, BadInput as RefusedInput, ReadFault, OutOfMemory}
-use Rattle.call_cases.specs.Lines as gprs
-use Rattle.call_cases.specs.Case.{Case, Usage, Missing, BadProgram, BadInput, Go}
-use Rattle.view_calls.specs.Sights.{Sight, absent_of}
-
--- a line of `gprs`, under the name of this program
-abbrev pub under_own_name : List ℕ → List ℕ
-under_own_name line = codes "gprs_view" ++ drop 4 line
-
--- words of no command
-abbrev pub usage_line : List ℕ
-usage_line = codes "gprs_view: usage: order | why | timeline\n"
-
--- a file that could not be read
-abbrev pub read_fault_line : (name : List ℕ) → List ℕ
-read_fault_line name = under_own_name (gprs.read_fault_line name)
-
--- memory ran out
-abbrev pub out_of_memory_line : List ℕ
-out_of_memory_line = under_own_name gprs.out_of_memory_line
-
--- a write that failed
-abbrev pub write_fault_line : List ℕ
-write_fault_line = under_own_name gprs.write_fault_line
-
--- a position that there is not
-abbrev pub no_position_line : (position : ℕ) → List ℕ
-no_position_line position = codes "gprs_view: no position " ++ (decimal position ++ codes "\n")
-
--- the line of what is to be shown: there is one where a position that is asked for is not there
-abbrev pub absent_line : (absent : Option ℕ) → List ℕ
-absent_line None = []
-absent_line (Some position) = no_position_line position
-
--- the line of a case
-abbrev pub line_of : Case Sight → List ℕ
-line_of Usage = usage_line
-line_of (Missing names name) = read_fault_line name
-line_of (BadProgram name line) = under_own_name line
-line_of (BadInput names line) = under_own_name line
-line_of (Go names sight) = absent_line (absent_of sight)
+use Rattle.view_calls.specs.meaning.Lines.{out_of_memory_line, read_fault_line, under_own_name, usage_line, write_fault_line}
 
 -- the line that tells a refusal, and the status of it
 abbrev pub refusal_line : Refusal → List ℕ

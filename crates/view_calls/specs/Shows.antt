@@ -1,73 +1,18 @@
--- What each call of `gprs_view` is promised to do.
-use Rattle.std.specs.Prelude.{◌≡◌, ◌⊎◌, ℕ, List, [], Option, Some, None, Contains}
+-- How a call that shows a run ends.
+use Rattle.std.specs.Prelude.{◌≡◌, ℕ, [], Some, None}
 use Rattle.gp_base.specs.declared.sink.SinkFault.{SinkFault}
 use Rattle.gp_base.specs.declared.sink.SinkFault.TheVariants.{Failed}
-use Rattle.gp_base.specs.Files.{GrowsByOnly}
-use Rattle.task_ast.specs.Tree.{Name}
-use Rattle.call_cases.specs.Work.{Files}
-use Rattle.call_cases.specs.Case.{Case, ForCase, names_read}
-use Rattle.call_cases.specs.Answers.{Change, TakesAll, TakesPart, Fails, Grew, LineEnds}
-use Rattle.call_cases.specs.Headline.{Call, HasCaseLine, IsStop, Headline}
-use Rattle.audit_calls.specs.Tried.{Judge}
-use Rattle.view_calls.specs.Commands.{asking, commands}
-use Rattle.view_calls.specs.Sights.{Sight, text_of, absent_of}
-use Rattle.view_calls.specs.Lines.{line_of, absent_line, read_fault_line, out_of_memory_line, write_fault_line, fault_line, fault_status}
+use Rattle.call_cases.specs.meaning.Answers.{Change, TakesAll, TakesPart, Fails}
+use Rattle.call_cases.specs.Answers.{LineEnds}
+use Rattle.view_calls.specs.meaning.Sights.{Sight, text_of, absent_of}
+use Rattle.view_calls.specs.meaning.Lines.{absent_line}
+use Rattle.view_calls.specs.Lines.{fault_line, fault_status}
 
--- a call: what it was given, and what it left
-pub record View : Type 0 where
-  pub words : List (List ℕ)
-  pub files : Option Files
-  pub failed : List Name
-  pub failed' : List Name
-  pub out : Change
-  pub err : Change
-  pub status : ℕ
-
--- a sink of which no more is told than its count of faults
-abbrev pub untold : Change → Change
-untold change = record change { written = None; written' = None }
-
--- the call as one of any top call, but for the bytes on the error stream
-abbrev pub call_of : View → Call
-call_of view = record {
-  words = view.words;
-  files = view.files;
-  failed = view.failed;
-  failed' = view.failed';
-  out = view.out;
-  err = untold view.err;
-  status = view.status;
-  journal = record { events = []; restarts = [] };
-}
-
--- a file that could not be read: its reads alone failed, and it is one that the case reads
-pub record FailsToRead (judge : Judge) (view : View) (name : Name) : Type 0 where
-  pub read : ForCase (asking judge) view.words view.files (λ case. Contains (names_read case) name)
-  pub alone : GrowsByOnly name view.failed view.failed'
-  pub grew : Grew view.failed view.failed'
-
--- a line that the error stream may take: that of the case, of a file that it reads, or of a stop
-abbrev pub IsLine : Case Sight → List ℕ → Type 0
-IsLine case line =
-    (line ≡ line_of case) ⊎ (line ≡ out_of_memory_line) ⊎ (line ≡ write_fault_line) ⊎ (name : Name) × Contains (names_read case) name × (line ≡ read_fault_line name)
-
--- ended with the line of the case
-abbrev pub HasOwnLine : ℕ → Type 0
-HasOwnLine status = HasCaseLine status ⊎ (status ≡ 5)
-
--- what holds of each call
-pub record Shows (judge : Judge) (view : View) : Type 0 where
-  -- Status, output and reads are those of a top call with these commands.
-  pub call : Headline (commands judge) (call_of view)
-  -- The error stream grew by nothing, or by the line that tells the refusal, the position that is not there or the fault.
-  pub quiet : view.status ≡ 0 → TakesAll view.err []
-  pub line : ForCase (asking judge) view.words view.files (λ case. HasOwnLine view.status → TakesAll view.err (line_of case))
-  pub read_fault : view.status ≡ 7 → (name : Name) × FailsToRead judge view name × TakesAll view.err (read_fault_line name)
-  pub write_fault : view.status ≡ 8 → Fails view.err ⊎ Fails view.out × TakesAll view.err write_fault_line
-  pub stopped : IsStop view.status → ForCase (asking judge) view.words view.files (λ case. (line : List ℕ) × IsLine case line × TakesPart view.err line)
-
--- how this is shown: its text was written whole; or there is no such position, and a line tells that; or a part of the text was written, and the line that tells why
+-- how this is shown: its text was written whole; or there is no such position, and a line tells that; or a part of the text was written,
+-- and the line that tells why
 pub data ShowEnds (sight : Sight) (out err : Change) : ℕ → Type 0 where
   shown : absent_of sight ≡ None → TakesAll out (text_of sight) → TakesAll err [] → ShowEnds sight out err 0
-  absent : {status position : ℕ} → absent_of sight ≡ Some position → TakesAll out (text_of sight) → LineEnds 5 (absent_line (Some position)) err status → ShowEnds sight out err status
-  unshown : {status : ℕ} (fault : SinkFault) → TakesPart out (text_of sight) → (fault ≡ Failed → Fails out) → LineEnds (fault_status fault) (fault_line fault) err status → ShowEnds sight out err status
+  absent : {status position : ℕ} → absent_of sight ≡ Some position → TakesAll out (text_of sight)
+      → LineEnds 5 (absent_line (Some position)) err status → ShowEnds sight out err status
+  unshown : {status : ℕ} (fault : SinkFault) → TakesPart out (text_of sight) → (fault ≡ Failed → Fails out)
+      → LineEnds (fault_status fault) (fault_line fault) err status → ShowEnds sight out err status

@@ -1,4 +1,5 @@
-//! The top call of `gprs_view`, which shows a run: all that the program does, over a shelf and two sinks that are handed in.
+//! The top call of `gprs_view`, which shows a run: all that the program does, over a shelf and two sinks that are
+//! handed in.
 #![tactic(auto)]
 
 mod lines;

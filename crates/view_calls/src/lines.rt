@@ -1,9 +1,11 @@
 // The lines on the error stream.
 ghost use Rattle.std.specs.Prelude.{◌≡◌, ◌++◌, codes, drop, OnOk, OnErr};
 ghost use Rattle.std.specs.Io.KnownBytes.{Appends};
-ghost use Rattle.gp_base.specs.Sinks.{AppendsPrefix, HasCause};
-ghost use Rattle.call_cases.specs.Answers.{LineEnds, change_of};
-ghost use Rattle.view_calls.specs.Lines.{under_own_name, no_position_line, refusal_line, refusal_status, fault_line, fault_status};
+ghost use Rattle.gp_base.specs.meaning.Sinks.{AppendsPrefix, HasCause};
+ghost use Rattle.call_cases.specs.meaning.Answers.{change_of};
+ghost use Rattle.call_cases.specs.Answers.{LineEnds};
+ghost use Rattle.view_calls.specs.meaning.Lines.{under_own_name, no_position_line};
+ghost use Rattle.view_calls.specs.Lines.{refusal_line, refusal_status, fault_line, fault_status};
 
 use call_cases::{Refusal, end_with};
 use gp_base::{Name, Sink, SinkFault, put_all};
@@ -79,8 +81,8 @@ fn put_no_position<E: Sink>(to: &mut E, position: u64) -> Result<(), SinkFault>
     put_three(to, b"gprs_view: no position ", number, b"\n")
 }
 
-// Writes a line of `gprs` under this program's name, and answers the status that is due. It is 8 where the write fails, and 1
-// where memory runs out.
+// Writes a line of `gprs` under this program's name, and answers the status that is due. It is 8 where the write fails,
+// and 1 where memory runs out.
 fn end_renamed<E: Sink>(err: &mut E, line: &[u8], due: u8) -> u8
     ensures { LineEnds due (under_own_name line.now) (change_of E.written E.faults err.old err.new) result }
 {
@@ -102,8 +104,8 @@ fn end_read_fault<E: Sink>(err: &mut E, name: &Name) -> u8
     }
 }
 
-/// Tells that there is no such position, and answers the status, which is 5. It is 8 where the write fails, and 1 where memory
-/// runs out.
+/// Tells that there is no such position, and answers the status, which is 5. It is 8 where the write fails, and 1 where
+/// memory runs out.
 pub fn end_no_position<E: Sink>(err: &mut E, position: u64) -> u8
     ensures { LineEnds 5 (no_position_line position) (change_of E.written E.faults err.old err.new) result }
 {
@@ -114,8 +116,8 @@ pub fn end_no_position<E: Sink>(err: &mut E, position: u64) -> u8
     }
 }
 
-/// Tells why there is nothing to show, and answers the status. It is 8 where the write of that line fails, and 1 where memory
-/// runs out.
+/// Tells why there is nothing to show, and answers the status. It is 8 where the write of that line fails, and 1 where
+/// memory runs out.
 pub fn refuse<E: Sink>(refusal: &Refusal, err: &mut E) -> u8
     ensures { LineEnds (refusal_status refusal.now) (refusal_line refusal.now) (change_of E.written E.faults err.old err.new) result }
 {

@@ -1,16 +1,17 @@
 // What a call is to show, from its words and the shelf.
 ghost use Rattle.std.specs.Prelude.{◌≡◌, ◌<◌, ◌≤◌, ℕ, List, [], ◌∷◌, length, Option, Some, None, Ok, IfOk, IfSome};
-ghost use Rattle.gp_base.specs.Files.{bytes_of};
+ghost use Rattle.gp_base.specs.meaning.Files.{bytes_of};
 ghost use Rattle.gp_base.specs.declared.limits.TheConstants.{MOST_FILE_BYTES};
-ghost use Rattle.task_ast.specs.Tree.{Name};
-ghost use Rattle.command_line.specs.Words.{texts, IsWithinLimits};
-ghost use Rattle.call_cases.specs.Case.{IsCase, IsCaseOf};
+ghost use Rattle.task_ast.specs.meaning.Tree.{Name};
+ghost use Rattle.command_line.specs.meaning.Words.{texts};
+ghost use Rattle.command_line.specs.Words.{IsWithinLimits};
+ghost use Rattle.call_cases.specs.meaning.Case.{IsCase, IsCaseOf};
 ghost use Rattle.call_cases.specs.Decided.{work_of};
-ghost use Rattle.call_cases.specs.Journals.{dependence_for};
+ghost use Rattle.call_cases.specs.meaning.Journals.{dependence_for};
 ghost use Rattle.call_cases.specs.Refusals.{AnswersCase, AnswersNoCommand, ReadsAmong, TouchesShelf};
-ghost use Rattle.audit_calls.specs.Tried.{Judge};
-ghost use Rattle.view_calls.specs.Traces.{unlawful_in};
-ghost use Rattle.view_calls.specs.Commands.{viewed_by, MayRead, asking};
+ghost use Rattle.audit_calls.specs.meaning.Tried.{Judge};
+ghost use Rattle.view_calls.specs.meaning.Traces.{unlawful_in};
+ghost use Rattle.view_calls.specs.meaning.Commands.{viewed_by, MayRead, asking};
 ghost use Rattle.view_calls.specs.Sights.{case_of, viewed_in};
 ghost use Rattle.view_calls.specs.inner.Answers.{AnswersLines};
 
@@ -28,8 +29,8 @@ pub struct Trace {
     pub lines: Seq<TraceLine>,
 }
 
-/// What a call is to show: a run, with all that is read for it, with a position of it where one is asked for, and with its
-/// trace where words name one.
+/// What a call is to show: a run, with all that is read for it, with a position of it where one is asked for, and with
+/// its trace where words name one.
 #[derive(Drop)]
 pub struct Viewing {
     pub request: Request,
@@ -127,8 +128,8 @@ fn trace_lines<H: Shelf>(
     lines_in(alloc, request, name, &text)
 }
 
-// What is asked to be shown, with the program and the files that are read for its run, and then its trace. The first refusal
-// met is the answer.
+// What is asked to be shown, with the program and the files that are read for its run, and then its trace. The first
+// refusal met is the answer.
 fn read_viewed<H: Shelf>(alloc: Global, viewed: Viewed, shelf: &mut H) -> Result<Viewing, Refusal>
     requires { IsWithinLimits viewed.run }
     ensures shelf { TouchesShelf MayRead (Some viewed) (H.failed shelf.old) (H.failed shelf.new) result }
@@ -165,8 +166,8 @@ fn read_viewed<H: Shelf>(alloc: Global, viewed: Viewed, shelf: &mut H) -> Result
     }
 }
 
-/// What the words ask to be shown, with the program that they name, the files that the program names, and its trace. The first
-/// refusal met is the answer.
+/// What the words ask to be shown, with the program that they name, the files that the program names, and its trace.
+/// The first refusal met is the answer.
 pub fn read_view<H: Shelf>(
     alloc: Global,
     words: &[String],

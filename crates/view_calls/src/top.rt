@@ -1,14 +1,17 @@
 // The top call: all that the program does.
 ghost use Rattle.std.specs.Prelude.{◌≡◌, None, IfOk, OnOk, OnErr, option_map};
 ghost use Rattle.std.specs.Io.KnownBytes.{Appends};
-ghost use Rattle.gp_base.specs.Sinks.{AppendsPrefix, HasCause};
-ghost use Rattle.command_line.specs.Words.{texts, IsWithinLimits};
-ghost use Rattle.call_cases.specs.Answers.{change_of};
+ghost use Rattle.gp_base.specs.meaning.Sinks.{AppendsPrefix, HasCause};
+ghost use Rattle.command_line.specs.meaning.Words.{texts};
+ghost use Rattle.command_line.specs.Words.{IsWithinLimits};
+ghost use Rattle.call_cases.specs.meaning.Answers.{change_of};
 ghost use Rattle.call_cases.specs.Decided.{work_of};
-ghost use Rattle.audit_calls.specs.Tried.{Judge};
-ghost use Rattle.view_calls.specs.Commands.{viewed_by};
-ghost use Rattle.view_calls.specs.Sights.{lines_in, text_for, view_of, text_of, absent_of, sight_of};
-ghost use Rattle.view_calls.specs.Shows.{Shows, ShowEnds};
+ghost use Rattle.audit_calls.specs.meaning.Tried.{Judge};
+ghost use Rattle.view_calls.specs.meaning.Commands.{viewed_by};
+ghost use Rattle.view_calls.specs.meaning.Sights.{text_for, view_of, text_of, absent_of};
+ghost use Rattle.view_calls.specs.Sights.{lines_in, sight_of};
+ghost use Rattle.view_calls.specs.meaning.Shows.{Shows};
+ghost use Rattle.view_calls.specs.Shows.{ShowEnds};
 
 use crate::lines::{end_no_position, refuse, stop_with};
 use crate::reading::{Trace, Viewing, read_view};
@@ -104,7 +107,8 @@ fn show<O: Sink, E: Sink>(alloc: Global, viewing: &Viewing, out: &mut O, err: &m
     }
 }
 
-/// Shows what the words ask for, over what is handed in, and answers the status. The words are those after the program's name.
+/// Shows what the words ask for, over what is handed in, and answers the status. The words are those after the
+/// program's name.
 ///
 /// The status is 0 where the run was shown, also one that is stuck or has spent its limits, 1 where memory ran out, 2
 /// where the words are those of no command, 3 where the program is refused, 4 where a file beside it is refused, or the

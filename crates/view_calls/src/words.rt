@@ -1,14 +1,15 @@
 // What words ask for.
 ghost use Rattle.std.specs.Prelude.{◌≡◌, ◌<◌, ◌≤◌, ◌+◌, ◌++◌, take, length, IfOk, IfSome, OnOk};
-ghost use Rattle.command_line.specs.Words.{texts, IsWithinLimits};
-ghost use Rattle.view_calls.specs.Commands.{order_by, trace_at, untraced, traced_by, timeline_by, run_by, viewed_by};
+ghost use Rattle.command_line.specs.meaning.Words.{texts};
+ghost use Rattle.command_line.specs.Words.{IsWithinLimits};
+ghost use Rattle.view_calls.specs.meaning.Commands.{order_by, trace_at, untraced, traced_by, timeline_by, run_by, viewed_by};
 
 use command_line::{Asked, Verb, asked_of, read_why_words};
 use gp_base::Name;
 use std::alloc::{AllocError, Global};
 
-/// What words ask to be shown: a run, with a position of it where one is asked for, and the file of its trace where they name
-/// one.
+/// What words ask to be shown: a run, with a position of it where one is asked for, and the file of its trace where
+/// they name one.
 #[derive(Drop)]
 pub struct Viewed {
     pub run: Asked,
@@ -118,8 +119,8 @@ fn read_run(alloc: Global, words: &[String]) -> Result<Option<Viewed>, AllocErro
     Ok(None)
 }
 
-/// What the words ask for, or none where they are those of no command. `words` are those after the program's own name. The
-/// error is that memory is out.
+/// What the words ask for, or none where they are those of no command. `words` are those after the program's own name.
+/// The error is that memory is out.
 pub fn read_words(alloc: Global, words: &[String]) -> Result<Option<Viewed>, AllocError>
     ensures viewed { IfOk result (λ viewed. viewed ≡ viewed_by (texts words.now)) }
     ensures within { IfOk result (λ viewed. IfSome viewed (λ v. IsWithinLimits v.run)) }

@@ -7,8 +7,8 @@ use Rattle.std.specs.Prelude.{IsTrue}
 use Rattle.std.specs.List.{list_any}
 use Rattle.std.proofs.lemmas.Bool.{cases_lt, eqb-true, eq-eqb, false≢true}
 use Rattle.std.proofs.lemmas.Option.{slice_get-get_or}
-use Rattle.task_ast.specs.Plain.{Subthread}
-use Rattle.dependence.specs.Journal.{Stage}
+use Rattle.task_ast.specs.meaning.Plain.{Subthread}
+use Rattle.dependence.specs.meaning.Journal.{Stage}
 use Rattle.dependence.specs.RunBuffer.{IsOut}
 use Rattle.dependence.specs.Standing.{present, StageStands}
 use Rattle.record_store.specs.Stored.{IsAllHome}

@@ -9,25 +9,25 @@ use Rattle.gp_base.specs.declared.feed.Inputs.{Inputs}
 use Rattle.gp_base.specs.declared.fault.Fault.{Fault}
 use Rattle.gp_base.specs.declared.footprint.Footprint.{Footprint}
 use Rattle.gp_base.specs.declared.journal.Event.TheVariants as event
-use Rattle.task_ast.specs.Tree.{Program}
+use Rattle.task_ast.specs.meaning.Tree.{Program}
 use Rattle.task_ast.specs.declared.effect.Effect.{Effect}
-use Rattle.task_ast.specs.State.{State}
-use Rattle.task_ast.specs.Effect.{after}
+use Rattle.task_ast.specs.meaning.State.{State}
+use Rattle.task_ast.specs.meaning.Effect.{after}
 use Rattle.task_ast.specs.History.{old_of}
 use Rattle.task_ast.specs.Fold.{fold}
-use Rattle.task_ast.specs.Table.{numbers}
-use Rattle.task_ast.specs.Plain.{Subthread, order, opening}
-use Rattle.task_ast.specs.Position.{before}
-use Rattle.dependence.specs.Dependents.{is_member}
-use Rattle.dependence.specs.Restarts.{struck_next}
-use Rattle.dependence.specs.Journal.{Stage, happens}
+use Rattle.task_ast.specs.meaning.Table.{numbers}
+use Rattle.task_ast.specs.meaning.Plain.{Subthread, order, opening}
+use Rattle.task_ast.specs.meaning.Position.{before}
+use Rattle.dependence.specs.meaning.Dependents.{is_member}
+use Rattle.dependence.specs.meaning.Restarts.{struck_next}
+use Rattle.dependence.specs.meaning.Journal.{Stage, happens}
 use Rattle.dependence.specs.Histories.{HasCells}
 use Rattle.dependence.specs.Touching.{done_by}
 use Rattle.dependence.specs.Removal.{undone_part}
 use Rattle.dependence.specs.Standing.{AreShort}
 use Rattle.dependence.specs.RunBuffer.{members_at}
 use Rattle.dependence.proofs.RunBuffers.{drained-state, retired-lines}
-use Rattle.rollback.specs.Cuts.{cuts_of}
+use Rattle.rollback.specs.meaning.Cuts.{cuts_of}
 use Rattle.rollback.proofs.States.{drained-held, retired-held}
 use Rattle.record_store.specs.Stored.{Stored, state_of, Fits, IsAllHome}
 use Rattle.reorder_list.specs.declared.entry.Entry.{Entry}

@@ -3,11 +3,11 @@
 use Rattle.std.proofs.Common.{◌≡◌, ◌↔◌, inl, inr, ℕ, ◌+◌, ◌<◌, ◌≤◌, true, List, refl, sym, ◌∙◌, arith}
 use Rattle.std.proofs.lemmas.Bool.{cases_lt, leb-true, le-leb, false≢true}
 use Rattle.gp_base.specs.declared.fault.Fault.{Fault}
-use Rattle.task_ast.specs.State.{State}
-use Rattle.task_ast.specs.Plain.{Subthread}
-use Rattle.dependence.specs.Journal.{Stage}
-use Rattle.dependence.specs.Runs.{dependence_of}
-use Rattle.rollback.specs.Cuts.{cut_at, cuts_of}
+use Rattle.task_ast.specs.meaning.State.{State}
+use Rattle.task_ast.specs.meaning.Plain.{Subthread}
+use Rattle.dependence.specs.meaning.Journal.{Stage}
+use Rattle.dependence.specs.meaning.Runs.{dependence_of}
+use Rattle.rollback.specs.meaning.Cuts.{cut_at, cuts_of}
 use Rattle.rollback.specs.Driving.{multiple_at}
 use Rattle.rollback.proofs.Backs.{cut-rises}
 use Rattle.rollback.proofs.Multiples.{whole-cut}

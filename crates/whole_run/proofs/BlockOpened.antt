@@ -3,9 +3,9 @@ use Rattle.std.proofs.Common.{◌≡◌, ℕ, List, [], ◌∷◌, ◌++◌, map
 use Rattle.std.specs.List.Sorted.{IsStrictlyIncreasing}
 use Rattle.std.proofs.lemmas.List.Elements.{Contains-push}
 use Rattle.gp_base.specs.declared.fault.Fault.{Fault}
-use Rattle.task_ast.specs.State.{State}
-use Rattle.task_ast.specs.Plain.{Subthread}
-use Rattle.dependence.specs.Journal.{Stage}
+use Rattle.task_ast.specs.meaning.State.{State}
+use Rattle.task_ast.specs.meaning.Plain.{Subthread}
+use Rattle.dependence.specs.meaning.Journal.{Stage}
 use Rattle.record_store.specs.Stored.{Stored, IsAllHome}
 use Rattle.reorder_list.specs.declared.entry.Entry.{Entry}
 use Rattle.whole_run.specs.declared.parts.Parts.{Parts}

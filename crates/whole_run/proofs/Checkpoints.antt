@@ -12,19 +12,19 @@ use Rattle.gp_base.specs.declared.footprint.Footprint.{Footprint}
 use Rattle.gp_base.specs.declared.journal.Event.{Event}
 use Rattle.gp_base.specs.declared.journal.Event.TheVariants as event
 use Rattle.task_ast.specs.declared.effect.Effect.{Effect}
-use Rattle.task_ast.specs.State.{State}
-use Rattle.task_ast.specs.Effect.{after}
-use Rattle.task_ast.specs.Plain.{Subthread}
-use Rattle.dependence.specs.Restarts.{Dependence}
-use Rattle.dependence.specs.Journal.{Stage, MayTake, happens}
+use Rattle.task_ast.specs.meaning.State.{State}
+use Rattle.task_ast.specs.meaning.Effect.{after}
+use Rattle.task_ast.specs.meaning.Plain.{Subthread}
+use Rattle.dependence.specs.meaning.Restarts.{Dependence}
+use Rattle.dependence.specs.meaning.Journal.{Stage, MayTake, happens}
 use Rattle.dependence.specs.Standing.{present}
-use Rattle.dependence.specs.Runs.{dependence_of}
+use Rattle.dependence.specs.meaning.Runs.{dependence_of}
 use Rattle.dependence.specs.Histories.{HasCells}
 use Rattle.dependence.specs.Touching.{done_by}
 use Rattle.dependence.specs.Buffer.{with_at}
 use Rattle.dependence.specs.RunBuffer.{members_at}
-use Rattle.rollback.specs.Cuts.{cut_at, cuts_of, rolling_of}
-use Rattle.rollback.specs.Journal.{AllowedByBlocks}
+use Rattle.rollback.specs.meaning.Cuts.{cut_at, cuts_of, rolling_of}
+use Rattle.rollback.specs.meaning.Journal.{AllowedByBlocks}
 use Rattle.rollback.specs.States.{Held, HeldStands, StaysBehind}
 use Rattle.rollback.proofs.States.{happens-held, copy-keeps}
 use Rattle.record_store.specs.Stored.{Stored, state_of}

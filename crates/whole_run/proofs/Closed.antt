@@ -1,14 +1,14 @@
 -- What may be posted next, and what is reported, over the entries and the store.
 use Rattle.std.proofs.Common.{◌≡◌, ◌↔◌, inl, inr, ℕ, ◌<◌, ◌≤◌, true, false, length, map, sym, ap, ◌∙◌, arith}
 use Rattle.std.proofs.lemmas.Bool.{cases_lt, false≢true}
-use Rattle.task_ast.specs.State.{cell_value}
-use Rattle.task_ast.specs.Plain.{tree_machine}
+use Rattle.task_ast.specs.meaning.State.{cell_value}
+use Rattle.task_ast.specs.meaning.Plain.{tree_machine}
 use Rattle.task_ast.proofs.PlainRuns.{count_law}
-use Rattle.task_ast.specs.Names.{records_of, cells_in}
-use Rattle.task_ast.specs.Table.{numbers}
-use Rattle.dependence.specs.Journal.{Stage, MayPost}
+use Rattle.task_ast.specs.meaning.Names.{records_of, cells_in}
+use Rattle.task_ast.specs.meaning.Table.{numbers}
+use Rattle.dependence.specs.meaning.Journal.{Stage, MayPost}
 use Rattle.dependence.specs.Posting.{posting_of}
-use Rattle.dependence.specs.Runs.{dependence_of}
+use Rattle.dependence.specs.meaning.Runs.{dependence_of}
 use Rattle.dependence.specs.Standing.{present, StageStands}
 use Rattle.dependence.proofs.Counts.{few-attempts}
 use Rattle.record_store.specs.Stored.{state_of}

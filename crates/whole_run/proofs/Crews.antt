@@ -8,8 +8,8 @@ use Rattle.gp_base.specs.declared.fault.Fault.{Fault}
 use Rattle.whole_run.specs.declared.calls.Halt.{Halt}
 use Rattle.gp_base.specs.declared.journal.Event.{Event}
 use Rattle.gp_base.specs.declared.journal.Event.TheVariants as event
-use Rattle.dependence.specs.Restarts.{Dependence, struck_next}
-use Rattle.dependence.specs.Journal.{Stage, initial_stage, happens, restarted, stage_from}
+use Rattle.dependence.specs.meaning.Restarts.{Dependence, struck_next}
+use Rattle.dependence.specs.meaning.Journal.{Stage, initial_stage, happens, restarted, stage_from}
 use Rattle.dependence.specs.Counts.{posts, takes}
 use Rattle.subthread.specs.declared.task.Task.{Task}
 use Rattle.crew.specs.Out.{TakesOut, pair_of}

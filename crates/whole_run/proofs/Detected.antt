@@ -11,16 +11,16 @@ use Rattle.gp_base.specs.declared.journal.Event.{Event}
 use Rattle.gp_base.specs.declared.journal.Event.TheVariants as event
 use Rattle.gp_base.specs.declared.journal.Restart.{Restart}
 use Rattle.gp_base.specs.declared.limits.TheConstants.{MOST_FAULTS}
-use Rattle.task_ast.specs.Table.{numbers}
-use Rattle.dependence.specs.Dependents.{is_member}
-use Rattle.dependence.specs.Restarts.{drains, is_live, is_due, least_struck, struck_next, restart_of, attempt_of}
-use Rattle.dependence.specs.Journal.{Stage, happens, restarted}
-use Rattle.dependence.specs.Runs.{dependence_of}
+use Rattle.task_ast.specs.meaning.Table.{numbers}
+use Rattle.dependence.specs.meaning.Dependents.{is_member}
+use Rattle.dependence.specs.meaning.Restarts.{drains, is_live, is_due, least_struck, struck_next, restart_of, attempt_of}
+use Rattle.dependence.specs.meaning.Journal.{Stage, happens, restarted}
+use Rattle.dependence.specs.meaning.Runs.{dependence_of}
 use Rattle.dependence.specs.Standing.{StageStands}
 use Rattle.dependence.specs.Removal.{undone_part}
 use Rattle.dependence.proofs.Counts.{few-attempts}
 use Rattle.dependence.proofs.Struck.{struck-live}
-use Rattle.rollback.specs.Cuts.{cut_at, cuts_of}
+use Rattle.rollback.specs.meaning.Cuts.{cut_at, cuts_of}
 use Rattle.rollback.proofs.Backs.{cut-low}
 use Rattle.rollback.proofs.Standing.{struck-cut}
 use Rattle.record_store.specs.Stored.{Stored, state_of, SameShape, IsAllHome}

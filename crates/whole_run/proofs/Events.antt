@@ -4,9 +4,10 @@ use Rattle.whole_run.specs.declared.calls.Halt.{Halt}
 use Rattle.gp_base.specs.declared.fault.Fault.{Fault}
 use Rattle.gp_base.specs.declared.journal.Event.{Event}
 use Rattle.gp_base.specs.declared.journal.Event.TheVariants as event
-use Rattle.task_ast.specs.Plain.{Subthread}
-use Rattle.dependence.specs.Restarts.{RedoesStruck, struck_next}
-use Rattle.dependence.specs.Journal.{Stage, initial_stage, happens, restarted, stage}
+use Rattle.task_ast.specs.meaning.Plain.{Subthread}
+use Rattle.dependence.specs.meaning.Restarts.{struck_next}
+use Rattle.dependence.specs.Restarts.{RedoesStruck}
+use Rattle.dependence.specs.meaning.Journal.{Stage, initial_stage, happens, restarted, stage}
 use Rattle.dependence.specs.Posting.{OutReady}
 use Rattle.dependence.specs.Standing.{AreShort, StageStands}
 use Rattle.dependence.proofs.Journals.{stage_from-push}

@@ -4,18 +4,18 @@ use Rattle.gp_base.specs.declared.limits.Limits.{Limits}
 use Rattle.gp_base.specs.declared.feed.Inputs.{Inputs}
 use Rattle.gp_base.specs.declared.fault.Fault.{Fault}
 use Rattle.gp_base.specs.declared.journal.Event.{Event}
-use Rattle.task_ast.specs.Tree.{Program}
-use Rattle.task_ast.specs.State.{State}
+use Rattle.task_ast.specs.meaning.Tree.{Program}
+use Rattle.task_ast.specs.meaning.State.{State}
 use Rattle.task_ast.specs.Fold.{fold}
-use Rattle.task_ast.specs.Plain.{Subthread, order, opening, last_state}
-use Rattle.task_ast.specs.Position.{before}
-use Rattle.dependence.specs.Journal.{Stage, initial_stage, stage}
-use Rattle.dependence.specs.Runs.{dependence_of}
+use Rattle.task_ast.specs.meaning.Plain.{Subthread, order, opening, last_state}
+use Rattle.task_ast.specs.meaning.Position.{before}
+use Rattle.dependence.specs.meaning.Journal.{Stage, initial_stage, stage}
+use Rattle.dependence.specs.meaning.Runs.{dependence_of}
 use Rattle.dependence.specs.Standing.{AreShort}
 use Rattle.dependence.specs.Histories.{HasCells}
 use Rattle.dependence.specs.RunBuffer.{members_at, buffer_after}
 use Rattle.dependence.proofs.RunBuffers.{after-events, drained-state, final-state}
-use Rattle.rollback.specs.Cuts.{cuts_of, rolling_of}
+use Rattle.rollback.specs.meaning.Cuts.{cuts_of, rolling_of}
 use Rattle.rollback.specs.Standing.{BlocksStand}
 use Rattle.rollback.specs.States.{HeldStands, held_after}
 use Rattle.rollback.proofs.Backs.{settle-cuts}

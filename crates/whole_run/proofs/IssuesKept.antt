@@ -14,22 +14,23 @@ use Rattle.task_ast.specs.declared.sync.SyncOp.{SyncOp}
 use Rattle.task_ast.specs.declared.sync.SyncOp.TheVariants as sync
 use Rattle.task_ast.specs.declared.sync.Next.{Next}
 use Rattle.task_ast.specs.Footprint.{lock_footprint}
-use Rattle.task_ast.specs.Repeat.{Again, More, Done}
-use Rattle.task_ast.specs.Table.{Table, next_of, owned_from, is_settle}
+use Rattle.task_ast.specs.meaning.Repeat.{Again, More, Done}
+use Rattle.task_ast.specs.meaning.Table.{Table, next_of, owned_from, is_settle}
 use Rattle.token_order.specs.Turned.{settling_in}
-use Rattle.task_ast.specs.Turn.{Turn, Issue, Needs, Ended, child_of, turn}
-use Rattle.dependence.specs.Runs.{settles_one}
+use Rattle.task_ast.specs.meaning.Turn.{Turn, Issue, Needs, Ended, child_of, turn}
+use Rattle.dependence.specs.meaning.Runs.{settles_one}
 use Rattle.task_ast.specs.laws.Threads.{MayBegin, HasBegun, with_child, ahead}
 use Rattle.task_ast.specs.laws.Standing.{IsIssuedBy}
-use Rattle.task_ast.specs.Plain.{Subthread, tree_machine, lock_foot_of, start_point, task_at}
+use Rattle.task_ast.specs.meaning.Plain.{Subthread, tree_machine, start_point, task_at}
+use Rattle.task_ast.specs.Plain.{lock_foot_of}
 use Rattle.task_code.specs.Reading.{start_place}
 use Rattle.task_code.proofs.Machines.{follows}
 use Rattle.task_ast.proofs.TurnLaws.{pass_law, ahead_law}
 use Rattle.task_ast.proofs.SeatLimits.{most_threads_law}
 use Rattle.task_ast.proofs.PlainRuns.{count_law}
 use Rattle.task_ast.proofs.IssuedTables.{length_push}
-use Rattle.dependence.specs.Restarts.{NoneDue}
-use Rattle.dependence.specs.Journal.{Stage}
+use Rattle.dependence.specs.meaning.Restarts.{NoneDue}
+use Rattle.dependence.specs.meaning.Journal.{Stage}
 use Rattle.record_store.specs.Stored.{Stored, with_thread, state_of}
 use Rattle.record_store.proofs.States.{slot_law}
 use Rattle.record_store.proofs.Fitting.{wider_law}
@@ -55,7 +56,7 @@ use Rattle.whole_run.specs.inner.Backed.{held_of, IsCheckpoint, BackedBy}
 use Rattle.whole_run.specs.View.{Batch, program_in, run_in, dependence_in, start_in, end_in}
 use Rattle.whole_run.specs.Gives.{Did, IsAwaited, TurnsTo, TurnsToSettle}
 use Rattle.whole_run.specs.inner.RingStands.{StartIs, places_after, point_before, plain_before, from_before}
-use Rattle.task_ast.specs.State.{State, RegistersOf, number_at}
+use Rattle.task_ast.specs.meaning.State.{State, RegistersOf, number_at}
 use Rattle.whole_run.specs.inner.Kept.{stage_of, view_of, IsPlaceIn, IsPlaced, IsHome, WindowStands, Keeps, Kept}
 use Rattle.whole_run.specs.inner.Prepared.{PreparedFor, IsPrepared, IsReadyFor, IsPushed, SameParts, IsSlotted, names_thread, new_entry, settled_place, settled_in}
 use Rattle.whole_run.proofs.Options.{some_none, none_some, some_same}

@@ -1,7 +1,7 @@
--- What the attempts left that are applied, of a run that restarts selectively. An attempt is applied late, or some are undone: each other one that is
--- applied finds in the fold below it, at what it may touch, what it found before, so it leaves the same; and the one that is applied late leaves in its
--- place what it did to the fold of all. What has retired is a member without damage, and below it all is applied: so what retires left what its subthread
--- leaves in the plain run.
+-- What the attempts left that are applied, of a run that restarts selectively. An attempt is applied late, or some are undone: each other
+-- one that is applied finds in the fold below it, at what it may touch, what it found before, so it leaves the same; and the one that is
+-- applied late leaves in its place what it did to the fold of all. What has retired is a member without damage, and below it all is
+-- applied: so what retires left what its subthread leaves in the plain run.
 use Rattle.std.proofs.Common.{◌≡◌, inl, inr, ℕ, zero, suc, ◌+◌, ◌<◌, ◌≤◌, Bool, true, false, cond, nat_eq, ◌&&◌, ◌||◌, List, [], ◌∷◌, ◌++◌, take, length, Contains, Option, Some, None, refl, sym, ap, subst, ◌∙◌, arith, slice_get}
 use Rattle.std.specs.Prelude.{pos, ⊤}
 use Rattle.std.proofs.lemmas.Bool.{false≢true, both_ways, cases_lt, ne_eqb, eqb-true, and_parts, and_from, false_from_ne_true}
@@ -11,19 +11,21 @@ use Rattle.gp_base.specs.declared.fault.Fault.{Fault}
 use Rattle.gp_base.specs.declared.journal.Event.{Event}
 use Rattle.gp_base.specs.declared.journal.Event.TheVariants as event
 use Rattle.task_ast.specs.declared.effect.Effect.{Effect}
-use Rattle.task_ast.specs.Tree.{Program}
-use Rattle.task_ast.specs.State.{Place, State}
-use Rattle.task_ast.specs.Effect.{effect}
-use Rattle.task_ast.specs.Plain.{Subthread, tree_machine, order, opening}
+use Rattle.task_ast.specs.meaning.Tree.{Program}
+use Rattle.task_ast.specs.meaning.State.{Place, State}
+use Rattle.task_ast.specs.meaning.Effect.{effect}
+use Rattle.task_ast.specs.meaning.Plain.{Subthread, tree_machine, order, opening}
 use Rattle.task_ast.specs.Fold.{Member, fold}
 use Rattle.task_ast.specs.Members.{member_of, member_in}
 use Rattle.task_ast.proofs.Positions.{fold_below}
 use Rattle.task_ast.proofs.WholeFolds.{undamaged}
-use Rattle.dependence.specs.Conflict.{ClashIn, foot_at}
-use Rattle.dependence.specs.Dependents.{is_member}
-use Rattle.dependence.specs.Restarts.{mask_of, mask_now, struck_next, restart_of}
-use Rattle.dependence.specs.Journal.{Stage, Allowed, MayRetire, happens, restarted}
-use Rattle.dependence.specs.Runs.{feet_of, dependence_of}
+use Rattle.dependence.specs.meaning.Conflict.{foot_at}
+use Rattle.dependence.specs.Conflict.{ClashIn}
+use Rattle.dependence.specs.meaning.Dependents.{is_member}
+use Rattle.dependence.specs.meaning.Restarts.{struck_next, restart_of}
+use Rattle.dependence.specs.Restarts.{mask_of, mask_now}
+use Rattle.dependence.specs.meaning.Journal.{Stage, Allowed, MayRetire, happens, restarted}
+use Rattle.dependence.specs.meaning.Runs.{feet_of, dependence_of}
 use Rattle.dependence.specs.Standing.{present, NamesAttempt, AreShort, StageStands}
 use Rattle.dependence.specs.Touching.{Agree, MayWrite, MayTouch, done_by, own_location}
 use Rattle.dependence.specs.Insertion.{with_position}
@@ -38,7 +40,7 @@ use Rattle.dependence.proofs.Standing.{happens-stands, keeps-retired, run-redoes
 use Rattle.dependence.proofs.Folds.{Kept, outside, insertion, fold_same, rest_agrees}
 use Rattle.dependence.proofs.Keeping.{run-keeps, kept-feet}
 use Rattle.dependence.proofs.Buffers.{late-finds, fold_members, fold_all}
-use Rattle.crew.specs.Noted.{left_at, left_from}
+use Rattle.crew.specs.meaning.Noted.{left_at, left_from}
 
 module _ (Writes Sees : ℕ → Place → Type 0) (Clash : ℕ → ℕ → Type 0) (members : ℕ → Member) (kept : Kept Writes Sees Clash members)
     (opening : State) (set : ℕ → Bool) (low front : ℕ) (buffer : Buffer)
@@ -134,7 +136,8 @@ module _ (run : List Subthread) (faults : List Fault) (start : State) where
     pub retired : later.retired ≡ at.retired
     pub applied : (p : ℕ) → later.applied p ≡ true → (at.applied p ≡ true) × (left_then later p ≡ left_then at p)
 
-  module _ (at : Stage) (buffer : Buffer) (stands : StageStands (dependence_of run) faults at) (holds : RunStands run faults start at buffer) where
+  module _ (at : Stage) (buffer : Buffer) (stands : StageStands (dependence_of run) faults at)
+      (holds : RunStands run faults start at buffer) where
     abbrev Writes : ℕ → Place → Type 0
     Writes p = MayWrite own_location (foot_at (feet_of run) p)
 
@@ -188,7 +191,8 @@ module _ (run : List Subthread) (faults : List Fault) (start : State) where
             applied = λ q e. (
               (still q e).1,
               (λ i. done_by (sym (same-member q (still q e).0) i) (sym (same-fold q) i))
-                  ∙ rest-left Writes Touches (ClashIn (feet_of run)) (members_at run faults at) kept start at.applied at.retired at.progress.front
+                  ∙ rest-left Writes Touches (ClashIn (feet_of run))
+                  (members_at run faults at) kept start at.applied at.retired at.progress.front
                   buffer holds part closed-part q (still q e).0 (still q e).1,
             );
           }
@@ -225,14 +229,16 @@ module _ (run : List Subthread) (faults : List Fault) (start : State) where
       pub taken-here : left_then taken_at p
           ≡ done_by (members_at run faults at p) (fold (members_at run faults at) start at.applied at.progress.front)
       taken-here =
-          here-left Writes Touches (ClashIn (feet_of run)) (members_at run faults at) kept start at.applied at.retired at.progress.front buffer
+          here-left Writes Touches (ClashIn (feet_of run))
+          (members_at run faults at) kept start at.applied at.retired at.progress.front buffer
           holds p (stands.posted_low p (present at p) posted).0 absent
 
       pub taken-others : (q : ℕ) → (q ≡ p → ⊥) → taken_at.applied q ≡ true
           → (at.applied q ≡ true) × (left_then taken_at q ≡ left_then at q)
       taken-others q ne e = (
         was,
-        others-left Writes Touches (ClashIn (feet_of run)) (members_at run faults at) kept start at.applied at.retired at.progress.front buffer
+        others-left Writes Touches (ClashIn (feet_of run))
+            (members_at run faults at) kept start at.applied at.retired at.progress.front buffer
             holds p (stands.posted_low p (present at p) posted).0 absent q ne was,
       )
         where
@@ -278,7 +284,8 @@ module _ (program : Program) (inputs : Inputs) (limits : Limits) where
       ∙ (ap (done_by (member_in order_of (λ q. pos 0) p)) (retired-fold order_of faults at stands start_of p (omega arith))
       ∙ (ap (λ o. done_by (member_of (pos 0) o) (fold (member_in order_of (λ q. pos 0)) start_of (λ q. true) p)) there
       ∙ (undamaged (effect s.thread s.begins.sync s.child s.actions (fold (member_in order_of (λ q. pos 0)) start_of (λ q. true) p))
-      ∙ ap (effect s.thread s.begins.sync s.child s.actions) (fold_below (tree_machine program inputs limits) program inputs limits p (omega arith)))))
+      ∙ ap (effect s.thread s.begins.sync s.child s.actions)
+      (fold_below (tree_machine program inputs limits) program inputs limits p (omega arith)))))
 
   -- with one position more, what it leaves comes last
   pub left-more : (k : ℕ) (run : List Subthread) (p n : ℕ) (s : Subthread) → slice_get run p ≡ Some s → n ≡ k + p

@@ -10,16 +10,17 @@ use Rattle.std.proofs.lemmas.List.Elements.{All-contains}
 use Rattle.std.proofs.lemmas.Option.{slice_get_within, slice_get-get_or, get_or_from_slice_get}
 use Rattle.gp_base.specs.declared.fault.Fault.{Fault}
 use Rattle.gp_base.specs.declared.footprint.Loc.TheVariants as loc
-use Rattle.task_ast.specs.Names.{locks_of, cells_in}
-use Rattle.task_ast.specs.Plain.{Subthread, tree_machine}
-use Rattle.task_ast.specs.Position.{before}
-use Rattle.task_ast.specs.Table.{owned_from}
+use Rattle.task_ast.specs.meaning.Names.{locks_of, cells_in}
+use Rattle.task_ast.specs.meaning.Plain.{Subthread, tree_machine}
+use Rattle.task_ast.specs.meaning.Position.{before}
+use Rattle.task_ast.specs.meaning.Table.{owned_from}
 use Rattle.task_ast.proofs.Positions.{step_is}
 use Rattle.lock_checker.proofs.LocksHeld.{before_stands}
-use Rattle.dependence.specs.Conflict.{Conflict, clash_in}
-use Rattle.dependence.specs.Dependents.{is_member}
-use Rattle.dependence.specs.Restarts.{Dependence}
-use Rattle.dependence.specs.Journal.{Stage}
+use Rattle.dependence.specs.meaning.Conflict.{clash_in}
+use Rattle.dependence.specs.Conflict.{Conflict}
+use Rattle.dependence.specs.meaning.Dependents.{is_member}
+use Rattle.dependence.specs.meaning.Restarts.{Dependence}
+use Rattle.dependence.specs.meaning.Journal.{Stage}
 use Rattle.dependence.specs.JournalTests.{same_attempt}
 use Rattle.dependence.specs.Standing.{present, StageStands}
 use Rattle.dependence.specs.Posting.{OutReady}

@@ -1,6 +1,7 @@
--- What notes of a run are, as the run goes on, where it restarts selectively. The stage after an event and what is allowed are those of selective
--- restarts, and a history buffer stands beside them, so that LeftAt tells of what is applied that it left the same. Notes go along: a result that
--- applies is noted with what its attempt left, all else applies nothing, and what retires is the next of what the plain run leaves.
+-- What notes of a run are, as the run goes on, where it restarts selectively. The stage after an event and what is allowed are those of
+-- selective restarts, and a history buffer stands beside them, so that LeftAt tells of what is applied that it left the same. Notes go
+-- along: a result that applies is noted with what its attempt left, all else applies nothing, and what retires is the next of what the
+-- plain run leaves.
 use Rattle.std.proofs.Common.{◌≡◌, inl, inr, ℕ, suc, ◌+◌, ◌≤◌, Bool, true, false, cond, List, [], ◌∷◌, ◌++◌, length, Option, Some, refl, sym, ap, subst, ◌∙◌, arith, add-one, slice_get}
 use Rattle.std.specs.Prelude.{Ok, Err}
 use Rattle.std.proofs.lemmas.Bool.{false≢true, cases_eq, eq-eqb, ne_eqb}
@@ -9,15 +10,15 @@ use Rattle.gp_base.specs.declared.journal.Event.TheVariants as event
 use Rattle.gp_base.specs.declared.journal.Journal.{Journal}
 use Rattle.gp_base.specs.declared.fault.Fault.{Fault}
 use Rattle.task_ast.specs.declared.effect.Effect.{Effect}
-use Rattle.task_ast.specs.State.{State}
-use Rattle.task_ast.specs.Effect.{effect}
+use Rattle.task_ast.specs.meaning.State.{State}
+use Rattle.task_ast.specs.meaning.Effect.{effect}
 use Rattle.task_ast.specs.Damage.{damaged}
-use Rattle.task_ast.specs.Layout.{layout}
+use Rattle.task_ast.specs.meaning.Layout.{layout}
 use Rattle.task_ast.specs.Members.{member_of}
-use Rattle.task_ast.specs.Plain.{Subthread}
+use Rattle.task_ast.specs.meaning.Plain.{Subthread}
 use Rattle.dependence.specs.Restarts.{mask_of}
-use Rattle.dependence.specs.Journal.{Stage, Allowed, MayRetire, happens, stage}
-use Rattle.dependence.specs.Runs.{dependence_of}
+use Rattle.dependence.specs.meaning.Journal.{Stage, Allowed, MayRetire, happens, stage}
+use Rattle.dependence.specs.meaning.Runs.{dependence_of}
 use Rattle.dependence.specs.Standing.{present, StageStands}
 use Rattle.dependence.specs.Touching.{done_by}
 use Rattle.dependence.specs.Buffer.{Buffer}
@@ -27,7 +28,8 @@ use Rattle.subthread.specs.declared.task.Done.{Done}
 use Rattle.subthread.specs.Tasks.{task_of, effect_of, IsRun}
 use Rattle.subthread.specs.Joining.{Runs}
 use Rattle.subthread.proofs.Joined.{runs_law}
-use Rattle.crew.specs.Noted.{Telling, left_at, with_left, NotesNothing, NotesRetired, NotesPart}
+use Rattle.crew.specs.meaning.Noted.{left_at}
+use Rattle.crew.specs.Noted.{Telling, with_left, NotesNothing, NotesRetired, NotesPart}
 use Rattle.reorder_list.specs.declared.report.Report.{Report}
 use Rattle.reorder_list.specs.declared.report.EngineStop.{EngineStop}
 use Rattle.whole_run.specs.declared.calls.Halt.{Halt}
@@ -94,7 +96,8 @@ module _ (view : View) (stands : Stands view) (selective : view.batch.recovery �
   now-after : (e : Event) → now (grown view e) ≡ happens (dependence_of the_run) the_faults (now view) e
   now-after e = now-grown view e ∙ ap (λ recovery. happens (recovering recovery the_run) the_faults (now view) e) selective
 
-  allowed-plain : (e : Event) → AllowedBy the_run the_faults view.batch.recovery (now view) e → Allowed (dependence_of the_run) the_faults (now view) e
+  allowed-plain : (e : Event) → AllowedBy the_run the_faults view.batch.recovery (now view) e
+      → Allowed (dependence_of the_run) the_faults (now view) e
   allowed-plain e allowed = subst (λ recovery. AllowedBy the_run the_faults recovery (now view) e) selective allowed
 
   -- what the stage after an event keeps, the run keeps
@@ -112,7 +115,8 @@ module _ (view : View) (stands : Stands view) (selective : view.batch.recovery �
 
   grown-keeps : (e : Event) → AppliesNothing e → KeepsLeft view (grown view e)
   grown-keeps e nothing =
-      keeps-after e (event-keeps the_run the_faults the_start (now view) (buffer_after the_run the_faults the_start view.events) stage-plain holds e nothing)
+      keeps-after e (event-keeps the_run the_faults the_start (now view)
+      (buffer_after the_run the_faults the_start view.events) stage-plain holds e nothing)
 
 pub did-keeps-left : (before after : View) (e : Event) → Stands before → Did before e after → AppliesNothing e → KeepsLeftBy before after
 did-keeps-left before after e stands did nothing =
@@ -148,10 +152,13 @@ keeps-nothing before after telling later left nothing written selective start no
 pub keeps-notes-left : (before after : View) (telling : Telling) → KeepsLeftBy before after → KeepsAllNotes before after telling telling
 keeps-notes-left before after telling left = keeps-nothing before after telling telling left (λ start written noted told tells. tells)
 
-pub keeps-notes-nothing : (before after : View) (telling later : Telling) → after ≡ before → NotesNothing telling later → KeepsAllNotes before after telling later
-keeps-notes-nothing before after telling later same nothing = keeps-nothing before after telling later (keeps-left-same before after same) nothing
+pub keeps-notes-nothing : (before after : View) (telling later : Telling) → after ≡ before → NotesNothing telling later
+    → KeepsAllNotes before after telling later
+keeps-notes-nothing before after telling later same nothing =
+    keeps-nothing before after telling later (keeps-left-same before after same) nothing
 
-pub keeps-notes-then : (first second third : View) (telling mid later : Telling) (written written' written'' : Option (List ℕ)) → second.batch ≡ first.batch
+pub keeps-notes-then : (first second third : View) (telling mid later : Telling) (written written' written'' : Option (List ℕ))
+    → second.batch ≡ first.batch
     → KeepsNotes first second telling mid written written' → KeepsNotes second third mid later written' written''
     → KeepsNotes first third telling later written written''
 keeps-notes-then first second third telling mid later written written' written'' batch one two selective start notes =
@@ -288,7 +295,8 @@ module _ (before after : View) (p : ℕ) (stands : Stands before) (did : Did bef
   may-retire : MayRetire (dependence_of (run_in before.batch)) before.batch.faults (now before) p
   may-retire = allowed-plain before stands selective (event.Retire p) did.allowed
 
-  stage-then : now (grown before (event.Retire p)) ≡ happens (dependence_of (run_in before.batch)) before.batch.faults (now before) (event.Retire p)
+  stage-then : now (grown before (event.Retire p))
+      ≡ happens (dependence_of (run_in before.batch)) before.batch.faults (now before) (event.Retire p)
   stage-then = now-after before stands selective (event.Retire p)
 
   retired-then : (now (grown before (event.Retire p))).retired ≡ suc p
@@ -300,7 +308,8 @@ module _ (before after : View) (p : ℕ) (stands : Stands before) (did : Did bef
       let low = (stage-plain before stands selective).retired_low in
       let front = (stage-plain before stands selective).front_low in
       may-retire.oldest
-      ∙ sym (length-left (program_in before.batch) before.batch.inputs before.batch.limits 0 (run_in before.batch) (now before).retired (omega arith))
+      ∙ sym (length-left (program_in before.batch) before.batch.inputs before.batch.limits 0 (run_in before.batch)
+      (now before).retired (omega arith))
 
   -- with it the log has what is below the next one
   told-then : left_below before.batch (now before).retired ++ left_in before p ∷ []
@@ -324,7 +333,8 @@ module _ (before after : View) (p : ℕ) (stands : Stands before) (did : Did bef
             (noted-here telling start written notes));
         noted = λ q l is.
             notes.noted q (below q (subst (λ n. n ≤ q) retired-then l)) (subst (λ (at : Stage). at.applied q ≡ true) stage-then is)
-            ∙ ap Some (sym (ap (λ (at : Stage). left_then (run_in before.batch) before.batch.faults (start_in before.batch) at q) stage-then));
+            ∙ ap Some (sym (ap (λ (at : Stage). left_then (run_in before.batch) before.batch.faults (start_in before.batch) at q)
+            stage-then));
       }
     where
       below : (q : ℕ) → suc p ≤ q → (now before).retired ≤ q
@@ -339,7 +349,8 @@ module _ (before after : View) (p : ℕ) (stands : Stands before) (did : Did bef
       (noted-here telling start written notes))
 
 pub notes-told : (before after : View) (p : ℕ) (telling later : Telling) (written written' : Option (List ℕ)) → Stands before
-    → Did before (event.Retire p) after → NotesRetired telling later written written' p → KeepsNotes before after telling later written written'
+    → Did before (event.Retire p) after → NotesRetired telling later written written' p
+    → KeepsNotes before after telling later written written'
 notes-told before after p telling later written written' stands did told selective start notes =
     subst (λ v. AreNotes later v start written') (sym did.grown)
     (retired-notes before after p stands did selective telling later written written' told start notes)
@@ -364,7 +375,8 @@ stops-then first second third telling mid later part written written' written'' 
 
 -- ---- the whole run
 
-pub notes-begun : (batch : Batch) (telling : Telling) (start written : Option (List ℕ)) (left : ℕ → Option Effect) → telling start written left []
+pub notes-begun : (batch : Batch) (telling : Telling) (start written : Option (List ℕ)) (left : ℕ → Option Effect)
+    → telling start written left []
     → AreNotes telling (begun batch) start written
 notes-begun batch telling start written left told = record { left = left; told = told; noted = λ p l e. absurd (false≢true e) }
 
@@ -381,7 +393,8 @@ first-notes first telling start written left begins told =
 
 -- it came to its end
 pub notes-finished : (first last : View) (telling later : Telling) (part : (start written : Option (List ℕ)) → List Effect → Type 0)
-    (written written' : Option (List ℕ)) (report : Report) → first ≡ begun first.batch → last.batch ≡ first.batch → IsJournalOf last report.journal
+    (written written' : Option (List ℕ)) (report : Report) → first ≡ begun first.batch → last.batch ≡ first.batch
+    → IsJournalOf last report.journal
     → KeepsNotes first last telling later written written' → NotesRun telling later part first.batch written written' (Ok report)
 notes-finished first last telling later part written written' report begins batch journal kept selective start left told =
     let notes : AreNotes later last start written' =
@@ -390,7 +403,8 @@ notes-finished first last telling later part written written' report begins batc
 
 -- it stopped
 pub notes-stopped : (first last : View) (telling later : Telling) (part : (start written : Option (List ℕ)) → List Effect → Type 0)
-    (written written' : Option (List ℕ)) (stop : EngineStop) → first ≡ begun first.batch → last.batch ≡ first.batch → IsJournalOf last stop.journal
+    (written written' : Option (List ℕ)) (stop : EngineStop) → first ≡ begun first.batch → last.batch ≡ first.batch
+    → IsJournalOf last stop.journal
     → StopsNotes first last telling later part written written' → NotesRun telling later part first.batch written written' (Err stop)
 notes-stopped first last telling later part written written' stop begins batch journal stops selective start left told =
     elim (stops selective start (first-notes first telling start written left begins told)) [

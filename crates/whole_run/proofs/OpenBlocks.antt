@@ -6,13 +6,13 @@ use Rattle.std.specs.List.Sorted.{IsStrictlyIncreasing}
 use Rattle.std.proofs.lemmas.Bool.{cases_lt, both_ways}
 use Rattle.std.proofs.lemmas.List.Elements.{All-push, All-weaker, All-map, All-contains, All-contains_itself, Contains-append_left}
 use Rattle.gp_base.specs.declared.fault.Fault.{Fault}
-use Rattle.task_ast.specs.State.{State}
-use Rattle.task_ast.specs.Plain.{Subthread}
-use Rattle.dependence.specs.Journal.{Stage}
+use Rattle.task_ast.specs.meaning.State.{State}
+use Rattle.task_ast.specs.meaning.Plain.{Subthread}
+use Rattle.dependence.specs.meaning.Journal.{Stage}
 use Rattle.dependence.specs.Standing.{present}
-use Rattle.dependence.specs.Runs.{dependence_of}
+use Rattle.dependence.specs.meaning.Runs.{dependence_of}
 use Rattle.dependence.specs.Histories.{HasCells}
-use Rattle.rollback.specs.Cuts.{cut_at, cuts_of}
+use Rattle.rollback.specs.meaning.Cuts.{cut_at, cuts_of}
 use Rattle.rollback.proofs.Backs.{cut-low, cut-kept, cut-again}
 use Rattle.rollback.proofs.Standing.{unbegun-applied, unbegun-out}
 use Rattle.rollback.proofs.States.{copy-is}

@@ -1,11 +1,11 @@
 -- The cut of a block of which none has retired, as the oldest entry tells it and as the run does.
 use Rattle.std.proofs.Common.{◌≡◌, ◌⊎◌, inl, inr, ℕ, ◌<◌, ◌≤◌, Bool, true, false, cond, nat_le, List, [], ◌∷◌, length, Option, Some, None, refl, sym, ap, subst, ◌∙◌, arith, slice_get}
 use Rattle.std.proofs.lemmas.Bool.{leb-true, leb-false, eq-eqb}
-use Rattle.task_ast.specs.Table.{is_settle}
-use Rattle.task_ast.specs.Plain.{Subthread}
-use Rattle.dependence.specs.Journal.{Stage}
-use Rattle.dependence.specs.Runs.{settles_one, dependence_of}
-use Rattle.rollback.specs.Cuts.{cut_at, cuts_of}
+use Rattle.task_ast.specs.meaning.Table.{is_settle}
+use Rattle.task_ast.specs.meaning.Plain.{Subthread}
+use Rattle.dependence.specs.meaning.Journal.{Stage}
+use Rattle.dependence.specs.meaning.Runs.{settles_one, dependence_of}
+use Rattle.rollback.specs.meaning.Cuts.{cut_at, cuts_of}
 use Rattle.rollback.specs.Driving.{DrivingStands, multiple_at}
 use Rattle.rollback.proofs.Multiples.{cut-multiple, cut-oldest, cut-retired}
 use Rattle.reorder_list.specs.declared.entry.Entry.{Entry}

@@ -10,15 +10,15 @@ use Rattle.gp_base.specs.declared.journal.Event.{Event}
 use Rattle.gp_base.specs.declared.journal.Restart.{Restart}
 use Rattle.task_ast.specs.declared.layout.Layout.{Layout}
 use Rattle.task_ast.specs.declared.sync.SyncOp.TheVariants as sync
-use Rattle.task_ast.specs.Names.{locks_of, records_of, barriers_of, registers_of, cells_in}
-use Rattle.task_ast.specs.Layout.{cells_under}
+use Rattle.task_ast.specs.meaning.Names.{locks_of, records_of, barriers_of, registers_of, cells_in}
+use Rattle.task_ast.specs.meaning.Layout.{cells_under}
 use Rattle.task_ast.specs.Reached.{start_table}
-use Rattle.task_ast.specs.State.{State}
-use Rattle.task_ast.specs.Table.{Table, numbers}
-use Rattle.task_ast.specs.Plain.{Subthread, opening, main_task, main_number, start_point}
+use Rattle.task_ast.specs.meaning.State.{State}
+use Rattle.task_ast.specs.meaning.Table.{Table, numbers}
+use Rattle.task_ast.specs.meaning.Plain.{Subthread, opening, main_task, main_number, start_point}
 use Rattle.task_ast.proofs.Layouts.{length-numbers, accepted_sizes}
 use Rattle.lock_checker.proofs.BaseLemmas.{accepted_small}
-use Rattle.dependence.specs.Journal.{initial_stage}
+use Rattle.dependence.specs.meaning.Journal.{initial_stage}
 use Rattle.dependence.specs.Histories.{HasCells}
 use Rattle.dependence.specs.RunBuffer.{RunStands, initial_buffer}
 use Rattle.dependence.specs.Standing.{AreShort}

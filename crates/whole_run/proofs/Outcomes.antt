@@ -7,17 +7,17 @@ use Rattle.std.proofs.KnownBytes.{Appends-nil}
 use Rattle.std.proofs.lemmas.Option.{slice_get_within}
 use Rattle.gp_base.specs.declared.ending.End.{End}
 use Rattle.gp_base.specs.declared.journal.Journal.{Journal}
-use Rattle.task_ast.specs.Names.{records_of, cells_in}
-use Rattle.task_ast.specs.State.{State, cell_value}
-use Rattle.task_ast.specs.Table.{numbers}
-use Rattle.task_ast.specs.Plain.{Subthread}
-use Rattle.dependence.specs.Journal.{initial_stage, Complete}
+use Rattle.task_ast.specs.meaning.Names.{records_of, cells_in}
+use Rattle.task_ast.specs.meaning.State.{State, cell_value}
+use Rattle.task_ast.specs.meaning.Table.{numbers}
+use Rattle.task_ast.specs.meaning.Plain.{Subthread}
+use Rattle.dependence.specs.meaning.Journal.{initial_stage, Complete}
 use Rattle.dependence.specs.Counts.{posts, takes}
 use Rattle.dependence.proofs.Counts.{counted}
 use Rattle.subthread.specs.declared.task.Task.{Task}
 use Rattle.crew.specs.Standing.{untaken}
 use Rattle.reorder_list.specs.declared.report.Report.{Report}
-use Rattle.restart_log.specs.Lines.{printed}
+use Rattle.restart_log.specs.meaning.Lines.{printed}
 use Rattle.whole_run.specs.Recovering.{CompleteBy}
 use Rattle.whole_run.specs.View.{View, program_in, run_in, dependence_in, end_in, now, begun, Stands}
 use Rattle.whole_run.specs.Gives.{NoneLent, IsJournalOf, IsReportOf}

@@ -12,23 +12,25 @@ use Rattle.gp_base.specs.declared.journal.Event.TheVariants as event
 use Rattle.task_ast.specs.declared.sync.SyncOp.{SyncOp}
 use Rattle.task_ast.specs.declared.sync.SyncOp.TheVariants as sync
 use Rattle.task_ast.specs.declared.sync.Next.{Next}
-use Rattle.task_ast.specs.Layout.{layout}
-use Rattle.task_ast.specs.Plain.{Subthread, tree_machine}
-use Rattle.task_ast.specs.Position.{from_in, before}
+use Rattle.task_ast.specs.meaning.Layout.{layout}
+use Rattle.task_ast.specs.meaning.Plain.{Subthread, tree_machine}
+use Rattle.task_ast.specs.meaning.Position.{before}
+use Rattle.task_ast.specs.Position.{from_in}
 use Rattle.task_ast.specs.Fold.{fold}
 use Rattle.task_ast.proofs.Positions.{forked_is}
 use Rattle.task_ast.proofs.SeatLimits.{most_threads_law}
 use Rattle.task_ast.proofs.Standings.{agrees}
 use Rattle.task_code.specs.Relation.{Rests}
 use Rattle.gp_base.specs.declared.fault.Fault.{Fault}
-use Rattle.dependence.specs.Journal.{Stage, MayPost, happens}
+use Rattle.dependence.specs.meaning.Journal.{Stage, MayPost, happens}
 use Rattle.dependence.specs.Posting.{IsWithin, posting_of}
-use Rattle.dependence.specs.Runs.{lock_feet_of, dependence_of}
-use Rattle.dependence.specs.Conflict.{clash_in}
+use Rattle.dependence.specs.meaning.Runs.{dependence_of}
+use Rattle.dependence.specs.Runs.{lock_feet_of}
+use Rattle.dependence.specs.meaning.Conflict.{clash_in}
 use Rattle.dependence.specs.Standing.{present, StageStands}
 use Rattle.dependence.specs.RunBuffer.{members_at}
 use Rattle.dependence.proofs.Posting.{post-by-locks, run-within}
-use Rattle.rollback.specs.Cuts.{cuts_of, rolling_of}
+use Rattle.rollback.specs.meaning.Cuts.{cuts_of, rolling_of}
 use Rattle.record_store.specs.Given.{given_of, joined_by}
 use Rattle.record_store.specs.Lent.{marked}
 use Rattle.record_store.specs.Stored.{Stored, state_of, IsAtHome}

@@ -13,15 +13,15 @@ use Rattle.gp_base.specs.declared.fault.Fault.{Fault}
 use Rattle.gp_base.specs.declared.ending.End.{End}
 use Rattle.gp_base.specs.declared.journal.Event.{Event}
 use Rattle.gp_base.specs.declared.journal.Event.TheVariants as event
-use Rattle.task_ast.specs.Plain.{Subthread}
-use Rattle.dependence.specs.Dependents.{is_member}
-use Rattle.dependence.specs.Restarts.{Dependence, drains, is_live, is_due, least_struck, NoneDue, NoneLive, IsFinal, struck_next, restart_of}
-use Rattle.dependence.specs.Journal.{Stage, initial_stage, WasTaken, happens, restarted, stage_from, stage}
+use Rattle.task_ast.specs.meaning.Plain.{Subthread}
+use Rattle.dependence.specs.meaning.Dependents.{is_member}
+use Rattle.dependence.specs.meaning.Restarts.{Dependence, drains, is_live, is_due, least_struck, NoneDue, NoneLive, IsFinal, struck_next, restart_of}
+use Rattle.dependence.specs.meaning.Journal.{Stage, initial_stage, WasTaken, happens, restarted, stage_from, stage}
 use Rattle.dependence.specs.JournalTests.{same_attempt}
 use Rattle.dependence.specs.Standing.{present}
 use Rattle.dependence.proofs.Auditing.{contains-decides}
-use Rattle.dependence.specs.Runs.{settles_one}
-use Rattle.rollback.specs.Cuts.{cuts_of}
+use Rattle.dependence.specs.meaning.Runs.{settles_one}
+use Rattle.rollback.specs.meaning.Cuts.{cuts_of}
 use Rattle.rollback.proofs.Backs.{cut-low}
 use Rattle.whole_run.specs.declared.recovery.Recovery.{Recovery}
 use Rattle.whole_run.specs.declared.recovery.Recovery.TheVariants.{Selective, Rollback}

@@ -3,12 +3,13 @@ use Rattle.std.proofs.Common.{◌≡◌, ℕ, zero, suc, ◌<◌, Bool, true, Li
 use Rattle.gp_base.specs.declared.fault.Fault.{Fault}
 use Rattle.gp_base.specs.declared.journal.Event.{Event}
 use Rattle.gp_base.specs.declared.journal.Event.TheVariants as event
-use Rattle.task_ast.specs.Plain.{Subthread}
-use Rattle.dependence.specs.Conflict.{clash_in}
-use Rattle.dependence.specs.Journal.{Stage, happens}
+use Rattle.task_ast.specs.meaning.Plain.{Subthread}
+use Rattle.dependence.specs.meaning.Conflict.{clash_in}
+use Rattle.dependence.specs.meaning.Journal.{Stage, happens}
 use Rattle.dependence.specs.Posting.{KeepsReady, OutReady}
 use Rattle.dependence.specs.RunBuffer.{IsOut}
-use Rattle.dependence.specs.Runs.{feet_of, lock_feet_of}
+use Rattle.dependence.specs.meaning.Runs.{feet_of}
+use Rattle.dependence.specs.Runs.{lock_feet_of}
 use Rattle.dependence.specs.Standing.{present, StageStands}
 use Rattle.dependence.proofs.Posting.{out-ready, no-locks-clash}
 use Rattle.whole_run.specs.declared.recovery.Recovery.{Recovery}

@@ -4,18 +4,19 @@ use Rattle.gp_base.specs.declared.fault.Fault.{Fault}
 use Rattle.gp_base.specs.declared.journal.Event.{Event}
 use Rattle.gp_base.specs.declared.journal.Event.TheVariants as event
 use Rattle.gp_base.specs.declared.journal.Restart.{Restart}
-use Rattle.task_ast.specs.Plain.{Subthread}
-use Rattle.dependence.specs.Conflict.{clash_in}
+use Rattle.task_ast.specs.meaning.Plain.{Subthread}
+use Rattle.dependence.specs.meaning.Conflict.{clash_in}
 use Rattle.dependence.specs.Dependents.{itself}
-use Rattle.dependence.specs.Restarts.{RedoesStruck, restarts}
-use Rattle.dependence.specs.Journal.{Stage, initial_stage, MayIssue, MayTake, MayRestart, Allowed, Lawful, Complete, happens, stage}
+use Rattle.dependence.specs.meaning.Restarts.{restarts}
+use Rattle.dependence.specs.Restarts.{RedoesStruck}
+use Rattle.dependence.specs.meaning.Journal.{Stage, initial_stage, MayIssue, MayTake, MayRestart, Allowed, Lawful, Complete, happens, stage}
 use Rattle.dependence.specs.Standing.{AreShort, RedoesConflicts, StageStands, KeepsRetired, NamesIssued}
-use Rattle.dependence.specs.Runs.{feet_of, dependence_of}
+use Rattle.dependence.specs.meaning.Runs.{feet_of, dependence_of}
 use Rattle.dependence.proofs.DependentSets.{dependents-are}
 use Rattle.dependence.proofs.IssuedPositions.{initial-issued, issued-from}
 use Rattle.dependence.proofs.Standing as selective
 use Rattle.dependence.proofs.Journals as selective_journals
-use Rattle.rollback.specs.Cuts.{cuts_of}
+use Rattle.rollback.specs.meaning.Cuts.{cuts_of}
 use Rattle.rollback.proofs.Backs.{settle-cuts, rolls-struck, rolls-conflicts}
 use Rattle.rollback.proofs.Standing as blocks
 use Rattle.rollback.proofs.Journals as blocks_journals

@@ -8,9 +8,9 @@ use Rattle.std.proofs.lemmas.Bool.{false≢true, and_parts, and_from, or_cases, 
 use Rattle.std.proofs.lemmas.List.{append-nil}
 use Rattle.gp_base.specs.declared.journal.Event.{Event}
 use Rattle.gp_base.specs.declared.journal.Event.TheVariants as event
-use Rattle.gp_base.specs.Sinks.{AppendsPrefix}
-use Rattle.dependence.specs.Restarts.{is_due, is_live, least_struck, NoneLive}
-use Rattle.dependence.specs.Journal.{Stage, Drained, happens}
+use Rattle.gp_base.specs.meaning.Sinks.{AppendsPrefix}
+use Rattle.dependence.specs.meaning.Restarts.{is_due, is_live, least_struck, NoneLive}
+use Rattle.dependence.specs.meaning.Journal.{Stage, Drained, happens}
 use Rattle.dependence.specs.Standing.{StageStands}
 use Rattle.reorder_list.specs.declared.entry.Entry.{Entry}
 use Rattle.reorder_list.specs.declared.entry.State.{State}
@@ -23,7 +23,7 @@ use Rattle.whole_run.specs.declared.calls.Halt.{Halt}
 use Rattle.whole_run.specs.Recovering.{AllowedBy}
 use Rattle.whole_run.specs.View.{Batch, View, grown, now, program_in, run_in, dependence_in, start_in, lines_of, lines_at}
 use Rattle.reorder_list.specs.declared.report.StopWhy.{StopWhy}
-use Rattle.restart_log.specs.Lines.{printed}
+use Rattle.restart_log.specs.meaning.Lines.{printed}
 use Rattle.whole_run.specs.Gives.{Did, MayRetireNow, RetireGives, RetireWrites}
 use Rattle.whole_run.specs.inner.Kept.{view_of, stage_of, IsPlaceIn, IsEnd, WindowStands, Keeps, Kept}
 use Rattle.whole_run.specs.inner.Backed.{StandsBy}

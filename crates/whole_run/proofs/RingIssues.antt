@@ -11,21 +11,22 @@ use Rattle.gp_base.specs.declared.journal.Event.TheVariants as event
 use Rattle.task_ast.specs.declared.sync.SyncOp.{SyncOp}
 use Rattle.task_ast.specs.declared.sync.SyncOp.TheVariants as sync
 use Rattle.task_ast.specs.declared.sync.Next.{Next}
-use Rattle.task_ast.specs.Control.{Point}
-use Rattle.task_ast.specs.Repeat.{Again, More, Done}
-use Rattle.task_ast.specs.Table.{is_settle, Table, next_of, last_in}
-use Rattle.task_ast.specs.Turn.{Turn, Issue, Needs, Ended, child_of, turn}
+use Rattle.task_ast.specs.meaning.Control.{Point}
+use Rattle.task_ast.specs.meaning.Repeat.{Again, More, Done}
+use Rattle.task_ast.specs.meaning.Table.{is_settle, Table, next_of, last_in}
+use Rattle.task_ast.specs.meaning.Turn.{Turn, Issue, Needs, Ended, child_of, turn}
 use Rattle.task_ast.specs.laws.Threads.{SameThreads, HasBegun, with_child}
 use Rattle.task_ast.specs.laws.Standing.{Agrees, IsIssuedBy, TurnTells, passes, issues, needs, ends}
-use Rattle.task_ast.specs.Plain.{tree_machine, start_point, task_at, end}
-use Rattle.task_ast.specs.Position.{IsStep, last_below}
+use Rattle.task_ast.specs.meaning.Plain.{tree_machine, start_point, task_at, end}
+use Rattle.task_ast.specs.meaning.Position.{last_below}
+use Rattle.task_ast.specs.Position.{IsStep}
 use Rattle.task_ast.proofs.Standings.{agrees, turns_tell}
 use Rattle.task_ast.proofs.Positions.{step_is, plain_stands}
 use Rattle.task_ast.proofs.TurnLaws.{pass_law, issue_law}
 use Rattle.task_ast.proofs.IssuedTables.{get_push, get_last, get_past, length_push, last_inside}
-use Rattle.dependence.specs.Restarts.{NoneDue}
-use Rattle.dependence.specs.Journal.{Stage, Allowed, MayFollow, WasTaken, happens}
-use Rattle.dependence.specs.Runs.{settles_one, before_one}
+use Rattle.dependence.specs.meaning.Restarts.{NoneDue}
+use Rattle.dependence.specs.meaning.Journal.{Stage, Allowed, MayFollow, WasTaken, happens}
+use Rattle.dependence.specs.meaning.Runs.{settles_one, before_one}
 use Rattle.dependence.specs.Standing.{NamesIssued}
 use Rattle.whole_run.specs.View.{Batch, program_in, run_in, dependence_in}
 use Rattle.whole_run.specs.inner.RingStands.{plain_before, point_before, IsLearnt, RingStands, StartIs, places_after}

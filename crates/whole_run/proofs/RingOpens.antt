@@ -4,13 +4,13 @@ use Rattle.std.specs.Prelude.{slice_get}
 use Rattle.task_ast.specs.declared.sync.SyncOp.{SyncOp}
 use Rattle.task_ast.specs.declared.sync.SyncOp.TheVariants as sync
 use Rattle.task_ast.specs.declared.sync.Next.{Next}
-use Rattle.task_ast.specs.Control.{Point}
+use Rattle.task_ast.specs.meaning.Control.{Point}
 use Rattle.task_ast.specs.Position.{point_in}
-use Rattle.task_ast.specs.Table.{new_seat}
-use Rattle.task_ast.specs.Plain.{opening, start_point, main_task, tree_machine, move_by}
+use Rattle.task_ast.specs.meaning.Table.{new_seat}
+use Rattle.task_ast.specs.meaning.Plain.{opening, start_point, main_task, tree_machine, move_by}
 use Rattle.task_ast.proofs.Repeats.{state_after_none}
 use Rattle.task_ast.proofs.Standings.{own_stands}
-use Rattle.dependence.specs.Journal.{initial_stage, WasTaken}
+use Rattle.dependence.specs.meaning.Journal.{initial_stage, WasTaken}
 use Rattle.task_ast.specs.laws.Standing.{Stands}
 use Rattle.whole_run.specs.View.{Batch, program_in}
 use Rattle.whole_run.specs.inner.RingStands.{plain_before, point_before, RingStands}

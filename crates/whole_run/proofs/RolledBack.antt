@@ -9,18 +9,18 @@ use Rattle.std.proofs.lemmas.Bool.{cases_lt, both_ways}
 use Rattle.std.proofs.lemmas.List.Elements.{All-weaker, All-contains, All-contains_itself, Contains-append_left, Contains-append_cases}
 use Rattle.gp_base.specs.declared.fault.Fault.{Fault}
 use Rattle.gp_base.specs.declared.journal.Event.TheVariants as event
-use Rattle.task_ast.specs.State.{State}
-use Rattle.task_ast.specs.Table.{numbers}
-use Rattle.task_ast.specs.Plain.{Subthread}
-use Rattle.dependence.specs.Dependents.{is_member}
-use Rattle.dependence.specs.Restarts.{Dependence, struck_next}
-use Rattle.dependence.specs.Journal.{Stage, happens, restarted}
+use Rattle.task_ast.specs.meaning.State.{State}
+use Rattle.task_ast.specs.meaning.Table.{numbers}
+use Rattle.task_ast.specs.meaning.Plain.{Subthread}
+use Rattle.dependence.specs.meaning.Dependents.{is_member}
+use Rattle.dependence.specs.meaning.Restarts.{Dependence, struck_next}
+use Rattle.dependence.specs.meaning.Journal.{Stage, happens, restarted}
 use Rattle.dependence.specs.Standing.{present}
-use Rattle.dependence.specs.Runs.{dependence_of}
+use Rattle.dependence.specs.meaning.Runs.{dependence_of}
 use Rattle.dependence.specs.Histories.{HasCells}
 use Rattle.dependence.proofs.Struck.{struck-live}
-use Rattle.rollback.specs.Cuts.{cut_at, cuts_of, back, rolling_of}
-use Rattle.rollback.specs.Journal.{AllowedByBlocks}
+use Rattle.rollback.specs.meaning.Cuts.{cut_at, cuts_of, back, rolling_of}
+use Rattle.rollback.specs.meaning.Journal.{AllowedByBlocks}
 use Rattle.rollback.specs.States.{HeldStands, IsCopy, held_restarted}
 use Rattle.rollback.specs.Driving.{RollsBack}
 use Rattle.rollback.proofs.Backs.{cut-low, unredone}

@@ -4,11 +4,11 @@ use Rattle.std.proofs.lemmas.Bool.{eq-eqb, false≢true, and_parts, and_from, le
 use Rattle.gp_base.specs.declared.limits.TheConstants.{LONGEST_DELAY}
 use Rattle.gp_base.specs.declared.fault.Fault.{Fault}
 use Rattle.gp_base.specs.declared.journal.Event.TheVariants as event
-use Rattle.task_ast.specs.State.{State}
-use Rattle.task_ast.specs.Plain.{Subthread}
-use Rattle.dependence.specs.Restarts.{begun_of, NoneDue}
-use Rattle.dependence.specs.Journal.{Stage, Drained}
-use Rattle.dependence.specs.Runs.{dependence_of}
+use Rattle.task_ast.specs.meaning.State.{State}
+use Rattle.task_ast.specs.meaning.Plain.{Subthread}
+use Rattle.dependence.specs.meaning.Restarts.{begun_of, NoneDue}
+use Rattle.dependence.specs.meaning.Journal.{Stage, Drained}
+use Rattle.dependence.specs.meaning.Runs.{dependence_of}
 use Rattle.record_store.specs.Stored.{Stored}
 use Rattle.reorder_list.specs.declared.entry.Entry.{Entry}
 use Rattle.reorder_list.specs.Entries.{entry_at}

@@ -1,12 +1,12 @@
 -- A settle finds the number of the plain run.
 use Rattle.std.proofs.Common.{◌≡◌, ℕ, true, Some, sym, ap, ◌∙◌, slice_get}
 use Rattle.gp_base.specs.declared.journal.Event.TheVariants as event
-use Rattle.task_ast.specs.State.{State, RegistersOf, number_at}
-use Rattle.task_ast.specs.Table.{is_settle}
-use Rattle.task_ast.specs.Plain.{Subthread}
-use Rattle.task_ast.specs.Position.{before}
-use Rattle.dependence.specs.Journal.{MayIssue}
-use Rattle.dependence.specs.Runs.{settles_one}
+use Rattle.task_ast.specs.meaning.State.{State, RegistersOf, number_at}
+use Rattle.task_ast.specs.meaning.Table.{is_settle}
+use Rattle.task_ast.specs.meaning.Plain.{Subthread}
+use Rattle.task_ast.specs.meaning.Position.{before}
+use Rattle.dependence.specs.meaning.Journal.{MayIssue}
+use Rattle.dependence.specs.meaning.Runs.{settles_one}
 use Rattle.whole_run.specs.Recovering.{AllowedBy}
 use Rattle.whole_run.specs.View.{View, program_in, run_in, dependence_in, now, state_in, Stands}
 use Rattle.whole_run.specs.Laws.{SettledNumberLaw}

@@ -4,8 +4,8 @@ use Rattle.std.specs.Prelude.{is_some}
 use Rattle.std.specs.Option.{option_or}
 use Rattle.std.proofs.lemmas.Bool.{false_from_ne_true, and_parts, ltb-true, lt-ltb, eqb-true, cases_lt}
 use Rattle.gp_base.specs.declared.fault.Fault.{Fault}
-use Rattle.dependence.specs.Restarts.{attempt_of, is_live, is_due, least_struck}
-use Rattle.dependence.specs.Journal.{Stage}
+use Rattle.dependence.specs.meaning.Restarts.{attempt_of, is_live, is_due, least_struck}
+use Rattle.dependence.specs.meaning.Journal.{Stage}
 use Rattle.dependence.specs.Standing.{present}
 use Rattle.dependence.proofs.Struck.{Contains-head, Contains-later}
 use Rattle.reorder_list.specs.declared.entry.Entry.{Entry}

@@ -6,20 +6,20 @@ use Rattle.std.proofs.lemmas.Bool.{eqb-true, eq-eqb, false≢true, false_from_ne
 use Rattle.gp_base.specs.declared.journal.Event.{Event}
 use Rattle.gp_base.specs.declared.journal.Event.TheVariants as event
 use Rattle.task_ast.specs.declared.sync.Next.{Next}
-use Rattle.task_ast.specs.Table.{Table, learning}
+use Rattle.task_ast.specs.meaning.Table.{Table, learning}
 use Rattle.task_ast.specs.History.{old_of}
-use Rattle.task_ast.specs.Plain.{Subthread, tree_machine}
+use Rattle.task_ast.specs.meaning.Plain.{Subthread, tree_machine}
 use Rattle.task_ast.specs.Position.{body_at}
 use Rattle.task_ast.proofs.IssuedTables.{learnt_length}
 use Rattle.task_ast.proofs.PlainRuns.{count_law}
 use Rattle.task_code.specs.Relation.{Rests}
 use Rattle.dependence.specs.Restarts.{mask_of}
-use Rattle.dependence.specs.Journal.{Stage, happens}
+use Rattle.dependence.specs.meaning.Journal.{Stage, happens}
 use Rattle.dependence.specs.Standing.{present, StageStands}
 use Rattle.dependence.specs.Touching.{done_by}
 use Rattle.dependence.specs.RunBuffer.{members_at}
 use Rattle.token_order.specs.View.{awaited}
-use Rattle.task_ast.specs.Under.{is_under}
+use Rattle.task_ast.specs.meaning.Under.{is_under}
 use Rattle.record_store.specs.declared.given.Bundle.{Bundle}
 use Rattle.record_store.specs.declared.given.Given.{Given}
 use Rattle.record_store.specs.Given.{bundle_of}
@@ -38,7 +38,7 @@ use Rattle.subthread.proofs.Among.{same_locks_back}
 use Rattle.subthread.proofs.HeldLocks.{bundle_locks}
 use Rattle.subthread.proofs.Joined.{runs_law}
 use Rattle.subthread.proofs.Lendings.{all-locks, as-lent}
-use Rattle.task_ast.specs.Layout.{layout}
+use Rattle.task_ast.specs.meaning.Layout.{layout}
 use Rattle.whole_run.specs.declared.parts.Parts.{Parts}
 use Rattle.whole_run.specs.declared.parts.Place.{Place}
 use Rattle.whole_run.specs.declared.parts.backing.Backup.{Backup}

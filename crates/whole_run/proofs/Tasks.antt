@@ -7,16 +7,18 @@ use Rattle.gp_base.specs.declared.fault.Fault.{Fault}
 use Rattle.gp_base.specs.declared.footprint.Loc.TheVariants as loc
 use Rattle.gp_base.specs.declared.journal.Event.{Event}
 use Rattle.gp_base.specs.declared.journal.Event.TheVariants as event
-use Rattle.task_ast.specs.State.{Place, RegistersOf, CellOf, State, cell_value, number_at}
-use Rattle.task_ast.specs.Footprint.{named_by, joined_registers, child_registers}
-use Rattle.task_ast.specs.Under.{under_lock, NamesHeld}
-use Rattle.task_ast.specs.Plain.{Subthread, foot_of}
+use Rattle.task_ast.specs.meaning.State.{Place, RegistersOf, CellOf, State, cell_value, number_at}
+use Rattle.task_ast.specs.meaning.Footprint.{named_by, joined_registers, child_registers}
+use Rattle.task_ast.specs.meaning.Under.{under_lock}
+use Rattle.task_ast.specs.Under.{NamesHeld}
+use Rattle.task_ast.specs.meaning.Plain.{Subthread, foot_of}
 use Rattle.task_ast.proofs.Layouts.{accepted_sizes}
 use Rattle.lock_checker.proofs.LocksHeld.{sound}
-use Rattle.dependence.specs.Conflict.{clash_in, foot_at}
-use Rattle.dependence.specs.Restarts.{Dependence, struck_next, restart_of}
-use Rattle.dependence.specs.Journal.{Stage, happens, restarted, stage}
-use Rattle.dependence.specs.Runs.{feet_of, lock_feet_of, dependence_of}
+use Rattle.dependence.specs.meaning.Conflict.{clash_in, foot_at}
+use Rattle.dependence.specs.meaning.Restarts.{Dependence, struck_next, restart_of}
+use Rattle.dependence.specs.meaning.Journal.{Stage, happens, restarted, stage}
+use Rattle.dependence.specs.meaning.Runs.{feet_of, dependence_of}
+use Rattle.dependence.specs.Runs.{lock_feet_of}
 use Rattle.dependence.specs.Standing.{present, AreShort}
 use Rattle.dependence.specs.Histories.{HasCells}
 use Rattle.dependence.specs.Posting.{OutReady}
@@ -26,7 +28,7 @@ use Rattle.dependence.proofs.Keeping.{laid_law, joined_same}
 use Rattle.dependence.proofs.RestartEnds.{attempt-push}
 use Rattle.dependence.proofs.RunBuffers.{after-events, event-stands, out-finds}
 use Rattle.dependence.proofs.Struck.{Contains-head, Contains-later}
-use Rattle.rollback.specs.Cuts.{cuts_of, rolling_of}
+use Rattle.rollback.specs.meaning.Cuts.{cuts_of, rolling_of}
 use Rattle.rollback.specs.States.{held_after}
 use Rattle.rollback.proofs.States.{happens-held, held-finds}
 use Rattle.record_store.specs.Given.{given_of, joined_by, joined_value, bundle_of}

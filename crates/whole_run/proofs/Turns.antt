@@ -9,11 +9,11 @@ use Rattle.std.proofs.lemmas.List.Elements.{Contains-push, Contains-append_left}
 use Rattle.gp_base.specs.declared.ending.End.{End}
 use Rattle.gp_base.specs.declared.journal.Event.{Event}
 use Rattle.gp_base.specs.declared.journal.Event.TheVariants as event
-use Rattle.gp_base.specs.Sinks.{Rose}
-use Rattle.task_ast.specs.Position.{last_below, is_of}
-use Rattle.task_ast.specs.Plain.{Subthread}
-use Rattle.dependence.specs.Restarts.{Dependence, is_due, is_live, least_struck, struck_next}
-use Rattle.dependence.specs.Journal.{Stage, restarted, MayPost, happens}
+use Rattle.gp_base.specs.meaning.Sinks.{Rose}
+use Rattle.task_ast.specs.meaning.Position.{last_below, is_of}
+use Rattle.task_ast.specs.meaning.Plain.{Subthread}
+use Rattle.dependence.specs.meaning.Restarts.{Dependence, is_due, is_live, least_struck, struck_next}
+use Rattle.dependence.specs.meaning.Journal.{Stage, restarted, MayPost, happens}
 use Rattle.dependence.specs.Posting.{posting_of}
 use Rattle.dependence.specs.Standing.{present}
 use Rattle.subthread.specs.declared.task.Task.{Task}

@@ -9,18 +9,22 @@ use Rattle.gp_base.specs.declared.fault.Fault.{Fault}
 use Rattle.gp_base.specs.declared.footprint.Loc.TheVariants as loc
 use Rattle.gp_base.specs.declared.journal.Event.{Event}
 use Rattle.gp_base.specs.declared.journal.Event.TheVariants as event
-use Rattle.task_ast.specs.Footprint.{named_by, child_registers}
+use Rattle.task_ast.specs.meaning.Footprint.{named_by, child_registers}
 use Rattle.task_ast.specs.History.{IsNamed}
-use Rattle.task_ast.specs.Plain.{Subthread, foot_of, lock_foot_of}
-use Rattle.task_ast.specs.State.{State, CellOf}
-use Rattle.task_ast.specs.Effect.{after}
-use Rattle.task_ast.specs.Under.{under_lock, KeepsToLocks, NamesHeld, is_under}
-use Rattle.dependence.specs.Conflict.{clash_in, foot_at}
-use Rattle.dependence.specs.Dependents.{is_member}
-use Rattle.dependence.specs.Restarts.{Dependence, mask_now}
-use Rattle.dependence.specs.Journal.{Stage, Allowed, MayTake, happens}
+use Rattle.task_ast.specs.meaning.Plain.{Subthread, foot_of}
+use Rattle.task_ast.specs.Plain.{lock_foot_of}
+use Rattle.task_ast.specs.meaning.State.{State, CellOf}
+use Rattle.task_ast.specs.meaning.Effect.{after}
+use Rattle.task_ast.specs.meaning.Under.{under_lock, is_under}
+use Rattle.task_ast.specs.Under.{KeepsToLocks, NamesHeld}
+use Rattle.dependence.specs.meaning.Conflict.{clash_in, foot_at}
+use Rattle.dependence.specs.meaning.Dependents.{is_member}
+use Rattle.dependence.specs.meaning.Restarts.{Dependence}
+use Rattle.dependence.specs.Restarts.{mask_now}
+use Rattle.dependence.specs.meaning.Journal.{Stage, Allowed, MayTake, happens}
 use Rattle.dependence.specs.Posting.{OutReady}
-use Rattle.dependence.specs.Runs.{feet_of, lock_feet_of, dependence_of}
+use Rattle.dependence.specs.meaning.Runs.{feet_of, dependence_of}
+use Rattle.dependence.specs.Runs.{lock_feet_of}
 use Rattle.dependence.specs.Standing.{present, StageStands}
 use Rattle.dependence.specs.Touching.{IsApart, done_by}
 use Rattle.dependence.specs.Buffer.{Buffer}
@@ -30,8 +34,8 @@ use Rattle.dependence.proofs.Effects.{after_outside}
 use Rattle.dependence.proofs.Keeping.{Contains-map, run-keeps, under-held}
 use Rattle.dependence.proofs.LockClashes.{split-append, one_register, child_are}
 use Rattle.dependence.proofs.Naming.{from-map, named-passes}
-use Rattle.rollback.specs.Cuts.{cuts_of, rolling_of}
-use Rattle.rollback.specs.Journal.{AllowedByBlocks}
+use Rattle.rollback.specs.meaning.Cuts.{cuts_of, rolling_of}
+use Rattle.rollback.specs.meaning.Journal.{AllowedByBlocks}
 use Rattle.rollback.specs.Standing.{BlocksStand}
 use Rattle.rollback.specs.States.{Held, held_happens}
 use Rattle.whole_run.specs.declared.recovery.Recovery.TheVariants.{Selective, Rollback}

@@ -13,23 +13,25 @@ use Rattle.gp_base.specs.declared.journal.Event.{Event}
 use Rattle.gp_base.specs.declared.journal.Event.TheVariants as event
 use Rattle.task_ast.specs.declared.effect.Effect.{Effect}
 use Rattle.task_ast.specs.Shaped.{IsAccepted}
-use Rattle.task_ast.specs.Effect.{after, effect}
+use Rattle.task_ast.specs.meaning.Effect.{after, effect}
 use Rattle.task_ast.specs.History.{old_of}
 use Rattle.task_ast.specs.Damage.{damaged}
 use Rattle.task_ast.specs.Members.{member_of}
 use Rattle.task_ast.specs.laws.Keeps.{AllName}
-use Rattle.task_ast.specs.Under.{is_under, NamesHeld}
-use Rattle.task_ast.specs.Table.{Table, numbers}
-use Rattle.task_ast.specs.Plain.{Subthread, foot_of, tree_machine}
+use Rattle.task_ast.specs.meaning.Under.{is_under}
+use Rattle.task_ast.specs.Under.{NamesHeld}
+use Rattle.task_ast.specs.meaning.Table.{Table, numbers}
+use Rattle.task_ast.specs.meaning.Plain.{Subthread, foot_of, tree_machine}
 use Rattle.task_ast.specs.Position.{threads_before}
 use Rattle.task_ast.specs.laws.Threads.{with_child}
 use Rattle.task_ast.specs.laws.Standing.{Stands}
 use Rattle.task_ast.proofs.Layouts.{accepted_sizes}
 use Rattle.task_ast.proofs.Positions.{step_is, forked_is}
 use Rattle.task_ast.proofs.Standings.{agrees}
-use Rattle.dependence.specs.Dependents.{is_member}
-use Rattle.dependence.specs.Restarts.{mask_of, struck_next}
-use Rattle.dependence.specs.Journal.{Stage, Allowed, MayPost, happens}
+use Rattle.dependence.specs.meaning.Dependents.{is_member}
+use Rattle.dependence.specs.meaning.Restarts.{struck_next}
+use Rattle.dependence.specs.Restarts.{mask_of}
+use Rattle.dependence.specs.meaning.Journal.{Stage, Allowed, MayPost, happens}
 use Rattle.dependence.specs.Posting.{OutReady, posting_of}
 use Rattle.dependence.specs.Standing.{present, StageStands, NamesIssued}
 use Rattle.dependence.specs.Histories.{HasCells}

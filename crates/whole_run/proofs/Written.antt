@@ -5,9 +5,9 @@ use Rattle.std.specs.Io.KnownBytes.{Appends}
 use Rattle.std.proofs.KnownBytes.{Appends-trans}
 use Rattle.std.proofs.lemmas.Grind.{flat_map-append}
 use Rattle.gp_base.specs.declared.journal.Event.TheVariants as event
-use Rattle.gp_base.specs.Sinks.{AppendsPrefix}
-use Rattle.task_ast.specs.Plain.{Subthread}
-use Rattle.restart_log.specs.Lines.{printed, printed_line}
+use Rattle.gp_base.specs.meaning.Sinks.{AppendsPrefix}
+use Rattle.task_ast.specs.meaning.Plain.{Subthread}
+use Rattle.restart_log.specs.meaning.Lines.{printed, printed_line}
 use Rattle.whole_run.specs.View.{Batch, View, run_in, lines_of, lines_at, lines_below, now}
 use Rattle.whole_run.specs.Gives.{Did}
 use Rattle.whole_run.specs.inner.Rounds.{Wrote, WrotePart, KeepsWritten, KeepsPart}

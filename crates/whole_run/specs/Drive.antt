@@ -6,11 +6,12 @@ use Rattle.gp_base.specs.declared.feed.Inputs.{Inputs}
 use Rattle.gp_base.specs.declared.fault.Faults.{Faults}
 use Rattle.gp_base.specs.declared.journal.Restart.{Restart}
 use Rattle.gp_base.specs.declared.journal.Journal.{Journal}
-use Rattle.gp_base.specs.Sinks.{Rose}
-use Rattle.task_ast.specs.Plain.{Subthread, final_records}
-use Rattle.dependence.specs.Restarts.{restarts}
-use Rattle.dependence.specs.Journal.{Stage, stage}
-use Rattle.dependence.specs.Counts.{is_restart, posts, takes}
+use Rattle.gp_base.specs.meaning.Sinks.{Rose}
+use Rattle.task_ast.specs.meaning.Plain.{Subthread, final_records}
+use Rattle.dependence.specs.meaning.Restarts.{restarts}
+use Rattle.dependence.specs.meaning.Journal.{Stage, stage}
+use Rattle.dependence.specs.meaning.Counts.{is_restart}
+use Rattle.dependence.specs.Counts.{posts, takes}
 use Rattle.subthread.specs.declared.task.Work.{Work}
 use Rattle.subthread.specs.declared.task.Task.{Task}
 use Rattle.crew.specs.Out.{pair_of}
@@ -18,7 +19,7 @@ use Rattle.crew.specs.Standing.{untaken}
 use Rattle.reorder_list.specs.declared.report.StopWhy.TheVariants.{WriteFault, OutOfMemory}
 use Rattle.reorder_list.specs.declared.report.EngineStop.{EngineStop}
 use Rattle.reorder_list.specs.declared.report.Report.{Report}
-use Rattle.restart_log.specs.Lines.{printed}
+use Rattle.restart_log.specs.meaning.Lines.{printed}
 use Rattle.whole_run.specs.declared.recovery.Recovery.{Recovery}
 use Rattle.whole_run.specs.Recovering.{LawfulBy, CompleteBy}
 use Rattle.whole_run.specs.View.{Batch, program_in, run_in, dependence_in, end_in, lines_at, lines_below}

@@ -7,29 +7,29 @@ use Rattle.gp_base.specs.declared.ending.End.{End}
 use Rattle.gp_base.specs.declared.journal.Event.{Event}
 use Rattle.gp_base.specs.declared.journal.Journal.{Journal}
 use Rattle.gp_base.specs.declared.journal.Event.TheVariants as event
-use Rattle.gp_base.specs.Sinks.{Rose, AppendsPrefix}
-use Rattle.task_ast.specs.Names.{records_of, cells_in}
-use Rattle.task_ast.specs.State.{cell_value}
+use Rattle.gp_base.specs.meaning.Sinks.{Rose, AppendsPrefix}
+use Rattle.task_ast.specs.meaning.Names.{records_of, cells_in}
+use Rattle.task_ast.specs.meaning.State.{cell_value}
 use Rattle.task_ast.specs.declared.sync.Next.{Next}
-use Rattle.task_ast.specs.Repeat.{Done}
-use Rattle.task_ast.specs.Plain.{Subthread}
-use Rattle.task_ast.specs.Table.{Table, numbers, is_settle}
-use Rattle.task_ast.specs.Turn.{Turn, turn}
-use Rattle.task_ast.specs.Turn as turns
+use Rattle.task_ast.specs.meaning.Repeat.{Done}
+use Rattle.task_ast.specs.meaning.Plain.{Subthread}
+use Rattle.task_ast.specs.meaning.Table.{Table, numbers, is_settle}
+use Rattle.task_ast.specs.meaning.Turn.{Turn, turn}
+use Rattle.task_ast.specs.meaning.Turn as turns
 use Rattle.task_ast.specs.laws.Standing.{Stands as StandsAt}
-use Rattle.task_ast.specs.Position.{last_below}
-use Rattle.dependence.specs.Restarts.{begun_of, is_live, is_due, least_struck, NoneDue, NoneLive}
-use Rattle.dependence.specs.Journal.{Stage, WasTaken, MayPost}
+use Rattle.task_ast.specs.meaning.Position.{last_below}
+use Rattle.dependence.specs.meaning.Restarts.{begun_of, is_live, is_due, least_struck, NoneDue, NoneLive}
+use Rattle.dependence.specs.meaning.Journal.{Stage, WasTaken, MayPost}
 use Rattle.dependence.specs.Posting.{posting_of}
 use Rattle.dependence.specs.Standing.{present}
 use Rattle.dependence.specs.RunBuffer.{IsOut}
-use Rattle.rollback.specs.Cuts.{cuts_of, cut_at}
-use Rattle.rollback.specs.Journal.{IsSafe}
+use Rattle.rollback.specs.meaning.Cuts.{cuts_of, cut_at}
+use Rattle.rollback.specs.meaning.Journal.{IsSafe}
 use Rattle.reorder_list.specs.Stages.{AllTaken}
 use Rattle.reorder_list.specs.declared.report.Report.{Report}
 use Rattle.reorder_list.specs.declared.report.StopWhy.{StopWhy}
 use Rattle.reorder_list.specs.declared.report.StopWhy.TheVariants.{WriteFault}
-use Rattle.restart_log.specs.Lines.{printed}
+use Rattle.restart_log.specs.meaning.Lines.{printed}
 use Rattle.whole_run.specs.declared.recovery.Recovery.{Recovery}
 use Rattle.whole_run.specs.declared.recovery.Recovery.TheVariants.{Selective, Rollback}
 use Rattle.whole_run.specs.Recovering.{AllowedBy}

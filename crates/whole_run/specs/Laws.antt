@@ -3,9 +3,9 @@ use Rattle.std.specs.Prelude.{◌≡◌, ℕ, Contains, Some, slice_get}
 use Rattle.gp_base.specs.declared.journal.Event.{Event}
 use Rattle.gp_base.specs.declared.journal.Event.TheVariants as event
 use Rattle.task_ast.specs.declared.sync.SyncOp.TheVariants as sync
-use Rattle.task_ast.specs.State.{RegistersOf, number_at}
-use Rattle.task_ast.specs.Plain.{Subthread}
-use Rattle.task_ast.specs.Position.{before}
+use Rattle.task_ast.specs.meaning.State.{RegistersOf, number_at}
+use Rattle.task_ast.specs.meaning.Plain.{Subthread}
+use Rattle.task_ast.specs.meaning.Position.{before}
 use Rattle.whole_run.specs.Recovering.{AllowedBy}
 use Rattle.subthread.specs.declared.task.Task.{Task}
 use Rattle.whole_run.specs.View.{View, program_in, run_in, now, state_in, Stands}

@@ -3,7 +3,8 @@ use Rattle.std.specs.Prelude.{◌≡◌, ◌⊎◌, ◌≤◌, ℕ, Bool, true, 
 use Rattle.task_ast.specs.declared.effect.Effect.{Effect}
 use Rattle.dependence.specs.Removal.{done_in}
 use Rattle.dependence.specs.RunBuffer.{members_at}
-use Rattle.crew.specs.Noted.{Telling, left_in_order, NotesResult, NotesNothing}
+use Rattle.crew.specs.meaning.Noted.{left_in_order}
+use Rattle.crew.specs.Noted.{Telling, NotesResult, NotesNothing}
 use Rattle.reorder_list.specs.declared.report.Report.{Report}
 use Rattle.reorder_list.specs.declared.report.EngineStop.{EngineStop}
 use Rattle.whole_run.specs.declared.recovery.Recovery.TheVariants.{Selective}

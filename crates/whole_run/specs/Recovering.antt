@@ -2,12 +2,12 @@
 use Rattle.std.specs.Prelude.{ℕ, ◌≤◌, ⊤, List}
 use Rattle.gp_base.specs.declared.fault.Fault.{Fault}
 use Rattle.gp_base.specs.declared.journal.Event.{Event}
-use Rattle.task_ast.specs.Plain.{Subthread}
-use Rattle.dependence.specs.Restarts.{Dependence}
-use Rattle.dependence.specs.Journal.{Stage, Allowed, Lawful, Complete}
-use Rattle.dependence.specs.Runs.{dependence_of}
-use Rattle.rollback.specs.Cuts.{back, cuts_of}
-use Rattle.rollback.specs.Journal.{AllowedByBlocks, LawfulByBlocks, CompleteByBlocks}
+use Rattle.task_ast.specs.meaning.Plain.{Subthread}
+use Rattle.dependence.specs.meaning.Restarts.{Dependence}
+use Rattle.dependence.specs.meaning.Journal.{Stage, Allowed, Lawful, Complete}
+use Rattle.dependence.specs.meaning.Runs.{dependence_of}
+use Rattle.rollback.specs.meaning.Cuts.{back, cuts_of}
+use Rattle.rollback.specs.meaning.Journal.{AllowedByBlocks, LawfulByBlocks, CompleteByBlocks}
 use Rattle.whole_run.specs.declared.recovery.Recovery.{Recovery}
 use Rattle.whole_run.specs.declared.recovery.Recovery.TheVariants.{Selective, Rollback}
 

@@ -1,6 +1,6 @@
 -- The tasks that are out.
 use Rattle.std.specs.Prelude.{◌≡◌, ℕ, List, Contains}
-use Rattle.task_ast.specs.Plain.{Subthread}
+use Rattle.task_ast.specs.meaning.Plain.{Subthread}
 use Rattle.dependence.specs.Restarts.{mask_of}
 use Rattle.dependence.specs.Standing.{present}
 use Rattle.subthread.specs.declared.task.Task.{Task}

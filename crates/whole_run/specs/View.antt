@@ -6,14 +6,14 @@ use Rattle.gp_base.specs.declared.fault.Fault.{Fault}
 use Rattle.gp_base.specs.declared.ending.End.{End}
 use Rattle.gp_base.specs.declared.journal.Event.{Event}
 use Rattle.gp_base.specs.declared.journal.Event.TheVariants as event
-use Rattle.task_ast.specs.Tree.{Program}
-use Rattle.task_ast.specs.State.{State}
-use Rattle.task_ast.specs.Layout.{layout}
+use Rattle.task_ast.specs.meaning.Tree.{Program}
+use Rattle.task_ast.specs.meaning.State.{State}
+use Rattle.task_ast.specs.meaning.Layout.{layout}
 use Rattle.task_ast.specs.Fold.{fold}
-use Rattle.task_ast.specs.Plain.{Subthread, order, opening, end}
-use Rattle.dependence.specs.Conflict.{clash_in}
-use Rattle.dependence.specs.Restarts.{Dependence}
-use Rattle.dependence.specs.Journal.{Stage, stage}
+use Rattle.task_ast.specs.meaning.Plain.{Subthread, order, opening, end}
+use Rattle.dependence.specs.meaning.Conflict.{clash_in}
+use Rattle.dependence.specs.meaning.Restarts.{Dependence}
+use Rattle.dependence.specs.meaning.Journal.{Stage, stage}
 use Rattle.dependence.specs.Runs.{lock_feet_of}
 use Rattle.dependence.specs.Posting.{OutReady}
 use Rattle.dependence.specs.Standing.{AreShort}

@@ -3,7 +3,7 @@ ghost use Rattle.std.specs.Prelude.{◌≡◌, ◌↔◌, ◌<◌, ℕ, List, []
 ghost use Rattle.std.specs.Thread.{IsSync};
 ghost use Rattle.gp_base.specs.declared.ending.End.{End as EndThere};
 ghost use Rattle.gp_base.specs.declared.journal.Event.TheVariants as event;
-ghost use Rattle.dependence.specs.Restarts.{NoneDue};
+ghost use Rattle.dependence.specs.meaning.Restarts.{NoneDue};
 ghost use Rattle.dependence.specs.Standing.{present};
 ghost use Rattle.subthread.specs.declared.task.Task.{Task};
 ghost use Rattle.subthread.specs.Tasks.{task_of, effect_of, IsRun};
@@ -21,8 +21,8 @@ use std::alloc::AllocError;
 use std::thread::Threads;
 use subthread::Done;
 
-/// Why nothing is issued at a front: the run ends there, or the next subthread begins with a settle, which waits until all
-/// before it has retired.
+/// Why nothing is issued at a front: the run ends there, or the next subthread begins with a settle, which waits until
+/// all before it has retired.
 #[derive(Clone, Copy, PartialEq, Eq)]
 pub enum Halt {
     Ended(End),
@@ -57,27 +57,27 @@ pub trait Calls {
     fn due(&self) -> bool
         ensures { result ≡ is_some (struck_now (view self.now)) };
 
-    /// Whether all that a restart waits for is back: each lock is at home, or, where all is rolled back, nothing is out. Takes
-    /// no memory.
+    /// Whether all that a restart waits for is back: each lock is at home, or, where all is rolled back, nothing is
+    /// out. Takes no memory.
     fn all_home(&self) -> bool
         ensures { IsTrue result ↔ IsBack (view self.now) };
 
-    /// Whether each position that has not retired was run at some attempt, so that what it reads and writes is known, or that
-    /// need not be known, since all is rolled back. Takes no memory.
+    /// Whether each position that has not retired was run at some attempt, so that what it reads and writes is known,
+    /// or that need not be known, since all is rolled back. Takes no memory.
     fn scouted(&self) -> bool
         ensures { IsTrue result ↔ IsScouted (view self.now) };
 
-    /// Makes one restart, before which what each position reads and writes has to be known, where that matters, and all to be
-    /// back that it waits for, and answers `true`, or answers `false` where none is due. The error is that memory is out, and
-    /// changes nothing.
+    /// Makes one restart, before which what each position reads and writes has to be known, where that matters, and all
+    /// to be back that it waits for, and answers `true`, or answers `false` where none is due. The error is that memory
+    /// is out, and changes nothing.
     fn detect(&mut self) -> Result<bool, AllocError>
         requires scouted { IsSome (struck_now (view self.old)) → IsScouted (view self.old) }
         requires home { IsSome (struck_now (view self.old)) → IsBack (view self.old) }
         ensures gives { IfOk result (DetectGives (view self.old) (view self.new)) }
         ensures err { OnErr result (view self.new ≡ view self.old) };
 
-    /// Retires the oldest position, whose lines it writes, and answers it, or answers `None` where that may not retire. After
-    /// an error nothing has retired, and `out` got a part of the lines.
+    /// Retires the oldest position, whose lines it writes, and answers it, or answers `None` where that may not retire.
+    /// After an error nothing has retired, and `out` got a part of the lines.
     fn retire<O: Sink>(&mut self, out: &mut O) -> Result<Option<Pos>, StopWhy>
         ensures gives { IfOk result (RetireGives (view self.old) (view self.new)) }
         ensures err { OnErr result (view self.new ≡ view self.old) }
@@ -89,16 +89,16 @@ pub trait Calls {
         ensures found { IfSome result (HasFinished (view self.now)) }
         ensures none { IfNone result ((ending : EndThere) → ¬ HasFinished (view self.now) ending) };
 
-    /// The first position from this one on whose present attempt may be posted: each earlier one in conflict with it by locks
-    /// is applied, and, where all is rolled back, each one before its block. There it is looked for only among those that are
-    /// near the first that is not applied.
+    /// The first position from this one on whose present attempt may be posted: each earlier one in conflict with it by
+    /// locks is applied, and, where all is rolled back, each one before its block. There it is looked for only among
+    /// those that are near the first that is not applied.
     fn runnable(&mut self, from: Pos) -> Option<Pos>
         ensures same { view self.new ≡ view self.old }
         ensures found { IfSome result (IsNextToPost (view self.old) from) }
         ensures none { IfNone result (NoneToPost (view self.old) from) };
 
-    /// Posts the present attempt of a position to a crew of this engine's work; the cells of its locks go out with it. The
-    /// error is that memory is out; nothing was posted then, and each cell is where it was.
+    /// Posts the present attempt of a position to a crew of this engine's work; the cells of its locks go out with it.
+    /// The error is that memory is out; nothing was posted then, and each cell is where it was.
     fn post<R: Threads + Sync, C: Crew>(
         &mut self,
         rt: &R,
@@ -124,9 +124,9 @@ pub trait Calls {
         ensures same { view self.new ≡ view self.old }
         ensures room { OnOk result (0 < room self.new) };
 
-    /// Takes the run of a task of this engine that is out, and applies it where its attempt is the present one, which is
-    /// the answer: it is noted, and the cells of its locks come home. The error is that memory is out for the notes, and
-    /// changes nothing.
+    /// Takes the run of a task of this engine that is out, and applies it where its attempt is the present one, which
+    /// is the answer: it is noted, and the cells of its locks come home. The error is that memory is out for the notes,
+    /// and changes nothing.
     fn accept<N: Notes>(&mut self, done: Done, notes: &mut N) -> Result<bool, AllocError>
         requires task { TaskStands (view self.old) (task_of (view self.old).batch.work done) }
         requires run { IsRun (view self.old).batch.work done }

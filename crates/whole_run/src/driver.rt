@@ -2,7 +2,7 @@
 ghost use Rattle.std.specs.Prelude.{◌≡◌, [], IfOk, IfErr, OnOk};
 ghost use Rattle.std.specs.Io.KnownBytes.{Appends};
 ghost use Rattle.subthread.specs.Tasks.{Suits};
-ghost use Rattle.restart_log.specs.Lines.{printed};
+ghost use Rattle.restart_log.specs.meaning.Lines.{printed};
 ghost use Rattle.whole_run.specs.Recovering.{HasCuts};
 ghost use Rattle.whole_run.specs.View.{begun, Stands};
 ghost use Rattle.whole_run.specs.Notes.{NotesRun};
@@ -56,13 +56,14 @@ fn finish<R: Threads + Sync, E: Calls, C: Crew, O: Sink, N: Notes, L: Sink>(
     }
 }
 
-/// Runs a batch with a crew, which has not been posted to, recovering so from faults, and writes the printed lines to `out`: at
-/// the end exactly those of the plain run. Nothing else is written. Where the output takes no more or memory is out, the run
-/// stops: all lines of each position that retired are written, and at most a part of those of the next. It always returns; some
-/// attempts that were ended may still be out with the crew.
+/// Runs a batch with a crew, which has not been posted to, recovering so from faults, and writes the printed lines to
+/// `out`: at the end exactly those of the plain run. Nothing else is written. Where the output takes no more or memory
+/// is out, the run stops: all lines of each position that retired are written, and at most a part of those of the next.
+/// It always returns; some attempts that were ended may still be out with the crew.
 ///
-/// What is applied is noted, and each position that retires is told to `log`, once its lines are written: where the run restarts
-/// selectively, with what its subthread leaves in the plain run. Where the run stops, a part of the last one may be missing.
+/// What is applied is noted, and each position that retires is told to `log`, once its lines are written: where the run
+/// restarts selectively, with what its subthread leaves in the plain run. Where the run stops, a part of the last one
+/// may be missing.
 pub fn drive_by<R: Threads + Sync, C: Crew, O: Sink, N: Notes, L: Sink>(
     rt: &R,
     alloc: Global,

@@ -44,8 +44,8 @@ impl<'a> Engine<'a> {
     ghost use Rattle.whole_run.specs.Drive.{batch_of};
     ghost use Rattle.whole_run.specs.Recovering.{HasCuts};
 
-    /// A run of this work that begins, which recovers so, with this layout, these inputs and faults, within these limits. The
-    /// error is that memory is out.
+    /// A run of this work that begins, which recovers so, with this layout, these inputs and faults, within these
+    /// limits. The error is that memory is out.
     pub fn new(
         alloc: Global,
         recovery: Recovery,

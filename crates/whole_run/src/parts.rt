@@ -47,9 +47,9 @@ pub struct Place {
     pub ctl: Nums,
 }
 
-/// How far a run has come: the ring of its threads and where each of them stands, the entries of the subthreads that have
-/// not retired, the data, what they are rolled back to, the events and restarts so far, how many subthreads were issued, and how the run ends, where it
-/// is known that it ends at this front.
+/// How far a run has come: the ring of its threads and where each of them stands, the entries of the subthreads that
+/// have not retired, the data, what they are rolled back to, the events and restarts so far, how many subthreads were
+/// issued, and how the run ends, where it is known that it ends at this front.
 #[derive(Drop)]
 pub struct Parts {
     pub ring: Ring,

@@ -1,16 +1,16 @@
 -- How what is read for an audit stands to what there is to be judged.
 use Rattle.std.specs.Prelude.{◌≡◌, ◌<◌, ◌≤◌, ℕ, List, [], ◌∷◌, ◌++◌, length, Option, Result, Ok, Err, ⊤}
 use Rattle.gp_base.specs.declared.limits.TheConstants.{MOST_SUBTHREADS}
-use Rattle.task_ast.specs.Tree.{Name}
+use Rattle.task_ast.specs.meaning.Tree.{Name}
 use Rattle.gp_audit.specs.declared.line.TraceLine.{TraceLine}
 use Rattle.command_line.specs.declared.audit_words.Audited.{Audited}
 use Rattle.call_cases.specs.declared.reading.Refusal.{Refusal}
 use Rattle.call_cases.specs.declared.reading.Refusal.TheVariants.{BadInput, ReadFault, OutOfMemory}
-use Rattle.call_cases.specs.Work.{ToDo, Supplies, Spoils}
-use Rattle.call_cases.specs.Case.{Case, Go}
+use Rattle.call_cases.specs.meaning.Work.{ToDo, Supplies, Spoils}
+use Rattle.call_cases.specs.meaning.Case.{Case, Go}
 use Rattle.call_cases.specs.Decided.{program_in, files_read, work_of}
 use Rattle.audit_calls.specs.declared.trial.Trial.{Trial}
-use Rattle.audit_calls.specs.Tried.{Judge, Tried, tried, by_trace}
+use Rattle.audit_calls.specs.meaning.Tried.{Judge, Tried, tried, by_trace}
 
 -- the words that ask for a trial, and what there is to be judged in it
 abbrev pub audited_in : Trial → Audited

@@ -6,11 +6,12 @@ use Rattle.reorder_list.specs.declared.report.EngineStop.{EngineStop}
 use Rattle.reorder_list.specs.declared.report.StopWhy.{StopWhy}
 use Rattle.reorder_list.specs.declared.report.StopWhy.TheVariants.{WriteFault, OutOfMemory}
 use Rattle.whole_run.specs.Drive.{journal_in}
-use Rattle.call_cases.specs.Work.{ToDo}
-use Rattle.call_cases.specs.PlainText.{plain_ran}
-use Rattle.call_cases.specs.Answers.{Change, TakesAll, LogEnds}
-use Rattle.call_cases.specs.RunCommands.{end_status}
-use Rattle.batch_calls.specs.LogCommands.{log_for, TakesLog}
+use Rattle.call_cases.specs.meaning.Work.{ToDo}
+use Rattle.call_cases.specs.meaning.PlainText.{plain_ran}
+use Rattle.call_cases.specs.meaning.Answers.{Change, TakesAll}
+use Rattle.call_cases.specs.Answers.{LogEnds}
+use Rattle.call_cases.specs.meaning.RunCommands.{end_status}
+use Rattle.batch_calls.specs.meaning.LogCommands.{log_for, TakesLog}
 use Rattle.batch_calls.specs.inner.Ran.{Journalled}
 
 -- the log of the run was taken, all of it at its end

@@ -1,7 +1,7 @@
 -- Runs that may begin, and what comes of them.
 use Rattle.std.specs.Prelude.{◌≡◌, ℕ, true, false}
 use Rattle.gp_base.specs.declared.journal.Journal.{Journal}
-use Rattle.task_ast.specs.Tree.{Program}
+use Rattle.task_ast.specs.meaning.Tree.{Program}
 use Rattle.task_ast.specs.View.{plain_program}
 use Rattle.lock_checker.specs.Accepted.{program_of}
 use Rattle.subthread.specs.declared.task.Work.{Work}
@@ -12,12 +12,13 @@ use Rattle.command_line.specs.declared.asked.Command.TheVariants.{Ckpt, Log}
 use Rattle.whole_run.specs.declared.recovery.Recovery.{Recovery}
 use Rattle.whole_run.specs.declared.recovery.Recovery.TheVariants.{Selective, Rollback}
 use Rattle.whole_run.specs.Recovering.{HasCuts}
-use Rattle.call_cases.specs.Work.{ToDo, work_for, is_journalled}
-use Rattle.call_cases.specs.Answers.{Change, RunEnds, LogEnds, IsEmpty}
-use Rattle.call_cases.specs.RunCommands.{work_text, work_status, trace_for}
+use Rattle.call_cases.specs.meaning.Work.{ToDo, work_for, is_journalled}
+use Rattle.call_cases.specs.meaning.Answers.{Change, IsEmpty}
+use Rattle.call_cases.specs.Answers.{RunEnds, LogEnds}
+use Rattle.call_cases.specs.meaning.RunCommands.{work_text, work_status, trace_for}
 use Rattle.batch_calls.specs.declared.plan.Begins.{Begins}
 use Rattle.batch_calls.specs.declared.plan.Plan.{Plan}
-use Rattle.batch_calls.specs.LogCommands.{log_for, TakesLog}
+use Rattle.batch_calls.specs.meaning.LogCommands.{log_for, TakesLog}
 use Rattle.batch_calls.specs.inner.Ran.{Journalled}
 
 -- how the run of a command recovers from faults
@@ -43,8 +44,10 @@ work_planned plan = work_for plan.asked (plain_program (program_of plan.checked)
 
 -- how a work of this command ends: the error stream takes the log of the run, or the trace
 abbrev pub EndsBy : Command → Asked → ToDo → (out err : Change) → (status : ℕ) → Journal → Type 0
-EndsBy Log asked work out err status journal = LogEnds (work_text Log work) (log_for work) (TakesLog work journal) (work_status Log work) out err journal status
-EndsBy other asked work out err status journal = RunEnds (work_text other work) (trace_for asked journal) (work_status other work) out err status
+EndsBy Log asked work out err status journal =
+    LogEnds (work_text Log work) (log_for work) (TakesLog work journal) (work_status Log work) out err journal status
+EndsBy other asked work out err status journal =
+    RunEnds (work_text other work) (trace_for asked journal) (work_status other work) out err status
 
 -- what is asked was done, or stopped
 pub record Carries (asked : Asked) (work : ToDo) (out err : Change) (status : ℕ) (journal : Journal) : Type 0 where

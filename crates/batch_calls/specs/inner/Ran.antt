@@ -4,31 +4,32 @@ use Rattle.gp_base.specs.declared.journal.Journal.{Journal}
 use Rattle.gp_base.specs.declared.sink.SinkFault.{SinkFault}
 use Rattle.gp_base.specs.declared.sink.SinkFault.TheVariants.{Failed}
 use Rattle.gp_base.specs.declared.sink.SinkFault.TheVariants as sink
-use Rattle.task_ast.specs.Tree.{Program}
-use Rattle.task_ast.specs.Names.{records_of}
-use Rattle.task_ast.specs.Layout.{cut}
-use Rattle.task_ast.specs.Plain.{Subthread}
+use Rattle.task_ast.specs.meaning.Tree.{Program}
+use Rattle.task_ast.specs.meaning.Names.{records_of}
+use Rattle.task_ast.specs.meaning.Layout.{cut}
+use Rattle.task_ast.specs.meaning.Plain.{Subthread}
 use Rattle.command_line.specs.declared.asked.Command.{Command}
 use Rattle.command_line.specs.declared.asked.Command.TheVariants as command
 use Rattle.command_line.specs.declared.asked.Soak.{Soak}
-use Rattle.restart_log.specs.Tail as tail
-use Rattle.restart_log.specs.Soak as soak
+use Rattle.restart_log.specs.meaning.Tail as tail
+use Rattle.restart_log.specs.meaning.Soak as soak
 use Rattle.reorder_list.specs.declared.report.Report.{Report}
 use Rattle.reorder_list.specs.declared.report.EngineStop.{EngineStop}
 use Rattle.reorder_list.specs.declared.report.StopWhy.{StopWhy}
 use Rattle.reorder_list.specs.declared.report.StopWhy.TheVariants.{WriteFault}
 use Rattle.reorder_list.specs.declared.report.StopWhy.TheVariants as why
-use Rattle.restart_log.specs.Lines.{printed}
+use Rattle.restart_log.specs.meaning.Lines.{printed}
 use Rattle.subthread.specs.declared.task.Work.{Work}
 use Rattle.whole_run.specs.Drive.{journal_in, batch_of, JournalStands, ReportsRun, all_lines, WritesRetired, HasRunCause}
 use Rattle.whole_run.specs.View.{Batch, lines_of}
 use Rattle.batch_calls.specs.declared.plan.Begins.{Begins}
-use Rattle.call_cases.specs.Work.{ToDo}
-use Rattle.call_cases.specs.PlainText.{plain_ran, restarts_in}
-use Rattle.call_cases.specs.Journals.{run_of, retired_in, IsJournalOf, IsCompleteOf, TakesRetired}
-use Rattle.call_cases.specs.Lines.{out_of_memory_line, write_fault_line}
-use Rattle.call_cases.specs.Answers.{Change, TakesAll, TakesPart, Fails, LineEnds, RunEnds}
-use Rattle.call_cases.specs.RunCommands.{end_status, IsWhole}
+use Rattle.call_cases.specs.meaning.Work.{ToDo}
+use Rattle.call_cases.specs.meaning.PlainText.{plain_ran, restarts_in}
+use Rattle.call_cases.specs.meaning.Journals.{run_of, retired_in, IsJournalOf, IsCompleteOf, TakesRetired}
+use Rattle.call_cases.specs.meaning.Lines.{out_of_memory_line, write_fault_line}
+use Rattle.call_cases.specs.meaning.Answers.{Change, TakesAll, TakesPart, Fails}
+use Rattle.call_cases.specs.Answers.{LineEnds, RunEnds}
+use Rattle.call_cases.specs.meaning.RunCommands.{end_status, IsWhole}
 
 -- a run that stopped at a fault of its output, with this journal
 pub record Stops (fault : SinkFault) (journal : Journal) (stop : EngineStop) : Type 0 where
@@ -47,10 +48,12 @@ StopsWith why.OutOfMemory err status = LineEnds 1 out_of_memory_line err status
 
 -- what follows the printed lines of a run of this program with this report, and the summary of it
 abbrev pub told_tail : Program → Report → List ℕ
-told_tail program report = tail.tail_text report.end (cut (records_of program.heads) report.records) report.subthreads report.journal.restarts report.unused
+told_tail program report =
+    tail.tail_text report.end (cut (records_of program.heads) report.records) report.subthreads report.journal.restarts report.unused
 
 abbrev pub told_soak : Soak → Report → List ℕ
-told_soak batch report = soak.soak_text batch.moves batch.start report.end report.records report.subthreads report.journal.restarts report.unused
+told_soak batch report =
+    soak.soak_text batch.moves batch.start report.end report.records report.subthreads report.journal.restarts report.unused
 
 -- the command writes the lines that its run prints; of a batch that the program makes nobody reads them
 abbrev pub WritesLines : Command → Type 0
@@ -85,13 +88,14 @@ pub record RunsBatch (batch : Batch) (out : Change) (result : Result Report Engi
   pub partly : WritesRetired batch out.written out.written' (journal_in result)
   pub cause : HasRunCause out.faults out.faults' result
 
--- The run went, and its lines were written: all of them at its end, and else those of the subthreads that have retired, and a part of those of the next.
--- Where it stopped at a write, that failed.
+-- The run went, and its lines were written: all of them at its end, and else those of the subthreads that have retired, and a part of those
+-- of the next. Where it stopped at a write, that failed.
 pub record RunsIf (failed : Type 0) (work : ToDo) (out : Change) (result : Result Report EngineStop) : Type 0 where
   pub journal : IsJournalOf work (journal_in result)
   pub report : IfOk result (IsReportOf work)
   pub lines : OnOk result (TakesAll out (printed (plain_ran work).lines))
-  pub partly : (part : ℕ) × TakesAll out (bytes_below work (retired_in work (journal_in result)) ++ take part (bytes_at work (retired_in work (journal_in result))))
+  pub partly : (part : ℕ) × TakesAll out (bytes_below work (retired_in work (journal_in result))
+      ++ take part (bytes_at work (retired_in work (journal_in result))))
   pub later : out.faults ≤ out.faults'
   pub cause : IfErr result (λ stop. stop.why ≡ WriteFault → failed)
 

@@ -1,11 +1,11 @@
 -- How the plain run of the code goes, as the text of a work tells it.
 use Rattle.std.specs.Prelude.{ℤ, List, length, flat_map}
 use Rattle.task_ast.specs.declared.tree.Head.{Head}
-use Rattle.task_ast.specs.Names.{records_of}
-use Rattle.task_ast.specs.Layout.{cut}
+use Rattle.task_ast.specs.meaning.Names.{records_of}
+use Rattle.task_ast.specs.meaning.Layout.{cut}
 use Rattle.one_thread.specs.declared.run.Step.{Step}
 use Rattle.one_thread.specs.declared.run.PlainRun.{PlainRun}
-use Rattle.call_cases.specs.Texts.{Ran}
+use Rattle.call_cases.specs.meaning.Texts.{Ran}
 
 -- the lines that these subthreads print
 abbrev pub lines_in : List Step → List (List ℤ)
@@ -13,4 +13,11 @@ lines_in steps = flat_map (λ (s : Step). s.prints) steps
 
 -- how a run went of a program with these heads
 abbrev pub ran_in : List Head → PlainRun → Ran
-ran_in heads run = record { lines = lines_in run.order; end = run.end; cells = run.records; records = cut (records_of heads) run.records; subthreads = length run.order }
+ran_in heads run =
+    record {
+      lines = lines_in run.order;
+      end = run.end;
+      cells = run.records;
+      records = cut (records_of heads) run.records;
+      subthreads = length run.order;
+    }

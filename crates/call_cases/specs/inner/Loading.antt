@@ -6,17 +6,17 @@ use Rattle.gp_base.specs.declared.feed.Inputs.{Inputs}
 use Rattle.gp_base.specs.declared.limits.TheConstants.{MOST_CELLS, MOST_FIELDS, MOST_FILE_BYTES}
 use Rattle.task_ast.specs.declared.tree.Head.{Head}
 use Rattle.task_ast.specs.declared.tree.Head.TheVariants.{RecHead, FeedHead}
-use Rattle.task_ast.specs.Tree.{Name}
-use Rattle.task_ast.specs.Names.{natural, records_of, cells_in}
+use Rattle.task_ast.specs.meaning.Tree.{Name}
+use Rattle.task_ast.specs.meaning.Names.{natural, records_of, cells_in}
 use Rattle.task_ast.specs.Inputs.{fields_of, fields_in}
 use Rattle.batch_files.specs.declared.fault.FileFault.{FileFault}
 use Rattle.batch_files.specs.declared.fault.FileFault.TheVariants as file
-use Rattle.batch_files.specs.Rows.{Broken}
+use Rattle.batch_files.specs.meaning.Rows.{Broken}
 use Rattle.call_cases.specs.declared.reading.Refusal.{Refusal}
 use Rattle.call_cases.specs.declared.reading.Refusal.TheVariants as refused
 use Rattle.call_cases.specs.declared.inputs.Loading.{Loading}
-use Rattle.call_cases.specs.Work.{Supplied, Supplies, Lacks, Spoils}
-use Rattle.call_cases.specs.Lines.{input_line, kind_number}
+use Rattle.call_cases.specs.meaning.Work.{Supplied, Supplies, Lacks, Spoils}
+use Rattle.call_cases.specs.meaning.Lines.{input_line, kind_number}
 use Rattle.call_cases.specs.Refusals.{IsInputRefused}
 
 -- the inputs so far

@@ -7,10 +7,10 @@ use Rattle.gp_base.specs.declared.limits.TheConstants.{LONGEST_DELAY, MOST_FAULT
 use Rattle.gp_base.specs.declared.fault.Fault.{Fault}
 use Rattle.gp_base.specs.declared.journal.Restart.{Restart}
 use Rattle.one_thread.specs.declared.run.Step.{Step}
-use Rattle.dependence.specs.Conflict.{clash_in}
-use Rattle.dependence.specs.Dependents.{dependents}
-use Rattle.dependence.specs.Restarts.{least_struck, begun_of}
-use Rattle.dependence.specs.Journal.{Stage, WasTaken}
+use Rattle.dependence.specs.meaning.Conflict.{clash_in}
+use Rattle.dependence.specs.meaning.Dependents.{dependents}
+use Rattle.dependence.specs.meaning.Restarts.{least_struck, begun_of}
+use Rattle.dependence.specs.meaning.Journal.{Stage, WasTaken}
 use Rattle.dependence.specs.JournalTests.{same_attempt}
 use Rattle.dependence.specs.Standing.{present}
 use Rattle.gp_audit.specs.declared.line.TraceLine.{TraceLine}

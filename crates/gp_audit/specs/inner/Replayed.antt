@@ -1,7 +1,7 @@
 -- What an audit keeps that goes by restarts and fronts alone.
 use Rattle.std.specs.Prelude.{◌≡◌, ℕ, ◌+◌, ◌≤◌, List, length, Some, slice_get}
 use Rattle.gp_base.specs.declared.journal.Restart.{Restart}
-use Rattle.dependence.specs.Restarts.{Progress, attempt_of, begun_of, advance}
+use Rattle.dependence.specs.meaning.Restarts.{Progress, attempt_of, begun_of, advance}
 use Rattle.gp_audit.specs.declared.state.Seen.{Seen}
 use Rattle.gp_audit.specs.Steps.{dependence_by}
 use Rattle.gp_audit.specs.inner.Audited.{Audited}

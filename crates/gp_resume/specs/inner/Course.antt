@@ -3,16 +3,16 @@ use Rattle.std.specs.Prelude.{◌≡◌, ℕ, ◌≤◌, ◌<◌, List, length, 
 use Rattle.gp_base.specs.declared.feed.Inputs.{Inputs}
 use Rattle.gp_base.specs.declared.limits.Limits.{Limits}
 use Rattle.gp_base.specs.declared.ending.End.{End}
-use Rattle.task_ast.specs.Names.{records_of, locks_of, cells_in}
-use Rattle.task_ast.specs.State.{State}
-use Rattle.task_ast.specs.Table.{Table, learning}
-use Rattle.task_ast.specs.Layout.{layout}
+use Rattle.task_ast.specs.meaning.Names.{records_of, locks_of, cells_in}
+use Rattle.task_ast.specs.meaning.State.{State}
+use Rattle.task_ast.specs.meaning.Table.{Table, learning}
+use Rattle.task_ast.specs.meaning.Layout.{layout}
 use Rattle.task_ast.specs.Under.{KeepsToLocks}
 use Rattle.task_ast.specs.Reached.{Reached}
-use Rattle.task_ast.specs.Repeat.{Goes, Ends}
+use Rattle.task_ast.specs.meaning.Repeat.{Goes, Ends}
 use Rattle.task_ast.specs.laws.Ends.{IsWhole}
 use Rattle.task_ast.specs.laws.Following.{InStep}
-use Rattle.task_ast.specs.Plain.{Subthread, Plain, PlainOf, tree_machine, move}
+use Rattle.task_ast.specs.meaning.Plain.{Subthread, Plain, PlainOf, tree_machine, move}
 use Rattle.task_ast.specs.Position.{from_in, body_by}
 use Rattle.lock_checker.specs.Soundness.{LocksStand}
 use Rattle.task_code.specs.Reading.{Place}
@@ -42,7 +42,8 @@ module _ (plan : Plan) where
   -- a run on the tree and one on the code are one
   abbrev pub IsSameRun : Plain → PlainOf Place → Type 0
   IsSameRun x y =
-      InStep (Rests (program_of plan.work.now)) (λ left right. left ≡ right) (tree_machine (program_of plan.work.now) plan.inputs.value plan.limits) (machine_of plan.work.now) x y
+      InStep (Rests (program_of plan.work.now)) (λ left right. left ≡ right)
+      (tree_machine (program_of plan.work.now) plan.inputs.value plan.limits) (machine_of plan.work.now) x y
 
   -- the store has registers for the threads of the table, the cells, the layout and the locks of the run, and all cells are at home
   pub record IsHome (table : Table) (store : Stored) : Type 0 where
@@ -52,7 +53,8 @@ module _ (plan : Plan) where
     pub locks : length store.away ≡ cells_in (locks_of (program_of plan.work.now).heads)
     pub home : IsAllHome store
 
-  -- a run that goes on from its opening by turns: its locks stand, its table is one that turns lead to, of which all is known, and has the limit
+  -- a run that goes on from its opening by turns: its locks stand, its table is one that turns lead to, of which all is known, and has the
+  -- limit
   pub record IsSound (x : Plain) : Type 0 where
     pub locks : LocksStand (program_of plan.work.now) plan.inputs.value plan.limits x
     pub reached : Reached x.table
@@ -71,8 +73,8 @@ module _ (plan : Plan) where
     pub numbered : AreNumbered course.spots.items
     pub issued : course.issued ≡ x.table.issued
 
-  -- It stood where the run x does, and this subthread begins: with it the run comes to y. The data are still those before it. Once its thread is left where the
-  -- body of the subthread leads, the course stands where y does, but for the data.
+  -- It stood where the run x does, and this subthread begins: with it the run comes to y. The data are still those before it. Once its
+  -- thread is left where the body of the subthread leads, the course stands where y does, but for the data.
   pub record Begins (x : Plain) (s : Subthread) (y : Plain) (begun : Begun) (course : Course) : Type 0 where
     pub moves : move (program_of plan.work.now) plan.inputs.value plan.limits x ≡ Goes s y
     pub before : IsSound x
@@ -84,7 +86,8 @@ module _ (plan : Plan) where
     pub child : begun.child ≡ s.child
     pub held : begun.held ≡ s.held
     pub me : begun.spot.me ≡ s.thread
-    pub from : Rests (program_of plan.work.now) s.begins.sync (from_in (program_of plan.work.now) plan.inputs.value plan.limits x s.begins.sync s.thread) (spot_place begun.spot)
+    pub from : Rests (program_of plan.work.now) s.begins.sync
+        (from_in (program_of plan.work.now) plan.inputs.value plan.limits x s.begins.sync s.thread) (spot_place begun.spot)
     pub state : state_of course.store ≡ x.state
     pub home : IsHome y.table course.store
     pub numbered : AreNumbered course.spots.items
@@ -96,7 +99,9 @@ module _ (plan : Plan) where
         (body_by (tree_machine (program_of plan.work.now) plan.inputs.value plan.limits) x s).at place
         → IsSameRun (record y { state = state })
         (record {
-          table = learning course.ring.table s.thread (body_by (tree_machine (program_of plan.work.now) plan.inputs.value plan.limits) x s).next;
+          table =
+              learning course.ring.table s.thread (body_by
+              (tree_machine (program_of plan.work.now) plan.inputs.value plan.limits) x s).next;
           points = slice_set (map spot_place course.spots.items) s.thread place;
           state = state;
         })

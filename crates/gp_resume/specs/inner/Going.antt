@@ -2,20 +2,21 @@
 use Rattle.std.specs.Prelude.{◌≡◌, ℕ, suc, ◌+◌, ◌-◌, List, ◌++◌, length, map, Option}
 use Rattle.std.specs.Io.KnownBytes.{Appends}
 use Rattle.gp_base.specs.declared.ending.End.{End}
-use Rattle.task_ast.specs.Repeat.{steps, state_after}
-use Rattle.task_ast.specs.Table.{numbers}
-use Rattle.task_ast.specs.Plain.{Subthread, Plain, ending_of, move}
+use Rattle.task_ast.specs.meaning.Repeat.{steps, state_after}
+use Rattle.task_ast.specs.meaning.Table.{numbers}
+use Rattle.task_ast.specs.meaning.Plain.{Subthread, Plain, ending_of, move}
 use Rattle.record_store.specs.Stored.{state_of}
-use Rattle.restart_log.specs.Lines.{printed}
-use Rattle.retirement_log.specs.Rows.{Row}
+use Rattle.restart_log.specs.meaning.Lines.{printed}
+use Rattle.retirement_log.specs.meaning.Rows.{Row}
 use Rattle.subthread.specs.Tasks.{program_in}
 use Rattle.gp_resume.specs.declared.course.Plan.{Plan}
 use Rattle.gp_resume.specs.declared.course.Course.{Course}
 use Rattle.gp_resume.specs.declared.log.Logged.{Logged}
 use Rattle.gp_resume.specs.inner.Course.{IsHome, Stands}
-use Rattle.gp_resume.specs.Fitting.{resumed_at}
-use Rattle.gp_resume.specs.Reading.{BeginsWith, IsLogOf}
-use Rattle.gp_resume.specs.Resumed.{lines_of, bytes_before}
+use Rattle.gp_resume.specs.meaning.Fitting.{resumed_at}
+use Rattle.gp_resume.specs.meaning.Reading.{BeginsWith, IsLogOf}
+use Rattle.gp_resume.specs.meaning.Resumed.{lines_of}
+use Rattle.gp_resume.specs.Resumed.{bytes_before}
 
 module _ (plan : Plan) where
   -- how many steps a run makes at most from here; one more than its limit leaves finds the end

@@ -1,8 +1,8 @@
 -- The task of a subthread that begins, and what its run leaves of the course.
 use Rattle.std.specs.Prelude.{◌≡◌, pos, false, [], map, slice_set}
-use Rattle.task_ast.specs.State.{RegistersOf}
-use Rattle.task_ast.specs.Effect.{after}
-use Rattle.task_ast.specs.Table.{learning}
+use Rattle.task_ast.specs.meaning.State.{RegistersOf}
+use Rattle.task_ast.specs.meaning.Effect.{after}
+use Rattle.task_ast.specs.meaning.Table.{learning}
 use Rattle.record_store.specs.Given.{joined_by, joined_value}
 use Rattle.record_store.specs.Lent.{lock_in, marked, whole_effect}
 use Rattle.record_store.specs.Stored.{Stored, state_of, SameShape}

@@ -1,12 +1,12 @@
 -- Rows that are replayed.
 use Rattle.std.specs.Prelude.{Option}
-use Rattle.task_ast.specs.Plain.{Subthread, Plain}
+use Rattle.task_ast.specs.meaning.Plain.{Subthread, Plain}
 use Rattle.subthread.specs.Tasks.{program_in}
-use Rattle.retirement_log.specs.Rows.{Row}
+use Rattle.retirement_log.specs.meaning.Rows.{Row}
 use Rattle.gp_resume.specs.declared.course.Plan.{Plan}
 use Rattle.gp_resume.specs.declared.course.Begun.{Begun}
 use Rattle.gp_resume.specs.declared.course.Course.{Course}
-use Rattle.gp_resume.specs.Fitting.{FitsIssue}
+use Rattle.gp_resume.specs.meaning.Fitting.{FitsIssue}
 use Rattle.gp_resume.specs.inner.Course.{Begins}
 
 -- some subthread begins so, of some run, and the row fits it after some row

@@ -1,11 +1,11 @@
 -- Rows as the code has them, and how they are read.
 use Rattle.std.specs.Prelude.{◌≡◌, List, ◌++◌, map, ℕ, ℤ, Option, Some, None}
 use Rattle.task_ast.specs.declared.effect.Effect.{Effect}
-use Rattle.task_ast.specs.Names.{natural}
+use Rattle.task_ast.specs.meaning.Names.{natural}
 use Rattle.record_store.specs.declared.effect.Effect as left
-use Rattle.retirement_log.specs.Rows.{Row, row_text}
+use Rattle.retirement_log.specs.meaning.Rows.{Row, row_text}
 use Rattle.gp_resume.specs.declared.row.LogRow.{LogRow}
-use Rattle.gp_resume.specs.Reading.{IsWideRow, BeginsWithRow}
+use Rattle.gp_resume.specs.meaning.Reading.{IsWideRow, BeginsWithRow}
 
 -- the row that this is
 abbrev pub row_in : LogRow → Row

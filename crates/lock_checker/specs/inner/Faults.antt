@@ -2,11 +2,11 @@
 use Rattle.std.specs.Prelude.{◌≡◌, List, [], ◌∷◌, ◌++◌, Option, Some, None, Result, Ok, Err, Vec}
 use Rattle.std.specs.declared.alloc.Global.{Global}
 use Rattle.task_ast.specs.declared.check_kind.CheckKind.{CheckKind}
-use Rattle.task_ast.specs.Held as plain
-use Rattle.task_ast.specs.Visit.{Visit, visit, first_fault}
-use Rattle.task_ast.specs.Tree.{Stmt, At}
-use Rattle.task_ast.specs.Declarations.{Scope}
-use Rattle.task_ast.specs.Check.{visits_inside, fails_after}
+use Rattle.task_ast.specs.meaning.Held as plain
+use Rattle.task_ast.specs.meaning.Visit.{Visit, visit, first_fault}
+use Rattle.task_ast.specs.meaning.Tree.{Stmt, At}
+use Rattle.task_ast.specs.meaning.Declarations.{Scope}
+use Rattle.task_ast.specs.meaning.Check.{visits_inside, fails_after}
 use Rattle.lock_checker.specs.declared.fault.CheckFault.{CheckFault}
 use Rattle.lock_checker.specs.Accepted.{Told}
 use Rattle.lock_checker.specs.declared.pair.Pair.{Pair}

@@ -1,8 +1,8 @@
 -- The heads visited so far.
 use Rattle.std.specs.Prelude.{◌≡◌, List, map, is_some}
 use Rattle.task_ast.specs.declared.tree.Head.{Head}
-use Rattle.task_ast.specs.Tree.{Name}
-use Rattle.task_ast.specs.Names.{is_among, head_name, locks_of, records_of, cells_in}
+use Rattle.task_ast.specs.meaning.Tree.{Name}
+use Rattle.task_ast.specs.meaning.Names.{is_among, head_name, locks_of, records_of, cells_in}
 use Rattle.lock_checker.specs.declared.heads.Heads.{Heads}
 use Rattle.lock_checker.specs.declared.symbol_table.SymbolTable.{SymbolTable}
 use Rattle.lock_checker.specs.inner.Tables.{found}

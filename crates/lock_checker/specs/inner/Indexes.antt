@@ -2,8 +2,8 @@
 use Rattle.std.specs.Prelude.{◌≡◌, option_map, is_some}
 use Rattle.std.specs.Borrow.{Bor}
 use Rattle.task_ast.specs.declared.tree.Program.{Program}
-use Rattle.task_ast.specs.Tree as plain
-use Rattle.task_ast.specs.Names.{is_among, named, locks_of, arrays_over, barriers_of, feeds_of, task_named}
+use Rattle.task_ast.specs.meaning.Tree as plain
+use Rattle.task_ast.specs.meaning.Names.{is_among, named, locks_of, arrays_over, barriers_of, feeds_of, task_named}
 use Rattle.task_ast.specs.View.{plain_task, plain_program}
 use Rattle.lock_checker.specs.declared.index.Index.{Index}
 use Rattle.lock_checker.specs.inner.Tables.{found}

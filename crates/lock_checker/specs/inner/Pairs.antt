@@ -2,7 +2,7 @@
 use Rattle.std.specs.Prelude.{◌≡◌, Bool, true, false, not, List, [], ◌∷◌, map}
 use Rattle.task_ast.specs.declared.tree.Atom.{Atom}
 use Rattle.task_ast.specs.declared.tree.Atom.TheVariants as atom
-use Rattle.task_ast.specs.Held as plain
+use Rattle.task_ast.specs.meaning.Held as plain
 use Rattle.lock_checker.specs.declared.held.Pairs.{Pairs}
 use Rattle.lock_checker.specs.declared.pair.Index.{Index}
 use Rattle.lock_checker.specs.declared.pair.Index.TheVariants.{Number, Variable}

@@ -1,7 +1,7 @@
 -- A scope of the code as the scope that definitions see.
 use Rattle.std.specs.Prelude.{◌++◌}
-use Rattle.task_ast.specs.Names.{declared_in}
-use Rattle.task_ast.specs.Declarations as plain
+use Rattle.task_ast.specs.meaning.Names.{declared_in}
+use Rattle.task_ast.specs.meaning.Declarations as plain
 use Rattle.task_ast.specs.View.{plain_task, plain_program}
 use Rattle.lock_checker.specs.declared.scope.Scope.{Scope}
 use Rattle.lock_checker.specs.inner.Indexes.{IsIndexOf}

@@ -1,7 +1,7 @@
 -- What is looked for in an expression, by the definitions that say whether it stands there.
 use Rattle.std.specs.Prelude.{Bool}
-use Rattle.task_ast.specs.Tree.{Expr, Links}
-use Rattle.task_ast.specs.Declarations.{has_unknown, have_unknown, has_data, have_data, has_data_index, have_data_index}
+use Rattle.task_ast.specs.meaning.Tree.{Expr, Links}
+use Rattle.task_ast.specs.meaning.Declarations.{has_unknown, have_unknown, has_data, have_data, has_data_index, have_data_index}
 use Rattle.lock_checker.specs.declared.expressions.Sought.{Sought}
 use Rattle.lock_checker.specs.declared.expressions.Sought.TheVariants.{Unknown, Data, DataIndex}
 use Rattle.lock_checker.specs.inner.Scopes.{scope_of, IsScope}

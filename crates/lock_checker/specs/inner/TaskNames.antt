@@ -1,7 +1,7 @@
 -- The names of tasks.
 use Rattle.std.specs.Prelude.{List, map}
 use Rattle.task_ast.specs.declared.tree.TaskText.{TaskText}
-use Rattle.task_ast.specs.Tree.{Name}
+use Rattle.task_ast.specs.meaning.Tree.{Name}
 
 abbrev pub name_of : TaskText → Name
 name_of task = task.name

@@ -1,9 +1,9 @@
 -- The variables of a task, by name.
 use Rattle.std.specs.Prelude.{◌≡◌, Bool, List, ◌++◌, is_some}
 use Rattle.task_ast.specs.declared.tree.Param.{Param}
-use Rattle.task_ast.specs.Tree.{Name}
-use Rattle.task_ast.specs.Names.{is_among, controls, datas}
-use Rattle.task_ast.specs.Declarations.{has_double}
+use Rattle.task_ast.specs.meaning.Tree.{Name}
+use Rattle.task_ast.specs.meaning.Names.{is_among, controls, datas}
+use Rattle.task_ast.specs.meaning.Declarations.{has_double}
 use Rattle.lock_checker.specs.declared.variables.Variables.{Variables}
 use Rattle.lock_checker.specs.inner.Tables.{found}
 

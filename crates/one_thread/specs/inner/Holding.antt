@@ -1,7 +1,7 @@
 -- Which lock cells a thread holds.
 use Rattle.std.specs.Prelude.{◌≡◌, ◌==◌, ℕ, Bool, cond, Some, None, List, Option}
 use Rattle.task_ast.specs.LockLists.{with_lock, held_at}
-use Rattle.task_ast.specs.Table.{owned_from}
+use Rattle.task_ast.specs.meaning.Table.{owned_from}
 
 -- the locks of thread u after those of a thread, where there is one, are changed by one
 abbrev pub after_change : Option ℕ → (holds : Bool) → (lock : ℕ) → List (List ℕ) → ℕ → List ℕ

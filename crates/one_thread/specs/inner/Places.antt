@@ -1,7 +1,7 @@
 -- The place of a name among variables.
 use Rattle.std.specs.Prelude.{◌≡◌, ◌<◌, ℕ, ℤ, List, length, get_or, set, Option, Some, None}
-use Rattle.task_ast.specs.Tree.{Name}
-use Rattle.task_ast.specs.Control.{with_value}
+use Rattle.task_ast.specs.meaning.Tree.{Name}
+use Rattle.task_ast.specs.meaning.Control.{with_value}
 
 -- the first variable of the name stands at this place, or none has the name
 abbrev pub IsPlaceOf : List (Name × ℤ) → Name → Option ℕ → Type 0

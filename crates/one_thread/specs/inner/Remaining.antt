@@ -2,7 +2,7 @@
 use Rattle.std.specs.Prelude.{List, [], ◌∷◌, ◌++◌}
 use Rattle.std.specs.Borrow.{Bor}
 use Rattle.task_ast.specs.declared.tree.Stmt as code
-use Rattle.task_ast.specs.Tree.{Stmt}
+use Rattle.task_ast.specs.meaning.Tree.{Stmt}
 use Rattle.task_ast.specs.View.{plain_stmts}
 use Rattle.one_thread.specs.declared.left.Left.{Left}
 

@@ -2,12 +2,12 @@
 use Rattle.std.specs.Prelude.{◌≡◌, ℕ, ℤ, Bool, true, false, List, [], ◌++◌, Option}
 use Rattle.task_ast.specs.declared.sync.SyncOp.{SyncOp}
 use Rattle.task_ast.specs.declared.sync.SyncOp.TheVariants as sync
-use Rattle.task_ast.specs.Action.{Action}
-use Rattle.task_ast.specs.Body.{Body}
-use Rattle.task_ast.specs.Footprint.{Named}
-use Rattle.task_ast.specs.State.{number_at}
-use Rattle.task_ast.specs.Tree.{Name}
-use Rattle.task_ast.specs.Control.{Point, with_number, beginning, first_actions, tree_body}
+use Rattle.task_ast.specs.meaning.Action.{Action}
+use Rattle.task_ast.specs.meaning.Body.{Body}
+use Rattle.task_ast.specs.meaning.Footprint.{Named}
+use Rattle.task_ast.specs.meaning.State.{number_at}
+use Rattle.task_ast.specs.meaning.Tree.{Name}
+use Rattle.task_ast.specs.meaning.Control.{Point, with_number, beginning, first_actions, tree_body}
 use Rattle.one_thread.specs.declared.data.Data.{Data}
 use Rattle.one_thread.specs.declared.walk.Walk.{Walk}
 use Rattle.one_thread.specs.declared.work.Shared.{Shared}

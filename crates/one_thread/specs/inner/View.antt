@@ -1,11 +1,11 @@
 -- The table of the code as the thread table that definitions see.
 use Rattle.std.specs.Prelude.{◌≡◌, ℕ, zero, suc, ℤ, pos, negsuc, Bool, true, false, cond, map, Option, Some, None, nat_lt}
 use Rattle.task_ast.specs.declared.sync.Next.{Next}
-use Rattle.task_ast.specs.Repeat.{Again, More, Done}
-use Rattle.task_ast.specs.Table as plain
-use Rattle.task_ast.specs.Table.{next_of}
-use Rattle.task_ast.specs.Turn as there
-use Rattle.task_ast.specs.Turn.{Look, To, Unknown, NoThread}
+use Rattle.task_ast.specs.meaning.Repeat.{Again, More, Done}
+use Rattle.task_ast.specs.meaning.Table as plain
+use Rattle.task_ast.specs.meaning.Table.{next_of}
+use Rattle.task_ast.specs.meaning.Turn as there
+use Rattle.task_ast.specs.meaning.Turn.{Look, To, Unknown, NoThread}
 use Rattle.one_thread.specs.declared.seats.Stand.{Stand}
 use Rattle.one_thread.specs.declared.seats.Stand.TheVariants as stands
 use Rattle.one_thread.specs.declared.seats.Seat.{Seat}

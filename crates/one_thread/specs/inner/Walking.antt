@@ -1,9 +1,9 @@
 -- Where a thread at work stands, and what its steps do.
 use Rattle.std.specs.Prelude.{◌≡◌, ℕ, ℤ, List, [], ◌++◌, Option, option_map, unwrap_or}
 use Rattle.task_ast.specs.View.{plain_stmts, plain_task}
-use Rattle.task_ast.specs.Action.{Action}
-use Rattle.task_ast.specs.Body.{Step, Silent, Iteration, Act, Stop, Body}
-use Rattle.task_ast.specs.Control.{Setting, Point, going, tree_body}
+use Rattle.task_ast.specs.meaning.Action.{Action}
+use Rattle.task_ast.specs.meaning.Body.{Step, Silent, Iteration, Act, Stop, Body}
+use Rattle.task_ast.specs.meaning.Control.{Setting, Point, going, tree_body}
 use Rattle.task_ast.specs.declared.sync.Next.{Next}
 use Rattle.one_thread.specs.declared.data.Data.{Data}
 use Rattle.one_thread.specs.declared.walk.Walk.{Walk}

@@ -1,11 +1,11 @@
 -- What a thread's actions do to the data at hand.
 use Rattle.std.specs.Prelude.{◌≡◌, zero, suc, ℤ, pos, negsuc, List, [], ◌∷◌, ◌++◌, map, replicate, slice_set, Option, Some}
 use Rattle.task_ast.specs.declared.env.Env.{Env}
-use Rattle.task_ast.specs.Action.{Action, Set, Load, Store, Say, Choose, Child, Give, Bring, Arm, NoAction, OneAction}
-use Rattle.task_ast.specs.State.{number_at}
-use Rattle.task_ast.specs.Effect.{term_value}
-use Rattle.task_ast.specs.Footprint.{Named, naming, arm_naming}
-use Rattle.task_ast.specs.Control.{Setting}
+use Rattle.task_ast.specs.meaning.Action.{Action, Set, Load, Store, Say, Choose, Child, Give, Bring, Arm, NoAction, OneAction}
+use Rattle.task_ast.specs.meaning.State.{number_at}
+use Rattle.task_ast.specs.meaning.Effect.{term_value}
+use Rattle.task_ast.specs.meaning.Footprint.{Named, naming, arm_naming}
+use Rattle.task_ast.specs.meaning.Control.{Setting}
 use Rattle.task_ast.specs.View.{plain_program}
 use Rattle.task_ast.specs.declared.tree.Program.{Program}
 use Rattle.one_thread.specs.declared.data.Data.{Data}

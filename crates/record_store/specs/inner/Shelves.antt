@@ -1,7 +1,7 @@
 -- The cells of all records on shelves, one for each lock cell.
 use Rattle.std.specs.Prelude.{◌≡◌, ℕ, ℤ, Bool, true, false, List, [], map, length, Some, slice_get, slice_index_or}
-use Rattle.task_ast.specs.State.{number_at}
-use Rattle.task_ast.specs.Under.{under_lock}
+use Rattle.task_ast.specs.meaning.State.{number_at}
+use Rattle.task_ast.specs.meaning.Under.{under_lock}
 use Rattle.record_store.specs.declared.shelf.Shelf.{Shelf}
 use Rattle.record_store.specs.declared.shelf.Shelf.TheVariants.{Home, Lent}
 

@@ -1,13 +1,13 @@
 -- How what is read for a run that goes on stands to its case.
 use Rattle.std.specs.Prelude.{List, ◌≤◌, length}
 use Rattle.gp_base.specs.declared.limits.TheConstants.{MOST_FILE_BYTES}
-use Rattle.task_ast.specs.Tree.{Name}
+use Rattle.task_ast.specs.meaning.Tree.{Name}
 use Rattle.command_line.specs.declared.resume_words.Resumed.{Resumed}
-use Rattle.call_cases.specs.Work.{Supplied, Supplies, Lacks, Spoils}
-use Rattle.call_cases.specs.Case.{Case, Missing, BadInput, Go}
+use Rattle.call_cases.specs.meaning.Work.{Supplied, Supplies, Lacks, Spoils}
+use Rattle.call_cases.specs.meaning.Case.{Case, Missing, BadInput, Go}
 use Rattle.call_cases.specs.Decided.{IsSound, program_in, files_read, work_of}
 use Rattle.resume_calls.specs.declared.halted.Halted.{Halted}
-use Rattle.resume_calls.specs.Resumption.{Reader, Resumption, answer_for, by_answer}
+use Rattle.resume_calls.specs.meaning.Resumption.{Reader, Resumption, answer_for, by_answer}
 
 -- the words that ask for it
 abbrev pub resumed_in : Halted → Resumed

@@ -2,27 +2,28 @@
 use Rattle.std.specs.Prelude.{◌≡◌, ℕ, List, codes, Result, Ok, Err, OnOk, OnErr, IfOk, IfErr}
 use Rattle.gp_base.specs.declared.feed.Inputs.{Inputs}
 use Rattle.gp_base.specs.declared.limits.Limits.{Limits}
-use Rattle.task_ast.specs.Tree.{Name, Program}
+use Rattle.task_ast.specs.meaning.Tree.{Name, Program}
 use Rattle.task_ast.specs.View.{plain_program}
-use Rattle.task_ast.specs.Names.{records_of}
-use Rattle.task_ast.specs.Layout.{cut}
+use Rattle.task_ast.specs.meaning.Names.{records_of}
+use Rattle.task_ast.specs.meaning.Layout.{cut}
 use Rattle.lock_checker.specs.Accepted.{program_of}
 use Rattle.subthread.specs.declared.task.Work.{Work}
 use Rattle.subthread.specs.Tasks.{Suits, program_in}
 use Rattle.reorder_list.specs.declared.report.Report.{Report}
-use Rattle.restart_log.specs.Lines.{printed}
-use Rattle.restart_log.specs.Tail.{tail_text}
-use Rattle.retirement_log.specs.Rows.{Row}
+use Rattle.restart_log.specs.meaning.Lines.{printed}
+use Rattle.restart_log.specs.meaning.Tail.{tail_text}
+use Rattle.retirement_log.specs.meaning.Rows.{Row}
 use Rattle.gp_resume.specs.declared.stop.ResumeStop.{ResumeStop}
 use Rattle.gp_resume.specs.declared.stop.ResumeStop.TheVariants.{LogLine, LogFit, WriteFault, OutOfMemory}
-use Rattle.gp_resume.specs.Reading.{EndsNoLine, IsLogOf}
-use Rattle.gp_resume.specs.Resumed as rest
+use Rattle.gp_resume.specs.meaning.Reading.{EndsNoLine, IsLogOf}
+use Rattle.gp_resume.specs.meaning.Resumed as rest
 use Rattle.gp_resume.specs.Resuming.{AnswersLog, IsRefused, ReportsRest, HasResumeCause}
 use Rattle.call_cases.specs.declared.reading.Refusal.{Refusal}
-use Rattle.call_cases.specs.Answers.{Change, TakesAll, TakesPart, Fails, LineEnds}
-use Rattle.call_cases.specs.Lines.{input_line, out_of_memory_line, write_fault_line}
+use Rattle.call_cases.specs.meaning.Answers.{Change, TakesAll, TakesPart, Fails}
+use Rattle.call_cases.specs.Answers.{LineEnds}
+use Rattle.call_cases.specs.meaning.Lines.{input_line, out_of_memory_line, write_fault_line}
 use Rattle.call_cases.specs.Refusals.{IsInputRefused, RefusalEnds}
-use Rattle.call_cases.specs.RunCommands.{end_status}
+use Rattle.call_cases.specs.meaning.RunCommands.{end_status}
 use Rattle.call_cases.specs.Decided.{program_in as request_program}
 use Rattle.resume_calls.specs.declared.halted.Halted.{Halted}
 use Rattle.resume_calls.specs.declared.plan.Plan.{Plan}
@@ -49,8 +50,10 @@ pub record PutsFirst {T : Type 0} (bytes : List ℕ) (out : Change) (result : Re
 -- Writes what follows the printed lines of a run with this report.
 pub record PutsTail {T : Type 0} (program : Program) (report : Report) (out : Change) (result : Result T ResumeStop) : Type 0 where
   pub all :
-      OnOk result (TakesAll out (tail_text report.end (cut (records_of program.heads) report.records) report.subthreads report.journal.restarts report.unused))
-  pub part : TakesPart out (tail_text report.end (cut (records_of program.heads) report.records) report.subthreads report.journal.restarts report.unused)
+      OnOk result (TakesAll out (tail_text report.end
+      (cut (records_of program.heads) report.records) report.subthreads report.journal.restarts report.unused))
+  pub part : TakesPart out (tail_text report.end
+      (cut (records_of program.heads) report.records) report.subthreads report.journal.restarts report.unused)
   pub told : ¬ IsRefused result
   pub cause : HasResumeCause out.faults out.faults' result
 
@@ -63,24 +66,31 @@ module _ (program : Program) (inputs : Inputs) (limits : Limits) (bytes : List �
   pub record Drives (result : Result (ℕ × Report) ResumeStop) : Type 0 where
     pub log : AnswersLog program inputs limits bytes result
     pub unread : HasNoRows → IsUntouched out
-    pub report : IfOk result (λ answer. (rows : List Row) → IsLogOf program inputs limits bytes rows → ReportsRest program inputs limits rows answer.0 answer.1)
-    pub lines : OnOk result ((rows : List Row) → IsLogOf program inputs limits bytes rows → TakesAll out (printed (rest.lines program inputs limits rows)))
-    pub partly : (rows : List Row) → IsLogOf program inputs limits bytes rows → TakesPart out (printed (rest.lines program inputs limits rows))
+    pub report : IfOk result (λ answer. (rows : List Row) → IsLogOf program inputs limits bytes rows
+        → ReportsRest program inputs limits rows answer.0 answer.1)
+    pub lines : OnOk result ((rows : List Row) → IsLogOf program inputs limits bytes rows
+        → TakesAll out (printed (rest.lines program inputs limits rows)))
+    pub partly : (rows : List Row) → IsLogOf program inputs limits bytes rows
+        → TakesPart out (printed (rest.lines program inputs limits rows))
     pub cause : HasResumeCause out.faults out.faults' result
 
   -- The text that is still to come was written, or a part of it; nothing, where the log is refused. The answer is the status.
   pub record Resumes (result : Result ℕ ResumeStop) : Type 0 where
     pub log : AnswersLog program inputs limits bytes result
     pub unread : HasNoRows → IsUntouched out
-    pub status : IfOk result (λ status. (rows : List Row) → IsLogOf program inputs limits bytes rows → status ≡ end_status (rest.end program inputs limits rows))
-    pub all : OnOk result ((rows : List Row) → IsLogOf program inputs limits bytes rows → TakesAll out (rest.text program inputs limits rows))
+    pub status : IfOk result (λ status. (rows : List Row) → IsLogOf program inputs limits bytes rows
+        → status ≡ end_status (rest.end program inputs limits rows))
+    pub all : OnOk result ((rows : List Row) → IsLogOf program inputs limits bytes rows
+        → TakesAll out (rest.text program inputs limits rows))
     pub part : (rows : List Row) → IsLogOf program inputs limits bytes rows → TakesPart out (rest.text program inputs limits rows)
     pub cause : IfErr result (λ stop. stop ≡ WriteFault → Fails out)
 
 -- how a call ends that stopped so, where the log has this file
 abbrev pub StopsSo : (file : Name) → ResumeStop → (err : Change) → (status : ℕ) → Type 0
-StopsSo file (LogLine number) err status = (refusal : Refusal) × IsInputRefused (input_line file 7 number) refusal × RefusalEnds err refusal status
-StopsSo file (LogFit number) err status = (refusal : Refusal) × IsInputRefused (input_line file 8 number) refusal × RefusalEnds err refusal status
+StopsSo file (LogLine number) err status =
+    (refusal : Refusal) × IsInputRefused (input_line file 7 number) refusal × RefusalEnds err refusal status
+StopsSo file (LogFit number) err status =
+    (refusal : Refusal) × IsInputRefused (input_line file 8 number) refusal × RefusalEnds err refusal status
 StopsSo file WriteFault err status = LineEnds 8 write_fault_line err status
 StopsSo file OutOfMemory err status = LineEnds 1 out_of_memory_line err status
 

@@ -3,7 +3,7 @@ use Rattle.std.specs.Prelude.{unwrap_or}
 use Rattle.std.specs.Ordering.{nat_cmp, ordering_then}
 use Rattle.std.specs.BTreeMap.{get}
 use Rattle.run_views.specs.declared.told.Tellings.{Tellings}
-use Rattle.run_views.specs.Timeline.{Tells}
+use Rattle.run_views.specs.meaning.Timeline.{Tells}
 
 abbrev pub found : Tellings → Tells
 found tellings p attempt =

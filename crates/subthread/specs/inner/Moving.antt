@@ -1,6 +1,6 @@
 -- What the control of a run does, step by step.
 use Rattle.std.specs.Prelude.{◌≡◌, ℕ}
-use Rattle.task_ast.specs.Body.{Step, Silent, Iteration, Act, Stop, Body}
+use Rattle.task_ast.specs.meaning.Body.{Step, Silent, Iteration, Act, Stop, Body}
 use Rattle.task_ast.specs.declared.sync.Next.{Next}
 use Rattle.task_code.specs.Reading.{Place, goto}
 use Rattle.subthread.specs.declared.ground.Ground.{Ground}

@@ -1,20 +1,22 @@
 -- Laws of the definitions.
 use Rattle.std.specs.Prelude.{◌≡◌, ℕ, ◌<◌, ◌≤◌, ℤ, false, List, zip, option_map, take, slice_get}
-use Rattle.task_ast.specs.Body.{follow, after_turn}
-use Rattle.task_ast.specs.Control.{Setting, Point, step, size, tree_body}
-use Rattle.task_ast.specs.Repeat.{steps, state_after, step_of, go_on}
-use Rattle.task_ast.specs.Table.{Table}
-use Rattle.task_ast.specs.Turn.{Ended, turn, turns_left, next_issue}
-use Rattle.task_ast.specs.Tree.{Name, Expr, Program}
+use Rattle.task_ast.specs.meaning.Body.{follow}
+use Rattle.task_ast.specs.Body.{after_turn}
+use Rattle.task_ast.specs.meaning.Control.{Setting, Point, step, size, tree_body}
+use Rattle.task_ast.specs.meaning.Repeat.{steps, state_after, go_on}
+use Rattle.task_ast.specs.Repeat.{step_of}
+use Rattle.task_ast.specs.meaning.Table.{Table}
+use Rattle.task_ast.specs.meaning.Turn.{Ended, turn, turns_left, next_issue}
+use Rattle.task_ast.specs.meaning.Tree.{Name, Expr, Program}
 use Rattle.gp_base.specs.declared.limits.Limits.{Limits}
 use Rattle.gp_base.specs.declared.feed.Inputs.{Inputs}
 use Rattle.gp_base.specs.declared.ending.End.TheVariants.{Finished}
 use Rattle.task_ast.specs.declared.env.Env.{Env}
-use Rattle.task_ast.specs.Value.{value}
-use Rattle.task_ast.specs.Action.{term}
-use Rattle.task_ast.specs.Effect.{term_value}
-use Rattle.task_ast.specs.Declarations.{has_data_index}
-use Rattle.task_ast.specs.Plain.{Plain, move}
+use Rattle.task_ast.specs.meaning.Value.{value}
+use Rattle.task_ast.specs.meaning.Action.{term}
+use Rattle.task_ast.specs.meaning.Effect.{term_value}
+use Rattle.task_ast.specs.meaning.Declarations.{has_data_index}
+use Rattle.task_ast.specs.meaning.Plain.{Plain, move}
 
 -- an expression without data in an index has the value of its term
 abbrev pub ValueLaw : Type 0

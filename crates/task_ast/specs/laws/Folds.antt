@@ -4,15 +4,15 @@ use Rattle.std.specs.Ordering.{nat_cmp}
 use Rattle.std.specs.FinMap.{is_sorted}
 use Rattle.gp_base.specs.declared.limits.Limits.{Limits}
 use Rattle.gp_base.specs.declared.feed.Inputs.{Inputs}
-use Rattle.task_ast.specs.Tree.{Program}
-use Rattle.task_ast.specs.Action.{Action}
+use Rattle.task_ast.specs.meaning.Tree.{Program}
+use Rattle.task_ast.specs.meaning.Action.{Action}
 use Rattle.task_ast.specs.declared.sync.SyncOp.{SyncOp}
-use Rattle.task_ast.specs.State.{State}
-use Rattle.task_ast.specs.Repeat.{steps, state_after}
+use Rattle.task_ast.specs.meaning.State.{State}
+use Rattle.task_ast.specs.meaning.Repeat.{steps, state_after}
 use Rattle.task_ast.specs.declared.effect.Effect.{Effect}
-use Rattle.task_ast.specs.Effect.{effect}
+use Rattle.task_ast.specs.meaning.Effect.{effect}
 use Rattle.task_ast.specs.Damage.{damaged}
-use Rattle.task_ast.specs.Plain.{Plain, move}
+use Rattle.task_ast.specs.meaning.Plain.{Plain, move}
 use Rattle.task_ast.specs.Fold.{fold}
 use Rattle.task_ast.specs.Members.{member_in}
 

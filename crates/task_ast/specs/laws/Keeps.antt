@@ -2,10 +2,10 @@
 use Rattle.std.specs.Prelude.{◌≡◌, ℕ, Bool, true, List, [], ◌∷◌, Option, None, ⊤, IsTrue}
 use Rattle.std.specs.Ordering.{nat_cmp}
 use Rattle.std.specs.FinMap.{find}
-use Rattle.task_ast.specs.Action.{Action, Load, Store, Choose, Arm, NoAction, OneAction}
+use Rattle.task_ast.specs.meaning.Action.{Action, Load, Store, Choose, Arm, NoAction, OneAction}
 use Rattle.task_ast.specs.declared.sync.SyncOp.{SyncOp}
-use Rattle.task_ast.specs.State.{State, RegistersOf, CellOf}
-use Rattle.task_ast.specs.Effect.{effect, joined_ret}
+use Rattle.task_ast.specs.meaning.State.{State, RegistersOf, CellOf}
+use Rattle.task_ast.specs.meaning.Effect.{effect, joined_ret}
 
 abbrev mutual
   -- each cell that the action names passes the test

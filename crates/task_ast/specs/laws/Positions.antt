@@ -2,14 +2,15 @@
 use Rattle.std.specs.Prelude.{◌≡◌, ℕ, suc, ◌≤◌, pos, true, Some, length, slice_get}
 use Rattle.gp_base.specs.declared.limits.Limits.{Limits}
 use Rattle.gp_base.specs.declared.feed.Inputs.{Inputs}
-use Rattle.task_ast.specs.Tree.{Program}
-use Rattle.task_ast.specs.Effect.{effect}
+use Rattle.task_ast.specs.meaning.Tree.{Program}
+use Rattle.task_ast.specs.meaning.Effect.{effect}
 use Rattle.task_ast.specs.Fold.{fold}
 use Rattle.task_ast.specs.Members.{member_in}
-use Rattle.task_ast.specs.Table.{last_in}
-use Rattle.task_ast.specs.Turn.{Ended, next_issue}
-use Rattle.task_ast.specs.Plain.{Subthread, tree_machine, opening, order, last_state, end}
-use Rattle.task_ast.specs.Position.{last_below, LeftBy, IsStep, IsForked, before, threads_before, SettlesAlike, IsSameControl}
+use Rattle.task_ast.specs.meaning.Table.{last_in}
+use Rattle.task_ast.specs.meaning.Turn.{Ended, next_issue}
+use Rattle.task_ast.specs.meaning.Plain.{Subthread, tree_machine, opening, order, last_state, end}
+use Rattle.task_ast.specs.meaning.Position.{last_below, before}
+use Rattle.task_ast.specs.Position.{LeftBy, IsStep, IsForked, threads_before, SettlesAlike, IsSameControl}
 
 -- each subthread of the order leads from the run before its position to the run before the next one
 abbrev pub StepLaw : Type 0

@@ -1,11 +1,12 @@
 -- Control variables and registers: what reads them, and what sets them by name.
 use Rattle.std.specs.Prelude.{◌≡◌, ◌≤◌, ℕ, ℤ, false, List, length, slice_set, IsFalse}
 use Rattle.task_ast.specs.declared.env.Env.{Env}
-use Rattle.task_ast.specs.Tree.{Name, Expr}
-use Rattle.task_ast.specs.Names.{is_among, slot, firsts, seconds}
-use Rattle.task_ast.specs.Declarations.{has_data}
-use Rattle.task_ast.specs.Value.{value}
-use Rattle.task_ast.specs.Control.{with_value, with_number}
+use Rattle.task_ast.specs.meaning.Tree.{Name, Expr}
+use Rattle.task_ast.specs.meaning.Names.{is_among, slot, firsts}
+use Rattle.task_ast.specs.Names.{seconds}
+use Rattle.task_ast.specs.meaning.Declarations.{has_data}
+use Rattle.task_ast.specs.meaning.Value.{value}
+use Rattle.task_ast.specs.meaning.Control.{with_value, with_number}
 
 -- an expression without data variables has one value whatever the registers hold
 abbrev pub ControlValueLaw : Type 0

@@ -1,7 +1,7 @@
 -- What the statements of a task are lowered under, from the code's scope.
 use Rattle.std.specs.Prelude.{◌≡◌, map, position}
-use Rattle.task_ast.specs.Tree as plain
-use Rattle.task_ast.specs.Names.{is_name, locks_of, records_of, barriers_of, feeds_of, registers_of, is_task}
+use Rattle.task_ast.specs.meaning.Tree as plain
+use Rattle.task_ast.specs.meaning.Names.{is_name, locks_of, records_of, barriers_of, feeds_of, registers_of, is_task}
 use Rattle.task_ast.specs.View.{plain_program}
 use Rattle.lock_checker.specs.inner.Tables.{found}
 use Rattle.task_code.specs.declared.scope.Index.{Index}

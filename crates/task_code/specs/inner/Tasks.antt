@@ -1,7 +1,7 @@
 -- The code of tasks, one after the other.
 use Rattle.std.specs.Prelude.{◌≡◌, ℕ, List, map}
 use Rattle.task_ast.specs.declared.tree.TaskText as here
-use Rattle.task_ast.specs.Tree.{Program}
+use Rattle.task_ast.specs.meaning.Tree.{Program}
 use Rattle.task_ast.specs.View.{plain_task}
 use Rattle.task_code.specs.declared.instrs.Instr.{Instr}
 use Rattle.task_code.specs.declared.instrs.Shape.{Shape}

@@ -1,11 +1,11 @@
 -- Reading expressions, form by form.
 use Rattle.std.specs.Prelude.{ℕ, zero, suc, List, [], ◌∷◌, Option, Some, None, option_map}
 use Rattle.task_ast.specs.declared.tree.Op.{Op}
-use Rattle.task_ast.specs.Tree.{Expr, Neg, Not}
+use Rattle.task_ast.specs.meaning.Tree.{Expr, Neg, Not}
 use Rattle.task_parser.specs.declared.classes.TheConstants.{NUM, NAME, REG, AND, OR, NOT, SELF, ROWS, OPEN_BRACKET, CLOSE_BRACKET, OPEN_PAREN, CLOSE_PAREN, COMMA, ADD, SUB, MUL, DIV, REM}
-use Rattle.task_parser.specs.Classes.{among}
+use Rattle.task_parser.specs.meaning.Classes.{among}
 use Rattle.task_parser.specs.inner.Reading.{Reader, read_one, ◌▹◌, read_made, read_either, repeat, read_perhaps, read_opened, read_the, ◌◃◌}
-use Rattle.task_parser.specs.Expressions.{Text, is, comparisons, member_of, chain_of, compared_of, num_of, reg_of, me_of, rows_of, named_of}
+use Rattle.task_parser.specs.meaning.Expressions.{Text, is, comparisons, member_of, chain_of, compared_of, num_of, reg_of, me_of, rows_of, named_of}
 
 -- what an operand begins with
 abbrev pub starting : List ℕ

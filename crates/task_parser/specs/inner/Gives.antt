@@ -1,6 +1,6 @@
 -- What the code reads, against reading on lists.
 use Rattle.std.specs.Prelude.{◌≡◌, ℕ, zero, suc, Option, Some, None, true, false, List, [], ◌∷◌, Result, Ok, Err}
-use Rattle.task_ast.specs.Tree.{Expr, Stmt, Block}
+use Rattle.task_ast.specs.meaning.Tree.{Expr, Stmt, Block}
 use Rattle.task_parser.specs.declared.halt.Halt.{Halt}
 use Rattle.task_parser.specs.declared.halt.Halt.TheVariants.{Memory, Unexpected, TooDeep}
 use Rattle.task_parser.specs.declared.classes.TheConstants.{AND, OR, ADD, SUB, MUL, DIV, REM}
@@ -10,8 +10,8 @@ use Rattle.task_parser.specs.declared.statements.Allowed.{Allowed}
 use Rattle.task_parser.specs.declared.statements.Allowed.TheVariants.{All, Data}
 use Rattle.task_parser.specs.inner.StatementReaders.{data_starts, statement_starts, read_block, read_else, read_data_statement, read_statement}
 use Rattle.task_parser.specs.inner.Reading.{Reader}
-use Rattle.task_parser.specs.Promise.{Stop}
-use Rattle.task_parser.specs.Expressions.{Text, comparisons}
+use Rattle.task_parser.specs.meaning.Promise.{Stop}
+use Rattle.task_parser.specs.meaning.Expressions.{Text, comparisons}
 use Rattle.task_parser.specs.inner.ExpressionReaders.{read_product, read_sum, read_compared, read_conjunction, read_unary}
 
 -- Want of memory says nothing of the tokens.

@@ -1,8 +1,8 @@
 -- What it means that a reader reads a form exactly.
 use Rattle.std.specs.Prelude.{◌≡◌, ℕ, suc, ◌+◌, Bool, true, false, cond, leb, List, [], ◌∷◌, ◌++◌, Result, Ok, Err}
 use Rattle.task_parser.specs.declared.token.Token.{Token}
-use Rattle.task_parser.specs.Words.{Placed, Form, tokens_of}
-use Rattle.task_parser.specs.Promise.{Stop, Within}
+use Rattle.task_parser.specs.meaning.Words.{Placed, Form, tokens_of}
+use Rattle.task_parser.specs.meaning.Promise.{Stop, Within}
 use Rattle.task_parser.specs.inner.Reading.{Reader, begins}
 
 -- both end, or both go on with the same token

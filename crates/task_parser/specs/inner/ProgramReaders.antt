@@ -3,14 +3,14 @@ use Rattle.std.specs.Prelude.{ℕ, List, [], ◌∷◌, Option}
 use Rattle.task_ast.specs.declared.tree.Head.{Head}
 use Rattle.task_ast.specs.declared.tree.Param.{Param}
 use Rattle.task_ast.specs.declared.tree.VarLine.{VarLine}
-use Rattle.task_ast.specs.Tree.{TaskText, Program}
+use Rattle.task_ast.specs.meaning.Tree.{TaskText, Program}
 use Rattle.task_parser.specs.declared.token.Token.{Token}
 use Rattle.task_parser.specs.declared.classes.TheConstants.{NUM, NAME, REG, QUOTED, LOCK, BARRIER, RECORD, BY, FROM, FEED, TASK, VAR, OPEN_BRACKET, CLOSE_BRACKET, OPEN_PAREN, CLOSE_PAREN, OPEN_BRACE, CLOSE_BRACE, COMMA, SEMICOLON}
-use Rattle.task_parser.specs.Classes.{among}
+use Rattle.task_parser.specs.meaning.Classes.{among}
 use Rattle.task_parser.specs.inner.Reading.{Reader, ◌▹◌, read_made, read_either, repeat, read_perhaps, read_the, ◌◃◌, read_after, read_some, read_separated}
-use Rattle.task_parser.specs.Expressions.{Text, is}
+use Rattle.task_parser.specs.meaning.Expressions.{Text, is}
 use Rattle.task_parser.specs.inner.StatementReaders.{statement_starts, read_inner_block, read_list, read_statement}
-use Rattle.task_parser.specs.Programs.{lock_head_of, barrier_head_of, record_head_of, feed_head_of, file_in, ctl_param, reg_param, var_line_of, task_of, program_from}
+use Rattle.task_parser.specs.meaning.Programs.{lock_head_of, barrier_head_of, record_head_of, feed_head_of, file_in, ctl_param, reg_param, var_line_of, task_of, program_from}
 
 unfoldable pub read_sized : ℕ → Reader ((Token × Token) × Token)
 read_sized word = read_the word ▹ read_the NAME ◃ OPEN_BRACKET ▹ read_the NUM ◃ CLOSE_BRACKET

@@ -1,9 +1,9 @@
 -- Reading from left to right, with one token of look-ahead.
 use Rattle.std.specs.Prelude.{ℕ, zero, suc, Bool, true, false, cond, List, [], ◌∷◌, length, Option, Some, None, Result, Ok, Err}
 use Rattle.task_parser.specs.declared.token.Token.{Token}
-use Rattle.task_parser.specs.Classes.{among}
-use Rattle.task_parser.specs.Promise.{Stop}
-use Rattle.task_parser.specs.Words.{first_of, second_of, put_first}
+use Rattle.task_parser.specs.meaning.Classes.{among}
+use Rattle.task_parser.specs.meaning.Promise.{Stop}
+use Rattle.task_parser.specs.meaning.Words.{first_of, second_of, put_first}
 
 abbrev pub Reader : Type 0 → Type 0
 Reader A = List Token → Result (A × List Token) Stop

@@ -1,14 +1,14 @@
 -- Reading statements, form by form.
 use Rattle.std.specs.Prelude.{ℕ, zero, suc, List, [], ◌∷◌, Option, Some, None, option_map}
 use Rattle.task_ast.specs.declared.tree.Atom.{Atom}
-use Rattle.task_ast.specs.Tree.{Expr, Stmt, Block, block}
+use Rattle.task_ast.specs.meaning.Tree.{Expr, Stmt, Block, block}
 use Rattle.task_parser.specs.declared.classes.TheConstants.{NUM, NAME, REG, LOCK, UNLOCK, BARRIER, WHILE, IF, ELSE, FORK, INTO, JOIN, READ, WRITE, PRINT, WHEN, SETTLE, OPEN_BRACKET, CLOSE_BRACKET, OPEN_PAREN, CLOSE_PAREN, OPEN_BRACE, CLOSE_BRACE, COMMA, SEMICOLON, ASSIGN}
 use Rattle.task_parser.specs.declared.token.Token.{Token}
-use Rattle.task_parser.specs.Classes.{among}
+use Rattle.task_parser.specs.meaning.Classes.{among}
 use Rattle.task_parser.specs.inner.Reading.{Reader, ◌▹◌, read_made, read_either, repeat, read_perhaps, read_opened, read_the, ◌◃◌, read_after, read_separated}
-use Rattle.task_parser.specs.Expressions.{Text, is}
+use Rattle.task_parser.specs.meaning.Expressions.{Text, is}
 use Rattle.task_parser.specs.inner.ExpressionReaders.{starting, read_expression}
-use Rattle.task_parser.specs.Statements.{number_atom, name_atom, set_ctl_of, while_of, if_of, lock_of, unlock_of, fork_of, join_of, barrier_of, settle_of, set_reg_of, read_of, write_of, print_of, when_of, or_empty, or_nothing, named_in, reg_in}
+use Rattle.task_parser.specs.meaning.Statements.{number_atom, name_atom, set_ctl_of, while_of, if_of, lock_of, unlock_of, fork_of, join_of, barrier_of, settle_of, set_reg_of, read_of, write_of, print_of, when_of, or_empty, or_nothing, named_in, reg_in}
 
 -- what a data statement begins with
 abbrev pub data_starts : List ℕ

@@ -1,15 +1,15 @@
 -- Reading all of the tokens, and what is answered where reading halts.
 use Rattle.std.specs.Prelude.{List, [], ◌∷◌, Result, Ok, Err}
 use Rattle.gp_base.specs.declared.limits.TheConstants.{DEEPEST_NESTING}
-use Rattle.task_ast.specs.Tree.{Program}
+use Rattle.task_ast.specs.meaning.Tree.{Program}
 use Rattle.task_parser.specs.declared.token.Token.{Token}
 use Rattle.task_parser.specs.declared.fault.ParseFault.{ParseFault}
 use Rattle.task_parser.specs.declared.fault.ParseFault.TheVariants.{Unexpected, TooDeep, OutOfMemory}
 use Rattle.task_parser.specs.declared.halt.Halt.{Halt}
 use Rattle.task_parser.specs.declared.halt.Halt.TheVariants as halts
-use Rattle.task_parser.specs.Expressions.{Text}
-use Rattle.task_parser.specs.Promise.{Stop, StandFor, StopFirst}
-use Rattle.task_parser.specs.Answer.{place}
+use Rattle.task_parser.specs.meaning.Expressions.{Text}
+use Rattle.task_parser.specs.meaning.Promise.{Stop, StandFor, StopFirst}
+use Rattle.task_parser.specs.meaning.Answer.{place}
 use Rattle.task_parser.specs.inner.Reading.{◌>>=◌, unexpected}
 use Rattle.task_parser.specs.inner.ProgramReaders.{read_program}
 

@@ -2,19 +2,19 @@
 use Rattle.std.specs.Prelude.{◌≡◌, ◌+◌, ◌-◌, ◌%◌, min, ℕ, ◌≤◌, ◌<◌, Bool, true, false, ⊤, cond, nat_le, List, length, map, All, Contains, Option, Some, None, slice_get}
 use Rattle.std.specs.List.Sorted.{IsStrictlyIncreasing}
 use Rattle.gp_base.specs.declared.fault.Fault.{Fault}
-use Rattle.task_ast.specs.State.{State}
-use Rattle.task_ast.specs.Plain.{Subthread}
-use Rattle.dependence.specs.Journal.{Stage}
+use Rattle.task_ast.specs.meaning.State.{State}
+use Rattle.task_ast.specs.meaning.Plain.{Subthread}
+use Rattle.dependence.specs.meaning.Journal.{Stage}
 use Rattle.dependence.specs.Standing.{present, StageStands}
-use Rattle.dependence.specs.Runs.{dependence_of}
+use Rattle.dependence.specs.meaning.Runs.{dependence_of}
 use Rattle.dependence.specs.RunBuffer.{RunStands}
-use Rattle.rollback.specs.Cuts.{cut_at, cuts_of}
+use Rattle.rollback.specs.meaning.Cuts.{cut_at, cuts_of}
 use Rattle.rollback.specs.Standing.{BlocksStand}
 use Rattle.rollback.specs.Driving.{DrivingStands}
 use Rattle.rollback.specs.States.{Held, HeldStands, IsCopy}
 use Rattle.record_store.specs.Stored.{Stored, state_of, IsAllHome}
 use Rattle.reorder_list.specs.declared.entry.Entry.{Entry}
-use Rattle.task_ast.specs.Table.{is_settle}
+use Rattle.task_ast.specs.meaning.Table.{is_settle}
 use Rattle.reorder_list.specs.Entries.{lines_of}
 use Rattle.reorder_list.specs.Stages.{HistoriesFit, buffer_of}
 use Rattle.whole_run.specs.declared.recovery.Recovery.{Recovery}

@@ -4,8 +4,8 @@ use Rattle.gp_base.specs.declared.journal.Event.{Event}
 use Rattle.gp_base.specs.declared.journal.Event.TheVariants as event
 use Rattle.gp_base.specs.declared.journal.Restart.{Restart}
 use Rattle.gp_base.specs.Reserved.{Reserved}
-use Rattle.task_ast.specs.Table.{numbers}
-use Rattle.dependence.specs.Dependents.{is_member}
+use Rattle.task_ast.specs.meaning.Table.{numbers}
+use Rattle.dependence.specs.meaning.Dependents.{is_member}
 use Rattle.reorder_list.specs.declared.entry.Entry.{Entry}
 use Rattle.reorder_list.specs.Entries.{with_change, raised_entry}
 use Rattle.whole_run.specs.View.{View, now}

@@ -3,11 +3,11 @@ use Rattle.std.specs.Prelude.{◌≡◌, ℕ, ◌≤◌, ◌<◌, ◌^◌, ⊤, 
 use Rattle.gp_base.specs.declared.journal.Event.{Event}
 use Rattle.gp_base.specs.declared.journal.Restart.{Restart}
 use Rattle.task_ast.specs.declared.sync.SyncOp.{SyncOp}
-use Rattle.task_ast.specs.Control.{Point}
-use Rattle.task_ast.specs.Names.{records_of, locks_of, cells_in}
-use Rattle.task_ast.specs.Layout.{layout}
-use Rattle.task_ast.specs.Table.{Table}
-use Rattle.dependence.specs.Journal.{Stage, stage}
+use Rattle.task_ast.specs.meaning.Control.{Point}
+use Rattle.task_ast.specs.meaning.Names.{records_of, locks_of, cells_in}
+use Rattle.task_ast.specs.meaning.Layout.{layout}
+use Rattle.task_ast.specs.meaning.Table.{Table}
+use Rattle.dependence.specs.meaning.Journal.{Stage, stage}
 use Rattle.dependence.specs.Posting.{OutReady}
 use Rattle.dependence.specs.Standing.{AreShort}
 use Rattle.task_code.specs.Relation.{Rests}

@@ -1,7 +1,7 @@
 -- The task of an entry's present attempt.
 use Rattle.std.specs.Prelude.{ℕ, List, []}
 use Rattle.gp_base.specs.declared.fault.Fault.{Fault}
-use Rattle.task_ast.specs.State.{RegistersOf}
+use Rattle.task_ast.specs.meaning.State.{RegistersOf}
 use Rattle.dependence.specs.Restarts.{mask_of}
 use Rattle.record_store.specs.Given.{joined_by, joined_value}
 use Rattle.record_store.specs.Stored.{Stored, state_of}
@@ -20,7 +20,12 @@ bare_in faults store p e =
       at = e.at;
       ctl = e.ctl;
       child = e.child;
-      given = record { regs = state_of store (RegistersOf e.thread); joined = joined_value (state_of store) (joined_by e.begins.sync); bundles = [] };
+      given =
+          record {
+            regs = state_of store (RegistersOf e.thread);
+            joined = joined_value (state_of store) (joined_by e.begins.sync);
+            bundles = [];
+          };
       held = e.held;
       mask = mask_of faults p e.attempt;
     }

@@ -1,13 +1,13 @@
 -- What is made ready before a turn, and what a turn gives.
 use Rattle.std.specs.Prelude.{◌≡◌, ◌⊎◌, ℕ, ◌+◌, ◌<◌, pos, negsuc, nat_lt, Bool, true, false, List, [], ◌∷◌, ◌++◌, length, Option, Some, None, is_some, slice_get, vec_len, vec_capacity, slice_set}
 use Rattle.gp_base.specs.declared.journal.Event.TheVariants as event
-use Rattle.task_ast.specs.State.{State, RegistersOf, number_at}
+use Rattle.task_ast.specs.meaning.State.{State, RegistersOf, number_at}
 use Rattle.task_ast.specs.declared.sync.SyncOp.{SyncOp}
 use Rattle.task_ast.specs.declared.sync.SyncOp.TheVariants as sync
 use Rattle.task_ast.specs.declared.sync.Next.{Next}
 use Rattle.task_ast.specs.Footprint.{lock_footprint}
-use Rattle.task_ast.specs.Table.{Table, owned_from}
-use Rattle.task_ast.specs.Turn.{owners_after, child_of, turns_left}
+use Rattle.task_ast.specs.meaning.Table.{Table, owned_from}
+use Rattle.task_ast.specs.meaning.Turn.{owners_after, child_of, turns_left}
 use Rattle.task_ast.specs.laws.Threads.{ahead}
 use Rattle.record_store.specs.Stored.{Stored, with_thread}
 use Rattle.reorder_list.specs.declared.entry.Entry.{Entry}

@@ -2,7 +2,7 @@
 use Rattle.std.specs.Prelude.{ℕ, ℤ, ◌+◌, ◌-◌, Bool, false, true, ◌&&◌, ◌||◌, nat_le, List, [], Option, Some, None, is_none, slice_get}
 use Rattle.gp_base.specs.declared.limits.TheConstants.{LONGEST_DELAY}
 use Rattle.gp_base.specs.declared.fault.Fault.{Fault}
-use Rattle.dependence.specs.Restarts.{least_struck}
+use Rattle.dependence.specs.meaning.Restarts.{least_struck}
 use Rattle.reorder_list.specs.declared.entry.Entry.{Entry}
 use Rattle.reorder_list.specs.Entries.{is_applied, entry_at}
 use Rattle.whole_run.specs.declared.recovery.Recovery.{Recovery}

@@ -2,11 +2,11 @@
 use Rattle.std.specs.Prelude.{◌≡◌, ◌⊎◌, ℕ, ◌+◌, ◌*◌, ◌<◌, Bool, true, false, cond, List, ◌++◌, take, Option, Some, None, Contains}
 use Rattle.gp_base.specs.declared.ending.End.{End}
 use Rattle.std.specs.Io.KnownBytes.{Appends}
-use Rattle.dependence.specs.Journal.{WasTaken}
+use Rattle.dependence.specs.meaning.Journal.{WasTaken}
 use Rattle.dependence.specs.Measure.{left_after}
 use Rattle.subthread.specs.declared.task.Task.{Task}
 use Rattle.subthread.specs.declared.task.Work.{Work}
-use Rattle.restart_log.specs.Lines.{printed}
+use Rattle.restart_log.specs.meaning.Lines.{printed}
 use Rattle.whole_run.specs.View.{View, dependence_in, lines_at, lines_below, now, is_known, Stands}
 use Rattle.whole_run.specs.declared.calls.Halt.TheVariants as halt
 use Rattle.whole_run.specs.Gives.{struck_now, MayRetireNow}

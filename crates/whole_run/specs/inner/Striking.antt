@@ -4,7 +4,7 @@ use Rattle.std.specs.Option.{option_or}
 use Rattle.gp_base.specs.declared.fault.Fault.{Fault}
 use Rattle.reorder_list.specs.declared.entry.Entry.{Entry}
 use Rattle.reorder_list.specs.Entries.{entry_at}
-use Rattle.dependence.specs.Restarts.{least_struck}
+use Rattle.dependence.specs.meaning.Restarts.{least_struck}
 
 -- whether a fault names the attempt of the entry, and is due at this front or need not be
 abbrev pub strikes_entry : (any : Bool) → (front : ℕ) → Fault → Option Entry → Bool

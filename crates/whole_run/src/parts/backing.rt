@@ -24,8 +24,8 @@ pub struct Checkpoint {
     pub store: Store,
 }
 
-/// What a run that rolls back keeps beside its entries: how many positions are applied before the first that is not, and
-/// the checkpoints, at rising cuts. A selective run has none.
+/// What a run that rolls back keeps beside its entries: how many positions are applied before the first that is not,
+/// and the checkpoints, at rising cuts. A selective run has none.
 #[derive(Drop)]
 pub struct Backup {
     pub whole: u32,
@@ -45,8 +45,8 @@ impl Backup {
     }
 }
 
-/// The cut of the block of a position that has an entry, where none of that block has retired. No cut lies between: a settle is
-/// issued where all before it have retired, so that only the oldest entry may be one.
+/// The cut of the block of a position that has an entry, where none of that block has retired. No cut lies between: a
+/// settle is issued where all before it have retired, so that only the oldest entry may be one.
 pub fn open_cut(every: u32, rol: &Rol, position: Pos) -> Option<u32>
     requires { 1 ≤ every }
     ensures { result ≡ open_cut every rol.now.entries position }
@@ -72,8 +72,8 @@ fn has_checkpoint(backup: &Backup, cut: u32) -> bool
         .any(|checkpoint| checkpoint.cut == cut)
 }
 
-/// Copies the data at the cut of a position that is the first of its block to be posted: nothing is out then, and all before
-/// the cut is applied, and nothing else. The error is that memory is out.
+/// Copies the data at the cut of a position that is the first of its block to be posted: nothing is out then, and all
+/// before the cut is applied, and nothing else. The error is that memory is out.
 pub fn open_block(
     alloc: Global,
     plan: &Plan,
@@ -140,9 +140,9 @@ fn checkpoint_at(backup: &Backup, cut: u32) -> Option<&Checkpoint>
         .find(|checkpoint| checkpoint.cut == cut)
 }
 
-/// What the store goes back to at a cut, with slots for the registers of so many threads: a copy of the checkpoint there. There
-/// is none where nothing from the cut on was posted, and then the store is as it was at the cut. The error is that memory is
-/// out.
+/// What the store goes back to at a cut, with slots for the registers of so many threads: a copy of the checkpoint
+/// there. There is none where nothing from the cut on was posted, and then the store is as it was at the cut. The error
+/// is that memory is out.
 pub fn restored(
     alloc: Global,
     backup: &Backup,
@@ -173,7 +173,8 @@ pub fn drop_after(backup: &mut Backup, cut: u32)
     }
 }
 
-/// Gives up the checkpoints at cuts before a position, to which no rollback goes back once that has retired. Takes no memory.
+/// Gives up the checkpoints at cuts before a position, to which no rollback goes back once that has retired. Takes no
+/// memory.
 pub fn drop_before(backup: &mut Backup, position: u32)
     ensures { DropsBefore position backup.old backup.new }
 {

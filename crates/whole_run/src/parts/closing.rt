@@ -13,9 +13,9 @@ use crate::{Halt, Recovery};
 use gp_base::{End, Journal, Pos};
 use reorder_list::Report;
 
-/// Where all is rolled back, a position is looked at for a post only where it is fewer than so many after the first that is
-/// not applied. After a rollback all of a block wait, and to look at all of them after each result would cost the square of
-/// the block. As many as this keep all workers busy.
+/// Where all is rolled back, a position is looked at for a post only where it is fewer than so many after the first
+/// that is not applied. After a rollback all of a block wait, and to look at all of them after each result would cost
+/// the square of the block. As many as this keep all workers busy.
 pub const WINDOW: u32 = 1024;
 
 // The position from which on none is looked at.
@@ -39,9 +39,9 @@ fn is_open(recovery: Recovery, backup: &Backup, position: Pos) -> bool
     }
 }
 
-/// The first position from this one on whose present attempt may be posted: each earlier one in conflict with it by locks is
-/// applied, and, where all is rolled back, each one before its block. There it is looked for only among those that are near the
-/// first that is not applied.
+/// The first position from this one on whose present attempt may be posted: each earlier one in conflict with it by
+/// locks is applied, and, where all is rolled back, each one before its block. There it is looked for only among those
+/// that are near the first that is not applied.
 pub fn runnable(plan: &Plan, parts: &mut Parts, from: Pos) -> Option<Pos>
     requires kept { Kept (batch_in plan.now) parts.old }
     requires closed { parts.old.ring.cleared ≡ false }

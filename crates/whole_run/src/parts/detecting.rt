@@ -39,8 +39,8 @@ pub fn all_home(plan: &Plan, parts: &Parts) -> bool
     }
 }
 
-/// Whether each position that has not retired was run at some attempt, so that what it reads and writes is known, or that need
-/// not be known, since all is rolled back.
+/// Whether each position that has not retired was run at some attempt, so that what it reads and writes is known, or
+/// that need not be known, since all is rolled back.
 pub fn scouted(plan: &Plan, parts: &Parts) -> bool
     requires kept { Kept (batch_in plan.now) parts.now }
     ensures { IsTrue result ↔ IsScouted (view_of (batch_in plan.now) parts.now) }
@@ -150,8 +150,8 @@ fn put_back(store: &mut Store, copy: Option<Store>)
     }
 }
 
-// Rolls all from the cut of the position that is struck on back, and notes it. The error is that memory is out, and changes
-// nothing.
+// Rolls all from the cut of the position that is struck on back, and notes it. The error is that memory is out, and
+// changes nothing.
 fn roll_back(
     alloc: Global,
     every: u32,
@@ -193,9 +193,9 @@ fn roll_back(
     Ok(())
 }
 
-/// Makes one restart, before which what each position reads and writes has to be known, where that matters, and all to be back
-/// that it waits for, and answers `true`, or answers `false` where none is due, as far as the end is known. The error is that
-/// memory is out, and changes nothing.
+/// Makes one restart, before which what each position reads and writes has to be known, where that matters, and all to
+/// be back that it waits for, and answers `true`, or answers `false` where none is due, as far as the end is known. The
+/// error is that memory is out, and changes nothing.
 pub fn detect(alloc: Global, plan: &Plan, parts: &mut Parts) -> Result<bool, AllocError>
     requires kept { Kept (batch_in plan.now) parts.old }
     requires closed { parts.old.ring.cleared ≡ false }

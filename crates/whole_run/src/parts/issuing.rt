@@ -2,8 +2,8 @@
 
 ghost use Rattle.std.specs.Prelude.{◌≡◌, ◌<◌, ◌≤◌, ◌+◌, ◌^◌, true, false, length, IfOk, OnOk, OnErr};
 ghost use Rattle.gp_base.specs.declared.limits.TheConstants.{MOST_THREADS};
-ghost use Rattle.task_ast.specs.Turn.{child_of};
-ghost use Rattle.dependence.specs.Restarts.{NoneDue};
+ghost use Rattle.task_ast.specs.meaning.Turn.{child_of};
+ghost use Rattle.dependence.specs.meaning.Restarts.{NoneDue};
 ghost use Rattle.subthread.specs.Footprints.{IsNumbered};
 ghost use Rattle.reorder_list.specs.Entries.{ComesNext};
 ghost use Rattle.token_order.specs.Turned.{Turned};

@@ -121,7 +121,8 @@ fn take_back(store: &mut Store, task: Task)
     store.send_back(given.bundles);
 }
 
-/// Lends a task the cells of its locks and hands it to a crew. The error is that memory is out; the cells are home again.
+/// Lends a task the cells of its locks and hands it to a crew. The error is that memory is out; the cells are home
+/// again.
 fn send<R: Threads + Sync, C: Crew>(
     rt: &R,
     crew: &mut C,
@@ -155,9 +156,9 @@ fn send<R: Threads + Sync, C: Crew>(
     }
 }
 
-/// Posts the present attempt of a position to a crew of this run's work; the cells of its locks go out with it. The error is
-/// that memory is out; nothing was posted then, and each cell is where it was. Where all is rolled back, the data are copied
-/// before the first post of a block.
+/// Posts the present attempt of a position to a crew of this run's work; the cells of its locks go out with it. The
+/// error is that memory is out; nothing was posted then, and each cell is where it was. Where all is rolled back, the
+/// data are copied before the first post of a block.
 pub fn post<R: Threads + Sync, C: Crew>(
     alloc: Global,
     rt: &R,

@@ -2,8 +2,8 @@
 
 ghost use Rattle.std.specs.Prelude.{◌≡◌, ◌≤◌, false, is_some, IfOk, OnErr, OnOk};
 ghost use Rattle.std.specs.Io.KnownBytes.{Appends};
-ghost use Rattle.gp_base.specs.Sinks.{AppendsPrefix};
-ghost use Rattle.restart_log.specs.Lines.{printed};
+ghost use Rattle.gp_base.specs.meaning.Sinks.{AppendsPrefix};
+ghost use Rattle.restart_log.specs.meaning.Lines.{printed};
 ghost use Rattle.whole_run.specs.Gives.{RetireGives, RetireWrites, HasStopCause};
 ghost use Rattle.whole_run.specs.inner.Kept.{batch_in, view_of, Kept};
 ghost use Rattle.whole_run.specs.Recovering.{HasCuts};
@@ -33,8 +33,8 @@ fn is_old(begun: u32, front: u32) -> bool
     begun as u64 + LONGEST_DELAY as u64 <= front as u64
 }
 
-// Whether the rest of the block of a position, which is the oldest, was issued, and is applied, and no fault can come that
-// strikes any of it. Later positions began no earlier, so the last of the block tells.
+// Whether the rest of the block of a position, which is the oldest, was issued, and is applied, and no fault can come
+// that strikes any of it. Later positions began no earlier, so the last of the block tells.
 fn block_is_safe(every: u32, rol: &Rol, whole: u32, oldest: Pos, front: u32) -> bool
     requires { 1 ≤ every }
     ensures { result ≡ block_is_safe every rol.now.entries whole oldest front }
@@ -107,8 +107,8 @@ fn write_oldest<O: Sink>(alloc: Global, rol: &Rol, out: &mut O) -> Result<(), St
     }
 }
 
-/// Retires the oldest position, whose lines it writes, and answers it, or answers `None` where that may not retire. After an
-/// error nothing has retired, and `out` got a part of the lines.
+/// Retires the oldest position, whose lines it writes, and answers it, or answers `None` where that may not retire.
+/// After an error nothing has retired, and `out` got a part of the lines.
 pub fn retire<O: Sink>(
     alloc: Global,
     plan: &Plan,

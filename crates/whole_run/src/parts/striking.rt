@@ -2,7 +2,7 @@
 
 ghost use Rattle.std.specs.Prelude.{◌≡◌, true, min};
 ghost use Rattle.std.specs.Option.{option_map_or};
-ghost use Rattle.dependence.specs.Restarts.{least_struck};
+ghost use Rattle.dependence.specs.meaning.Restarts.{least_struck};
 ghost use Rattle.whole_run.specs.inner.Striking.{strikes, struck_in};
 
 use gp_base::{Fault, Pos};

@@ -77,8 +77,8 @@ fn learn_foot(rol: &mut Rol, pos: Pos, foot: Footprint)
     }
 }
 
-/// Takes the cells of a run's locks home and applies its effect, where that is to be. Where all is rolled back, no history is
-/// kept.
+/// Takes the cells of a run's locks home and applies its effect, where that is to be. Where all is rolled back, no
+/// history is kept.
 fn apply_where(
     fresh: bool,
     recovery: Recovery,
@@ -108,9 +108,9 @@ fn apply_where(
     }
 }
 
-// Takes the run of a task that is out, and applies it where its attempt is the present one, which is the answer: the cells of
-// its locks then come home. Another attempt holds no lock. What its thread does next is learnt in any case, where it is
-// awaited, and so is what the subthread touches, where it has not retired.
+// Takes the run of a task that is out, and applies it where its attempt is the present one, which is the answer: the
+// cells of its locks then come home. Another attempt holds no lock. What its thread does next is learnt in any case,
+// where it is awaited, and so is what the subthread touches, where it has not retired.
 fn take(plan: &Plan, parts: &mut Parts, done: Done) -> bool
     requires kept { Kept (batch_in plan.now) parts.old }
     requires closed { parts.old.ring.cleared ≡ false }
@@ -175,8 +175,8 @@ fn note_where<N: Notes>(
     Ok(())
 }
 
-/// Takes the run of a task that is out, and applies it where its attempt is the present one, which is the answer. What is
-/// applied is noted first; the error is that memory is out for that, and changes nothing.
+/// Takes the run of a task that is out, and applies it where its attempt is the present one, which is the answer. What
+/// is applied is noted first; the error is that memory is out for that, and changes nothing.
 pub fn accept<N: Notes>(
     plan: &Plan,
     parts: &mut Parts,

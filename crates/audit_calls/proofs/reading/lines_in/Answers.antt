@@ -1,6 +1,6 @@
 use Rattle.std.proofs.Common.{List}
 use Rattle.gp_audit.specs.declared.line.TraceLine.{TraceLine}
-use Rattle.call_cases.specs.Lines.{input_line}
+use Rattle.call_cases.specs.meaning.Lines.{input_line}
 use Rattle.audit_calls.proofs.Readings.{lines_told, row_told, few_read, input_unread}
 use Rattle.audit_calls.proofs.reading.lines_in.Goals as goal
 

@@ -5,7 +5,7 @@ use Rattle.gp_audit.specs.declared.line.TraceLine.{TraceLine}
 use Rattle.command_line.specs.declared.asked.Asked.{Asked}
 use Rattle.call_cases.specs.Decided.{program_in, files_read, work_of}
 use Rattle.call_cases.specs.Refusals.{RefusesShelf}
-use Rattle.audit_calls.specs.AuditCommands.{MayRead}
+use Rattle.audit_calls.specs.meaning.AuditCommands.{MayRead}
 use Rattle.audit_calls.proofs.TrialCases.{run_refuses, lines_judged, trace_refuses, run_reads, trace_reads}
 use Rattle.audit_calls.proofs.reading.read_audited.Goals as goal
 

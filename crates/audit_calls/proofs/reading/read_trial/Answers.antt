@@ -1,9 +1,9 @@
 use Rattle.std.proofs.Common.{◌≡◌, Some, None, sym, subst}
-use Rattle.command_line.specs.Words.{texts}
-use Rattle.command_line.specs.AuditWords.{audited_by}
+use Rattle.command_line.specs.meaning.Words.{texts}
+use Rattle.command_line.specs.meaning.AuditWords.{audited_by}
 use Rattle.call_cases.specs.Refusals.{TouchesShelf}
 use Rattle.call_cases.proofs.Answering.{usage_case, asked_case}
-use Rattle.audit_calls.specs.AuditCommands.{MayRead, asking}
+use Rattle.audit_calls.specs.meaning.AuditCommands.{MayRead, asking}
 use Rattle.audit_calls.specs.inner.Trials.{case_of}
 use Rattle.audit_calls.proofs.reading.read_trial.Goals as goal
 

@@ -1,8 +1,9 @@
 use Rattle.std.proofs.Common.{subst}
 use Rattle.std.proofs.lemmas.Result.{err_from_is_err_and}
 use Rattle.gp_audit.specs.declared.verdict.Verdict.{Verdict}
-use Rattle.gp_audit.specs.Answer.{verdict_text, verdict_status}
-use Rattle.call_cases.specs.Answers.{PutFor, change_of}
+use Rattle.gp_audit.specs.meaning.Answer.{verdict_text, verdict_status}
+use Rattle.call_cases.specs.meaning.Answers.{change_of}
+use Rattle.call_cases.specs.Answers.{PutFor}
 use Rattle.audit_calls.specs.inner.Trials.{tried_in}
 use Rattle.audit_calls.proofs.Verdicts.{stopped_memory}
 use Rattle.audit_calls.proofs.verdict.put_verdict.Goals as goal

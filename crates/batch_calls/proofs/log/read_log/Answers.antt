@@ -1,12 +1,12 @@
 use Rattle.std.proofs.Common.{◌≡◌, None, Some, sym, subst}
-use Rattle.command_line.specs.Words.{texts}
-use Rattle.command_line.specs.LogWords.{log_by}
+use Rattle.command_line.specs.meaning.Words.{texts}
+use Rattle.command_line.specs.meaning.LogWords.{log_by}
 use Rattle.call_cases.specs.Decided.{case_of}
 use Rattle.call_cases.specs.Refusals.{TouchesShelf}
-use Rattle.call_cases.specs.RunCommands.{MayRead}
-use Rattle.call_cases.specs.Headline.{ReadsNothing}
+use Rattle.call_cases.specs.meaning.RunCommands.{MayRead}
+use Rattle.call_cases.specs.meaning.Headline.{ReadsNothing}
 use Rattle.call_cases.proofs.Answering.{usage_case, asked_case}
-use Rattle.batch_calls.specs.LogCommands.{asking, commands}
+use Rattle.batch_calls.specs.meaning.LogCommands.{asking, commands}
 use Rattle.batch_calls.proofs.AskedOtherwise.{same_answer}
 use Rattle.batch_calls.proofs.log.read_log.Goals as goal
 
@@ -18,7 +18,8 @@ returns-in-Ok-None-clause-case g c =
 pub returns-clause-shelf : goal.returns-clause-shelf
 returns-clause-shelf g c =
     let some : log_by (texts c.args.words.now) ≡ Some c.in-Ok-Some.asked = sym (rw c.in-Ok-Some.field-0-is at c.in-Ok-Some.ensures.asked) in
-    subst (λ asked. TouchesShelf MayRead asked (g.H.Shelf.failed c.args.shelf.now) (g.H.Shelf.failed c.read_for.new.shelf) c.read_for.result) (sym some) c.read_for.ensures.shelf
+    subst (λ asked. TouchesShelf MayRead asked (g.H.Shelf.failed c.args.shelf.now)
+    (g.H.Shelf.failed c.read_for.new.shelf) c.read_for.result) (sym some) c.read_for.ensures.shelf
 
 pub returns-clause-case : goal.returns-clause-case
 returns-clause-case g c =

@@ -7,4 +7,5 @@ returns-in-Ok c = λ work text out log ran logged.
 
 pub returns-in-Err : goal.returns-in-Err
 returns-in-Err c = λ work text out log ran logged.
-    logged_to_stop work text out log c.args.ran c.in-Err.stop c.stop_status-status.result c.in-Err.is c.stop_status-status.ensures ran logged
+    logged_to_stop work text out log c.args.ran c.in-Err.stop c.stop_status-status.result c.in-Err.is
+    c.stop_status-status.ensures ran logged

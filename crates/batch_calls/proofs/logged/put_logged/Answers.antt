@@ -1,5 +1,5 @@
 use Rattle.std.proofs.Common.{◌⊎◌, inl, ap, sym, subst, Err}
-use Rattle.call_cases.specs.Answers.{Fails, IsEmpty, change_of}
+use Rattle.call_cases.specs.meaning.Answers.{Fails, IsEmpty, change_of}
 use Rattle.batch_calls.specs.inner.Planned.{work_planned}
 use Rattle.batch_calls.specs.inner.Ran.{WritesLines}
 use Rattle.batch_calls.proofs.RanPieces.{stops_by, rose_later, rose_last, ran_without_first, ran_without_lines, ran_without_tail, ran_whole}
@@ -10,8 +10,10 @@ pub returns-in-Err-clause-text : goal.returns-in-Err-clause-text
 returns-in-Err-clause-text g c =
     let out = change_of g.O.Sink.written g.O.Sink.faults c.args.out.now c.put_all.new.to in
     let log = change_of g.L.Sink.written g.L.Sink.faults c.args.log.now c.args.log.now in
-    ran_without_first (Fails out ⊎ Fails log) (work_planned c.args.plan) (subst WritesLines (sym c.requires.run) tt) out c.stopped.result c.empty_journal.result c.in-Err.fault
-    c.empty_journal.ensures (stops_by c.in-Err.fault c.empty_journal.result c.stopped.result c.stopped.ensures.why c.stopped.ensures.journal) c.in-Err.ensures.prefix
+    ran_without_first (Fails out ⊎ Fails log) (work_planned c.args.plan)
+    (subst WritesLines (sym c.requires.run) tt) out c.stopped.result c.empty_journal.result c.in-Err.fault
+    c.empty_journal.ensures (stops_by c.in-Err.fault c.empty_journal.result c.stopped.result c.stopped.ensures.why
+    c.stopped.ensures.journal) c.in-Err.ensures.prefix
     (λ is. inl (c.in-Err.ensures.cause.failed (ap Err is)))
 
 pub returns-in-Err-clause-log : goal.returns-in-Err-clause-log
@@ -27,7 +29,8 @@ returns-in-Err-put_noted-clause-text g c =
     let out = change_of written faults c.args.out.now c.put_noted.new.out in
     let lines = change_of written faults c.put_all.new.to c.put_noted.new.out in
     ran_without_lines (Fails out ⊎ Fails log) (work_planned c.args.plan) (subst WritesLines (sym c.requires.run) tt)
-    (written c.args.out.now) (written c.put_all.new.to) (written c.put_noted.new.out) (faults c.args.out.now) (faults c.put_all.new.to) (faults c.put_noted.new.out)
+    (written c.args.out.now) (written c.put_all.new.to) (written c.put_noted.new.out) (faults c.args.out.now) (faults c.put_all.new.to)
+    (faults c.put_noted.new.out)
     c.in-Err-put_noted.stop (Fails lines ⊎ Fails log) c.in-Ok.ensures.all c.in-Err-put_noted.ensures.lines
     (fails_later (Fails lines) (Fails out) (Fails log)
     (rose_later (faults c.args.out.now) (faults c.put_all.new.to) (faults c.put_noted.new.out) c.in-Ok.ensures.cause.later))
@@ -56,7 +59,8 @@ returns-clause-text g c =
     (faults c.args.out.now) (faults c.put_all.new.to) (faults c.put_noted.new.out) (faults c.put_tail.new.out)
     c.in-Ok-put_noted.report (Fails lines ⊎ Fails log) c.in-Ok.ensures.all c.in-Ok-put_noted.ensures.lines
     c.stopped-in-Err-put_tail.result c.in-Err-put_tail.fault
-    (stops_by c.in-Err-put_tail.fault c.in-Ok-put_noted.report.journal c.stopped-in-Err-put_tail.result c.stopped-in-Err-put_tail.ensures.why c.stopped-in-Err-put_tail.ensures.journal)
+    (stops_by c.in-Err-put_tail.fault c.in-Ok-put_noted.report.journal c.stopped-in-Err-put_tail.result
+    c.stopped-in-Err-put_tail.ensures.why c.stopped-in-Err-put_tail.ensures.journal)
     c.in-Err-put_tail.ensures.prefix
     (λ is. inl (rose_last (faults c.args.out.now) (faults c.put_all.new.to) (faults c.put_noted.new.out) (faults c.put_tail.new.out)
     c.in-Ok.ensures.cause.later c.in-Ok-put_noted.ensures.lines.later (c.in-Err-put_tail.ensures.cause.failed (ap Err is))))
@@ -64,4 +68,5 @@ returns-clause-text g c =
 pub returns-clause-log : goal.returns-clause-log
 returns-clause-log g c =
     let log = change_of g.L.Sink.written g.L.Sink.faults c.args.log.now c.put_noted.new.log in
-    logs_before (work_planned c.args.plan) log c.in-Ok-put_noted.report c.stopped-in-Err-put_tail.result c.in-Ok-put_noted.ensures.log c.stopped-in-Err-put_tail.ensures.journal
+    logs_before (work_planned c.args.plan) log c.in-Ok-put_noted.report c.stopped-in-Err-put_tail.result c.in-Ok-put_noted.ensures.log
+    c.stopped-in-Err-put_tail.ensures.journal

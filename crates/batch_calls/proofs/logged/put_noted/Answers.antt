@@ -2,8 +2,8 @@ use Rattle.std.proofs.Common.{◌⊎◌, refl, sym, ap}
 use Rattle.task_ast.specs.View.{plain_program}
 use Rattle.lock_checker.specs.Accepted.{program_of}
 use Rattle.engine.specs.Drive.{batch_of}
-use Rattle.call_cases.specs.Work.{work_for}
-use Rattle.call_cases.specs.Answers.{Fails, change_of}
+use Rattle.call_cases.specs.meaning.Work.{work_for}
+use Rattle.call_cases.specs.meaning.Answers.{Fails, change_of}
 use Rattle.batch_calls.specs.inner.Planned.{recovery_of}
 use Rattle.batch_calls.proofs.RanPieces.{runs_if}
 use Rattle.batch_calls.proofs.LoggedPieces.{logs_run}
@@ -17,7 +17,8 @@ returns-clause-lines g c =
     let log = change_of g.L.Sink.written g.L.Sink.faults c.args.log.now c.drive_noted.new.log in
     let planned = c.requires.planned in
     let ran = c.drive_noted.ensures in
-    runs_if (batch_of c.args.code.now begins.inputs begins.limits begins.faults) work planned.program_is refl planned.limits_are refl (sym (ap recovery_of c.requires.run))
+    runs_if (batch_of c.args.code.now begins.inputs begins.limits begins.faults) work planned.program_is refl planned.limits_are refl
+    (sym (ap recovery_of c.requires.run))
     (Fails out ⊎ Fails log) out c.drive_noted.result ran.journal ran.report ran.lines ran.partly ran.cause.later ran.cause.failed
 
 pub returns-clause-log : goal.returns-clause-log
@@ -32,5 +33,6 @@ returns-clause-log g c =
     let ran = c.drive_noted.ensures in
     let runs = runs_if batch work planned.program_is refl planned.limits_are refl recovery
     (Fails out ⊎ Fails log) out c.drive_noted.result ran.journal ran.report ran.lines ran.partly ran.cause.later ran.cause.failed in
-    logs_run batch work planned.program_is refl planned.limits_are refl recovery c.new-notes.result c.drive_noted.new.notes log (c.new-notes.ensures log.written) refl
+    logs_run batch work planned.program_is refl planned.limits_are refl recovery c.new-notes.result c.drive_noted.new.notes log
+    (c.new-notes.ensures log.written) refl
     c.drive_noted.result runs.report ran.notes

@@ -1,8 +1,8 @@
 use Rattle.std.proofs.Common.{◌≡◌, ◌∙◌, inl, inr, true, false, sym, subst, length}
 use Rattle.command_line.specs.declared.asked.Command.{Command}
-use Rattle.call_cases.specs.Answers.{change_of}
-use Rattle.call_cases.specs.PlainText.{plain_ran, restarts_in}
-use Rattle.call_cases.specs.Texts.{run_text, soak_text}
+use Rattle.call_cases.specs.meaning.Answers.{change_of}
+use Rattle.call_cases.specs.meaning.PlainText.{plain_ran, restarts_in}
+use Rattle.call_cases.specs.meaning.Texts.{run_text, soak_text}
 use Rattle.batch_calls.specs.inner.Planned.{EndsBy, work_planned}
 use Rattle.batch_calls.proofs.run.carry_by.Goals as goal
 
@@ -27,9 +27,13 @@ returns-in-Soak g c =
     let work = work_planned c.args.plan in
     let out = change_of g.O.Sink.written g.O.Sink.faults c.args.out.now c.put_soak-ran.new.out in
     let err = change_of g.E.Sink.written g.E.Sink.faults c.args.err.now c.outcome_of-in-Soak.new.err in
-    let ends = c.outcome_of-in-Soak.ensures work (soak_text c.in-Soak.soak (plain_ran work) (restarts_in work) (length work.faults)) out c.put_soak-ran.ensures in
+    let ends =
+    c.outcome_of-in-Soak.ensures work (soak_text c.in-Soak.soak (plain_ran work) (restarts_in work) (length work.faults)) out
+    c.put_soak-ran.ensures in
     record {
-      ends = subst (λ (k : Command). EndsBy k c.args.plan.asked work out err c.outcome_of-in-Soak.result.status c.outcome_of-in-Soak.result.journal) (sym c.in-Soak.is) ends.ends;
+      ends =
+          subst (λ (k : Command). EndsBy k c.args.plan.asked work out err c.outcome_of-in-Soak.result.status
+          c.outcome_of-in-Soak.result.journal) (sym c.in-Soak.is) ends.ends;
       unjournalled = λ not. absurd (let both : true ≡ false = sym c.requires.run ∙ not in cc);
       run = λ is. ends.journalled;
     }
@@ -39,9 +43,13 @@ returns-in-Log g c =
     let work = work_planned c.args.plan in
     let out = change_of g.O.Sink.written g.O.Sink.faults c.args.out.now c.put_logged-ran.new.out in
     let err = change_of g.E.Sink.written g.E.Sink.faults c.args.err.now c.put_logged-ran.new.log in
-    let ends = c.outcome_logged.ensures work (run_text (plain_ran work) (restarts_in work) (length work.faults)) out err c.put_logged-ran.ensures.text c.put_logged-ran.ensures.log in
+    let ends =
+    c.outcome_logged.ensures work (run_text (plain_ran work) (restarts_in work) (length work.faults)) out err
+    c.put_logged-ran.ensures.text c.put_logged-ran.ensures.log in
     record {
-      ends = subst (λ (k : Command). EndsBy k c.args.plan.asked work out err c.outcome_logged.result.status c.outcome_logged.result.journal) (sym c.in-Log.is) ends.ends;
+      ends =
+          subst (λ (k : Command). EndsBy k c.args.plan.asked work out err c.outcome_logged.result.status c.outcome_logged.result.journal)
+          (sym c.in-Log.is) ends.ends;
       unjournalled = λ not. absurd (let both : true ≡ false = sym c.requires.run ∙ not in cc);
       run = λ is. ends.journalled;
     }

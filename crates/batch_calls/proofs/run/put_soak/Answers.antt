@@ -1,6 +1,6 @@
 use Rattle.std.proofs.Common.{ap, Err, refl}
 use Rattle.batch_calls.specs.inner.Planned.{work_planned}
-use Rattle.call_cases.specs.Answers.{change_of}
+use Rattle.call_cases.specs.meaning.Answers.{change_of}
 use Rattle.batch_calls.proofs.RanPieces.{stops_by, soak_without_run, soak_without_summary}
 use Rattle.batch_calls.proofs.run.put_soak.Goals as goal
 
@@ -12,6 +12,8 @@ returns-in-Err g c =
 pub returns : goal.returns
 returns g c =
     let out = change_of g.O.Sink.written g.O.Sink.faults c.args.out.now c.put_summary.new.out in
-    soak_without_summary (work_planned c.args.plan) c.args.soak c.requires.run out _ c.in-Ok.report c.in-Ok.ensures c.stopped.result c.in-Err-put_summary.fault
-    (stops_by c.in-Err-put_summary.fault c.in-Ok.report.journal c.stopped.result c.stopped.ensures.why c.stopped.ensures.journal) c.in-Err-put_summary.ensures.prefix
+    soak_without_summary (work_planned c.args.plan) c.args.soak c.requires.run out _ c.in-Ok.report c.in-Ok.ensures c.stopped.result
+    c.in-Err-put_summary.fault
+    (stops_by c.in-Err-put_summary.fault c.in-Ok.report.journal c.stopped.result c.stopped.ensures.why c.stopped.ensures.journal)
+    c.in-Err-put_summary.ensures.prefix
     (λ is. c.in-Err-put_summary.ensures.cause.failed (ap Err is))

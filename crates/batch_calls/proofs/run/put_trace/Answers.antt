@@ -1,5 +1,5 @@
-use Rattle.restart_log.specs.Trace.{trace_text}
-use Rattle.call_cases.specs.Answers.{change_of}
+use Rattle.restart_log.specs.meaning.Trace.{trace_text}
+use Rattle.call_cases.specs.meaning.Answers.{change_of}
 use Rattle.std.proofs.Common.{refl, [], if◌then◌else◌}
 use Rattle.batch_calls.proofs.RunEnds.{untraced, trace_without}
 use Rattle.batch_calls.proofs.run.put_trace.Goals as goal

@@ -1,5 +1,5 @@
 use Rattle.std.proofs.Common.{sym, subst}
-use Rattle.call_cases.specs.Answers.{change_of}
+use Rattle.call_cases.specs.meaning.Answers.{change_of}
 use Rattle.batch_calls.specs.inner.Ran.{StopsWith}
 use Rattle.batch_calls.proofs.run.stop_with.Goals as goal
 

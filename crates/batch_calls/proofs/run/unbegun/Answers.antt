@@ -1,8 +1,9 @@
-use Rattle.call_cases.specs.Answers.{change_of}
+use Rattle.call_cases.specs.meaning.Answers.{change_of}
 use Rattle.batch_calls.proofs.RunEnds.{unbegun_carries}
 use Rattle.batch_calls.proofs.run.unbegun.Goals as goal
 
 pub returns : goal.returns
 returns g c = λ asked work written faults.
     let err = change_of g.E.Sink.written g.E.Sink.faults c.args.err.now c.end_with-status.new.err in
-    unbegun_carries asked work written faults err c.end_with-status.result c.empty_journal.result c.empty_journal.ensures c.end_with-status.ensures
+    unbegun_carries asked work written faults err c.end_with-status.result c.empty_journal.result c.empty_journal.ensures
+    c.end_with-status.ensures

@@ -1,5 +1,5 @@
 use Rattle.std.proofs.Common.{◌≡◌, take}
-use Rattle.restart_log.specs.Lines.{printed}
+use Rattle.restart_log.specs.meaning.Lines.{printed}
 use Rattle.batch_calls.specs.inner.Steps.{lines_in}
 use Rattle.batch_calls.proofs.texts.printed.Given as goal
 

@@ -2,7 +2,10 @@ use Rattle.call_cases.specs.Decided.{work_of}
 use Rattle.batch_calls.proofs.waiting.carry_planned.Goals as goal
 
 pub returns-in-Err : goal.returns-in-Err
-returns-in-Err g c = c.unbegun.ensures c.args.request.asked (work_of c.args.request) (g.O.Sink.written c.args.out.now) (g.O.Sink.faults c.args.out.now)
+returns-in-Err g c =
+    c.unbegun.ensures c.args.request.asked (work_of c.args.request) (g.O.Sink.written c.args.out.now) (g.O.Sink.faults c.args.out.now)
 
 pub returns-in-Err-new : goal.returns-in-Err-new
-returns-in-Err-new g c = c.unbegun-in-Err-new.ensures c.args.request.asked (work_of c.args.request) (g.O.Sink.written c.args.out.now) (g.O.Sink.faults c.args.out.now)
+returns-in-Err-new g c =
+    c.unbegun-in-Err-new.ensures c.args.request.asked (work_of c.args.request) (g.O.Sink.written c.args.out.now)
+    (g.O.Sink.faults c.args.out.now)

@@ -1,6 +1,6 @@
 use Rattle.std.proofs.Common.{◌≡◌, ◌++◌, ℤ, List, Some, take}
 use Rattle.csv.specs.Records.{fields_of}
-use Rattle.batch_files.specs.Feeds.{numbers_of}
+use Rattle.batch_files.specs.meaning.Feeds.{numbers_of}
 use Rattle.batch_files.proofs.feeds.push_numbers.Given as goal
 
 -- the numbers of the fields so far were pushed

@@ -1,5 +1,5 @@
 use Rattle.std.proofs.Common.{◌∙◌, Ok, ap, sym}
-use Rattle.batch_files.specs.Rows.{rows_of}
+use Rattle.batch_files.specs.meaning.Rows.{rows_of}
 use Rattle.batch_files.proofs.CellFacts.{meaning}
 use Rattle.batch_files.proofs.records.read_records.Goals as goal
 

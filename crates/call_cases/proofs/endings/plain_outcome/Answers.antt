@@ -1,5 +1,5 @@
 use Rattle.std.proofs.Common.{refl}
-use Rattle.call_cases.specs.Answers.{change_of}
+use Rattle.call_cases.specs.meaning.Answers.{change_of}
 use Rattle.call_cases.proofs.Headlines.{put_whole, put_stopped}
 use Rattle.call_cases.proofs.endings.plain_outcome.Goals as goal
 

@@ -1,6 +1,6 @@
 use Rattle.std.proofs.Common.{inl, refl, subst, sym, ◌∙◌}
-use Rattle.call_cases.specs.Answers.{change_of, TakesAll}
-use Rattle.call_cases.specs.Lines.{usage_line}
+use Rattle.call_cases.specs.meaning.Answers.{change_of, TakesAll}
+use Rattle.call_cases.specs.meaning.Lines.{usage_line}
 use Rattle.call_cases.specs.Refusals.{RefusalEnds, usage_told, program_told, input_told, read_told, TellsRefusal}
 use Rattle.call_cases.proofs.RefusalLines.{ends_by_line, ends_by_memory}
 use Rattle.call_cases.proofs.endings.refuse.Goals as goal

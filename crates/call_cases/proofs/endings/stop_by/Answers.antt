@@ -1,5 +1,6 @@
 use Rattle.std.proofs.Common.{sym, subst}
-use Rattle.call_cases.specs.Answers.{StopsBy, change_of}
+use Rattle.call_cases.specs.meaning.Answers.{change_of}
+use Rattle.call_cases.specs.Answers.{StopsBy}
 use Rattle.call_cases.proofs.endings.stop_by.Goals as goal
 
 pub returns-in-Failed : goal.returns-in-Failed

@@ -1,5 +1,6 @@
 use Rattle.std.proofs.Common.{◌≡◌, [], IfSome, take, drop}
-use Rattle.call_cases.specs.InputFiles.{nothing, room_after, load, file_names}
+use Rattle.call_cases.specs.meaning.InputFiles.{nothing, room_after, load}
+use Rattle.call_cases.specs.InputFiles.{file_names}
 use Rattle.call_cases.specs.inner.Loading.{AreReadable, Counts, seen}
 use Rattle.call_cases.proofs.inputs.read_inputs.Given as goal
 

@@ -1,6 +1,6 @@
 use Rattle.std.proofs.Common.{sym, subst}
 use Rattle.task_ast.specs.View.{plain_program}
-use Rattle.task_parser.specs.Spelling.{Spells}
+use Rattle.task_parser.specs.meaning.Spelling.{Spells}
 use Rattle.task_parser.proofs.ShapedSpelling.{spelled_is_shaped}
 use Rattle.call_cases.proofs.Refused.{decided_lexing, decided_parsing, decided_checking}
 use Rattle.call_cases.proofs.reading.program_in.Goals as goal

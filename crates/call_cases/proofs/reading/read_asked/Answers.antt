@@ -1,9 +1,9 @@
 use Rattle.std.proofs.Common.{ap, Err, subst}
 use Rattle.task_ast.specs.View.{plain_program}
 use Rattle.lock_checker.specs.Accepted.{program_of}
-use Rattle.task_parser.specs.Spelling.{Spells}
+use Rattle.task_parser.specs.meaning.Spelling.{Spells}
 use Rattle.call_cases.specs.Decided.{IsAcceptedIn}
-use Rattle.call_cases.specs.RunCommands.{the_program}
+use Rattle.call_cases.specs.meaning.RunCommands.{the_program}
 use Rattle.call_cases.proofs.Refused.{long_case, unread_answers, refused_answers, accepted_answers}
 use Rattle.call_cases.proofs.reading.read_asked.Goals as goal
 

@@ -1,9 +1,9 @@
 use Rattle.std.proofs.Common.{◌≡◌, Some, None, sym, subst}
-use Rattle.command_line.specs.Words.{texts, asked_by}
+use Rattle.command_line.specs.meaning.Words.{texts, asked_by}
 use Rattle.call_cases.specs.Decided.{case_of}
 use Rattle.call_cases.specs.Refusals.{TouchesShelf}
-use Rattle.call_cases.specs.RunCommands.{MayRead, asking, commands}
-use Rattle.call_cases.specs.Headline.{ReadsNothing}
+use Rattle.call_cases.specs.meaning.RunCommands.{MayRead, asking, commands}
+use Rattle.call_cases.specs.meaning.Headline.{ReadsNothing}
 use Rattle.call_cases.proofs.Answering.{usage_case, asked_case}
 use Rattle.call_cases.proofs.reading.read_request.Goals as goal
 

@@ -5,7 +5,7 @@ use Rattle.task_ast.specs.View.{plain_program}
 use Rattle.lock_checker.specs.Accepted.{program_of}
 use Rattle.std.specs.declared.option.Option.TheVariants.{Some}
 use Rattle.call_cases.specs.Refusals.{RefusesShelf}
-use Rattle.call_cases.specs.RunCommands.{MayRead}
+use Rattle.call_cases.specs.meaning.RunCommands.{MayRead}
 use Rattle.call_cases.proofs.Refused.{loaded_err, loaded_reads, struck_err, struck_reads}
 use Rattle.call_cases.proofs.reading.request_of.Goals as goal
 

@@ -1,7 +1,7 @@
 use Rattle.std.proofs.Common.{◌∙◌, ap, Some, None}
 use Rattle.std.proofs.lemmas.Result.{IfOk-weaker}
 use Rattle.clap.specs.Words.{app_of, is_simple_and_free}
-use Rattle.command_line.specs.Words.{texts, app_for}
+use Rattle.command_line.specs.meaning.Words.{texts, app_for}
 use Rattle.command_line.proofs.AskedFacts.{simple_app, parsed_by, asked_taken, asked_refused}
 use Rattle.command_line.proofs.asked.asked_of.Goals as goal
 

@@ -1,6 +1,6 @@
 use Rattle.std.proofs.Common.{ap, sym, ◌∙◌}
 use Rattle.std.proofs.lemmas.Result.{IfOk-weaker}
-use Rattle.command_line.specs.Words.{app_for, with_limits}
+use Rattle.command_line.specs.meaning.Words.{app_for, with_limits}
 use Rattle.command_line.proofs.asked.parser_for.Goals as goal
 
 pub returns-in-Run : goal.returns-in-Run

@@ -1,6 +1,6 @@
 use Rattle.std.proofs.Common.{◌∙◌, ap, sym}
 use Rattle.std.proofs.lemmas.Result.{IfOk-weaker}
-use Rattle.command_line.specs.Words.{named_verb}
+use Rattle.command_line.specs.meaning.Words.{named_verb}
 use Rattle.command_line.proofs.AskedFacts.{asked_first}
 use Rattle.command_line.proofs.asked.read_among.Goals as goal
 

@@ -1,8 +1,8 @@
 use Rattle.std.proofs.Common.{◌∙◌, ap, ap₂}
 use Rattle.std.proofs.lemmas.Result.{IfOk-weaker}
 use Rattle.clap.specs.Words.{with_rule}
-use Rattle.command_line.specs.Words.{with_limits}
-use Rattle.command_line.specs.AuditWords.{for_audit}
+use Rattle.command_line.specs.meaning.Words.{with_limits}
+use Rattle.command_line.specs.meaning.AuditWords.{for_audit}
 use Rattle.command_line.proofs.audit_words.for_audit.Goals as goal
 
 pub returns : goal.returns

@@ -1,8 +1,8 @@
 use Rattle.std.proofs.Common.{◌∙◌, ap, ap₂}
 use Rattle.std.proofs.lemmas.Result.{IfOk-weaker}
 use Rattle.clap.specs.Words.{with_rule}
-use Rattle.command_line.specs.Words.{with_limits, with_crew}
-use Rattle.command_line.specs.LogWords.{for_log}
+use Rattle.command_line.specs.meaning.Words.{with_limits, with_crew}
+use Rattle.command_line.specs.meaning.LogWords.{for_log}
 use Rattle.command_line.proofs.log_words.for_log.Goals as goal
 
 pub returns : goal.returns

@@ -1,8 +1,8 @@
 use Rattle.std.proofs.Common.{◌∙◌, ap, ap₂}
 use Rattle.std.proofs.lemmas.Result.{IfOk-weaker}
 use Rattle.clap.specs.Words.{with_rule}
-use Rattle.command_line.specs.Words.{with_limits}
-use Rattle.command_line.specs.WhyWords.{for_why}
+use Rattle.command_line.specs.meaning.Words.{with_limits}
+use Rattle.command_line.specs.meaning.WhyWords.{for_why}
 use Rattle.command_line.proofs.why_words.for_why.Goals as goal
 
 pub returns : goal.returns

@@ -1,8 +1,8 @@
 use Rattle.std.proofs.Common.{◌≡◌, ◌∙◌, ap, refl, true, Some, None}
 use Rattle.std.proofs.lemmas.Result.{IfOk-weaker}
 use Rattle.clap.specs.Words.{app_of, is_simple_and_free}
-use Rattle.command_line.specs.Words.{texts}
-use Rattle.command_line.specs.WhyWords.{for_why, sought_in}
+use Rattle.command_line.specs.meaning.Words.{texts}
+use Rattle.command_line.specs.meaning.WhyWords.{for_why, sought_in}
 use Rattle.command_line.proofs.AskedFacts.{parsed_by, read_taken, read_refused}
 use Rattle.command_line.proofs.why_words.sought_of.Goals as goal
 

@@ -1,4 +1,4 @@
-use Rattle.dependence.specs.Journal.{initial_stage}
+use Rattle.dependence.specs.meaning.Journal.{initial_stage}
 use Rattle.dependence.proofs.Journals.{LawfulFrom-front, LawfulFrom-push, stage_from-push, restarts-first, restarts-next, restarts-all}
 use Rattle.dependence.proofs.laws.journal_laws.Goals as goal
 

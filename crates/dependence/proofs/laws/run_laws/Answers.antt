@@ -1,6 +1,6 @@
-use Rattle.dependence.specs.Conflict.{clash_in}
+use Rattle.dependence.specs.meaning.Conflict.{clash_in}
 use Rattle.dependence.specs.Dependents.{itself}
-use Rattle.dependence.specs.Runs.{feet_of}
+use Rattle.dependence.specs.meaning.Runs.{feet_of}
 use Rattle.dependence.proofs.DependentSets.{dependents-are}
 use Rattle.dependence.proofs.Standing.{run-redoes, run-later, run-clean, run-stands}
 use Rattle.dependence.proofs.laws.run_laws.Goals as goal

@@ -1,5 +1,5 @@
 use Rattle.std.proofs.Common.{◌≡◌}
-use Rattle.dependence.specs.Restarts.{progress}
+use Rattle.dependence.specs.meaning.Restarts.{progress}
 use Rattle.gp_audit.specs.Steps.{dependence_by}
 use Rattle.gp_audit.specs.inner.Audited.{kept}
 use Rattle.gp_audit.specs.inner.Replayed.{Replays, progress_in}

@@ -2,10 +2,10 @@ use Rattle.std.proofs.Common.{◌≡◌, ◌≤◌, ◌+◌, List, ◌∷◌, �
 use Rattle.std.proofs.lemmas.List.{take_all, take_more, take-append-drop, length-take-le}
 use Rattle.std.proofs.lemmas.Bool.{false≢true}
 use Rattle.gp_base.specs.declared.fault.Fault.{Fault}
-use Rattle.dependence.specs.Journal.{Complete}
+use Rattle.dependence.specs.meaning.Journal.{Complete}
 use Rattle.dependence.specs.Standing.{AreShort}
 use Rattle.gp_audit.specs.Steps.{dependence_by}
-use Rattle.gp_audit.specs.Verdicts.{events_of, LawfulLines}
+use Rattle.gp_audit.specs.meaning.Verdicts.{events_of, LawfulLines}
 use Rattle.gp_audit.specs.inner.Audited.{Audited, kept, Takes, after_line}
 use Rattle.gp_audit.specs.inner.Told.{Told}
 use Rattle.gp_audit.proofs.Audits.{told-within, told-noteworthy, told-next, told-stops, told-whole, same-steps, of-given}

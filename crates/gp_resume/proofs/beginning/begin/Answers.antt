@@ -1,6 +1,6 @@
 use Rattle.std.proofs.Common.{◌∙◌, ◌++◌, [], ◌∷◌, ap, length, refl}
-use Rattle.task_ast.specs.Names.{registers_of}
-use Rattle.task_ast.specs.Plain.{main_task}
+use Rattle.task_ast.specs.meaning.Names.{registers_of}
+use Rattle.task_ast.specs.meaning.Plain.{main_task}
 use Rattle.record_store.specs.Stored.{with_thread, without_threads}
 use Rattle.subthread.specs.Tasks.{program_in}
 use Rattle.gp_resume.proofs.Openings.{stands-opening}

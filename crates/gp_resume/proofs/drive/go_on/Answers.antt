@@ -1,5 +1,5 @@
 use Rattle.std.proofs.Common.{subst, arith}
-use Rattle.task_ast.specs.Plain.{Plain, Subthread}
+use Rattle.task_ast.specs.meaning.Plain.{Plain, Subthread}
 use Rattle.gp_resume.specs.inner.Course.{Stands, Begins, Ended, Gives}
 use Rattle.gp_resume.proofs.Onward.{went-first, went-part, unposted, went-then, stops-part, stops-some, left-falls, went-ends, ends-written, ends-posted}
 use Rattle.gp_resume.proofs.drive.go_on.Goals as goal

@@ -1,11 +1,11 @@
 use Rattle.std.proofs.Common.{rules, List, length, subst}
 use Rattle.std.specs.Io.KnownBytes.{Appends}
-use Rattle.gp_base.specs.Sinks.{AppendsPrefix}
-use Rattle.restart_log.specs.Lines.{printed}
-use Rattle.retirement_log.specs.Rows.{Row}
+use Rattle.gp_base.specs.meaning.Sinks.{AppendsPrefix}
+use Rattle.restart_log.specs.meaning.Lines.{printed}
+use Rattle.retirement_log.specs.meaning.Rows.{Row}
 use Rattle.subthread.specs.Tasks.{program_in}
-use Rattle.gp_resume.specs.Reading.{IsLogOf}
-use Rattle.gp_resume.specs.Resumed.{lines, count}
+use Rattle.gp_resume.specs.meaning.Reading.{IsLogOf}
+use Rattle.gp_resume.specs.meaning.Resumed.{lines, count}
 use Rattle.gp_resume.specs.Resuming.{IsRefused, ReportsRest, IsEachOnce, AreSomeOnce}
 use Rattle.gp_resume.specs.inner.Going.{Replays}
 use Rattle.gp_resume.proofs.Reports.{none-once, log-bytes, all-reports, all-lines, all-partly, all-posts, all-some, told-answers}

@@ -1,9 +1,9 @@
 use Rattle.std.proofs.Common.{ℤ, pos, get_or, SFits, w64, rules, sym, ◌∙◌}
 use Rattle.std.proofs.lemmas.Bool.{false≢true}
 use Rattle.std.proofs.lemmas.Int.{to_z-of_z}
-use Rattle.task_ast.specs.Layout.{layout}
+use Rattle.task_ast.specs.meaning.Layout.{layout}
 use Rattle.task_code.specs.Flat.{code_of}
-use Rattle.gp_resume.specs.Fitting.{StandsUnder}
+use Rattle.gp_resume.specs.meaning.Fitting.{StandsUnder}
 use Rattle.gp_resume.proofs.UnderHeld.{each-more}
 use Rattle.gp_resume.proofs.fitting.all_stand_under.Goals as goal
 

@@ -5,17 +5,17 @@ use Rattle.std.specs.FinMap.{is_sorted}
 use Rattle.std.specs.List.Sorted.{IsStrictlyIncreasing}
 use Rattle.std.proofs.lemmas.Bool.{false≢true}
 use Rattle.std.proofs.lemmas.Int.{to_z-of_z}
-use Rattle.task_ast.specs.Tree.{Program}
-use Rattle.task_ast.specs.Layout.{layout}
+use Rattle.task_ast.specs.meaning.Tree.{Program}
+use Rattle.task_ast.specs.meaning.Layout.{layout}
 use Rattle.task_ast.specs.declared.sync.Next.{Next}
-use Rattle.task_ast.specs.State.{State, RegistersOf}
-use Rattle.task_ast.specs.Plain.{Subthread, Plain}
+use Rattle.task_ast.specs.meaning.State.{State, RegistersOf}
+use Rattle.task_ast.specs.meaning.Plain.{Subthread, Plain}
 use Rattle.record_store.specs.Stored.{state_of}
 use Rattle.subthread.specs.Tasks.{program_in}
 use Rattle.gp_resume.specs.declared.course.Plan.{Plan}
 use Rattle.gp_resume.specs.declared.course.Course.{Course}
 use Rattle.gp_resume.specs.declared.course.Begun.{Begun}
-use Rattle.gp_resume.specs.Fitting.{StandsUnder, child_registers}
+use Rattle.gp_resume.specs.meaning.Fitting.{StandsUnder, child_registers}
 use Rattle.gp_resume.specs.inner.Course.{Begins}
 use Rattle.gp_resume.specs.inner.RowsRead.{write_in}
 use Rattle.gp_resume.proofs.Tasks.{rising}

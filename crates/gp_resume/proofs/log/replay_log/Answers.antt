@@ -3,9 +3,9 @@ use Rattle.std.specs.Int.{int_max}
 use Rattle.std.proofs.lemmas.Bool.{false≢true}
 use Rattle.std.proofs.lemmas.Int.{to_z-of_z, ints, clamps}
 use Rattle.subthread.specs.Tasks.{program_in}
-use Rattle.retirement_log.specs.Rows.{row_text}
-use Rattle.gp_resume.specs.Fitting.{resumed_at}
-use Rattle.gp_resume.specs.Reading.{IsWideRow}
+use Rattle.retirement_log.specs.meaning.Rows.{row_text}
+use Rattle.gp_resume.specs.meaning.Fitting.{resumed_at}
+use Rattle.gp_resume.specs.meaning.Reading.{IsWideRow}
 use Rattle.gp_resume.specs.inner.RowsRead.{row_in}
 use Rattle.gp_resume.proofs.Numerals.{kept}
 use Rattle.gp_resume.proofs.RowsReplayed.{last_row, count-within, least-here, unfit-at, one-replayed}
@@ -14,7 +14,8 @@ use Rattle.gp_resume.proofs.log.replay_log.Goals.{In-Some, In_ok-replay_row}
 
 pub overflow_add-number : goal.overflow_add-number
 overflow_add-number c =
-    let few = count-within c.args.plan.now c.args.log.now c.replaying.rest.now c.replaying.logged c.replaying.course c.replaying.invariant in
+    let few =
+    count-within c.args.plan.now c.args.log.now c.replaying.rest.now c.replaying.logged c.replaying.course c.replaying.invariant in
     let short = c.requires.short in
     omega arith
 

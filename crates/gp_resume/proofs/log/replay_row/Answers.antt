@@ -1,13 +1,13 @@
 use Rattle.std.proofs.Common.{pos, [], SFits, w64, rules, Option, Some, refl, sym, ◌∙◌, subst}
 use Rattle.std.proofs.lemmas.Bool.{false≢true}
 use Rattle.std.proofs.lemmas.Int.{to_z-of_z}
-use Rattle.task_ast.specs.Plain.{Subthread, Plain, move}
+use Rattle.task_ast.specs.meaning.Plain.{Subthread, Plain, move}
 use Rattle.subthread.specs.Tasks.{program_in}
-use Rattle.retirement_log.specs.Rows.{Row}
+use Rattle.retirement_log.specs.meaning.Rows.{Row}
 use Rattle.gp_resume.specs.declared.course.Plan.{Plan}
 use Rattle.gp_resume.specs.declared.course.Course.{Course}
 use Rattle.gp_resume.specs.declared.course.Begun.{Begun}
-use Rattle.gp_resume.specs.Fitting.{FitsIssue, FitsMove}
+use Rattle.gp_resume.specs.meaning.Fitting.{FitsIssue, FitsMove}
 use Rattle.gp_resume.specs.inner.Course.{Stands, Begins}
 use Rattle.gp_resume.specs.inner.RowsRead.{row_in}
 use Rattle.gp_resume.proofs.log.replay_row.Goals as goal
@@ -61,7 +61,8 @@ returns-clause-fits c x before stands least =
     let plan = c.args.plan.now in
     let next = begun-of (goal.at.returns-clause-fits c).In-Goes x stands in
     let test = c.in_ok-fits.ensures x next.0 next.1.0 before next.1.1 (to_z-of_z w64 c.args.least wide ∙ least) in (
-      λ fit. fits-move plan x next.0 next.1.0 c.in-Goes.begun c.next.new.self next.1.1 before (row_in c.args.row) (test.0 c.if-not-branch.false),
+      λ fit. fits-move plan x next.0 next.1.0 c.in-Goes.begun c.next.new.self next.1.1 before (row_in c.args.row)
+          (test.0 c.if-not-branch.false),
       λ fits. refl,
     )
 

@@ -1,8 +1,8 @@
 use Rattle.std.proofs.Common.{◌≡◌, ℕ, ℤ, true, false, List, length, map, sym, ap, ◌∙◌, subst}
 use Rattle.std.specs.Prelude.{All}
 use Rattle.std.specs.List.Sorted.{IsStrictlyIncreasing}
-use Rattle.task_ast.specs.Effect.{after}
-use Rattle.task_ast.specs.Under.{under_lock, is_under}
+use Rattle.task_ast.specs.meaning.Effect.{after}
+use Rattle.task_ast.specs.meaning.Under.{under_lock, is_under}
 use Rattle.record_store.specs.declared.effect.Effect as left
 use Rattle.record_store.specs.declared.given.Bundle.{Bundle}
 use Rattle.record_store.specs.Given.{bundle_of}
@@ -10,7 +10,7 @@ use Rattle.record_store.specs.Lent.{marked, lock_in, put_back, new_write, whole_
 use Rattle.record_store.specs.Stored.{Stored, state_of, IsAtHome}
 use Rattle.subthread.proofs.HeldLocks.{bundle_locks, bundle_sizes}
 use Rattle.subthread.proofs.Lendings.{came-locks, may-come, home-again}
-use Rattle.gp_resume.specs.Fitting.{StandsUnder}
+use Rattle.gp_resume.specs.meaning.Fitting.{StandsUnder}
 use Rattle.gp_resume.specs.inner.RowsRead.{write_in, with_cells}
 use Rattle.gp_resume.proofs.Replays.{all-under}
 use Rattle.gp_resume.proofs.replay.leave_data.Goals as goal
@@ -92,7 +92,8 @@ returns-clause-state c =
     (state_of (c.lend.ensures.store i)))
     ∙ ap (λ e. after e (state_of c.args.store.now))
     (effect-is c.args.store.now _ c.requires.layout c.args.held.now c.into_seq.result lent c.requires.home c.in_ok-bundles.bundles
-    c.in_ok-bundles.old back.came c.args.effect c.args.cells.now c.deref.result.now back.written (c.deref.ensures.value ∙ c.in_ok-writes.ensures))
+    c.in_ok-bundles.old back.came c.args.effect c.args.cells.now c.deref.result.now back.written
+    (c.deref.ensures.value ∙ c.in_ok-writes.ensures))
 
 pub returns-clause-away : goal.returns-clause-away
 returns-clause-away c =

@@ -1,6 +1,6 @@
 use Rattle.std.proofs.Common.{Result, Ok, Err, refl, ap, ◌∙◌}
 use Rattle.std.specs.Prelude.{OnOk}
-use Rattle.task_ast.specs.Effect.{after}
+use Rattle.task_ast.specs.meaning.Effect.{after}
 use Rattle.record_store.specs.Stored.{state_of}
 use Rattle.gp_resume.specs.inner.RowsRead.{row_in, with_cells}
 use Rattle.gp_resume.proofs.Replays.{effect-said}

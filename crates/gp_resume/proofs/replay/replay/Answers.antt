@@ -3,7 +3,7 @@ use Rattle.std.specs.Prelude.{All}
 use Rattle.task_code.specs.Reading.{Place}
 use Rattle.record_store.specs.Stored.{Stored, state_of, SameShape}
 use Rattle.subthread.specs.Tasks.{under_of}
-use Rattle.gp_resume.specs.Fitting.{StandsUnder}
+use Rattle.gp_resume.specs.meaning.Fitting.{StandsUnder}
 use Rattle.gp_resume.specs.inner.RowsRead.{row_in}
 use Rattle.gp_resume.proofs.Tasks.{rising, at-home, begun-thread, begun-child}
 use Rattle.gp_resume.proofs.Replays.{stands-replayed}

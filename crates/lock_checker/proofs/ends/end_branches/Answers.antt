@@ -1,8 +1,8 @@
 use Rattle.std.proofs.Common.{◌∙◌, ap, subst, [], ◌∷◌, Some, None}
 use Rattle.std.specs.Prelude.{not, if◌then◌else◌}
 use Rattle.task_ast.specs.declared.check_kind.CheckKind.TheVariants.{BranchesDiffer}
-use Rattle.task_ast.specs.Held.{same_pairs}
-use Rattle.task_ast.specs.Visit.{visit, fails_if}
+use Rattle.task_ast.specs.meaning.Held.{same_pairs}
+use Rattle.task_ast.specs.meaning.Visit.{visit, fails_if}
 use Rattle.lock_checker.specs.inner.Faults.{Walks}
 use Rattle.lock_checker.specs.inner.Pairs.{pairs_of, TellsAlike}
 use Rattle.lock_checker.proofs.EndLemmas.{told_between, end_told, both_held}

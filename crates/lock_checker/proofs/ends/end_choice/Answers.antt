@@ -1,5 +1,5 @@
 use Rattle.std.proofs.Common.{[], ◌∷◌, refl, subst, sym}
-use Rattle.task_ast.specs.Visit.{visit}
+use Rattle.task_ast.specs.meaning.Visit.{visit}
 use Rattle.lock_checker.specs.inner.Faults.{WalksAside}
 use Rattle.lock_checker.specs.inner.Pairs.{pairs_of, Moves}
 use Rattle.lock_checker.proofs.EndLemmas.{told_between, none_after, unchanged}

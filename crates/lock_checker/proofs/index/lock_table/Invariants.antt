@@ -1,6 +1,6 @@
 use Rattle.std.proofs.Common.{◌≡◌, drop}
-use Rattle.task_ast.specs.Tree as plain
-use Rattle.task_ast.specs.Names.{named, locks_of}
+use Rattle.task_ast.specs.meaning.Tree as plain
+use Rattle.task_ast.specs.meaning.Names.{named, locks_of}
 use Rattle.lock_checker.specs.inner.Tables.{found, or_else}
 use Rattle.lock_checker.proofs.index.lock_table.Given as goal
 

@@ -1,6 +1,6 @@
 use Rattle.std.proofs.Common.{◌≡◌, [], map}
 use Rattle.lock_checker.specs.inner.Positions.{positions}
-use Rattle.task_ast.specs.Table.{numbers}
+use Rattle.task_ast.specs.meaning.Table.{numbers}
 use Rattle.lock_checker.proofs.layout.empty_lists.Given as goal
 
 abbrev pub invariant-loop-lock : goal.invariant-loop-lock

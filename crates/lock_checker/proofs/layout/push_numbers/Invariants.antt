@@ -1,5 +1,5 @@
 use Rattle.std.proofs.Common.{◌≡◌, ◌++◌}
-use Rattle.task_ast.specs.Table.{numbers}
+use Rattle.task_ast.specs.meaning.Table.{numbers}
 use Rattle.lock_checker.proofs.layout.push_numbers.Given as goal
 
 abbrev pub invariant-loop-k : goal.invariant-loop-k

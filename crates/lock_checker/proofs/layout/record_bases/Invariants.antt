@@ -1,7 +1,7 @@
 use Rattle.std.proofs.Common.{◌≡◌, ◌+◌, drop}
 use Rattle.std.specs.Prelude.{option_map}
-use Rattle.task_ast.specs.Tree as plain
-use Rattle.task_ast.specs.Names.{records_of, cells_in}
+use Rattle.task_ast.specs.meaning.Tree as plain
+use Rattle.task_ast.specs.meaning.Names.{records_of, cells_in}
 use Rattle.task_ast.specs.Layout.{base_of}
 use Rattle.lock_checker.specs.inner.Tables.{found, or_else}
 use Rattle.lock_checker.proofs.layout.record_bases.Given as goal

@@ -1,7 +1,7 @@
 use Rattle.std.proofs.Common.{◌≡◌, drop, map}
-use Rattle.task_ast.specs.Check.{bodies_visits}
+use Rattle.task_ast.specs.meaning.Check.{bodies_visits}
 use Rattle.task_ast.specs.View.{plain_task, plain_program}
-use Rattle.task_ast.specs.Visit.{first_fault}
+use Rattle.task_ast.specs.meaning.Visit.{first_fault}
 use Rattle.lock_checker.proofs.program.check_bodies.Given as goal
 
 -- the bodies left tell the rest

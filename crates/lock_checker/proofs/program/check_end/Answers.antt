@@ -1,7 +1,7 @@
 use Rattle.std.proofs.Common.{◌∙◌, ◌∷◌, [], None, ap}
 use Rattle.std.specs.Prelude.{if◌then◌else◌}
 use Rattle.task_ast.specs.declared.check_kind.CheckKind.TheVariants.{HeldAtEnd}
-use Rattle.task_ast.specs.Visit.{fault_at}
+use Rattle.task_ast.specs.meaning.Visit.{fault_at}
 use Rattle.lock_checker.specs.inner.Pairs.{pairs_in}
 use Rattle.lock_checker.proofs.ChangeLemmas.{end_held}
 use Rattle.lock_checker.proofs.program.check_end.Goals as goal

@@ -1,9 +1,9 @@
 use Rattle.std.proofs.Common.{◌≡◌, ◌+◌, ◌<◌, ◌≤◌, ◌∙◌, ap, sym, subst, length, get_or, take, drop, rules}
 use Rattle.gp_base.specs.declared.limits.TheConstants.{MOST_CELLS}
 use Rattle.std.specs.Prelude.{Some, None}
-use Rattle.task_ast.specs.Declarations.{head_visit, head_visits}
+use Rattle.task_ast.specs.meaning.Declarations.{head_visit, head_visits}
 use Rattle.task_ast.specs.View.{plain_program}
-use Rattle.task_ast.specs.Visit.{first_fault}
+use Rattle.task_ast.specs.meaning.Visit.{first_fault}
 use Rattle.lock_checker.specs.inner.Heads.{AreHeads}
 use Rattle.lock_checker.specs.inner.Faults.{lowest}
 use Rattle.lock_checker.proofs.HeadLemmas.{heads_more, heads_later, head_told, locks_kept, records_kept}

@@ -1,8 +1,8 @@
 use Rattle.std.proofs.Common.{◌≡◌, ◌≤◌, [], take, drop}
 use Rattle.gp_base.specs.declared.limits.TheConstants.{MOST_CELLS}
-use Rattle.task_ast.specs.Declarations.{head_visits}
+use Rattle.task_ast.specs.meaning.Declarations.{head_visits}
 use Rattle.task_ast.specs.View.{plain_program}
-use Rattle.task_ast.specs.Visit.{first_fault}
+use Rattle.task_ast.specs.meaning.Visit.{first_fault}
 use Rattle.lock_checker.specs.inner.Heads.{AreHeads}
 use Rattle.lock_checker.proofs.program.check_heads.Given as goal
 

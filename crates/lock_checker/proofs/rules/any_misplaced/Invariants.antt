@@ -1,7 +1,7 @@
 use Rattle.std.proofs.Common.{◌≡◌, drop}
 use Rattle.std.specs.Prelude.{zip}
 use Rattle.std.specs.List.{list_any}
-use Rattle.task_ast.specs.Declarations.{is_misplaced}
+use Rattle.task_ast.specs.meaning.Declarations.{is_misplaced}
 use Rattle.task_ast.specs.View.{plain_exprs}
 use Rattle.lock_checker.proofs.rules.any_misplaced.Given as goal
 

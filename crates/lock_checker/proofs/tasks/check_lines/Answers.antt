@@ -1,9 +1,9 @@
 use Rattle.std.proofs.Common.{◌≡◌, ◌+◌, ◌++◌, ◌<◌, ◌∙◌, length, ap, sym, subst, take, drop}
 use Rattle.gp_base.specs.declared.limits.TheConstants.{MOST_VARIABLES}
 use Rattle.std.proofs.lemmas.List.{length-append}
-use Rattle.task_ast.specs.Names.{declared_in}
-use Rattle.task_ast.specs.Declarations.{has_double, vars_visits}
-use Rattle.task_ast.specs.Visit.{first_fault}
+use Rattle.task_ast.specs.meaning.Names.{declared_in}
+use Rattle.task_ast.specs.meaning.Declarations.{has_double, vars_visits}
+use Rattle.task_ast.specs.meaning.Visit.{first_fault}
 use Rattle.lock_checker.specs.inner.TaskVariables.{AreVariables}
 use Rattle.lock_checker.proofs.VariableLemmas.{declared_more}
 use Rattle.lock_checker.proofs.TaskLemmas.{lines_later}

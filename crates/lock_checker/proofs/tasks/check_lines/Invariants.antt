@@ -1,8 +1,8 @@
 use Rattle.std.proofs.Common.{◌≡◌, ◌++◌, ◌<◌, length, take, drop}
 use Rattle.gp_base.specs.declared.limits.TheConstants.{MOST_VARIABLES}
-use Rattle.task_ast.specs.Names.{declared_in}
-use Rattle.task_ast.specs.Declarations.{vars_visits}
-use Rattle.task_ast.specs.Visit.{first_fault}
+use Rattle.task_ast.specs.meaning.Names.{declared_in}
+use Rattle.task_ast.specs.meaning.Declarations.{vars_visits}
+use Rattle.task_ast.specs.meaning.Visit.{first_fault}
 use Rattle.lock_checker.specs.inner.TaskVariables.{AreVariables}
 use Rattle.lock_checker.proofs.tasks.check_lines.Given as goal
 

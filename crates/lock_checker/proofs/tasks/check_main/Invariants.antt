@@ -1,7 +1,7 @@
 use Rattle.std.proofs.Common.{◌≡◌, drop, map}
 use Rattle.std.specs.Prelude.{find}
-use Rattle.task_ast.specs.Names.{is_task}
-use Rattle.task_ast.specs.Declarations.{main}
+use Rattle.task_ast.specs.meaning.Names.{is_task}
+use Rattle.task_ast.specs.meaning.Declarations.{main}
 use Rattle.task_ast.specs.View.{plain_task}
 use Rattle.lock_checker.proofs.tasks.check_main.Given as goal
 

@@ -1,9 +1,9 @@
 use Rattle.std.proofs.Common.{◌≡◌, ◌+◌, ◌++◌, ◌∙◌, ap, sym, subst, take, drop, map}
 use Rattle.std.specs.Prelude.{is_some}
-use Rattle.task_ast.specs.Names.{is_among}
-use Rattle.task_ast.specs.Declarations.{task_visits}
+use Rattle.task_ast.specs.meaning.Names.{is_among}
+use Rattle.task_ast.specs.meaning.Declarations.{task_visits}
 use Rattle.task_ast.specs.View.{plain_task}
-use Rattle.task_ast.specs.Visit.{first_fault}
+use Rattle.task_ast.specs.meaning.Visit.{first_fault}
 use Rattle.lock_checker.specs.inner.Heads.{HasNames}
 use Rattle.lock_checker.specs.inner.TaskNames.{names_of}
 use Rattle.lock_checker.proofs.HeadLemmas.{names_with}

@@ -1,8 +1,8 @@
 use Rattle.std.proofs.Common.{◌≡◌, List, ◌++◌, map, take, drop}
-use Rattle.task_ast.specs.Tree.{Name}
-use Rattle.task_ast.specs.Declarations.{task_visits}
+use Rattle.task_ast.specs.meaning.Tree.{Name}
+use Rattle.task_ast.specs.meaning.Declarations.{task_visits}
 use Rattle.task_ast.specs.View.{plain_task}
-use Rattle.task_ast.specs.Visit.{first_fault}
+use Rattle.task_ast.specs.meaning.Visit.{first_fault}
 use Rattle.lock_checker.specs.inner.Heads.{HasNames}
 use Rattle.lock_checker.specs.inner.TaskNames.{names_of}
 use Rattle.lock_checker.proofs.tasks.check_tasks.Given as goal

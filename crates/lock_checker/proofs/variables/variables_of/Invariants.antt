@@ -1,5 +1,5 @@
 use Rattle.std.proofs.Common.{◌++◌, take}
-use Rattle.task_ast.specs.Names.{declared_in}
+use Rattle.task_ast.specs.meaning.Names.{declared_in}
 use Rattle.lock_checker.specs.inner.TaskVariables.{AreVariables}
 use Rattle.lock_checker.proofs.variables.variables_of.Given as goal
 

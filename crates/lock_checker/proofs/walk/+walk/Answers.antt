@@ -2,10 +2,10 @@ use Rattle.std.proofs.Common.{◌≡◌, ◌∙◌, ◌++◌, [], ◌∷◌, ◌
 use Rattle.std.proofs.Math.ListN.{drop_of_length-le}
 use Rattle.std.proofs.lemmas.List.{map-append}
 use Rattle.task_ast.specs.declared.tree.What.{the_lemmas}
-use Rattle.task_ast.specs.Check.{visits_in}
-use Rattle.task_ast.specs.Held.{has, held_after, held_at_end}
+use Rattle.task_ast.specs.meaning.Check.{visits_in}
+use Rattle.task_ast.specs.meaning.Held.{has, held_after, held_at_end}
 use Rattle.task_ast.specs.View.{plain_stmt, plain_what, plain_block}
-use Rattle.task_ast.specs.Visit.{visit, first_fault}
+use Rattle.task_ast.specs.meaning.Visit.{visit, first_fault}
 use Rattle.lock_checker.specs.inner.Scopes.{scope_of}
 use Rattle.lock_checker.specs.inner.Pairs.{pair_of, pairs_of, pairs_in, Leads}
 use Rattle.lock_checker.proofs.BlockLemmas.{told_here, found_later, ends_later, moves_same, choice_held, choice_visits}

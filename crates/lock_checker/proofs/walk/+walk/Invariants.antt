@@ -1,7 +1,7 @@
 use Rattle.std.proofs.Common.{◌≡◌, drop}
-use Rattle.task_ast.specs.Visit.{first_fault}
-use Rattle.task_ast.specs.Check.{visits_in}
-use Rattle.task_ast.specs.Held.{held_at_end}
+use Rattle.task_ast.specs.meaning.Visit.{first_fault}
+use Rattle.task_ast.specs.meaning.Check.{visits_in}
+use Rattle.task_ast.specs.meaning.Held.{held_at_end}
 use Rattle.task_ast.specs.View.{plain_block}
 use Rattle.lock_checker.specs.inner.Scopes.{scope_of}
 use Rattle.lock_checker.specs.inner.Pairs.{pairs_of, pairs_in, Leads, HaveSame}

@@ -1,5 +1,5 @@
 use Rattle.std.proofs.Common.{◌≡◌, ◌+◌, ◌≤◌, drop, option_map, position}
-use Rattle.task_ast.specs.Names.{is_name, barriers_of}
+use Rattle.task_ast.specs.meaning.Names.{is_name, barriers_of}
 use Rattle.one_thread.proofs.cells.barrier_number.Given as goal
 
 abbrev pub invariant-loop-head : goal.invariant-loop-head

@@ -1,5 +1,5 @@
 use Rattle.std.proofs.Common.{◌≡◌, ◌+◌, drop, option_map}
-use Rattle.task_ast.specs.Names.{locks_of, cells_in, cell_number}
+use Rattle.task_ast.specs.meaning.Names.{locks_of, cells_in, cell_number}
 use Rattle.one_thread.proofs.cells.lock_number.Given as goal
 
 -- the cell stands in an array that is left

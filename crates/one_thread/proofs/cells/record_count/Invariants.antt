@@ -1,5 +1,5 @@
 use Rattle.std.proofs.Common.{◌≡◌, ◌+◌, drop}
-use Rattle.task_ast.specs.Names.{records_of, cells_in}
+use Rattle.task_ast.specs.meaning.Names.{records_of, cells_in}
 use Rattle.one_thread.proofs.cells.record_count.Given as goal
 
 -- the cells counted, and those of the heads that are left

@@ -1,10 +1,10 @@
 use Rattle.std.proofs.Common.{◌+◌, ◌∙◌, drop, ap, sym, subst, rules, List}
 use Rattle.std.proofs.Math.ListN.{drop_of_length-le}
 use Rattle.task_ast.specs.declared.tree.Stmt.{Stmt}
-use Rattle.task_ast.specs.Tree as plain
-use Rattle.task_ast.specs.Action.{term}
-use Rattle.task_ast.specs.Footprint.{naming, arm_naming}
-use Rattle.task_ast.specs.Control.{action, arm}
+use Rattle.task_ast.specs.meaning.Tree as plain
+use Rattle.task_ast.specs.meaning.Action.{term}
+use Rattle.task_ast.specs.meaning.Footprint.{naming, arm_naming}
+use Rattle.task_ast.specs.meaning.Control.{action, arm}
 use Rattle.task_ast.specs.View.{plain_expr, plain_what, plain_block}
 use Rattle.task_ast.proofs.Views.{stmt_At, what_When}
 use Rattle.one_thread.specs.inner.Working.{setting_in, ArmNotes}
@@ -43,7 +43,8 @@ note_all-loop-stmt-preserved t c = λ registers.
     let here = subst (λ o. Ahead arm_naming whole o c.loop-stmt.named c.args.named.now)
     (from-here (λ (l : List Stmt). arm s registers (plain_block l) env) block at c.stmt-item.result c.loop-stmt-test.true c.stmt-item.is
     ∙ ap (λ st. arm s registers (plain.Then st behind) env) (stmt_At c.stmt-item.result)) (c.loop-stmt.invariant registers) in
-    ahead_on naming arm_naming naming-in-order whole (action s registers (plain_what c.stmt-item.result.what) env) (arm s registers behind env)
+    ahead_on naming arm_naming naming-in-order whole (action s registers (plain_what c.stmt-item.result.what) env)
+    (arm s registers behind env)
     c.loop-stmt.named c.note.new.named c.args.named.now (c.in_ok-note.ensures registers) here
 
 pub note_all-returns : goal.note_all-returns

@@ -1,7 +1,7 @@
 use Rattle.std.proofs.Common.{List, drop}
-use Rattle.task_ast.specs.Tree.{Name}
-use Rattle.task_ast.specs.Footprint.{arm_naming}
-use Rattle.task_ast.specs.Control.{arm}
+use Rattle.task_ast.specs.meaning.Tree.{Name}
+use Rattle.task_ast.specs.meaning.Footprint.{arm_naming}
+use Rattle.task_ast.specs.meaning.Control.{arm}
 use Rattle.task_ast.specs.View.{plain_block}
 use Rattle.one_thread.specs.inner.Working.{setting_in}
 use Rattle.task_ast.proofs.Arms.{Ahead}

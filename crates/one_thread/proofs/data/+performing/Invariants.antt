@@ -1,6 +1,6 @@
 use Rattle.std.proofs.Common.{drop}
 use Rattle.std.specs.Prelude.{ℤ}
-use Rattle.task_ast.specs.Control.{arm}
+use Rattle.task_ast.specs.meaning.Control.{arm}
 use Rattle.task_ast.specs.View.{plain_block}
 use Rattle.one_thread.specs.inner.Working.{setting_in, arm_worked}
 use Rattle.task_ast.proofs.Arms.{Ahead}

@@ -1,6 +1,6 @@
 use Rattle.std.proofs.Common.{◌≡◌, drop, option_map}
-use Rattle.task_ast.specs.Action.{terms}
-use Rattle.task_ast.specs.Effect.{terms_value}
+use Rattle.task_ast.specs.meaning.Action.{terms}
+use Rattle.task_ast.specs.meaning.Effect.{terms_value}
 use Rattle.task_ast.specs.View.{plain_links}
 use Rattle.one_thread.proofs.data.+values.Given as goal
 

@@ -1,6 +1,6 @@
 use Rattle.std.proofs.Common.{◌∙◌, rules, ◌≡◌}
 use Rattle.std.specs.Prelude.{is_some}
-use Rattle.task_ast.specs.Value.{value}
+use Rattle.task_ast.specs.meaning.Value.{value}
 use Rattle.task_ast.specs.View.{plain_expr}
 use Rattle.one_thread.proofs.Fitting.{has-term}
 use Rattle.one_thread.proofs.data.has_value.Goals as goal

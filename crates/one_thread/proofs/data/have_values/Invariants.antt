@@ -1,8 +1,8 @@
 use Rattle.std.proofs.Common.{◌≡◌, List, drop, map}
 use Rattle.std.specs.Prelude.{is_some}
-use Rattle.task_ast.specs.Tree.{Name}
-use Rattle.task_ast.specs.Action.{term}
-use Rattle.task_ast.specs.Control.{all_of}
+use Rattle.task_ast.specs.meaning.Tree.{Name}
+use Rattle.task_ast.specs.meaning.Action.{term}
+use Rattle.task_ast.specs.meaning.Control.{all_of}
 use Rattle.task_ast.specs.View.{plain_exprs}
 use Rattle.one_thread.proofs.data.have_values.Given as goal
 

@@ -1,7 +1,7 @@
 use Rattle.std.proofs.Common.{◌≡◌, ◌++◌, drop, map, option_map}
-use Rattle.task_ast.specs.Action.{term}
-use Rattle.task_ast.specs.Effect.{term_value}
-use Rattle.task_ast.specs.Control.{all_of}
+use Rattle.task_ast.specs.meaning.Action.{term}
+use Rattle.task_ast.specs.meaning.Effect.{term_value}
+use Rattle.task_ast.specs.meaning.Control.{all_of}
 use Rattle.task_ast.specs.View.{plain_exprs}
 use Rattle.one_thread.proofs.data.line_of.Given as goal
 

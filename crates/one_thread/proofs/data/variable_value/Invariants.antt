@@ -1,5 +1,5 @@
 use Rattle.std.proofs.Common.{◌≡◌, drop}
-use Rattle.task_ast.specs.Value.{value_at}
+use Rattle.task_ast.specs.meaning.Value.{value_at}
 use Rattle.one_thread.proofs.data.variable_value.Given as goal
 
 abbrev pub invariant-loop-pair : goal.invariant-loop-pair

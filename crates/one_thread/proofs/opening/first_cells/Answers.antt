@@ -1,6 +1,6 @@
 use Rattle.std.proofs.Common.{◌∙◌, rules, SFits, w64}
 use Rattle.std.proofs.lemmas.Int.{to_z-of_z}
-use Rattle.task_ast.specs.State.{number_at}
+use Rattle.task_ast.specs.meaning.State.{number_at}
 use Rattle.one_thread.proofs.Openings.{cell-more}
 use Rattle.one_thread.proofs.opening.first_cells.Goals as goal
 

@@ -1,6 +1,6 @@
 use Rattle.std.proofs.Common.{◌≡◌, ◌++◌, ◌-◌, map}
-use Rattle.task_ast.specs.State.{number_at}
-use Rattle.task_ast.specs.Table.{numbers}
+use Rattle.task_ast.specs.meaning.State.{number_at}
+use Rattle.task_ast.specs.meaning.Table.{numbers}
 use Rattle.one_thread.proofs.opening.first_cells.Given as goal
 
 abbrev pub invariant-loop-c : goal.invariant-loop-c

@@ -1,5 +1,5 @@
 use Rattle.std.proofs.Common.{◌≡◌, ◌≤◌, ◌++◌, drop, zip}
-use Rattle.task_ast.specs.Names.{feeds_of}
+use Rattle.task_ast.specs.meaning.Names.{feeds_of}
 use Rattle.one_thread.proofs.opening.named_feeds.Given as goal
 
 abbrev pub invariant-loop-head : goal.invariant-loop-head

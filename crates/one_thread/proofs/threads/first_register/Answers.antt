@@ -2,7 +2,7 @@ use Rattle.std.proofs.Common.{◌∙◌, ap, sym, refl, rules, SFits, w64}
 use Rattle.std.proofs.lemmas.Int.{to_z-of_z}
 use Rattle.std.proofs.lemmas.Bool.{ltb-false}
 use Rattle.std.proofs.lemmas.Option.{slice_get_past}
-use Rattle.task_ast.specs.State.{number_at}
+use Rattle.task_ast.specs.meaning.State.{number_at}
 use Rattle.one_thread.proofs.Looking.{at-get}
 use Rattle.one_thread.proofs.ThreadLemmas.{registers-there, registers-missing}
 use Rattle.one_thread.proofs.threads.first_register.Goals as goal

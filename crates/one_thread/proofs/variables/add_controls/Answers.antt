@@ -1,8 +1,8 @@
 use Rattle.std.proofs.Common.{◌≡◌, ◌∙◌, ◌++◌, ◌+◌, drop, ap, rules, arith}
 use Rattle.std.specs.Prelude.{[], ◌∷◌}
-use Rattle.task_ast.specs.Names.{controls}
-use Rattle.task_ast.specs.Plain.{given}
-use Rattle.task_ast.specs.State.{number_at}
+use Rattle.task_ast.specs.meaning.Names.{controls}
+use Rattle.task_ast.specs.meaning.Plain.{given}
+use Rattle.task_ast.specs.meaning.State.{number_at}
 use Rattle.one_thread.proofs.TaskVariables.{control-more, control-past}
 use Rattle.one_thread.proofs.variables.add_controls.Goals as goal
 use Rattle.one_thread.proofs.variables.add_controls.Goals.{in-Ctl+in_ok-copied-in-Ctl+in_ok-push-in-Ctl, in-Reg}

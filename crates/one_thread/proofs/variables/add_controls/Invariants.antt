@@ -1,6 +1,6 @@
 use Rattle.std.proofs.Common.{◌≡◌, ◌≤◌, ◌++◌, drop}
-use Rattle.task_ast.specs.Names.{controls}
-use Rattle.task_ast.specs.Plain.{given}
+use Rattle.task_ast.specs.meaning.Names.{controls}
+use Rattle.task_ast.specs.meaning.Plain.{given}
 use Rattle.one_thread.proofs.variables.add_controls.Given as goal
 
 abbrev pub invariant-loop-param : goal.invariant-loop-param

@@ -1,5 +1,5 @@
 use Rattle.std.proofs.Common.{◌≡◌, ◌++◌, drop}
-use Rattle.task_ast.specs.Names.{datas}
+use Rattle.task_ast.specs.meaning.Names.{datas}
 use Rattle.one_thread.proofs.variables.add_datas.Given as goal
 
 abbrev pub invariant-loop-param : goal.invariant-loop-param

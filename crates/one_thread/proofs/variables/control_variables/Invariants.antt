@@ -1,6 +1,6 @@
 use Rattle.std.proofs.Common.{◌≡◌, ◌++◌, [], drop}
-use Rattle.task_ast.specs.Names.{controls, declared_in}
-use Rattle.task_ast.specs.Plain.{given}
+use Rattle.task_ast.specs.meaning.Names.{controls, declared_in}
+use Rattle.task_ast.specs.meaning.Plain.{given}
 use Rattle.one_thread.proofs.variables.control_variables.Given as goal
 
 abbrev pub invariant-loop-line : goal.invariant-loop-line

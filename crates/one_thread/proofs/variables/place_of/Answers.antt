@@ -1,5 +1,5 @@
 use Rattle.std.proofs.Common.{◌≡◌, ◌<◌, true, length, sym, ap, ◌∙◌, rules}
-use Rattle.task_ast.specs.Names.{is_name}
+use Rattle.task_ast.specs.meaning.Names.{is_name}
 use Rattle.one_thread.proofs.Assigned.{assigned_first, same_there}
 use Rattle.one_thread.proofs.variables.place_of.Goals as goal
 

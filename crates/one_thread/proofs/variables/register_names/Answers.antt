@@ -1,5 +1,5 @@
 use Rattle.std.proofs.Common.{◌∙◌, rules}
-use Rattle.task_ast.specs.Names.{ret, declared_in}
+use Rattle.task_ast.specs.meaning.Names.{ret, declared_in}
 use Rattle.one_thread.proofs.TaskVariables.{line-datas, first-datas}
 use Rattle.one_thread.proofs.variables.register_names.Goals as goal
 

@@ -1,5 +1,5 @@
 use Rattle.std.proofs.Common.{◌≡◌, ◌++◌, drop}
-use Rattle.task_ast.specs.Names.{datas, declared_in, registers_of}
+use Rattle.task_ast.specs.meaning.Names.{datas, declared_in, registers_of}
 use Rattle.task_ast.specs.View.{plain_task}
 use Rattle.one_thread.proofs.variables.register_names.Given as goal
 

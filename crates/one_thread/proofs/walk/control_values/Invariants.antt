@@ -1,5 +1,5 @@
 use Rattle.std.proofs.Common.{◌≡◌}
-use Rattle.task_ast.specs.Control.{control_arguments}
+use Rattle.task_ast.specs.meaning.Control.{control_arguments}
 use Rattle.task_ast.specs.View.{plain_exprs}
 use Rattle.one_thread.proofs.Forks.{controls_from}
 use Rattle.one_thread.proofs.walk.control_values.Given as goal

@@ -1,7 +1,7 @@
 use Rattle.std.proofs.Common.{◌≡◌, List, drop}
 use Rattle.std.specs.Prelude.{is_some}
-use Rattle.task_ast.specs.Tree.{Name}
-use Rattle.task_ast.specs.Control.{Setting, data_arguments}
+use Rattle.task_ast.specs.meaning.Tree.{Name}
+use Rattle.task_ast.specs.meaning.Control.{Setting, data_arguments}
 use Rattle.task_ast.specs.View.{plain_exprs}
 use Rattle.one_thread.proofs.walk.data_fits.Given as goal
 

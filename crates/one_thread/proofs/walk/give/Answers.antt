@@ -1,8 +1,8 @@
 use Rattle.std.proofs.Common.{◌∙◌, ◌+◌, ap, sym, subst, rules, SFits, w64}
 use Rattle.std.proofs.lemmas.Int.{to_z-of_z}
 use Rattle.std.specs.Prelude.{slice_set}
-use Rattle.task_ast.specs.Control.{data_arguments, register_number}
-use Rattle.task_ast.specs.Action.{term}
+use Rattle.task_ast.specs.meaning.Control.{data_arguments, register_number}
+use Rattle.task_ast.specs.meaning.Action.{term}
 use Rattle.task_ast.specs.View.{plain_expr, plain_exprs}
 use Rattle.one_thread.proofs.Forks.{AheadOf, rest_from, ahead-done, rest-end, rest-over, give-one, give-past, given-value, no-value}
 use Rattle.one_thread.proofs.walk.give.Goals as goal

@@ -1,5 +1,5 @@
 use Rattle.std.specs.Prelude.{ℤ}
-use Rattle.task_ast.specs.Control.{Setting, data_arguments}
+use Rattle.task_ast.specs.meaning.Control.{Setting, data_arguments}
 use Rattle.task_ast.specs.View.{plain_exprs}
 use Rattle.one_thread.proofs.Forks.{AheadOf, rest_from}
 use Rattle.one_thread.proofs.walk.give.Given as goal

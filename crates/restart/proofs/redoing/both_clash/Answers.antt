@@ -1,5 +1,5 @@
 use Rattle.std.proofs.Common.{◌≡◌, ◌∙◌, sym}
-use Rattle.dependence.specs.Conflict.{conflicting}
+use Rattle.dependence.specs.meaning.Conflict.{conflicting}
 use Rattle.dependence.proofs.Conflicting.{conflicting-is}
 use Rattle.restart.specs.Redo.{clash_between}
 use Rattle.restart.proofs.redoing.both_clash.Goals as goal

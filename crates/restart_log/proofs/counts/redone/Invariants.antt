@@ -1,5 +1,5 @@
 use Rattle.std.proofs.Common.{◌≡◌, ◌≤◌, ◌*◌, ◌^◌, take}
-use Rattle.restart_log.specs.Tail.{redone}
+use Rattle.restart_log.specs.meaning.Tail.{redone}
 use Rattle.restart_log.proofs.counts.redone.Given as goal
 
 -- the positions that the restarts so far redo, fewer than 2 ^ 64 each

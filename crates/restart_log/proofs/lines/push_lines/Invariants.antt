@@ -1,5 +1,5 @@
 use Rattle.std.proofs.Common.{◌≡◌, ◌++◌, take}
-use Rattle.restart_log.specs.Lines.{printed}
+use Rattle.restart_log.specs.meaning.Lines.{printed}
 use Rattle.restart_log.proofs.lines.push_lines.Given as goal
 
 -- the lines so far were appended

@@ -1,5 +1,5 @@
 use Rattle.std.proofs.Common.{◌≡◌, ◌++◌, take}
-use Rattle.restart_log.specs.Lines.{spaced}
+use Rattle.restart_log.specs.meaning.Lines.{spaced}
 use Rattle.restart_log.proofs.lines.push_spaced.Given as goal
 
 -- the values so far were appended

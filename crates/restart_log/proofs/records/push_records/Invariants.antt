@@ -1,7 +1,7 @@
 use Rattle.std.proofs.Common.{◌≡◌, ◌++◌, drop, flat_map}
-use Rattle.task_ast.specs.Layout.{cut}
-use Rattle.task_ast.specs.Names.{records_of}
-use Rattle.restart_log.specs.Tail.{record_line}
+use Rattle.task_ast.specs.meaning.Layout.{cut}
+use Rattle.task_ast.specs.meaning.Names.{records_of}
+use Rattle.restart_log.specs.meaning.Tail.{record_line}
 use Rattle.restart_log.proofs.records.push_records.Given as goal
 
 -- the lines so far, and those of the heads that are left, are all

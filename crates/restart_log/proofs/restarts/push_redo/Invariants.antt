@@ -1,5 +1,5 @@
 use Rattle.std.proofs.Common.{◌≡◌, ◌++◌, take}
-use Rattle.restart_log.specs.Tail.{redo_text}
+use Rattle.restart_log.specs.meaning.Tail.{redo_text}
 use Rattle.restart_log.proofs.restarts.push_redo.Given as goal
 
 -- the positions so far were appended

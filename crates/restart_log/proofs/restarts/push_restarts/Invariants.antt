@@ -1,5 +1,5 @@
 use Rattle.std.proofs.Common.{◌≡◌, ◌+◌, ◌++◌, drop}
-use Rattle.restart_log.specs.Tail.{restart_lines}
+use Rattle.restart_log.specs.meaning.Tail.{restart_lines}
 use Rattle.restart_log.proofs.restarts.push_restarts.Given as goal
 
 -- the lines so far, and those of the restarts that are left, are all

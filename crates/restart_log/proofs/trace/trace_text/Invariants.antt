@@ -1,5 +1,5 @@
 use Rattle.std.proofs.Common.{◌≡◌, take, flat_map}
-use Rattle.restart_log.specs.Trace.{event_line}
+use Rattle.restart_log.specs.meaning.Trace.{event_line}
 use Rattle.restart_log.proofs.trace.trace_text.Given as goal
 
 -- the lines of the events so far

@@ -1,5 +1,5 @@
 use Rattle.std.proofs.Common.{sym, subst}
-use Rattle.call_cases.specs.Answers.{change_of}
+use Rattle.call_cases.specs.meaning.Answers.{change_of}
 use Rattle.resume_calls.specs.inner.Resting.{StopsSo}
 use Rattle.resume_calls.proofs.endings.stop_with.Goals as goal
 

@@ -1,8 +1,8 @@
 use Rattle.std.proofs.Common.{◌≡◌, ◌++◌, take, map}
 use Rattle.std.specs.Prelude.{flat_map}
 use Rattle.record_store.specs.Lent.{new_write}
-use Rattle.retirement_log.specs.Rows.{group, cell_numbers}
-use Rattle.retirement_log.specs.Log.{numbered}
+use Rattle.retirement_log.specs.meaning.Rows.{group, cell_numbers}
+use Rattle.retirement_log.specs.meaning.Log.{numbered}
 use Rattle.retirement_log.proofs.rows.push_cells.Given as goal
 
 -- the cells so far were appended

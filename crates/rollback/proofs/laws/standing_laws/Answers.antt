@@ -1,4 +1,4 @@
-use Rattle.dependence.specs.Journal.{initial_stage}
+use Rattle.dependence.specs.meaning.Journal.{initial_stage}
 use Rattle.rollback.proofs.Standing.{initial-blocks, keeps-retired, happens-blocks, blocks-from, one-block, later-waits, first-posts}
 use Rattle.rollback.proofs.laws.standing_laws.Goals as goal
 

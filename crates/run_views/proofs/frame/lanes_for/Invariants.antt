@@ -1,5 +1,5 @@
 use Rattle.std.proofs.Common.{◌≡◌, ◌≤◌}
-use Rattle.run_views.specs.Timeline.{lanes_for}
+use Rattle.run_views.specs.meaning.Timeline.{lanes_for}
 use Rattle.run_views.proofs.frame.lanes_for.Given as goal
 
 -- the lanes of the positions so far

@@ -1,5 +1,5 @@
 use Rattle.std.proofs.Common.{◌≡◌, ◌≤◌, ◌^◌, max, drop, map}
-use Rattle.run_views.specs.Timeline.{rows_for}
+use Rattle.run_views.specs.meaning.Timeline.{rows_for}
 use Rattle.run_views.specs.inner.Seen.{seen}
 use Rattle.run_views.proofs.frame.rows_for.Given as goal
 

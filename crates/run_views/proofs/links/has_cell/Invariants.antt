@@ -1,5 +1,5 @@
 use Rattle.std.proofs.Common.{◌≡◌, false, take}
-use Rattle.run_views.specs.Links.{has_cell}
+use Rattle.run_views.specs.meaning.Links.{has_cell}
 use Rattle.run_views.proofs.links.has_cell.Given as goal
 
 -- none so far is the cell

@@ -1,5 +1,5 @@
 use Rattle.std.proofs.Common.{◌≡◌, drop, map}
-use Rattle.run_views.specs.Links.{linked}
+use Rattle.run_views.specs.meaning.Links.{linked}
 use Rattle.run_views.specs.inner.Seen.{party_in}
 use Rattle.run_views.proofs.links.linked.Given as goal
 

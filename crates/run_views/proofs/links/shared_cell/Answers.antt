@@ -1,5 +1,5 @@
 use Rattle.std.proofs.Common.{sym, ◌∙◌}
-use Rattle.run_views.specs.Links.{is_shared}
+use Rattle.run_views.specs.meaning.Links.{is_shared}
 use Rattle.run_views.proofs.Linking.{number-passed}
 use Rattle.run_views.proofs.links.shared_cell.Goals as goal
 

@@ -1,7 +1,7 @@
 use Rattle.std.proofs.Common.{◌≡◌, ◌-◌}
 use Rattle.std.specs.Prelude.{find}
-use Rattle.task_ast.specs.Table.{numbers}
-use Rattle.run_views.specs.Links.{is_shared, shared_cell}
+use Rattle.task_ast.specs.meaning.Table.{numbers}
+use Rattle.run_views.specs.meaning.Links.{is_shared, shared_cell}
 use Rattle.run_views.proofs.links.shared_cell.Given as goal
 
 -- the cell is one of those that are left

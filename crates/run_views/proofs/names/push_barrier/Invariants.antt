@@ -1,6 +1,6 @@
 use Rattle.std.proofs.Common.{◌≡◌, drop}
-use Rattle.task_ast.specs.Names.{barriers_of}
-use Rattle.run_views.specs.Order.{barrier_name}
+use Rattle.task_ast.specs.meaning.Names.{barriers_of}
+use Rattle.run_views.specs.meaning.Order.{barrier_name}
 use Rattle.run_views.proofs.names.push_barrier.Given as goal
 
 -- the barrier is one that is left

@@ -1,6 +1,6 @@
 use Rattle.std.proofs.Common.{◌≡◌, drop}
-use Rattle.task_ast.specs.Names.{locks_of}
-use Rattle.run_views.specs.Order.{cell_name}
+use Rattle.task_ast.specs.meaning.Names.{locks_of}
+use Rattle.run_views.specs.meaning.Order.{cell_name}
 use Rattle.run_views.proofs.names.push_lock.Given as goal
 
 -- the cell stands in an array that is left

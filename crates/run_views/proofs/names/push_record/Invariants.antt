@@ -1,6 +1,6 @@
 use Rattle.std.proofs.Common.{◌≡◌, drop}
-use Rattle.task_ast.specs.Names.{records_of}
-use Rattle.run_views.specs.Order.{cell_name}
+use Rattle.task_ast.specs.meaning.Names.{records_of}
+use Rattle.run_views.specs.meaning.Order.{cell_name}
 use Rattle.run_views.proofs.names.push_record.Given as goal
 
 -- the cell stands in a record that is left

@@ -1,5 +1,5 @@
 use Rattle.std.proofs.Common.{◌≡◌, ◌++◌, take}
-use Rattle.run_views.specs.Order.{held_text}
+use Rattle.run_views.specs.meaning.Order.{held_text}
 use Rattle.run_views.proofs.order.push_held.Given as goal
 
 -- the locks so far were appended

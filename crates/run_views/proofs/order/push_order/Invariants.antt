@@ -1,5 +1,5 @@
 use Rattle.std.proofs.Common.{◌≡◌, ◌++◌, drop, map}
-use Rattle.run_views.specs.Order.{order_lines}
+use Rattle.run_views.specs.meaning.Order.{order_lines}
 use Rattle.run_views.specs.inner.Seen.{seen}
 use Rattle.run_views.proofs.order.push_order.Given as goal
 

@@ -1,5 +1,5 @@
 use Rattle.std.proofs.Common.{◌≡◌, ◌≤◌, ◌+◌, ◌++◌, drop}
-use Rattle.run_views.specs.Timeline.{boxes}
+use Rattle.run_views.specs.meaning.Timeline.{boxes}
 use Rattle.run_views.specs.inner.Seen.{seen}
 use Rattle.run_views.specs.inner.Tellings.{found}
 use Rattle.run_views.proofs.timeline.push_boxes.Given as goal

@@ -1,5 +1,5 @@
 use Rattle.std.proofs.Common.{◌≡◌, ◌++◌, drop, map}
-use Rattle.run_views.specs.Timeline.{columns}
+use Rattle.run_views.specs.meaning.Timeline.{columns}
 use Rattle.run_views.specs.inner.Seen.{seen}
 use Rattle.run_views.specs.inner.Tellings.{found}
 use Rattle.run_views.proofs.timeline.push_columns.Given as goal

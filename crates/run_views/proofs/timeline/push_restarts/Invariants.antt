@@ -1,5 +1,5 @@
 use Rattle.std.proofs.Common.{◌≡◌, ◌+◌, ◌++◌, drop}
-use Rattle.run_views.specs.Timeline.{restart_marks}
+use Rattle.run_views.specs.meaning.Timeline.{restart_marks}
 use Rattle.run_views.proofs.timeline.push_restarts.Given as goal
 
 -- the restarts so far, and those that are left, are all

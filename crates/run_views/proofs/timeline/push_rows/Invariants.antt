@@ -1,5 +1,5 @@
 use Rattle.std.proofs.Common.{◌≡◌, ◌++◌}
-use Rattle.run_views.specs.Timeline.{rows}
+use Rattle.run_views.specs.meaning.Timeline.{rows}
 use Rattle.run_views.proofs.timeline.push_rows.Given as goal
 
 -- the rows so far were appended

@@ -1,5 +1,5 @@
 use Rattle.std.proofs.Common.{ap, ◌∙◌}
-use Rattle.run_views.specs.Timeline.{told_by, told_from}
+use Rattle.run_views.specs.meaning.Timeline.{told_by, told_from}
 use Rattle.run_views.specs.declared.told.Told.TheVariants.{Unrun}
 use Rattle.run_views.specs.inner.Tellings.{found}
 use Rattle.run_views.proofs.Takes.{unnoted, told-next, told-last}

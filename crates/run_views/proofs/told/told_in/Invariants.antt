@@ -1,5 +1,5 @@
 use Rattle.std.proofs.Common.{◌≡◌, ℕ, drop}
-use Rattle.run_views.specs.Timeline.{told_from}
+use Rattle.run_views.specs.meaning.Timeline.{told_from}
 use Rattle.run_views.specs.declared.told.Told.TheVariants.{Unrun}
 use Rattle.run_views.specs.inner.Tellings.{found}
 use Rattle.run_views.proofs.told.told_in.Given as goal

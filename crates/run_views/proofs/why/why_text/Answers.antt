@@ -1,10 +1,10 @@
 use Rattle.std.proofs.Common.{◌<◌, ◌≤◌, ◌++◌, ℕ, List, length, get_or, map, ap, sym, subst, ◌∙◌, arith}
 use Rattle.task_ast.specs.declared.tree.Program.{Program}
 use Rattle.task_ast.specs.View.{plain_program}
-use Rattle.task_ast.specs.Names.{records_of, cells_in}
+use Rattle.task_ast.specs.meaning.Names.{records_of, cells_in}
 use Rattle.lock_checker.specs.Accepted.{program_of}
 use Rattle.one_thread.specs.declared.run.Step.{Step}
-use Rattle.run_views.specs.Why.{why_lines}
+use Rattle.run_views.specs.meaning.Why.{why_lines}
 use Rattle.run_views.specs.inner.Seen.{seen, party_in}
 use Rattle.run_views.proofs.Linking.{cells-counted, why-shown, why-past}
 use Rattle.run_views.proofs.Pictures.{few-steps}

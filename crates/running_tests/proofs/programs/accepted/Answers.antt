@@ -1,5 +1,5 @@
 use Rattle.task_ast.specs.View.{plain_program}
-use Rattle.task_parser.specs.Spelling.{Spells}
+use Rattle.task_parser.specs.meaning.Spelling.{Spells}
 use Rattle.task_parser.proofs.ShapedSpelling.{spelled_is_shaped}
 use Rattle.running_tests.proofs.programs.accepted.Goals as goal
 

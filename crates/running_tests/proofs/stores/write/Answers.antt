@@ -1,5 +1,5 @@
 use Rattle.std.proofs.Common.{◌≡◌, [], ◌∷◌, None, cond, nat_eq, ap, ◌∙◌, rules}
-use Rattle.task_ast.specs.State.{number_at}
+use Rattle.task_ast.specs.meaning.State.{number_at}
 use Rattle.record_store.specs.declared.effect.Effect.{Effect}
 use Rattle.record_store.specs.Stored.{Stored}
 use Rattle.running_tests.specs.Pairs.{each_alone}

@@ -1,5 +1,5 @@
 use Rattle.std.proofs.Common.{◌≡◌, ◌-◌, ◌++◌}
-use Rattle.soak_batch.specs.Rows.{account_rows}
+use Rattle.soak_batch.specs.meaning.Rows.{account_rows}
 use Rattle.soak_batch.proofs.rows.account_rows.Given as goal
 
 -- the accounts so far, and those that are left, are all

@@ -1,5 +1,5 @@
 use Rattle.std.proofs.Common.{◌≡◌, ◌-◌, ◌++◌}
-use Rattle.soak_batch.specs.Rows.{fault_rows}
+use Rattle.soak_batch.specs.meaning.Rows.{fault_rows}
 use Rattle.soak_batch.proofs.rows.fault_rows.Given as goal
 
 -- the faults so far, and those that are left, are all

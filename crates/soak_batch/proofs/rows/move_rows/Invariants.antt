@@ -1,5 +1,5 @@
 use Rattle.std.proofs.Common.{◌≡◌, ◌-◌, ◌++◌}
-use Rattle.soak_batch.specs.Rows.{move_rows, after_rows}
+use Rattle.soak_batch.specs.meaning.Rows.{move_rows, after_rows}
 use Rattle.soak_batch.proofs.rows.move_rows.Given as goal
 
 -- the moves so far, and those that are left, are all, and likewise the states

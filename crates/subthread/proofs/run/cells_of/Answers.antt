@@ -10,5 +10,6 @@ pub new-requires : goal.new-requires
 new-requires c =
     let under = c.as_slice-under.ensures ∙ ap (λ (l : Layout). l.under) c.layout.ensures in
     subst (λ u. AreSearchable u c.as_slice-over.result.now c.args.bundles) (sym under)
-    (searchable (code_of c.args.work.now.code).program c.facts.ensures.accepted c.as_slice-over.result.now (λ cell. ap (λ l. slice_get l cell) c.as_slice-over.ensures ∙ c.over.ensures cell) c.args.bundles
+    (searchable (code_of c.args.work.now.code).program c.facts.ensures.accepted c.as_slice-over.result.now
+    (λ cell. ap (λ l. slice_get l cell) c.as_slice-over.ensures ∙ c.over.ensures cell) c.args.bundles
     c.requires.rising c.requires.sizes)

@@ -1,6 +1,6 @@
 use Rattle.std.proofs.Common.{◌≡◌, ◌++◌, true, map, refl, sym, ap, subst, ◌∙◌}
 use Rattle.std.specs.Prelude.{All, pos}
-use Rattle.task_ast.specs.Under.{is_under}
+use Rattle.task_ast.specs.meaning.Under.{is_under}
 use Rattle.record_store.specs.Lent.{lock_in, new_write}
 use Rattle.subthread.specs.inner.Hand.{Hand, damaged_write}
 use Rattle.subthread.specs.Tasks.{under_of}

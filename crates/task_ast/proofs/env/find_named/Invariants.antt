@@ -1,5 +1,5 @@
 use Rattle.std.proofs.Common.{◌≡◌, drop}
-use Rattle.task_ast.specs.Names.{named}
+use Rattle.task_ast.specs.meaning.Names.{named}
 use Rattle.task_ast.proofs.env.find_named.Given as goal
 
 abbrev pub invariant-loop-pair : goal.invariant-loop-pair

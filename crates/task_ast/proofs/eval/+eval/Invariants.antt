@@ -1,5 +1,5 @@
 use Rattle.std.proofs.Common.{◌≡◌, drop, Some}
-use Rattle.task_ast.specs.Value.{value_on}
+use Rattle.task_ast.specs.meaning.Value.{value_on}
 use Rattle.task_ast.specs.View.{plain_links}
 use Rattle.task_ast.proofs.eval.+eval.Given as goal
 

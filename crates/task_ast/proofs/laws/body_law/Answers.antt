@@ -1,4 +1,4 @@
-use Rattle.task_ast.specs.Control.{step, size}
+use Rattle.task_ast.specs.meaning.Control.{step, size}
 use Rattle.task_ast.proofs.Bodies.{body_step}
 use Rattle.task_ast.proofs.Sizes.{tree_sized}
 use Rattle.task_ast.proofs.laws.body_law.Goals as goal

@@ -1,4 +1,4 @@
-use Rattle.task_ast.specs.Names.{locks_of}
+use Rattle.task_ast.specs.meaning.Names.{locks_of}
 use Rattle.task_ast.proofs.Layouts.{laid_out, accepted_sizes, over_is, based}
 use Rattle.task_ast.proofs.laws.layout_laws.Goals as goal
 

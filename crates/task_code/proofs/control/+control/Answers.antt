@@ -1,7 +1,7 @@
 use Rattle.std.proofs.Common.{◌≡◌, ◌++◌, ap, sym, ◌∙◌, subst}
 use Rattle.std.specs.Prelude.{OnOk}
 use Rattle.std.proofs.lemmas.List.{length-map}
-use Rattle.task_ast.specs.Tree as tree
+use Rattle.task_ast.specs.meaning.Tree as tree
 use Rattle.task_ast.specs.View.{plain_expr, plain_what, plain_block}
 use Rattle.task_ast.proofs.Views.{stmt_At, what_While, what_If}
 use Rattle.task_code.specs.Instructions.{At, GoOn}

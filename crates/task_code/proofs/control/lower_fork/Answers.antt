@@ -1,6 +1,6 @@
 use Rattle.std.proofs.Common.{◌≡◌, None, unwrap_or, sym, subst}
 use Rattle.std.specs.Prelude.{IfOk, slice_get}
-use Rattle.task_ast.specs.Names.{task_number}
+use Rattle.task_ast.specs.meaning.Names.{task_number}
 use Rattle.task_ast.specs.View.{plain_exprs, plain_program}
 use Rattle.task_code.specs.Lowering.{forking}
 use Rattle.task_code.specs.View.{plain_forking}

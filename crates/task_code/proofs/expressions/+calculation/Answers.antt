@@ -1,5 +1,5 @@
 use Rattle.std.proofs.Common.{◌∙◌, take, take_all, ap, arith}
-use Rattle.task_ast.specs.Tree.{links}
+use Rattle.task_ast.specs.meaning.Tree.{links}
 use Rattle.task_ast.specs.View.{plain_members}
 use Rattle.task_code.specs.Instructions.{operands}
 use Rattle.task_code.specs.Lowering.{operands_of}

@@ -1,5 +1,5 @@
 use Rattle.std.proofs.Common.{◌≡◌, ◌++◌, drop, map}
-use Rattle.task_ast.specs.Names.{barriers_of}
+use Rattle.task_ast.specs.meaning.Names.{barriers_of}
 use Rattle.task_code.proofs.lowering.barrier_numbers.Given as goal
 
 abbrev pub invariant-loop-head : goal.invariant-loop-head

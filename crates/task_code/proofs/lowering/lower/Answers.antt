@@ -1,8 +1,8 @@
 use Rattle.std.proofs.Common.{◌∙◌, ap, map, ◌≡◌, ◌≤◌, sym, subst}
 use Rattle.std.specs.Prelude.{slice_get}
 use Rattle.gp_base.specs.declared.limits.TheConstants.{MOST_CELLS}
-use Rattle.task_ast.specs.Layout.{layout, lock_over}
-use Rattle.task_ast.specs.Names.{locks_of, records_of, cells_in}
+use Rattle.task_ast.specs.meaning.Layout.{layout, lock_over}
+use Rattle.task_ast.specs.meaning.Names.{locks_of, records_of, cells_in}
 use Rattle.task_ast.specs.Shaped.{IsAccepted}
 use Rattle.task_ast.specs.View.{plain_task, plain_program}
 use Rattle.task_code.specs.Existing.{params_of}

@@ -1,5 +1,5 @@
 use Rattle.std.proofs.Common.{◌++◌, ap, ◌∙◌}
-use Rattle.task_ast.specs.Names.{controls_of}
+use Rattle.task_ast.specs.meaning.Names.{controls_of}
 use Rattle.task_ast.specs.View.{plain_program, plain_task, plain_block}
 use Rattle.task_code.specs.Lowering.{Scope, block_code}
 use Rattle.task_code.specs.View.{plain_instrs}

@@ -1,5 +1,5 @@
 use Rattle.std.proofs.Common.{◌<◌, length, get_or, ap, sym, ◌∙◌, subst}
-use Rattle.task_ast.specs.Names.{registers_of}
+use Rattle.task_ast.specs.meaning.Names.{registers_of}
 use Rattle.task_ast.specs.View.{plain_program, plain_task}
 use Rattle.task_code.proofs.TaskLists.{at_map, mapped, tasks_more}
 use Rattle.task_code.proofs.lowering.lower_tasks.Goals as goal

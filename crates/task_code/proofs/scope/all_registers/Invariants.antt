@@ -1,5 +1,5 @@
 use Rattle.std.proofs.Common.{◌≡◌, map, take}
-use Rattle.task_ast.specs.Names.{registers_of}
+use Rattle.task_ast.specs.meaning.Names.{registers_of}
 use Rattle.task_ast.specs.View.{plain_task}
 use Rattle.task_code.proofs.scope.all_registers.Given as goal
 

@@ -1,5 +1,5 @@
 use Rattle.std.proofs.Common.{ap, ◌∙◌, map, position}
-use Rattle.task_ast.specs.Names.{is_name, locks_of, records_of, barriers_of, feeds_of, registers_of, is_task}
+use Rattle.task_ast.specs.meaning.Names.{is_name, locks_of, records_of, barriers_of, feeds_of, registers_of, is_task}
 use Rattle.task_ast.specs.View.{plain_task}
 use Rattle.task_code.specs.inner.Tables.{targets, cells_from}
 use Rattle.task_code.proofs.TableLemmas.{position_firsts, position_names}

@@ -1,5 +1,5 @@
 use Rattle.std.proofs.Common.{◌≡◌, ◌++◌, drop}
-use Rattle.task_ast.specs.Names.{barriers_of, firsts}
+use Rattle.task_ast.specs.meaning.Names.{barriers_of, firsts}
 use Rattle.task_code.specs.inner.Tables.{targets}
 use Rattle.task_code.proofs.tables.barrier_names.Given as goal
 

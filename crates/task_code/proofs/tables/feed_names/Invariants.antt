@@ -1,5 +1,5 @@
 use Rattle.std.proofs.Common.{◌≡◌, ◌++◌, drop}
-use Rattle.task_ast.specs.Names.{feeds_of}
+use Rattle.task_ast.specs.meaning.Names.{feeds_of}
 use Rattle.task_code.specs.inner.Tables.{targets}
 use Rattle.task_code.proofs.tables.feed_names.Given as goal
 

@@ -1,6 +1,6 @@
 use Rattle.std.proofs.Common.{◌≡◌, ◌+◌, drop}
-use Rattle.task_ast.specs.Tree as plain
-use Rattle.task_ast.specs.Names.{locks_of, cells_in}
+use Rattle.task_ast.specs.meaning.Tree as plain
+use Rattle.task_ast.specs.meaning.Names.{locks_of, cells_in}
 use Rattle.lock_checker.specs.inner.Tables.{found, or_else}
 use Rattle.task_code.specs.inner.Tables.{cells_from}
 use Rattle.task_code.proofs.tables.lock_cells.Given as goal

@@ -1,5 +1,5 @@
 use Rattle.std.proofs.Common.{[], ◌∙◌, rules}
-use Rattle.task_ast.specs.Names.{controls, declared_in}
+use Rattle.task_ast.specs.meaning.Names.{controls, declared_in}
 use Rattle.task_code.proofs.VariableLines.{controls-append, line-more, first-more}
 use Rattle.task_code.proofs.variables.control_names.Goals as goal
 

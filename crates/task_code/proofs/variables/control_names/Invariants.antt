@@ -1,5 +1,5 @@
 use Rattle.std.proofs.Common.{◌≡◌, ◌++◌, drop}
-use Rattle.task_ast.specs.Names.{controls, declared_in, controls_of}
+use Rattle.task_ast.specs.meaning.Names.{controls, declared_in, controls_of}
 use Rattle.task_ast.specs.View.{plain_task}
 use Rattle.task_code.proofs.variables.control_names.Given as goal
 

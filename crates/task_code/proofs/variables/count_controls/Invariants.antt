@@ -1,5 +1,5 @@
 use Rattle.std.proofs.Common.{◌≡◌, ◌+◌, ◌≤◌, drop, length}
-use Rattle.task_ast.specs.Names.{controls}
+use Rattle.task_ast.specs.meaning.Names.{controls}
 use Rattle.task_code.proofs.variables.count_controls.Given as goal
 
 abbrev pub invariant-loop-param : goal.invariant-loop-param

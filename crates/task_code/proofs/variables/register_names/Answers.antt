@@ -1,5 +1,5 @@
 use Rattle.std.proofs.Common.{[], ◌∷◌, ◌∙◌, rules}
-use Rattle.task_ast.specs.Names.{ret, datas, declared_in}
+use Rattle.task_ast.specs.meaning.Names.{ret, datas, declared_in}
 use Rattle.task_code.proofs.VariableLines.{datas-append, line-more, first-more}
 use Rattle.task_code.proofs.variables.register_names.Goals as goal
 

@@ -1,5 +1,5 @@
 use Rattle.std.proofs.Common.{◌≡◌, ◌^◌, ◌-◌, min, take}
-use Rattle.task_parser.specs.Pieces.{decimal}
+use Rattle.task_parser.specs.meaning.Pieces.{decimal}
 use Rattle.task_parser.proofs.lexer.decimal.Given as goal
 
 abbrev pub invariant-loop-digit : goal.invariant-loop-digit

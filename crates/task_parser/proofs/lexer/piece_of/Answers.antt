@@ -1,7 +1,7 @@
 -- Each piece fits in its text, however it was read.
 use Rattle.std.proofs.Common.{arith, ◌≡◌}
 use Rattle.std.proofs.lemmas.Grind.{common_steps}
-use Rattle.task_parser.specs.Pieces.{piece_of}
+use Rattle.task_parser.specs.meaning.Pieces.{piece_of}
 use Rattle.task_parser.proofs.LexPieces.{piece_fits}
 use Rattle.task_parser.proofs.lexer.piece_of.Goals as goal
 

@@ -1,6 +1,6 @@
 use Rattle.std.proofs.Common.{subst, codes, ◌++◌, ◌∙◌, OnOk, OnErr}
 use Rattle.std.specs.Io.KnownBytes.{Appends}
-use Rattle.gp_base.specs.Sinks.{AppendsPrefix}
+use Rattle.gp_base.specs.meaning.Sinks.{AppendsPrefix}
 use Rattle.view_calls.proofs.lines.put_no_position.Goals as goal
 
 pub returns-clause-all : goal.returns-clause-all

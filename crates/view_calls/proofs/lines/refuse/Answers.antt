@@ -1,5 +1,6 @@
 use Rattle.std.proofs.Common.{subst, sym}
-use Rattle.call_cases.specs.Answers.{LineEnds, change_of}
+use Rattle.call_cases.specs.meaning.Answers.{change_of}
+use Rattle.call_cases.specs.Answers.{LineEnds}
 use Rattle.view_calls.specs.Lines.{refusal_line, refusal_status}
 use Rattle.view_calls.proofs.lines.refuse.Goals as goal
 

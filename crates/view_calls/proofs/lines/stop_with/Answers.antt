@@ -1,5 +1,6 @@
 use Rattle.std.proofs.Common.{subst, sym}
-use Rattle.call_cases.specs.Answers.{LineEnds, change_of}
+use Rattle.call_cases.specs.meaning.Answers.{change_of}
+use Rattle.call_cases.specs.Answers.{LineEnds}
 use Rattle.view_calls.specs.Lines.{fault_line, fault_status}
 use Rattle.view_calls.proofs.lines.stop_with.Goals as goal
 

@@ -1,7 +1,7 @@
 use Rattle.std.proofs.Common.{ap, ◌∙◌}
 use Rattle.call_cases.specs.Decided.{program_in, work_of}
 use Rattle.audit_calls.proofs.Verdicts.{few_steps, verdict_judged}
-use Rattle.view_calls.specs.Traces.{unlawful_in}
+use Rattle.view_calls.specs.meaning.Traces.{unlawful_in}
 use Rattle.view_calls.proofs.reading.first_unlawful.Goals as goal
 
 pub audit-requires-clause-few_steps : goal.audit-requires-clause-few_steps

@@ -1,7 +1,7 @@
 use Rattle.std.proofs.Common.{List, sym, ◌∙◌}
 use Rattle.gp_audit.specs.declared.line.TraceLine.{TraceLine}
 use Rattle.call_cases.specs.Decided.{work_of}
-use Rattle.call_cases.specs.Lines.{input_line}
+use Rattle.call_cases.specs.meaning.Lines.{input_line}
 use Rattle.audit_calls.proofs.Readings.{input_unread}
 use Rattle.view_calls.proofs.Readings.{lines_told, unlawful_told}
 use Rattle.view_calls.proofs.reading.lawful_lines.Goals as goal

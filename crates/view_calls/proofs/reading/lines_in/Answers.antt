@@ -1,7 +1,7 @@
 use Rattle.std.proofs.Common.{List}
 use Rattle.gp_audit.specs.declared.line.TraceLine.{TraceLine}
 use Rattle.call_cases.specs.Decided.{work_of}
-use Rattle.call_cases.specs.Lines.{input_line}
+use Rattle.call_cases.specs.meaning.Lines.{input_line}
 use Rattle.audit_calls.proofs.Readings.{few_read, input_unread}
 use Rattle.view_calls.proofs.Readings.{read_judged, row_told}
 use Rattle.view_calls.proofs.reading.lines_in.Goals as goal

@@ -1,8 +1,8 @@
 use Rattle.std.proofs.Common.{◌≡◌, None, Some, sym, subst}
-use Rattle.command_line.specs.Words.{texts}
+use Rattle.command_line.specs.meaning.Words.{texts}
 use Rattle.call_cases.specs.Refusals.{TouchesShelf}
 use Rattle.call_cases.proofs.Answering.{usage_case, asked_case}
-use Rattle.view_calls.specs.Commands.{viewed_by, MayRead, asking}
+use Rattle.view_calls.specs.meaning.Commands.{viewed_by, MayRead, asking}
 use Rattle.view_calls.specs.Sights.{case_of}
 use Rattle.view_calls.proofs.reading.read_view.Goals as goal
 

@@ -3,7 +3,7 @@ use Rattle.std.specs.declared.option.Option.TheVariants.{Some}
 use Rattle.gp_audit.specs.declared.line.TraceLine.{TraceLine}
 use Rattle.call_cases.specs.Decided.{program_in, files_read, work_of}
 use Rattle.call_cases.specs.Refusals.{RefusesShelf}
-use Rattle.view_calls.specs.Commands.{MayRead}
+use Rattle.view_calls.specs.meaning.Commands.{MayRead}
 use Rattle.view_calls.proofs.ViewCases.{run_refuses, run_viewed, run_reads, lines_viewed, trace_refuses, trace_reads}
 use Rattle.view_calls.proofs.reading.read_viewed.Goals as goal
 

@@ -1,6 +1,6 @@
 use Rattle.std.proofs.Common.{ap}
-use Rattle.command_line.specs.Words.{texts}
-use Rattle.call_cases.specs.Answers.{change_of}
+use Rattle.command_line.specs.meaning.Words.{texts}
+use Rattle.call_cases.specs.meaning.Answers.{change_of}
 use Rattle.call_cases.specs.Decided.{program_in, files_read}
 use Rattle.view_calls.specs.Sights.{with_trace, sight_of, viewed_in}
 use Rattle.view_calls.proofs.Showing.{run_shows, refusal_shows}

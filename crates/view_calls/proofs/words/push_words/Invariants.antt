@@ -1,5 +1,5 @@
 use Rattle.std.proofs.Common.{◌≡◌, ◌++◌, drop}
-use Rattle.command_line.specs.Words.{texts}
+use Rattle.command_line.specs.meaning.Words.{texts}
 use Rattle.view_calls.proofs.words.push_words.Given as goal
 
 -- the words so far were appended

@@ -1,7 +1,7 @@
 use Rattle.std.proofs.Common.{◌≡◌, ◌∙◌, ◌+◌, ap, Some, string_bytes}
 use Rattle.std.proofs.lemmas.Result.{IfOk-weaker}
-use Rattle.command_line.specs.Words.{texts}
-use Rattle.view_calls.specs.Commands.{traced_by, timeline_by}
+use Rattle.command_line.specs.meaning.Words.{texts}
+use Rattle.view_calls.specs.meaning.Commands.{traced_by, timeline_by}
 use Rattle.view_calls.proofs.TraceWords.{word-at, behind-option}
 use Rattle.view_calls.proofs.words.read_timeline.Goals as goal
 

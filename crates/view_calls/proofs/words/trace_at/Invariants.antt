@@ -1,6 +1,6 @@
 use Rattle.std.proofs.Common.{◌≡◌, ◌+◌, drop}
-use Rattle.command_line.specs.Words.{texts}
-use Rattle.view_calls.specs.Commands.{trace_at}
+use Rattle.command_line.specs.meaning.Words.{texts}
+use Rattle.view_calls.specs.meaning.Commands.{trace_at}
 use Rattle.view_calls.proofs.words.trace_at.Given as goal
 
 -- the option does not stand among the words so far

@@ -1,5 +1,5 @@
 use Rattle.std.proofs.Common.{◌∙◌, ◌+◌, ◌-◌, ◌++◌, length, ap, refl, take, drop}
-use Rattle.command_line.specs.Words.{texts}
+use Rattle.command_line.specs.meaning.Words.{texts}
 use Rattle.view_calls.proofs.TraceWords.{rest-taken, without-option}
 use Rattle.view_calls.proofs.words.untraced.Goals as goal
 

@@ -2,7 +2,7 @@ use Rattle.std.proofs.Common.{ap, subst}
 use Rattle.std.specs.Result.{OnOk}
 use Rattle.std.specs.Io.KnownBytes.{Appends}
 use Rattle.reorder_list.specs.declared.report.StopWhy.TheVariants.{OutOfMemory}
-use Rattle.restart_log.specs.Lines.{printed}
+use Rattle.restart_log.specs.meaning.Lines.{printed}
 use Rattle.whole_run.specs.Drive.{batch_of, all_lines}
 use Rattle.whole_run.specs.Notes.{NotesRun}
 use Rattle.whole_run.proofs.Beginning.{no-journal, no-lines, no-notes}

@@ -1,6 +1,6 @@
 use Rattle.std.proofs.Common.{◌∙◌, sym, ap, subst}
 use Rattle.std.specs.Io.KnownBytes.{Appends}
-use Rattle.restart_log.specs.Lines.{printed}
+use Rattle.restart_log.specs.meaning.Lines.{printed}
 use Rattle.whole_run.specs.Drive.{JournalStands, ReportsRun, all_lines, WritesRetired}
 use Rattle.whole_run.specs.inner.Rounds.{Wrote}
 use Rattle.whole_run.proofs.Crews.{crew-begun}

@@ -3,7 +3,8 @@ use Rattle.std.specs.List.{All, IsDistinct}
 use Rattle.std.proofs.lemmas.List.Elements.{All-push}
 use Rattle.std.proofs.lemmas.Map.Keys.{IsDistinct-push}
 use Rattle.csv.specs.Records.{fields_of}
-use Rattle.gp_base.specs.Faults.{IsInRange, strikes_same}
+use Rattle.gp_base.specs.meaning.Faults.{strikes_same}
+use Rattle.gp_base.specs.Faults.{IsInRange}
 use Rattle.gp_base.specs.declared.limits.TheConstants.{MOST_FAULTS}
 use Rattle.batch_files.proofs.FaultFacts.{after_push, put_fault, strikes_same_equiv}
 use Rattle.batch_files.proofs.faults.FaultsTable.put.Goals as goal

@@ -1,8 +1,8 @@
 use Rattle.std.proofs.Common.{◌≡◌, length, ◌+◌, ◌<◌, ◌≤◌, take, true, sym, subst, ◌∙◌, arith}
 use Rattle.std.specs.List.{All}
 use Rattle.std.proofs.lemmas.Bool.{false≢true}
-use Rattle.dependence.specs.Conflict.{clash_in}
-use Rattle.dependence.specs.Dependents.{dependents}
+use Rattle.dependence.specs.meaning.Conflict.{clash_in}
+use Rattle.dependence.specs.meaning.Dependents.{dependents}
 use Rattle.gp_audit.specs.Steps.{feet_in}
 use Rattle.gp_audit.proofs.RedoLists.{none-before, joins, all-below-front, joins-first, joins-reached, joins-not, found-next, stops, more-false}
 use Rattle.gp_audit.proofs.state.Audit.are_dependents.Goals.{then-later-struck+else-not-stands_at, then-later-struck-via-then-later-struck, then-later-struck-via-else-later-struck+then-is_reached, else-later-struck+else-is_reached}

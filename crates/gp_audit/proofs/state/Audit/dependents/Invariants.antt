@@ -1,6 +1,6 @@
 use Rattle.std.proofs.Common.{◌≡◌, ◌≤◌, length}
-use Rattle.dependence.specs.Conflict.{clash_in}
-use Rattle.dependence.specs.Dependents.{dependents}
+use Rattle.dependence.specs.meaning.Conflict.{clash_in}
+use Rattle.dependence.specs.meaning.Dependents.{dependents}
 use Rattle.gp_audit.specs.Steps.{feet_in}
 use Rattle.gp_audit.proofs.state.Audit.dependents.Given as goal
 

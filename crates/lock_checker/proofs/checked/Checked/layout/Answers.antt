@@ -1,8 +1,8 @@
 use Rattle.std.proofs.Common.{◌∙◌, ◌≤◌, ◌+◌, ℕ, List, ap, arith, length, map, subst, sym}
 use Rattle.gp_base.specs.declared.limits.TheConstants.{MOST_CELLS}
-use Rattle.task_ast.specs.Names.{locks_of, cells_in}
-use Rattle.task_ast.specs.Layout.{cells_under}
-use Rattle.task_ast.specs.Table.{numbers}
+use Rattle.task_ast.specs.meaning.Names.{locks_of, cells_in}
+use Rattle.task_ast.specs.meaning.Layout.{cells_under}
+use Rattle.task_ast.specs.meaning.Table.{numbers}
 use Rattle.task_ast.specs.View.{plain_program}
 use Rattle.task_ast.proofs.Layouts.{accepted_sizes}
 use Rattle.lock_checker.specs.inner.Positions.{positions, cells_over}

@@ -1,7 +1,7 @@
 use Rattle.std.proofs.Common.{◌∙◌, ◌≤◌, subst, sym}
 use Rattle.std.specs.Prelude.{IfSome}
 use Rattle.gp_base.specs.declared.limits.TheConstants.{MOST_CELLS}
-use Rattle.task_ast.specs.Names.{locks_of}
+use Rattle.task_ast.specs.meaning.Names.{locks_of}
 use Rattle.task_ast.specs.View.{plain_program}
 use Rattle.lock_checker.proofs.BaseLemmas.{accepted_small, base_small}
 use Rattle.lock_checker.proofs.checked.Checked.lock_base.Goals as goal

@@ -1,6 +1,6 @@
 use Rattle.std.proofs.Common.{◌≡◌, ◌+◌, ◌≤◌, drop}
 use Rattle.gp_base.specs.declared.limits.TheConstants.{MOST_CELLS}
-use Rattle.task_ast.specs.Names.{locks_of, cells_in}
+use Rattle.task_ast.specs.meaning.Names.{locks_of, cells_in}
 use Rattle.lock_checker.proofs.checked.Checked.lock_count.Given as goal
 
 abbrev pub invariant-loop-head : goal.invariant-loop-head

@@ -1,6 +1,6 @@
 use Rattle.std.proofs.Common.{◌≤◌, subst, sym}
 use Rattle.gp_base.specs.declared.limits.TheConstants.{MOST_CELLS}
-use Rattle.task_ast.specs.Names.{locks_of, records_of, cells_in}
+use Rattle.task_ast.specs.meaning.Names.{locks_of, records_of, cells_in}
 use Rattle.task_ast.specs.View.{plain_program}
 use Rattle.lock_checker.proofs.BaseLemmas.{accepted_small}
 use Rattle.lock_checker.proofs.checked.Checked.of.Goals as goal

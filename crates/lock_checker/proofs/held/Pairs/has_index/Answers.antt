@@ -1,6 +1,6 @@
 use Rattle.std.proofs.Common.{◌∙◌, ap}
 use Rattle.std.specs.List.{list_any}
-use Rattle.task_ast.specs.Held.{is_index}
+use Rattle.task_ast.specs.meaning.Held.{is_index}
 use Rattle.lock_checker.specs.inner.Pairs.{pairs_in}
 use Rattle.lock_checker.proofs.PairLemmas.{index_eq-told, no_index, first_tells}
 use Rattle.lock_checker.proofs.held.Pairs.has_index.Goals as goal

@@ -1,5 +1,5 @@
 use Rattle.std.proofs.Common.{◌∙◌, subst, sym}
-use Rattle.task_ast.specs.Held.{without}
+use Rattle.task_ast.specs.meaning.Held.{without}
 use Rattle.lock_checker.specs.inner.Pairs.{pair_of, pairs_of, pairs_in, Moves}
 use Rattle.lock_checker.proofs.ChangeLemmas.{remove_member, remove_other}
 use Rattle.lock_checker.proofs.held.Pairs.remove.Goals as goal

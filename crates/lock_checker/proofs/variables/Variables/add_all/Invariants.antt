@@ -1,7 +1,7 @@
 use Rattle.std.proofs.Common.{◌≡◌, List, ◌++◌, take, drop}
 use Rattle.std.specs.Prelude.{◌||◌}
 use Rattle.task_ast.specs.declared.tree.Param.{Param}
-use Rattle.task_ast.specs.Declarations.{has_double}
+use Rattle.task_ast.specs.meaning.Declarations.{has_double}
 use Rattle.lock_checker.specs.inner.TaskVariables.{AreVariables}
 use Rattle.lock_checker.proofs.variables.Variables.add_all.Given as goal
 

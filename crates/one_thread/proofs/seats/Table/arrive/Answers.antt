@@ -10,15 +10,29 @@ use Rattle.one_thread.proofs.seats.Table.arrive.Goals as goal
 pub returns-then-stated-waiting-clause-table : goal.returns-then-stated-waiting-clause-table
 returns-then-stated-waiting-clause-table c =
     let same = with_items_is c.args.self.now.seats c.clear.new.seats (search rules) in
-    let middle = arrived-is c.args.self.now c.args.t c.clear.new.seats (with_items c.args.self.now.seats c.clear.new.seats).items c.index_mut.result.now (record c.index_mut.result.now { stand = Waits }) same (search rules)
-    (get-at (with_items c.args.self.now.seats c.clear.new.seats).items c.args.t c.index_mut.result.now (search rules) c.index_mut.ensures.value) refl in
-    let released = with_items_is (with_item (with_items c.args.self.now.seats c.clear.new.seats) c.args.t (record c.index_mut.result.now { stand = Waits })) c.release.new.seats (search rules) in
+    let middle =
+    arrived-is c.args.self.now c.args.t c.clear.new.seats
+    (with_items c.args.self.now.seats c.clear.new.seats).items c.index_mut.result.now
+    (record c.index_mut.result.now { stand = Waits }) same (search rules)
+    (get-at (with_items c.args.self.now.seats c.clear.new.seats).items c.args.t c.index_mut.result.now
+    (search rules) c.index_mut.ensures.value) refl in
+    let released =
+    with_items_is (with_item (with_items c.args.self.now.seats c.clear.new.seats) c.args.t
+    (record c.index_mut.result.now { stand = Waits })) c.release.new.seats (search rules) in
     ap (λ ss. record (table_of c.args.self.now) { seats = map seat_of ss }) released
-    ∙ met-released c.args.self.now c.args.t c.args.barrier c.stated.result c.waiting.result (with_item (with_items c.args.self.now.seats c.clear.new.seats) c.args.t (record c.index_mut.result.now { stand = Waits })).items c.release.new.seats middle (search rules) (search rules) (omega arith) (search rules)
+    ∙ met-released c.args.self.now c.args.t c.args.barrier c.stated.result c.waiting.result
+    (with_item (with_items c.args.self.now.seats c.clear.new.seats) c.args.t (record c.index_mut.result.now { stand = Waits })).items
+    c.release.new.seats middle (search rules) (search rules) (omega arith) (search rules)
 
 pub returns-else-stated-waiting-clause-table : goal.returns-else-stated-waiting-clause-table
 returns-else-stated-waiting-clause-table c =
     let same = with_items_is c.args.self.now.seats c.clear.new.seats (search rules) in
-    let middle = arrived-is c.args.self.now c.args.t c.clear.new.seats (with_items c.args.self.now.seats c.clear.new.seats).items c.index_mut.result.now (record c.index_mut.result.now { stand = Waits }) same (search rules)
-    (get-at (with_items c.args.self.now.seats c.clear.new.seats).items c.args.t c.index_mut.result.now (search rules) c.index_mut.ensures.value) refl in
-    met-not c.args.self.now c.args.t c.args.barrier c.stated.result c.waiting.result (with_item (with_items c.args.self.now.seats c.clear.new.seats) c.args.t (record c.index_mut.result.now { stand = Waits })).items middle (search rules) (search rules) (omega arith)
+    let middle =
+    arrived-is c.args.self.now c.args.t c.clear.new.seats
+    (with_items c.args.self.now.seats c.clear.new.seats).items c.index_mut.result.now
+    (record c.index_mut.result.now { stand = Waits }) same (search rules)
+    (get-at (with_items c.args.self.now.seats c.clear.new.seats).items c.args.t c.index_mut.result.now
+    (search rules) c.index_mut.ensures.value) refl in
+    met-not c.args.self.now c.args.t c.args.barrier c.stated.result c.waiting.result
+    (with_item (with_items c.args.self.now.seats c.clear.new.seats) c.args.t (record c.index_mut.result.now { stand = Waits })).items
+    middle (search rules) (search rules) (omega arith)

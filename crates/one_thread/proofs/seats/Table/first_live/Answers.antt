@@ -1,7 +1,7 @@
 use Rattle.std.proofs.Common.{◌≡◌, ◌∙◌, sym, ap, arith, suc, ◌+◌, ◌-◌, Some}
 use Rattle.std.specs.Prelude.{slice_get}
-use Rattle.task_ast.specs.Table.{numbers}
-use Rattle.task_ast.specs.Turn.{look}
+use Rattle.task_ast.specs.meaning.Table.{numbers}
+use Rattle.task_ast.specs.meaning.Turn.{look}
 use Rattle.one_thread.specs.inner.View.{table_of}
 use Rattle.one_thread.proofs.Looking.{at-get, look-past}
 use Rattle.one_thread.proofs.seats.Table.first_live.Goals as goal

@@ -2,8 +2,8 @@ use Rattle.std.proofs.Common.{◌∙◌, sym, ap, rules, w64, SFits}
 use Rattle.std.proofs.lemmas.Int.{to_z-of_z}
 use Rattle.gp_base.specs.declared.ending.End.TheVariants.{Spent}
 use Rattle.task_ast.specs.declared.sync.SyncOp.TheVariants as sync
-use Rattle.task_ast.specs.Repeat.{Done}
-use Rattle.task_ast.specs.Turn.{tried, issuing, Ended}
+use Rattle.task_ast.specs.meaning.Repeat.{Done}
+use Rattle.task_ast.specs.meaning.Turn.{tried, issuing, Ended}
 use Rattle.one_thread.specs.inner.View.{table_of}
 use Rattle.one_thread.proofs.Looking.{at-get}
 use Rattle.one_thread.proofs.Turning.{turn-tries, there, last-is, by-rule, by-line, by-fork, by-end}

@@ -1,9 +1,9 @@
 use Rattle.std.proofs.Common.{◌≡◌, ◌∙◌, ap, refl, map, length, unwrap_or, replicate, zip, None, pos, [], ◌∷◌, position, ◌++◌}
 use Rattle.task_ast.specs.declared.tree.TaskText.{TaskText}
-use Rattle.task_ast.specs.Names.{records_of, feeds_of, barriers_of, cells_in, locks_of, is_name}
-use Rattle.task_ast.specs.Declarations.{main}
-use Rattle.task_ast.specs.State.{number_at}
-use Rattle.task_ast.specs.Table.{numbers, new_seat}
+use Rattle.task_ast.specs.meaning.Names.{records_of, feeds_of, barriers_of, cells_in, locks_of, is_name}
+use Rattle.task_ast.specs.meaning.Declarations.{main}
+use Rattle.task_ast.specs.meaning.State.{number_at}
+use Rattle.task_ast.specs.meaning.Table.{numbers, new_seat}
 use Rattle.one_thread.proofs.Looking.{at-get}
 use Rattle.one_thread.proofs.Openings.{opening-holds}
 use Rattle.one_thread.proofs.threads.Run.new.Goals as goal

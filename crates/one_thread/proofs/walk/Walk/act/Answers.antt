@@ -1,8 +1,8 @@
 use Rattle.std.proofs.Common.{rules, sym, ap, subst, List, Option}
-use Rattle.task_ast.specs.Action.{Action}
-use Rattle.task_ast.specs.Names.{registers_of}
-use Rattle.task_ast.specs.Tree.{Name}
-use Rattle.task_ast.specs.Control.{action, going, step_at}
+use Rattle.task_ast.specs.meaning.Action.{Action}
+use Rattle.task_ast.specs.meaning.Names.{registers_of}
+use Rattle.task_ast.specs.meaning.Tree.{Name}
+use Rattle.task_ast.specs.meaning.Control.{action, going, step_at}
 use Rattle.task_ast.specs.View.{plain_what, plain_task}
 use Rattle.one_thread.specs.inner.Remaining.{rest_of}
 use Rattle.one_thread.specs.inner.Working.{setting_in, Works}

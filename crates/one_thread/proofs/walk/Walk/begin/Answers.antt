@@ -1,6 +1,6 @@
 use Rattle.std.proofs.Common.{◌∙◌, ap, sym, refl, rules, w64, SFits}
 use Rattle.std.proofs.lemmas.Int.{to_z-of_z}
-use Rattle.task_ast.specs.Tree as plain
+use Rattle.task_ast.specs.meaning.Tree as plain
 use Rattle.task_ast.specs.View.{plain_expr, plain_exprs, plain_what, plain_block}
 use Rattle.task_ast.proofs.Views.{what_SetCtl, what_While, what_If, what_Lock, what_Unlock, what_Fork, what_Join, what_Barrier, what_Settle, what_SetReg, what_Read, what_Write, what_Print, what_When}
 use Rattle.one_thread.proofs.Walks.{with_left}

@@ -1,8 +1,8 @@
 use Rattle.std.proofs.Common.{sym, refl, subst, rules, None, SFits, w64}
 use Rattle.std.specs.Prelude.{◌∷◌}
 use Rattle.std.proofs.lemmas.Int.{to_z-of_z}
-use Rattle.task_ast.specs.Tree as plain
-use Rattle.task_ast.specs.Control.{begin_actions, behind}
+use Rattle.task_ast.specs.meaning.Tree as plain
+use Rattle.task_ast.specs.meaning.Control.{begin_actions, behind}
 use Rattle.one_thread.specs.inner.Remaining.{rest_of}
 use Rattle.one_thread.specs.inner.Walking.{setting_of, point_of, Begun}
 use Rattle.one_thread.proofs.Walks.{with_left}

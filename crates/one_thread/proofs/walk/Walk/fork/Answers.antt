@@ -1,7 +1,7 @@
 use Rattle.std.proofs.Common.{◌≡◌, rules, Some, None, ◌<◌, length, get_or, true, false, position}
 use Rattle.std.specs.Prelude.{is_some}
-use Rattle.task_ast.specs.Names.{is_name, registers_of}
-use Rattle.task_ast.specs.Control.{control_arguments, data_arguments}
+use Rattle.task_ast.specs.meaning.Names.{is_name, registers_of}
+use Rattle.task_ast.specs.meaning.Control.{control_arguments, data_arguments}
 use Rattle.task_ast.specs.View.{plain_exprs, plain_task}
 use Rattle.one_thread.specs.inner.Walking.{setting_of, point_of}
 use Rattle.task_ast.proofs.Looks.{get-at}
@@ -11,7 +11,9 @@ use Rattle.one_thread.proofs.walk.Walk.fork.Goals as goal
 pub returns-in_default : goal.returns-in_default
 returns-in_default c = λ into.
     let none : None ≡ position (λ task. is_name c.args.t.now task.name) c.args.self.now.program.now.tasks = search rules in
-    let stops = no-task c.args.self.now c.args.line c.args.t.now (plain_exprs c.args.es.now) c.requires.clean (unnamed-is c.args.t.now c.args.self.now.program.now none) in
+    let stops =
+    no-task c.args.self.now c.args.line c.args.t.now (plain_exprs c.args.es.now) c.requires.clean
+    (unnamed-is c.args.t.now c.args.self.now.program.now none) in
     search (rules, stops)
 
 pub returns-in_default-2 : goal.returns-in_default-2
@@ -20,7 +22,9 @@ returns-in_default-2 c = λ into.
     let at : Some c.in-Some.k ≡ position (λ task. is_name c.args.t.now task.name) walk.program.now.tasks = search rules in
     let inside : c.in-Some.k < length walk.program.now.tasks = search rules in
     let is : c.index-as_slice-k.result ≡ get_or walk.program.now.tasks c.in-Some.k c.index-as_slice-k.result = search rules in
-    let named = named-is c.args.t.now walk.program.now c.in-Some.k c.index-as_slice-k.result at (get-at walk.program.now.tasks c.in-Some.k c.index-as_slice-k.result inside is) in
+    let named =
+    named-is c.args.t.now walk.program.now c.in-Some.k c.index-as_slice-k.result at
+    (get-at walk.program.now.tasks c.in-Some.k c.index-as_slice-k.result inside is) in
     let task = plain_task c.index-as_slice-k.result in
     let none : None ≡ control_arguments c.index-as_slice-k.result.params (plain_exprs c.args.es.now) walk.env = search rules in
     let stops = no-control walk c.args.line c.args.t.now (plain_exprs c.args.es.now) task c.requires.clean named none in
@@ -32,12 +36,18 @@ returns-in_ok-number c = λ into.
     let at : Some c.in-Some.k ≡ position (λ task. is_name c.args.t.now task.name) walk.program.now.tasks = search rules in
     let inside : c.in-Some.k < length walk.program.now.tasks = search rules in
     let is : c.index-as_slice-k.result ≡ get_or walk.program.now.tasks c.in-Some.k c.index-as_slice-k.result = search rules in
-    let named = named-is c.args.t.now walk.program.now c.in-Some.k c.index-as_slice-k.result at (get-at walk.program.now.tasks c.in-Some.k c.index-as_slice-k.result inside is) in
+    let named =
+    named-is c.args.t.now walk.program.now c.in-Some.k c.index-as_slice-k.result at
+    (get-at walk.program.now.tasks c.in-Some.k c.index-as_slice-k.result inside is) in
     let task = plain_task c.index-as_slice-k.result in
-    let some : Some c.in-Some-2.args ≡ control_arguments c.index-as_slice-k.result.params (plain_exprs c.args.es.now) walk.env = search rules in
-    let fits : true ≡ is_some (data_arguments (setting_of walk) (registers_of task) (registers_of (point_of walk).task) c.index-as_slice-k.result.params (plain_exprs c.args.es.now) walk.env) =
+    let some : Some c.in-Some-2.args ≡ control_arguments c.index-as_slice-k.result.params (plain_exprs c.args.es.now) walk.env =
+    search rules in
+    let fits : true ≡ is_some (data_arguments (setting_of walk) (registers_of task)
+    (registers_of (point_of walk).task) c.index-as_slice-k.result.params (plain_exprs c.args.es.now) walk.env) =
     search (rules, c.if-data_fits.ensures (setting_of walk) (registers_of task) (registers_of (point_of walk).task)) in
-    let stops = forked walk c.args.line c.args.t.now (plain_exprs c.args.es.now) task c.in-Some.k c.in-Some-2.args c.requires.clean named (number-is c.args.t.now walk.program.now (Some c.in-Some.k) at) some fits in
+    let stops =
+    forked walk c.args.line c.args.t.now (plain_exprs c.args.es.now) task c.in-Some.k c.in-Some-2.args c.requires.clean named
+    (number-is c.args.t.now walk.program.now (Some c.in-Some.k) at) some fits in
     search (rules, stops)
 
 pub returns-else-data_fits : goal.returns-else-data_fits
@@ -46,10 +56,14 @@ returns-else-data_fits c = λ into.
     let at : Some c.in-Some.k ≡ position (λ task. is_name c.args.t.now task.name) walk.program.now.tasks = search rules in
     let inside : c.in-Some.k < length walk.program.now.tasks = search rules in
     let is : c.index-as_slice-k.result ≡ get_or walk.program.now.tasks c.in-Some.k c.index-as_slice-k.result = search rules in
-    let named = named-is c.args.t.now walk.program.now c.in-Some.k c.index-as_slice-k.result at (get-at walk.program.now.tasks c.in-Some.k c.index-as_slice-k.result inside is) in
+    let named =
+    named-is c.args.t.now walk.program.now c.in-Some.k c.index-as_slice-k.result at
+    (get-at walk.program.now.tasks c.in-Some.k c.index-as_slice-k.result inside is) in
     let task = plain_task c.index-as_slice-k.result in
-    let some : Some c.in-Some-2.args ≡ control_arguments c.index-as_slice-k.result.params (plain_exprs c.args.es.now) walk.env = search rules in
-    let fits : false ≡ is_some (data_arguments (setting_of walk) (registers_of task) (registers_of (point_of walk).task) c.index-as_slice-k.result.params (plain_exprs c.args.es.now) walk.env) =
+    let some : Some c.in-Some-2.args ≡ control_arguments c.index-as_slice-k.result.params (plain_exprs c.args.es.now) walk.env =
+    search rules in
+    let fits : false ≡ is_some (data_arguments (setting_of walk) (registers_of task)
+    (registers_of (point_of walk).task) c.index-as_slice-k.result.params (plain_exprs c.args.es.now) walk.env) =
     search (rules, c.if-data_fits.ensures (setting_of walk) (registers_of task) (registers_of (point_of walk).task)) in
     let stops = no-data walk c.args.line c.args.t.now (plain_exprs c.args.es.now) task c.in-Some-2.args c.requires.clean named some fits in
     search (rules, stops)

@@ -2,10 +2,10 @@ use Rattle.std.proofs.Common.{◌≡◌, ◌∙◌, ap, sym, refl, subst, length
 use Rattle.std.specs.Prelude.{position}
 use Rattle.task_ast.specs.declared.sync.Next.{Next}
 use Rattle.task_ast.specs.declared.sync.SyncOp.TheVariants as sync
-use Rattle.task_ast.specs.Names.{is_name, slot, firsts, registers_of}
-use Rattle.task_ast.specs.Tree as plain
+use Rattle.task_ast.specs.meaning.Names.{is_name, slot, firsts, registers_of}
+use Rattle.task_ast.specs.meaning.Tree as plain
 use Rattle.task_ast.specs.View.{plain_task}
-use Rattle.task_ast.specs.Control.{step_at}
+use Rattle.task_ast.specs.meaning.Control.{step_at}
 use Rattle.one_thread.specs.inner.Remaining.{rest_of}
 use Rattle.one_thread.specs.inner.Walking.{setting_of, point_of, Stepped}
 use Rattle.one_thread.proofs.Settling.{number_of}

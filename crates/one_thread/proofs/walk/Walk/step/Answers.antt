@@ -2,9 +2,9 @@ use Rattle.std.proofs.Common.{◌∙◌, ap, sym, subst, refl, rules, w64, SFits
 use Rattle.std.specs.Prelude.{IsTrue, ◌∷◌}
 use Rattle.std.proofs.lemmas.Int.{to_z-of_z}
 use Rattle.task_ast.specs.declared.sync.SyncOp.TheVariants as sync
-use Rattle.task_ast.specs.Tree as plain
-use Rattle.task_ast.specs.Value.{value}
-use Rattle.task_ast.specs.Control.{step, lock_number}
+use Rattle.task_ast.specs.meaning.Tree as plain
+use Rattle.task_ast.specs.meaning.Value.{value}
+use Rattle.task_ast.specs.meaning.Control.{step, lock_number}
 use Rattle.task_ast.specs.Shaped.{is_data}
 use Rattle.task_ast.specs.View.{plain_expr, plain_exprs, plain_what, plain_block}
 use Rattle.task_ast.proofs.Views.{stmt_At, what_SetCtl, what_While, what_If, what_Lock, what_Unlock, what_Fork, what_Join, what_Barrier, what_Settle, what_SetReg, what_Read, what_Write, what_Print, what_When}

@@ -1,4 +1,4 @@
-use Rattle.task_ast.specs.Control.{size}
+use Rattle.task_ast.specs.meaning.Control.{size}
 use Rattle.one_thread.specs.inner.Walking.{point_of, Came}
 use Rattle.one_thread.proofs.walk.Walk.stretch.Given as goal
 

@@ -3,9 +3,9 @@ use Rattle.std.specs.Option.{option_map}
 use Rattle.std.specs.Prelude.{All}
 use Rattle.std.proofs.lemmas.List.{with_items_is, length-map}
 use Rattle.std.specs.Arc.{arc_value}
-use Rattle.task_ast.specs.State.{RegistersOf, number_at}
+use Rattle.task_ast.specs.meaning.State.{RegistersOf, number_at}
 use Rattle.task_ast.specs.History.{old_child}
-use Rattle.task_ast.specs.Under.{is_under}
+use Rattle.task_ast.specs.meaning.Under.{is_under}
 use Rattle.record_store.specs.Stored.{state_of, FitsChild}
 use Rattle.record_store.specs.inner.Shelves.{seen, value_on}
 use Rattle.record_store.proofs.Fitting.{child_same}

@@ -1,7 +1,7 @@
 use Rattle.std.proofs.Common.{◌≡◌, ◌<◌, length, map, ap, ◌∙◌, arith, set}
 use Rattle.std.proofs.lemmas.List.{length-map, map-set}
 use Rattle.std.specs.Arc.{arc_value}
-use Rattle.task_ast.specs.Under.{under_lock}
+use Rattle.task_ast.specs.meaning.Under.{under_lock}
 use Rattle.record_store.specs.inner.Shelves.{seen, is_away, cells_on}
 use Rattle.record_store.proofs.Replaced.{stocked_set, cells_set}
 use Rattle.record_store.proofs.store.Store.bring_one.Goals as goal

@@ -1,9 +1,10 @@
 use Rattle.std.proofs.Common.{◌≡◌, ◌∙◌, subst, rules}
 use Rattle.std.specs.Io.KnownBytes.{Appends}
-use Rattle.gp_base.specs.Sinks.{AppendsPrefix}
+use Rattle.gp_base.specs.meaning.Sinks.{AppendsPrefix}
 use Rattle.crew.specs.Noted.{NotesPart}
 use Rattle.retirement_log.specs.declared.notes.LogNotes.{LogNotes}
-use Rattle.retirement_log.specs.Telling.{Tells, TellsPart}
+use Rattle.retirement_log.specs.meaning.Telling.{TellsPart}
+use Rattle.retirement_log.specs.Telling.{Tells}
 use Rattle.retirement_log.proofs.Told.{parts_text, told_one, told_part, told_nothing, told_unnoted}
 use Rattle.retirement_log.proofs.notes.LogNotesNotes.retired.Goals as goal
 

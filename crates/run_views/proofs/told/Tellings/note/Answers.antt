@@ -1,5 +1,5 @@
 use Rattle.std.proofs.Common.{cond, ◌&&◌, nat_eq, ap, ap₂, sym, ◌∙◌}
-use Rattle.run_views.specs.Timeline.{told_by}
+use Rattle.run_views.specs.meaning.Timeline.{told_by}
 use Rattle.run_views.specs.inner.Tellings.{found}
 use Rattle.run_views.proofs.Takes.{noted}
 use Rattle.run_views.proofs.told.Tellings.note.Goals as goal

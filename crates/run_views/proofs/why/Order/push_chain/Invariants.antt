@@ -1,5 +1,5 @@
 use Rattle.std.proofs.Common.{◌≡◌, ◌≤◌, ◌-◌, ◌++◌, map}
-use Rattle.run_views.specs.Why.{chain}
+use Rattle.run_views.specs.meaning.Why.{chain}
 use Rattle.run_views.specs.inner.Seen.{party_in}
 use Rattle.run_views.proofs.why.Order.push_chain.Given as goal
 

@@ -1,5 +1,5 @@
 use Rattle.std.proofs.Common.{◌≡◌, ◌+◌, ◌++◌, drop, map}
-use Rattle.run_views.specs.Why.{restart_texts}
+use Rattle.run_views.specs.meaning.Why.{restart_texts}
 use Rattle.run_views.specs.inner.Seen.{party_in}
 use Rattle.run_views.proofs.why.Order.push_restarts.Given as goal
 

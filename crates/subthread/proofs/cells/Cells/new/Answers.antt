@@ -6,6 +6,8 @@ use Rattle.subthread.proofs.cells.Cells.new.Goals as goal
 pub returns : goal.returns
 returns c = λ i. record {
   under = c.args.under.now;
-  came = (ap (λ old. put_back c.args.under.now old c.into_vec.result.items) c.new.ensures.empty ∙ none_back c.args.under.now c.into_vec.result.items ∙ c.into_vec.ensures) i;
+  came =
+      (ap (λ old. put_back c.args.under.now old c.into_vec.result.items) c.new.ensures.empty
+      ∙ none_back c.args.under.now c.into_vec.result.items ∙ c.into_vec.ensures) i;
   written = (ap (map (new_write c.args.under.now c.into_vec.result.items)) c.new.ensures.empty) i;
 }

@@ -7,20 +7,24 @@ use Rattle.subthread.proofs.Standing.{stands_has, stands_value}
 use Rattle.subthread.proofs.Among.{under_now}
 use Rattle.subthread.specs.inner.Hand.{Hand}
 use Rattle.record_store.specs.Lent.{lock_in}
-use Rattle.task_ast.specs.Under.{is_under}
+use Rattle.task_ast.specs.meaning.Under.{is_under}
 use Rattle.subthread.proofs.Written.{now_is}
 use Rattle.subthread.proofs.cells.Cells.value.Goals as goal
 use Rattle.subthread.proofs.cells.Cells.value.Goals.{After-deref-in-Some}
 
 stands : (c : After-deref-in-Some) → StandsAt c.self.inside.under.now c.args.cell c.in-Some.at c.in-Some.place c.deref-in-Some.result.now
-stands c = subst (StandsAt c.self.inside.under.now c.args.cell c.in-Some.at c.in-Some.place) (c.deref.ensures.value ∙ sym c.deref-in-Some.ensures.value) c.in-Some.ensures
+stands c =
+    subst (StandsAt c.self.inside.under.now c.args.cell c.in-Some.at c.in-Some.place)
+    (c.deref.ensures.value ∙ sym c.deref-in-Some.ensures.value) c.in-Some.ensures
 
 pub value_there-requires-clause-bundle : goal.value_there-requires-clause-bundle
 value_there-requires-clause-bundle c =
-    place_within c.deref-in-Some.result.now c.in-Some.at c.in-Some.place (stands_has c.self.inside.under.now c.args.cell c.in-Some.at c.in-Some.place c.deref-in-Some.result.now (stands c))
+    place_within c.deref-in-Some.result.now c.in-Some.at c.in-Some.place
+    (stands_has c.self.inside.under.now c.args.cell c.in-Some.at c.in-Some.place c.deref-in-Some.result.now (stands c))
 
 pub value_there-requires-clause-place : goal.value_there-requires-clause-place
-value_there-requires-clause-place c = stands_has c.self.inside.under.now c.args.cell c.in-Some.at c.in-Some.place c.deref-in-Some.result.now (stands c)
+value_there-requires-clause-place c =
+    stands_has c.self.inside.under.now c.args.cell c.in-Some.at c.in-Some.place c.deref-in-Some.result.now (stands c)
 
 pub returns : goal.returns
 returns c =

@@ -1,5 +1,5 @@
 use Rattle.std.proofs.Common.{ap, ◌∙◌}
-use Rattle.task_ast.specs.Footprint.{with_cell, Named}
+use Rattle.task_ast.specs.meaning.Footprint.{with_cell, Named}
 use Rattle.subthread.proofs.Noted.{inserted}
 use Rattle.subthread.proofs.names.Names.write.Goals as goal
 

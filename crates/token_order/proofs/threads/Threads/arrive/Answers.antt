@@ -11,5 +11,8 @@ pub returns-clause-table : goal.returns-clause-table
 returns-clause-table c =
     let same = with_items_is c.args.self.now.seats c.unpass_all.new.seats (search rules) in
     ap (λ ss. record (table c.args.self.now) { seats = ss })
-    (arrived-is c.args.self.now c.args.t c.unpass_all.new.seats (with_items c.args.self.now.seats c.unpass_all.new.seats).items c.index_mut.result.now (record c.index_mut.result.now { stand = Waits }) same (search rules)
-    (get-at (with_items c.args.self.now.seats c.unpass_all.new.seats).items c.args.t c.index_mut.result.now (search rules) c.index_mut.ensures.value) refl)
+    (arrived-is c.args.self.now c.args.t c.unpass_all.new.seats
+    (with_items c.args.self.now.seats c.unpass_all.new.seats).items c.index_mut.result.now
+    (record c.index_mut.result.now { stand = Waits }) same (search rules)
+    (get-at (with_items c.args.self.now.seats c.unpass_all.new.seats).items c.args.t c.index_mut.result.now
+    (search rules) c.index_mut.ensures.value) refl)

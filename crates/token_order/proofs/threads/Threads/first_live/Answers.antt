@@ -1,6 +1,6 @@
 use Rattle.std.proofs.Common.{◌≡◌, ◌∙◌, sym, ap, arith, length, suc, ◌+◌, ◌-◌, ◌<◌}
-use Rattle.task_ast.specs.Table.{numbers}
-use Rattle.task_ast.specs.Turn.{look}
+use Rattle.task_ast.specs.meaning.Table.{numbers}
+use Rattle.task_ast.specs.meaning.Turn.{look}
 use Rattle.token_order.specs.View.{table}
 use Rattle.task_ast.proofs.Looks.{get-at}
 use Rattle.token_order.proofs.Looking.{look-past}

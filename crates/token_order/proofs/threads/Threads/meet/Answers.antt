@@ -1,5 +1,5 @@
 use Rattle.std.proofs.Common.{◌∙◌, sym, ap}
-use Rattle.task_ast.specs.Turn.{is_away}
+use Rattle.task_ast.specs.meaning.Turn.{is_away}
 use Rattle.token_order.specs.View.{table, stand_view}
 use Rattle.task_ast.proofs.Looks.{get-at}
 use Rattle.token_order.proofs.Turning.{by, stand-is}
@@ -10,19 +10,23 @@ pub returns-then-is_released-clause-answer : goal.returns-then-is_released-claus
 returns-then-is_released-clause-answer c next known is =
     let at = get-at c.args.self.now.seats.items c.args.t c.index.result.now c.requires.exists c.index.ensures in
     by (table c.args.self.now) (table c.issue.new.self) c.issue.result
-    (free_goes (table c.args.self.now) c.args.t c.args.barrier next (stand_view c.index.result.now.stand) (stand-is c.args.self.now c.args.t c.index.result.now at) (sym c.is_released.ensures ∙ c.if-is_released.true))
+    (free_goes (table c.args.self.now) c.args.t c.args.barrier next (stand_view c.index.result.now.stand)
+    (stand-is c.args.self.now c.args.t c.index.result.now at) (sym c.is_released.ensures ∙ c.if-is_released.true))
     (c.issue.ensures.answer next known)
 
 pub returns-then-is_away-clause-answer : goal.returns-then-is_away-clause-answer
 returns-then-is_away-clause-answer c next known is =
     let at = get-at c.args.self.now.seats.items c.args.t c.index-2.result.now c.requires.exists c.index-2.ensures in
     c.come.ensures.answer next known is
-    (stand-is c.args.self.now c.args.t c.index-2.result.now at ∙ is_away_so (stand_view c.index-2.result.now.stand) (sym c.is_away.ensures ∙ c.if-is_away.true))
+    (stand-is c.args.self.now c.args.t c.index-2.result.now at
+    ∙ is_away_so (stand_view c.index-2.result.now.stand) (sym c.is_away.ensures ∙ c.if-is_away.true))
 
 pub returns-clause-answer : goal.returns-clause-answer
 returns-clause-answer c next known is =
     let at = get-at c.args.self.now.seats.items c.args.t c.index.result.now c.requires.exists c.index.ensures in
     let again = get-at c.args.self.now.seats.items c.args.t c.index-2.result.now c.requires.exists c.index-2.ensures in
-    still_waits (table c.args.self.now) c.args.t c.args.barrier next (stand_view c.index.result.now.stand) (stand-is c.args.self.now c.args.t c.index.result.now at) (sym c.is_released.ensures ∙ c.if-is_released.false)
-    (ap is_away (sym (stand-is c.args.self.now c.args.t c.index.result.now at) ∙ stand-is c.args.self.now c.args.t c.index-2.result.now again) ∙ sym c.is_away.ensures ∙ c.if-is_away.false)
+    still_waits (table c.args.self.now) c.args.t c.args.barrier next (stand_view c.index.result.now.stand)
+    (stand-is c.args.self.now c.args.t c.index.result.now at) (sym c.is_released.ensures ∙ c.if-is_released.false)
+    (ap is_away (sym (stand-is c.args.self.now c.args.t c.index.result.now at)
+    ∙ stand-is c.args.self.now c.args.t c.index-2.result.now again) ∙ sym c.is_away.ensures ∙ c.if-is_away.false)
     ∙ c.pass.ensures.passes

@@ -1,5 +1,5 @@
 use Rattle.std.proofs.Common.{sym, ap, refl, true, Some}
-use Rattle.task_ast.specs.Repeat.{More}
+use Rattle.task_ast.specs.meaning.Repeat.{More}
 use Rattle.token_order.specs.View.{table, seat_of}
 use Rattle.task_ast.proofs.Looks.{get-at}
 use Rattle.task_ast.proofs.ChangedSeats.{map-replaced}

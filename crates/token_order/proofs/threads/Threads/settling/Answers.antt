@@ -14,17 +14,20 @@ returns-in_default-next c =
 pub returns-then-seat : goal.returns-then-seat
 returns-then-seat c =
     let at = get-at c.args.self.now.seats.items c.in-Some.t c.index-seat.result.now c.in-Some.ensures.below c.index-seat.ensures in
-    sym (has_gone c.args.self.now c.in-Some.t c.index-seat.result.now c.in-Some-next.next c.in-Some.ensures.found at c.in-Some-next.is c.if-seat.true)
+    sym (has_gone c.args.self.now c.in-Some.t c.index-seat.result.now c.in-Some-next.next c.in-Some.ensures.found at
+    c.in-Some-next.is c.if-seat.true)
 
 pub returns-then-is_settle : goal.returns-then-is_settle
 returns-then-is_settle c =
     let at = get-at c.args.self.now.seats.items c.in-Some.t c.index-seat.result.now c.in-Some.ensures.below c.index-seat.ensures in
     let more = c.if-self.false in
-    sym (settles c.args.self.now c.in-Some.t c.index-seat.result.now c.in-Some-next.next c.in-Some.ensures.found at c.in-Some-next.is c.if-seat.false
+    sym (settles c.args.self.now c.in-Some.t c.index-seat.result.now c.in-Some-next.next c.in-Some.ensures.found at
+    c.in-Some-next.is c.if-seat.false
     (sym c.is_settle.ensures ∙ c.if-is_settle.true) (omega arith))
 
 pub returns-else-is_settle : goal.returns-else-is_settle
 returns-else-is_settle c =
     let at = get-at c.args.self.now.seats.items c.in-Some.t c.index-seat.result.now c.in-Some.ensures.below c.index-seat.ensures in
-    sym (other c.args.self.now c.in-Some.t c.index-seat.result.now c.in-Some-next.next c.in-Some.ensures.found at c.in-Some-next.is c.if-seat.false
+    sym (other c.args.self.now c.in-Some.t c.index-seat.result.now c.in-Some-next.next c.in-Some.ensures.found at
+    c.in-Some-next.is c.if-seat.false
     (sym c.is_settle.ensures ∙ c.if-is_settle.false))

@@ -1,5 +1,5 @@
 use Rattle.std.proofs.Common.{ap, subst, sym}
-use Rattle.dependence.specs.Restarts.{NoneDue}
+use Rattle.dependence.specs.meaning.Restarts.{NoneDue}
 use Rattle.whole_run.specs.View.{now}
 use Rattle.whole_run.proofs.engine_calls.EngineCalls.issue.Goals as goal
 

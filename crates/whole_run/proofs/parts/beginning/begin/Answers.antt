@@ -1,6 +1,6 @@
 use Rattle.std.proofs.Common.{◌∙◌, ◌++◌, [], ◌∷◌, ap, length}
-use Rattle.task_ast.specs.Names.{registers_of}
-use Rattle.task_ast.specs.Plain.{main_task}
+use Rattle.task_ast.specs.meaning.Names.{registers_of}
+use Rattle.task_ast.specs.meaning.Plain.{main_task}
 use Rattle.record_store.specs.Stored.{with_thread, without_threads}
 use Rattle.whole_run.specs.View.{program_in}
 use Rattle.whole_run.specs.inner.Kept.{batch_in}

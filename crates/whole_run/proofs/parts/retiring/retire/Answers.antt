@@ -1,7 +1,7 @@
 use Rattle.std.proofs.Common.{◌+◌, refl, sym, ap, subst}
 use Rattle.std.specs.Io.KnownBytes.{Appends}
-use Rattle.gp_base.specs.Sinks.{AppendsPrefix}
-use Rattle.restart_log.specs.Lines.{printed}
+use Rattle.gp_base.specs.meaning.Sinks.{AppendsPrefix}
+use Rattle.restart_log.specs.meaning.Lines.{printed}
 use Rattle.whole_run.specs.inner.Backing.{DropsBefore}
 use Rattle.whole_run.specs.inner.Kept.{batch_in, view_of}
 use Rattle.whole_run.proofs.Retired.{none-written, err-writes, not-now, lines-are, gives, made, kept-retired}

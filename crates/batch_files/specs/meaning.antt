@@ -1,0 +1,6 @@
+-- What the top calls promise is said in the words of these definitions, and each of them is reached: so these have to be believed.
+pub mod Faults
+pub mod Feeds
+pub mod Numbers
+pub mod Records
+pub mod Rows

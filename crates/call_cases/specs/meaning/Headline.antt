@@ -1,0 +1,136 @@
+-- What a call is promised to do: its answer, and what it wrote, by its case.
+use Rattle.std.specs.Prelude.{◌≡◌, ◌⊎◌, ℕ, true, false, [], List, Option, Some, None, Contains, IfSome, IsSomeAnd, ⊤}
+use Rattle.gp_base.specs.declared.journal.Journal.{Journal}
+use Rattle.gp_base.specs.meaning.Files.{GrowsByOnly}
+use Rattle.task_ast.specs.meaning.Tree.{Name}
+use Rattle.call_cases.specs.meaning.Work.{Files}
+use Rattle.call_cases.specs.meaning.Commands.{Commands, MayLog, Unlogged, Logged}
+use Rattle.call_cases.specs.meaning.Case.{Case, IsCase, ForCase, ForRun, HasWork, IsMissing, status_of, text_of, line_of, names_read}
+use Rattle.call_cases.specs.meaning.Lines.{read_fault_line, write_fault_line}
+use Rattle.call_cases.specs.meaning.Answers.{Change, TakesAll, TakesPart, TakesNothing, Fails, Grew, Yields, TakesStop, IsEmpty}
+
+-- a call: what it was given, and what it left
+pub record Call : Type 0 where
+  pub words : List (List ℕ)
+  pub files : Option Files
+  pub failed : List Name
+  pub failed' : List Name
+  pub out : Change
+  pub err : Change
+  pub status : ℕ
+  pub journal : Journal
+
+-- refused with the line of the case
+abbrev pub HasCaseLine : ℕ → Type 0
+HasCaseLine status = (status ≡ 2) ⊎ (status ≡ 3) ⊎ (status ≡ 4)
+
+-- refused before anything was written to the output
+abbrev pub IsRefusal : ℕ → Type 0
+IsRefusal status = HasCaseLine status ⊎ (status ≡ 7)
+
+-- the call was stopped: memory ran out, or a write failed
+abbrev pub IsStop : ℕ → Type 0
+IsStop status = (status ≡ 1) ⊎ (status ≡ 8)
+
+-- what the error stream is to take for the case: the line of the case, or of a file that it reads, or, where there is
+-- something to be done, what it takes at the end of that
+abbrev pub IsDue : {T : Type 0} → Case T → (error : List ℕ) → List ℕ → Type 0
+IsDue case error due =
+    (due ≡ line_of case) ⊎ HasWork case × (due ≡ error) ⊎ (name : Name) × Contains (names_read case) name × (due ≡ read_fault_line name)
+
+-- the error stream took a prefix of what is due, and then a prefix of the line that tells the stop
+abbrev pub TakesStopLines : (is_due : List ℕ → Type 0) → Change → Type 0
+TakesStopLines is_due err = (due : List ℕ) × is_due due × TakesStop due err
+
+-- a write failed: one of the line, or one of the output, and then the line tells it
+abbrev pub TellsWriteFault : Change → Change → Type 0
+TellsWriteFault out err = Fails err ⊎ Fails out × TakesAll err write_fault_line
+
+module _ {A T : Type 0} (commands : Commands A T) where
+  -- a status that tells the case
+  abbrev pub TellsCase : ℕ → Type 0
+  TellsCase status = commands.whole status ⊎ HasCaseLine status
+
+  -- what the error stream takes where what is asked was done to its end
+  abbrev pub error_for : Option A → Journal → List ℕ
+  error_for None journal = []
+  error_for (Some asked) journal = commands.error asked journal
+
+  -- no run begins for what is asked: the words are those of no command, or of one that runs nothing over a journal
+  abbrev pub RunsNothing : Option A → Type 0
+  RunsNothing None = ⊤
+  RunsNothing (Some asked) = commands.is_journalled asked ≡ false
+
+  -- no file of the shelf is read for what is asked: the words are those of no command, or of one that makes its files itself
+  abbrev pub ReadsNothing : Option A → Type 0
+  ReadsNothing None = ⊤
+  ReadsNothing (Some asked) = commands.makes_files asked ≡ true
+
+module _ {A T : Type 0} (commands : Commands A T) (call : Call) where
+  -- what the error stream took where what is asked was done to its end: the text that is due then, or the whole log
+  abbrev pub IsQuiet : MayLog T → Type 0
+  IsQuiet Unlogged = TakesAll call.err (error_for commands (commands.asking.reading call.words) call.journal)
+  IsQuiet (Logged log) =
+      ForCase commands.asking call.words call.files (λ case. ForRun commands case (λ work. TakesAll call.err (log.whole work)))
+
+  -- a write failed, of which a line tells; where a log is kept, only before the run
+  abbrev pub TellsWrite : MayLog T → Type 0
+  TellsWrite Unlogged = TellsWriteFault call.out call.err
+  TellsWrite (Logged log) = (IsEmpty call.journal × TellsWriteFault call.out call.err) ⊎ Fails call.out ⊎ Fails call.err
+
+  -- the call stopped, of which a line tells; where a log is kept, only before the run, and else the error stream has that log
+  abbrev pub TellsStop : MayLog T → Case T → Type 0
+  TellsStop Unlogged case = TakesStopLines (IsDue case (error_for commands (commands.asking.reading call.words) call.journal)) call.err
+  TellsStop (Logged log) case =
+      (IsEmpty call.journal × TakesStopLines (IsDue case []) call.err) ⊎ HasWork case
+      × ForRun commands case (λ work. log.taken work call.journal call.err)
+
+-- A file could not be read: its reads alone failed, and the line names it. It is one that the case reads, and one that the words ask for.
+pub record TellsReadFault {A T : Type 0} (commands : Commands A T) (call : Call) : Type 0 where
+  pub name : Name
+  pub read : ForCase commands.asking call.words call.files (λ case. Contains (names_read case) name)
+  pub asked : IsSomeAnd (commands.asking.reading call.words) (λ asked. commands.may_read asked name)
+  pub alone : GrowsByOnly name call.failed call.failed'
+  pub grew : Grew call.failed call.failed'
+  pub line : TakesAll call.err (read_fault_line name)
+
+-- what holds of each call of a top call with these commands
+pub record Headline {A T : Type 0} (commands : Commands A T) (call : Call) : Type 0 where
+  -- The status is that of the case. It yields to running out of memory, and to a fault that was counted in this call.
+  pub status : ForCase commands.asking call.words call.files
+      (λ case. Yields (status_of commands case) (Grew call.failed call.failed') (Fails call.out ⊎ Fails call.err) call.status)
+  -- There is a case, where the status is one of those that tell it.
+  pub told : TellsCase commands call.status
+      → IfSome call.files (λ files. (case : Case T) × IsCase commands.asking call.words files case
+      × (status_of commands case ≡ call.status))
+  -- These two hold of a shelf that does not tell its files, too.
+  pub usage : call.status ≡ 2 → commands.asking.reading call.words ≡ None
+  pub no_command : commands.asking.reading call.words ≡ None → Yields 2 ⊥ (Fails call.err) call.status
+  -- The output grew by the text of the case where it is whole, and at each status by a prefix of it.
+  pub text : ForCase commands.asking call.words call.files (λ case. commands.whole call.status → TakesAll call.out (text_of commands case))
+  pub prefix : ForCase commands.asking call.words call.files (λ case. TakesPart call.out (text_of commands case))
+  pub refused : IsRefusal call.status → TakesNothing call.out
+  -- The error stream grew by what is due at a whole text, as a trace, or by the line that tells the refusal or the
+  -- fault; or by the log, where one is kept.
+  pub quiet : commands.whole call.status → IsQuiet commands call commands.log
+  pub line : ForCase commands.asking call.words call.files (λ case. HasCaseLine call.status → TakesAll call.err (line_of case))
+  pub read_fault : call.status ≡ 7 → TellsReadFault commands call
+  pub write_fault : call.status ≡ 8 → TellsWrite commands call commands.log
+  pub stopped : IsStop call.status → ForCase commands.asking call.words call.files (TellsStop commands call commands.log)
+  -- No read failed where the status tells the case, and none was made where nothing is read. Where a file that is read
+  -- is not there, a read of it failed, or memory ran out before; status 8 then says that the line of that could not be
+  -- written.
+  pub untouched : TellsCase commands call.status → call.failed' ≡ call.failed
+  pub unread : ReadsNothing commands (commands.asking.reading call.words) → call.failed' ≡ call.failed
+  pub missing : ForCase commands.asking call.words call.files
+      (λ case. IsMissing case → Grew call.failed call.failed' ⊎ (call.status ≡ 1) ⊎ Fails call.err)
+  -- The journal is empty where no run begins. Else it is a journal of the run, and complete where the text is whole.
+  pub journal : IsRefusal call.status ⊎ RunsNothing commands (commands.asking.reading call.words) → IsEmpty call.journal
+  pub unbegun : ForCase commands.asking call.words call.files (λ case. HasWork case ⊎ IsEmpty call.journal)
+  pub lawful : ForCase commands.asking call.words call.files (λ case. ForRun commands case (λ work. commands.lawful work call.journal))
+  pub complete : commands.whole call.status
+      → ForCase commands.asking call.words call.files (λ case. ForRun commands case (λ work. commands.complete work call.journal))
+  -- The output holds all lines of each subthread that has retired; where the journal is not complete, it holds nothing
+  -- past those of the next one.
+  pub retired : ForCase commands.asking call.words call.files
+      (λ case. ForRun commands case (λ work. commands.retired work call.journal call.out))

@@ -1,0 +1,74 @@
+-- The commands of `gprs_run`: `run`, `one`, `check` and `soak`, as one value of the record of promises.
+use Rattle.std.specs.Prelude.{◌≡◌, ◌⊎◌, ℕ, true, [], List, Some, codes, length, if◌then◌else◌}
+use Rattle.gp_base.specs.declared.ending.End.{End}
+use Rattle.gp_base.specs.declared.ending.End.TheVariants.{Finished, Stuck, Spent}
+use Rattle.gp_base.specs.declared.journal.Journal.{Journal}
+use Rattle.task_ast.specs.meaning.Tree.{Name}
+use Rattle.restart_log.specs.meaning.Trace.{trace_text}
+use Rattle.command_line.specs.meaning.Words.{asked_by}
+use Rattle.command_line.specs.declared.asked.Command.{Command}
+use Rattle.command_line.specs.declared.asked.Command.TheVariants.{Run, One, Check, Soak, Ckpt, Log}
+use Rattle.command_line.specs.declared.asked.Asked.{Asked}
+use Rattle.call_cases.specs.meaning.Work.{ToDo, runs, is_traced, makes_files, is_journalled}
+use Rattle.call_cases.specs.meaning.InputFiles.{supplied_by}
+use Rattle.call_cases.specs.meaning.SoakFiles.{files_for}
+use Rattle.call_cases.specs.meaning.Texts.{run_text, soak_text}
+use Rattle.call_cases.specs.meaning.PlainText.{plain_ran, restarts_in}
+use Rattle.call_cases.specs.meaning.Journals.{IsJournalOf, IsCompleteOf, TakesRetired}
+use Rattle.call_cases.specs.meaning.Commands.{Asking, Commands, Unlogged}
+
+-- the status of a run that ends so
+abbrev pub end_status : End → ℕ
+end_status Finished = 0
+end_status (Stuck why thread line) = 5
+end_status (Spent position) = 6
+
+-- the status of what is done: that of the plain run, and 0 for an accepted program that is only checked
+abbrev pub work_status : Command → ToDo → ℕ
+work_status command work = if runs command then end_status (plain_ran work).end else 0
+
+-- the whole text was written: finished, stuck or spent
+abbrev pub IsWhole : ℕ → Type 0
+IsWhole status = (status ≡ 0) ⊎ (status ≡ 5) ⊎ (status ≡ 6)
+
+-- what is written of it
+abbrev pub work_text : Command → ToDo → List ℕ
+work_text Run work = run_text (plain_ran work) (restarts_in work) (length work.faults)
+work_text One work = run_text (plain_ran work) [] 0
+work_text Check work = codes "ok\n"
+work_text (Soak soak) work = soak_text soak (plain_ran work) (restarts_in work) (length work.faults)
+work_text (Ckpt every) work = run_text (plain_ran work) (restarts_in work) (length work.faults)
+work_text Log work = run_text (plain_ran work) (restarts_in work) (length work.faults)
+
+-- the trace of the journal, where one is asked for
+abbrev pub trace_for : Asked → Journal → List ℕ
+trace_for asked journal = if is_traced asked then trace_text journal else []
+
+-- A file that may be read for what the words ask for: the program's, that of the faults, and, where the program is run,
+-- those that it names, which a shelf that does not tell its files leaves open.
+pub data MayRead (asked : Asked) : Name → Type 0 where
+  the_program : MayRead asked asked.program
+  the_faults : {name : Name} → asked.faults ≡ Some name → MayRead asked name
+  an_input : {name : Name} → runs asked.command ≡ true → MayRead asked name
+
+-- what words ask for, and what that comes to by the files
+abbrev pub asking : Asking Asked ToDo
+asking = record { reading = asked_by; program = λ asked. asked.program; files = files_for; supplied = supplied_by }
+
+-- the promises
+abbrev pub commands : Commands Asked ToDo
+commands = record {
+  asking = asking;
+  may_read = MayRead;
+  makes_files = λ asked. makes_files asked.command;
+  is_journalled = λ asked. is_journalled asked.command;
+  has_journal = λ work. is_journalled work.command;
+  status = λ work. work_status work.command work;
+  text = λ work. work_text work.command work;
+  whole = IsWhole;
+  error = trace_for;
+  log = Unlogged;
+  lawful = IsJournalOf;
+  complete = IsCompleteOf;
+  retired = TakesRetired;
+}

@@ -1,0 +1,40 @@
+-- The arguments of a command, and what words stand for them, by the definitions of `clap`.
+use Rattle.std.specs.Prelude.{ℕ, Bool, true, false, List, [], ◌∷◌, Option, Some, None, codes}
+use Rattle.std.specs.Str.{bytes_eq}
+use Rattle.clap.specs.Words.{Kinds, Row, Rule, Text, first_of, new_rule}
+use Rattle.clap.specs.declared.builder.action.ArgAction.TheVariants.{SetTrue}
+use Rattle.command_line.specs.meaning.Numbers.{number_in}
+
+-- a required positional, an option with a value, and a flag
+abbrev pub positional : Text → Rule
+positional name = record (new_rule name) { required = true }
+
+abbrev pub option_of : Text → Rule
+option_of name = record (new_rule name) { long = Some name }
+
+abbrev pub flag_of : Text → Rule
+flag_of name = record (new_rule name) { long = Some name; action = Some SetTrue }
+
+-- a parse has no fault
+abbrev pub is_faultless : Kinds → Bool
+is_faultless [] = true
+is_faultless (kind ∷ kinds) = false
+
+-- the text that stands for an argument, if one does
+abbrev pub text_of : Text → List Row → Option Text
+text_of = first_of
+
+-- the number of a text, where there is one
+abbrev pub number_of : (low high : ℕ) → Option Text → Option ℕ
+number_of low high (Some text) = number_in low high text
+number_of low high None = None
+
+-- whether the text of a flag says that it is there
+abbrev pub is_on : Option Text → Bool
+is_on (Some text) = bytes_eq text (codes "true")
+is_on None = false
+
+-- the number of an option's text, or another number where there is no text
+abbrev pub number_or : (low high other : ℕ) → Option Text → Option ℕ
+number_or low high other (Some text) = number_in low high text
+number_or low high other None = Some other

@@ -1,0 +1,40 @@
+-- What the plain run's order says of conflicts, restarts and journals.
+use Rattle.std.specs.Prelude.{ℕ, Bool, false, List, length, map, Option, Some, None, slice_get}
+use Rattle.gp_base.specs.declared.fault.Fault.{Fault}
+use Rattle.gp_base.specs.declared.journal.Restart.{Restart}
+use Rattle.gp_base.specs.declared.footprint.Footprint.{Footprint}
+use Rattle.task_ast.specs.meaning.Table.{is_settle}
+use Rattle.task_ast.specs.meaning.Plain.{Subthread, foot_of}
+use Rattle.task_ast.specs.meaning.Position.{last_below}
+use Rattle.dependence.specs.meaning.Conflict.{clash_in}
+use Rattle.dependence.specs.meaning.Dependents.{dependents}
+use Rattle.dependence.specs.meaning.Restarts.{Dependence, restarts}
+
+-- the footprints of the positions
+abbrev pub feet_of : List Subthread → List Footprint
+feet_of run = map foot_of run
+
+-- the position of the thread's subthread before the one that may be there
+abbrev pub before_one : List Subthread → ℕ → Option Subthread → Option ℕ
+before_one run p None = None
+before_one run p (Some s) = last_below run s.thread p
+
+-- whether the subthread that may be there begins with a settle
+abbrev pub settles_one : Option Subthread → Bool
+settles_one None = false
+settles_one (Some s) = is_settle s.begins.sync
+
+-- what the rules of restarts and journals read of a run
+abbrev pub dependence_of : List Subthread → Dependence
+dependence_of run =
+    record {
+      count = length run;
+      clash = clash_in (feet_of run);
+      redo = dependents (clash_in (feet_of run));
+      before = λ p. before_one run p (slice_get run p);
+      settles = λ p. settles_one (slice_get run p);
+    }
+
+-- the restarts that a list of faults makes of a run
+abbrev pub restarts_of : List Subthread → List Fault → List Restart
+restarts_of run faults = restarts (dependence_of run) faults

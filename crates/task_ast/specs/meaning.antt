@@ -1,0 +1,21 @@
+-- What the top calls promise is said in the words of these definitions, and each of them is reached: so these have to be believed.
+pub mod Action
+pub mod Body
+pub mod Check
+pub mod Control
+pub mod Declarations
+pub mod Effect
+pub mod Footprint
+pub mod Held
+pub mod Layout
+pub mod Names
+pub mod Plain
+pub mod Position
+pub mod Repeat
+pub mod State
+pub mod Table
+pub mod Tree
+pub mod Turn
+pub mod Under
+pub mod Value
+pub mod Visit
