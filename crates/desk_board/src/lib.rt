@@ -9,8 +9,6 @@ mod made;
 mod passes;
 mod plays;
 mod rule;
-#[cfg(test)]
-mod tests;
 mod types;
 mod view;
 

@@ -1,35 +1,15 @@
-// A board whose jobs square their number.
-ghost use Rattle.std.specs.Prelude.{◌≡◌, ℕ, ◌*◌, ◌<◌, ◌≤◌, [], length, slice_get, Some, All, IfOk};
+// Desks that are claimed.
+ghost use Rattle.std.specs.Prelude.{◌≡◌, ℕ, ◌<◌, ◌≤◌, [], length, slice_get, Some, IfOk};
 ghost use Rattle.gp_steal.specs.Held.{about, hand, gathered, book, IsPassOf, IsClerkOf};
 ghost use Rattle.gp_steal.specs.Rule.{first_hand, first_book};
 ghost use Rattle.gp_steal.specs.Told.{IsWhole, IsRunAt};
 
-use gp_base::{Job, Seq};
+use crate::numbers::{Number, numbers};
+use gp_base::Job;
 use gp_steal::{StealBoard, StealClerk, StealPass};
 use std::alloc::{AllocError, Global};
 use std::test::Fail;
 use std::thread;
-
-// A number to square.
-#[derive(Drop)]
-struct Number {
-    value: u64,
-}
-
-impl Job for Number {
-    type With = ();
-
-    type Run = u64;
-
-    ghost fits = { λ _ job. job.value < 65536 };
-
-    ghost is_run = { λ _ job run. run ≡ job.value * job.value };
-
-    fn run(self, _with: &()) -> u64 {
-        let Number { value } = self;
-        value * value
-    }
-}
 
 // Tries every desk from the first on, and puts the run of each that it claimed back.
 fn sweep<J: Job>(board: &StealBoard<J>, with: &J::With, pass: StealPass<J>) -> StealPass<J>
@@ -73,14 +53,6 @@ fn collect_all<J: Job>(
         }
     }
     Ok(runs)
-}
-
-fn numbers(alloc: Global, count: u64) -> Result<Seq<Number>, AllocError>
-    requires { count ≤ 1000 }
-    ensures { IfOk result (λ jobs. (length jobs ≤ 65536) × All (λ job. job.value < 65536) jobs) }
-{
-    let jobs = (0..count).map(|value| Number { value }).collect(alloc)?;
-    Ok(Seq::from_vec(jobs))
 }
 
 fn board_of(

@@ -1,6 +1,6 @@
 use Rattle.std.proofs.Common.{◌≡◌, [], length, ◌-◌}
 use Rattle.gp_steal.specs.Held.{about, hand, IsPassOf}
-use Rattle.steal_tests.proofs.boards.sweep.Given as goal
+use Rattle.board_tests.proofs.claims.sweep.Given as goal
 
 abbrev pub invariant-loop-pass : goal.invariant-loop-pass
 invariant-loop-pass g l = record {

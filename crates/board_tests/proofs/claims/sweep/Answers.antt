@@ -1,7 +1,7 @@
 use Rattle.std.proofs.Common.{ℕ, List, ◌∷◌, ◌++◌, [], Contains, sym, ap, subst}
 use Rattle.std.proofs.lemmas.List.Elements.{Contains-push}
 use Rattle.gp_steal.specs.Held.{hand}
-use Rattle.steal_tests.proofs.boards.sweep.Goals as goal
+use Rattle.board_tests.proofs.claims.sweep.Goals as goal
 
 pub finish-requires-clause-held : goal.finish-requires-clause-held
 finish-requires-clause-held g c κs within =

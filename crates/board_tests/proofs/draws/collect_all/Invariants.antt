@@ -1,7 +1,7 @@
 use Rattle.std.proofs.Common.{◌≡◌, ℕ, ◌<◌, ◌≤◌, All, Some, slice_get, vec_len, vec_capacity}
 use Rattle.desk_board.specs.Held.{about, book, gathered, IsClerkOf}
 use Rattle.desk_board.specs.Told.{IsWhole, IsRunAt}
-use Rattle.desk_board.proofs.tests.collect_all.Given as goal
+use Rattle.board_tests.proofs.draws.collect_all.Given as goal
 
 abbrev pub invariant-loop-desk : goal.invariant-loop-desk
 invariant-loop-desk g l = record {

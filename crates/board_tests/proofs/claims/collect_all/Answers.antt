@@ -1,13 +1,13 @@
 use Rattle.std.proofs.Common.{rules, ◌≡◌, ℕ, ◌+◌, ◌<◌, All, List, ◌∷◌, ◌++◌, [], length, slice_get, sym, ap, ◌∙◌, subst}
-use Rattle.desk_board.specs.Held.{about}
-use Rattle.desk_board.specs.Told.{IsWhole, IsRunAt}
+use Rattle.gp_steal.specs.Held.{about}
+use Rattle.gp_steal.specs.Told.{IsWhole, IsRunAt}
 use Rattle.desk_board.proofs.Collecting.{taken_more, runs_more}
-use Rattle.desk_board.proofs.tests.collect_all.Goals as goal
+use Rattle.board_tests.proofs.claims.collect_all.Goals as goal
 
 pub loop-desk-preserved : goal.loop-desk-preserved
 loop-desk-preserved g c = let was = c.loop-desk.invariant in let desk : ℕ = c.loop-desk.desk in let looked = c.look.ensures.book in record {
   of = c.collect.ensures.of;
-  whole = subst IsWhole (sym (c.collect.ensures.hand ∙ c.look.ensures.hand)) was.whole;
+  whole = subst (IsWhole (length (about c.args.board.now).jobs)) (sym (c.collect.ensures.hand ∙ c.look.ensures.hand)) was.whole;
   taken =
       subst (λ (l : List ℕ). All (λ d. d < desk + 1) l)
       (sym (ap (λ b. b.taken) c.collect.ensures.book ∙ ap (λ b. b.taken ++ desk ∷ []) looked.3)) (taken_more desk _ was.taken);

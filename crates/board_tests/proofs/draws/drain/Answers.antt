@@ -1,7 +1,7 @@
 use Rattle.std.proofs.Common.{ℕ, ◌<◌, ◌-◌, length, List, sym, ap, ◌∙◌, subst}
 use Rattle.desk_board.specs.Held.{about, hand}
 use Rattle.desk_board.proofs.Draining.{past, fewer}
-use Rattle.desk_board.proofs.tests.drain.Goals as goal
+use Rattle.board_tests.proofs.draws.drain.Goals as goal
 
 pub loop-desk-smaller : goal.loop-desk-smaller
 loop-desk-smaller g c =

@@ -1,36 +1,17 @@
-ghost use Rattle.std.specs.Prelude.{◌≡◌, ℕ, ◌+◌, ◌*◌, ◌<◌, ◌≤◌, [], length, slice_get, Some, All, IfOk};
+// Desks that are drawn.
+ghost use Rattle.std.specs.Prelude.{◌≡◌, ℕ, ◌+◌, ◌≤◌, [], length, slice_get, Some, IfOk};
 ghost use Rattle.desk_board.specs.Held.{about, hand, gathered, book, IsPassOf, IsClerkOf};
 ghost use Rattle.desk_board.specs.Rule.{first_hand, first_book};
 ghost use Rattle.desk_board.specs.Told.{HasEnded, IsWhole, IsRunAt};
 
-use crate::{Board, Clerk, Pass};
-use gp_base::{Job, Seq};
+use crate::numbers::{Number, numbers};
+use desk_board::{Board, Clerk, Pass};
+use gp_base::Job;
 use std::alloc::{AllocError, Global};
 use std::sync::atomic::{AtomicU64, Ordering};
 use std::test::Fail;
 use std::thread;
 use std::thread::Threads;
-
-// A number to square.
-#[derive(Drop)]
-struct Number {
-    value: u64,
-}
-
-impl Job for Number {
-    type With = ();
-
-    type Run = u64;
-
-    ghost fits = { λ _ job. job.value < 65536 };
-
-    ghost is_run = { λ _ job run. run ≡ job.value * job.value };
-
-    fn run(self, _with: &()) -> u64 {
-        let Number { value } = self;
-        value * value
-    }
-}
 
 // Draws desks until the pass has ended, and puts each run back.
 fn drain<J: Job>(board: &Board<J>, with: &J::With, pass: Pass<J>) -> Pass<J>
@@ -104,14 +85,6 @@ fn collect_all<J: Job>(
         }
     }
     Ok(runs)
-}
-
-fn numbers(alloc: Global, count: u64) -> Result<Seq<Number>, AllocError>
-    requires { count ≤ 1000 }
-    ensures { IfOk result (λ jobs. (length jobs ≤ 65536) × All (λ job. job.value < 65536) jobs) }
-{
-    let jobs = (0..count).map(|value| Number { value }).collect(alloc)?;
-    Ok(Seq::from_vec(jobs))
 }
 
 fn board_of(

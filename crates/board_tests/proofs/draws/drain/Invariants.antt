@@ -1,7 +1,7 @@
 use Rattle.std.proofs.Common.{◌≡◌, [], length, ◌-◌}
 use Rattle.desk_board.specs.Held.{about, hand, IsPassOf}
 use Rattle.desk_board.proofs.Draining.{past}
-use Rattle.desk_board.proofs.tests.drain.Given as goal
+use Rattle.board_tests.proofs.draws.drain.Given as goal
 
 abbrev pub invariant-loop-desk : goal.invariant-loop-desk
 invariant-loop-desk g l = record {
