@@ -16,7 +16,7 @@ use gp_base::Seq;
 use task_ast::{Expr, Op};
 
 /// Operators that bind alike, from the loosest. Comparisons don't chain.
-#[derive(Clone, Copy, PartialEq, Eq)]
+#[derive(Clone, Copy)]
 pub enum Level {
     Or,
     And,

@@ -6,7 +6,7 @@ use crate::token::Token;
 use std::alloc::{AllocError, AllocFailed};
 
 /// Why a part could not be read, with the tokens that are left there.
-#[derive(Drop)]
+#[derive(Clone, Copy)]
 pub enum Halt<'a> {
     Memory,
     Unexpected(&'a [Token]),

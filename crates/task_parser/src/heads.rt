@@ -7,7 +7,7 @@ ghost use Rattle.task_parser.specs.inner.Gives.{Gives};
 
 use crate::classes::*;
 use crate::halt::Read;
-use crate::next::{expect, is_next, is_of};
+use crate::next::{expect, expect_before, is_next, is_of};
 use crate::source::{Source, number};
 use crate::token::Token;
 use gp_base::{Name, Seq};
@@ -18,12 +18,10 @@ use task_ast::Head;
 fn sized(word: u32, tokens: &[Token]) -> Read<'_, ((Token, Token), Token)>
     ensures { Gives (λ x. (x.0, x.1.now)) result (read_sized word tokens.now) }
 {
-    let (first, rest) = expect(tokens, word)?;
-    let (title, rest) = expect(rest, NAME)?;
-    let (_, rest) = expect(rest, OPEN_BRACKET)?;
+    let (head, rest) = expect_before(tokens, word, NAME, OPEN_BRACKET)?;
     let (size, rest) = expect(rest, NUM)?;
     let (_, rest) = expect(rest, CLOSE_BRACKET)?;
-    Ok((((first, title), size), rest))
+    Ok(((head, size), rest))
 }
 
 // `lock NAME [ NUM ] ;`
@@ -44,9 +42,7 @@ fn lock_head<'a>(source: Source<'_>, tokens: &'a [Token]) -> Read<'a, Head>
 fn barrier_head<'a>(source: Source<'_>, tokens: &'a [Token]) -> Read<'a, Head>
     ensures { Gives (λ x. (x.0, x.1.now)) result (read_barrier_head source.entry.text.now tokens.now) }
 {
-    let (word, rest) = expect(tokens, BARRIER)?;
-    let (title, rest) = expect(rest, NAME)?;
-    let (_, rest) = expect(rest, OPEN_PAREN)?;
+    let ((word, title), rest) = expect_before(tokens, BARRIER, NAME, OPEN_PAREN)?;
     let (count, rest) = expect(rest, NUM)?;
     let (_, rest) = expect(rest, CLOSE_PAREN)?;
     let (_, rest) = expect(rest, SEMICOLON)?;

@@ -32,7 +32,7 @@ const NUMBER_LIMIT: u64 = 9223372036854775807;
 
 /// What stands at the front of a text: a space or a comment of so many bytes; a token of so many bytes; a number that
 /// is too big; so many bytes that can stand there, before one that can't.
-#[derive(Clone, Copy, PartialEq, Eq)]
+#[derive(Clone, Copy)]
 pub(crate) enum Piece {
     Skip(usize),
     Take(Kind, usize),

@@ -2,7 +2,7 @@
 ghost use Rattle.std.specs.Prelude.{◌≡◌, [], ◌∷◌};
 ghost use Rattle.task_parser.specs.meaning.Classes.{class, among};
 ghost use Rattle.task_parser.specs.inner.Gives.{Gives};
-ghost use Rattle.task_parser.specs.inner.Reading.{begins, read_one};
+ghost use Rattle.task_parser.specs.inner.Reading.{begins, read_one, read_the, ◌▹◌, ◌◃◌};
 
 use crate::halt::{Halt, Read};
 use crate::token::{Kind, Token};
@@ -49,4 +49,19 @@ pub fn expect(tokens: &[Token], class: u32) -> Read<'_, Token>
         return Err(Halt::Unexpected(tokens));
     }
     Ok((*token, rest))
+}
+
+/// Tokens of two classes and a mark that are next, and what is after them.
+pub fn expect_before(
+    tokens: &[Token],
+    first: u32,
+    second: u32,
+    mark: u32,
+) -> Read<'_, (Token, Token)>
+    ensures { Gives (λ x. (x.0, x.1.now)) result ((read_the first ▹ read_the second ◃ mark) tokens.now) }
+{
+    let (first, rest) = expect(tokens, first)?;
+    let (second, rest) = expect(rest, second)?;
+    let (_, rest) = expect(rest, mark)?;
+    Ok(((first, second), rest))
 }

@@ -1,7 +1,8 @@
 // What statements are made of: indices, lists of expressions, and what stands after an `into`.
-ghost use Rattle.std.specs.Prelude.{◌≡◌};
+ghost use Rattle.std.specs.Prelude.{◌≡◌, IfOk};
 ghost use Rattle.task_ast.specs.View.{plain_expr, plain_exprs};
 ghost use Rattle.task_parser.specs.meaning.Classes.{among};
+ghost use Rattle.task_parser.specs.meaning.Expressions.{name_of};
 ghost use Rattle.task_parser.specs.inner.Reading.{begins, read_after, read_separated};
 ghost use Rattle.task_parser.specs.inner.ExpressionReaders.{starting, read_expression};
 ghost use Rattle.task_parser.specs.inner.StatementReaders.{read_atom, read_indexed, read_list, read_into_name, read_into_reg};
@@ -9,16 +10,16 @@ ghost use Rattle.task_parser.specs.inner.Gives.{Gives};
 
 use crate::classes::*;
 use crate::expressions::expression;
-use crate::halt::Read;
-use crate::next::{expect, is_next, is_of};
+use crate::halt::{Halt, Read, discard};
+use crate::next::{expect, expect_before, is_next, is_of};
 use crate::source::{Source, number};
 use crate::token::Token;
 use gp_base::{Name, Seq};
 use task_ast::{Atom, Expr};
 
-/// An index: a number or a control variable.
+// An index: a number or a control variable.
 #[tactic(auto, unfolding(crate::specs::inner::StatementReaders::read_atom))]
-pub fn atom<'a>(source: Source<'_>, tokens: &'a [Token]) -> Read<'a, Atom>
+fn atom<'a>(source: Source<'_>, tokens: &'a [Token]) -> Read<'a, Atom>
     ensures { Gives (λ x. (x.0, x.1.now)) result (read_atom source.entry.text.now tokens.now) }
 {
     if is_next(tokens, NUM) {
@@ -29,21 +30,45 @@ pub fn atom<'a>(source: Source<'_>, tokens: &'a [Token]) -> Read<'a, Atom>
     Ok((Atom::Var(source.name(token)?), rest))
 }
 
-/// The word, a name, and an index in brackets.
+// The word, a name, and an index in brackets.
 #[tactic(auto, unfolding(crate::specs::inner::StatementReaders::read_indexed))]
-pub fn indexed<'a>(
+fn indexed<'a>(
     source: Source<'_>,
     word: u32,
     tokens: &'a [Token],
 ) -> Read<'a, ((Token, Token), Atom)>
     ensures { Gives (λ x. (x.0, x.1.now)) result (read_indexed source.entry.text.now word tokens.now) }
 {
-    let (first, rest) = expect(tokens, word)?;
-    let (array, rest) = expect(rest, NAME)?;
-    let (_, rest) = expect(rest, OPEN_BRACKET)?;
+    let (head, rest) = expect_before(tokens, word, NAME, OPEN_BRACKET)?;
     let (index, rest) = atom(source, rest)?;
-    let (_, rest) = expect(rest, CLOSE_BRACKET)?;
-    Ok((((first, array), index), rest))
+    let (_, rest) = match expect(rest, CLOSE_BRACKET) {
+        Ok(next) => next,
+        Err(halt) => {
+            discard(index);
+            return Err(halt);
+        }
+    };
+    Ok(((head, index), rest))
+}
+
+/// The word, a name, and an index in brackets; and the bytes of the name.
+pub fn named_index<'a>(
+    source: Source<'_>,
+    word: u32,
+    tokens: &'a [Token],
+) -> Read<'a, (((Token, Token), Atom), Name)>
+    ensures reads { Gives (λ x. (x.0.0, x.1.now)) result (read_indexed source.entry.text.now word tokens.now) }
+    ensures name { IfOk result (λ x. x.0.1 ≡ name_of source.entry.text.now x.0.0.0.1) }
+{
+    let ((head, index), rest) = indexed(source, word, tokens)?;
+    let name = match source.name(head.1) {
+        Ok(name) => name,
+        Err(failed) => {
+            discard(index);
+            return Err(Halt::from(failed));
+        }
+    };
+    Ok((((head, index), name), rest))
 }
 
 // A comma and an expression.

@@ -7,8 +7,8 @@ ghost use Rattle.task_parser.specs.inner.Gives.{Gives};
 use crate::classes::*;
 use crate::expressions::expression;
 use crate::halt::{Halt, Read, discard};
-use crate::next::expect;
-use crate::operands::{arguments, atom, exprs, indexed, into_name, into_register};
+use crate::next::{expect, expect_before};
+use crate::operands::{arguments, exprs, into_name, into_register, named_index};
 use crate::source::Source;
 use crate::token::Token;
 use task_ast::{Stmt, What};
@@ -70,9 +70,15 @@ pub fn set_register<'a>(source: Source<'_>, room: u32, tokens: &'a [Token]) -> R
 pub fn locking<'a>(source: Source<'_>, tokens: &'a [Token]) -> Read<'a, Stmt>
     ensures { Gives (λ x. (plain_stmt x.0, x.1.now)) result (read_locking source.entry.text.now tokens.now) }
 {
-    let (((word, array), index), rest) = indexed(source, LOCK, tokens)?;
-    let (_, rest) = expect(rest, SEMICOLON)?;
-    let what = What::Lock(source.name(array)?, index);
+    let ((((word, _), index), name), rest) = named_index(source, LOCK, tokens)?;
+    let (_, rest) = match expect(rest, SEMICOLON) {
+        Ok(next) => next,
+        Err(halt) => {
+            discard((index, name));
+            return Err(halt);
+        }
+    };
+    let what = What::Lock(name, index);
     Ok((
         Stmt {
             what,
@@ -87,9 +93,15 @@ pub fn locking<'a>(source: Source<'_>, tokens: &'a [Token]) -> Read<'a, Stmt>
 pub fn unlocking<'a>(source: Source<'_>, tokens: &'a [Token]) -> Read<'a, Stmt>
     ensures { Gives (λ x. (plain_stmt x.0, x.1.now)) result (read_unlocking source.entry.text.now tokens.now) }
 {
-    let (((word, array), index), rest) = indexed(source, UNLOCK, tokens)?;
-    let (_, rest) = expect(rest, SEMICOLON)?;
-    let what = What::Unlock(source.name(array)?, index);
+    let ((((word, _), index), name), rest) = named_index(source, UNLOCK, tokens)?;
+    let (_, rest) = match expect(rest, SEMICOLON) {
+        Ok(next) => next,
+        Err(halt) => {
+            discard((index, name));
+            return Err(halt);
+        }
+    };
+    let what = What::Unlock(name, index);
     Ok((
         Stmt {
             what,
@@ -104,14 +116,19 @@ pub fn unlocking<'a>(source: Source<'_>, tokens: &'a [Token]) -> Read<'a, Stmt>
 pub fn forking<'a>(source: Source<'_>, room: u32, tokens: &'a [Token]) -> Read<'a, Stmt>
     ensures { Gives (λ x. (plain_stmt x.0, x.1.now)) result (read_forking source.entry.text.now (read_expression source.entry.text.now room) tokens.now) }
 {
-    let (word, rest) = expect(tokens, FORK)?;
-    let (task, rest) = expect(rest, NAME)?;
-    let (_, rest) = expect(rest, OPEN_PAREN)?;
+    let ((word, task), rest) = expect_before(tokens, FORK, NAME, OPEN_PAREN)?;
+    let name = source.name(task)?;
     let (arguments, rest) = arguments(source, room, rest)?;
     let (_, rest) = expect(rest, CLOSE_PAREN)?;
     let (into, rest) = into_name(source, rest)?;
-    let (_, rest) = expect(rest, SEMICOLON)?;
-    let what = What::Fork(source.name(task)?, arguments, into);
+    let (_, rest) = match expect(rest, SEMICOLON) {
+        Ok(next) => next,
+        Err(halt) => {
+            discard((name, arguments, into));
+            return Err(halt);
+        }
+    };
+    let what = What::Fork(name, arguments, into);
     Ok((
         Stmt {
             what,
@@ -157,9 +174,7 @@ pub fn joining<'a>(source: Source<'_>, room: u32, tokens: &'a [Token]) -> Read<'
 pub fn waiting<'a>(source: Source<'_>, tokens: &'a [Token]) -> Read<'a, Stmt>
     ensures { Gives (λ x. (plain_stmt x.0, x.1.now)) result (read_waiting source.entry.text.now tokens.now) }
 {
-    let (word, rest) = expect(tokens, BARRIER)?;
-    let (barrier, rest) = expect(rest, NAME)?;
-    let (_, rest) = expect(rest, SEMICOLON)?;
+    let ((word, barrier), rest) = expect_before(tokens, BARRIER, NAME, SEMICOLON)?;
     let what = What::Barrier(source.name(barrier)?);
     Ok((
         Stmt {
@@ -175,9 +190,7 @@ pub fn waiting<'a>(source: Source<'_>, tokens: &'a [Token]) -> Read<'a, Stmt>
 pub fn settling<'a>(source: Source<'_>, tokens: &'a [Token]) -> Read<'a, Stmt>
     ensures { Gives (λ x. (plain_stmt x.0, x.1.now)) result (read_settling source.entry.text.now tokens.now) }
 {
-    let (word, rest) = expect(tokens, SETTLE)?;
-    let (from, rest) = expect(rest, REG)?;
-    let (_, rest) = expect(rest, INTO)?;
+    let ((word, from), rest) = expect_before(tokens, SETTLE, REG, INTO)?;
     let (into, rest) = expect(rest, NAME)?;
     let (_, rest) = expect(rest, SEMICOLON)?;
     let what = What::Settle(source.register(from)?, source.name(into)?);
@@ -195,11 +208,36 @@ pub fn settling<'a>(source: Source<'_>, tokens: &'a [Token]) -> Read<'a, Stmt>
 pub fn reading<'a>(source: Source<'_>, tokens: &'a [Token]) -> Read<'a, Stmt>
     ensures { Gives (λ x. (plain_stmt x.0, x.1.now)) result (read_reading source.entry.text.now tokens.now) }
 {
-    let (((word, from), index), rest) = indexed(source, READ, tokens)?;
-    let (_, rest) = expect(rest, INTO)?;
-    let (into, rest) = expect(rest, REG)?;
-    let (_, rest) = expect(rest, SEMICOLON)?;
-    let what = What::Read(source.name(from)?, index, source.register(into)?);
+    let ((((word, _), index), name), rest) = named_index(source, READ, tokens)?;
+    let (_, rest) = match expect(rest, INTO) {
+        Ok(next) => next,
+        Err(halt) => {
+            discard((index, name));
+            return Err(halt);
+        }
+    };
+    let (into, rest) = match expect(rest, REG) {
+        Ok(next) => next,
+        Err(halt) => {
+            discard((index, name));
+            return Err(halt);
+        }
+    };
+    let (_, rest) = match expect(rest, SEMICOLON) {
+        Ok(next) => next,
+        Err(halt) => {
+            discard((index, name));
+            return Err(halt);
+        }
+    };
+    let into = match source.register(into) {
+        Ok(next) => next,
+        Err(halt) => {
+            discard((index, name));
+            return Err(Halt::from(halt));
+        }
+    };
+    let what = What::Read(name, index, into);
     Ok((
         Stmt {
             what,
@@ -214,33 +252,26 @@ pub fn reading<'a>(source: Source<'_>, tokens: &'a [Token]) -> Read<'a, Stmt>
 pub fn writing<'a>(source: Source<'_>, room: u32, tokens: &'a [Token]) -> Read<'a, Stmt>
     ensures { Gives (λ x. (plain_stmt x.0, x.1.now)) result (read_writing source.entry.text.now (read_expression source.entry.text.now room) tokens.now) }
 {
-    let (((word, to), index), rest) = indexed(source, WRITE, tokens)?;
+    let ((((word, _), index), name), rest) = named_index(source, WRITE, tokens)?;
     let (_, rest) = match expect(rest, ASSIGN) {
         Ok(next) => next,
         Err(halt) => {
-            discard(index);
+            discard((index, name));
             return Err(halt);
         }
     };
     let (value, rest) = match expression(source, room, rest) {
         Ok(next) => next,
         Err(halt) => {
-            discard(index);
+            discard((index, name));
             return Err(halt);
         }
     };
     let (_, rest) = match expect(rest, SEMICOLON) {
         Ok(next) => next,
         Err(halt) => {
-            discard((index, value));
+            discard((index, name, value));
             return Err(halt);
-        }
-    };
-    let name = match source.name(to) {
-        Ok(next) => next,
-        Err(halt) => {
-            discard((index, value));
-            return Err(Halt::from(halt));
         }
     };
     let what = What::Write(name, index, value);

@@ -21,7 +21,7 @@ use gp_base::Seq;
 use task_ast::{Stmt, What};
 
 /// Which statements a block may hold: all, or data statements alone.
-#[derive(Clone, Copy, PartialEq, Eq)]
+#[derive(Clone, Copy)]
 pub enum Allowed {
     All,
     Data,

@@ -9,7 +9,7 @@ ghost use Rattle.task_parser.specs.inner.Gives.{Gives};
 
 use crate::classes::*;
 use crate::halt::Read;
-use crate::next::{expect, is_next, is_of};
+use crate::next::{expect, expect_before, is_next, is_of};
 use crate::source::Source;
 use crate::statements::{Allowed, statements};
 use crate::token::Token;
@@ -105,9 +105,7 @@ fn var_lines<'a>(source: Source<'_>, tokens: &'a [Token]) -> Read<'a, Seq<VarLin
 fn task<'a>(source: Source<'_>, room: u32, tokens: &'a [Token]) -> Read<'a, TaskText>
     ensures { Gives (λ x. (plain_task x.0, x.1.now)) result (read_task source.entry.text.now room tokens.now) }
 {
-    let (word, rest) = expect(tokens, TASK)?;
-    let (title, rest) = expect(rest, NAME)?;
-    let (_, rest) = expect(rest, OPEN_PAREN)?;
+    let ((word, title), rest) = expect_before(tokens, TASK, NAME, OPEN_PAREN)?;
     let (params, rest) = param_list(source, rest)?;
     let (_, rest) = expect(rest, CLOSE_PAREN)?;
     let (_, rest) = expect(rest, OPEN_BRACE)?;

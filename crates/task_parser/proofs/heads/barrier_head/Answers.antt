@@ -7,10 +7,8 @@ unfolding read_barrier_head
 returns c =
     rw (
       c.in_ok-word.ensures,
-      c.in_ok-title.ensures,
-      c.in_ok-rest.ensures,
       c.in_ok-count.ensures,
+      c.in_ok-rest.ensures,
       c.in_ok-rest-2.ensures,
-      c.in_ok-rest-3.ensures,
       c.in_ok-name.ensures,
     ) (search (rules, c.number-number.ensures))

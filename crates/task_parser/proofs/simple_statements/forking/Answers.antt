@@ -8,12 +8,10 @@ unfolding read_forking
 returns c =
     rw (
       c.in_ok-word.ensures,
-      c.in_ok-task.ensures,
-      c.in_ok-rest.ensures,
       c.in_ok-arguments.ensures,
-      c.in_ok-rest-2.ensures,
+      c.in_ok-rest.ensures,
       c.in_ok-into.ensures,
-      c.in_ok-rest-3.ensures,
+      c.in-Ok.ensures,
       stmt_At,
       what_Fork,
       c.in_ok-name.ensures,

@@ -7,12 +7,12 @@ pub returns : goal.returns
 unfolding read_reading
 returns c =
     rw (
-      c.in_ok-word.ensures,
-      c.in_ok-rest.ensures,
-      c.in_ok-into.ensures,
-      c.in_ok-rest-2.ensures,
+      c.in_ok-word.ensures.reads,
+      c.in-Ok.ensures,
+      c.in-Ok-expect.ensures,
+      c.in-Ok-expect-2.ensures,
       stmt_At,
       what_Read,
-      c.in_ok-name.ensures,
-      c.in_ok-register.ensures,
+      c.in_ok-word.ensures.name,
+      c.in-Ok-register.ensures,
     ) refl

@@ -7,11 +7,11 @@ pub returns : goal.returns
 unfolding read_writing
 returns c =
     rw (
-      c.in_ok-word.ensures,
+      c.in_ok-word.ensures.reads,
       c.in-Ok.ensures,
       c.in-Ok-expression.ensures,
       c.in-Ok-expect.ensures,
       stmt_At,
       what_Write,
-      c.in-Ok-name.ensures,
+      c.in_ok-word.ensures.name,
     ) refl
