@@ -17,10 +17,10 @@ simple_app One = refl
 simple_app Check = refl
 simple_app Soak = refl
 
--- what a parse says, by the command's own word
-pub parsed_by : (parser app : App) (words : List Text) (found parse : Option ArgMatches) → parser ≡ app → parse ≡ found
-    → IsParsedAs parser words parse → IsParsedAs app words found
-parsed_by parser app words found parse same some h = rw (← same, ← some) h
+-- what a parse says of the matches that it found
+pub parsed_by : (app : App) (words : List Text) (found parse : Option ArgMatches) → parse ≡ found
+    → IsParsedAs app words parse → IsParsedAs app words found
+parsed_by app words found parse some h = rw (← some) h
 
 choice : {X : Type 0} (kinds : Kinds) (taken : Option X) → (kinds ≡ [] → ⊥) → (if is_faultless kinds then taken else None) ≡ None
 choice [] taken refused = absurd (refused refl)

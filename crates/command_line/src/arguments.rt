@@ -1,6 +1,6 @@
 // The arguments of a command, one parse by it, and the values that the parse found.
 ghost use Rattle.std.specs.Prelude.{◌≡◌, ◌≤◌, false, true, map, option_map, string_bytes, IfOk, IfSome};
-ghost use Rattle.clap.specs.Words.{app_of, found_of, is_simple_and_free, rows_of, rule_of};
+ghost use Rattle.clap.specs.Words.{App, app_of, found_of, is_simple_and_free, rows_of, rule_of, with_rule};
 ghost use Rattle.command_line.specs.meaning.Arguments.{option_of, flag_of, is_on, positional, number_of, number_or, text_of};
 ghost use Rattle.command_line.specs.Arguments.{IsParsedAs};
 
@@ -9,32 +9,69 @@ use clap::error::ErrorKind;
 use clap::{Arg, ArgAction, ArgMatches, Command};
 use std::alloc::{AllocError, Global};
 
-/// A word that has to stand there.
-pub fn positional<'a>(alloc: Global, name: &'a str) -> Arg<'a>
+// A word that has to stand there.
+fn positional<'a>(alloc: Global, name: &'a str) -> Arg<'a>
     ensures rule { rule_of result ≡ positional name.entry.now }
     ensures local { result.global ≡ false }
 {
     Arg::new(alloc, name).required(true)
 }
 
-/// An option with a value, which may be left out.
-pub fn option<'a>(alloc: Global, name: &'a str) -> Arg<'a>
+// An option with a value, which may be left out.
+fn option<'a>(alloc: Global, name: &'a str) -> Arg<'a>
     ensures rule { rule_of result ≡ option_of name.entry.now }
     ensures local { result.global ≡ false }
 {
     Arg::new(alloc, name).long(name)
 }
 
-/// A flag, which has no value and may be left out.
-pub fn flag<'a>(alloc: Global, name: &'a str) -> Arg<'a>
+// A flag, which has no value and may be left out.
+fn flag<'a>(alloc: Global, name: &'a str) -> Arg<'a>
     ensures rule { rule_of result ≡ flag_of name.entry.now }
     ensures local { result.global ≡ false }
 {
     Arg::new(alloc, name).long(name).action(ArgAction::SetTrue)
 }
 
-/// The matches of the words, of which the first is the command's own, or none where the command does not take them.
-pub fn taken<'a>(
+/// The command with a word that has to stand there. Here and below a command that is being built is a result: once
+/// memory was out, nothing more is added to it.
+pub fn with_positional<'a>(
+    alloc: Global,
+    command: Result<Command<'a>, AllocError>,
+    name: &'a str,
+) -> Result<Command<'a>, AllocError>
+    ensures { (app : App) → IfOk command.entry (λ c. app_of c ≡ app)
+        → IfOk result (λ placed. app_of placed ≡ with_rule app (positional name.entry.now)) }
+{
+    command?.arg(positional(alloc, name))
+}
+
+/// The command with an option that has a value and may be left out.
+pub fn with_option<'a>(
+    alloc: Global,
+    command: Result<Command<'a>, AllocError>,
+    name: &'a str,
+) -> Result<Command<'a>, AllocError>
+    ensures { (app : App) → IfOk command.entry (λ c. app_of c ≡ app)
+        → IfOk result (λ opted. app_of opted ≡ with_rule app (option_of name.entry.now)) }
+{
+    command?.arg(option(alloc, name))
+}
+
+/// The command with a flag, which has no value and may be left out.
+pub fn with_flag<'a>(
+    alloc: Global,
+    command: Result<Command<'a>, AllocError>,
+    name: &'a str,
+) -> Result<Command<'a>, AllocError>
+    ensures { (app : App) → IfOk command.entry (λ c. app_of c ≡ app)
+        → IfOk result (λ flagged. app_of flagged ≡ with_rule app (flag_of name.entry.now)) }
+{
+    command?.arg(flag(alloc, name))
+}
+
+// The matches of the words, of which the first is the command's own, or none where the command does not take them.
+fn taken_by<'a>(
     command: Command<'a>,
     words: &'a [String],
 ) -> Result<Option<ArgMatches<'a>>, AllocError>
@@ -44,13 +81,27 @@ pub fn taken<'a>(
     match command.try_get_matches_from(words) {
         Ok(matches) => Ok(Some(matches)),
         Err(error) => {
-            if error.kind() == ErrorKind::OutOfMemory {
+            let kind = error.kind();
+            drop(error);
+            if kind == ErrorKind::OutOfMemory {
                 Err(AllocError)
             } else {
                 Ok(None)
             }
         }
     }
+}
+
+/// The same, where there was memory for the command.
+pub fn taken<'a>(
+    command: Result<Command<'a>, AllocError>,
+    words: &'a [String],
+) -> Result<Option<ArgMatches<'a>>, AllocError>
+    requires { IfOk command (λ c. is_simple_and_free (app_of c) ≡ true) }
+    ensures { (app : App) → IfOk command.entry (λ c. app_of c ≡ app)
+        → IfOk result (IsParsedAs app (map string_bytes words.entry.now)) }
+{
+    taken_by(command?, words)
 }
 
 /// The text that stands for an argument.

@@ -1,12 +1,13 @@
 // The commands, and what words ask for.
 ghost use Rattle.std.specs.Prelude.{◌≡◌, ◌<◌, ◌≤◌, IfOk, IfSome, option_map};
 ghost use Rattle.gp_base.specs.declared.limits.TheConstants.{MOST_WORKERS, MOST_SUBTHREADS, LEAST_MOVES, MOST_MOVES};
-ghost use Rattle.clap.specs.Words.{app_of, found_of, rows_of};
+ghost use Rattle.clap.specs.Words.{App, app_of, found_of, rows_of};
 ghost use Rattle.command_line.specs.meaning.Words.{texts, named_verb, named_crew, app_for, on_program, with_limits, with_crew, for_run, for_soak, asked_among, asked_by, asked_in, asked_of, asked_waiting, command_in, crew_in, soak_in, limits_in, program_in, faults_in, is_pipe, wants_pipe};
 ghost use Rattle.command_line.specs.Words.{IsWithinRanges, IsWithinLimits};
 
 use crate::arguments::{
-    flag, found_number, found_text, is_given, option, option_number, positional, taken,
+    found_number, found_text, is_given, option_number, taken, with_flag, with_option,
+    with_positional,
 };
 use clap::ArgMatches;
 use gp_base::limits::{
@@ -61,7 +62,7 @@ pub struct Asked {
 }
 
 /// The first word of a call.
-#[derive(Clone, Copy, PartialEq, Eq)]
+#[derive(Clone, Copy)]
 pub enum Verb {
     Run,
     One,
@@ -108,45 +109,42 @@ fn named_crew(waits: bool, word: &str) -> Option<CrewKind>
 pub fn on_program<'a>(alloc: Global, name: &'a str) -> Result<clap::Command<'a>, AllocError>
     ensures { IfOk result (λ parser. app_of parser ≡ on_program name.entry.now) }
 {
-    let program = positional(alloc, "program");
     let start = clap::Command::new(alloc, name).disable_help_flag(true);
-    start.arg(program)
+    with_positional(alloc, Ok(start), "program")
 }
 
 /// The command with the options of limits.
 pub fn with_limits<'a>(
     alloc: Global,
-    parser: clap::Command<'a>,
+    parser: Result<clap::Command<'a>, AllocError>,
 ) -> Result<clap::Command<'a>, AllocError>
-    ensures { IfOk result (λ limited. app_of limited ≡ with_limits (app_of parser.entry)) }
+    ensures { (app : App) → IfOk parser.entry (λ p. app_of p ≡ app)
+        → IfOk result (λ limited. app_of limited ≡ with_limits app) }
 {
-    let turns = option(alloc, "turns");
-    let subthreads = option(alloc, "subthreads");
-    parser.arg(turns)?.arg(subthreads)
+    let timed = with_option(alloc, parser, "turns");
+    with_option(alloc, timed, "subthreads")
 }
 
 /// The command with the options of a crew.
 pub fn with_crew<'a>(
     alloc: Global,
-    parser: clap::Command<'a>,
+    parser: Result<clap::Command<'a>, AllocError>,
 ) -> Result<clap::Command<'a>, AllocError>
-    ensures { IfOk result (λ manned. app_of manned ≡ with_crew (app_of parser.entry)) }
+    ensures { (app : App) → IfOk parser.entry (λ p. app_of p ≡ app)
+        → IfOk result (λ manned. app_of manned ≡ with_crew app) }
 {
-    let workers = option(alloc, "workers");
-    let crew = option(alloc, "crew");
-    parser.arg(workers)?.arg(crew)
+    let shared = with_option(alloc, parser, "workers");
+    with_option(alloc, shared, "crew")
 }
 
 // What takes the words of `run`.
 fn for_run<'a>(alloc: Global) -> Result<clap::Command<'a>, AllocError>
     ensures { IfOk result (λ parser. app_of parser ≡ for_run) }
 {
-    let faults = option(alloc, "faults");
-    let trace = flag(alloc, "trace");
-    let program = on_program(alloc, "run")?;
-    let struck = program.arg(faults)?;
-    let traced = struck.arg(trace)?;
-    let limited = with_limits(alloc, traced)?;
+    let program = on_program(alloc, "run");
+    let struck = with_option(alloc, program, "faults");
+    let traced = with_flag(alloc, struck, "trace");
+    let limited = with_limits(alloc, traced);
     with_crew(alloc, limited)
 }
 
@@ -154,11 +152,9 @@ fn for_run<'a>(alloc: Global) -> Result<clap::Command<'a>, AllocError>
 fn for_soak<'a>(alloc: Global) -> Result<clap::Command<'a>, AllocError>
     ensures { IfOk result (λ parser. app_of parser ≡ for_soak) }
 {
-    let moves = positional(alloc, "moves");
-    let start = positional(alloc, "start");
     let parser = clap::Command::new(alloc, "soak").disable_help_flag(true);
-    let counted = parser.arg(moves)?;
-    let drawn = counted.arg(start)?;
+    let counted = with_positional(alloc, Ok(parser), "moves");
+    let drawn = with_positional(alloc, counted, "start");
     with_crew(alloc, drawn)
 }
 
@@ -168,10 +164,7 @@ fn parser_for<'a>(alloc: Global, verb: Verb) -> Result<clap::Command<'a>, AllocE
 {
     match verb {
         Verb::Run => for_run(alloc),
-        Verb::One => {
-            let parser = on_program(alloc, "one")?;
-            with_limits(alloc, parser)
-        }
+        Verb::One => with_limits(alloc, on_program(alloc, "one")),
         Verb::Check => on_program(alloc, "check"),
         Verb::Soak => for_soak(alloc),
     }
@@ -254,6 +247,16 @@ fn limits_in(matches: &ArgMatches<'_>) -> Option<Limits>
     })
 }
 
+// The name that a text is, where there is one.
+fn named(alloc: Global, text: Option<&str>) -> Result<Option<Name>, AllocError>
+    ensures { IfOk result (λ name. name ≡ option_map (λ text. text.now) text.entry) }
+{
+    match text {
+        Some(text) => Ok(Some(Name::from_slice(alloc, text.as_bytes())?)),
+        None => Ok(None),
+    }
+}
+
 /// What the matches of a command ask for, or none where a value is not one of its option.
 pub fn asked_in(
     alloc: Global,
@@ -281,13 +284,11 @@ pub fn asked_in(
     let Some(workers) = option_number(matches, "workers", 1, most, usual) else {
         return Ok(None);
     };
-    let faults = match faults_in(verb, matches) {
-        Some(name) => Some(Name::from_slice(alloc, name.as_bytes())?),
-        None => None,
-    };
+    let program = Name::from_slice(alloc, program.as_bytes())?;
+    let faults = named(alloc, faults_in(verb, matches))?;
     Ok(Some(Asked {
         command,
-        program: Name::from_slice(alloc, program.as_bytes())?,
+        program,
         faults,
         limits,
         crew,
@@ -308,8 +309,7 @@ pub fn asked_of(
     ensures asked { IfOk result (λ asked. asked ≡ asked_of waits verb (texts words.now)) }
     ensures within { IfOk result (λ asked. IfSome asked IsWithinLimits) }
 {
-    let parser = parser_for(alloc, verb)?;
-    match taken(parser, words)? {
+    match taken(parser_for(alloc, verb), words)? {
         Some(matches) => asked_in(alloc, waits, verb, &matches),
         None => Ok(None),
     }

@@ -5,7 +5,7 @@ ghost use Rattle.command_line.specs.meaning.Words.{texts};
 ghost use Rattle.command_line.specs.Words.{IsWithinLimits};
 ghost use Rattle.command_line.specs.meaning.AuditWords.{for_audit, audited_in, audited_of, audited_by};
 
-use crate::arguments::{found_text, option, positional, taken};
+use crate::arguments::{found_text, taken, with_option, with_positional};
 use crate::asked::{Asked, Verb, asked_in, on_program, with_limits};
 use clap::ArgMatches;
 use gp_base::Name;
@@ -23,11 +23,9 @@ pub struct Audited {
 fn for_audit<'a>(alloc: Global) -> Result<clap::Command<'a>, AllocError>
     ensures { IfOk result (λ parser. app_of parser ≡ for_audit) }
 {
-    let trace = positional(alloc, "trace_file");
-    let faults = option(alloc, "faults");
-    let program = on_program(alloc, "audit")?;
-    let traced = program.arg(trace)?;
-    let struck = traced.arg(faults)?;
+    let program = on_program(alloc, "audit");
+    let traced = with_positional(alloc, program, "trace_file");
+    let struck = with_option(alloc, traced, "faults");
     with_limits(alloc, struck)
 }
 
@@ -36,16 +34,14 @@ fn audited_in(alloc: Global, matches: &ArgMatches<'_>) -> Result<Option<Audited>
     ensures audited { IfOk result (λ audited. audited ≡ audited_in (rows_of (found_of matches.now))) }
     ensures within { IfOk result (λ audited. IfSome audited (λ a. IsWithinLimits a.run)) }
 {
-    let Some(run) = asked_in(alloc, false, Verb::Run, matches)? else {
-        return Ok(None);
-    };
     let Some(trace) = found_text(matches, "trace_file") else {
         return Ok(None);
     };
-    Ok(Some(Audited {
-        run,
-        trace: Name::from_slice(alloc, trace.as_bytes())?,
-    }))
+    let trace = Name::from_slice(alloc, trace.as_bytes())?;
+    let Some(run) = asked_in(alloc, false, Verb::Run, matches)? else {
+        return Ok(None);
+    };
+    Ok(Some(Audited { run, trace }))
 }
 
 // What the words of the command ask for, or none where it does not take them.
@@ -53,8 +49,7 @@ fn audited_of(alloc: Global, words: &[String]) -> Result<Option<Audited>, AllocE
     ensures audited { IfOk result (λ audited. audited ≡ audited_of (texts words.now)) }
     ensures within { IfOk result (λ audited. IfSome audited (λ a. IsWithinLimits a.run)) }
 {
-    let parser = for_audit(alloc)?;
-    match taken(parser, words)? {
+    match taken(for_audit(alloc), words)? {
         Some(matches) => audited_in(alloc, &matches),
         None => Ok(None),
     }

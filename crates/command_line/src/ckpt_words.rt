@@ -6,7 +6,7 @@ ghost use Rattle.command_line.specs.Words.{IsWithinLimits};
 ghost use Rattle.command_line.specs.meaning.CkptWords.{for_ckpt, every_in, ckpt_in, ckpt_of, ckpt_by};
 ghost use Rattle.command_line.specs.declared.ckpt_words.TheConstants.{LEAST_EVERY, MOST_EVERY};
 
-use crate::arguments::{option, option_number, taken};
+use crate::arguments::{option_number, taken, with_option};
 use crate::asked::{Asked, Command, Verb, asked_in, on_program, with_crew, with_limits};
 use clap::ArgMatches;
 use std::alloc::{AllocError, Global};
@@ -22,12 +22,10 @@ pub const DEFAULT_EVERY: u32 = 64;
 fn for_ckpt<'a>(alloc: Global) -> Result<clap::Command<'a>, AllocError>
     ensures { IfOk result (λ parser. app_of parser ≡ for_ckpt) }
 {
-    let every = option(alloc, "every");
-    let faults = option(alloc, "faults");
-    let program = on_program(alloc, "ckpt")?;
-    let cut = program.arg(every)?;
-    let struck = cut.arg(faults)?;
-    let limited = with_limits(alloc, struck)?;
+    let program = on_program(alloc, "ckpt");
+    let cut = with_option(alloc, program, "every");
+    let struck = with_option(alloc, cut, "faults");
+    let limited = with_limits(alloc, struck);
     with_crew(alloc, limited)
 }
 
@@ -66,8 +64,7 @@ fn ckpt_of(alloc: Global, words: &[String]) -> Result<Option<Asked>, AllocError>
     ensures asked { IfOk result (λ asked. asked ≡ ckpt_of (texts words.now)) }
     ensures within { IfOk result (λ asked. IfSome asked IsWithinLimits) }
 {
-    let parser = for_ckpt(alloc)?;
-    match taken(parser, words)? {
+    match taken(for_ckpt(alloc), words)? {
         Some(matches) => ckpt_in(alloc, &matches),
         None => Ok(None),
     }

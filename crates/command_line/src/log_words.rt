@@ -1,11 +1,11 @@
 // The words of `log`: a run that keeps a log of what retires.
-ghost use Rattle.std.specs.Prelude.{◌≡◌, IfOk, IfSome};
+ghost use Rattle.std.specs.Prelude.{◌≡◌, Some, IfOk, IfSome};
 ghost use Rattle.clap.specs.Words.{app_of, found_of, rows_of};
 ghost use Rattle.command_line.specs.meaning.Words.{texts};
 ghost use Rattle.command_line.specs.Words.{IsWithinLimits};
-ghost use Rattle.command_line.specs.meaning.LogWords.{for_log, steals, log_in, log_of, log_by};
+ghost use Rattle.command_line.specs.meaning.LogWords.{for_log, steals, log_with, log_in, log_of, log_by};
 
-use crate::arguments::{option, taken};
+use crate::arguments::{taken, with_option};
 use crate::asked::{Asked, Command, CrewKind, Verb, asked_in, on_program, with_crew, with_limits};
 use clap::ArgMatches;
 use std::alloc::{AllocError, Global};
@@ -14,10 +14,9 @@ use std::alloc::{AllocError, Global};
 fn for_log<'a>(alloc: Global) -> Result<clap::Command<'a>, AllocError>
     ensures { IfOk result (λ parser. app_of parser ≡ for_log) }
 {
-    let faults = option(alloc, "faults");
-    let program = on_program(alloc, "log")?;
-    let struck = program.arg(faults)?;
-    let limited = with_limits(alloc, struck)?;
+    let program = on_program(alloc, "log");
+    let struck = with_option(alloc, program, "faults");
+    let limited = with_limits(alloc, struck);
     with_crew(alloc, limited)
 }
 
@@ -28,23 +27,32 @@ fn steals(crew: CrewKind) -> bool
     crew == CrewKind::Steal
 }
 
+// The run with a log, or none where no log is kept under its crew.
+fn logged(run: Asked) -> Option<Asked>
+    requires { IsWithinLimits run }
+    ensures asked { result ≡ log_with (Some run) }
+    ensures within { IfSome result IsWithinLimits }
+{
+    if steals(run.crew) {
+        return None;
+    }
+    Some(Asked {
+        command: Command::Log,
+        trace: false,
+        ..run
+    })
+}
+
 // What the matches of the command ask for, or none where a value is not one of its option, or no log is kept under the
 // crew.
 fn log_in(alloc: Global, matches: &ArgMatches<'_>) -> Result<Option<Asked>, AllocError>
     ensures asked { IfOk result (λ asked. asked ≡ log_in (rows_of (found_of matches.now))) }
     ensures within { IfOk result (λ asked. IfSome asked IsWithinLimits) }
 {
-    let Some(run) = asked_in(alloc, false, Verb::Run, matches)? else {
-        return Ok(None);
-    };
-    if steals(run.crew) {
-        return Ok(None);
+    match asked_in(alloc, false, Verb::Run, matches)? {
+        Some(run) => Ok(logged(run)),
+        None => Ok(None),
     }
-    Ok(Some(Asked {
-        command: Command::Log,
-        trace: false,
-        ..run
-    }))
 }
 
 // What the words of the command ask for, or none where it does not take them.
@@ -52,8 +60,7 @@ fn log_of(alloc: Global, words: &[String]) -> Result<Option<Asked>, AllocError>
     ensures asked { IfOk result (λ asked. asked ≡ log_of (texts words.now)) }
     ensures within { IfOk result (λ asked. IfSome asked IsWithinLimits) }
 {
-    let parser = for_log(alloc)?;
-    match taken(parser, words)? {
+    match taken(for_log(alloc), words)? {
         Some(matches) => log_in(alloc, &matches),
         None => Ok(None),
     }

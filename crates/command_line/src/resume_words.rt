@@ -5,7 +5,7 @@ ghost use Rattle.command_line.specs.meaning.Words.{texts};
 ghost use Rattle.command_line.specs.Words.{IsWithinLimits};
 ghost use Rattle.command_line.specs.meaning.ResumeWords.{for_resume, resumed_in, resumed_of, resumed_by};
 
-use crate::arguments::{found_text, positional, taken};
+use crate::arguments::{found_text, taken, with_positional};
 use crate::asked::{Asked, Verb, asked_in, on_program, with_limits};
 use clap::ArgMatches;
 use gp_base::Name;
@@ -22,9 +22,8 @@ pub struct Resumed {
 fn for_resume<'a>(alloc: Global) -> Result<clap::Command<'a>, AllocError>
     ensures { IfOk result (λ parser. app_of parser ≡ for_resume) }
 {
-    let log = positional(alloc, "log_file");
-    let program = on_program(alloc, "resume")?;
-    let logged = program.arg(log)?;
+    let program = on_program(alloc, "resume");
+    let logged = with_positional(alloc, program, "log_file");
     with_limits(alloc, logged)
 }
 
@@ -33,16 +32,14 @@ fn resumed_in(alloc: Global, matches: &ArgMatches<'_>) -> Result<Option<Resumed>
     ensures resumed { IfOk result (λ resumed. resumed ≡ resumed_in (rows_of (found_of matches.now))) }
     ensures within { IfOk result (λ resumed. IfSome resumed (λ r. IsWithinLimits r.run)) }
 {
-    let Some(run) = asked_in(alloc, false, Verb::One, matches)? else {
-        return Ok(None);
-    };
     let Some(log) = found_text(matches, "log_file") else {
         return Ok(None);
     };
-    Ok(Some(Resumed {
-        run,
-        log: Name::from_slice(alloc, log.as_bytes())?,
-    }))
+    let log = Name::from_slice(alloc, log.as_bytes())?;
+    let Some(run) = asked_in(alloc, false, Verb::One, matches)? else {
+        return Ok(None);
+    };
+    Ok(Some(Resumed { run, log }))
 }
 
 // What the words of the command ask for, or none where it does not take them.
@@ -50,8 +47,7 @@ fn resumed_of(alloc: Global, words: &[String]) -> Result<Option<Resumed>, AllocE
     ensures resumed { IfOk result (λ resumed. resumed ≡ resumed_of (texts words.now)) }
     ensures within { IfOk result (λ resumed. IfSome resumed (λ r. IsWithinLimits r.run)) }
 {
-    let parser = for_resume(alloc)?;
-    match taken(parser, words)? {
+    match taken(for_resume(alloc), words)? {
         Some(matches) => resumed_in(alloc, &matches),
         None => Ok(None),
     }

@@ -5,7 +5,7 @@ ghost use Rattle.command_line.specs.meaning.Words.{texts};
 ghost use Rattle.command_line.specs.Words.{IsWithinLimits};
 ghost use Rattle.command_line.specs.meaning.WhyWords.{for_why, position_in, sought_in, sought_of, sought_by};
 
-use crate::arguments::{found_number, option, positional, taken};
+use crate::arguments::{found_number, taken, with_option, with_positional};
 use crate::asked::{Asked, Verb, asked_in, on_program, with_limits};
 use clap::ArgMatches;
 use std::alloc::{AllocError, Global};
@@ -22,11 +22,9 @@ pub struct Sought {
 fn for_why<'a>(alloc: Global) -> Result<clap::Command<'a>, AllocError>
     ensures { IfOk result (λ parser. app_of parser ≡ for_why) }
 {
-    let position = positional(alloc, "position");
-    let faults = option(alloc, "faults");
-    let program = on_program(alloc, "why")?;
-    let placed = program.arg(position)?;
-    let struck = placed.arg(faults)?;
+    let program = on_program(alloc, "why");
+    let placed = with_positional(alloc, program, "position");
+    let struck = with_option(alloc, placed, "faults");
     with_limits(alloc, struck)
 }
 
@@ -42,10 +40,10 @@ fn sought_in(alloc: Global, matches: &ArgMatches<'_>) -> Result<Option<Sought>, 
     ensures sought { IfOk result (λ sought. sought ≡ sought_in (rows_of (found_of matches.now))) }
     ensures within { IfOk result (λ sought. IfSome sought (λ s. IsWithinLimits s.run)) }
 {
-    let Some(run) = asked_in(alloc, false, Verb::Run, matches)? else {
+    let Some(position) = position_in(matches) else {
         return Ok(None);
     };
-    let Some(position) = position_in(matches) else {
+    let Some(run) = asked_in(alloc, false, Verb::Run, matches)? else {
         return Ok(None);
     };
     Ok(Some(Sought { run, position }))
@@ -56,8 +54,7 @@ fn sought_of(alloc: Global, words: &[String]) -> Result<Option<Sought>, AllocErr
     ensures sought { IfOk result (λ sought. sought ≡ sought_of (texts words.now)) }
     ensures within { IfOk result (λ sought. IfSome sought (λ s. IsWithinLimits s.run)) }
 {
-    let parser = for_why(alloc)?;
-    match taken(parser, words)? {
+    match taken(for_why(alloc), words)? {
         Some(matches) => sought_in(alloc, &matches),
         None => Ok(None),
     }

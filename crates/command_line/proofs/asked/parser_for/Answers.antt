@@ -1,17 +1,18 @@
 use Rattle.std.proofs.Common.{ap, sym, ◌∙◌}
+use Rattle.std.specs.Prelude.{codes}
 use Rattle.std.proofs.lemmas.Result.{IfOk-weaker}
-use Rattle.command_line.specs.meaning.Words.{app_for, with_limits}
+use Rattle.command_line.specs.meaning.Words.{app_for, on_program}
 use Rattle.command_line.proofs.asked.parser_for.Goals as goal
 
 pub returns-in-Run : goal.returns-in-Run
 unfolding app_for
 returns-in-Run c = IfOk-weaker c.for_run.result _ _ (λ parser is. is ∙ ap app_for (sym c.in-Run.is)) c.for_run.ensures
 
-pub returns-in_ok-parser-in-One : goal.returns-in_ok-parser-in-One
+pub returns-in-One : goal.returns-in-One
 unfolding app_for
-returns-in_ok-parser-in-One c =
-    IfOk-weaker c.with_limits.result _ _ (λ parser is. is ∙ ap with_limits c.in_ok-parser-in-One.ensures
-    ∙ ap app_for (sym c.in-One.is)) c.with_limits.ensures
+returns-in-One c =
+    IfOk-weaker c.with_limits.result _ _ (λ parser is. is ∙ ap app_for (sym c.in-One.is))
+    (c.with_limits.ensures (on_program (codes "one")) c.on_program.ensures)
 
 pub returns-in-Check : goal.returns-in-Check
 unfolding app_for

@@ -1,6 +1,6 @@
 use Rattle.std.proofs.Common.{◌≡◌, ◌∙◌, ap, refl, true, Some, None}
 use Rattle.std.proofs.lemmas.Result.{IfOk-weaker}
-use Rattle.clap.specs.Words.{app_of, is_simple_and_free}
+use Rattle.clap.specs.Words.{is_simple_and_free}
 use Rattle.command_line.specs.meaning.Words.{texts}
 use Rattle.command_line.specs.meaning.CkptWords.{for_ckpt, ckpt_in}
 use Rattle.command_line.proofs.AskedFacts.{parsed_by, read_taken, read_refused}
@@ -12,19 +12,18 @@ unfolding for_ckpt
 simple_ckpt = refl
 
 pub taken-requires : goal.taken-requires
-taken-requires c = ap is_simple_and_free c.in_ok-parser.ensures ∙ simple_ckpt
+taken-requires c = IfOk-weaker c.for_ckpt.result _ _ (λ parser is. ap is_simple_and_free is ∙ simple_ckpt) c.for_ckpt.ensures
 
 pub returns-in-Some-clause-asked : goal.returns-in-Some-clause-asked
 returns-in-Some-clause-asked c =
     let words = texts c.args.words.now in
     let parsed =
-    parsed_by (app_of c.in_ok-parser.parser) for_ckpt words
-    (Some c.in-Some.matches) c.in_ok-matches.field-0 c.in_ok-parser.ensures c.in-Some.is c.in_ok-matches.ensures in
+    parsed_by for_ckpt words (Some c.in-Some.matches) c.in_ok-matches.field-0 c.in-Some.is
+    (c.in_ok-matches.ensures for_ckpt c.for_ckpt.ensures) in
     IfOk-weaker c.ckpt_in.result _ _ (λ asked is. is ∙ read_taken ckpt_in for_ckpt words c.in-Some.matches parsed) c.ckpt_in.ensures.asked
 
 pub returns-in-None-clause-asked : goal.returns-in-None-clause-asked
 returns-in-None-clause-asked c =
     let words = texts c.args.words.now in
-    read_refused ckpt_in for_ckpt words (parsed_by
-    (app_of c.in_ok-parser.parser) for_ckpt words None c.in_ok-matches.field-0 c.in_ok-parser.ensures c.in-None.is
-    c.in_ok-matches.ensures)
+    read_refused ckpt_in for_ckpt words (parsed_by for_ckpt words None c.in_ok-matches.field-0 c.in-None.is
+    (c.in_ok-matches.ensures for_ckpt c.for_ckpt.ensures))

@@ -1,14 +1,15 @@
-use Rattle.std.proofs.Common.{◌∙◌, ap, ap₂}
-use Rattle.std.proofs.lemmas.Result.{IfOk-weaker}
+use Rattle.std.specs.Prelude.{codes}
 use Rattle.clap.specs.Words.{with_rule}
-use Rattle.command_line.specs.meaning.Words.{with_limits, with_crew}
+use Rattle.command_line.specs.meaning.Arguments.{option_of}
+use Rattle.command_line.specs.meaning.Words.{on_program, with_limits}
 use Rattle.command_line.specs.meaning.CkptWords.{for_ckpt}
 use Rattle.command_line.proofs.ckpt_words.for_ckpt.Goals as goal
 
 pub returns : goal.returns
 unfolding for_ckpt
 returns c =
-    let cut = c.in_ok-cut.ensures.shape c.option-every.ensures.local ∙ ap₂ with_rule c.in_ok-program.ensures c.option-every.ensures.rule in
-    let struck = c.in_ok-struck.ensures.shape c.option-faults.ensures.local ∙ ap₂ with_rule cut c.option-faults.ensures.rule in
-    IfOk-weaker c.with_crew.result _ _ (λ parser is. is
-    ∙ ap with_crew (c.in_ok-limited.ensures ∙ ap with_limits struck)) c.with_crew.ensures
+    let program = on_program (codes "ckpt") in
+    let cut = with_rule program (option_of (codes "every")) in
+    let struck = with_rule cut (option_of (codes "faults")) in
+    let is-struck = c.with_option-struck.ensures cut (c.with_option-cut.ensures program c.on_program-program.ensures) in
+    c.with_crew.ensures (with_limits struck) (c.with_limits-limited.ensures struck is-struck)

@@ -1,14 +1,14 @@
-use Rattle.std.proofs.Common.{◌∙◌, ap, ap₂}
-use Rattle.std.proofs.lemmas.Result.{IfOk-weaker}
+use Rattle.std.specs.Prelude.{codes}
 use Rattle.clap.specs.Words.{with_rule}
-use Rattle.command_line.specs.meaning.Words.{with_limits, with_crew}
+use Rattle.command_line.specs.meaning.Arguments.{option_of}
+use Rattle.command_line.specs.meaning.Words.{on_program, with_limits}
 use Rattle.command_line.specs.meaning.LogWords.{for_log}
 use Rattle.command_line.proofs.log_words.for_log.Goals as goal
 
 pub returns : goal.returns
 unfolding for_log
 returns c =
-    let struck =
-    c.in_ok-struck.ensures.shape c.option-faults.ensures.local ∙ ap₂ with_rule c.in_ok-program.ensures c.option-faults.ensures.rule in
-    IfOk-weaker c.with_crew.result _ _ (λ parser is. is
-    ∙ ap with_crew (c.in_ok-limited.ensures ∙ ap with_limits struck)) c.with_crew.ensures
+    let program = on_program (codes "log") in
+    let struck = with_rule program (option_of (codes "faults")) in
+    let is-struck = c.with_option-struck.ensures program c.on_program-program.ensures in
+    c.with_crew.ensures (with_limits struck) (c.with_limits-limited.ensures struck is-struck)

@@ -1,13 +1,13 @@
-use Rattle.std.proofs.Common.{◌∙◌, ap, ap₂}
-use Rattle.std.proofs.lemmas.Result.{IfOk-weaker}
+use Rattle.std.specs.Prelude.{codes}
 use Rattle.clap.specs.Words.{with_rule}
-use Rattle.command_line.specs.meaning.Words.{with_limits}
+use Rattle.command_line.specs.meaning.Arguments.{positional}
+use Rattle.command_line.specs.meaning.Words.{on_program}
 use Rattle.command_line.specs.meaning.ResumeWords.{for_resume}
 use Rattle.command_line.proofs.resume_words.for_resume.Goals as goal
 
 pub returns : goal.returns
 unfolding for_resume
 returns c =
-    let logged =
-    c.in_ok-logged.ensures.shape c.positional-log.ensures.local ∙ ap₂ with_rule c.in_ok-program.ensures c.positional-log.ensures.rule in
-    IfOk-weaker c.with_limits.result _ _ (λ parser is. is ∙ ap with_limits logged) c.with_limits.ensures
+    let program = on_program (codes "resume") in
+    let logged = with_rule program (positional (codes "log_file")) in
+    c.with_limits.ensures logged (c.with_positional-logged.ensures program c.on_program-program.ensures)

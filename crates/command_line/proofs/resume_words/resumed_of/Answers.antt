@@ -1,6 +1,6 @@
 use Rattle.std.proofs.Common.{◌≡◌, ◌∙◌, ap, refl, true, Some, None}
 use Rattle.std.proofs.lemmas.Result.{IfOk-weaker}
-use Rattle.clap.specs.Words.{app_of, is_simple_and_free}
+use Rattle.clap.specs.Words.{is_simple_and_free}
 use Rattle.command_line.specs.meaning.Words.{texts}
 use Rattle.command_line.specs.meaning.ResumeWords.{for_resume, resumed_in}
 use Rattle.command_line.proofs.AskedFacts.{parsed_by, read_taken, read_refused}
@@ -12,20 +12,19 @@ unfolding for_resume
 simple_resume = refl
 
 pub taken-requires : goal.taken-requires
-taken-requires c = ap is_simple_and_free c.in_ok-parser.ensures ∙ simple_resume
+taken-requires c = IfOk-weaker c.for_resume.result _ _ (λ parser is. ap is_simple_and_free is ∙ simple_resume) c.for_resume.ensures
 
 pub returns-in-Some-clause-resumed : goal.returns-in-Some-clause-resumed
 returns-in-Some-clause-resumed c =
     let words = texts c.args.words.now in
     let parsed =
-    parsed_by (app_of c.in_ok-parser.parser) for_resume words
-    (Some c.in-Some.matches) c.in_ok-matches.field-0 c.in_ok-parser.ensures c.in-Some.is c.in_ok-matches.ensures in
+    parsed_by for_resume words (Some c.in-Some.matches) c.in_ok-matches.field-0 c.in-Some.is
+    (c.in_ok-matches.ensures for_resume c.for_resume.ensures) in
     IfOk-weaker c.resumed_in.result _ _ (λ resumed is. is ∙ read_taken resumed_in for_resume words c.in-Some.matches parsed)
     c.resumed_in.ensures.resumed
 
 pub returns-in-None-clause-resumed : goal.returns-in-None-clause-resumed
 returns-in-None-clause-resumed c =
     let words = texts c.args.words.now in
-    read_refused resumed_in for_resume words (parsed_by
-    (app_of c.in_ok-parser.parser) for_resume words None c.in_ok-matches.field-0 c.in_ok-parser.ensures c.in-None.is
-    c.in_ok-matches.ensures)
+    read_refused resumed_in for_resume words (parsed_by for_resume words None c.in_ok-matches.field-0 c.in-None.is
+    (c.in_ok-matches.ensures for_resume c.for_resume.ensures))

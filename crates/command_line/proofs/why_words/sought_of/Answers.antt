@@ -1,6 +1,6 @@
 use Rattle.std.proofs.Common.{◌≡◌, ◌∙◌, ap, refl, true, Some, None}
 use Rattle.std.proofs.lemmas.Result.{IfOk-weaker}
-use Rattle.clap.specs.Words.{app_of, is_simple_and_free}
+use Rattle.clap.specs.Words.{is_simple_and_free}
 use Rattle.command_line.specs.meaning.Words.{texts}
 use Rattle.command_line.specs.meaning.WhyWords.{for_why, sought_in}
 use Rattle.command_line.proofs.AskedFacts.{parsed_by, read_taken, read_refused}
@@ -12,20 +12,19 @@ unfolding for_why
 simple_why = refl
 
 pub taken-requires : goal.taken-requires
-taken-requires c = ap is_simple_and_free c.in_ok-parser.ensures ∙ simple_why
+taken-requires c = IfOk-weaker c.for_why.result _ _ (λ parser is. ap is_simple_and_free is ∙ simple_why) c.for_why.ensures
 
 pub returns-in-Some-clause-sought : goal.returns-in-Some-clause-sought
 returns-in-Some-clause-sought c =
     let words = texts c.args.words.now in
     let parsed =
-    parsed_by (app_of c.in_ok-parser.parser) for_why words
-    (Some c.in-Some.matches) c.in_ok-matches.field-0 c.in_ok-parser.ensures c.in-Some.is c.in_ok-matches.ensures in
+    parsed_by for_why words (Some c.in-Some.matches) c.in_ok-matches.field-0 c.in-Some.is
+    (c.in_ok-matches.ensures for_why c.for_why.ensures) in
     IfOk-weaker c.sought_in.result _ _ (λ sought is. is ∙ read_taken sought_in for_why words c.in-Some.matches parsed)
     c.sought_in.ensures.sought
 
 pub returns-in-None-clause-sought : goal.returns-in-None-clause-sought
 returns-in-None-clause-sought c =
     let words = texts c.args.words.now in
-    read_refused sought_in for_why words (parsed_by
-    (app_of c.in_ok-parser.parser) for_why words None c.in_ok-matches.field-0 c.in_ok-parser.ensures c.in-None.is
-    c.in_ok-matches.ensures)
+    read_refused sought_in for_why words (parsed_by for_why words None c.in_ok-matches.field-0 c.in-None.is
+    (c.in_ok-matches.ensures for_why c.for_why.ensures))
