@@ -192,7 +192,8 @@ impl<'a, H: Wait, G: Enter> PipeCrew<'a, H, G> {
     {
         match run_noted(self.alloc, self.work, &self.mean_steps, task) {
             Ok(done) => Ok(done),
-            Err(_) => {
+            Err(unrun) => {
+                drop(unrun);
                 self.inbox.fail();
                 Err(AllocError)
             }
@@ -254,6 +255,7 @@ impl<'a, H: Wait, G: Enter> PipeCrew<'a, H, G> {
         ensures out { left_all self.new.first self.new.behind.items ≡ left_in flight ++ flat_map left_in self.old.behind.items }
     {
         if flight.is_used_up() {
+            drop(flight);
             self.first = self.behind.pop_front();
             return;
         }
@@ -277,7 +279,8 @@ impl<'a, H: Wait, G: Enter> PipeCrew<'a, H, G> {
         self.put_first(flight);
         match run {
             Ok(done) => Ok(done),
-            Err(_) => {
+            Err(unrun) => {
+                drop(unrun);
                 self.inbox.fail();
                 Err(AllocError)
             }
