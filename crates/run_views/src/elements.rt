@@ -2,7 +2,7 @@
 ghost use Rattle.std.specs.Prelude.{◌≡◌, ◌++◌, codes, decimal, OnOk};
 ghost use Rattle.run_views.specs.meaning.Timeline.{at_place, placed, sized, words_from, words};
 
-use crate::names::push_number;
+use crate::names::{push_between, push_labelled};
 use std::alloc::AllocError;
 
 // Appends the place of an element.
@@ -10,11 +10,8 @@ use std::alloc::AllocError;
 fn push_place(text: &mut Vec<u8>, x: u64, y: u64) -> Result<(), AllocError>
     ensures { OnOk result (text.new.items ≡ text.old.items ++ at_place x y) }
 {
-    text.extend_from_slice(b" x='")?;
-    push_number(text, x)?;
-    text.extend_from_slice(b"' y='")?;
-    push_number(text, y)?;
-    text.extend_from_slice(b"'")
+    push_labelled(text, b" x='", x)?;
+    push_between(text, b"' y='", y, b"'")
 }
 
 /// Appends its size.
@@ -22,11 +19,8 @@ fn push_place(text: &mut Vec<u8>, x: u64, y: u64) -> Result<(), AllocError>
 pub fn push_sized(text: &mut Vec<u8>, width: u64, height: u64) -> Result<(), AllocError>
     ensures { OnOk result (text.new.items ≡ text.old.items ++ sized width height) }
 {
-    text.extend_from_slice(b" width='")?;
-    push_number(text, width)?;
-    text.extend_from_slice(b"' height='")?;
-    push_number(text, height)?;
-    text.extend_from_slice(b"'")
+    push_labelled(text, b" width='", width)?;
+    push_between(text, b"' height='", height, b"'")
 }
 
 /// Appends how an element of a class at a place begins, from its opening bracket and name on.
@@ -64,7 +58,7 @@ pub fn end_words(text: &mut Vec<u8>) -> Result<(), AllocError>
 }
 
 /// Appends a number as words of a class at a place.
-#[tactic(auto, unfolding(crate::specs::meaning::Timeline::words))]
+#[tactic(auto, unfolding(crate::specs::meaning::Timeline::words, crate::specs::meaning::Timeline::words_from))]
 pub fn push_numeral(
     text: &mut Vec<u8>,
     class: &[u8],
@@ -74,7 +68,6 @@ pub fn push_numeral(
 ) -> Result<(), AllocError>
     ensures { OnOk result (text.new.items ≡ text.old.items ++ words class.now x y (decimal number)) }
 {
-    push_words(text, class, x, y)?;
-    push_number(text, number)?;
-    end_words(text)
+    push_placed(text, b"<text", class, x, y)?;
+    push_between(text, b">", number, b"</text>\n")
 }

@@ -15,6 +15,31 @@ pub fn push_number<I: Integer>(text: &mut Vec<u8>, number: I) -> Result<(), Allo
     text.extend_from_slice(Buffer::new().format(number).as_bytes())
 }
 
+/// Appends a word and a number in decimal behind it.
+pub fn push_labelled<I: Integer>(
+    text: &mut Vec<u8>,
+    word: &[u8],
+    number: I,
+) -> Result<(), AllocError>
+    ensures { OnOk result (text.new.items ≡ text.old.items ++ word.now ++ I.text number) }
+{
+    text.extend_from_slice(word)?;
+    push_number(text, number)
+}
+
+/// Appends a number in decimal between two words.
+pub fn push_between<I: Integer>(
+    text: &mut Vec<u8>,
+    before: &[u8],
+    number: I,
+    after: &[u8],
+) -> Result<(), AllocError>
+    ensures { OnOk result (text.new.items ≡ text.old.items ++ before.now ++ I.text number ++ after.now) }
+{
+    push_labelled(text, before, number)?;
+    text.extend_from_slice(after)
+}
+
 // A size as a number; a negative one counts as 0.
 fn natural(size: i64) -> u64
     ensures value { result ≡ natural size }
@@ -28,9 +53,7 @@ fn push_cell(text: &mut Vec<u8>, array: &Name, index: u64) -> Result<(), AllocEr
     ensures { OnOk result (text.new.items ≡ text.old.items ++ cell_text array.now index) }
 {
     text.extend_from_slice(array.as_slice())?;
-    text.extend_from_slice(b"[")?;
-    push_number(text, index)?;
-    text.extend_from_slice(b"]")
+    push_between(text, b"[", index, b"]")
 }
 
 /// Appends the name of a lock cell.

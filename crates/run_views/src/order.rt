@@ -1,12 +1,13 @@
 // The text that shows the order of a run.
-ghost use Rattle.std.specs.Prelude.{◌≡◌, ◌++◌, map, IfOk, OnOk};
+ghost use Rattle.std.specs.Prelude.{◌≡◌, ◌++◌, codes, map, IfOk, OnOk};
 ghost use Rattle.task_ast.specs.View.{plain_program};
+ghost use Rattle.task_ast.specs.meaning.Names.{locks_of, barriers_of};
 ghost use Rattle.lock_checker.specs.Accepted.{program_of};
 ghost use Rattle.restart_log.specs.meaning.Tail.{why_word};
-ghost use Rattle.run_views.specs.meaning.Order.{sync_text, held_text, order_line, order_lines, end_line, order_text};
+ghost use Rattle.run_views.specs.meaning.Order.{cell_name, barrier_name, thread_text, sync_text, held_text, order_line, order_lines, end_line, order_text};
 ghost use Rattle.run_views.specs.inner.Seen.{child_in, seen};
 
-use crate::names::{push_barrier, push_lock, push_number};
+use crate::names::{push_barrier, push_between, push_labelled, push_lock, push_number};
 use gp_base::{End, Footprint, Inputs, Limits, Loc, LockNo, Seq, Text, ThreadNo, Why};
 use lock_checker::Checked;
 use one_thread::{Step, run_plain};
@@ -23,6 +24,41 @@ pub fn child_in(foot: &Footprint) -> Option<ThreadNo>
     }
 }
 
+// Appends a word and the name of a lock cell behind it.
+fn push_named_lock(
+    text: &mut Vec<u8>,
+    word: &[u8],
+    heads: &[Head],
+    lock: LockNo,
+) -> Result<(), AllocError>
+    ensures { OnOk result (text.new.items ≡ text.old.items ++ word.now ++ cell_name (locks_of heads.now) lock) }
+{
+    text.extend_from_slice(word)?;
+    push_lock(text, heads, lock)
+}
+
+// Appends a barrier by its name.
+fn push_named_barrier(text: &mut Vec<u8>, heads: &[Head], barrier: u32) -> Result<(), AllocError>
+    ensures { OnOk result (text.new.items ≡ text.old.items ++ codes "barrier " ++ barrier_name (barriers_of heads.now) barrier) }
+{
+    text.extend_from_slice(b"barrier ")?;
+    push_barrier(text, heads, barrier)
+}
+
+/// Appends a word and the thread that is forked, where it is known.
+pub fn push_child(
+    text: &mut Vec<u8>,
+    word: &[u8],
+    child: Option<ThreadNo>,
+) -> Result<(), AllocError>
+    ensures { OnOk result (text.new.items ≡ text.old.items ++ word.now ++ thread_text child) }
+{
+    match child {
+        Some(child) => push_labelled(text, word, child.0),
+        None => text.extend_from_slice(word),
+    }
+}
+
 // Appends the synchronisation that a subthread begins with.
 fn push_sync(
     text: &mut Vec<u8>,
@@ -34,29 +70,11 @@ fn push_sync(
 {
     match sync {
         SyncOp::Start => text.extend_from_slice(b"start"),
-        SyncOp::Lock(lock) => {
-            text.extend_from_slice(b"lock ")?;
-            push_lock(text, heads, *lock)
-        }
-        SyncOp::Unlock(lock) => {
-            text.extend_from_slice(b"unlock ")?;
-            push_lock(text, heads, *lock)
-        }
-        SyncOp::Fork { .. } => {
-            text.extend_from_slice(b"fork ")?;
-            match child {
-                Some(child) => push_number(text, child.0),
-                None => Ok(()),
-            }
-        }
-        SyncOp::Join(thread) => {
-            text.extend_from_slice(b"join ")?;
-            push_number(text, *thread)
-        }
-        SyncOp::Barrier(barrier) => {
-            text.extend_from_slice(b"barrier ")?;
-            push_barrier(text, heads, *barrier)
-        }
+        SyncOp::Lock(lock) => push_named_lock(text, b"lock ", heads, *lock),
+        SyncOp::Unlock(lock) => push_named_lock(text, b"unlock ", heads, *lock),
+        SyncOp::Fork { .. } => push_child(text, b"fork ", child),
+        SyncOp::Join(thread) => push_labelled(text, b"join ", *thread),
+        SyncOp::Barrier(barrier) => push_named_barrier(text, heads, *barrier),
         SyncOp::Settle { .. } => text.extend_from_slice(b"settle"),
         SyncOp::End | SyncOp::BadIndex | SyncOp::Spent => Ok(()),
     }
@@ -67,8 +85,7 @@ fn push_held(text: &mut Vec<u8>, heads: &[Head], held: &[LockNo]) -> Result<(), 
     ensures { OnOk result (text.new.items ≡ text.old.items ++ held_text heads.now held.now) }
 {
     for lock in held {
-        text.extend_from_slice(b" ")?;
-        push_lock(text, heads, *lock)?;
+        push_named_lock(text, b" ", heads, *lock)?;
     }
     Ok(())
 }
@@ -83,15 +100,10 @@ pub fn push_step(
     ensures { OnOk result (text.new.items ≡ text.old.items ++ order_line heads.now position (seen step.now)) }
 {
     push_number(text, position)?;
-    text.extend_from_slice(b" thread ")?;
-    push_number(text, step.thread.0)?;
-    text.extend_from_slice(b" line ")?;
-    push_number(text, step.begins.line)?;
-    text.extend_from_slice(b" ")?;
+    push_labelled(text, b" thread ", step.thread.0)?;
+    push_between(text, b" line ", step.begins.line, b" ")?;
     push_sync(text, heads, &step.begins.sync, child_in(&step.foot))?;
-    text.extend_from_slice(b" prints ")?;
-    push_number(text, step.prints.len())?;
-    text.extend_from_slice(b" holds")?;
+    push_between(text, b" prints ", step.prints.len(), b" holds")?;
     push_held(text, heads, step.held.as_slice())?;
     text.extend_from_slice(b"\n")
 }
@@ -126,17 +138,10 @@ pub fn push_end(text: &mut Vec<u8>, end: End) -> Result<(), AllocError>
         End::Stuck { why, thread, line } => {
             text.extend_from_slice(b"end stuck ")?;
             text.extend_from_slice(why_word(why).as_bytes())?;
-            text.extend_from_slice(b" thread ")?;
-            push_number(text, thread.0)?;
-            text.extend_from_slice(b" line ")?;
-            push_number(text, line)?;
-            text.extend_from_slice(b"\n")
+            push_labelled(text, b" thread ", thread.0)?;
+            push_between(text, b" line ", line, b"\n")
         }
-        End::Spent(position) => {
-            text.extend_from_slice(b"end spent ")?;
-            push_number(text, position.0)?;
-            text.extend_from_slice(b"\n")
-        }
+        End::Spent(position) => push_between(text, b"end spent ", position.0, b"\n"),
     }
 }
 

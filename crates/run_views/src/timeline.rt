@@ -10,8 +10,8 @@ ghost use Rattle.run_views.specs.inner.Tellings.{found};
 
 use crate::elements::{end_words, push_numeral, push_placed, push_sized, push_words};
 use crate::frame::{Frame, frame_of, left, redoes};
-use crate::names::push_number;
-use crate::order::{child_in, push_end, push_step};
+use crate::names::{push_between, push_labelled, push_number};
+use crate::order::{child_in, push_child, push_end, push_step};
 use crate::told::{Tellings, Told, tellings_of};
 use gp_audit::{TraceLine, restarts_of};
 use gp_base::{End, Faults, Inputs, Limits, Restart, Seq, Text, ThreadNo};
@@ -102,9 +102,7 @@ fn push_summary(
     ensures { OnOk result (text.new.items ≡ text.old.items ++ summary frame.now restarts end) }
 {
     push_number(text, frame.positions)?;
-    text.extend_from_slice(b" subthreads, ")?;
-    push_number(text, restarts)?;
-    text.extend_from_slice(b" restarts, ")?;
+    push_between(text, b" subthreads, ", restarts, b" restarts, ")?;
     push_end(text, end)
 }
 
@@ -165,29 +163,11 @@ fn push_mark(text: &mut Vec<u8>, sync: &SyncOp, child: Option<ThreadNo>) -> Resu
 {
     match sync {
         SyncOp::Start => text.extend_from_slice(b"S"),
-        SyncOp::Lock(lock) => {
-            text.extend_from_slice(b"L")?;
-            push_number(text, lock.0)
-        }
-        SyncOp::Unlock(lock) => {
-            text.extend_from_slice(b"U")?;
-            push_number(text, lock.0)
-        }
-        SyncOp::Fork { .. } => {
-            text.extend_from_slice(b"F")?;
-            match child {
-                Some(child) => push_number(text, child.0),
-                None => Ok(()),
-            }
-        }
-        SyncOp::Join(thread) => {
-            text.extend_from_slice(b"J")?;
-            push_number(text, *thread)
-        }
-        SyncOp::Barrier(barrier) => {
-            text.extend_from_slice(b"B")?;
-            push_number(text, *barrier)
-        }
+        SyncOp::Lock(lock) => push_labelled(text, b"L", lock.0),
+        SyncOp::Unlock(lock) => push_labelled(text, b"U", lock.0),
+        SyncOp::Fork { .. } => push_child(text, b"F", child),
+        SyncOp::Join(thread) => push_labelled(text, b"J", *thread),
+        SyncOp::Barrier(barrier) => push_labelled(text, b"B", *barrier),
         SyncOp::Settle { .. } => text.extend_from_slice(b"="),
         SyncOp::End | SyncOp::BadIndex | SyncOp::Spent => Ok(()),
     }
@@ -232,14 +212,8 @@ fn push_fate(text: &mut Vec<u8>, fate: Fate) -> Result<(), AllocError>
 {
     match fate {
         Fate::Stays => text.extend_from_slice(b" kept"),
-        Fate::Struck(number) => {
-            text.extend_from_slice(b" struck by ")?;
-            push_number(text, number)
-        }
-        Fate::Undone(number) => {
-            text.extend_from_slice(b" undone by ")?;
-            push_number(text, number)
-        }
+        Fate::Struck(number) => push_labelled(text, b" struck by ", number),
+        Fate::Undone(number) => push_labelled(text, b" undone by ", number),
     }
 }
 
@@ -287,8 +261,7 @@ fn push_title(
         ++ title column.now.heads.now column.now.position (seen column.now.step.now) attempt fate told) }
 {
     push_step(text, column.heads, column.position, column.step)?;
-    text.extend_from_slice(b"attempt ")?;
-    push_number(text, attempt)?;
+    push_labelled(text, b"attempt ", attempt)?;
     push_outcome(text, fate, told)
 }
 
@@ -401,11 +374,8 @@ fn push_columns(
 fn push_struck(text: &mut Vec<u8>, restart: &Restart) -> Result<(), AllocError>
     ensures { OnOk result (text.new.items ≡ text.old.items ++ struck_text restart.now) }
 {
-    text.extend_from_slice(b" attempt ")?;
-    push_number(text, restart.attempt)?;
-    text.extend_from_slice(b" of ")?;
-    push_number(text, restart.struck.0)?;
-    text.extend_from_slice(b" struck")
+    push_labelled(text, b" attempt ", restart.attempt)?;
+    push_between(text, b" of ", restart.struck.0, b" struck")
 }
 
 // Appends what a restart of this number did, in words.
@@ -414,11 +384,9 @@ fn push_note(text: &mut Vec<u8>, number: u64, restart: &Restart) -> Result<(), A
     ensures { OnOk result (text.new.items ≡ text.old.items ++ note number restart.now) }
 {
     push_number(text, number)?;
-    text.extend_from_slice(b": front ")?;
-    push_number(text, restart.front.0)?;
+    push_labelled(text, b": front ", restart.front.0)?;
     push_struck(text, restart)?;
-    text.extend_from_slice(b" redone ")?;
-    push_number(text, restart.redo.len())
+    push_labelled(text, b" redone ", restart.redo.len())
 }
 
 // Appends a restart by its number: a line behind the last position before its front, and a note at the foot.

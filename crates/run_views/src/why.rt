@@ -9,7 +9,7 @@ ghost use Rattle.run_views.specs.inner.Seen.{seen, party_in};
 
 use crate::frame::{attempt_of, redoes};
 use crate::links::{Link, link_of, linked};
-use crate::names::{push_number, push_record};
+use crate::names::{push_between, push_labelled, push_number, push_record};
 use crate::order::push_step;
 use gp_audit::restarts_of;
 use gp_base::{Faults, Inputs, Limits, Pos, Restart, Seq, Text, ThreadNo};
@@ -35,11 +35,8 @@ fn push_after(
 ) -> Result<(), AllocError>
     ensures { OnOk result (text.new.items ≡ text.old.items ++ way.now ++ decimal thread ++ codes " after " ++ decimal earlier ++ codes "\n") }
 {
-    text.extend_from_slice(way)?;
-    push_number(text, thread.0)?;
-    text.extend_from_slice(b" after ")?;
-    push_number(text, earlier)?;
-    text.extend_from_slice(b"\n")
+    push_labelled(text, way, thread.0)?;
+    push_between(text, b" after ", earlier, b"\n")
 }
 
 // Appends in what way there is a link to a thread that an earlier position forked.
@@ -51,11 +48,8 @@ fn push_forked(
 ) -> Result<(), AllocError>
     ensures { OnOk result (text.new.items ≡ text.old.items ++ way.now ++ decimal thread ++ codes " that " ++ decimal earlier ++ codes " forked\n") }
 {
-    text.extend_from_slice(way)?;
-    push_number(text, thread.0)?;
-    text.extend_from_slice(b" that ")?;
-    push_number(text, earlier)?;
-    text.extend_from_slice(b" forked\n")
+    push_labelled(text, way, thread.0)?;
+    push_between(text, b" that ", earlier, b" forked\n")
 }
 
 // Appends a record cell, where there is one.
@@ -77,9 +71,7 @@ fn push_named(
 ) -> Result<(), AllocError>
     ensures { OnOk result (text.new.items ≡ text.old.items ++ codes " and " ++ decimal earlier ++ codes " name " ++ record_text heads.now cell ++ codes "\n") }
 {
-    text.extend_from_slice(b" and ")?;
-    push_number(text, earlier)?;
-    text.extend_from_slice(b" name ")?;
+    push_between(text, b" and ", earlier, b" name ")?;
     push_cell_found(text, heads, cell)?;
     text.extend_from_slice(b"\n")
 }
@@ -116,24 +108,22 @@ fn push_struck(text: &mut Vec<u8>, position: usize) -> Result<(), AllocError>
 fn push_restart_line(text: &mut Vec<u8>, number: usize, restart: &Restart) -> Result<(), AllocError>
     ensures { OnOk result (text.new.items ≡ text.old.items ++ restart_line number restart.now) }
 {
-    text.extend_from_slice(b"restart ")?;
-    push_number(text, number)?;
-    text.extend_from_slice(b" front ")?;
-    push_number(text, restart.front.0)?;
-    text.extend_from_slice(b" struck ")?;
-    push_number(text, restart.struck.0)?;
-    text.extend_from_slice(b" try ")?;
-    push_number(text, restart.attempt)?;
-    text.extend_from_slice(b"\n")
+    push_labelled(text, b"restart ", number)?;
+    push_labelled(text, b" front ", restart.front.0)?;
+    push_labelled(text, b" struck ", restart.struck.0)?;
+    push_between(text, b" try ", restart.attempt, b"\n")
 }
 
 // Appends how many restarts redo a position.
 fn push_redone(text: &mut Vec<u8>, position: usize, restarts: &[Restart]) -> Result<(), AllocError>
     ensures { OnOk result (text.new.items ≡ text.old.items ++ redone_line position restarts.now) }
 {
-    text.extend_from_slice(b"redone ")?;
-    push_number(text, attempt_of(restarts, position as u64))?;
-    text.extend_from_slice(b"\n")
+    push_between(
+        text,
+        b"redone ",
+        attempt_of(restarts, position as u64),
+        b"\n",
+    )
 }
 
 impl Order<'_> {
