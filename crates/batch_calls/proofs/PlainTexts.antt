@@ -38,10 +38,9 @@ plain_ran-run work run is =
     ∙ ap (λ n. made heads told ending (final_records work.program work.inputs work.limits) n) count
 
 -- what follows the lines of a plain run
-pub tail_by : (work : ToDo) (run : PlainRun) (count : ℕ) (bytes text : List ℕ) (cells : List ℤ)
-    → ran_in work.program.heads run ≡ plain_ran work → cells ≡ run.records → count ≡ length run.order
-    → text ≡ tail.tail_text run.end (cut (records_of work.program.heads) cells) count [] 0 → bytes ≡ text
-    → bytes ≡ tail_text (plain_ran work) [] 0
-tail_by work run count bytes text cells is same counted told shown =
-    shown ∙ told ∙ ap (λ c. tail.tail_text run.end (cut (records_of work.program.heads) c) count [] 0) same
-    ∙ ap (λ n. tail.tail_text run.end (cut (records_of work.program.heads) run.records) n [] 0) counted ∙ ap (λ r. tail_text r [] 0) is
+pub tail_by : (heads : List Head) (run : PlainRun) (count : ℕ) (bytes text : List ℕ) (cells : List ℤ) → cells ≡ run.records
+    → count ≡ length run.order → text ≡ tail.tail_text run.end (cut (records_of heads) cells) count [] 0 → bytes ≡ text
+    → bytes ≡ tail_text (ran_in heads run) [] 0
+tail_by heads run count bytes text cells same counted told shown =
+    shown ∙ told ∙ ap (λ c. tail.tail_text run.end (cut (records_of heads) c) count [] 0) same
+    ∙ ap (λ n. tail.tail_text run.end (cut (records_of heads) run.records) n [] 0) counted

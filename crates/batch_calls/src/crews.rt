@@ -110,6 +110,29 @@ fn carry_stealing<R: Threads + Sync, O: Sink, E: Sink, G: Gate>(
     carry_by(rt, alloc, work, plan, &mut crew, out, err)
 }
 
+// Runs a plan by the crew that is asked for. Lasting workers wait, which this call does not: in their place workers
+// draw from boards.
+fn carry_by_kind<R: Threads + Sync, O: Sink, E: Sink, G: Gate>(
+    rt: &R,
+    alloc: Global,
+    work: &Work,
+    plan: Plan,
+    out: &mut O,
+    err: &mut E,
+    gate: &G,
+) -> Outcome
+    requires planned { IsPlanOf work.now plan }
+    requires run { is_journalled plan.asked.command ≡ true }
+    ensures { Carries plan.asked (work_planned plan) (change_of O.written O.faults out.old out.new) (change_of E.written E.faults err.old err.new) result.status result.journal }
+{
+    match plan.asked.crew {
+        CrewKind::One => carry_inline(rt, alloc, work, plan, out, err, gate),
+        CrewKind::Wave => carry_waves(rt, alloc, work, plan, out, err, gate),
+        CrewKind::Steal => carry_stealing(rt, alloc, work, plan, out, err, gate),
+        CrewKind::Board | CrewKind::Pipe => carry_boards(rt, alloc, work, plan, out, err, gate),
+    }
+}
+
 /// Does what is requested, and writes its text, and the trace of its run where one is asked for. Where the output
 /// fails, the line of that is written to `err`. Lasting workers wait, which this call does not: in their place workers
 /// draw from boards.
@@ -125,16 +148,15 @@ pub fn carry_out<R: Threads + Sync, O: Sink, E: Sink, G: Gate>(
     ensures { Carries request.asked (work_of request) (change_of O.written O.faults out.old out.new) (change_of E.written E.faults err.old err.new) result.status result.journal }
 {
     if !is_journalled(request.asked.command) {
-        return carry_plain(alloc, &request, out, err);
+        let outcome = carry_plain(alloc, &request, out, err);
+        drop(request);
+        return outcome;
     }
     let (work, plan) = match plan_of(alloc, request) {
         Ok(made) => made,
         Err(_) => return unbegun(alloc, err),
     };
-    match plan.asked.crew {
-        CrewKind::One => carry_inline(rt, alloc, &work, plan, out, err, gate),
-        CrewKind::Wave => carry_waves(rt, alloc, &work, plan, out, err, gate),
-        CrewKind::Steal => carry_stealing(rt, alloc, &work, plan, out, err, gate),
-        CrewKind::Board | CrewKind::Pipe => { carry_boards(rt, alloc, &work, plan, out, err, gate) }
-    }
+    let outcome = carry_by_kind(rt, alloc, &work, plan, out, err, gate);
+    drop(work);
+    outcome
 }

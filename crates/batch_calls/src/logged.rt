@@ -8,10 +8,10 @@ ghost use Rattle.call_cases.specs.meaning.PlainText.{plain_ran, restarts_in};
 ghost use Rattle.call_cases.specs.meaning.Texts.{run_text};
 ghost use Rattle.call_cases.specs.meaning.Work.{ToDo, work_for};
 ghost use Rattle.batch_calls.specs.inner.Logged.{IsLogged, LogsFor, stop_status};
-ghost use Rattle.batch_calls.specs.inner.Planned.{IsPlanOf, IsPlanned, work_planned};
+ghost use Rattle.batch_calls.specs.inner.Planned.{IsPlanned, work_begun};
 ghost use Rattle.batch_calls.specs.inner.Ran.{RunsIf, RanIf};
 
-use crate::plan::{Begins, Plan};
+use crate::plan::Begins;
 use crate::run::{put_tail, stopped};
 use crate::texts::OUTPUT;
 use call_cases::{Outcome, empty_journal, end_status};
@@ -65,36 +65,37 @@ fn put_noted<R: Threads + Sync, C: Crew, O: Sink, L: Sink>(
 pub fn put_logged<R: Threads + Sync, C: Crew, O: Sink, L: Sink>(
     rt: &R,
     alloc: Global,
+    asked: &Asked,
+    checked: &Checked,
     code: &Work,
-    plan: Plan,
+    begins: Begins,
     crew: &mut C,
     out: &mut O,
     log: &mut L,
 ) -> Result<Report, EngineStop>
-    requires planned { IsPlanOf code.now plan }
+    requires planned { IsPlanned asked.now (plain_program (program_of checked.now)) code.now begins }
     requires ready { C.ready crew.old }
     requires work { C.work crew.old ≡ code.now }
     requires none_out { C.out crew.old ≡ [] }
     requires none_posted { C.posted crew.old ≡ [] }
-    requires run { plan.asked.command ≡ command.Log }
+    requires run { asked.now.command ≡ command.Log }
     ensures text { let taken = change_of O.written O.faults out.old out.new in let logged = change_of L.written L.faults log.old log.new in
-        RanIf (Fails taken ⊎ Fails logged) (work_planned plan) (run_text (plain_ran (work_planned plan)) (restarts_in (work_planned plan)) (length plan.begins.faults.list)) taken result }
-    ensures log { IsLogged (work_planned plan) (change_of L.written L.faults log.old log.new) result }
+        let work = work_begun asked.now checked.now begins in
+        RanIf (Fails taken ⊎ Fails logged) work (run_text (plain_ran work) (restarts_in work) (length work.faults)) taken result }
+    ensures log { IsLogged (work_begun asked.now checked.now begins) (change_of L.written L.faults log.old log.new) result }
 {
-    let Plan {
-        asked,
-        checked,
-        begins,
-    } = plan;
     match put_all(out, OUTPUT) {
         Ok(()) => {}
-        Err(fault) => return Err(stopped(fault, empty_journal(alloc))),
+        Err(fault) => {
+            drop(begins);
+            return Err(stopped(fault, empty_journal(alloc)));
+        }
     }
-    let report = match put_noted(rt, alloc, &asked, &checked, code, begins, crew, out, log) {
+    let report = match put_noted(rt, alloc, asked, checked, code, begins, crew, out, log) {
         Ok(report) => report,
         Err(stop) => return Err(stop),
     };
-    match put_tail(alloc, &checked, &report, out) {
+    match put_tail(alloc, checked, &report, out) {
         Ok(()) => Ok(report),
         Err(fault) => Err(stopped(fault, report.journal)),
     }

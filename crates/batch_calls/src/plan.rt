@@ -6,7 +6,10 @@ ghost use Rattle.call_cases.specs.meaning.Answers.{change_of};
 ghost use Rattle.call_cases.specs.Decided.{IsSound, work_of};
 ghost use Rattle.call_cases.specs.meaning.Work.{work_for};
 ghost use Rattle.command_line.specs.Words.{IsWithinRanges};
-ghost use Rattle.subthread.specs.Tasks.{Suits};
+ghost use Rattle.subthread.specs.Tasks.{Suits, program_in};
+ghost use Rattle.task_ast.specs.meaning.Layout.{layout};
+ghost use Rattle.task_code.specs.Flat.{code_of};
+ghost use Rattle.task_code.specs.Jumps.{IsCode};
 ghost use Rattle.whole_run.specs.Recovering.{HasCuts};
 ghost use Rattle.batch_calls.specs.inner.Planned.{IsPlanOf, IsPlanned, recovery_of, work_planned};
 ghost use Rattle.batch_calls.specs.inner.Ran.{batch_from, RunsBatch, RunsWork};
@@ -15,7 +18,7 @@ use call_cases::{Request, copied_feeds};
 use command_line::{Asked, Command};
 use crew::Crew;
 use engine::{EngineStop, Report, drive};
-use gp_base::{Faults, Inputs, Limits, Sink};
+use gp_base::{Faults, Feed, Inputs, Limits, Sink};
 use gp_checkpoint::ckpt_drive;
 use lock_checker::Checked;
 use std::alloc::{AllocError, Global};
@@ -54,6 +57,26 @@ fn recovery_of(command: Command) -> Recovery
     }
 }
 
+// What runs a program: its code, with copies of the feeds and the turns that a subthread may take, and the layout of
+// its cells. The error is that memory is out.
+fn work_and_layout(
+    alloc: Global,
+    checked: &Checked,
+    feeds: &[Feed],
+    turns: u64,
+) -> Result<(Work, Layout), AllocError>
+    ensures code { IfOk result (λ made. IsCode (code_of made.0.code)) }
+    ensures program { IfOk result (λ made. program_in made.0 ≡ plain_program (program_of checked.now)) }
+    ensures feeds { IfOk result (λ made. made.0.feeds ≡ feeds.now) }
+    ensures turns { IfOk result (λ made. made.0.turns ≡ turns) }
+    ensures layout { IfOk result (λ made. made.1 ≡ layout (program_of checked.now).heads) }
+{
+    let layout = checked.layout(alloc)?;
+    let feeds = copied_feeds(alloc, feeds)?;
+    let code = lower(alloc, checked)?;
+    Ok((Work { code, feeds, turns }, layout))
+}
+
 /// The code of a request's program, and the plan of its run. The error is that memory is out.
 pub fn plan_of(alloc: Global, request: Request) -> Result<(Work, Plan), AllocError>
     requires { IsSound request.asked (plain_program (program_of request.checked)) request.inputs }
@@ -61,21 +84,21 @@ pub fn plan_of(alloc: Global, request: Request) -> Result<(Work, Plan), AllocErr
     ensures work { IfOk result (λ made. work_planned made.1 ≡ work_of request) }
     ensures asked { IfOk result (λ made. made.1.asked ≡ request.asked) }
 {
+    let limits = request.asked.limits;
+    let feeds = request.inputs.feeds.as_slice();
+    let (work, layout) = match work_and_layout(alloc, &request.checked, feeds, limits.turns) {
+        Ok(made) => made,
+        Err(refused) => {
+            drop(request);
+            return Err(refused);
+        }
+    };
     let Request {
         asked,
         checked,
         inputs,
         faults,
     } = request;
-    let code = lower(alloc, &checked)?;
-    let layout = checked.layout(alloc)?;
-    let feeds = copied_feeds(alloc, inputs.feeds.as_slice())?;
-    let limits = asked.limits;
-    let work = Work {
-        code,
-        feeds,
-        turns: limits.turns,
-    };
     let begins = Begins {
         recovery: recovery_of(asked.command),
         layout,

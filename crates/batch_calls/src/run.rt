@@ -13,18 +13,18 @@ ghost use Rattle.call_cases.specs.Decided.{work_of};
 ghost use Rattle.call_cases.specs.meaning.PlainText.{plain_ran, restarts_in};
 ghost use Rattle.call_cases.specs.meaning.Texts.{run_text, soak_text};
 ghost use Rattle.call_cases.specs.meaning.Work.{ToDo, is_journalled};
-ghost use Rattle.batch_calls.specs.inner.Planned.{IsPlanOf, Carries, work_planned};
+ghost use Rattle.batch_calls.specs.inner.Planned.{IsPlanOf, IsPlanned, Carries, work_begun, work_planned};
 ghost use Rattle.batch_calls.specs.inner.Ran.{RanFor, EndsFor, StopsWith, WritesLines, why_of, told_tail, told_soak};
 
 use crate::logged::{outcome_logged, put_logged};
 use crate::plain::{put_ok, put_one};
-use crate::plan::{Plan, put_lines};
+use crate::plan::{Begins, Plan, put_lines};
 use crate::texts::OUTPUT;
 use call_cases::{
     OUT_OF_MEMORY, Outcome, Request, WRITE_FAULT, empty_journal, end_status, end_with,
     plain_outcome,
 };
-use command_line::{Command, Soak};
+use command_line::{Asked, Command, Soak};
 use crew::Crew;
 use engine::{EngineStop, Report, StopWhy};
 use gp_base::{Journal, NeverSink, Sink, SinkFault, put_all};
@@ -96,33 +96,34 @@ fn put_summary<O: Sink>(
 fn put_run<R: Threads + Sync, C: Crew, O: Sink>(
     rt: &R,
     alloc: Global,
+    asked: &Asked,
+    checked: &Checked,
     code: &Work,
-    plan: Plan,
+    begins: Begins,
     crew: &mut C,
     out: &mut O,
 ) -> Result<Report, EngineStop>
-    requires planned { IsPlanOf code.now plan }
+    requires planned { IsPlanned asked.now (plain_program (program_of checked.now)) code.now begins }
     requires ready { C.ready crew.old }
     requires work { C.work crew.old ≡ code.now }
     requires none_out { C.out crew.old ≡ [] }
     requires none_posted { C.posted crew.old ≡ [] }
-    requires lines { WritesLines plan.asked.command }
-    ensures { RanFor (work_planned plan) (run_text (plain_ran (work_planned plan)) (restarts_in (work_planned plan)) (length plan.begins.faults.list)) (change_of O.written O.faults out.old out.new) result }
+    requires lines { WritesLines asked.now.command }
+    ensures { let work = work_begun asked.now checked.now begins in
+        RanFor work (run_text (plain_ran work) (restarts_in work) (length work.faults)) (change_of O.written O.faults out.old out.new) result }
 {
-    let Plan {
-        asked,
-        checked,
-        begins,
-    } = plan;
     match put_all(out, OUTPUT) {
         Ok(()) => {}
-        Err(fault) => return Err(stopped(fault, empty_journal(alloc))),
+        Err(fault) => {
+            drop(begins);
+            return Err(stopped(fault, empty_journal(alloc)));
+        }
     }
-    let report = match put_lines(rt, alloc, &asked, &checked, code, begins, crew, out) {
+    let report = match put_lines(rt, alloc, asked, checked, code, begins, crew, out) {
         Ok(report) => report,
         Err(stop) => return Err(stop),
     };
-    match put_tail(alloc, &checked, &report, out) {
+    match put_tail(alloc, checked, &report, out) {
         Ok(()) => Ok(report),
         Err(fault) => Err(stopped(fault, report.journal)),
     }
@@ -132,27 +133,25 @@ fn put_run<R: Threads + Sync, C: Crew, O: Sink>(
 fn put_soak<R: Threads + Sync, C: Crew, O: Sink>(
     rt: &R,
     alloc: Global,
+    asked: &Asked,
+    checked: &Checked,
     code: &Work,
-    plan: Plan,
+    begins: Begins,
     soak: Soak,
     crew: &mut C,
     out: &mut O,
 ) -> Result<Report, EngineStop>
-    requires planned { IsPlanOf code.now plan }
+    requires planned { IsPlanned asked.now (plain_program (program_of checked.now)) code.now begins }
     requires ready { C.ready crew.old }
     requires work { C.work crew.old ≡ code.now }
     requires none_out { C.out crew.old ≡ [] }
     requires none_posted { C.posted crew.old ≡ [] }
-    requires run { plan.asked.command ≡ command.Soak soak }
-    ensures { RanFor (work_planned plan) (soak_text soak (plain_ran (work_planned plan)) (restarts_in (work_planned plan)) (length plan.begins.faults.list)) (change_of O.written O.faults out.old out.new) result }
+    requires run { asked.now.command ≡ command.Soak soak }
+    ensures { let work = work_begun asked.now checked.now begins in
+        RanFor work (soak_text soak (plain_ran work) (restarts_in work) (length work.faults)) (change_of O.written O.faults out.old out.new) result }
 {
-    let Plan {
-        asked,
-        checked,
-        begins,
-    } = plan;
     let mut nobody = NeverSink::new();
-    let report = match put_lines(rt, alloc, &asked, &checked, code, begins, crew, &mut nobody) {
+    let report = match put_lines(rt, alloc, asked, checked, code, begins, crew, &mut nobody) {
         Ok(report) => report,
         Err(stop) => return Err(stop),
     };
@@ -205,6 +204,43 @@ fn outcome_of<E: Sink>(
     }
 }
 
+// Does what a plan asks for, with a crew to which nothing was posted.
+fn carry_begun<R: Threads + Sync, C: Crew, O: Sink, E: Sink>(
+    rt: &R,
+    alloc: Global,
+    asked: &Asked,
+    checked: &Checked,
+    code: &Work,
+    begins: Begins,
+    crew: &mut C,
+    out: &mut O,
+    err: &mut E,
+) -> Outcome
+    requires planned { IsPlanned asked.now (plain_program (program_of checked.now)) code.now begins }
+    requires ready { C.ready crew.old }
+    requires work { C.work crew.old ≡ code.now }
+    requires none_out { C.out crew.old ≡ [] }
+    requires none_posted { C.posted crew.old ≡ [] }
+    requires run { is_journalled asked.now.command ≡ true }
+    ensures { Carries asked.now (work_begun asked.now checked.now begins) (change_of O.written O.faults out.old out.new) (change_of E.written E.faults err.old err.new) result.status result.journal }
+{
+    match asked.command {
+        Command::Run | Command::Ckpt(_) => {
+            let ran = put_run(rt, alloc, asked, checked, code, begins, crew, out);
+            outcome_of(alloc, asked.trace, ran, err)
+        }
+        Command::Soak(soak) => {
+            let ran = put_soak(rt, alloc, asked, checked, code, begins, soak, crew, out);
+            outcome_of(alloc, asked.trace, ran, err)
+        }
+        Command::Log => {
+            let ran = put_logged(rt, alloc, asked, checked, code, begins, crew, out, err);
+            outcome_logged(ran)
+        }
+        Command::One | Command::Check => unreachable!(),
+    }
+}
+
 /// Runs a plan over a journal with a crew to which nothing was posted, and writes its text, and the trace of its run
 /// where one is asked for. Where the output fails, the line of that is written to `err`. A run whose log is kept writes
 /// nothing but the log to `err`.
@@ -225,22 +261,15 @@ pub fn carry_by<R: Threads + Sync, C: Crew, O: Sink, E: Sink>(
     requires run { is_journalled plan.asked.command ≡ true }
     ensures { Carries plan.asked (work_planned plan) (change_of O.written O.faults out.old out.new) (change_of E.written E.faults err.old err.new) result.status result.journal }
 {
-    let is_traced = plan.asked.trace;
-    match plan.asked.command {
-        Command::Run | Command::Ckpt(_) => {
-            let ran = put_run(rt, alloc, code, plan, crew, out);
-            outcome_of(alloc, is_traced, ran, err)
-        }
-        Command::Soak(soak) => {
-            let ran = put_soak(rt, alloc, code, plan, soak, crew, out);
-            outcome_of(alloc, is_traced, ran, err)
-        }
-        Command::Log => {
-            let ran = put_logged(rt, alloc, code, plan, crew, out, err);
-            outcome_logged(ran)
-        }
-        Command::One | Command::Check => unreachable!(),
-    }
+    let Plan {
+        asked,
+        checked,
+        begins,
+    } = plan;
+    let outcome = carry_begun(rt, alloc, &asked, &checked, code, begins, crew, out, err);
+    drop(checked);
+    drop(asked);
+    outcome
 }
 
 /// How a run ended that did not begin, since memory was out.

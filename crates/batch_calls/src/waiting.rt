@@ -65,11 +65,19 @@ fn carry_lasting<
     ensures { Carries plan.asked (work_planned plan) (change_of O.written O.faults out.old out.new) (change_of E.written E.faults err.old err.new) result.status result.journal }
 {
     let Ok(theirs) = rt.clone() else {
+        drop(plan);
         return unbegun(alloc, err);
     };
     match PipeCrew::new(alloc, theirs, work, plan.asked.workers, gate) {
-        Ok(mut crew) => carry_by(rt, alloc, work, plan, &mut crew, out, err),
-        Err(_) => unbegun(alloc, err),
+        Ok(mut crew) => {
+            let outcome = carry_by(rt, alloc, work, plan, &mut crew, out, err);
+            drop(crew);
+            outcome
+        }
+        Err(_) => {
+            drop(plan);
+            unbegun(alloc, err)
+        }
     }
 }
 
@@ -90,7 +98,10 @@ fn carry_planned<
     };
     match Arc::new(alloc, work) {
         Ok(work) => carry_lasting(rt, alloc, &work, plan, out, err, gate),
-        Err(_) => unbegun(alloc, err),
+        Err(_) => {
+            drop(plan);
+            unbegun(alloc, err)
+        }
     }
 }
 

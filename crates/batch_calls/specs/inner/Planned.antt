@@ -4,6 +4,7 @@ use Rattle.gp_base.specs.declared.journal.Journal.{Journal}
 use Rattle.task_ast.specs.meaning.Tree.{Program}
 use Rattle.task_ast.specs.View.{plain_program}
 use Rattle.lock_checker.specs.Accepted.{program_of}
+use Rattle.lock_checker.specs.declared.checked.Checked.{Checked}
 use Rattle.subthread.specs.declared.task.Work.{Work}
 use Rattle.subthread.specs.Tasks.{Suits, program_in}
 use Rattle.command_line.specs.declared.asked.Asked.{Asked}
@@ -39,8 +40,11 @@ abbrev pub IsPlanOf : Work → Plan → Type 0
 IsPlanOf code plan = IsPlanned plan.asked (plain_program (program_of plan.checked)) code plan.begins
 
 -- what is to be done
+abbrev pub work_begun : Asked → Checked → Begins → ToDo
+work_begun asked checked begins = work_for asked (plain_program (program_of checked)) begins.inputs begins.faults.list
+
 abbrev pub work_planned : Plan → ToDo
-work_planned plan = work_for plan.asked (plain_program (program_of plan.checked)) plan.begins.inputs plan.begins.faults.list
+work_planned plan = work_begun plan.asked plan.checked plan.begins
 
 -- how a work of this command ends: the error stream takes the log of the run, or the trace
 abbrev pub EndsBy : Command → Asked → ToDo → (out err : Change) → (status : ℕ) → Journal → Type 0

@@ -1,11 +1,12 @@
 -- How the plain run of the code goes, as the text of a work tells it.
-use Rattle.std.specs.Prelude.{ℤ, List, length, flat_map}
+use Rattle.std.specs.Prelude.{ℕ, ℤ, List, [], ◌++◌, length, flat_map}
 use Rattle.task_ast.specs.declared.tree.Head.{Head}
 use Rattle.task_ast.specs.meaning.Names.{records_of}
 use Rattle.task_ast.specs.meaning.Layout.{cut}
 use Rattle.one_thread.specs.declared.run.Step.{Step}
 use Rattle.one_thread.specs.declared.run.PlainRun.{PlainRun}
-use Rattle.call_cases.specs.meaning.Texts.{Ran}
+use Rattle.restart_log.specs.meaning.Lines.{printed}
+use Rattle.call_cases.specs.meaning.Texts.{Ran, tail_text}
 
 -- the lines that these subthreads print
 abbrev pub lines_in : List Step → List (List ℤ)
@@ -21,3 +22,7 @@ ran_in heads run =
       records = cut (records_of heads) run.records;
       subthreads = length run.order;
     }
+
+-- what follows the first line of the text of such a run
+abbrev pub rest_text : Ran → List ℕ
+rest_text ran = printed ran.lines ++ tail_text ran [] 0
