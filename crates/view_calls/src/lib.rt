@@ -4,8 +4,6 @@
 
 mod lines;
 mod reading;
-#[cfg(test)]
-mod tests;
 mod top;
 mod words;
 

@@ -1,0 +1,5 @@
+//! Tests of the top call of `gprs_view`: runs as they are shown, and words, programs and traces that are refused.
+#![tactic(auto)]
+
+#[cfg(test)]
+mod views;
