@@ -3,7 +3,7 @@ use Rattle.std.proofs.lemmas.List.{map-append}
 use Rattle.std.proofs.lemmas.List.Elements.{All-push}
 use Rattle.desk_board.specs.Held.{about}
 use Rattle.desk_board.specs.Told.{IsWhole}
-use Rattle.desk_board.proofs.Collecting.{taken_more}
+use Rattle.desk_board.proofs.Collecting.{taken_more, not_taken}
 use Rattle.subthread.specs.Tasks.{IsRun}
 use Rattle.pipe_crew.proofs.Taken.{take-more}
 use Rattle.pipe_crew.proofs.boards.collect.Goals as goal
@@ -25,3 +25,9 @@ loop-desk-preserved c =
       tasks = rw (c.in_ok-push.ensures.items, map-append, was.tasks, run.2.0) (sym (take-more jobs desk run.0 run.1));
       runs = rw c.in_ok-push.ensures.items (All-push (IsRun (about c.args.board.now).with) c.loop-desk.runs.items done was.runs run.2.1);
     }
+
+pub collect-requires-clause-first : goal.collect-requires-clause-first
+collect-requires-clause-first c κs =
+    let desk : ℕ = c.loop-desk.desk in
+    not_taken desk _
+    (subst (λ (l : List ℕ). All (λ d. d < desk) l) (sym (ap (λ b. b.taken) c.look.ensures.book.3)) c.loop-desk.invariant.taken)
