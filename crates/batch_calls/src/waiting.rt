@@ -98,7 +98,8 @@ fn carry_planned<
     };
     match Arc::new(alloc, work) {
         Ok(work) => carry_lasting(rt, alloc, &work, plan, out, err, gate),
-        Err(_) => {
+        Err(refused) => {
+            drop(refused);
             drop(plan);
             unbegun(alloc, err)
         }

@@ -5,7 +5,7 @@ pub returns-in-Err : goal.returns-in-Err
 returns-in-Err g c =
     c.unbegun.ensures c.args.request.asked (work_of c.args.request) (g.O.Sink.written c.args.out.now) (g.O.Sink.faults c.args.out.now)
 
-pub returns : goal.returns
-returns g c =
+pub returns-in-Err-new : goal.returns-in-Err-new
+returns-in-Err-new g c =
     c.unbegun-in-Err-new.ensures c.args.request.asked (work_of c.args.request) (g.O.Sink.written c.args.out.now)
     (g.O.Sink.faults c.args.out.now)
