@@ -1,8 +1,9 @@
 // What no clause says: calls that succeed, and devices that fail at each of their calls.
 
-use crate::answers::{Answer, answered, tells};
-use batch_calls::gprs_run;
-use gp_base::{FreeGate, Gate, MemShelf, MemSink, Name, Seq, Shelf, Text};
+use crate::answers::{give, gives, status_with};
+use crate::cases::{Case, Devices, PLAIN, RUN, SOUND, files_of};
+use crate::runs::{ALONE, BARE, Run, come_to, comes_to};
+use gp_base::{MemShelf, Name, Seq, Shelf};
 use std::alloc::{AllocError, Global};
 use std::test::Fail;
 use std::thread::Threads;
@@ -118,10 +119,6 @@ task main() {
 }
 ";
 
-const NO_RUN: &str = "restarts\ncounts\nsubthreads ";
-
-const NONE_REDONE: &str = "\nrestarts 0\nredone 0\nunused 0\n";
-
 // Programs that are checked, a line for each: the answer, and the program with a bar for each line end.
 const CHECKS: &str =
     r#"check 9 at line 6: lock bank[2];|record acct[2] by bank;|task main() {|  var i;|  lock bank[i];|  i = 1;|  write acct[i] = 5;|  unlock bank[i];|}
@@ -187,153 +184,146 @@ check 2 at line 5: task main() {|x = 1;|}||task main() { }
 check 8 at line 2: lock a[1];|task main() { while 1 {|lock a[0]; } x = 1; }
 check 1 at line 3: lock a[1];|task main() { if 1 {|x = 1; lock a[0]; } }"#;
 
-/// How many bytes the sinks take at once, and the calls that fail; at 0 none does.
-#[derive(Clone, Copy)]
-pub struct Devices {
-    pub most: usize,
-    pub read: u64,
-    pub output: u64,
-    pub error: u64,
-}
-
-pub const SOUND: Devices = Devices {
-    most: 1000,
-    read: 0,
-    output: 0,
-    error: 0,
+// Words of no command.
+const NO_COMMAND: Case<'static> = Case {
+    words: "",
+    program: EMPTY,
+    status: 2,
+    error: USAGE,
+    ..RUN
 };
 
-/// The words between spaces.
-pub fn words_of(alloc: Global, text: &str) -> Result<Vec<String>, AllocError> {
-    let mut words = Vec::new(alloc);
-    if text.is_empty() {
-        return Ok(words);
-    }
-    for word in text.split(' ') {
-        words.push(String::from_str(alloc, word)?)?;
-    }
-    Ok(words)
+static NO_COMMANDS: [Case<'static>; 9] = [
+    NO_COMMAND,
+    Case {
+        words: "run",
+        ..NO_COMMAND
+    },
+    Case {
+        words: "fly p.gp",
+        ..NO_COMMAND
+    },
+    Case {
+        words: "run p.gp --workers 65",
+        ..NO_COMMAND
+    },
+    Case {
+        words: "run p.gp --turns 0",
+        ..NO_COMMAND
+    },
+    Case {
+        words: "run p.gp --crew fast",
+        ..NO_COMMAND
+    },
+    Case {
+        words: "one p.gp --faults f.csv",
+        ..NO_COMMAND
+    },
+    Case {
+        words: "soak 3 1",
+        ..NO_COMMAND
+    },
+    Case {
+        words: "soak 2000",
+        ..NO_COMMAND
+    },
+];
+
+#[test]
+fn words_of_no_command(rt: HostRuntime) -> Result<(), Fail> {
+    assert!(rt; give(&rt, &NO_COMMANDS)?);
+    Ok(())
 }
 
-/// The bytes of the four files of a shelf.
-#[derive(Clone, Copy)]
-pub struct Files<'a> {
-    pub program: &'a [u8],
-    pub acct: &'a [u8],
-    pub moves: &'a [u8],
-    pub faults: &'a [u8],
-}
-
-/// A program, with empty files beside it.
-pub fn alone(program: &str) -> Files<'_> {
-    Files {
-        program: program.as_bytes(),
-        acct: &[],
-        moves: &[],
-        faults: &[],
-    }
-}
-
-/// A shelf of these files, whose read of this number fails.
-pub fn shelf_of(alloc: Global, files: Files<'_>, fails: u64) -> Result<MemShelf, AllocError> {
-    let program = (
-        Name::from_slice(alloc, b"p.gp")?,
-        Text::from_slice(alloc, files.program)?,
-    );
-    let acct = (
-        Name::from_slice(alloc, b"acct.csv")?,
-        Text::from_slice(alloc, files.acct)?,
-    );
-    let moves = (
-        Name::from_slice(alloc, b"moves.csv")?,
-        Text::from_slice(alloc, files.moves)?,
-    );
-    let faults = (
-        Name::from_slice(alloc, b"f.csv")?,
-        Text::from_slice(alloc, files.faults)?,
-    );
-    let files = Seq::from_vec(vec![in alloc; program, acct, moves, faults]?);
-    Ok(MemShelf::new(alloc, files, Seq::from_slice(alloc, &[fails])?))
-}
-
-/// A sink that takes so many bytes at once, whose call of this number fails.
-pub fn sink_of(alloc: Global, most: usize, fails: u64) -> Result<MemSink, AllocError> {
-    Ok(MemSink::new(alloc, most.max(1), Seq::from_slice(alloc, &[fails])?))
-}
-
-/// What the words come to over this shelf, where tasks enter this gate.
-pub fn answer_over<R: Threads + Sync + AllocGlobal, G: Gate>(
-    rt: &R,
-    words: &str,
-    shelf: &mut MemShelf,
-    devices: Devices,
-    gate: &G,
-) -> Result<Answer, AllocError> {
+// Whether words of no command leave the first read, which fails, to the next caller.
+fn reads_nothing<R: Threads + Sync + AllocGlobal>(rt: &R) -> Result<bool, AllocError> {
     let alloc = rt.alloc();
-    let words = words_of(alloc, words)?;
-    let mut output = sink_of(alloc, devices.most, devices.output)?;
-    let mut error = sink_of(alloc, devices.most, devices.error)?;
-    let outcome = gprs_run(rt, &words, shelf, &mut output, &mut error, gate);
-    Ok(answered(outcome, output, error))
+    let case = Case {
+        words: "fly p.gp",
+        program: EMPTY,
+        ..PLAIN
+    };
+    let name = Name::from_slice(alloc, b"p.gp")?;
+    let files = files_of(alloc, &case)?;
+    let first = Seq::from_slice(alloc, &[1])?;
+    let mut shelf = MemShelf::new(alloc, files, first);
+    let status = status_with(rt, &case, &mut shelf);
+    let is_unread = shelf.read(&name, 15).is_err();
+    drop(shelf);
+    drop(name);
+    Ok(status? == 2 && is_unread)
 }
 
-/// What the words come to over these files, where tasks enter this gate.
-pub fn answer_through<R: Threads + Sync + AllocGlobal, G: Gate>(
-    rt: &R,
-    words: &str,
-    files: Files<'_>,
-    devices: Devices,
-    gate: &G,
-) -> Result<Answer, AllocError> {
-    let mut shelf = shelf_of(rt.alloc(), files, devices.read)?;
-    answer_over(rt, words, &mut shelf, devices, gate)
+#[test]
+fn words_of_no_command_read_nothing(rt: HostRuntime) -> Result<(), Fail> {
+    assert!(rt; reads_nothing(&rt)?);
+    Ok(())
 }
 
-/// What the words come to over these files.
-pub fn answer_of<R: Threads + Sync + AllocGlobal>(
-    rt: &R,
-    words: &str,
-    files: Files<'_>,
-    devices: Devices,
-) -> Result<Answer, AllocError> {
-    answer_through(rt, words, files, devices, &FreeGate)
+// A program that is refused.
+const REFUSED: Case<'static> = Case { status: 3, ..RUN };
+
+static REFUSED_PROGRAMS: [Case<'static>; 7] = [
+    Case {
+        program: "",
+        error: "gprs: parse 1 at byte 0\n",
+        ..REFUSED
+    },
+    Case {
+        program: "task main() {",
+        error: "gprs: parse 1 at byte 13\n",
+        ..REFUSED
+    },
+    Case {
+        program: "task main() { print 9223372036854775808; }",
+        error: "gprs: lex 2 at byte 20\n",
+        ..REFUSED
+    },
+    Case {
+        program: "task main() { print 1 ! 2; }",
+        error: "gprs: lex 1 at byte 23\n",
+        ..REFUSED
+    },
+    Case {
+        program: "task main() { print 1 < 2 < 3; }",
+        error: "gprs: parse 1 at byte 26\n",
+        ..REFUSED
+    },
+    Case {
+        program: "task t() { }",
+        error: "gprs: check 1 at line 1\n",
+        ..REFUSED
+    },
+    Case {
+        words: "run q.gp",
+        program: EMPTY,
+        status: 7,
+        error: "gprs: read fault q.gp\n",
+        ..RUN
+    },
+];
+
+static REFUSED_RUN: Case<'static> = REFUSED;
+
+// Spaces that are one more than a program may have.
+fn refuses_spaces<R: Threads + Sync + AllocGlobal>(rt: &R) -> Result<bool, AllocError> {
+    let program = " ".repeat(rt.alloc(), 1048577)?;
+    let is_refused = gives(
+        rt,
+        &Case {
+            program: program.as_str(),
+            error: "gprs: lex 3\n",
+            ..REFUSED_RUN
+        },
+    );
+    drop(program);
+    is_refused
 }
 
-/// The words with these files, over these devices, have this status, output and line on the error stream.
-pub fn gives_over<R: Threads + Sync + AllocGlobal>(
-    rt: &R,
-    words: &str,
-    files: Files<'_>,
-    devices: Devices,
-    status: u8,
-    output: &str,
-    error: &str,
-) -> Result<bool, AllocError> {
-    let answer = answer_of(rt, words, files, devices)?;
-    Ok(tells(&answer, status, output, error))
-}
-
-/// The words with these files have this status, output and line on the error stream.
-pub fn gives<R: Threads + Sync + AllocGlobal>(
-    rt: &R,
-    words: &str,
-    files: Files<'_>,
-    status: u8,
-    output: &str,
-    error: &str,
-) -> Result<bool, AllocError> {
-    gives_over(rt, words, files, SOUND, status, output, error)
-}
-
-// The words with the program are refused with this status and line.
-fn refuses<R: Threads + Sync + AllocGlobal>(
-    rt: &R,
-    words: &str,
-    program: &str,
-    status: u8,
-    line: &str,
-) -> Result<bool, AllocError> {
-    gives(rt, words, alone(program), status, "", line)
+#[test]
+fn programs_that_are_refused(rt: HostRuntime) -> Result<(), Fail> {
+    assert!(rt; give(&rt, &REFUSED_PROGRAMS)? && refuses_spaces(&rt)?);
+    Ok(())
 }
 
 // The check has this answer to the program, which has a bar for each line end.
@@ -344,41 +334,43 @@ fn checks<R: Threads + Sync + AllocGlobal>(
 ) -> Result<bool, AllocError> {
     let alloc = rt.alloc();
     let program = barred.replace(alloc, '|', "\n")?;
-    if answer == "ok" {
-        return gives(rt, "check p.gp", alone(program.as_str()), 0, "ok\n", "");
-    }
     let line = format!(in alloc; "gprs: {answer}\n")?;
-    refuses(rt, "check p.gp", program.as_str(), 3, line.as_str())
+    let (status, output, error) = if answer == "ok" {
+        (0, "ok\n", "")
+    } else {
+        (3, "", line.as_str())
+    };
+    let is_told = gives(
+        rt,
+        &Case {
+            words: "check p.gp",
+            program: program.as_str(),
+            status,
+            output,
+            error,
+            ..PLAIN
+        },
+    );
+    drop(line);
+    drop(program);
+    is_told
 }
 
-// The program with these options has this status, the text up to the restarts, and so many subthreads, by each of the
-// commands that run it.
-fn ends<R: Threads + Sync + AllocGlobal>(
-    rt: &R,
-    options: &str,
-    files: Files<'_>,
-    status: u8,
-    text: &str,
-    subthreads: u32,
-) -> Result<bool, AllocError> {
-    let alloc = rt.alloc();
-    let text = format!(in alloc; "output\n{text}{NO_RUN}{subthreads}{NONE_REDONE}")?;
-    let run = format!(in alloc; "run p.gp{options}")?;
-    let one = format!(in alloc; "one p.gp{options}")?;
-    Ok(
-        gives(rt, run.as_str(), files, status, text.as_str(), "")?
-            && gives(rt, one.as_str(), files, status, text.as_str(), "")?,
-    )
+// Each program is checked as its line has it.
+fn checks_all<R: Threads + Sync + AllocGlobal>(rt: &R) -> Result<bool, AllocError> {
+    for row in CHECKS.lines() {
+        let (answer, barred) = row.split_once(": ").unwrap_or((row, ""));
+        if !checks(rt, answer, barred)? {
+            return Ok(false);
+        }
+    }
+    Ok(true)
 }
 
-// The program prints these lines.
-fn prints<R: Threads + Sync + AllocGlobal>(
-    rt: &R,
-    program: &str,
-    lines: &str,
-) -> Result<bool, AllocError> {
-    let text = format!(in rt.alloc(); "{lines}records\n")?;
-    ends(rt, "", alone(program), 0, text.as_str(), 1)
+#[test]
+fn programs_that_are_checked(rt: HostRuntime) -> Result<(), Fail> {
+    assert!(rt; checks_all(&rt)?);
+    Ok(())
 }
 
 // A program that prints 1 after so many of these marks.
@@ -395,231 +387,390 @@ fn marked(alloc: Global, open: &str, close: &str, count: usize) -> Result<String
     Ok(text)
 }
 
-#[test]
-fn words_of_no_command(rt: HostRuntime) -> Result<(), Fail> {
-    let rows = [
-        "",
-        "run",
-        "fly p.gp",
-        "run p.gp --workers 65",
-        "run p.gp --turns 0",
-        "run p.gp --crew fast",
-        "one p.gp --faults f.csv",
-        "soak 3 1",
-        "soak 2000",
-    ];
-    for words in rows {
-        assert!(rt; refuses(&rt, words, EMPTY, 2, USAGE)?);
-    }
-    Ok(())
+// The program ends so by each of the commands that run it.
+fn ends<R: Threads + Sync + AllocGlobal>(rt: &R, run: &Run<'_>) -> Result<bool, AllocError> {
+    Ok(comes_to(rt, run, "run", "", &[""])? && comes_to(rt, run, "one", "", &[""])?)
 }
 
-// Whether words of no command leave the first read, which fails, to the next caller.
-fn reads_nothing<R: Threads + Sync + AllocGlobal>(rt: &R) -> Result<bool, AllocError> {
-    let alloc = rt.alloc();
-    let name = Name::from_slice(alloc, b"p.gp")?;
-    let mut shelf = shelf_of(alloc, alone(EMPTY), 1)?;
-    let answer = answer_over(rt, "fly p.gp", &mut shelf, SOUND, &FreeGate)?;
-    Ok(answer.status == 2 && shelf.read(&name, 15).is_err())
+// Each program ends so by each of the commands that run it.
+fn end<R: Threads + Sync + AllocGlobal>(rt: &R, runs: &[Run<'_>]) -> Result<bool, AllocError> {
+    Ok(come_to(rt, runs, "run", "", &[""])? && come_to(rt, runs, "one", "", &[""])?)
 }
 
-#[test]
-fn words_of_no_command_read_nothing(rt: HostRuntime) -> Result<(), Fail> {
-    assert!(rt; reads_nothing(&rt)?);
-    Ok(())
+// The program with so many of these marks has this told of its run.
+fn prints_marked<R: Threads + Sync + AllocGlobal>(
+    rt: &R,
+    open: &str,
+    close: &str,
+    count: usize,
+    told: &str,
+) -> Result<bool, AllocError> {
+    let program = marked(rt.alloc(), open, close, count)?;
+    let case = Case {
+        program: program.as_str(),
+        ..BARE
+    };
+    let run = Run {
+        case,
+        told,
+        restarts: "",
+        counts: [1, 0, 0, 0],
+    };
+    let is_told = ends(rt, &run);
+    drop(program);
+    is_told
 }
 
-#[test]
-fn programs_that_are_refused(rt: HostRuntime) -> Result<(), Fail> {
-    let rows = [
-        ("", "gprs: parse 1 at byte 0\n"),
-        ("task main() {", "gprs: parse 1 at byte 13\n"),
-        (
-            "task main() { print 9223372036854775808; }",
-            "gprs: lex 2 at byte 20\n",
-        ),
-        ("task main() { print 1 ! 2; }", "gprs: lex 1 at byte 23\n"),
-        (
-            "task main() { print 1 < 2 < 3; }",
-            "gprs: parse 1 at byte 26\n",
-        ),
-        ("task t() { }", "gprs: check 1 at line 1\n"),
-    ];
-    for (program, line) in rows {
-        assert!(rt; refuses(&rt, "run p.gp", program, 3, line)?);
-    }
-    let text = " ".repeat(rt.alloc(), 1048577)?;
-    assert!(rt; refuses(&rt, "run p.gp", text.as_str(), 3, "gprs: lex 3\n")?);
-    assert!(rt; refuses(&rt, "run q.gp", EMPTY, 7, "gprs: read fault q.gp\n")?);
-    Ok(())
+// The program with 65 of these marks is nested too deep.
+fn is_too_deep<R: Threads + Sync + AllocGlobal>(
+    rt: &R,
+    open: &str,
+    close: &str,
+) -> Result<bool, AllocError> {
+    let program = marked(rt.alloc(), open, close, 65)?;
+    let is_refused = gives(
+        rt,
+        &Case {
+            program: program.as_str(),
+            error: "gprs: parse 2 at byte 84\n",
+            ..REFUSED_RUN
+        },
+    );
+    drop(program);
+    is_refused
 }
 
-#[test]
-fn programs_that_are_checked(rt: HostRuntime) -> Result<(), Fail> {
-    for row in CHECKS.lines() {
-        let (answer, barred) = row.split_once(": ").unwrap_or((row, ""));
-        assert!(rt; checks(&rt, answer, barred)?);
-    }
-    Ok(())
+// Up to 64 marks are read.
+fn limits_nesting<R: Threads + Sync + AllocGlobal>(rt: &R) -> Result<bool, AllocError> {
+    Ok(
+        prints_marked(rt, "(", ")", 64, "1\nrecords\n")?
+            && is_too_deep(rt, "(", ")")?
+            && is_too_deep(rt, "-", "")?,
+    )
 }
 
 #[test]
 fn nesting_has_a_limit(rt: HostRuntime) -> Result<(), Fail> {
-    let alloc = rt.alloc();
-    let deep = "gprs: parse 2 at byte 84\n";
-    assert!(rt; prints(&rt, marked(alloc, "(", ")", 64)?.as_str(), "1\n")?);
-    assert!(rt;
-        refuses(
-            &rt,
-            "run p.gp",
-            marked(alloc, "(", ")", 65)?.as_str(),
-            3,
-            deep
-        )?
-    );
-    assert!(rt;
-        refuses(
-            &rt,
-            "run p.gp",
-            marked(alloc, "-", "", 65)?.as_str(),
-            3,
-            deep
-        )?
-    );
+    assert!(rt; limits_nesting(&rt)?);
     Ok(())
 }
+
+// A run of one task.
+const PRINTED: Run<'static> = Run {
+    case: ALONE,
+    told: "records\n",
+    restarts: "",
+    counts: [1, 0, 0, 0],
+};
+
+static OF_ONE_TASK: [Run<'static>; 3] = [
+    Run {
+        case: Case {
+            program: EMPTY,
+            ..ALONE
+        },
+        ..PRINTED
+    },
+    Run {
+        case: Case {
+            program: PRINTS,
+            ..ALONE
+        },
+        told: "7\n42\nrecords\n",
+        ..PRINTED
+    },
+    Run {
+        case: Case {
+            program: EDGES,
+            ..ALONE
+        },
+        told: "-9223372036854775808\n-9223372036854775808\n0 0 -3 -1\nrecords\n",
+        ..PRINTED
+    },
+];
 
 #[test]
 fn programs_of_one_task(rt: HostRuntime) -> Result<(), Fail> {
-    assert!(rt; prints(&rt, EMPTY, "")?);
-    assert!(rt; prints(&rt, PRINTS, "7\n42\n")?);
     assert!(rt;
-        prints(
-            &rt,
-            EDGES,
-            "-9223372036854775808\n-9223372036854775808\n0 0 -3 -1\n"
-        )?
-    );
-    assert!(rt;
-        prints(
-            &rt,
-            marked(rt.alloc(), "", " + 1", 100000)?.as_str(),
-            "100001\n"
-        )?
+        end(&rt, &OF_ONE_TASK)? && prints_marked(&rt, "", " + 1", 100000, "100001\nrecords\n")?
     );
     Ok(())
 }
 
-// The options, the program, the status, the text up to the restarts, and the number of subthreads.
+static OF_THREADS: [Run<'static>; 13] = [
+    Run {
+        case: Case {
+            program: ADD,
+            ..ALONE
+        },
+        told: "records\ntotal: 7\n",
+        counts: [11, 0, 0, 0],
+        ..PRINTED
+    },
+    Run {
+        case: Case {
+            words: "p.gp --subthreads 11",
+            program: ADD,
+            ..ALONE
+        },
+        told: "records\ntotal: 7\n",
+        counts: [11, 0, 0, 0],
+        ..PRINTED
+    },
+    Run {
+        case: Case {
+            words: "p.gp --subthreads 10",
+            program: ADD,
+            status: 6,
+            ..ALONE
+        },
+        told: "spent 10\n",
+        counts: [10, 0, 0, 0],
+        ..PRINTED
+    },
+    Run {
+        case: Case {
+            program: DEADLOCK,
+            status: 5,
+            ..ALONE
+        },
+        told: "1\n2\nstuck deadlock thread 0 line 23\n",
+        counts: [8, 0, 0, 0],
+        ..PRINTED
+    },
+    Run {
+        case: Case {
+            program: INDEX,
+            status: 5,
+            ..ALONE
+        },
+        told: "stuck index thread 0 line 6\n",
+        ..PRINTED
+    },
+    Run {
+        case: Case {
+            program: INSIDE,
+            ..ALONE
+        },
+        told: "records\nacct: 0 0 0 1\n",
+        counts: [3, 0, 0, 0],
+        ..PRINTED
+    },
+    Run {
+        case: Case {
+            program: BARRIER,
+            ..ALONE
+        },
+        told: "3\n1\n2\n4\nrecords\n",
+        counts: [5, 0, 0, 0],
+        ..PRINTED
+    },
+    Run {
+        case: Case {
+            program: RETURN,
+            ..ALONE
+        },
+        told: "42\nrecords\n",
+        counts: [4, 0, 0, 0],
+        ..PRINTED
+    },
+    Run {
+        case: Case {
+            words: "p.gp --turns 10",
+            program: LOOP,
+            status: 6,
+            ..ALONE
+        },
+        told: "spent 0\n",
+        ..PRINTED
+    },
+    Run {
+        case: Case {
+            words: "p.gp --turns 10",
+            program: TEN_TURNS,
+            ..ALONE
+        },
+        ..PRINTED
+    },
+    Run {
+        case: Case {
+            program: "task main() { fork main(); }",
+            status: 5,
+            ..ALONE
+        },
+        told: "stuck threads thread 4095 line 1\n",
+        counts: [8191, 0, 0, 0],
+        ..PRINTED
+    },
+    Run {
+        case: Case {
+            program: "task main() { join 7; }",
+            status: 5,
+            ..ALONE
+        },
+        told: "stuck join thread 0 line 1\n",
+        ..PRINTED
+    },
+    Run {
+        case: Case {
+            program: "task main() { join 0; }",
+            status: 5,
+            ..ALONE
+        },
+        told: "stuck deadlock thread 0 line 1\n",
+        ..PRINTED
+    },
+];
+
 #[test]
 fn programs_of_threads(rt: HostRuntime) -> Result<(), Fail> {
-    let rows = [
-        ("", ADD, 0, "records\ntotal: 7\n", 11),
-        (" --subthreads 11", ADD, 0, "records\ntotal: 7\n", 11),
-        (" --subthreads 10", ADD, 6, "spent 10\n", 10),
-        (
-            "",
-            DEADLOCK,
-            5,
-            "1\n2\nstuck deadlock thread 0 line 23\n",
-            8,
-        ),
-        ("", INDEX, 5, "stuck index thread 0 line 6\n", 1),
-        ("", INSIDE, 0, "records\nacct: 0 0 0 1\n", 3),
-        ("", BARRIER, 0, "3\n1\n2\n4\nrecords\n", 5),
-        ("", RETURN, 0, "42\nrecords\n", 4),
-        (" --turns 10", LOOP, 6, "spent 0\n", 1),
-        (" --turns 10", TEN_TURNS, 0, "records\n", 1),
-        (
-            "",
-            "task main() { fork main(); }",
-            5,
-            "stuck threads thread 4095 line 1\n",
-            8191,
-        ),
-        (
-            "",
-            "task main() { join 7; }",
-            5,
-            "stuck join thread 0 line 1\n",
-            1,
-        ),
-        (
-            "",
-            "task main() { join 0; }",
-            5,
-            "stuck deadlock thread 0 line 1\n",
-            1,
-        ),
-    ];
-    for (options, program, status, text, subthreads) in rows {
-        assert!(rt; ends(&rt, options, alone(program), status, text, subthreads)?);
-    }
+    assert!(rt; end(&rt, &OF_THREADS)?);
     Ok(())
 }
+
+// A program with files beside it.
+const FILED: Case<'static> = Case {
+    program: FILES,
+    acct: "0,5\n1,-7\n",
+    moves: "0,1,3\n",
+    ..ALONE
+};
+
+static READ: [Run<'static>; 2] = [
+    Run {
+        case: FILED,
+        told: "records\nacct: 5 -4\n",
+        counts: [3, 0, 0, 0],
+        ..PRINTED
+    },
+    Run {
+        case: Case { acct: "", ..FILED },
+        told: "records\nacct: 0 3\n",
+        counts: [3, 0, 0, 0],
+        ..PRINTED
+    },
+];
+
+// What a run refuses, the check accepts: it reads the program alone.
+static UNREAD: [Case<'static>; 4] = [
+    Case {
+        words: "run p.gp",
+        acct: "0,5\n0,6\n",
+        status: 4,
+        error: "gprs: input acct.csv kind 4 row 2\n",
+        ..FILED
+    },
+    Case {
+        words: "check p.gp",
+        acct: "0,5\n0,6\n",
+        output: "ok\n",
+        ..FILED
+    },
+    Case {
+        words: "run p.gp",
+        acct: "2,5\n0,6\n",
+        status: 4,
+        error: "gprs: input acct.csv kind 3 row 1\n",
+        ..FILED
+    },
+    Case {
+        words: "check p.gp",
+        acct: "2,5\n0,6\n",
+        output: "ok\n",
+        ..FILED
+    },
+];
 
 #[test]
 fn files_beside_the_program(rt: HostRuntime) -> Result<(), Fail> {
-    let files = Files {
-        program: FILES.as_bytes(),
-        acct: b"0,5\n1,-7\n",
-        moves: b"0,1,3\n",
-        ..alone("")
-    };
-    assert!(rt; ends(&rt, "", files, 0, "records\nacct: 5 -4\n", 3)?);
-    let unmoved = Files { acct: b"", ..files };
-    assert!(rt; ends(&rt, "", unmoved, 0, "records\nacct: 0 3\n", 3)?);
-    let rows: [(&[u8], &str); 2] = [
-        (b"0,5\n0,6\n", "gprs: input acct.csv kind 4 row 2\n"),
-        (b"2,5\n0,6\n", "gprs: input acct.csv kind 3 row 1\n"),
-    ];
-    for (acct, line) in rows {
-        assert!(rt; gives(&rt, "run p.gp", Files { acct, ..files }, 4, "", line)?);
-        assert!(rt; gives(&rt, "check p.gp", Files { acct, ..files }, 0, "ok\n", "")?);
-    }
+    assert!(rt; end(&rt, &READ)? && give(&rt, &UNREAD)?);
     Ok(())
+}
+
+// A file of one byte too many is not read.
+fn refuses_long_file<R: Threads + Sync + AllocGlobal>(rt: &R) -> Result<bool, AllocError> {
+    let moves = " ".repeat(rt.alloc(), 33554433)?;
+    let is_refused = gives(
+        rt,
+        &Case {
+            program: FILES,
+            moves: moves.as_str(),
+            status: 4,
+            error: "gprs: input moves.csv kind 6 row 0\n",
+            ..PLAIN
+        },
+    );
+    drop(moves);
+    is_refused
 }
 
 #[test]
 fn a_file_that_is_too_long(rt: HostRuntime) -> Result<(), Fail> {
-    let text = " ".repeat(rt.alloc(), 33554433)?;
-    let files = Files {
-        moves: text.as_bytes(),
-        ..alone(FILES)
-    };
-    let line = "gprs: input moves.csv kind 6 row 0\n";
-    assert!(rt; gives(&rt, "run p.gp", files, 4, "", line)?);
+    assert!(rt; refuses_long_file(&rt)?);
     Ok(())
 }
 
 // The third read, which is that of the feed, fails; and a file that is not there.
+static UNREADABLE: [Case<'static>; 2] = [
+    Case {
+        program: FILES,
+        devices: Devices { read: 3, ..SOUND },
+        status: 7,
+        error: "gprs: read fault moves.csv\n",
+        ..RUN
+    },
+    Case {
+        words: "one p.gp",
+        program: "lock a[1];\nrecord r[1] by a from \"gone.csv\";\ntask main() { }\n",
+        status: 7,
+        error: "gprs: read fault gone.csv\n",
+        ..RUN
+    },
+];
+
 #[test]
 fn files_that_can_not_be_read(rt: HostRuntime) -> Result<(), Fail> {
-    let devices = Devices { read: 3, ..SOUND };
-    let line = "gprs: read fault moves.csv\n";
-    assert!(rt; gives_over(&rt, "run p.gp", alone(FILES), devices, 7, "", line)?);
-    let program = "lock a[1];\nrecord r[1] by a from \"gone.csv\";\ntask main() { }\n";
-    assert!(rt; refuses(&rt, "one p.gp", program, 7, "gprs: read fault gone.csv\n")?);
+    assert!(rt; give(&rt, &UNREADABLE)?);
     Ok(())
 }
 
-// The second call of an output fails that takes all that it is offered, or four bytes at a time: the first piece is one
-// offer.
-#[test]
-fn a_first_piece_is_one_offer(rt: HostRuntime) -> Result<(), Fail> {
-    let rows = [
-        ("check p.gp", 1000, 0, "ok\n", ""),
-        ("one p.gp", 1000, 8, "output\n", "gprs: write fault\n"),
-        ("run p.gp", 1000, 8, "output\n", "gprs: write fault\n"),
-        ("run p.gp", 4, 8, "outp", "gprs: write fault\n"),
-    ];
-    for (words, most, status, output, error) in rows {
-        let devices = Devices {
-            most,
+// The second call of the output fails.
+const STOPPED: Case<'static> = Case {
+    program: PRINTS,
+    devices: Devices { output: 2, ..SOUND },
+    status: 8,
+    output: "output\n",
+    error: "gprs: write fault\n",
+    ..RUN
+};
+
+// It takes all that it is offered, or four bytes at a time: the first piece is one offer.
+static PIECES: [Case<'static>; 4] = [
+    Case {
+        words: "check p.gp",
+        status: 0,
+        output: "ok\n",
+        error: "",
+        ..STOPPED
+    },
+    Case {
+        words: "one p.gp",
+        ..STOPPED
+    },
+    STOPPED,
+    Case {
+        devices: Devices {
+            most: 4,
             output: 2,
             ..SOUND
-        };
-        assert!(rt; gives_over(&rt, words, alone(PRINTS), devices, status, output, error)?);
-    }
+        },
+        output: "outp",
+        ..STOPPED
+    },
+];
+
+#[test]
+fn a_first_piece_is_one_offer(rt: HostRuntime) -> Result<(), Fail> {
+    assert!(rt; give(&rt, &PIECES)?);
     Ok(())
 }

@@ -1,242 +1,221 @@
 // The call that runs by checkpoints: the worked examples, whoever carries them out.
 
-use crate::answers::{Answer, answered, tells};
-use crate::calls::{ADD, Devices, Files, SOUND, USAGE, alone, shelf_of, sink_of, words_of};
-use crate::rows::{ADDED, answer_over_batch, front_of};
+use crate::answers::{answer_over_batch, give, gives};
+use crate::calls::{ADD, USAGE};
+use crate::cases::{Call, Case, Devices, PLAIN, RUN, SOUND};
+use crate::rows::{ADDED, front_of};
+use crate::runs::{Run, come_to};
 use crate::settles::ROUTED;
-use crate::struck::{CREWS, entered_as_posted, gate_over};
-use batch_calls::ckpt_run;
-use gp_base::{FreeGate, Gate, MemShelf, Seq};
-use soak_batch::soak_files;
+use crate::struck::{CREWS, PAIRS, enter_as_posted};
 use std::alloc::AllocError;
 use std::test::Fail;
 use std::thread::Threads;
 
-// What the words come to over this shelf, where tasks enter this gate.
-fn answer_over<R: Threads + Sync + AllocGlobal, G: Gate>(
-    rt: &R,
-    words: &str,
-    shelf: &mut MemShelf,
-    devices: Devices,
-    gate: &G,
-) -> Result<Answer, AllocError> {
-    let alloc = rt.alloc();
-    let words = words_of(alloc, words)?;
-    let mut output = sink_of(alloc, devices.most, devices.output)?;
-    let mut error = sink_of(alloc, devices.most, devices.error)?;
-    let outcome = ckpt_run(rt, &words, shelf, &mut output, &mut error, gate);
-    Ok(answered(outcome, output, error))
-}
+// The run of the two threads by checkpoints.
+const CKPT: Case<'static> = Case {
+    call: Call::Ckpt,
+    words: "ckpt p.gp",
+    program: ADD,
+    ..RUN
+};
 
-// The words with these files have this status, output and line on the error stream.
-fn gives<R: Threads + Sync + AllocGlobal>(
-    rt: &R,
-    words: &str,
-    files: Files<'_>,
-    devices: Devices,
-    status: u8,
-    output: &str,
-    error: &str,
-) -> Result<bool, AllocError> {
-    let mut shelf = shelf_of(rt.alloc(), files, devices.read)?;
-    let answer = answer_over(rt, words, &mut shelf, devices, &FreeGate)?;
-    Ok(tells(&answer, status, output, error))
-}
+static BY_CKPT: Case<'static> = CKPT;
 
-// A run that a fault strikes, with a checkpoint after each so many subthreads: what is told up to the rollbacks, these,
-// and how many subthreads there were, rollbacks, subthreads that were redone, and faults that struck nothing.
-#[derive(Clone, Copy)]
-struct Row {
-    every: u32,
-    program: &'static str,
-    faults: &'static str,
-    told: &'static str,
-    rollbacks: &'static str,
-    counts: [u32; 4],
-}
-
-const TOTAL: &str = "records\ntotal: 7\n";
-
-const ROUTE: &str = "records\nacct: 2 0 9\n";
-
-// The last two batches settle at position 3, which is a cut for that.
-const ROWS: [Row; 6] = [
-    Row {
-        every: 4,
-        program: ADD,
-        faults: "4,0,3,1\n",
-        told: TOTAL,
-        rollbacks: "1: front 8 struck 4 try 0 redo 4 5 6 7\n",
+// Runs that a fault strikes, with a checkpoint after each so many subthreads. The restarts are rollbacks. The last two
+// batches settle at position 3, which is a cut for that.
+static RUNS: [Run<'static>; 6] = [
+    Run {
+        case: Case {
+            words: "p.gp --faults f.csv --every 4",
+            faults: "4,0,3,1\n",
+            ..CKPT
+        },
+        told: "records\ntotal: 7\n",
+        restarts: "1: front 8 struck 4 try 0 redo 4 5 6 7\n",
         counts: [11, 1, 4, 0],
     },
-    Row {
-        every: 100,
-        program: ADD,
-        faults: "4,0,3,1\n",
-        told: TOTAL,
-        rollbacks: "1: front 8 struck 4 try 0 redo 0 1 2 3 4 5 6 7\n",
+    Run {
+        case: Case {
+            words: "p.gp --faults f.csv --every 100",
+            faults: "4,0,3,1\n",
+            ..CKPT
+        },
+        told: "records\ntotal: 7\n",
+        restarts: "1: front 8 struck 4 try 0 redo 0 1 2 3 4 5 6 7\n",
         counts: [11, 1, 8, 0],
     },
-    Row {
-        every: 4,
-        program: ADD,
-        faults: "4,0,6,1\n",
-        told: TOTAL,
-        rollbacks: "1: front 11 struck 4 try 0 redo 4 5 6 7 8 9 10\n",
+    Run {
+        case: Case {
+            words: "p.gp --faults f.csv --every 4",
+            faults: "4,0,6,1\n",
+            ..CKPT
+        },
+        told: "records\ntotal: 7\n",
+        restarts: "1: front 11 struck 4 try 0 redo 4 5 6 7 8 9 10\n",
         counts: [11, 1, 7, 0],
     },
-    Row {
-        every: 1,
-        program: ADD,
-        faults: "1000,0,0,1\n",
-        told: TOTAL,
-        rollbacks: "",
+    Run {
+        case: Case {
+            words: "p.gp --faults f.csv --every 1",
+            faults: "1000,0,0,1\n",
+            ..CKPT
+        },
+        told: "records\ntotal: 7\n",
+        restarts: "",
         counts: [11, 0, 0, 1],
     },
-    Row {
-        every: 100,
-        program: ROUTED,
-        faults: "1,0,60,1\n",
-        told: ROUTE,
-        rollbacks: "1: front 3 struck 1 try 0 redo 0 1 2\n",
+    Run {
+        case: Case {
+            words: "p.gp --faults f.csv --every 100",
+            program: ROUTED,
+            faults: "1,0,60,1\n",
+            ..CKPT
+        },
+        told: "records\nacct: 2 0 9\n",
+        restarts: "1: front 3 struck 1 try 0 redo 0 1 2\n",
         counts: [6, 1, 3, 0],
     },
-    Row {
-        every: 100,
-        program: ROUTED,
-        faults: "4,0,0,1\n",
-        told: ROUTE,
-        rollbacks: "1: front 5 struck 4 try 0 redo 3 4\n",
+    Run {
+        case: Case {
+            words: "p.gp --faults f.csv --every 100",
+            program: ROUTED,
+            faults: "4,0,0,1\n",
+            ..CKPT
+        },
+        told: "records\nacct: 2 0 9\n",
+        restarts: "1: front 5 struck 4 try 0 redo 3 4\n",
         counts: [6, 1, 2, 0],
     },
 ];
 
-// The run finishes as the row has it, by each crew.
-fn rolls_back<R: Threads + Sync + AllocGlobal>(rt: &R, row: Row) -> Result<bool, AllocError> {
-    let alloc = rt.alloc();
-    let files = Files {
-        faults: row.faults.as_bytes(),
-        ..alone(row.program)
-    };
-    let (every, told, rollbacks) = (row.every, row.told, row.rollbacks);
-    let [subthreads, made, redone, unused] = row.counts;
-    let counted = format!(in alloc;
-        "counts\nsubthreads {subthreads}\nrestarts {made}\nredone {redone}\nunused {unused}\n"
+static UNSTRUCK: Case<'static> = Case {
+    output: ADDED,
+    ..CKPT
+};
+
+#[test]
+fn faults_roll_back_to_checkpoints(rt: HostRuntime) -> Result<(), Fail> {
+    assert!(rt; come_to(&rt, &RUNS, "ckpt", "", &CREWS)? && gives(&rt, &UNSTRUCK)?);
+    Ok(())
+}
+
+const NO_COMMAND: Case<'static> = Case {
+    words: "",
+    status: 2,
+    error: USAGE,
+    ..CKPT
+};
+
+static NO_COMMANDS: [Case<'static>; 7] = [
+    NO_COMMAND,
+    Case {
+        words: "ckpt",
+        ..NO_COMMAND
+    },
+    Case {
+        words: "run p.gp",
+        ..NO_COMMAND
+    },
+    Case {
+        words: "ckpt p.gp --trace",
+        ..NO_COMMAND
+    },
+    Case {
+        words: "ckpt p.gp --every 0",
+        ..NO_COMMAND
+    },
+    Case {
+        words: "ckpt p.gp --every 100001",
+        ..NO_COMMAND
+    },
+    Case {
+        words: "ckpt p.gp --crew pipe",
+        ..NO_COMMAND
+    },
+];
+
+#[test]
+fn words_of_no_command(rt: HostRuntime) -> Result<(), Fail> {
+    assert!(rt; give(&rt, &NO_COMMANDS)?);
+    Ok(())
+}
+
+static FAILING: [Case<'static>; 2] = [
+    Case {
+        devices: Devices { read: 1, ..SOUND },
+        status: 7,
+        error: "gprs: read fault p.gp\n",
+        ..CKPT
+    },
+    Case {
+        devices: Devices { output: 2, ..SOUND },
+        status: 8,
+        output: "output\n",
+        error: "gprs: write fault\n",
+        ..CKPT
+    },
+];
+
+#[test]
+fn devices_that_fail(rt: HostRuntime) -> Result<(), Fail> {
+    assert!(rt; give(&rt, &FAILING)?);
+    Ok(())
+}
+
+// The run of the batch of transfers with its 40 faults, by checkpoints, and that on one thread have the same lines and
+// records.
+fn keeps_records<R: Threads + Sync + AllocGlobal>(rt: &R, words: &str) -> Result<bool, AllocError> {
+    let rolled = answer_over_batch(rt, &Case { words, ..BY_CKPT })?;
+    let plain = answer_over_batch(
+        rt,
+        &Case {
+            words: "one soak.gp",
+            ..PLAIN
+        },
     )?;
-    let text = format!(in alloc; "output\n{told}restarts\n{rollbacks}{counted}")?;
-    for crew in CREWS {
-        let words = format!(in alloc; "ckpt p.gp --faults f.csv --every {every} {crew}")?;
-        if !gives(rt, words.as_str(), files, SOUND, 0, text.as_str(), "")? {
+    Ok(rolled.status == 0 && plain.status == 0 && front_of(&rolled) == front_of(&plain))
+}
+
+// The same by each of these words.
+fn keep_records<R: Threads + Sync + AllocGlobal>(
+    rt: &R,
+    rows: &[&str],
+) -> Result<bool, AllocError> {
+    for words in rows {
+        if !keeps_records(rt, words)? {
             return Ok(false);
         }
     }
     Ok(true)
 }
 
-#[test]
-fn faults_roll_back_to_checkpoints(rt: HostRuntime) -> Result<(), Fail> {
-    for row in ROWS {
-        assert!(rt; rolls_back(&rt, row)?);
-    }
-    assert!(rt; gives(&rt, "ckpt p.gp", alone(ADD), SOUND, 0, ADDED, "")?);
-    Ok(())
-}
-
-#[test]
-fn words_of_no_command(rt: HostRuntime) -> Result<(), Fail> {
-    for words in [
-        "",
-        "ckpt",
-        "run p.gp",
-        "ckpt p.gp --trace",
-        "ckpt p.gp --every 0",
-        "ckpt p.gp --every 100001",
-        "ckpt p.gp --crew pipe",
-    ] {
-        assert!(rt; gives(&rt, words, alone(ADD), SOUND, 2, "", USAGE)?);
-    }
-    Ok(())
-}
-
-#[test]
-fn devices_that_fail(rt: HostRuntime) -> Result<(), Fail> {
-    let failing = Devices { read: 1, ..SOUND };
-    let unread = "gprs: read fault p.gp\n";
-    assert!(rt; gives(&rt, "ckpt p.gp", alone(ADD), failing, 7, "", unread)?);
-    let failing = Devices { output: 2, ..SOUND };
-    let unwritten = "gprs: write fault\n";
-    assert!(rt;
-        gives(
-            &rt,
-            "ckpt p.gp",
-            alone(ADD),
-            failing,
-            8,
-            "output\n",
-            unwritten
-        )?
-    );
-    Ok(())
-}
-
-// The run of the batch of transfers with its 40 faults, by checkpoints, and that on one thread have the same lines and
-// records.
-fn keeps_records<R: Threads + Sync + AllocGlobal>(
-    rt: &R,
-    options: &str,
-) -> Result<bool, AllocError> {
-    let alloc = rt.alloc();
-    let files = soak_files(alloc, 2000, 1)?;
-    let mut shelf = MemShelf::new(alloc, files, Seq::new(alloc));
-    let words = format!(in alloc; "ckpt soak.gp --faults faults.csv {options}")?;
-    let rolled = answer_over(rt, words.as_str(), &mut shelf, SOUND, &FreeGate)?;
-    let plain = answer_over_batch(rt, "one soak.gp", 0)?;
-    Ok(rolled.status == 0 && plain.status == 0 && front_of(&rolled) == front_of(&plain))
-}
+static BATCHES: [&str; 4] = [
+    "ckpt soak.gp --faults faults.csv --crew one",
+    "ckpt soak.gp --faults faults.csv --every 1 --crew wave --workers 64",
+    "ckpt soak.gp --faults faults.csv --every 500 --crew board --workers 64",
+    "ckpt soak.gp --faults faults.csv --crew steal --workers 64",
+];
 
 #[test]
 fn a_batch_that_faults_strike_keeps_its_records(rt: HostRuntime) -> Result<(), Fail> {
-    for options in [
-        "--crew one",
-        "--every 1 --crew wave --workers 64",
-        "--every 500 --crew board --workers 64",
-        "--crew steal --workers 64",
-    ] {
-        assert!(rt; keeps_records(&rt, options)?);
-    }
+    assert!(rt; keep_records(&rt, &BATCHES)?);
     Ok(())
 }
 
-// Each position enters the gate as often as the journal posts it.
-fn enters_as_posted<R: Threads + Sync + AllocGlobal>(
-    rt: &R,
-    words: &str,
-    files: Files<'_>,
-    positions: usize,
-) -> Result<bool, AllocError> {
-    let alloc = rt.alloc();
-    let gate = gate_over(alloc, positions)?;
-    let mut shelf = shelf_of(alloc, files, 0)?;
-    let answer = answer_over(rt, words, &mut shelf, SOUND, &gate)?;
-    entered_as_posted(alloc, answer, &gate, positions)
-}
+static ENTERED: [Case<'static>; 2] = [
+    Case {
+        faults: "4,0,3,1\n",
+        ..CKPT
+    },
+    Case {
+        words: "ckpt p.gp --every 4 --faults f.csv",
+        faults: "4,0,3,1\n",
+        ..CKPT
+    },
+];
 
 #[test]
 fn tasks_enter_the_gate_as_they_are_posted(rt: HostRuntime) -> Result<(), Fail> {
-    let files = Files {
-        faults: b"4,0,3,1\n",
-        ..alone(ADD)
-    };
-    for crew in [
-        "--crew one",
-        "--crew wave --workers 2",
-        "--crew board --workers 2",
-        "--crew steal --workers 2",
-    ] {
-        let run = format!(in rt.alloc(); "ckpt p.gp {crew}")?;
-        let struck = format!(in rt.alloc(); "ckpt p.gp --every 4 --faults f.csv {crew}")?;
-        assert!(rt; enters_as_posted(&rt, run.as_str(), files, 11)?);
-        assert!(rt; enters_as_posted(&rt, struck.as_str(), files, 11)?);
-    }
+    assert!(rt; enter_as_posted(&rt, &ENTERED, &PAIRS, 11)?);
     Ok(())
 }

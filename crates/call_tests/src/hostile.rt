@@ -1,12 +1,13 @@
 // Hostile use: texts that are cut off, devices that fail at each of their calls, files that are refused, and schedules.
 // The fault strikes the first of the two threads that add to one total.
 
-use crate::calls::{ADD, Devices, EMPTY, Files, PRINTS, SOUND, USAGE, alone, answer_of, gives};
-use crate::rows::answer_over_batch;
+use crate::answers::{answer_of, answer_over_batch, give, gives, tells, text_of};
+use crate::calls::{ADD, EMPTY, PRINTS, USAGE};
+use crate::cases::{Case, Devices, PLAIN, RUN, SOUND};
 use crate::scripted::{NEWEST, ran_in_order};
 use engine::Report;
 use gp_base::MemSink;
-use std::alloc::AllocError;
+use std::alloc::{AllocError, Global};
 use std::test::Fail;
 use std::thread::Threads;
 
@@ -19,42 +20,52 @@ const PRINTS_TEXT: &str =
 const STRUCK_TEXT: &str =
     "output\nrecords\ntotal: 7\nrestarts\n1: front 8 struck 4 try 0 redo 4 6 7\ncounts\nsubthreads 11\nrestarts 1\nredone 3\nunused 0\n";
 
-const TRACED: &str = "run p.gp --faults f.csv --crew one --trace";
+// The struck run, with its trace.
+const STRUCK: Case<'static> = Case {
+    words: "run p.gp --faults f.csv --crew one --trace",
+    program: ADD,
+    faults: "4,0,3,1\n",
+    output: STRUCK_TEXT,
+    ..RUN
+};
 
 const WRITE_FAULT: &str = "gprs: write fault\n";
 
 // How many bytes a sink takes at once.
 const MOST: [usize; 3] = [1, 4, 1000];
 
-// The two threads, with this file of faults.
-fn adding(faults: &[u8]) -> Files<'_> {
-    Files {
-        faults,
-        ..alone(ADD)
-    }
-}
+static STRUCK_RUN: Case<'static> = STRUCK;
 
 // The program is refused, and nothing is written to the output.
 fn refuses_text<R: Threads + Sync + AllocGlobal>(
     rt: &R,
     program: &[u8],
 ) -> Result<bool, AllocError> {
-    let files = Files {
-        program,
-        ..alone("")
+    let case = Case {
+        program: text_of(program),
+        ..PLAIN
     };
-    let answer = answer_of(rt, "run p.gp", files, SOUND)?;
+    let answer = answer_of(rt, &case)?;
     Ok(answer.status == 3 && answer.output.written().is_empty())
 }
 
 // A text that is cut off is refused.
-#[test]
-fn beginnings_are_refused(rt: HostRuntime) -> Result<(), Fail> {
-    let whole = ADD.trim_end().as_bytes();
+fn refuses_beginnings<R: Threads + Sync + AllocGlobal>(
+    rt: &R,
+    whole: &[u8],
+) -> Result<bool, AllocError> {
     for end in 0..whole.len() {
         let (front, _) = whole.split_at(end);
-        assert!(rt; refuses_text(&rt, front)?, "{end}");
+        if !refuses_text(rt, front)? {
+            return Ok(false);
+        }
     }
+    Ok(true)
+}
+
+#[test]
+fn beginnings_are_refused(rt: HostRuntime) -> Result<(), Fail> {
+    assert!(rt; refuses_beginnings(&rt, ADD.trim_end().as_bytes())?);
     Ok(())
 }
 
@@ -86,31 +97,38 @@ fn holds(sink: &MemSink, text: &[u8], taken: Option<usize>) -> bool {
     written.len() == taken.unwrap_or(text.len()) && text.starts_with(written)
 }
 
-// A run, its text, and how many bytes of that are printed lines. They stand after the seven of the first line, and each
-// of the three parts is offered by itself.
+// A run, and how many bytes of its text are printed lines. They stand after the seven of the first line, and each of
+// the three parts is offered by itself.
 #[derive(Clone, Copy)]
-struct Run<'a> {
-    words: &'a str,
-    files: Files<'a>,
-    text: &'a str,
+struct Printing<'a> {
+    case: Case<'a>,
     lines: usize,
 }
 
 // The run writes its text up to the call of the output that fails, and tells of that.
 fn stops_at_output<R: Threads + Sync + AllocGlobal>(
     rt: &R,
-    run: &Run<'_>,
-    devices: Devices,
+    run: &Printing<'_>,
+    most: usize,
+    output: u64,
 ) -> Result<bool, AllocError> {
-    let text = run.text.as_bytes();
+    let text = run.case.output.as_bytes();
     let tail = text.len().saturating_sub(7).saturating_sub(run.lines);
-    let taken = taken_before(&[7, run.lines, tail], devices.most, devices.output);
+    let taken = taken_before(&[7, run.lines, tail], most, output);
     let (status, line) = if taken.is_some() {
         (8, WRITE_FAULT)
     } else {
         (0, "")
     };
-    let answer = answer_of(rt, run.words, run.files, devices)?;
+    let case = Case {
+        devices: Devices {
+            most,
+            output,
+            ..SOUND
+        },
+        ..run.case
+    };
+    let answer = answer_of(rt, &case)?;
     Ok(
         answer.status == status
             && holds(&answer.output, text, taken)
@@ -121,16 +139,51 @@ fn stops_at_output<R: Threads + Sync + AllocGlobal>(
 // Each call of the output fails in turn, and one after the last. The sink would take the next call.
 fn stops_at_each_output<R: Threads + Sync + AllocGlobal>(
     rt: &R,
-    run: &Run<'_>,
-    most: usize,
+    run: &Printing<'_>,
 ) -> Result<bool, AllocError> {
-    for output in 1..above_calls(run.text.len(), most) {
-        let devices = Devices {
-            most,
-            output,
-            ..SOUND
-        };
-        if !stops_at_output(rt, run, devices)? {
+    for most in MOST {
+        for output in 1..above_calls(run.case.output.len(), most) {
+            if !stops_at_output(rt, run, most, output)? {
+                return Ok(false);
+            }
+        }
+    }
+    Ok(true)
+}
+
+static PRINTINGS: [Printing<'static>; 3] = [
+    Printing {
+        case: Case {
+            program: EMPTY,
+            output: EMPTY_TEXT,
+            ..RUN
+        },
+        lines: 0,
+    },
+    Printing {
+        case: Case {
+            program: PRINTS,
+            output: PRINTS_TEXT,
+            ..RUN
+        },
+        lines: 5,
+    },
+    Printing {
+        case: Case {
+            words: "run p.gp --faults f.csv",
+            ..STRUCK
+        },
+        lines: 0,
+    },
+];
+
+// Each of the runs stops at each call of its output.
+fn stop_at_each_output<R: Threads + Sync + AllocGlobal>(
+    rt: &R,
+    runs: &[Printing<'_>],
+) -> Result<bool, AllocError> {
+    for run in runs {
+        if !stops_at_each_output(rt, run)? {
             return Ok(false);
         }
     }
@@ -139,77 +192,44 @@ fn stops_at_each_output<R: Threads + Sync + AllocGlobal>(
 
 #[test]
 fn an_output_that_fails_has_a_prefix(rt: HostRuntime) -> Result<(), Fail> {
-    let rows = [
-        Run {
-            words: "run p.gp",
-            files: alone(EMPTY),
-            text: EMPTY_TEXT,
-            lines: 0,
-        },
-        Run {
-            words: "run p.gp",
-            files: alone(PRINTS),
-            text: PRINTS_TEXT,
-            lines: 5,
-        },
-        Run {
-            words: "run p.gp --faults f.csv",
-            files: adding(b"4,0,3,1\n"),
-            text: STRUCK_TEXT,
-            lines: 0,
-        },
-    ];
-    for run in &rows {
-        for most in MOST {
-            assert!(rt; stops_at_each_output(&rt, run, most)?, "{most}");
-        }
-    }
+    assert!(rt; stop_at_each_output(&rt, &PRINTINGS)?);
     Ok(())
-}
-
-// What words come to whose first read or write fails, or none: the status, the output, and what the error stream gets.
-#[derive(Clone, Copy)]
-struct Told<'a> {
-    words: &'a str,
-    files: Files<'a>,
-    read: u64,
-    output: u64,
-    status: u8,
-    text: &'a str,
-    error: &'a [u8],
 }
 
 // The error stream gets its bytes up to the call that fails, and the status tells of that.
 fn stops_at_error<R: Threads + Sync + AllocGlobal>(
     rt: &R,
-    told: &Told<'_>,
+    case: &Case<'_>,
     most: usize,
     error: u64,
 ) -> Result<bool, AllocError> {
-    let devices = Devices {
-        most,
-        read: told.read,
-        output: told.output,
-        error,
+    let line = case.error.as_bytes();
+    let taken = taken_before(&[line.len()], most, error);
+    let status = if taken.is_some() { 8 } else { case.status };
+    let failing = Case {
+        devices: Devices {
+            most,
+            error,
+            ..case.devices
+        },
+        ..*case
     };
-    let taken = taken_before(&[told.error.len()], most, error);
-    let status = if taken.is_some() { 8 } else { told.status };
-    let answer = answer_of(rt, told.words, told.files, devices)?;
+    let answer = answer_of(rt, &failing)?;
     Ok(
         answer.status == status
-            && answer.output.written() == told.text.as_bytes()
-            && holds(&answer.error, told.error, taken),
+            && answer.output.written() == case.output.as_bytes()
+            && holds(&answer.error, line, taken),
     )
 }
 
 // Each call of the error stream fails in turn, and one after the last.
 fn stops_at_each_error<R: Threads + Sync + AllocGlobal>(
     rt: &R,
-    told: &Told<'_>,
+    case: &Case<'_>,
 ) -> Result<bool, AllocError> {
     for most in MOST {
-        for error in 1..above_calls(told.error.len(), most) {
-            if !stops_at_error(rt, told, most, error)? {
+        for error in 1..above_calls(case.error.len(), most) {
+            if !stops_at_error(rt, case, most, error)? {
                 return Ok(false);
             }
         }
@@ -217,53 +237,66 @@ fn stops_at_each_error<R: Threads + Sync + AllocGlobal>(
     Ok(true)
 }
 
-// A line: the words, the first read and the first write that fail, the status, and the line.
+// A line, whose words or whose first read or write fail.
+static LINES: [Case<'static>; 4] = [
+    Case {
+        words: "run",
+        program: EMPTY,
+        status: 2,
+        error: USAGE,
+        ..RUN
+    },
+    Case {
+        words: "run q.gp",
+        program: EMPTY,
+        status: 7,
+        error: "gprs: read fault q.gp\n",
+        ..RUN
+    },
+    Case {
+        program: EMPTY,
+        devices: Devices { read: 1, ..SOUND },
+        status: 7,
+        error: "gprs: read fault p.gp\n",
+        ..RUN
+    },
+    Case {
+        program: EMPTY,
+        devices: Devices { output: 1, ..SOUND },
+        status: 8,
+        error: WRITE_FAULT,
+        ..RUN
+    },
+];
+
+// Each of the cases stops at each call of its error stream.
+fn stop_at_each_error<R: Threads + Sync + AllocGlobal>(
+    rt: &R,
+    cases: &[Case<'_>],
+) -> Result<bool, AllocError> {
+    for case in cases {
+        if !stops_at_each_error(rt, case)? {
+            return Ok(false);
+        }
+    }
+    Ok(true)
+}
+
 #[test]
 fn an_error_stream_that_fails_has_a_prefix(rt: HostRuntime) -> Result<(), Fail> {
-    let rows = [
-        ("run", 0, 0, 2, USAGE),
-        ("run q.gp", 0, 0, 7, "gprs: read fault q.gp\n"),
-        ("run p.gp", 1, 0, 7, "gprs: read fault p.gp\n"),
-        ("run p.gp", 0, 1, 8, WRITE_FAULT),
-    ];
-    for (words, read, output, status, line) in rows {
-        let told = Told {
-            words,
-            files: alone(EMPTY),
-            read,
-            output,
-            status,
-            text: "",
-            error: line.as_bytes(),
-        };
-        assert!(rt; stops_at_each_error(&rt, &told)?, "{words}");
-    }
+    assert!(rt; stop_at_each_error(&rt, &LINES)?);
     Ok(())
 }
 
-// The error stream of the struck run gets its trace, which is this, up to the call that fails.
-fn stops_at_each_call_of<R: Threads + Sync + AllocGlobal>(
-    rt: &R,
-    trace: &[u8],
-) -> Result<bool, AllocError> {
-    let told = Told {
-        words: TRACED,
-        files: adding(b"4,0,3,1\n"),
-        read: 0,
-        output: 0,
-        status: 0,
-        text: STRUCK_TEXT,
-        error: trace,
-    };
-    stops_at_each_error(rt, &told)
-}
-
-// The whole trace is that of a run whose error stream does not fail.
+// The error stream of the struck run gets its trace up to the call that fails. The whole trace is that of a run whose
+// error stream does not fail.
 fn stops_in_its_trace<R: Threads + Sync + AllocGlobal>(rt: &R) -> Result<bool, AllocError> {
-    let whole = answer_of(rt, TRACED, adding(b"4,0,3,1\n"), SOUND)?;
-    let stops = stops_at_each_call_of(rt, whole.error.written());
-    drop(whole);
-    stops
+    let whole = answer_of(rt, &STRUCK_RUN)?;
+    let case = Case {
+        error: text_of(whole.error.written()),
+        ..STRUCK_RUN
+    };
+    stops_at_each_error(rt, &case)
 }
 
 #[test]
@@ -276,83 +309,112 @@ fn a_trace_that_fails_has_a_prefix(rt: HostRuntime) -> Result<(), Fail> {
 fn fails_to_read<R: Threads + Sync + AllocGlobal>(
     rt: &R,
     read: u64,
-    file: &str,
+    line: &str,
 ) -> Result<bool, AllocError> {
-    let line = format!(in rt.alloc(); "gprs: read fault {file}\n")?;
-    let answer = answer_over_batch(rt, "run soak.gp --faults faults.csv", read)?;
-    Ok(
-        answer.status == 7
-            && answer.output.written().is_empty()
-            && answer.error.written() == line.as_bytes(),
-    )
+    let case = Case {
+        words: "run soak.gp --faults faults.csv",
+        devices: Devices { read, ..SOUND },
+        status: 7,
+        error: line,
+        ..PLAIN
+    };
+    let answer = answer_over_batch(rt, &case)?;
+    Ok(tells(&answer, &case))
 }
 
 // The program is read first and the faults last.
+fn names_unread<R: Threads + Sync + AllocGlobal>(rt: &R) -> Result<bool, AllocError> {
+    Ok(
+        fails_to_read(rt, 1, "gprs: read fault soak.gp\n")?
+            && fails_to_read(rt, 2, "gprs: read fault acct.csv\n")?
+            && fails_to_read(rt, 3, "gprs: read fault moves.csv\n")?
+            && fails_to_read(rt, 4, "gprs: read fault faults.csv\n")?,
+    )
+}
+
 #[test]
 fn each_file_is_named_that_can_not_be_read(rt: HostRuntime) -> Result<(), Fail> {
-    let files = [
-        (1, "soak.gp"),
-        (2, "acct.csv"),
-        (3, "moves.csv"),
-        (4, "faults.csv"),
-    ];
-    for (read, file) in files {
-        assert!(rt; fails_to_read(&rt, read, file)?, "{file}");
-    }
+    assert!(rt; names_unread(&rt)?);
     Ok(())
 }
 
-// The run with this file of faults has this line, or none and the text of the struck run.
-fn answers_faults<R: Threads + Sync + AllocGlobal>(
-    rt: &R,
-    faults: &[u8],
-    line: &str,
-) -> Result<bool, AllocError> {
-    let (status, text) = if line.is_empty() {
-        (0, STRUCK_TEXT)
-    } else {
-        (4, "")
-    };
-    gives(
-        rt,
-        "run p.gp --faults f.csv",
-        adding(faults),
-        status,
-        text,
-        line,
-    )
+// A run whose file of faults is refused.
+const REFUSED: Case<'static> = Case {
+    words: "run p.gp --faults f.csv",
+    program: ADD,
+    status: 4,
+    ..RUN
+};
+
+static FAULTS: [Case<'static>; 5] = [
+    Case {
+        faults: "4,0,65,1\n",
+        error: "gprs: input f.csv kind 3 row 1\n",
+        ..REFUSED
+    },
+    Case {
+        faults: "4,0,3\n",
+        error: "gprs: input f.csv kind 1 row 1\n",
+        ..REFUSED
+    },
+    Case {
+        faults: "4,0,3,1\n4,0,3,1\n",
+        error: "gprs: input f.csv kind 4 row 2\n",
+        ..REFUSED
+    },
+    Case {
+        faults: "4,0,x,1\n",
+        error: "gprs: input f.csv kind 2 row 1\n",
+        ..REFUSED
+    },
+    Case {
+        words: "run p.gp --faults f.csv",
+        faults: "\"4\",0,3,1\r\n",
+        ..STRUCK
+    },
+];
+
+static REFUSED_RUN: Case<'static> = REFUSED;
+
+// So many faults on one position, each on a row.
+fn faults_of(alloc: Global, count: u32) -> Result<String, AllocError> {
+    let mut faults = String::new(alloc);
+    for attempt in 0..count {
+        let row = format!(in alloc; "4,{attempt},3,1\n")?;
+        faults.push_str(row.as_str())?;
+    }
+    Ok(faults)
 }
 
 // 1,001 faults on one position are too many.
 fn refuses_too_many<R: Threads + Sync + AllocGlobal>(rt: &R) -> Result<bool, AllocError> {
-    let alloc = rt.alloc();
-    let mut faults = String::new(alloc);
-    for attempt in 0..1001u32 {
-        let row = format!(in alloc; "4,{attempt},3,1\n")?;
-        faults.push_str(row.as_str())?;
-    }
-    answers_faults(rt, faults.as_bytes(), "gprs: input f.csv kind 5 row 1001\n")
+    let faults = faults_of(rt.alloc(), 1001)?;
+    let case = Case {
+        faults: faults.as_str(),
+        error: "gprs: input f.csv kind 5 row 1001\n",
+        ..REFUSED_RUN
+    };
+    let is_refused = gives(rt, &case);
+    drop(faults);
+    is_refused
 }
 
 // A file of one byte too many is not read.
 fn refuses_too_long<R: Threads + Sync + AllocGlobal>(rt: &R) -> Result<bool, AllocError> {
     let faults = " ".repeat(rt.alloc(), 33554433)?;
-    answers_faults(rt, faults.as_bytes(), "gprs: input f.csv kind 6 row 0\n")
+    let case = Case {
+        faults: faults.as_str(),
+        error: "gprs: input f.csv kind 6 row 0\n",
+        ..REFUSED_RUN
+    };
+    let is_refused = gives(rt, &case);
+    drop(faults);
+    is_refused
 }
 
 #[test]
 fn files_of_faults(rt: HostRuntime) -> Result<(), Fail> {
-    let rows: [(&[u8], &str); 5] = [
-        (b"4,0,65,1\n", "gprs: input f.csv kind 3 row 1\n"),
-        (b"4,0,3\n", "gprs: input f.csv kind 1 row 1\n"),
-        (b"4,0,3,1\n4,0,3,1\n", "gprs: input f.csv kind 4 row 2\n"),
-        (b"4,0,x,1\n", "gprs: input f.csv kind 2 row 1\n"),
-        (b"\"4\",0,3,1\r\n", ""),
-    ];
-    for (faults, line) in rows {
-        assert!(rt; answers_faults(&rt, faults, line)?, "{line}");
-    }
-    assert!(rt; refuses_too_many(&rt)? && refuses_too_long(&rt)?);
+    assert!(rt; give(&rt, &FAULTS)? && refuses_too_many(&rt)? && refuses_too_long(&rt)?);
     Ok(())
 }
 
@@ -404,15 +466,18 @@ fn keeps_total_in_each_order<R: Threads + Sync + AllocGlobal>(
     )
 }
 
-#[test]
-fn schedules_keep_the_total(rt: HostRuntime) -> Result<(), Fail> {
+// Each of the first three attempts of each position is struck, this many subthreads later.
+fn keeps_totals<R: Threads + Sync + AllocGlobal>(rt: &R, delay: u32) -> Result<bool, Fail> {
     for position in 0..11u32 {
-        for delay in [0, 1, 64] {
-            assert!(rt;
-                keeps_total_in_each_order(&rt, position, delay)?,
-                "{position} {delay}"
-            );
+        if !keeps_total_in_each_order(rt, position, delay)? {
+            return Ok(false);
         }
     }
+    Ok(true)
+}
+
+#[test]
+fn schedules_keep_the_total(rt: HostRuntime) -> Result<(), Fail> {
+    assert!(rt; keeps_totals(&rt, 0)? && keeps_totals(&rt, 1)? && keeps_totals(&rt, 64)?);
     Ok(())
 }

@@ -9,6 +9,8 @@ mod audits;
 #[cfg(test)]
 mod calls;
 #[cfg(test)]
+mod cases;
+#[cfg(test)]
 mod ckpt;
 #[cfg(test)]
 mod hostile;
@@ -18,6 +20,8 @@ mod log;
 mod resume;
 #[cfg(test)]
 mod rows;
+#[cfg(test)]
+mod runs;
 #[cfg(test)]
 mod scripted;
 #[cfg(test)]

@@ -1,26 +1,24 @@
 // The call that keeps a log of its run: worked examples, whoever carries them out, and devices that fail. The rows were
 // reckoned by hand from the rules of the order.
 
-use crate::answers::{Answer, answered, tells};
-use crate::calls::{ADD, Devices, Files, SOUND, USAGE, alone, shelf_of, sink_of, words_of};
+use crate::answers::{Answer, answer_over_batch, give, gives, gives_by};
+use crate::calls::{ADD, USAGE};
+use crate::cases::{Call, Case, Devices, RUN, SOUND};
 use crate::rows::ADDED;
-use crate::struck::{entered_as_posted, gate_over};
-use batch_calls::log_run;
-use gp_base::{FreeGate, Gate, MemShelf, Seq};
-use soak_batch::soak_files;
+use crate::struck::enter_as_posted;
 use std::alloc::{AllocError, Global};
 use std::test::Fail;
 use std::thread::Threads;
 
 // The crews of a run with a log, in the words that name them.
-const CREWS: [&str; 7] = [
-    "--crew one",
-    "--crew wave --workers 1",
-    "--crew wave --workers 2",
-    "--crew wave --workers 64",
-    "--crew board --workers 1",
-    "--crew board --workers 2",
-    "--crew board --workers 64",
+static CREWS: [&str; 7] = [
+    " --crew one",
+    " --crew wave --workers 1",
+    " --crew wave --workers 2",
+    " --crew wave --workers 64",
+    " --crew board --workers 1",
+    " --crew board --workers 2",
+    " --crew board --workers 64",
 ];
 
 /// Position 1 forks the thread that adds 3, and position 3 that which adds 4; they add at 4 and at 7.
@@ -38,7 +36,7 @@ task main() { fork t(); print 3; barrier meet; print 4; }
 ";
 
 /// What its run writes, and the rows of its log.
-pub const MET: [&str; 6] = [
+pub static MET: [&str; 6] = [
     "output\n",
     "3\n",
     "1\n",
@@ -47,7 +45,7 @@ pub const MET: [&str; 6] = [
     "records\nrestarts\ncounts\nsubthreads 5\nrestarts 0\nredone 0\nunused 0\n",
 ];
 
-pub const MET_LOG: [&str; 5] = [
+pub static MET_LOG: [&str; 5] = [
     "0 7 ; 0 ; ;\n",
     "1 9 ; 0 ; 0 ;\n",
     "2 11 ; 0 ; ;\n",
@@ -79,204 +77,260 @@ pub fn first_of(alloc: Global, pieces: &[&str], count: usize) -> Result<String, 
     Ok(text)
 }
 
-// What the words come to over this shelf, where tasks enter this gate.
-fn answer_over<R: Threads + Sync + AllocGlobal, G: Gate>(
-    rt: &R,
-    words: &str,
-    shelf: &mut MemShelf,
-    devices: Devices,
-    gate: &G,
-) -> Result<Answer, AllocError> {
-    let alloc = rt.alloc();
-    let words = words_of(alloc, words)?;
-    let mut output = sink_of(alloc, devices.most, devices.output)?;
-    let mut error = sink_of(alloc, devices.most, devices.error)?;
-    let outcome = log_run(rt, &words, shelf, &mut output, &mut error, gate);
-    Ok(answered(outcome, output, error))
-}
+// The run of the two threads with a log.
+const LOG: Case<'static> = Case {
+    call: Call::Log,
+    words: "log p.gp",
+    program: ADD,
+    output: ADDED,
+    error: ADD_LOG,
+    ..RUN
+};
 
-// The words with these files have this status, output, and log or line on the error stream.
-fn gives<R: Threads + Sync + AllocGlobal>(
-    rt: &R,
-    words: &str,
-    files: Files<'_>,
-    devices: Devices,
-    status: u8,
-    output: &str,
-    error: &str,
-) -> Result<bool, AllocError> {
-    let mut shelf = shelf_of(rt.alloc(), files, devices.read)?;
-    let answer = answer_over(rt, words, &mut shelf, devices, &FreeGate)?;
-    Ok(tells(&answer, status, output, error))
-}
+static LOGGED: Case<'static> = LOG;
 
-// The run of `MEETING` has this status over these devices, and writes so many pieces of its text and rows of its log.
-fn meets<R: Threads + Sync + AllocGlobal>(
+// The run of two threads that meet.
+static MEETS: Case<'static> = Case {
+    program: MEETING,
+    ..LOG
+};
+
+// The case writes so many pieces of the text of `MEETING` and rows of its log.
+fn writes<R: Threads + Sync + AllocGlobal>(
     rt: &R,
-    devices: Devices,
-    status: u8,
+    case: &Case<'_>,
     pieces: usize,
     rows: usize,
 ) -> Result<bool, AllocError> {
     let output = first_of(rt.alloc(), &MET, pieces)?;
     let log = first_of(rt.alloc(), &MET_LOG, rows)?;
-    gives(
+    let is_told = gives(
         rt,
-        "log p.gp",
-        alone(MEETING),
-        devices,
-        status,
-        output.as_str(),
-        log.as_str(),
-    )
+        &Case {
+            output: output.as_str(),
+            error: log.as_str(),
+            ..*case
+        },
+    );
+    drop(log);
+    drop(output);
+    is_told
 }
+
+// The run of `MEETING` over these devices is stopped by a write, and wrote so many pieces of its text and rows of its
+// log.
+fn is_stopped<R: Threads + Sync + AllocGlobal>(
+    rt: &R,
+    devices: Devices,
+    pieces: usize,
+    rows: usize,
+) -> Result<bool, AllocError> {
+    let case = Case {
+        devices,
+        status: 8,
+        ..MEETS
+    };
+    writes(rt, &case, pieces, rows)
+}
+
+// The run of a program whose lock is outside writes the row of the position where it is stuck.
+static STOPPED: Case<'static> = Case {
+    program: OUTSIDE,
+    status: 5,
+    output: STUCK,
+    error: "0 7 ; 0 ; ;\n",
+    ..LOG
+};
 
 #[test]
 fn rows_as_they_are_written(rt: HostRuntime) -> Result<(), Fail> {
-    for crew in CREWS {
-        let words = format!(in rt.alloc(); "log p.gp {crew}")?;
-        assert!(rt; gives(&rt, words.as_str(), alone(ADD), SOUND, 0, ADDED, ADD_LOG)?);
-    }
-    assert!(rt; meets(&rt, SOUND, 0, 6, 5)?);
     assert!(rt;
-        gives(
-            &rt,
-            "log p.gp",
-            alone(OUTSIDE),
-            SOUND,
-            5,
-            STUCK,
-            "0 7 ; 0 ; ;\n"
-        )?
+        gives_by(&rt, &LOGGED, &CREWS)? && writes(&rt, &MEETS, 6, 5)? && gives(&rt, &STOPPED)?
     );
     Ok(())
 }
 
+static STRUCK_LOGGED: Case<'static> = STRUCK_LOG;
+
+const STRUCK_LOG: Case<'static> = Case {
+    words: "log p.gp --faults f.csv",
+    faults: "4,0,3,1\n",
+    output: STRUCK,
+    ..LOG
+};
+
 #[test]
 fn a_fault_leaves_no_damage_in_the_log(rt: HostRuntime) -> Result<(), Fail> {
-    let files = Files {
-        faults: b"4,0,3,1\n",
-        ..alone(ADD)
-    };
-    for crew in CREWS {
-        let words = format!(in rt.alloc(); "log p.gp --faults f.csv {crew}")?;
-        assert!(rt; gives(&rt, words.as_str(), files, SOUND, 0, STRUCK, ADD_LOG)?);
-    }
+    assert!(rt; gives_by(&rt, &STRUCK_LOGGED, &CREWS)?);
     Ok(())
 }
 
+const NO_COMMAND: Case<'static> = Case {
+    words: "",
+    status: 2,
+    output: "",
+    error: USAGE,
+    ..LOG
+};
+
+static NO_COMMANDS: [Case<'static>; 7] = [
+    NO_COMMAND,
+    Case {
+        words: "log",
+        ..NO_COMMAND
+    },
+    Case {
+        words: "run p.gp",
+        ..NO_COMMAND
+    },
+    Case {
+        words: "log p.gp --trace",
+        ..NO_COMMAND
+    },
+    Case {
+        words: "log p.gp --every 4",
+        ..NO_COMMAND
+    },
+    Case {
+        words: "log p.gp --crew steal",
+        ..NO_COMMAND
+    },
+    Case {
+        words: "log p.gp --crew pipe",
+        ..NO_COMMAND
+    },
+];
+
 #[test]
 fn words_of_no_command(rt: HostRuntime) -> Result<(), Fail> {
-    for words in [
-        "",
-        "log",
-        "run p.gp",
-        "log p.gp --trace",
-        "log p.gp --every 4",
-        "log p.gp --crew steal",
-        "log p.gp --crew pipe",
-    ] {
-        assert!(rt; gives(&rt, words, alone(ADD), SOUND, 2, "", USAGE)?);
-    }
+    assert!(rt; give(&rt, &NO_COMMANDS)?);
     Ok(())
 }
 
 // The line that tells a fault stands on the error stream only where no run began.
+static UNREAD: Case<'static> = Case {
+    devices: Devices { read: 1, ..SOUND },
+    status: 7,
+    output: "",
+    error: "gprs: read fault p.gp\n",
+    ..LOG
+};
+
 #[test]
 fn a_program_that_is_not_read(rt: HostRuntime) -> Result<(), Fail> {
-    let failing = Devices { read: 1, ..SOUND };
-    let unread = "gprs: read fault p.gp\n";
-    assert!(rt; gives(&rt, "log p.gp", alone(ADD), failing, 7, "", unread)?);
+    assert!(rt; gives(&rt, &UNREAD)?);
     Ok(())
 }
 
 // Each piece of the text is one call of the output. Where one fails, the log has the rows of the positions before it,
 // and no line of that.
-#[test]
-fn an_output_that_fails(rt: HostRuntime) -> Result<(), Fail> {
+fn stops_at_each_piece<R: Threads + Sync + AllocGlobal>(rt: &R) -> Result<bool, AllocError> {
     for pieces in 0usize..6 {
         let failing = Devices {
             output: pieces as u64 + 1,
             ..SOUND
         };
-        assert!(rt; meets(&rt, failing, 8, pieces, pieces)?);
+        if !is_stopped(rt, failing, pieces, pieces)? {
+            return Ok(false);
+        }
     }
+    Ok(true)
+}
+
+#[test]
+fn an_output_that_fails(rt: HostRuntime) -> Result<(), Fail> {
+    assert!(rt; stops_at_each_piece(&rt)?);
     Ok(())
 }
 
 // Where a row is not taken, the lines of its position are written, and nothing behind them.
-#[test]
-fn a_log_that_fails(rt: HostRuntime) -> Result<(), Fail> {
+fn stops_at_each_row<R: Threads + Sync + AllocGlobal>(rt: &R) -> Result<bool, AllocError> {
     for rows in 0usize..5 {
         let failing = Devices {
             error: rows as u64 + 1,
             ..SOUND
         };
-        assert!(rt; meets(&rt, failing, 8, rows + 1, rows)?);
+        if !is_stopped(rt, failing, rows + 1, rows)? {
+            return Ok(false);
+        }
     }
+    Ok(true)
+}
+
+#[test]
+fn a_log_that_fails(rt: HostRuntime) -> Result<(), Fail> {
+    assert!(rt; stops_at_each_row(&rt)?);
     Ok(())
 }
 
-// The run of the batch of transfers by these options writes this log.
+// The run of the batch of transfers by these words writes this log.
 fn log_of_batch<R: Threads + Sync + AllocGlobal>(
     rt: &R,
-    options: &str,
-) -> Result<Answer, AllocError> {
-    let alloc = rt.alloc();
-    let files = soak_files(alloc, 2000, 1)?;
-    let mut shelf = MemShelf::new(alloc, files, Seq::new(alloc));
-    let words = format!(in alloc; "log soak.gp {options}")?;
-    answer_over(rt, words.as_str(), &mut shelf, SOUND, &FreeGate)
+    words: &str,
+) -> Result<Box<Answer>, AllocError> {
+    answer_over_batch(rt, &Case { words, ..LOGGED })
 }
 
-// The run of the batch with its 40 faults has the log of the run without them, which has a row for each subthread.
-#[test]
-fn a_batch_that_faults_strike_keeps_its_log(rt: HostRuntime) -> Result<(), Fail> {
-    let plain = log_of_batch(&rt, "--crew one")?;
-    let rows = plain
+// The run by these words has this log.
+fn has_log<R: Threads + Sync + AllocGlobal>(
+    rt: &R,
+    words: &str,
+    plain: &Answer,
+) -> Result<bool, AllocError> {
+    let struck = log_of_batch(rt, words)?;
+    Ok(struck.status == 0 && struck.error.written() == plain.error.written())
+}
+
+// How many rows are in the log.
+fn rows_of(plain: &Answer) -> usize {
+    plain
         .error
         .written()
         .iter()
         .filter(|byte| **byte == b'\n')
-        .count();
-    assert!(rt; plain.status == 0 && rows == 8025);
-    for crew in ["one", "wave --workers 64", "board --workers 64"] {
-        let options = format!(in rt.alloc(); "--faults faults.csv --crew {crew}")?;
-        let struck = log_of_batch(&rt, options.as_str())?;
-        assert!(rt; struck.status == 0 && struck.error.written() == plain.error.written());
-    }
-    Ok(())
+        .count()
 }
 
-// Each position enters the gate as often as the journal posts it.
-fn enters_as_posted<R: Threads + Sync + AllocGlobal>(
-    rt: &R,
-    words: &str,
-    files: Files<'_>,
-    positions: usize,
-) -> Result<bool, AllocError> {
-    let alloc = rt.alloc();
-    let gate = gate_over(alloc, positions)?;
-    let mut shelf = shelf_of(alloc, files, 0)?;
-    let answer = answer_over(rt, words, &mut shelf, SOUND, &gate)?;
-    entered_as_posted(alloc, answer, &gate, positions)
+static STRUCK_BATCHES: [&str; 3] = [
+    "log soak.gp --faults faults.csv --crew one",
+    "log soak.gp --faults faults.csv --crew wave --workers 64",
+    "log soak.gp --faults faults.csv --crew board --workers 64",
+];
+
+// The run of the batch with its 40 faults has the log of the run without them, which has a row for each subthread.
+fn keeps_log<R: Threads + Sync + AllocGlobal>(rt: &R) -> Result<bool, AllocError> {
+    let plain = log_of_batch(rt, "log soak.gp --crew one")?;
+    for words in &STRUCK_BATCHES {
+        if !has_log(rt, words, &plain)? {
+            return Ok(false);
+        }
+    }
+    Ok(plain.status == 0 && rows_of(&plain) == 8025)
 }
 
 #[test]
+fn a_batch_that_faults_strike_keeps_its_log(rt: HostRuntime) -> Result<(), Fail> {
+    assert!(rt; keeps_log(&rt)?);
+    Ok(())
+}
+
+// The crews of one and two workers.
+static PAIRS: [&str; 3] = [
+    " --crew one",
+    " --crew wave --workers 2",
+    " --crew board --workers 2",
+];
+
+static ENTERED: [Case<'static>; 2] = [
+    Case {
+        faults: "4,0,3,1\n",
+        ..LOG
+    },
+    STRUCK_LOG,
+];
+
+#[test]
 fn tasks_enter_the_gate_as_they_are_posted(rt: HostRuntime) -> Result<(), Fail> {
-    let files = Files {
-        faults: b"4,0,3,1\n",
-        ..alone(ADD)
-    };
-    for crew in [
-        "--crew one",
-        "--crew wave --workers 2",
-        "--crew board --workers 2",
-    ] {
-        let run = format!(in rt.alloc(); "log p.gp {crew}")?;
-        let struck = format!(in rt.alloc(); "log p.gp --faults f.csv {crew}")?;
-        assert!(rt; enters_as_posted(&rt, run.as_str(), files, 11)?);
-        assert!(rt; enters_as_posted(&rt, struck.as_str(), files, 11)?);
-    }
+    assert!(rt; enter_as_posted(&rt, &ENTERED, &PAIRS, 11)?);
     Ok(())
 }

@@ -1,7 +1,8 @@
 // Worked examples, with the bytes that they write as a whole, and the limits of a run.
 
-use crate::answers::Answer;
-use crate::calls::{ADD, SOUND, alone, answer_over, gives};
+use crate::answers::{Answer, answer_over_batch, give, gives, gives_by, text_of};
+use crate::calls::ADD;
+use crate::cases::{Case, PLAIN, RUN};
 use crate::struck::CREWS;
 use gp_base::limits::{
     DEEPEST_NESTING, DEFAULT_SUBTHREADS, DEFAULT_TURNS, DEFAULT_WORKERS, LEAST_MOVES,
@@ -9,10 +10,7 @@ use gp_base::limits::{
     MOST_MOVES, MOST_PROGRAM_BYTES, MOST_SUBTHREADS, MOST_THREADS, MOST_TURNS, MOST_VARIABLES,
     MOST_WORKERS,
 };
-use gp_base::{FreeGate, MemShelf, Seq};
-use soak_batch::soak_files;
 use std::alloc::AllocError;
-use std::str;
 use std::test::Fail;
 use std::thread::Threads;
 
@@ -68,63 +66,90 @@ const STUCK: &str =
 pub const ADDED: &str =
     "output\nrecords\ntotal: 7\nrestarts\ncounts\nsubthreads 11\nrestarts 0\nredone 0\nunused 0\n";
 
-#[test]
-fn rows_as_they_are_written(rt: HostRuntime) -> Result<(), Fail> {
+static AS_WRITTEN: [Case<'static>; 5] = [
+    Case {
+        program: CHANGED,
+        status: 3,
+        error: "gprs: check 9 at line 6\n",
+        ..RUN
+    },
+    Case {
+        program: OTHER,
+        status: 3,
+        error: "gprs: check 5 at line 6\n",
+        ..RUN
+    },
+    Case {
+        program: OUTSIDE,
+        status: 5,
+        output: STUCK,
+        ..RUN
+    },
+    Case {
+        words: "one p.gp",
+        ..ADDS
+    },
+    ADDS,
+];
+
+const ADDS: Case<'static> = Case {
+    program: ADD,
+    output: ADDED,
+    ..RUN
+};
+
+static ADDED_BY: Case<'static> = ADDS;
+
+// The last of a hundred records is written.
+fn writes_last<R: Threads + Sync + AllocGlobal>(rt: &R) -> Result<bool, AllocError> {
     let zeros = " 0".repeat(rt.alloc(), 99)?;
     let last = format!(in rt.alloc();
         "output\nrecords\nacct:{zeros} 1\nrestarts\ncounts\nsubthreads 3\nrestarts 0\nredone 0\nunused 0\n"
     )?;
-    let rows = [
-        ("run p.gp", CHANGED, 3, "", "gprs: check 9 at line 6\n"),
-        ("run p.gp", OTHER, 3, "", "gprs: check 5 at line 6\n"),
-        ("run p.gp", OUTSIDE, 5, STUCK, ""),
-        ("run p.gp", LAST, 0, last.as_str(), ""),
-        ("one p.gp", ADD, 0, ADDED, ""),
-        ("run p.gp", ADD, 0, ADDED, ""),
-    ];
-    for (words, program, status, output, error) in rows {
-        assert!(rt; gives(&rt, words, alone(program), status, output, error)?);
-    }
-    for crew in CREWS {
-        let words = format!(in rt.alloc(); "run p.gp {crew}")?;
-        assert!(rt; gives(&rt, words.as_str(), alone(ADD), 0, ADDED, "")?);
-    }
-    Ok(())
+    let is_told = gives(
+        rt,
+        &Case {
+            program: LAST,
+            output: last.as_str(),
+            ..PLAIN
+        },
+    );
+    drop(last);
+    drop(zeros);
+    is_told
 }
 
-/// What the words come to over the files of the batch of 2,000 moves that are drawn from 1, where this read of them
-/// fails.
-pub fn answer_over_batch<R: Threads + Sync + AllocGlobal>(
-    rt: &R,
-    words: &str,
-    read: u64,
-) -> Result<Answer, AllocError> {
-    let alloc = rt.alloc();
-    let files = soak_files(alloc, 2000, 1)?;
-    let mut shelf = MemShelf::new(alloc, files, Seq::from_slice(alloc, &[read])?);
-    answer_over(rt, words, &mut shelf, SOUND, &FreeGate)
+#[test]
+fn rows_as_they_are_written(rt: HostRuntime) -> Result<(), Fail> {
+    assert!(rt; give(&rt, &AS_WRITTEN)? && writes_last(&rt)? && gives_by(&rt, &ADDED_BY, &CREWS)?);
+    Ok(())
 }
 
 // The call ended well, with this after the line of the restarts, where its own count and no line of a restart stand.
 fn ends_with(answer: &Answer, counts: &str) -> bool {
-    let text = str::from_utf8(answer.output.written()).unwrap_or("");
-    answer.status == 0 && answer.error.written().is_empty() && text.ends_with(counts)
+    answer.status == 0
+        && answer.error.written().is_empty()
+        && text_of(answer.output.written()).ends_with(counts)
 }
 
 /// The text up to the restarts.
 pub fn front_of(answer: &Answer) -> &str {
-    let text = str::from_utf8(answer.output.written()).unwrap_or("");
-    match text.split_once("restarts\n") {
+    match text_of(answer.output.written()).split_once("restarts\n") {
         Some((front, _)) => front,
         None => "",
     }
 }
 
-// The run of the batch with its 40 faults, by this crew, and that on one thread have the same lines and records.
-fn keeps_records<R: Threads + Sync + AllocGlobal>(rt: &R, crew: &str) -> Result<bool, AllocError> {
-    let words = format!(in rt.alloc(); "run soak.gp --faults faults.csv {crew}")?;
-    let ran = answer_over_batch(rt, words.as_str(), 0)?;
-    let plain = answer_over_batch(rt, "one soak.gp", 0)?;
+// The run of the batch with its 40 faults, by these words, and that on one thread have the same lines and records.
+fn keeps_records<R: Threads + Sync + AllocGlobal>(rt: &R, words: &str) -> Result<bool, AllocError> {
+    let ran = answer_over_batch(rt, &Case { words, ..PLAIN })?;
+    let plain = answer_over_batch(
+        rt,
+        &Case {
+            words: "one soak.gp",
+            ..PLAIN
+        },
+    )?;
     let counts = "counts\nsubthreads 8025\nrestarts 40\nredone 240\nunused 0\n";
     let plain_counts = "restarts\ncounts\nsubthreads 8025\nrestarts 0\nredone 0\nunused 0\n";
     Ok(
@@ -136,44 +161,66 @@ fn keeps_records<R: Threads + Sync + AllocGlobal>(rt: &R, crew: &str) -> Result<
 }
 
 // The restarts were counted by a reckoning of the order and of the rules of dependence alone.
+static STRUCK_BATCHES: [&str; 5] = [
+    "run soak.gp --faults faults.csv --crew one",
+    "run soak.gp --faults faults.csv --crew wave --workers 1",
+    "run soak.gp --faults faults.csv --crew wave --workers 64",
+    "run soak.gp --faults faults.csv --crew board --workers 64",
+    "run soak.gp --faults faults.csv --crew steal --workers 64",
+];
+
+// The run by each of these words keeps the lines and the records.
+fn keep_records<R: Threads + Sync + AllocGlobal>(
+    rt: &R,
+    rows: &[&str],
+) -> Result<bool, AllocError> {
+    for words in rows {
+        if !keeps_records(rt, words)? {
+            return Ok(false);
+        }
+    }
+    Ok(true)
+}
+
 #[test]
 fn a_batch_that_faults_strike_keeps_its_records(rt: HostRuntime) -> Result<(), Fail> {
-    for crew in [
-        "--crew one",
-        "--crew wave --workers 1",
-        "--crew wave --workers 64",
-        "--crew board --workers 64",
-        "--crew steal --workers 64",
-    ] {
-        assert!(rt; keeps_records(&rt, crew)?);
-    }
+    assert!(rt; keep_records(&rt, &STRUCK_BATCHES)?);
     Ok(())
 }
 
 // Definitions cite these numbers from the code.
+static LIMITS: [(u64, u64); 18] = [
+    (MOST_PROGRAM_BYTES as u64, 1048576),
+    (MOST_FILE_BYTES as u64, 33554432),
+    (DEEPEST_NESTING as u64, 64),
+    (MOST_CELLS as u64, 65536),
+    (MOST_FEED_CELLS as u64, 1000000),
+    (MOST_FIELDS as u64, 64),
+    (MOST_VARIABLES as u64, 256),
+    (MOST_THREADS as u64, 4096),
+    (MOST_FAULTS as u64, 1000),
+    (LONGEST_DELAY as u64, 64),
+    (MOST_SUBTHREADS as u64, 200000),
+    (DEFAULT_SUBTHREADS as u64, 100000),
+    (MOST_TURNS, 10000000),
+    (DEFAULT_TURNS, 1000000),
+    (MOST_WORKERS as u64, 64),
+    (DEFAULT_WORKERS as u64, 4),
+    (LEAST_MOVES as u64, 4),
+    (MOST_MOVES as u64, 20000),
+];
+
+// Whether each limit is the number beside it.
+fn are_as_written(limits: &[(u64, u64)]) -> bool {
+    for (limit, written) in limits {
+        if limit != written {
+            return false;
+        }
+    }
+    true
+}
+
 #[test]
 fn limits_are_as_written(rt: HostRuntime) {
-    let rows = [
-        (MOST_PROGRAM_BYTES as u64, 1048576),
-        (MOST_FILE_BYTES as u64, 33554432),
-        (DEEPEST_NESTING as u64, 64),
-        (MOST_CELLS as u64, 65536),
-        (MOST_FEED_CELLS as u64, 1000000),
-        (MOST_FIELDS as u64, 64),
-        (MOST_VARIABLES as u64, 256),
-        (MOST_THREADS as u64, 4096),
-        (MOST_FAULTS as u64, 1000),
-        (LONGEST_DELAY as u64, 64),
-        (MOST_SUBTHREADS as u64, 200000),
-        (DEFAULT_SUBTHREADS as u64, 100000),
-        (MOST_TURNS, 10000000),
-        (DEFAULT_TURNS, 1000000),
-        (MOST_WORKERS as u64, 64),
-        (DEFAULT_WORKERS as u64, 4),
-        (LEAST_MOVES as u64, 4),
-        (MOST_MOVES as u64, 20000),
-    ];
-    for (limit, written) in rows {
-        assert!(rt; limit == written);
-    }
+    assert!(rt; are_as_written(&LIMITS));
 }

@@ -2,12 +2,13 @@
 ghost use Rattle.std.specs.Prelude.{IfOk};
 ghost use Rattle.subthread.specs.Tasks.{Suits};
 
-use crate::calls::{ADD, Files, alone, shelf_of, sink_of, words_of};
+use crate::calls::ADD;
+use crate::cases::{Case, PLAIN, files_of, words_of};
 use batch_calls::plan::{Begins, plan_of};
 use call_cases::{read_request, runs};
 use crew::{Crew, ScriptCrew};
 use engine::{EngineStop, Report, drive};
-use gp_base::{Event, MemSink, Pos, Seq};
+use gp_base::{Event, MemShelf, MemSink, Pos, Seq};
 use std::alloc::{AllocError, AllocFailed, Global};
 use std::test::Fail;
 use std::thread::Threads;
@@ -59,12 +60,15 @@ pub const NEWEST: [i64; 48] = [720719; 48];
 fn plan_of_adders(alloc: Global, faults: &str) -> Result<(Work, Begins), Fail>
     ensures { IfOk result (λ made. Suits made.0 made.1.layout made.1.inputs made.1.limits) }
 {
-    let files = Files {
-        faults: faults.as_bytes(),
-        ..alone(ADD)
+    let case = Case {
+        words: "run p.gp --faults f.csv",
+        program: ADD,
+        faults,
+        ..PLAIN
     };
-    let words = words_of(alloc, "run p.gp --faults f.csv")?;
-    let mut shelf = shelf_of(alloc, files, 0)?;
+    let words = words_of(alloc, case.words)?;
+    let files = files_of(alloc, &case)?;
+    let mut shelf = MemShelf::new(alloc, files, Seq::new(alloc));
     let read = read_request(alloc, &words, &mut shelf);
     drop(words);
     drop(shelf);
@@ -77,9 +81,13 @@ fn plan_of_adders(alloc: Global, faults: &str) -> Result<(Work, Begins), Fail>
 }
 
 // The report of a run that did not stop, and wrote nothing.
-fn reported(ran: Result<Report, EngineStop>, out: &MemSink) -> Result<Report, Fail> {
+fn reported(
+    alloc: Global,
+    ran: Result<Report, EngineStop>,
+    out: &MemSink,
+) -> Result<Box<Report>, Fail> {
     match ran {
-        Ok(report) if out.written().is_empty() => Ok(report),
+        Ok(report) if out.written().is_empty() => Ok(Box::new(alloc, report)?),
         _ => Err(Fail::from("the run stopped, or wrote something")),
     }
 }
@@ -90,10 +98,10 @@ pub fn ran_in_order<R: Threads + Sync + AllocGlobal>(
     rt: &R,
     faults: &str,
     order: &[i64],
-) -> Result<Report, Fail> {
+) -> Result<Box<Report>, Fail> {
     let alloc = rt.alloc();
     let choice = Seq::from_slice(alloc, order)?;
-    let mut out = sink_of(alloc, 1000, 0)?;
+    let mut out = MemSink::new(alloc, 1000, Seq::new(alloc));
     let (work, begins) = plan_of_adders(alloc, faults)?;
     let Begins {
         layout,
@@ -106,7 +114,7 @@ pub fn ran_in_order<R: Threads + Sync + AllocGlobal>(
     let ran = drive(
         rt, alloc, &work, layout, inputs, faults, limits, &mut crew, &mut out,
     );
-    reported(ran, &out)
+    reported(alloc, ran, &out)
 }
 
 // How many positions retired, where they did so in order.
@@ -137,7 +145,7 @@ fn is_of_adders(report: &Report, posts: u64, noted: &[(Pos, i64)]) -> bool {
 fn a_scripted_order_posts_each_task_once(rt: HostRuntime) -> Result<(), Fail> {
     let alloc = rt.alloc();
     let choice = Seq::from_slice(alloc, &[1, 0].repeat(alloc, 10)?)?;
-    let mut out = sink_of(alloc, 1000, 0)?;
+    let mut out = MemSink::new(alloc, 1000, Seq::new(alloc));
     let (work, begins) = plan_of_adders(alloc, "")?;
     let Begins {
         layout,

@@ -1,7 +1,10 @@
 // Batches in which data becomes control: each settle is issued once all before it have retired, whoever runs the batch.
 // Orders and restarts were reckoned by hand from the rules of the order and of dependence.
 
-use crate::calls::{ADD, Files, SOUND, alone, answer_of, gives};
+use crate::answers::{answer_of, give};
+use crate::calls::ADD;
+use crate::cases::{Case, PLAIN, RUN};
+use crate::runs::{ALONE, Run, comes_to};
 use crate::struck::CREWS;
 use std::alloc::AllocError;
 use std::test::Fail;
@@ -79,152 +82,153 @@ task other() { var n, $x; $x = 5; barrier meet; settle $x into n; print n; }
 task main() { var n, $x; fork other(); $x = 6; barrier meet; settle $x into n; print n; }
 ";
 
-// A batch that settles, and what it comes to: its options, its file of faults, the status, what is told up to the
-// restarts, these, and how many subthreads there were, restarts, subthreads that were redone, and faults that struck
-// nothing.
-#[derive(Clone, Copy)]
-struct Row {
-    options: &'static str,
-    program: &'static str,
-    faults: &'static str,
-    status: u8,
-    told: &'static str,
-    restarts: &'static str,
-    counts: [u32; 4],
-}
-
-const ROWS: [Row; 15] = [
-    Row {
-        options: "",
-        program: ROUTED,
-        faults: "",
-        status: 0,
+// Batches that settle, with their files of faults.
+static RUNS: [Run<'static>; 15] = [
+    Run {
+        case: Case {
+            program: ROUTED,
+            ..ALONE
+        },
         told: "records\nacct: 2 0 9\n",
         restarts: "",
         counts: [6, 0, 0, 0],
     },
-    Row {
-        options: "",
-        program: ROUTED,
-        faults: "1,0,60,1\n",
-        status: 0,
+    Run {
+        case: Case {
+            program: ROUTED,
+            faults: "1,0,60,1\n",
+            ..ALONE
+        },
         told: "records\nacct: 2 0 9\n",
         restarts: "1: front 3 struck 1 try 0 redo 1 2\n",
         counts: [6, 1, 2, 0],
     },
-    Row {
-        options: " --subthreads 3",
-        program: ROUTED,
-        faults: "",
-        status: 6,
+    Run {
+        case: Case {
+            words: "p.gp --subthreads 3",
+            program: ROUTED,
+            status: 6,
+            ..ALONE
+        },
         told: "spent 3\n",
         restarts: "",
         counts: [3, 0, 0, 0],
     },
-    Row {
-        options: " --subthreads 3",
-        program: ROUTED,
-        faults: "1,0,60,1\n",
-        status: 6,
+    Run {
+        case: Case {
+            words: "p.gp --subthreads 3",
+            program: ROUTED,
+            faults: "1,0,60,1\n",
+            status: 6,
+            ..ALONE
+        },
         told: "spent 3\n",
         restarts: "1: front 3 struck 1 try 0 redo 1 2\n",
         counts: [3, 1, 2, 0],
     },
-    Row {
-        options: "",
-        program: LOST,
-        faults: "",
-        status: 5,
+    Run {
+        case: Case {
+            program: LOST,
+            status: 5,
+            ..ALONE
+        },
         told: "stuck index thread 0 line 7\n",
         restarts: "",
         counts: [2, 0, 0, 0],
     },
-    Row {
-        options: "",
-        program: LOST,
-        faults: "0,0,64,1\n",
-        status: 5,
+    Run {
+        case: Case {
+            program: LOST,
+            faults: "0,0,64,1\n",
+            status: 5,
+            ..ALONE
+        },
         told: "stuck index thread 0 line 7\n",
         restarts: "1: front 1 struck 0 try 0 redo 0\n",
         counts: [2, 1, 1, 0],
     },
-    Row {
-        options: "",
-        program: LOCKED,
-        faults: "",
-        status: 0,
+    Run {
+        case: Case {
+            program: LOCKED,
+            ..ALONE
+        },
         told: "7\nrecords\nacct: 14 0\n",
         restarts: "",
         counts: [4, 0, 0, 0],
     },
-    Row {
-        options: "",
-        program: LOCKED,
-        faults: "1,0,60,1\n",
-        status: 0,
+    Run {
+        case: Case {
+            program: LOCKED,
+            faults: "1,0,60,1\n",
+            ..ALONE
+        },
         told: "7\nrecords\nacct: 14 0\n",
         restarts: "1: front 2 struck 1 try 0 redo 1\n",
         counts: [4, 1, 1, 0],
     },
-    Row {
-        options: "",
-        program: LOCKED,
-        faults: "2,0,1,1\n3,0,0,4\n",
-        status: 0,
+    Run {
+        case: Case {
+            program: LOCKED,
+            faults: "2,0,1,1\n3,0,0,4\n",
+            ..ALONE
+        },
         told: "7\nrecords\nacct: 14 0\n",
         restarts: "1: front 4 struck 2 try 0 redo 2 3\n",
         counts: [4, 1, 2, 1],
     },
-    Row {
-        options: "",
-        program: FORKED,
-        faults: "",
-        status: 0,
+    Run {
+        case: Case {
+            program: FORKED,
+            ..ALONE
+        },
         told: "8\nrecords\n",
         restarts: "",
         counts: [5, 0, 0, 0],
     },
-    Row {
-        options: "",
-        program: FORKED,
-        faults: "2,0,60,1\n",
-        status: 0,
+    Run {
+        case: Case {
+            program: FORKED,
+            faults: "2,0,60,1\n",
+            ..ALONE
+        },
         told: "8\nrecords\n",
         restarts: "1: front 4 struck 2 try 0 redo 2 3\n",
         counts: [5, 1, 2, 0],
     },
-    Row {
-        options: "",
-        program: IN_TURN,
-        faults: "",
-        status: 0,
+    Run {
+        case: Case {
+            program: IN_TURN,
+            ..ALONE
+        },
         told: "2 3\n2 2\n2 1\nrecords\ntotal: 6\n",
         restarts: "",
         counts: [13, 0, 0, 0],
     },
-    Row {
-        options: "",
-        program: IN_TURN,
-        faults: "4,0,64,1\n7,0,2,1\n9,0,40,8\n",
-        status: 0,
+    Run {
+        case: Case {
+            program: IN_TURN,
+            faults: "4,0,64,1\n7,0,2,1\n9,0,40,8\n",
+            ..ALONE
+        },
         told: "2 3\n2 2\n2 1\nrecords\ntotal: 6\n",
         restarts: "1: front 8 struck 4 try 0 redo 4 6 7\n2: front 11 struck 9 try 0 redo 9\n",
         counts: [13, 2, 4, 1],
     },
-    Row {
-        options: "",
-        program: MET,
-        faults: "",
-        status: 0,
+    Run {
+        case: Case {
+            program: MET,
+            ..ALONE
+        },
         told: "5\n6\nrecords\n",
         restarts: "",
         counts: [7, 0, 0, 0],
     },
-    Row {
-        options: "",
-        program: MET,
-        faults: "2,0,60,1\n4,0,60,1\n",
-        status: 0,
+    Run {
+        case: Case {
+            program: MET,
+            faults: "2,0,60,1\n4,0,60,1\n",
+            ..ALONE
+        },
         told: "5\n6\nrecords\n",
         restarts: "1: front 5 struck 2 try 0 redo 2 3\n2: front 5 struck 4 try 0 redo 4\n",
         counts: [7, 2, 3, 0],
@@ -232,56 +236,56 @@ const ROWS: [Row; 15] = [
 ];
 
 // The batch comes to this by each crew, and without faults also by one thread.
-fn comes_to<R: Threads + Sync + AllocGlobal>(rt: &R, row: &Row) -> Result<bool, AllocError> {
-    let alloc = rt.alloc();
-    let files = Files {
-        faults: row.faults.as_bytes(),
-        ..alone(row.program)
-    };
-    let Row {
-        options,
-        status,
-        told,
-        restarts,
-        ..
-    } = row;
-    let [subthreads, made, redone, unused] = row.counts;
-    let counted = format!(in alloc;
-        "counts\nsubthreads {subthreads}\nrestarts {made}\nredone {redone}\nunused {unused}\n"
-    )?;
-    let text = format!(in alloc; "output\n{told}restarts\n{restarts}{counted}")?;
-    for crew in CREWS {
-        let words = format!(in alloc; "run p.gp{options} --faults f.csv {crew}")?;
-        if !gives(rt, words.as_str(), files, *status, text.as_str(), "")? {
+fn settles<R: Threads + Sync + AllocGlobal>(rt: &R, run: &Run<'_>) -> Result<bool, AllocError> {
+    Ok(
+        comes_to(rt, run, "run", " --faults f.csv", &CREWS)?
+            && (!run.case.faults.is_empty() || comes_to(rt, run, "one", "", &[""])?),
+    )
+}
+
+// Each of the batches comes to what it is to.
+fn settle<R: Threads + Sync + AllocGlobal>(rt: &R, runs: &[Run<'_>]) -> Result<bool, AllocError> {
+    for run in runs {
+        if !settles(rt, run)? {
             return Ok(false);
         }
     }
-    if !row.faults.is_empty() {
-        return Ok(true);
-    }
-    let one = format!(in alloc; "one p.gp{options}")?;
-    gives(rt, one.as_str(), files, *status, text.as_str(), "")
+    Ok(true)
 }
 
 #[test]
 fn settles_find_the_numbers_of_the_plain_run(rt: HostRuntime) -> Result<(), Fail> {
-    for row in &ROWS {
-        assert!(rt; comes_to(&rt, row)?);
-    }
+    assert!(rt; settle(&rt, &RUNS)?);
     Ok(())
 }
 
 // The index of a lock that is held is no variable that a settle may set.
-#[test]
-fn a_held_index_is_not_settled(rt: HostRuntime) -> Result<(), Fail> {
-    let alloc = rt.alloc();
+fn refuses_held<R: Threads + Sync + AllocGlobal>(rt: &R) -> Result<bool, AllocError> {
     let free = "  settle $x into i;\n  lock bank[i];\n";
     let held = "  lock bank[i];\n  settle $x into i;\n";
-    let program = ROUTED.replace(alloc, free, held)?;
-    let line = "gprs: check 9 at line 10\n";
-    for command in ["run p.gp", "one p.gp", "check p.gp"] {
-        assert!(rt; gives(&rt, command, alone(program.as_str()), 3, "", line)?);
-    }
+    let program = ROUTED.replace(rt.alloc(), free, held)?;
+    let run = Case {
+        program: program.as_str(),
+        status: 3,
+        error: "gprs: check 9 at line 10\n",
+        ..PLAIN
+    };
+    let one = Case {
+        words: "one p.gp",
+        ..run
+    };
+    let check = Case {
+        words: "check p.gp",
+        ..run
+    };
+    let is_refused = give(rt, &[run, one, check]);
+    drop(program);
+    is_refused
+}
+
+#[test]
+fn a_held_index_is_not_settled(rt: HostRuntime) -> Result<(), Fail> {
+    assert!(rt; refuses_held(&rt)?);
     Ok(())
 }
 
@@ -345,22 +349,47 @@ retire 4
 retire 5
 ";
 
+const TRACED: Case<'static> = Case {
+    words: "run p.gp --faults f.csv --crew one --trace",
+    ..RUN
+};
+
+static STRUCK_ADD: Case<'static> = Case {
+    program: ADD,
+    faults: "4,0,3,1\n",
+    ..TRACED
+};
+
+static STRUCK_ROUTED: Case<'static> = Case {
+    program: ROUTED,
+    faults: "1,0,60,1\n",
+    ..TRACED
+};
+
+// The run ends well, and its trace begins with this.
+fn begins_with<R: Threads + Sync + AllocGlobal>(
+    rt: &R,
+    case: &Case<'_>,
+    front: &str,
+) -> Result<bool, AllocError> {
+    let answer = answer_of(rt, case)?;
+    Ok(answer.status == 0 && answer.error.written().starts_with(front.as_bytes()))
+}
+
+// The run ends well, and this is its trace.
+fn is_traced_by<R: Threads + Sync + AllocGlobal>(
+    rt: &R,
+    case: &Case<'_>,
+    trace: &str,
+) -> Result<bool, AllocError> {
+    let answer = answer_of(rt, case)?;
+    Ok(answer.status == 0 && answer.error.written() == trace.as_bytes())
+}
+
 #[test]
 fn traces_are_those_that_the_rules_give(rt: HostRuntime) -> Result<(), Fail> {
-    let words = "run p.gp --faults f.csv --crew one --trace";
-    let files = Files {
-        faults: b"4,0,3,1\n",
-        ..alone(ADD)
-    };
-    let answer = answer_of(&rt, words, files, SOUND)?;
-    assert!(rt; answer.status == 0);
-    assert!(rt; answer.error.written().starts_with(STRUCK.as_bytes()));
-    let files = Files {
-        faults: b"1,0,60,1\n",
-        ..alone(ROUTED)
-    };
-    let answer = answer_of(&rt, words, files, SOUND)?;
-    assert!(rt; answer.status == 0);
-    assert!(rt; answer.error.written() == SETTLED.as_bytes());
+    assert!(rt;
+        begins_with(&rt, &STRUCK_ADD, STRUCK)? && is_traced_by(&rt, &STRUCK_ROUTED, SETTLED)?
+    );
     Ok(())
 }

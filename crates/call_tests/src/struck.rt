@@ -1,7 +1,9 @@
 // Runs that faults strike, whoever carries them out: the worked examples, and a batch of transfers.
 
-use crate::answers::Answer;
-use crate::calls::{ADD, EDGES, EMPTY, Files, SOUND, alone, answer_of, answer_through, gives};
+use crate::answers::{Answer, answer_of, answer_through, give, gives_by, text_of};
+use crate::calls::{ADD, EDGES, EMPTY};
+use crate::cases::{Case, PLAIN, RUN};
+use crate::runs::{ALONE, BARE, Run, come_to, comes_to};
 use gp_base::{Event, Gate, Journal, Pos};
 use std::alloc::{AllocError, Global};
 use std::sync::atomic::{AtomicU64, Ordering};
@@ -67,135 +69,181 @@ fn ten_records(alloc: Global) -> Result<String, AllocError> {
 }
 
 /// The crews, in the words that name them.
-pub const CREWS: [&str; 10] = [
-    "--crew one",
-    "--crew wave --workers 1",
-    "--crew wave --workers 2",
-    "--crew wave --workers 64",
-    "--crew board --workers 1",
-    "--crew board --workers 2",
-    "--crew board --workers 64",
-    "--crew steal --workers 1",
-    "--crew steal --workers 2",
-    "--crew steal --workers 64",
+pub static CREWS: [&str; 10] = [
+    " --crew one",
+    " --crew wave --workers 1",
+    " --crew wave --workers 2",
+    " --crew wave --workers 64",
+    " --crew board --workers 1",
+    " --crew board --workers 2",
+    " --crew board --workers 64",
+    " --crew steal --workers 1",
+    " --crew steal --workers 2",
+    " --crew steal --workers 64",
 ];
 
-// The run of the program with these faults finishes, with these lines and records, restarts and counts, by each crew.
-fn redoes<R: Threads + Sync + AllocGlobal>(
-    rt: &R,
-    program: &str,
-    faults: &str,
-    told: &str,
-    restarts: &str,
-    counts: [u32; 4],
-) -> Result<bool, AllocError> {
-    let alloc = rt.alloc();
-    let files = Files {
-        faults: faults.as_bytes(),
-        ..alone(program)
-    };
-    let [subthreads, made, redone, unused] = counts;
-    let counted = format!(in alloc;
-        "counts\nsubthreads {subthreads}\nrestarts {made}\nredone {redone}\nunused {unused}\n"
-    )?;
-    let text = format!(in alloc; "output\n{told}restarts\n{restarts}{counted}")?;
-    for crew in CREWS {
-        let words = format!(in alloc; "run p.gp --faults f.csv {crew}")?;
-        if !gives(rt, words.as_str(), files, 0, text.as_str(), "")? {
-            return Ok(false);
-        }
-    }
-    Ok(true)
-}
+// A fault strikes the first of the two threads that add to one total.
+const ADDS: Case<'static> = Case {
+    program: ADD,
+    faults: "4,0,3,1\n",
+    ..ALONE
+};
+
+const STRUCK: Run<'static> = Run {
+    case: ADDS,
+    told: "records\ntotal: 7\n",
+    restarts: "1: front 8 struck 4 try 0 redo 4 6 7\n",
+    counts: [11, 1, 3, 0],
+};
+
+static REDONE: [Run<'static>; 10] = [
+    STRUCK,
+    Run {
+        case: Case {
+            faults: "4,0,6,1\n",
+            ..ADDS
+        },
+        restarts: "1: front 11 struck 4 try 0 redo 4 6 7 8 9 10\n",
+        counts: [11, 1, 6, 0],
+        ..STRUCK
+    },
+    Run {
+        case: Case {
+            faults: "0,0,0,5\n",
+            ..ADDS
+        },
+        restarts: "1: front 1 struck 0 try 0 redo 0\n",
+        counts: [11, 1, 1, 0],
+        ..STRUCK
+    },
+    Run {
+        case: Case {
+            faults: "4,0,1,9\n4,1,1,9\n4,2,1,9\n",
+            ..ADDS
+        },
+        restarts: "1: front 6 struck 4 try 0 redo 4\n2: front 7 struck 4 try 1 redo 4 6\n3: front 8 struck 4 try 2 redo 4 6 7\n",
+        counts: [11, 3, 6, 0],
+        ..STRUCK
+    },
+    Run {
+        case: Case {
+            faults: "4,0,3,1\n7,0,0,1\n",
+            ..ADDS
+        },
+        counts: [11, 1, 3, 1],
+        ..STRUCK
+    },
+    Run {
+        case: Case {
+            faults: "1000,0,0,1\n",
+            ..ADDS
+        },
+        restarts: "",
+        counts: [11, 0, 0, 1],
+        ..STRUCK
+    },
+    Run {
+        case: Case {
+            program: PEEK,
+            ..ADDS
+        },
+        told: "0\nrecords\ntotal: 4\n",
+        ..STRUCK
+    },
+    Run {
+        case: Case {
+            program: EDGES,
+            faults: "0,0,5,1\n",
+            ..ADDS
+        },
+        told: "-9223372036854775808\n-9223372036854775808\n0 0 -3 -1\nrecords\n",
+        restarts: "1: front 1 struck 0 try 0 redo 0\n",
+        counts: [1, 1, 1, 0],
+    },
+    Run {
+        case: Case {
+            program: APART,
+            ..ADDS
+        },
+        told: "records\nacct: 5\nfee: 6\n",
+        restarts: "1: front 8 struck 4 try 0 redo 4 6\n",
+        counts: [11, 1, 2, 0],
+    },
+    Run {
+        case: Case {
+            program: NAMED,
+            ..ADDS
+        },
+        told: "records\nacct: 5\nfee: 6\n",
+        ..STRUCK
+    },
+];
 
 #[test]
 fn faults_redo_their_dependents(rt: HostRuntime) -> Result<(), Fail> {
-    let total = "records\ntotal: 7\n";
-    let struck = "1: front 8 struck 4 try 0 redo 4 6 7\n";
-    let late = "1: front 11 struck 4 try 0 redo 4 6 7 8 9 10\n";
-    let start = "1: front 1 struck 0 try 0 redo 0\n";
-    let thrice =
-        "1: front 6 struck 4 try 0 redo 4\n2: front 7 struck 4 try 1 redo 4 6\n3: front 8 struck 4 try 2 redo 4 6 7\n";
-    let edges = "-9223372036854775808\n-9223372036854775808\n0 0 -3 -1\nrecords\n";
-    let rows = [
-        (ADD, "4,0,3,1\n", total, struck, [11, 1, 3, 0]),
-        (ADD, "4,0,6,1\n", total, late, [11, 1, 6, 0]),
-        (ADD, "0,0,0,5\n", total, start, [11, 1, 1, 0]),
-        (
-            ADD,
-            "4,0,1,9\n4,1,1,9\n4,2,1,9\n",
-            total,
-            thrice,
-            [11, 3, 6, 0],
-        ),
-        (ADD, "4,0,3,1\n7,0,0,1\n", total, struck, [11, 1, 3, 1]),
-        (ADD, "1000,0,0,1\n", total, "", [11, 0, 0, 1]),
-        (
-            PEEK,
-            "4,0,3,1\n",
-            "0\nrecords\ntotal: 4\n",
-            struck,
-            [11, 1, 3, 0],
-        ),
-        (EDGES, "0,0,5,1\n", edges, start, [1, 1, 1, 0]),
-        (
-            APART,
-            "4,0,3,1\n",
-            "records\nacct: 5\nfee: 6\n",
-            "1: front 8 struck 4 try 0 redo 4 6\n",
-            [11, 1, 2, 0],
-        ),
-        (
-            NAMED,
-            "4,0,3,1\n",
-            "records\nacct: 5\nfee: 6\n",
-            struck,
-            [11, 1, 3, 0],
-        ),
-    ];
-    for (program, faults, told, restarts, counts) in rows {
-        assert!(rt; redoes(&rt, program, faults, told, restarts, counts)?);
-    }
+    assert!(rt; come_to(&rt, &REDONE, "run", " --faults f.csv", &CREWS)?);
     Ok(())
 }
 
 // A fault redoes what named the record of the position that it strikes, and not what held the same lock, which would be
 // 43 positions.
-#[test]
-fn a_lock_over_ten_records_redoes_those_of_one(rt: HostRuntime) -> Result<(), Fail> {
+fn redoes_one_record<R: Threads + Sync + AllocGlobal>(rt: &R) -> Result<bool, AllocError> {
     let program = ten_records(rt.alloc())?;
-    let told = "records\nr0: 5\nr1: 5\nr2: 5\nr3: 5\nr4: 5\nr5: 5\nr6: 5\nr7: 5\nr8: 5\nr9: 5\n";
-    let restarts = "1: front 111 struck 50 try 0 redo 50 69 70 89 90\n";
-    assert!(rt;
-        redoes(
-            &rt,
-            program.as_str(),
-            "50,0,60,1\n",
-            told,
-            restarts,
-            [131, 1, 5, 0]
-        )?
-    );
-    Ok(())
+    let run = Run {
+        case: Case {
+            program: program.as_str(),
+            faults: "50,0,60,1\n",
+            ..BARE
+        },
+        told: "records\nr0: 5\nr1: 5\nr2: 5\nr3: 5\nr4: 5\nr5: 5\nr6: 5\nr7: 5\nr8: 5\nr9: 5\n",
+        restarts: "1: front 111 struck 50 try 0 redo 50 69 70 89 90\n",
+        counts: [131, 1, 5, 0],
+    };
+    let is_told = comes_to(rt, &run, "run", " --faults f.csv", &CREWS);
+    drop(program);
+    is_told
 }
 
 #[test]
+fn a_lock_over_ten_records_redoes_those_of_one(rt: HostRuntime) -> Result<(), Fail> {
+    assert!(rt; redoes_one_record(&rt)?);
+    Ok(())
+}
+
+static REFUSED: [Case<'static>; 2] = [
+    Case {
+        words: "run p.gp --faults f.csv",
+        program: ADD,
+        faults: "4,0,3,0\n",
+        status: 4,
+        error: "gprs: input f.csv kind 3 row 1\n",
+        ..RUN
+    },
+    Case {
+        words: "run p.gp --faults g.csv",
+        program: ADD,
+        faults: "4,0,3,0\n",
+        status: 7,
+        error: "gprs: read fault g.csv\n",
+        ..RUN
+    },
+];
+
+#[test]
 fn a_file_of_faults_is_refused(rt: HostRuntime) -> Result<(), Fail> {
-    let files = Files {
-        faults: b"4,0,3,0\n",
-        ..alone(ADD)
-    };
-    let line = "gprs: input f.csv kind 3 row 1\n";
-    assert!(rt; gives(&rt, "run p.gp --faults f.csv", files, 4, "", line)?);
-    let gone = "gprs: read fault g.csv\n";
-    assert!(rt; gives(&rt, "run p.gp --faults g.csv", files, 7, "", gone)?);
+    assert!(rt; give(&rt, &REFUSED)?);
     Ok(())
 }
 
 // Whether the run of nothing has this trace.
 fn is_traced<R: Threads + Sync + AllocGlobal>(rt: &R) -> Result<bool, AllocError> {
     let trace = "issue 0\npost 0 0\ntake 0 0 applied\nretire 0\n";
-    let answer = answer_of(rt, "run p.gp --trace", alone(EMPTY), SOUND)?;
+    let case = Case {
+        words: "run p.gp --trace",
+        program: EMPTY,
+        ..PLAIN
+    };
+    let answer = answer_of(rt, &case)?;
     Ok(answer.status == 0 && answer.error.written() == trace.as_bytes())
 }
 
@@ -215,12 +263,14 @@ fn restarts_in(trace: &str) -> Option<u32> {
 
 // Whether the restart of the struck run is traced.
 fn is_restart_traced<R: Threads + Sync + AllocGlobal>(rt: &R) -> Result<bool, AllocError> {
-    let files = Files {
-        faults: b"4,0,3,1\n",
-        ..alone(ADD)
+    let case = Case {
+        words: "run p.gp --faults f.csv --trace",
+        program: ADD,
+        faults: "4,0,3,1\n",
+        ..PLAIN
     };
-    let answer = answer_of(rt, "run p.gp --faults f.csv --trace", files, SOUND)?;
-    Ok(restarts_in(std::str::from_utf8(answer.error.written()).unwrap_or("")) == Some(1))
+    let answer = answer_of(rt, &case)?;
+    Ok(restarts_in(text_of(answer.error.written())) == Some(1))
 }
 
 #[test]
@@ -230,14 +280,16 @@ fn runs_are_traced(rt: HostRuntime) -> Result<(), Fail> {
 }
 
 // The restarts were counted by a reckoning of the order and of the rules of dependence alone.
+static SOAK: Case<'static> = Case {
+    words: "soak 2000 1",
+    program: EMPTY,
+    output: "soak 2000 1\nend finished\nsum 100000\ncounts\nsubthreads 8025\nrestarts 40\nredone 240\nunused 0\n",
+    ..RUN
+};
+
 #[test]
 fn a_batch_of_transfers_keeps_its_sum(rt: HostRuntime) -> Result<(), Fail> {
-    let text =
-        "soak 2000 1\nend finished\nsum 100000\ncounts\nsubthreads 8025\nrestarts 40\nredone 240\nunused 0\n";
-    for crew in CREWS {
-        let words = format!(in rt.alloc(); "soak 2000 1 {crew}")?;
-        assert!(rt; gives(&rt, words.as_str(), alone(EMPTY), 0, text, "")?);
-    }
+    assert!(rt; gives_by(&rt, &SOAK, &CREWS)?);
     Ok(())
 }
 
@@ -264,26 +316,33 @@ impl Gate for Meeting {
     }
 }
 
-// Two tasks of a run by these workers are at the gate at the same time.
-fn meet<R: Threads + Sync + AllocGlobal>(rt: &R, crew: &str) -> Result<bool, AllocError> {
+// Two tasks of a run by these words are at the gate at the same time.
+fn meets<R: Threads + Sync + AllocGlobal>(rt: &R, words: &str) -> Result<bool, AllocError> {
     let gate = Meeting {
         entered: AtomicU64::new(0),
         met: AtomicU64::new(0),
     };
-    let words = format!(in rt.alloc(); "run p.gp {crew}")?;
-    let answer = answer_through(rt, words.as_str(), alone(ADD), SOUND, &gate)?;
+    let case = Case {
+        words,
+        program: ADD,
+        ..PLAIN
+    };
+    let answer = answer_through(rt, &case, &gate)?;
     Ok(answer.status == 0 && gate.met.load(Ordering::SeqCst) == 1)
+}
+
+// Two tasks meet by each crew of two workers.
+fn meet<R: Threads + Sync + AllocGlobal>(rt: &R) -> Result<bool, AllocError> {
+    Ok(
+        meets(rt, "run p.gp --crew wave --workers 2")?
+            && meets(rt, "run p.gp --crew board --workers 2")?
+            && meets(rt, "run p.gp --crew steal --workers 2")?,
+    )
 }
 
 #[test]
 fn two_tasks_meet(rt: HostRuntime) -> Result<(), Fail> {
-    for crew in [
-        "--crew wave --workers 2",
-        "--crew board --workers 2",
-        "--crew steal --workers 2",
-    ] {
-        assert!(rt; meet(&rt, crew)?);
-    }
+    assert!(rt; meet(&rt)?);
     Ok(())
 }
 
@@ -336,50 +395,103 @@ pub fn agrees(gate: &Counting, posts: &[u64], positions: usize) -> bool {
 }
 
 /// Whether a call ended with status 0, and each position entered its gate as often as its journal posts it.
-pub fn entered_as_posted(
+pub fn is_entered_as_posted(
     alloc: Global,
-    answer: Answer,
+    answer: &Answer,
     gate: &Counting,
     positions: usize,
 ) -> Result<bool, AllocError> {
-    let status = answer.status;
-    let posts = posts_of(alloc, &answer.journal, positions);
-    drop(answer);
-    let posts = posts?;
-    Ok(status == 0 && agrees(gate, &posts, positions))
+    let posts = posts_of(alloc, &answer.journal, positions)?;
+    Ok(answer.status == 0 && agrees(gate, &posts, positions))
 }
 
 // Each position enters the gate as often as the journal posts it.
 fn enters_as_posted<R: Threads + Sync + AllocGlobal>(
     rt: &R,
-    words: &str,
-    files: Files<'_>,
+    case: &Case<'_>,
     positions: usize,
 ) -> Result<bool, AllocError> {
     let alloc = rt.alloc();
     let gate = gate_over(alloc, positions)?;
-    let answer = answer_through(rt, words, files, SOUND, &gate)?;
-    entered_as_posted(alloc, answer, &gate, positions)
+    let answer = answer_through(rt, case, &gate)?;
+    is_entered_as_posted(alloc, &answer, &gate, positions)
 }
+
+// The same by each of these crews.
+fn enters_by<R: Threads + Sync + AllocGlobal>(
+    rt: &R,
+    case: &Case<'_>,
+    crews: &[&str],
+    positions: usize,
+) -> Result<bool, AllocError> {
+    let alloc = rt.alloc();
+    for crew in crews {
+        let words = format!(in alloc; "{}{crew}", case.words)?;
+        let is_told = enters_as_posted(
+            rt,
+            &Case {
+                words: words.as_str(),
+                ..*case
+            },
+            positions,
+        );
+        drop(words);
+        if !is_told? {
+            return Ok(false);
+        }
+    }
+    Ok(true)
+}
+
+/// Each position of each of these cases enters the gate as often as the journal posts it, by each of these crews.
+pub fn enter_as_posted<R: Threads + Sync + AllocGlobal>(
+    rt: &R,
+    cases: &[Case<'_>],
+    crews: &[&str],
+    positions: usize,
+) -> Result<bool, AllocError> {
+    for case in cases {
+        if !enters_by(rt, case, crews, positions)? {
+            return Ok(false);
+        }
+    }
+    Ok(true)
+}
+
+/// The crews of one and two workers, in the words that name them.
+pub static PAIRS: [&str; 4] = [
+    " --crew one",
+    " --crew wave --workers 2",
+    " --crew board --workers 2",
+    " --crew steal --workers 2",
+];
+
+static ENTERED: [Case<'static>; 2] = [
+    Case {
+        program: ADD,
+        faults: "4,0,3,1\n",
+        ..RUN
+    },
+    Case {
+        words: "run p.gp --faults f.csv",
+        program: ADD,
+        faults: "4,0,3,1\n",
+        ..RUN
+    },
+];
+
+static ENTERED_BATCH: [Case<'static>; 1] = [Case {
+    words: "soak 2000 1",
+    program: ADD,
+    faults: "4,0,3,1\n",
+    ..RUN
+}];
 
 #[test]
 fn tasks_enter_the_gate_as_they_are_posted(rt: HostRuntime) -> Result<(), Fail> {
-    let files = Files {
-        faults: b"4,0,3,1\n",
-        ..alone(ADD)
-    };
-    for crew in [
-        "--crew one",
-        "--crew wave --workers 2",
-        "--crew board --workers 2",
-        "--crew steal --workers 2",
-    ] {
-        let run = format!(in rt.alloc(); "run p.gp {crew}")?;
-        let struck = format!(in rt.alloc(); "run p.gp --faults f.csv {crew}")?;
-        let soak = format!(in rt.alloc(); "soak 2000 1 {crew}")?;
-        assert!(rt; enters_as_posted(&rt, run.as_str(), files, 11)?);
-        assert!(rt; enters_as_posted(&rt, struck.as_str(), files, 11)?);
-        assert!(rt; enters_as_posted(&rt, soak.as_str(), files, 8025)?);
-    }
+    assert!(rt;
+        enter_as_posted(&rt, &ENTERED, &PAIRS, 11)?
+            && enter_as_posted(&rt, &ENTERED_BATCH, &PAIRS, 8025)?
+    );
     Ok(())
 }
