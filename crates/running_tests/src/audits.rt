@@ -1,11 +1,13 @@
 // Traces, as an audit reads and judges them.
 ghost use Rattle.std.specs.Prelude.{◌<◌, ◌^◌, length};
 
-use crate::programs::{ADD, EMPTY, accepted};
+use crate::outcome::passes;
+use crate::plain_runs::run_within;
+use crate::programs::{ADD, EMPTY};
 use batch_files::read_faults;
 use gp_audit::{TraceFault, TraceLine, Verdict, audit, read_trace};
-use gp_base::{Faults, Inputs, Limits, Seq, Text};
-use one_thread::{Step, run_plain};
+use gp_base::{Faults, Seq, Text};
+use one_thread::Step;
 use std::alloc::{AllocError, Global};
 use std::test::Fail;
 
@@ -107,18 +109,7 @@ retire 10
 fn order_of(alloc: Global, text: &[u8], cells: &[i64]) -> Result<Seq<Step>, Fail>
     requires { length text.now < 2 ^ 32 }
 {
-    let inputs = Inputs {
-        records: Seq::from_slice(alloc, cells)?,
-        feeds: Seq::new(alloc),
-    };
-    let limits = Limits {
-        turns: 1000,
-        subthreads: 20,
-    };
-    let checked = accepted(alloc, text)?;
-    let ran = run_plain(alloc, &checked, &inputs, limits);
-    drop(checked);
-    Ok(ran?.order)
+    Ok(run_within(alloc, text, cells, 1000, 20)?.order)
 }
 
 // Whether a trace is refused at its first row.
@@ -157,63 +148,55 @@ fn verdict_on(
 }
 
 // Whether the trace of a whole run of nothing is lawful, and what is answered where it is cut or a line is left out.
-fn judges_one_subthread(alloc: Global) -> Result<bool, Fail> {
-    let order = order_of(alloc, EMPTY, &[])?;
-    let faults = Faults::none(alloc);
-    let whole: &[u8] = b"issue 0\npost 0 0\ntake 0 0 applied\nretire 0\n";
-    let early: &[u8] = b"issue 0\npost 0 0\nretire 0\n";
+fn judges_one_subthread(
+    alloc: Global,
+    order: &Seq<Step>,
+    faults: &Faults,
+) -> Result<bool, AllocError> {
     let cut: &[u8] = b"issue 0\npost 0 0\ntake 0 0 applied\n";
+    let whole = verdict_on(
+        alloc,
+        order,
+        faults,
+        b"issue 0\npost 0 0\ntake 0 0 applied\nretire 0\n",
+    )?;
+    let early = verdict_on(alloc, order, faults, b"issue 0\npost 0 0\nretire 0\n")?;
+    let cut = verdict_on(alloc, order, faults, cut)?;
+    let empty = verdict_on(alloc, order, faults, b"")?;
     Ok(
-        matches!(verdict_on(alloc, &order, &faults, whole)?, Verdict::Lawful)
-            && matches!(
-                verdict_on(alloc, &order, &faults, early)?,
-                Verdict::Unlawful(3)
-            )
-            && matches!(
-                verdict_on(alloc, &order, &faults, cut)?,
-                Verdict::Incomplete
-            )
-            && matches!(
-                verdict_on(alloc, &order, &faults, b"")?,
-                Verdict::Incomplete
-            ),
+        matches!(whole, Verdict::Lawful)
+            && matches!(early, Verdict::Unlawful(3))
+            && matches!(cut, Verdict::Incomplete)
+            && matches!(empty, Verdict::Incomplete),
     )
 }
 
 // What is answered on a trace of the two adders that goes on so after the fault is due.
-fn after_fault(alloc: Global, more: &[u8]) -> Result<Verdict, Fail> {
-    let order = order_of(alloc, ADD, &[0])?;
-    let faults = read_faults(alloc, &Text::from_slice(alloc, b"4,0,3,1\n")?)?;
+fn after_fault(
+    alloc: Global,
+    order: &Seq<Step>,
+    faults: &Faults,
+    more: &[u8],
+) -> Result<Verdict, AllocError> {
     let mut trace = Vec::new(alloc);
     trace.extend_from_slice(UP_TO_FAULT)?;
     trace.extend_from_slice(more)?;
-    Ok(verdict_on(alloc, &order, &faults, &trace)?)
+    verdict_on(alloc, order, faults, &trace)
 }
 
-#[test]
-fn rows_of_a_trace(rt: HostRuntime) -> Result<(), Fail> {
-    let alloc = rt.alloc();
-    for row in &NO_LINES {
-        assert!(rt; is_no_line(alloc, row)?, "{row:?}");
-    }
-    let count = lines_of(alloc, LINES)?.len();
-    assert!(rt; count == 2);
-    Ok(())
+// Whether a trace that goes on with this line is unlawful from there on: it comes after 23 lawful ones.
+fn is_unlawful(
+    alloc: Global,
+    order: &Seq<Step>,
+    faults: &Faults,
+    line: &[u8],
+) -> Result<bool, AllocError> {
+    let verdict = after_fault(alloc, order, faults, line)?;
+    Ok(matches!(verdict, Verdict::Unlawful(24)))
 }
-
-#[test]
-fn a_trace_of_one_subthread(rt: HostRuntime) -> Result<(), Fail> {
-    assert!(rt; judges_one_subthread(rt.alloc())?);
-    Ok(())
-}
-
-#[test]
-fn a_trace_with_a_restart(rt: HostRuntime) -> Result<(), Fail> {
-    let alloc = rt.alloc();
-    let is_lawful = matches!(after_fault(alloc, AFTER_FAULT)?, Verdict::Lawful);
-    assert!(rt; is_lawful);
-    // Each of these comes after 23 lawful lines: nothing is issued and nothing retires while a fault is due, and a
-    // restart redoes the dependents and nothing else.
+// Whether the restart of the fault is lawful, and nothing else: nothing is issued and nothing retires while a fault is
+// due, and a restart redoes the dependents alone.
+fn judges_a_restart(alloc: Global, order: &Seq<Step>, faults: &Faults) -> Result<bool, AllocError> {
     let unlawful: [&[u8]; 5] = [
         b"issue 8\n",
         b"restart 8 4 0 redo 4 6\n",
@@ -222,8 +205,50 @@ fn a_trace_with_a_restart(rt: HostRuntime) -> Result<(), Fail> {
         b"retire 0\n",
     ];
     for line in unlawful {
-        let is_first_unlawful = matches!(after_fault(alloc, line)?, Verdict::Unlawful(24));
-        assert!(rt; is_first_unlawful, "{line:?}");
+        if !is_unlawful(alloc, order, faults, line)? {
+            return Ok(false);
+        }
     }
-    Ok(())
+    let verdict = after_fault(alloc, order, faults, AFTER_FAULT)?;
+    Ok(matches!(verdict, Verdict::Lawful))
+}
+
+// Whether each row that is no line of a trace is refused.
+fn refuses_other_rows(alloc: Global) -> Result<bool, AllocError> {
+    for row in &NO_LINES {
+        if !is_no_line(alloc, row)? {
+            return Ok(false);
+        }
+    }
+    Ok(true)
+}
+
+#[test]
+fn rows_of_a_trace(rt: HostRuntime) -> Result<(), Fail> {
+    let alloc = rt.alloc();
+    let count = lines_of(alloc, LINES)?.len();
+    passes(Ok(count == 2))?;
+    passes(refuses_other_rows(alloc))
+}
+
+#[test]
+fn a_trace_of_one_subthread(rt: HostRuntime) -> Result<(), Fail> {
+    let alloc = rt.alloc();
+    let order = order_of(alloc, EMPTY, &[])?;
+    let faults = Faults::none(alloc);
+    let is_told = judges_one_subthread(alloc, &order, &faults);
+    drop(order);
+    drop(faults);
+    passes(is_told)
+}
+
+#[test]
+fn a_trace_with_a_restart(rt: HostRuntime) -> Result<(), Fail> {
+    let alloc = rt.alloc();
+    let faults = read_faults(alloc, &Text::from_slice(alloc, b"4,0,3,1\n")?)?;
+    let order = order_of(alloc, ADD, &[0])?;
+    let is_told = judges_a_restart(alloc, &order, &faults);
+    drop(order);
+    drop(faults);
+    passes(is_told)
 }

@@ -1,9 +1,10 @@
 // The code of a program with each kind of statement.
-use crate::programs::accepted;
+use crate::outcome::passes;
+use crate::programs::code_of;
 use gp_base::{LockNo, Seq};
 use std::alloc::{AllocError, Global};
 use std::test::Fail;
-use task_code::{Code, lower};
+use task_code::Code;
 
 // In text order: task 0 is one instruction. In task 1 an assignment is one, the loop three, the choice four, and each
 // of the ten statements after them one.
@@ -71,10 +72,10 @@ fn is_told(code: &Code) -> bool {
 #[test]
 fn lowers_each_statement(rt: HostRuntime) -> Result<(), Fail> {
     let alloc = rt.alloc();
-    let code = lower(alloc, &accepted(alloc, EACH)?)?;
+    let code = code_of(alloc, EACH)?;
     let has_tasks = has_tasks(alloc, &code);
     let is_told = is_told(&code);
     drop(code);
-    assert!(rt; has_tasks? && is_told);
-    Ok(())
+    passes(has_tasks)?;
+    passes(Ok(is_told))
 }

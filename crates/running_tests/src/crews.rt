@@ -1,12 +1,13 @@
 // Crews over tasks of one program: each hands back what was posted, once, in an order of its own.
-ghost use Rattle.std.specs.Prelude.{◌≡◌, [], All, IfOk};
+ghost use Rattle.std.specs.Prelude.{◌≡◌, [], ◌∷◌, ◌++◌, All, Contains, IfOk, OnOk};
 ghost use Rattle.subthread.specs.Tasks.{Fits};
 ghost use Rattle.running_tests.specs.Named.{NamesBelow, FitsWithoutCells};
 ghost use Rattle.crew.specs.Out.{AreRuns};
 ghost use Rattle.steal_crew.specs.Batches.{AreCounted};
 
 use crate::named::names_below;
-use crate::programs::{ADD, accepted};
+use crate::outcome::passes;
+use crate::programs::{ADD, code_of};
 use crew::{BatchCrew, Crew, InlineCrew, MeanSteps, ScriptCrew, run_wave};
 use gp_base::{At, FreeGate, Gate, Pos, Seq, ThreadNo};
 use record_store::Given;
@@ -17,13 +18,11 @@ use std::thread::Threads;
 use steal_crew::{StealCrew, run_steal};
 use subthread::{Done, Task, Work};
 use task_ast::{Next, SyncOp};
-use task_code::lower;
 
 // What the tasks of the program run under in which two threads add to one total.
 fn adding(alloc: Global) -> Result<Work, Fail> {
-    let code = lower(alloc, &accepted(alloc, ADD)?)?;
     Ok(Work {
-        code,
+        code: code_of(alloc, ADD)?,
         feeds: Seq::new(alloc),
         turns: 100,
     })
@@ -31,6 +30,7 @@ fn adding(alloc: Global) -> Result<Work, Fail> {
 
 // An attempt of the program's first subthread: `main` begins, and runs to its fork in line 3.
 fn start(alloc: Global, attempt: u32) -> Result<Task, AllocError>
+    ensures pos { IfOk result (λ task. task.pos ≡ 0) }
     ensures attempt { IfOk result (λ task. task.attempt ≡ attempt) }
     ensures at { IfOk result (λ task. task.at.task ≡ 1) }
     ensures fits { IfOk result FitsWithoutCells }
@@ -57,44 +57,71 @@ fn start(alloc: Global, attempt: u32) -> Result<Task, AllocError>
     })
 }
 
+// The attempt whose run is handed back and ends at the fork.
+fn attempt_of(done: &Option<Done>) -> Option<u32> {
+    match done {
+        Some(done) if done.next.line == 3 => Some(done.task.attempt),
+        _ => None,
+    }
+}
+
 // The attempt that comes back next and ends at the fork, or `None` where none is out.
 fn attempt_back<C: Crew, R: Threads + Sync>(rt: &R, crew: &mut C) -> Result<Option<u32>, AllocError>
     requires ready { C.ready crew.old }
     ensures ready { C.ready crew.new }
 {
-    match crew.next(rt)? {
-        Some(done) if done.next.line == 3 => Ok(Some(done.task.attempt)),
-        _ => Ok(None),
-    }
+    let done = crew.next(rt)?;
+    let attempt = attempt_of(&done);
+    drop(done);
+    Ok(attempt)
 }
 
-// Which attempts come back after attempts 0 and 1 were posted, and what comes after these.
-fn attempts_back<C: Crew, R: Threads + Sync>(
+// Posts an attempt.
+fn post<C: Crew, R: Threads + Sync>(
     rt: &R,
     alloc: Global,
     crew: &mut C,
-) -> Result<(Option<u32>, Option<u32>, Option<u32>), AllocError>
+    attempt: u32,
+) -> Result<(), AllocError>
+    requires ready { C.ready crew.old }
+    requires fresh { ¬ Contains (C.posted crew.old) (0, attempt) }
+    requires named { NamesBelow 0 (C.work crew.old) 1 }
+    ensures ready { C.ready crew.new }
+    ensures work { C.work crew.new ≡ C.work crew.old }
+    ensures posted { OnOk result (C.posted crew.new ≡ C.posted crew.old ++ (0, attempt) ∷ []) }
+{
+    crew.post(rt, start(alloc, attempt)?)?;
+    Ok(())
+}
+
+// Whether these attempts come back after attempts 0 and 1 were posted, and nothing after these.
+fn come_back<C: Crew, R: Threads + Sync>(
+    rt: &R,
+    alloc: Global,
+    crew: &mut C,
+    attempts: [u32; 2],
+) -> Result<bool, AllocError>
     requires ready { C.ready crew.old }
     requires posted { C.posted crew.old ≡ [] }
     requires named { NamesBelow 0 (C.work crew.old) 1 }
 {
-    crew.post(rt, start(alloc, 0)?)?;
-    crew.post(rt, start(alloc, 1)?)?;
+    post(rt, alloc, crew, 0)?;
+    post(rt, alloc, crew, 1)?;
     let first = attempt_back(rt, crew)?;
     let second = attempt_back(rt, crew)?;
     let third = attempt_back(rt, crew)?;
-    Ok((first, second, third))
+    Ok(first == Some(attempts[0]) && second == Some(attempts[1]) && third.is_none())
 }
 
-// Which attempts come back from a crew that runs waves of two workers.
-fn attempts_in_waves<G: Gate, R: Threads + Sync>(
+// Whether the attempts come back in their order from a crew that runs waves of two workers.
+fn is_oldest_first_in_waves<G: Gate, R: Threads + Sync>(
     rt: &R,
     alloc: Global,
     work: &Work,
     gate: &G,
-) -> Result<(Option<u32>, Option<u32>, Option<u32>), AllocError> {
+) -> Result<bool, AllocError> {
     if !names_below(work, 1, 0) {
-        return Ok((None, None, None));
+        return Ok(false);
     }
     let mean_steps = MeanSteps::new(alloc, work);
     let run_all = |tasks: Seq<Task>| -> Result<Seq<Done>, AllocError>
@@ -102,7 +129,7 @@ fn attempts_in_waves<G: Gate, R: Threads + Sync>(
         ensures { IfOk result (AreRuns work.entry.now tasks) }
     { run_wave(rt, alloc, work, gate, &mean_steps, 2, tasks) };
     let mut crew = BatchCrew::new(alloc, work, run_all);
-    attempts_back(rt, alloc, &mut crew)
+    come_back(rt, alloc, &mut crew, [0, 1])
 }
 
 // Posts four attempts, and takes the first run that comes back.
@@ -116,11 +143,11 @@ fn run_four<C: Crew, R: Threads + Sync>(
     requires named { NamesBelow 0 (C.work crew.old) 1 }
     ensures ready { C.ready crew.new }
 {
-    crew.post(rt, start(alloc, 0)?)?;
-    crew.post(rt, start(alloc, 1)?)?;
-    crew.post(rt, start(alloc, 2)?)?;
-    crew.post(rt, start(alloc, 3)?)?;
-    let _first = crew.next(rt)?;
+    post(rt, alloc, crew, 0)?;
+    post(rt, alloc, crew, 1)?;
+    post(rt, alloc, crew, 2)?;
+    post(rt, alloc, crew, 3)?;
+    drop(crew.next(rt)?);
     Ok(())
 }
 
@@ -140,8 +167,8 @@ fn claims_of_four<G: Gate, R: Threads + Sync>(
         ensures { IfOk result (AreCounted work.entry.now tasks) }
     { run_steal(rt, alloc, work, gate, &mean_steps, 2, tasks) };
     let mut crew = StealCrew::new(alloc, work, run_all);
-    run_four(rt, alloc, &mut crew)?;
-    Ok(crew.counts())
+    let ran = run_four(rt, alloc, &mut crew);
+    ran.and(Ok(crew.counts()))
 }
 
 // Holds the first task that enters until so many have entered, for so many looks at most.
@@ -153,6 +180,22 @@ struct Meeting {
 }
 
 const MOST_LOOKS: u32 = 100_000_000;
+
+impl Meeting {
+    // None of so many has entered.
+    fn of(members: u64) -> Meeting {
+        Meeting {
+            members,
+            entered: AtomicU64::new(0),
+            met: AtomicU64::new(0),
+        }
+    }
+
+    // Whether so many have entered, and all of them while the first waited.
+    fn has_met(&self) -> bool {
+        self.entered.load(Ordering::SeqCst) == self.members && self.met.load(Ordering::SeqCst) == 1
+    }
+}
 
 impl Gate for Meeting {
     fn enter(&self, _pos: Pos) {
@@ -179,8 +222,7 @@ fn is_oldest_first<R: Threads + Sync>(
     }
     let gate = FreeGate;
     let mut crew = InlineCrew::new(alloc, work, &gate);
-    let (first, second, third) = attempts_back(rt, alloc, &mut crew)?;
-    Ok(first == Some(0) && second == Some(1) && third.is_none())
+    come_back(rt, alloc, &mut crew, [0, 1])
 }
 
 #[test]
@@ -189,8 +231,7 @@ fn the_oldest_comes_back_first(rt: HostRuntime) -> Result<(), Fail> {
     let work = adding(alloc)?;
     let is_told = is_oldest_first(&rt, alloc, &work);
     drop(work);
-    assert!(rt; is_told?);
-    Ok(())
+    passes(is_told)
 }
 
 // Whether a crew hands back first the attempt that the script names.
@@ -204,8 +245,8 @@ fn is_as_scripted<R: Threads + Sync>(
     }
     let choice = Seq::from_slice(alloc, &[3])?;
     let mut crew = ScriptCrew::new(alloc, work, choice);
-    let (first, second, third) = attempts_back(rt, alloc, &mut crew)?;
-    Ok(first == Some(1) && second == Some(0) && third.is_none() && crew.posts() == 2)
+    let is_told = come_back(rt, alloc, &mut crew, [1, 0])?;
+    Ok(is_told && crew.posts() == 2)
 }
 
 #[test]
@@ -214,30 +255,18 @@ fn the_one_that_the_script_names_comes_back(rt: HostRuntime) -> Result<(), Fail>
     let work = adding(alloc)?;
     let is_told = is_as_scripted(&rt, alloc, &work);
     drop(work);
-    assert!(rt; is_told?);
-    Ok(())
+    passes(is_told)
 }
 
 #[test]
 fn two_tasks_of_a_wave_meet(rt: HostRuntime) -> Result<(), Fail> {
     let alloc = rt.alloc();
-    let gate = Meeting {
-        members: 2,
-        entered: AtomicU64::new(0),
-        met: AtomicU64::new(0),
-    };
     let work = adding(alloc)?;
-    let told = attempts_in_waves(&rt, alloc, &work, &gate);
+    let gate = Meeting::of(2);
+    let is_told = is_oldest_first_in_waves(&rt, alloc, &work, &gate);
     drop(work);
-    let (first, second, third) = told?;
-    let entered = gate.entered.load(Ordering::SeqCst);
-    let met = gate.met.load(Ordering::SeqCst);
-    assert!(rt; first == Some(0) && second == Some(1) && third.is_none());
-    assert!(rt;
-        entered == 2 && met == 1,
-        "a second entered while the first waited"
-    );
-    Ok(())
+    passes(Ok(gate.has_met()))?;
+    passes(is_told)
 }
 
 // The first task that enters is held until all four have entered, so the other worker takes one from its deque.
@@ -245,37 +274,46 @@ fn two_tasks_of_a_wave_meet(rt: HostRuntime) -> Result<(), Fail> {
 fn a_task_is_stolen_from_a_worker_that_is_held(rt: HostRuntime) -> Result<(), Fail> {
     let alloc = rt.alloc();
     let work = adding(alloc)?;
-    let gate = Meeting {
-        members: 4,
-        entered: AtomicU64::new(0),
-        met: AtomicU64::new(0),
-    };
+    let gate = Meeting::of(4);
     let claims = claims_of_four(&rt, alloc, &work, &gate);
     drop(work);
     let (_own, stolen, _swept) = claims?;
-    assert!(rt; gate.entered.load(Ordering::SeqCst) == 4);
-    assert!(rt; gate.met.load(Ordering::SeqCst) == 1);
-    assert!(rt; stolen > 0);
-    Ok(())
+    passes(Ok(gate.has_met() && stolen > 0))
 }
 
-// How many workers three tasks from one place are worth: of 64 and of 2 where no run has gone on from there, and of 64
-// after one light run, after a heavy one beside, and after twenty more light ones.
-fn worths(alloc: Global, work: &Work) -> Result<(u32, u32, u32, u32, u32), AllocError> {
-    let mean_steps = MeanSteps::new(alloc, work);
-    let task = start(alloc, 3)?;
-    let tasks = vec![in alloc; start(alloc, 0)?, start(alloc, 1)?, start(alloc, 2)?]?;
-    let new = mean_steps.workers(&tasks, 64);
-    let new_of_two = mean_steps.workers(&tasks, 2);
-    mean_steps.note(&task, 5);
-    let light = mean_steps.workers(&tasks, 64);
-    mean_steps.note(&task, 1_000_000);
-    let heavy = mean_steps.workers(&tasks, 64);
-    for _ in 0..20 {
-        mean_steps.note(&task, 5);
+// So many attempts of the program's first subthread.
+fn starts(alloc: Global, count: u32) -> Result<Vec<Task>, AllocError> {
+    let mut tasks = Vec::new(alloc);
+    for attempt in 0..count {
+        tasks.push(start(alloc, attempt)?)?;
     }
-    let again = mean_steps.workers(&tasks, 64);
-    Ok((new, new_of_two, light, heavy, again))
+    Ok(tasks)
+}
+
+// How many workers tasks from one place are worth: of 64 and of 2 where no run has gone on from there, and of 64 after
+// one light run, after a heavy one beside, and after twenty more light ones.
+fn worths(mean_steps: &MeanSteps, task: &Task, tasks: &[Task]) -> [u32; 5] {
+    let new = mean_steps.workers(tasks, 64);
+    let new_of_two = mean_steps.workers(tasks, 2);
+    mean_steps.note(task, 5);
+    let light = mean_steps.workers(tasks, 64);
+    mean_steps.note(task, 1_000_000);
+    let heavy = mean_steps.workers(tasks, 64);
+    for _ in 0..20 {
+        mean_steps.note(task, 5);
+    }
+    let again = mean_steps.workers(tasks, 64);
+    [new, new_of_two, light, heavy, again]
+}
+
+// Whether three tasks are worth what they should be, where a fourth one's runs are noted.
+fn are_worth(alloc: Global, work: &Work) -> Result<bool, AllocError> {
+    let tasks = starts(alloc, 3)?;
+    let task = start(alloc, 3)?;
+    let mean_steps = MeanSteps::new(alloc, work);
+    let told = worths(&mean_steps, &task, &tasks);
+    drop(task);
+    Ok(told == [3, 2, 1, 3, 1])
 }
 
 // New tasks are worth as many workers as they are, and as may be had; light ones are worth one. A heavy run weighs an
@@ -285,10 +323,7 @@ fn worths(alloc: Global, work: &Work) -> Result<(u32, u32, u32, u32, u32), Alloc
 fn light_tasks_are_worth_one_worker(rt: HostRuntime) -> Result<(), Fail> {
     let alloc = rt.alloc();
     let work = adding(alloc)?;
-    let told = worths(alloc, &work);
+    let is_told = are_worth(alloc, &work);
     drop(work);
-    let (new, new_of_two, light, heavy, again) = told?;
-    assert!(rt; new == 3 && new_of_two == 2);
-    assert!(rt; light == 1 && heavy == 3 && again == 1);
-    Ok(())
+    passes(is_told)
 }

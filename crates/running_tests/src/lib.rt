@@ -3,6 +3,8 @@
 #![tactic(auto)]
 
 #[cfg(test)]
+mod adders;
+#[cfg(test)]
 mod audits;
 #[cfg(test)]
 mod codes;
@@ -12,6 +14,8 @@ mod crews;
 mod dependents;
 #[cfg(test)]
 mod named;
+#[cfg(test)]
+mod outcome;
 #[cfg(test)]
 mod plain_runs;
 #[cfg(test)]

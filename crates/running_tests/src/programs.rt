@@ -4,6 +4,7 @@ ghost use Rattle.std.specs.Prelude.{◌<◌, ◌^◌, length};
 use lock_checker::{Checked, check};
 use std::alloc::Global;
 use std::test::Fail;
+use task_code::{Code, lower};
 use task_parser::{lex, parse};
 
 /// Nothing to do.
@@ -21,4 +22,14 @@ pub fn accepted(alloc: Global, text: &[u8]) -> Result<Checked, Fail>
     let tokens = lex(alloc, text)?;
     let program = parse(alloc, text, &tokens)?;
     Ok(check(alloc, program)?)
+}
+
+/// The code of the program of a text.
+pub fn code_of(alloc: Global, text: &[u8]) -> Result<Code, Fail>
+    requires { length text.now < 2 ^ 32 }
+{
+    let checked = accepted(alloc, text)?;
+    let code = lower(alloc, &checked);
+    drop(checked);
+    Ok(code?)
 }

@@ -1,8 +1,10 @@
 // What a restart redoes of the worked examples, and what waits for locks.
-ghost use Rattle.std.specs.Prelude.{◌≡◌, ◌+◌, ◌<◌, length, All, None, IfOk, OnOk};
-ghost use Rattle.reorder_list.specs.Entries.{StandFrom, IsFresh};
+ghost use Rattle.std.specs.Prelude.{◌≡◌, ◌+◌, ◌<◌, [], length, All, None, IfOk, OnOk};
+ghost use Rattle.reorder_list.specs.Entries.{AllKnown, StandFrom, IsFresh};
 
-use gp_base::{At, Footprint, Loc, LockNo, Pos, RecNo, Room, Seq, ThreadNo};
+use crate::adders::{REGS_0, REGS_1, REGS_2, foot};
+use crate::outcome::passes;
+use gp_base::{At, Loc, LockNo, Pos, RecNo, Room, Seq, ThreadNo};
 use record_store::Store;
 use reorder_list::{Entry, Rol, State};
 use restart::restart;
@@ -10,30 +12,17 @@ use std::alloc::{AllocError, Global};
 use std::test::Fail;
 use task_ast::{Layout, Next, SyncOp};
 
-const REGS_0: Loc = Loc::Regs(ThreadNo(0));
-
-const REGS_1: Loc = Loc::Regs(ThreadNo(1));
-
-const REGS_2: Loc = Loc::Regs(ThreadNo(2));
-
 const BANK: Loc = Loc::Lock(LockNo(0));
 
 const FIRST: Loc = Loc::Rec(RecNo(0));
 
 const SECOND: Loc = Loc::Rec(RecNo(1));
 
-// A footprint of locations that are written.
-fn written(alloc: Global, writes: &[Loc]) -> Result<Footprint, AllocError> {
-    Ok(Footprint {
-        reads: Seq::new(alloc),
-        writes: Seq::from_slice(alloc, writes)?,
-    })
-}
-
 // The first entry of a position, with the locations that it may write by its locks.
 fn entry(alloc: Global, p: u32, writes: &[Loc]) -> Result<Entry, AllocError>
     ensures { IfOk result (λ e. (e.pos ≡ p) × (e.attempt ≡ 0) × (e.hist ≡ None) × IsFresh e) }
 {
+    let locks = foot(alloc, &[], writes)?;
     Ok(Entry {
         pos: Pos(p),
         thread: ThreadNo(0),
@@ -48,7 +37,7 @@ fn entry(alloc: Global, p: u32, writes: &[Loc]) -> Result<Entry, AllocError>
         attempt: 0,
         begun: 0,
         state: State::Waiting,
-        locks: written(alloc, writes)?,
+        locks,
         foot: None,
         hist: None,
         prints: Seq::new(alloc),
@@ -64,8 +53,8 @@ fn push(alloc: Global, rol: &mut Rol, p: u32, writes: &[Loc]) -> Result<(), Allo
     ensures next { OnOk result (length rol.new.entries ≡ p + 1) }
     ensures fresh { OnOk result (All (λ e. (e.attempt ≡ 0) × (e.hist ≡ None)) rol.new.entries) }
 {
-    let next = entry(alloc, p, writes)?;
     rol.reserve()?;
+    let next = entry(alloc, p, writes)?;
     rol.push_back(next);
     Ok(())
 }
@@ -102,7 +91,7 @@ fn learn(alloc: Global, rol: &mut Rol, p: u32, writes: &[Loc]) -> Result<(), All
     ensures len { OnOk result (length rol.new.entries ≡ length rol.old.entries) }
     ensures fresh { OnOk result (All (λ e. (e.attempt ≡ 0) × (e.hist ≡ None)) rol.new.entries) }
 {
-    let foot = written(alloc, writes)?;
+    let foot = foot(alloc, &[], writes)?;
     rol.learn_foot(Pos(p), foot);
     Ok(())
 }
@@ -131,6 +120,25 @@ fn two_writers(alloc: Global, record: Loc) -> Result<Rol, AllocError>
     Ok(rol)
 }
 
+// Redoes the dependents of one of the eight, of all of which it is known what they write.
+fn redo(alloc: Global, rol: &mut Rol, struck: u32) -> Result<Seq<Pos>, AllocError>
+    requires row { StandFrom 0 rol.old.entries }
+    requires eight { length rol.old.entries ≡ 8 }
+    requires fresh { All (λ e. (e.attempt ≡ 0) × (e.hist ≡ None)) rol.old.entries }
+    requires known { AllKnown rol.old.entries }
+    requires struck { struck < 8 }
+{
+    let layout = Layout {
+        under: Seq::new(alloc),
+    };
+    let mut redo = Room::new(alloc);
+    redo.reserve(8)?;
+    let mut store = Store::new(alloc, Seq::new(alloc), layout)?;
+    restart(alloc, rol, &mut store, Pos(struck), Pos(8), &mut redo);
+    drop(store);
+    Ok(redo.into_seq())
+}
+
 // The positions that are redone with one of the eight; none where it is not known of all what they write.
 fn redone_with(alloc: Global, record: Loc, struck: u32) -> Result<Seq<Pos>, AllocError>
     requires { struck < 8 }
@@ -139,54 +147,58 @@ fn redone_with(alloc: Global, record: Loc, struck: u32) -> Result<Seq<Pos>, Allo
     if !rol.all_known() {
         return Ok(Seq::new(alloc));
     }
-    let layout = Layout {
-        under: Seq::new(alloc),
-    };
-    let mut store = Store::new(alloc, Seq::new(alloc), layout)?;
-    let mut redo = Room::new(alloc);
-    redo.reserve(8)?;
-    restart(alloc, &mut rol, &mut store, Pos(struck), Pos(8), &mut redo);
-    Ok(redo.into_seq())
+    let redone = redo(alloc, &mut rol, struck);
+    drop(rol);
+    redone
+}
+
+// Whether these positions are redone with positions 4 and 2, and seven with position 1.
+fn redoes(alloc: Global, record: Loc, late: &[Pos], early: &[Pos]) -> Result<bool, AllocError> {
+    let with_4 = redone_with(alloc, record, 4)?;
+    let with_2 = redone_with(alloc, record, 2)?;
+    let with_1 = redone_with(alloc, record, 1)?;
+    Ok(with_4.as_slice() == late && with_2.as_slice() == early && with_1.len() == 7)
 }
 
 #[test]
 fn redoes_dependents(rt: HostRuntime) -> Result<(), Fail> {
-    let alloc = rt.alloc();
-    let late = redone_with(alloc, FIRST, 4)?;
-    assert!(rt; late.as_slice() == [Pos(4), Pos(6), Pos(7)].as_slice());
-    let early = redone_with(alloc, FIRST, 2)?;
-    assert!(rt; early.as_slice() == [Pos(2), Pos(4), Pos(6), Pos(7)].as_slice());
-    let first = redone_with(alloc, FIRST, 1)?;
-    assert!(rt; first.len() == 7);
-    Ok(())
+    let late = [Pos(4), Pos(6), Pos(7)];
+    let early = [Pos(2), Pos(4), Pos(6), Pos(7)];
+    passes(redoes(rt.alloc(), FIRST, &late, &early))
 }
 
 // Under one lock, a position that names another record is not redone.
 #[test]
 fn keeps_other_records(rt: HostRuntime) -> Result<(), Fail> {
-    let alloc = rt.alloc();
-    let late = redone_with(alloc, SECOND, 4)?;
-    assert!(rt; late.as_slice() == [Pos(4), Pos(6)].as_slice());
-    let early = redone_with(alloc, SECOND, 2)?;
-    assert!(rt; early.as_slice() == [Pos(2), Pos(4), Pos(6)].as_slice());
-    let first = redone_with(alloc, SECOND, 1)?;
-    assert!(rt; first.len() == 7);
-    Ok(())
+    let late = [Pos(4), Pos(6)];
+    let early = [Pos(2), Pos(4), Pos(6)];
+    passes(redoes(rt.alloc(), SECOND, &late, &early))
 }
 
-// But it waits for the lock, whether or not it is known which records are named.
+// Whether the first of two waits for nothing, and the second one for it.
+fn waits(rol: &Rol) -> bool {
+    rol.runnable(Pos(0)) && !rol.runnable(Pos(1))
+}
+
+// Whether the second of two under one lock waits for it, whether or not it is known which records are named.
+fn waits_for_lock(alloc: Global, rol: &mut Rol) -> Result<bool, AllocError>
+    requires { rol.old.entries ≡ [] }
+{
+    push(alloc, rol, 0, &[REGS_1, BANK])?;
+    push(alloc, rol, 1, &[REGS_2, BANK])?;
+    let waits_at_first = waits(rol) && !rol.all_known();
+    learn(alloc, rol, 0, &[REGS_1, FIRST])?;
+    let is_one_unknown = !rol.all_known();
+    learn(alloc, rol, 1, &[REGS_2, SECOND])?;
+    Ok(waits_at_first && is_one_unknown && rol.all_known() && waits(rol))
+}
+
+// But it waits for the lock.
 #[test]
 fn waits_for_locks(rt: HostRuntime) -> Result<(), Fail> {
     let alloc = rt.alloc();
     let mut rol = Rol::new(alloc);
-    push(alloc, &mut rol, 0, &[REGS_1, BANK])?;
-    push(alloc, &mut rol, 1, &[REGS_2, BANK])?;
-    assert!(rt; rol.runnable(Pos(0)) && !rol.runnable(Pos(1)));
-    assert!(rt; !rol.all_known());
-    learn(alloc, &mut rol, 0, &[REGS_1, FIRST])?;
-    assert!(rt; !rol.all_known());
-    learn(alloc, &mut rol, 1, &[REGS_2, SECOND])?;
-    assert!(rt; rol.all_known());
-    assert!(rt; rol.runnable(Pos(0)) && !rol.runnable(Pos(1)));
-    Ok(())
+    let is_told = waits_for_lock(alloc, &mut rol);
+    drop(rol);
+    passes(is_told)
 }

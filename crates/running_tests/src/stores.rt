@@ -4,6 +4,7 @@ ghost use Rattle.task_ast.specs.meaning.State.{number_at};
 ghost use Rattle.record_store.specs.Stored.{Fits, FitsChild};
 ghost use Rattle.running_tests.specs.Pairs.{IsPair, each_alone};
 
+use crate::outcome::passes;
 use gp_base::{LockNo, RecNo, Room, Seq, ThreadNo};
 use record_store::{Bundle, Effect, History, Store};
 use std::alloc::{AllocError, Global};
@@ -38,10 +39,12 @@ fn fork(alloc: Global) -> Result<Effect, AllocError>
 {
     let mut prints = Seq::new(alloc);
     prints.push(Seq::from_slice(alloc, &[1])?)?;
+    let regs = Seq::from_slice(alloc, &[3])?;
+    let given = Seq::from_slice(alloc, &[4, 2])?;
     Ok(Effect {
         thread: ThreadNo(0),
-        regs: Seq::from_slice(alloc, &[3])?,
-        child: Some((ThreadNo(1), Seq::from_slice(alloc, &[4, 2])?)),
+        regs,
+        child: Some((ThreadNo(1), given)),
         prints,
     })
 }
@@ -75,24 +78,26 @@ fn write(
     let bundles = bundle(alloc, cell, value)?;
     let old = Seq::from_slice(alloc, &[(RecNo(cell), before)])?;
     let held = Seq::from_slice(alloc, &[LockNo(cell)])?;
+    let mut lent = Room::new(alloc);
+    lent.reserve(1)?;
     let effect = Effect {
         thread: ThreadNo(0),
         regs: Seq::new(alloc),
         child: None,
         prints: Seq::new(alloc),
     };
-    let mut lent = Room::new(alloc);
-    lent.reserve(1)?;
     store.lend(&held, &mut lent);
     let (history, _) = store.accept_home(bundles, old, effect);
     Ok(history)
 }
 
 // Whether thread 0 has the register that the fork left it, and thread 1, which it joins, returns 4.
-fn gives_registers(alloc: Global) -> Result<bool, AllocError> {
+fn gives_registers(alloc: Global, store: &mut Store) -> Result<bool, AllocError>
+    requires { IsPair store.old }
+{
     let fork = fork(alloc)?;
-    let mut store = two_cells(alloc)?;
-    let (_, prints) = store.accept_home(Seq::new(alloc), Seq::new(alloc), fork);
+    let (history, prints) = store.accept_home(Seq::new(alloc), Seq::new(alloc), fork);
+    drop(history);
     let (regs, joined) = store.regs_of(alloc, ThreadNo(0), Some(ThreadNo(1)))?;
     Ok(store.len() == 2 && prints.len() == 1 && regs.as_slice() == [3].as_slice() && joined == 4)
 }
@@ -106,11 +111,12 @@ fn is_second(bundles: &[Bundle]) -> bool {
 }
 
 // Whether the second lock is away while its cell is lent, and at home again after that.
-fn lends_cells(alloc: Global) -> Result<bool, AllocError> {
+fn lends_cells(alloc: Global, store: &mut Store) -> Result<bool, AllocError>
+    requires { IsPair store.old }
+{
     let held = Seq::from_slice(alloc, &[LockNo(1)])?;
     let mut lent = Room::new(alloc);
     lent.reserve(1)?;
-    let mut store = two_cells(alloc)?;
     store.lend(&held, &mut lent);
     let is_lent = store.is_home(LockNo(0)) && !store.is_home(LockNo(1));
     let is_second = is_second(lent.as_slice());
@@ -121,15 +127,21 @@ fn lends_cells(alloc: Global) -> Result<bool, AllocError> {
 #[test]
 fn lends_cells_and_gives_registers(rt: HostRuntime) -> Result<(), Fail> {
     let alloc = rt.alloc();
-    assert!(rt; gives_registers(alloc)? && lends_cells(alloc)?);
-    Ok(())
+    let mut store = two_cells(alloc)?;
+    let lends = lends_cells(alloc, &mut store);
+    drop(store);
+    let mut store = two_cells(alloc)?;
+    let gives = gives_registers(alloc, &mut store);
+    drop(store);
+    passes(lends)?;
+    passes(gives)
 }
 
 // Whether the second cell alone keeps its new value.
 fn undoes(alloc: Global) -> Result<bool, AllocError> {
     let mut store = two_cells(alloc)?;
     let first = write(alloc, &mut store, 0, 5, 6)?;
-    let _ = write(alloc, &mut store, 1, 7, 9)?;
+    drop(write(alloc, &mut store, 1, 7, 9)?);
     let third = write(alloc, &mut store, 0, 6, 8)?;
     store.undo(third);
     store.undo(first);
@@ -138,6 +150,5 @@ fn undoes(alloc: Global) -> Result<bool, AllocError> {
 
 #[test]
 fn undoes_what_came_home(rt: HostRuntime) -> Result<(), Fail> {
-    assert!(rt; undoes(rt.alloc())?);
-    Ok(())
+    passes(undoes(rt.alloc()))
 }

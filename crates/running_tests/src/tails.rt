@@ -1,31 +1,35 @@
 // What runs write.
+use crate::outcome::passes;
 use crate::programs::{ADD, EMPTY, accepted};
-use gp_base::{End, Event, Journal, Nums, Pos, Restart, Seq, ThreadNo, Why};
+use gp_base::{End, Event, Journal, Lines, Pos, Restart, Seq, ThreadNo, Why};
 use lock_checker::Checked;
 use reorder_list::Report;
 use restart_log::{plain_tail_text, printed, soak_text, tail_text, trace_text};
 use std::alloc::{AllocError, Global};
 use std::test::Fail;
 
+// A restart at front 8.
+fn restart(alloc: Global, struck: u32, attempt: u32, redo: &[Pos]) -> Result<Restart, AllocError> {
+    let redo = Seq::from_slice(alloc, redo)?;
+    Ok(Restart {
+        front: Pos(8),
+        struck: Pos(struck),
+        attempt,
+        redo,
+    })
+}
+
 // A restart at front 8 that redoes positions 4, 6 and 7, the last of which is struck again at front 8.
 fn restarts(alloc: Global) -> Result<Seq<Restart>, AllocError> {
     let mut restarts = Seq::new(alloc);
-    restarts.push(Restart {
-        front: Pos(8),
-        struck: Pos(4),
-        attempt: 0,
-        redo: Seq::from_slice(alloc, &[Pos(4), Pos(6), Pos(7)])?,
-    })?;
-    restarts.push(Restart {
-        front: Pos(8),
-        struck: Pos(7),
-        attempt: 1,
-        redo: Seq::from_slice(alloc, &[Pos(7)])?,
-    })?;
+    restarts.push(restart(alloc, 4, 0, &[Pos(4), Pos(6), Pos(7)])?)?;
+    restarts.push(restart(alloc, 7, 1, &[Pos(7)])?)?;
     Ok(restarts)
 }
 
-fn report(alloc: Global, records: Nums) -> Result<Report, AllocError> {
+fn report(alloc: Global, records: &[i64]) -> Result<Report, AllocError> {
+    let records = Seq::from_slice(alloc, records)?;
+    let restarts = restarts(alloc)?;
     Ok(Report {
         end: End::Finished,
         records,
@@ -33,17 +37,19 @@ fn report(alloc: Global, records: Nums) -> Result<Report, AllocError> {
         unused: 1,
         journal: Journal {
             events: Seq::new(alloc),
-            restarts: restarts(alloc)?,
+            restarts,
         },
     })
 }
 
 // Whether this is the tail of the two threads that add.
 fn is_tail_of_adders(alloc: Global, add: &Checked) -> Result<bool, AllocError> {
-    let report = report(alloc, Seq::from_slice(alloc, &[7])?)?;
+    let report = report(alloc, &[7])?;
     let want: &[u8] =
         b"records\ntotal: 7\nrestarts\n1: front 8 struck 4 try 0 redo 4 6 7\n2: front 8 struck 7 try 1 redo 7\ncounts\nsubthreads 11\nrestarts 2\nredone 4\nunused 1\n";
-    Ok(tail_text(alloc, add, &report)?.as_slice() == want)
+    let text = tail_text(alloc, add, &report);
+    drop(report);
+    Ok(text?.as_slice() == want)
 }
 
 // Whether a plain run without records that ends so has this tail.
@@ -64,29 +70,17 @@ fn are_plain_tails(alloc: Global, empty: &Checked) -> Result<bool, AllocError> {
         thread: ThreadNo(0),
         line: 23,
     };
-    let rows: [(End, usize, &[u8]); 3] = [
-        (
-            End::Finished,
-            1,
-            b"records\nrestarts\ncounts\nsubthreads 1\nrestarts 0\nredone 0\nunused 0\n",
-        ),
-        (
-            deadlock,
-            8,
-            b"stuck deadlock thread 0 line 23\nrestarts\ncounts\nsubthreads 8\nrestarts 0\nredone 0\nunused 0\n",
-        ),
-        (
-            End::Spent(Pos(10)),
-            10,
-            b"spent 10\nrestarts\ncounts\nsubthreads 10\nrestarts 0\nredone 0\nunused 0\n",
-        ),
-    ];
-    for (end, subthreads, want) in rows {
-        if !is_plain_tail(alloc, empty, end, subthreads, want)? {
-            return Ok(false);
-        }
-    }
-    Ok(true)
+    let finished: &[u8] =
+        b"records\nrestarts\ncounts\nsubthreads 1\nrestarts 0\nredone 0\nunused 0\n";
+    let stuck: &[u8] =
+        b"stuck deadlock thread 0 line 23\nrestarts\ncounts\nsubthreads 8\nrestarts 0\nredone 0\nunused 0\n";
+    let spent: &[u8] =
+        b"spent 10\nrestarts\ncounts\nsubthreads 10\nrestarts 0\nredone 0\nunused 0\n";
+    Ok(
+        is_plain_tail(alloc, empty, End::Finished, 1, finished)?
+            && is_plain_tail(alloc, empty, deadlock, 8, stuck)?
+            && is_plain_tail(alloc, empty, End::Spent(Pos(10)), 10, spent)?,
+    )
 }
 
 #[test]
@@ -95,12 +89,11 @@ fn tails_of_runs(rt: HostRuntime) -> Result<(), Fail> {
     let add = accepted(alloc, ADD)?;
     let is_tail = is_tail_of_adders(alloc, &add);
     drop(add);
-    assert!(rt; is_tail?);
+    passes(is_tail)?;
     let empty = accepted(alloc, EMPTY)?;
     let are_tails = are_plain_tails(alloc, &empty);
     drop(empty);
-    assert!(rt; are_tails?);
-    Ok(())
+    passes(are_tails)
 }
 
 // Whether this is the trace of these events and the two restarts.
@@ -123,30 +116,38 @@ fn traces_of_runs(rt: HostRuntime) -> Result<(), Fail> {
     ];
     let want: &[u8] =
         b"issue 0\npost 0 0\ntake 0 0 applied\ntake 4 2 stale\nrestart 8 4 0 redo 4 6 7\nretire 0\n";
-    assert!(rt; is_traced(rt.alloc(), &events, want)?);
-    Ok(())
+    passes(is_traced(rt.alloc(), &events, want))
+}
+
+// Lines of these numbers.
+fn lines(alloc: Global, numbers: &[&[i64]]) -> Result<Lines, AllocError> {
+    let mut lines = Seq::new(alloc);
+    for line in numbers {
+        lines.push(Seq::from_slice(alloc, line)?)?;
+    }
+    Ok(lines)
 }
 
 // Whether these are the bytes of two lines.
 fn are_lines(alloc: Global) -> Result<bool, AllocError> {
-    let mut lines = Seq::new(alloc);
-    lines.push(Seq::from_slice(alloc, &[0, 0, -3, -1])?)?;
-    lines.push(Seq::from_slice(alloc, &[-9223372036854775808])?)?;
+    let lines = lines(alloc, &[&[0, 0, -3, -1], &[-9223372036854775808]])?;
     let want: &[u8] = b"0 0 -3 -1\n-9223372036854775808\n";
     Ok(printed(alloc, &lines)?.as_slice() == want)
 }
 
 // Whether the summary has a sum that wraps.
 fn is_summary(alloc: Global) -> Result<bool, AllocError> {
-    let report = report(alloc, Seq::from_slice(alloc, &[9223372036854775807, 1])?)?;
+    let report = report(alloc, &[9223372036854775807, 1])?;
     let want: &[u8] =
         b"soak 4 18446744073709551615\nend finished\nsum -9223372036854775808\ncounts\nsubthreads 11\nrestarts 2\nredone 4\nunused 1\n";
-    Ok(soak_text(alloc, 4, 18446744073709551615, &report)?.as_slice() == want)
+    let text = soak_text(alloc, 4, 18446744073709551615, &report);
+    drop(report);
+    Ok(text?.as_slice() == want)
 }
 
 #[test]
 fn lines_and_sums(rt: HostRuntime) -> Result<(), Fail> {
     let alloc = rt.alloc();
-    assert!(rt; are_lines(alloc)? && is_summary(alloc)?);
-    Ok(())
+    passes(are_lines(alloc))?;
+    passes(is_summary(alloc))
 }

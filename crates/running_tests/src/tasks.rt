@@ -7,14 +7,14 @@ ghost use Rattle.subthread.specs.Tasks.{Fits, under_of};
 ghost use Rattle.running_tests.specs.Named.{NamesBelow, FitsWithoutCells};
 
 use crate::named::names_below;
-use crate::programs::accepted;
+use crate::outcome::passes;
+use crate::programs::code_of;
 use gp_base::{At, Feed, LockNo, Nums, Pos, RecNo, Seq, ThreadNo};
 use record_store::{Bundle, Given};
 use std::alloc::{AllocError, Global};
 use std::test::Fail;
 use subthread::{Done, Task, Work, run_task};
 use task_ast::{Next, SyncOp};
-use task_code::lower;
 
 // A thread adds to a total, under its lock.
 const ADD: &[u8] = b"lock tally[1];
@@ -46,7 +46,7 @@ task main() {
 fn work(alloc: Global, text: &[u8], feeds: Seq<Feed>, turns: u64) -> Result<Work, Fail>
     requires { length text.now < 2 ^ 32 }
 {
-    let code = lower(alloc, &accepted(alloc, text)?)?;
+    let code = code_of(alloc, text)?;
     Ok(Work { code, feeds, turns })
 }
 
@@ -82,10 +82,15 @@ fn has_one_cell(work: &Work) -> bool
 fn adding(alloc: Global, mask: i64) -> Result<Task, AllocError>
     ensures { IfOk result (λ task. (work : PlainWork) → under_lock (under_of work) 0 ≡ 0 ∷ [] → NamesBelow 1 work 0 → Fits work task) }
 {
+    let cells = Seq::from_slice(alloc, &[0])?;
     let bundle = Bundle {
         lock: LockNo(0),
-        cells: Seq::from_slice(alloc, &[0])?,
+        cells,
     };
+    let bundles = Seq::from_vec(vec![in alloc; bundle]?);
+    let ctl = Seq::from_slice(alloc, &[3])?;
+    let regs = Seq::from_slice(alloc, &[0, 0])?;
+    let held = Seq::from_slice(alloc, &[LockNo(0)])?;
     Ok(Task {
         pos: Pos(4),
         thread: ThreadNo(1),
@@ -95,14 +100,14 @@ fn adding(alloc: Global, mask: i64) -> Result<Task, AllocError>
             line: 5,
         },
         at: At { task: 0, pc: 0 },
-        ctl: Seq::from_slice(alloc, &[3])?,
+        ctl,
         child: None,
         given: Given {
-            regs: Seq::from_slice(alloc, &[0, 0])?,
+            regs,
             joined: 0,
-            bundles: Seq::from_vec(vec![in alloc; bundle]?),
+            bundles,
         },
-        held: Seq::from_slice(alloc, &[LockNo(0)])?,
+        held,
         mask,
     })
 }
@@ -136,7 +141,9 @@ fn adds(
         return Ok(false);
     }
     let done = run(alloc, work, adding(alloc, mask)?)?;
-    Ok(added(&done, register, total))
+    let is_told = added(&done, register, total);
+    drop(done);
+    Ok(is_told)
 }
 
 #[test]
@@ -146,8 +153,8 @@ fn adds_and_is_damaged(rt: HostRuntime) -> Result<(), Fail> {
     let sound = adds(alloc, &work, 0, 0, 3);
     let damaged = adds(alloc, &work, 1, 1, 2);
     drop(work);
-    assert!(rt; sound? && damaged?);
-    Ok(())
+    passes(sound)?;
+    passes(damaged)
 }
 
 // Thread 0 holds no lock.
@@ -185,12 +192,12 @@ fn free(
 fn starting(alloc: Global) -> Result<Task, AllocError>
     ensures { IfOk result FitsWithoutCells }
 {
+    let ctl = Seq::from_slice(alloc, &[0, 0, 0])?;
+    let regs = Seq::from_slice(alloc, &[0, 0, 0])?;
     let begins = Next {
         sync: SyncOp::Start,
         line: 0,
     };
-    let ctl = Seq::from_slice(alloc, &[0, 0, 0])?;
-    let regs = Seq::from_slice(alloc, &[0, 0, 0])?;
     Ok(free(alloc, begins, At { task: 1, pc: 0 }, ctl, None, regs, 0))
 }
 
@@ -208,6 +215,10 @@ fn is_numbered(sync: &SyncOp) -> bool
 fn next(alloc: Global, done: Done, step: usize) -> Option<Task>
     ensures { IfSome result FitsWithoutCells }
 {
+    if !is_numbered(&done.next.sync) {
+        drop(done);
+        return None;
+    }
     let child = if step == 0 { Some(ThreadNo(1)) } else { None };
     let Done {
         effect,
@@ -216,9 +227,6 @@ fn next(alloc: Global, done: Done, step: usize) -> Option<Task>
         ctl,
         ..
     } = done;
-    if !is_numbered(&next.sync) {
-        return None;
-    }
     Some(free(alloc, next, at, ctl, child, effect.regs, 7))
 }
 
@@ -272,22 +280,33 @@ fn is_right(step: usize, done: &Done) -> bool {
     }
 }
 
+// The subthread after this one, which does what it should; none where it does not.
+fn does(alloc: Global, work: &Work, step: usize, task: Task) -> Result<Option<Task>, AllocError>
+    requires { FitsWithoutCells task }
+    ensures { IfOk result (λ following. IfSome following FitsWithoutCells) }
+{
+    if !names_below(work, task.at.task, 0) {
+        drop(task);
+        return Ok(None);
+    }
+    let done = run(alloc, work, task)?;
+    if !is_right(step, &done) {
+        drop(done);
+        return Ok(None);
+    }
+    Ok(next(alloc, done, step))
+}
+
 // Whether each of four subthreads does what it should.
 fn does_each(alloc: Global, work: &Work) -> Result<bool, AllocError> {
     let mut task = starting(alloc)?;
     for step in 0..4 {
-        if !names_below(work, task.at.task, 0) {
-            return Ok(false);
+        match does(alloc, work, step, task)? {
+            Some(following) => task = following,
+            None => return Ok(false),
         }
-        let done = run(alloc, work, task)?;
-        if !is_right(step, &done) {
-            return Ok(false);
-        }
-        let Some(following) = next(alloc, done, step) else {
-            return Ok(false);
-        };
-        task = following;
     }
+    drop(task);
     Ok(true)
 }
 
@@ -297,18 +316,20 @@ fn does_each_kind_of_statement(rt: HostRuntime) -> Result<(), Fail> {
     let work = kinds(alloc, 2)?;
     let is_told = does_each(alloc, &work);
     drop(work);
-    assert!(rt; is_told?);
-    Ok(())
+    passes(is_told)
 }
 
 // Whether the first subthread ends at its last turn.
 fn spends(alloc: Global, work: &Work) -> Result<bool, AllocError> {
     let task = starting(alloc)?;
     if !names_below(work, task.at.task, 0) {
+        drop(task);
         return Ok(false);
     }
     let done = run(alloc, work, task)?;
-    Ok(matches!(&done.next.sync, SyncOp::Spent) && prints(&done, &[&[0, 6]]))
+    let is_spent = matches!(&done.next.sync, SyncOp::Spent) && prints(&done, &[&[0, 6]]);
+    drop(done);
+    Ok(is_spent)
 }
 
 #[test]
@@ -317,6 +338,5 @@ fn spends_its_turns(rt: HostRuntime) -> Result<(), Fail> {
     let work = kinds(alloc, 1)?;
     let is_spent = spends(alloc, &work);
     drop(work);
-    assert!(rt; is_spent?);
-    Ok(())
+    passes(is_spent)
 }

@@ -1,5 +1,6 @@
 // The first turns of a program that forks: each call once.
 
+use crate::outcome::passes;
 use gp_base::{LockNo, Seq, ThreadNo};
 use std::alloc::{AllocError, Global};
 use std::test::Fail;
@@ -73,44 +74,74 @@ fn knows(ring: &Ring, thread: ThreadNo, is_known: bool) -> bool {
         && ring.awaits(thread).is_none() == is_known
 }
 
+// Whether the next turn needs this thread.
+fn next_needs(ring: &mut Ring, thread: u32) -> Result<bool, AllocError> {
+    ring.reserve()?;
+    let turn = ring.turn();
+    let is_told = needs(&turn, thread);
+    drop(turn);
+    Ok(is_told)
+}
+
+// Whether the next turn begins a subthread of this thread, with this child or none.
+fn next_issues(ring: &mut Ring, thread: u32, child: u32) -> Result<bool, AllocError> {
+    ring.reserve()?;
+    let turn = ring.turn();
+    let is_told = issues(&turn, thread, child);
+    drop(turn);
+    Ok(is_told)
+}
+
+// Whether the next turn tells that this thread settles.
+fn next_settles(ring: &mut Ring, thread: u32) -> Result<bool, AllocError> {
+    ring.reserve()?;
+    let turn = ring.turn();
+    let is_told = settles(&turn, thread);
+    drop(turn);
+    Ok(is_told)
+}
+
+// How many locks a thread holds after it takes the only one.
+fn locks_held(alloc: Global, ring: &Ring, thread: ThreadNo) -> Result<usize, AllocError> {
+    let op = SyncOp::Lock(LockNo(0));
+    let held = ring.held_after(alloc, thread, &op);
+    drop(op);
+    Ok(held?.len())
+}
+
 // Whether the fork is awaited, and then issued, with a second thread.
-fn awaits_a_fork(alloc: Global) -> Result<bool, AllocError> {
+fn awaits_a_fork(alloc: Global, ring: &mut Ring) -> Result<bool, AllocError> {
     let main = ThreadNo(0);
-    let fork = fork(alloc)?;
-    let mut ring = one_thread(alloc)?;
-    ring.reserve()?;
-    let is_begun = issues(&ring.turn(), 0, 0);
-    ring.reserve()?;
-    let is_awaited = needs(&ring.turn(), 0) && knows(&ring, main, false);
+    let is_begun = next_issues(ring, 0, 0)?;
+    let is_awaited = next_needs(ring, 0)? && knows(ring, main, false);
     if ring.len() == 0 {
         return Ok(false);
     }
-    ring.learn(main, fork);
-    let is_known = knows(&ring, main, true);
-    ring.reserve()?;
-    let is_issued = issues(&ring.turn(), 0, 1);
-    let held = ring.held_after(alloc, main, &SyncOp::Lock(LockNo(0)))?;
-    Ok(is_begun && is_awaited && is_known && is_issued && ring.len() == 2 && held.len() == 1)
+    ring.learn(main, fork(alloc)?);
+    let is_known = knows(ring, main, true);
+    let is_issued = next_issues(ring, 0, 1)?;
+    let held = locks_held(alloc, ring, main)?;
+    Ok(is_begun && is_awaited && is_known && is_issued && ring.len() == 2 && held == 1)
 }
 
 #[test]
 fn a_fork_is_awaited_and_issued(rt: HostRuntime) -> Result<(), Fail> {
-    assert!(rt; awaits_a_fork(rt.alloc())?);
-    Ok(())
+    let alloc = rt.alloc();
+    let mut ring = one_thread(alloc)?;
+    let is_told = awaits_a_fork(alloc, &mut ring);
+    drop(ring);
+    passes(is_told)
 }
 
 // Whether the thread begins, and then settles at each turn until that is let.
 fn settles_until_let(ring: &mut Ring) -> Result<bool, AllocError> {
-    ring.reserve()?;
-    let is_begun = issues(&ring.turn(), 0, 0);
+    let is_begun = next_issues(ring, 0, 0)?;
     if ring.len() == 0 {
         return Ok(false);
     }
     ring.learn(ThreadNo(0), settle());
-    ring.reserve()?;
-    let is_told = settles(&ring.turn(), 0);
-    ring.reserve()?;
-    let is_told_again = settles(&ring.turn(), 0);
+    let is_told = next_settles(ring, 0)?;
+    let is_told_again = next_settles(ring, 0)?;
     ring.clear();
     Ok(is_begun && is_told && is_told_again)
 }
@@ -121,6 +152,6 @@ fn a_settle_is_told_until_it_is_let(rt: HostRuntime) -> Result<(), Fail> {
     let first = settles_until_let(&mut ring);
     let second = settles_until_let(&mut ring);
     drop(ring);
-    assert!(rt; first? && second?);
-    Ok(())
+    passes(first)?;
+    passes(second)
 }
