@@ -105,15 +105,27 @@ fn claims(board: &StealBoard<Number>, pass: &mut StealPass<Number>, desk: u32) -
     }
 }
 
+// Whether the first desk has a run from the first claim on, and no second claim.
+fn is_claimed_once(
+    board: &StealBoard<Number>,
+    pass: &mut StealPass<Number>,
+    clerk: &mut StealClerk<Number>,
+) -> bool
+    requires of { IsPassOf board.now pass.old × IsClerkOf board.now clerk.old }
+{
+    if board.count() == 0 {
+        return false;
+    }
+    let is_early = board.look(clerk, 0);
+    let is_claimed = claims(board, pass, 0);
+    let is_claimed_again = claims(board, pass, 0);
+    !is_early && is_claimed && !is_claimed_again && board.look(clerk, 0)
+}
+
 #[test]
 fn a_desk_is_claimed_once(rt: HostRuntime) -> Result<(), Fail> {
     let (board, mut pass, mut clerk) = board_of(rt.alloc(), 1)?;
-    if board.count() == 0 {
-        return Ok(());
-    }
-    assert!(rt; !board.look(&mut clerk, 0));
-    assert!(rt; claims(&board, &mut pass, 0));
-    assert!(rt; !claims(&board, &mut pass, 0));
-    assert!(rt; board.look(&mut clerk, 0));
+    let is_told = is_claimed_once(&board, &mut pass, &mut clerk);
+    assert!(rt; is_told);
     Ok(())
 }
