@@ -8,7 +8,10 @@ fn elements_go_into_the_room(rt: HostRuntime) -> Result<(), Fail> {
     room.reserve(2)?;
     room.push(5);
     room.push(7);
-    assert_eq!(rt; room.len(), 2);
-    assert_eq!(rt; room.into_seq().as_slice(), [5, 7].as_slice());
+    let length = room.len();
+    let elements = room.into_seq();
+    let is_told = length == 2 && elements.as_slice() == [5, 7].as_slice();
+    drop(elements);
+    assert!(rt; is_told);
     Ok(())
 }
