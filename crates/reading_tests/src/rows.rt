@@ -85,56 +85,73 @@ fn is_bad<T: Drop>(answer: Result<T, FileFault>, wanted: FileKind, number: u32) 
     }
 }
 
-fn records(alloc: Global, file: &[u8]) -> Result<Result<Nums, FileFault>, AllocError> {
-    Ok(read_records(alloc, &Text::from_slice(alloc, file)?, 3))
+fn records(alloc: Global, file: &[u8]) -> Result<Nums, FileFault> {
+    read_records(alloc, &Text::from_slice(alloc, file)?, 3)
 }
 
-fn feed(alloc: Global, file: &[u8]) -> Result<Result<Feed, FileFault>, AllocError> {
-    Ok(read_feed(alloc, &Text::from_slice(alloc, file)?, 2, 5))
+fn feed(alloc: Global, file: &[u8]) -> Result<Feed, FileFault> {
+    read_feed(alloc, &Text::from_slice(alloc, file)?, 2, 5)
 }
 
-fn faults(alloc: Global, file: &[u8]) -> Result<Result<Faults, FileFault>, AllocError> {
-    Ok(read_faults(alloc, &Text::from_slice(alloc, file)?))
+fn faults(alloc: Global, file: &[u8]) -> Result<Faults, FileFault> {
+    read_faults(alloc, &Text::from_slice(alloc, file)?)
 }
 
 #[test]
-fn names_the_first_broken_row(rt: HostRuntime) -> Result<(), Fail> {
+fn names_the_first_broken_row(rt: HostRuntime) {
     let alloc = rt.alloc();
     for (file, kind, row) in &RECORDS {
-        assert!(rt; is_bad(records(alloc, file)?, *kind, *row));
+        assert!(rt; is_bad(records(alloc, file), *kind, *row));
     }
     for (file, kind, row) in &FEEDS {
-        assert!(rt; is_bad(feed(alloc, file)?, *kind, *row));
+        assert!(rt; is_bad(feed(alloc, file), *kind, *row));
     }
     for (file, kind, row) in &FAULTS {
-        assert!(rt; is_bad(faults(alloc, file)?, *kind, *row));
+        assert!(rt; is_bad(faults(alloc, file), *kind, *row));
     }
-    Ok(())
+}
+
+// Whether the answer is these cells.
+fn are_cells(answer: Result<Nums, FileFault>, wanted: &[i64]) -> bool {
+    match answer {
+        Ok(cells) => cells.as_slice() == wanted,
+        Err(_) => false,
+    }
+}
+
+// Whether the answer is a feed with so many fields and these cells.
+fn is_feed(answer: Result<Feed, FileFault>, fields: u32, wanted: &[i64]) -> bool {
+    match answer {
+        Ok(feed) => feed.fields == fields && feed.cells.as_slice() == wanted,
+        Err(_) => false,
+    }
+}
+
+// Whether the answer is two faults, of which this is the first.
+fn are_faults(answer: Result<Faults, FileFault>, first: Fault) -> bool {
+    match answer {
+        Ok(faults) => faults.list.len() == 2 && faults.as_slice()[0] == first,
+        Err(_) => false,
+    }
 }
 
 #[test]
-fn reads_values(rt: HostRuntime) -> Result<(), Fail> {
+fn reads_values(rt: HostRuntime) {
     let alloc = rt.alloc();
     let file = b"\xef\xbb\xbf2,\"-0\"\r\n\r\n0,-9223372036854775808\r\n1,09223372036854775807";
-    let cells = records(alloc, file)?.expect(&rt, "cells");
-    let none = records(alloc, b"")?.expect(&rt, "no rows");
-    assert!(rt; none.as_slice() == [0, 0, 0].as_slice());
     let wanted = [-9223372036854775808, 9223372036854775807, 0];
-    assert!(rt; cells.as_slice() == wanted.as_slice());
-
-    let rows = feed(alloc, b"1,2\n3,-4")?.expect(&rt, "feed");
-    assert!(rt; rows.fields == 2 && rows.cells.as_slice() == [1, 2, 3, -4].as_slice());
+    assert!(rt; are_cells(records(alloc, file), &wanted));
+    assert!(rt; are_cells(records(alloc, b""), &[0, 0, 0]));
+    assert!(rt; is_feed(feed(alloc, b"1,2\n3,-4"), 2, &[1, 2, 3, -4]));
 
     let file = b"4294967295,4294967295,64,-1\n0,0,0,1\n";
-    let struck = faults(alloc, file)?.expect(&rt, "faults");
-    let wanted = Fault {
+    let first = Fault {
         pos: 4294967295,
         attempt: 4294967295,
         delay: 64,
         mask: -1,
     };
-    assert!(rt; struck.list.len() == 2 && struck.as_slice()[0] == wanted);
-    Ok(())
+    assert!(rt; are_faults(faults(alloc, file), first));
 }
 
 // A file of this many faults, at the positions from 0.
@@ -151,10 +168,10 @@ fn many(alloc: Global, count: u32) -> Result<String, AllocError> {
 fn counts_faults(rt: HostRuntime) -> Result<(), Fail> {
     let alloc = rt.alloc();
     let mut file = many(alloc, 1000)?;
-    assert!(rt; faults(alloc, file.as_bytes())?.is_ok());
+    assert!(rt; faults(alloc, file.as_bytes()).is_ok());
     file.push_str("5,0,0,1\n")?;
-    assert!(rt; is_bad(faults(alloc, file.as_bytes())?, Twice, 1001));
+    assert!(rt; is_bad(faults(alloc, file.as_bytes()), Twice, 1001));
     let file = many(alloc, 1001)?;
-    assert!(rt; is_bad(faults(alloc, file.as_bytes())?, TooMany, 1001));
+    assert!(rt; is_bad(faults(alloc, file.as_bytes()), TooMany, 1001));
     Ok(())
 }
