@@ -4,183 +4,163 @@ use std::process::Abort;
 use std::test::Fail;
 use task_parser::{Kind, LexFault, Token, lex};
 
-const fn token(kind: Kind, from: u32, to: u32, line: u32) -> Token {
-    Token {
-        kind,
-        from,
-        to,
-        line,
+// The kind of a token, from where to where it stands, and its line.
+type Placed = (Kind, u32, u32, u32);
+
+// Whether the tokens are these.
+fn are(tokens: &[Token], want: &[Placed]) -> bool {
+    for (token, (kind, from, to, line)) in tokens.iter().zip(want) {
+        let is_told = token.kind == *kind && token.from == *from && token.to == *to;
+        if !is_told || token.line != *line {
+            return false;
+        }
     }
+    tokens.len() == want.len()
 }
 
-fn gives(rt: &impl Abort, alloc: Global, text: &[u8], want: &[Token]) {
+fn gives(rt: &impl Abort, alloc: Global, text: &[u8], want: &[Placed]) {
     match lex(alloc, text) {
-        Ok(tokens) => assert_eq!(rt; tokens.as_slice(), want, "in {text:?}"),
+        Ok(tokens) => {
+            let tokens = tokens.as_slice();
+            assert!(rt; are(tokens, want), "{tokens:?} in {text:?}");
+        }
         Err(fault) => assert!(rt; false, "{fault:?} in {text:?}"),
     }
 }
 
-fn stops(rt: &impl Abort, alloc: Global, text: &[u8], want: LexFault) {
+fn fault_of(alloc: Global, text: &[u8]) -> Option<LexFault> {
     match lex(alloc, text) {
-        Ok(_) => assert!(rt; false, "no fault in {text:?}"),
-        Err(fault) => assert_eq!(rt; fault, want, "in {text:?}"),
+        Ok(_) => None,
+        Err(fault) => Some(fault),
     }
 }
+
+fn stops(rt: &impl Abort, alloc: Global, text: &[u8], want: LexFault) {
+    assert_eq!(rt; fault_of(alloc, text), Some(want), "in {text:?}");
+}
+
+const WORDS: [&[u8]; 25] = [
+    b"lock", b"unlock", b"barrier", b"record", b"by", b"from", b"feed", b"task", b"var", b"while",
+    b"if", b"else", b"fork", b"into", b"join", b"read", b"write", b"print", b"when", b"and", b"or",
+    b"not", b"self", b"rows", b"settle",
+];
+
+const MARKS: [&[u8]; 20] = [
+    b"[", b"]", b"(", b")", b"{", b"}", b",", b";", b"=", b"==", b"!=", b"<", b"<=", b">", b">=",
+    b"+", b"-", b"*", b"/", b"%",
+];
 
 #[test]
 fn words_and_marks_in_order(rt: HostRuntime) {
-    let words: [&[u8]; 25] = [
-        b"lock", b"unlock", b"barrier", b"record", b"by", b"from", b"feed", b"task", b"var",
-        b"while", b"if", b"else", b"fork", b"into", b"join", b"read", b"write", b"print", b"when",
-        b"and", b"or", b"not", b"self", b"rows", b"settle",
-    ];
-    for (number, word) in words.iter().enumerate() {
-        gives(
-            &rt,
-            rt.alloc(),
-            word,
-            &[token(Kind::Word(number as u8), 0, word.len() as u32, 1)],
-        );
+    for (number, word) in WORDS.iter().enumerate() {
+        let kind = Kind::Word(number as u8);
+        gives(&rt, rt.alloc(), word, &[(kind, 0, word.len() as u32, 1)]);
     }
-    let marks: [&[u8]; 20] = [
-        b"[", b"]", b"(", b")", b"{", b"}", b",", b";", b"=", b"==", b"!=", b"<", b"<=", b">",
-        b">=", b"+", b"-", b"*", b"/", b"%",
-    ];
-    for (number, mark) in marks.iter().enumerate() {
-        gives(
-            &rt,
-            rt.alloc(),
-            mark,
-            &[token(Kind::Mark(number as u8), 0, mark.len() as u32, 1)],
-        );
+    for (number, mark) in MARKS.iter().enumerate() {
+        let kind = Kind::Mark(number as u8);
+        gives(&rt, rt.alloc(), mark, &[(kind, 0, mark.len() as u32, 1)]);
     }
 }
+
+const TEXTS: [(&[u8], &[Placed]); 12] = [
+    (b"", &[]),
+    (b" \t\r\n", &[]),
+    (b"# \xff\"!$", &[]),
+    (b"a#b\nc", &[(Kind::Name, 0, 1, 1), (Kind::Name, 4, 5, 2)]),
+    (
+        b"9223372036854775807",
+        &[(Kind::Num(9223372036854775807), 0, 19, 1)],
+    ),
+    (b"00000000000000000000042", &[(Kind::Num(42), 0, 23, 1)]),
+    (b"12ab", &[(Kind::Num(12), 0, 2, 1), (Kind::Name, 2, 4, 1)]),
+    (
+        b"_a9Z while_ While",
+        &[
+            (Kind::Name, 0, 4, 1),
+            (Kind::Name, 5, 11, 1),
+            (Kind::Name, 12, 17, 1),
+        ],
+    ),
+    (
+        b"$x$_9 $task",
+        &[
+            (Kind::Reg, 0, 2, 1),
+            (Kind::Reg, 2, 5, 1),
+            (Kind::Reg, 6, 11, 1),
+        ],
+    ),
+    (
+        b"\"\"\"a #!$~\"",
+        &[(Kind::Quoted, 0, 2, 1), (Kind::Quoted, 2, 10, 1)],
+    ),
+    (
+        b"<=<==!====-1",
+        &[
+            (Kind::Mark(12), 0, 2, 1),
+            (Kind::Mark(12), 2, 4, 1),
+            (Kind::Mark(8), 4, 5, 1),
+            (Kind::Mark(10), 5, 7, 1),
+            (Kind::Mark(9), 7, 9, 1),
+            (Kind::Mark(8), 9, 10, 1),
+            (Kind::Mark(16), 10, 11, 1),
+            (Kind::Num(1), 11, 12, 1),
+        ],
+    ),
+    (
+        b"< =\n\n> =",
+        &[
+            (Kind::Mark(11), 0, 1, 1),
+            (Kind::Mark(8), 2, 3, 1),
+            (Kind::Mark(13), 5, 6, 3),
+            (Kind::Mark(8), 7, 8, 3),
+        ],
+    ),
+];
 
 #[test]
 fn tokens_of_texts(rt: HostRuntime) {
-    let alloc = rt.alloc();
-    gives(&rt, alloc, b"", &[]);
-    gives(&rt, alloc, b" \t\r\n", &[]);
-    gives(&rt, alloc, b"# \xff\"!$", &[]);
-    gives(
-        &rt,
-        alloc,
-        b"a#b\nc",
-        &[token(Kind::Name, 0, 1, 1), token(Kind::Name, 4, 5, 2)],
-    );
-    gives(
-        &rt,
-        alloc,
-        b"9223372036854775807",
-        &[token(Kind::Num(9223372036854775807), 0, 19, 1)],
-    );
-    gives(
-        &rt,
-        alloc,
-        b"00000000000000000000042",
-        &[token(Kind::Num(42), 0, 23, 1)],
-    );
-    gives(
-        &rt,
-        alloc,
-        b"12ab",
-        &[token(Kind::Num(12), 0, 2, 1), token(Kind::Name, 2, 4, 1)],
-    );
-    gives(
-        &rt,
-        alloc,
-        b"_a9Z while_ While",
-        &[
-            token(Kind::Name, 0, 4, 1),
-            token(Kind::Name, 5, 11, 1),
-            token(Kind::Name, 12, 17, 1),
-        ],
-    );
-    gives(
-        &rt,
-        alloc,
-        b"$x$_9 $task",
-        &[
-            token(Kind::Reg, 0, 2, 1),
-            token(Kind::Reg, 2, 5, 1),
-            token(Kind::Reg, 6, 11, 1),
-        ],
-    );
-    gives(
-        &rt,
-        alloc,
-        b"\"\"\"a #!$~\"",
-        &[token(Kind::Quoted, 0, 2, 1), token(Kind::Quoted, 2, 10, 1)],
-    );
-    gives(
-        &rt,
-        alloc,
-        b"<=<==!====-1",
-        &[
-            token(Kind::Mark(12), 0, 2, 1),
-            token(Kind::Mark(12), 2, 4, 1),
-            token(Kind::Mark(8), 4, 5, 1),
-            token(Kind::Mark(10), 5, 7, 1),
-            token(Kind::Mark(9), 7, 9, 1),
-            token(Kind::Mark(8), 9, 10, 1),
-            token(Kind::Mark(16), 10, 11, 1),
-            token(Kind::Num(1), 11, 12, 1),
-        ],
-    );
-    gives(
-        &rt,
-        alloc,
-        b"< =\n\n> =",
-        &[
-            token(Kind::Mark(11), 0, 1, 1),
-            token(Kind::Mark(8), 2, 3, 1),
-            token(Kind::Mark(13), 5, 6, 3),
-            token(Kind::Mark(8), 7, 8, 3),
-        ],
-    );
+    for (text, want) in &TEXTS {
+        gives(&rt, rt.alloc(), text, want);
+    }
 }
+
+const FAULTS: [(&[u8], LexFault); 15] = [
+    (
+        b"task main() { print 9223372036854775808; }",
+        LexFault::NumberTooBig(20),
+    ),
+    (b"task main() { print 1 ! 2; }", LexFault::BadByte(23)),
+    (b"x !", LexFault::BadByte(3)),
+    (b"x $", LexFault::BadByte(3)),
+    (b"$9", LexFault::BadByte(1)),
+    (b"$ x", LexFault::BadByte(1)),
+    (b"\"abc", LexFault::BadByte(4)),
+    (b"\"", LexFault::BadByte(1)),
+    (b"\"ab\x7f\"", LexFault::BadByte(3)),
+    (b"\"a\x1f\"", LexFault::BadByte(2)),
+    (b"\"a\nb\"", LexFault::BadByte(2)),
+    (b"a\x80", LexFault::BadByte(1)),
+    (b"# \x80\n\x80", LexFault::BadByte(4)),
+    (b"a.b 9223372036854775808", LexFault::BadByte(1)),
+    (b"99999999999999999999 .", LexFault::NumberTooBig(0)),
+];
 
 #[test]
 fn first_faults_of_texts(rt: HostRuntime) {
-    let alloc = rt.alloc();
-    stops(
-        &rt,
-        alloc,
-        b"task main() { print 9223372036854775808; }",
-        LexFault::NumberTooBig(20),
-    );
-    stops(
-        &rt,
-        alloc,
-        b"task main() { print 1 ! 2; }",
-        LexFault::BadByte(23),
-    );
-    stops(&rt, alloc, b"x !", LexFault::BadByte(3));
-    stops(&rt, alloc, b"x $", LexFault::BadByte(3));
-    stops(&rt, alloc, b"$9", LexFault::BadByte(1));
-    stops(&rt, alloc, b"$ x", LexFault::BadByte(1));
-    stops(&rt, alloc, b"\"abc", LexFault::BadByte(4));
-    stops(&rt, alloc, b"\"", LexFault::BadByte(1));
-    stops(&rt, alloc, b"\"ab\x7f\"", LexFault::BadByte(3));
-    stops(&rt, alloc, b"\"a\x1f\"", LexFault::BadByte(2));
-    stops(&rt, alloc, b"\"a\nb\"", LexFault::BadByte(2));
-    stops(&rt, alloc, b"a\x80", LexFault::BadByte(1));
-    stops(&rt, alloc, b"# \x80\n\x80", LexFault::BadByte(4));
-    stops(&rt, alloc, b"a.b 9223372036854775808", LexFault::BadByte(1));
-    stops(
-        &rt,
-        alloc,
-        b"99999999999999999999 .",
-        LexFault::NumberTooBig(0),
-    );
+    for (text, want) in &FAULTS {
+        stops(&rt, rt.alloc(), text, *want);
+    }
 }
 
 #[test]
 fn longest_texts(rt: HostRuntime) -> Result<(), Fail> {
     let alloc = rt.alloc();
-    let most = vec![in alloc; b' '; 1048576]?;
-    gives(&rt, alloc, &most, &[]);
-    let more = vec![in alloc; b'!'; 1048577]?;
-    stops(&rt, alloc, &more, LexFault::TooLong);
+    gives(&rt, alloc, &vec![in alloc; b' '; 1048576]?, &[]);
+    stops(
+        &rt,
+        alloc,
+        &vec![in alloc; b'!'; 1048577]?,
+        LexFault::TooLong,
+    );
     Ok(())
 }
