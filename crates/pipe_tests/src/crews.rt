@@ -1,5 +1,5 @@
 // A crew of lasting threads, with tasks of a program that does nothing.
-ghost use Rattle.std.specs.Prelude.{◌≡◌, [], IsTrue, IfOk};
+ghost use Rattle.std.specs.Prelude.{◌≡◌, [], ◌∷◌, ◌++◌, Contains, IsTrue, IfOk, OnOk};
 ghost use Rattle.task_code.specs.Flat.{code_of};
 ghost use Rattle.task_code.specs.Reading.{instrs_of};
 ghost use Rattle.subthread.specs.declared.task.Work.{Work as PlainWork};
@@ -15,7 +15,7 @@ use std::sync::atomic::{AtomicU64, Ordering};
 use std::sync::{Arc, Wait};
 use std::test::Fail;
 use std::thread::{Threads, yield_now};
-use subthread::{Task, Work};
+use subthread::{Done, Task, Work};
 use task_ast::{Next, SyncOp};
 use task_code::lower;
 use task_parser::{lex, parse};
@@ -28,8 +28,10 @@ fn idle_work(alloc: Global) -> Result<Arc<Work>, Fail> {
     let tokens = lex(alloc, text)?;
     let program = parse(alloc, text, &tokens)?;
     let checked = check(alloc, program)?;
+    let code = lower(alloc, &checked);
+    drop(checked);
     let work = Work {
-        code: lower(alloc, &checked)?,
+        code: code?,
         feeds: Seq::new(alloc),
         turns: 1,
     };
@@ -46,6 +48,7 @@ fn is_idle(work: &Work) -> bool
 
 // An attempt of the program's only subthread.
 fn start(alloc: Global, attempt: u32) -> Result<Task, AllocError>
+    ensures pos { IfOk result (λ task. task.pos ≡ 0) }
     ensures attempt { IfOk result (λ task. task.attempt ≡ attempt) }
     ensures fits { IfOk result (λ task. (work : PlainWork) → instrs_of (code_of work.code).tasks 0 ≡ [] → Fits work task) }
 {
@@ -71,15 +74,41 @@ fn start(alloc: Global, attempt: u32) -> Result<Task, AllocError>
     })
 }
 
+// The attempt whose run is handed back.
+fn attempt_of(done: &Option<Done>) -> Option<u32> {
+    match done {
+        Some(done) => Some(done.task.attempt),
+        None => None,
+    }
+}
+
 // The attempt that comes back next, or `None` where none is out.
 fn attempt_back<C: Crew, R: Threads + Sync>(rt: &R, crew: &mut C) -> Result<Option<u32>, AllocError>
     requires ready { C.ready crew.old }
     ensures ready { C.ready crew.new }
 {
-    match crew.next(rt)? {
-        Some(done) => Ok(Some(done.task.attempt)),
-        None => Ok(None),
-    }
+    let done = crew.next(rt)?;
+    let attempt = attempt_of(&done);
+    drop(done);
+    Ok(attempt)
+}
+
+// Posts an attempt.
+fn post<C: Crew, R: Threads + Sync>(
+    rt: &R,
+    alloc: Global,
+    crew: &mut C,
+    attempt: u32,
+) -> Result<(), AllocError>
+    requires ready { C.ready crew.old }
+    requires fresh { ¬ Contains (C.posted crew.old) (0, attempt) }
+    requires idle { instrs_of (code_of (C.work crew.old).code).tasks 0 ≡ [] }
+    ensures ready { C.ready crew.new }
+    ensures work { C.work crew.new ≡ C.work crew.old }
+    ensures posted { OnOk result (C.posted crew.new ≡ C.posted crew.old ++ (0, attempt) ∷ []) }
+{
+    crew.post(rt, start(alloc, attempt)?)?;
+    Ok(())
 }
 
 // Which attempts come back first and second after attempts 0, 1 and 2 were posted. The third stays out.
@@ -92,9 +121,9 @@ fn two_of_three<C: Crew, R: Threads + Sync>(
     requires posted { C.posted crew.old ≡ [] }
     requires idle { instrs_of (code_of (C.work crew.old).code).tasks 0 ≡ [] }
 {
-    crew.post(rt, start(alloc, 0)?)?;
-    crew.post(rt, start(alloc, 1)?)?;
-    crew.post(rt, start(alloc, 2)?)?;
+    post(rt, alloc, crew, 0)?;
+    post(rt, alloc, crew, 1)?;
+    post(rt, alloc, crew, 2)?;
     let first = attempt_back(rt, crew)?;
     let second = attempt_back(rt, crew)?;
     Ok((first, second))
