@@ -3,7 +3,7 @@ use Rattle.std.proofs.lemmas.List.{map-append}
 use Rattle.std.proofs.lemmas.List.Elements.{All-push}
 use Rattle.gp_steal.specs.Held.{about, book}
 use Rattle.gp_steal.specs.Told.{EachOnce, IsWhole}
-use Rattle.desk_board.proofs.Collecting.{taken_more}
+use Rattle.desk_board.proofs.Collecting.{taken_more, not_taken}
 use Rattle.subthread.specs.Tasks.{IsRun}
 use Rattle.steal_crew.proofs.Claimed.{length_once, take-more}
 use Rattle.steal_crew.proofs.boards.collect.Goals as goal
@@ -28,3 +28,9 @@ loop-desk-preserved c =
           λ _. length_once (length jobs) _ (subst (λ h. EachOnce (length jobs) h.claimed) was.same
           (c.look.ensures.all_claimed (subst (IsWhole (length jobs)) (sym was.same) c.requires.whole)));
     }
+
+pub collect-requires-clause-first : goal.collect-requires-clause-first
+collect-requires-clause-first c κs =
+    let desk : ℕ = c.loop-desk.desk in
+    not_taken desk _
+    (subst (λ (l : List ℕ). All (λ d. d < desk) l) (sym (ap (λ b. b.taken) c.look.ensures.book.3)) c.loop-desk.invariant.taken)
