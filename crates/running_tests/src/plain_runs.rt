@@ -88,10 +88,14 @@ fn ends_by_its_limits(rt: HostRuntime) -> Result<(), Fail> {
 
 // Whether the steps read and write these.
 fn touch(steps: &[Step], touched: &[(&[Loc], &[Loc])]) -> bool {
+    for (step, (reads, writes)) in steps.iter().zip(touched) {
+        let is_told = step.foot.reads.as_slice() == *reads
+            && step.foot.writes.as_slice() == *writes;
+        if !is_told {
+            return false;
+        }
+    }
     steps.len() == touched.len()
-        && steps.iter().zip(touched).all(|(step, (reads, writes))| {
-            step.foot.reads.as_slice() == *reads && step.foot.writes.as_slice() == *writes
-        })
 }
 
 // Whether the steps of the two adders read and write what they should.

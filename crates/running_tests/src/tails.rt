@@ -1,7 +1,7 @@
 // What runs write.
 use crate::outcome::passes;
 use crate::programs::{ADD, EMPTY, accepted};
-use gp_base::{End, Event, Journal, Lines, Pos, Restart, Seq, ThreadNo, Why};
+use gp_base::{End, Event, Journal, Lines, Pos, Restart, Seq, Text, ThreadNo, Why};
 use lock_checker::Checked;
 use reorder_list::Report;
 use restart_log::{plain_tail_text, printed, soak_text, tail_text, trace_text};
@@ -42,6 +42,11 @@ fn report(alloc: Global, records: &[i64]) -> Result<Report, AllocError> {
     })
 }
 
+// Whether a text is the one that is wanted.
+fn is_text(text: Result<Text, AllocError>, want: &[u8]) -> Result<bool, AllocError> {
+    Ok(text?.as_slice() == want)
+}
+
 // Whether this is the tail of the two threads that add.
 fn is_tail_of_adders(alloc: Global, add: &Checked) -> Result<bool, AllocError> {
     let report = report(alloc, &[7])?;
@@ -49,7 +54,7 @@ fn is_tail_of_adders(alloc: Global, add: &Checked) -> Result<bool, AllocError> {
         b"records\ntotal: 7\nrestarts\n1: front 8 struck 4 try 0 redo 4 6 7\n2: front 8 struck 7 try 1 redo 7\ncounts\nsubthreads 11\nrestarts 2\nredone 4\nunused 1\n";
     let text = tail_text(alloc, add, &report);
     drop(report);
-    Ok(text?.as_slice() == want)
+    is_text(text, want)
 }
 
 // Whether a plain run without records that ends so has this tail.
@@ -60,7 +65,7 @@ fn is_plain_tail(
     subthreads: usize,
     want: &[u8],
 ) -> Result<bool, AllocError> {
-    Ok(plain_tail_text(alloc, empty, end, &[], subthreads)?.as_slice() == want)
+    is_text(plain_tail_text(alloc, empty, end, &[], subthreads), want)
 }
 
 // Whether each of three ends has its tail.
@@ -101,7 +106,9 @@ fn is_traced(alloc: Global, events: &[Event], want: &[u8]) -> Result<bool, Alloc
     let events = Seq::from_slice(alloc, events)?;
     let restarts = restarts(alloc)?;
     let journal = Journal { events, restarts };
-    Ok(trace_text(alloc, &journal)?.as_slice() == want)
+    let text = trace_text(alloc, &journal);
+    drop(journal);
+    is_text(text, want)
 }
 
 #[test]
@@ -142,7 +149,7 @@ fn is_summary(alloc: Global) -> Result<bool, AllocError> {
         b"soak 4 18446744073709551615\nend finished\nsum -9223372036854775808\ncounts\nsubthreads 11\nrestarts 2\nredone 4\nunused 1\n";
     let text = soak_text(alloc, 4, 18446744073709551615, &report);
     drop(report);
-    Ok(text?.as_slice() == want)
+    is_text(text, want)
 }
 
 #[test]

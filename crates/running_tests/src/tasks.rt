@@ -114,12 +114,11 @@ fn adding(alloc: Global, mask: i64) -> Result<Task, AllocError>
 
 // The total was 0 and is this now.
 fn has_total(done: &Done, total: i64) -> bool {
-    let bundles = done.task.given.bundles.as_slice();
-    done.old.as_slice() == [(RecNo(0), 0)].as_slice()
-        && bundles.len() == 1
-        && bundles
-            .iter()
-            .all(|bundle| bundle.cells.as_slice() == [total].as_slice())
+    let is_home = match done.task.given.bundles.as_slice() {
+        [bundle] => bundle.cells.as_slice() == [total].as_slice(),
+        _ => false,
+    };
+    is_home && done.old.as_slice() == [(RecNo(0), 0)].as_slice()
 }
 
 fn added(done: &Done, register: i64, total: i64) -> bool {
@@ -239,7 +238,12 @@ fn kinds(alloc: Global, turns: u64) -> Result<Work, Fail> {
 
 fn prints(done: &Done, lines: &[&[i64]]) -> bool {
     let prints = done.effect.prints.as_slice();
-    prints.len() == lines.len() && prints.iter().zip(lines).all(|(a, b)| a.as_slice() == *b)
+    for (line, want) in prints.iter().zip(lines) {
+        if line.as_slice() != *want {
+            return false;
+        }
+    }
+    prints.len() == lines.len()
 }
 
 fn is_numbers(numbers: &Nums, want: [i64; 3]) -> bool {
