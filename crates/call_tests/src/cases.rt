@@ -83,12 +83,12 @@ fn put(
     alloc: Global,
     files: &mut Seq<(Name, Text)>,
     name: &[u8],
-    text: &str,
+    text: &[u8],
 ) -> Result<(), AllocError>
-    ensures { OnOk result (files.new ≡ files.old ++ (name.now, text.now.bytes) ∷ []) }
+    ensures { OnOk result (files.new ≡ files.old ++ (name.now, text.now) ∷ []) }
 {
     let name = Name::from_slice(alloc, name)?;
-    let text = Text::from_slice(alloc, text.as_bytes())?;
+    let text = Text::from_slice(alloc, text)?;
     files.push((name, text))
 }
 
@@ -97,10 +97,10 @@ pub fn files_of(alloc: Global, case: &Case<'_>) -> Result<Seq<(Name, Text)>, All
     ensures { IfOk result HasDistinctNames }
 {
     let mut files = Seq::new(alloc);
-    put(alloc, &mut files, b"p.gp", case.program)?;
-    put(alloc, &mut files, b"acct.csv", case.acct)?;
-    put(alloc, &mut files, b"moves.csv", case.moves)?;
-    put(alloc, &mut files, b"f.csv", case.faults)?;
-    put(alloc, &mut files, b"t.txt", case.trace)?;
+    put(alloc, &mut files, b"p.gp", case.program.as_bytes())?;
+    put(alloc, &mut files, b"acct.csv", case.acct.as_bytes())?;
+    put(alloc, &mut files, b"moves.csv", case.moves.as_bytes())?;
+    put(alloc, &mut files, b"f.csv", case.faults.as_bytes())?;
+    put(alloc, &mut files, b"t.txt", case.trace.as_bytes())?;
     Ok(files)
 }

@@ -26,10 +26,10 @@ pub struct Run<'a> {
 
 // The text that the run writes.
 fn text_of(alloc: Global, run: &Run<'_>) -> Result<String, AllocError> {
-    let (told, restarts) = (run.told, run.restarts);
-    let [subthreads, made, redone, unused] = run.counts;
+    let (told, rows) = (run.told, run.restarts);
+    let [issued, made, redone, unused] = run.counts;
     format!(in alloc;
-        "output\n{told}restarts\n{restarts}counts\nsubthreads {subthreads}\nrestarts {made}\nredone {redone}\nunused {unused}\n"
+        "output\n{told}restarts\n{rows}counts\nsubthreads {issued}\nrestarts {made}\nredone {redone}\nunused {unused}\n"
     )
 }
 

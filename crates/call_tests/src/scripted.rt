@@ -8,7 +8,7 @@ use batch_calls::plan::{Begins, plan_of};
 use call_cases::{read_request, runs};
 use crew::{Crew, ScriptCrew};
 use engine::{EngineStop, Report, drive};
-use gp_base::{Event, MemShelf, MemSink, Pos, Seq};
+use gp_base::{Event, MemShelf, MemSink, Nums, Pos, Seq};
 use std::alloc::{AllocError, AllocFailed, Global};
 use std::test::Fail;
 use std::thread::Threads;
@@ -73,9 +73,16 @@ fn plan_of_adders(alloc: Global, faults: &str) -> Result<(Work, Begins), Fail>
     drop(words);
     drop(shelf);
     let request = match read {
-        Ok(request) if runs(request.asked.command) => request,
-        _ => return Err(Fail::from("the program was not read")),
+        Ok(request) => request,
+        Err(refusal) => {
+            drop(refusal);
+            return Err(Fail::from("the program was not read"));
+        }
     };
+    if !runs(request.asked.command) {
+        drop(request);
+        return Err(Fail::from("the program is not to be run"));
+    }
     let (work, plan) = plan_of(alloc, request)?;
     Ok((work, plan.begins))
 }
@@ -92,6 +99,31 @@ fn reported(
     }
 }
 
+// The report of the run by a crew that hands its tasks back in the order of these numbers.
+fn ran_by_script<R: Threads + Sync + AllocGlobal>(
+    rt: &R,
+    work: &Work,
+    begins: Begins,
+    choice: Nums,
+) -> Result<Box<Report>, Fail>
+    requires { Suits work.now begins.layout begins.inputs begins.limits }
+{
+    let alloc = rt.alloc();
+    let Begins {
+        layout,
+        inputs,
+        faults,
+        limits,
+        ..
+    } = begins;
+    let mut out = MemSink::new(alloc, 1000, Seq::new(alloc));
+    let mut crew = ScriptCrew::new(alloc, work, choice);
+    let ran = drive(
+        rt, alloc, work, layout, inputs, faults, limits, &mut crew, &mut out,
+    );
+    reported(alloc, ran, &out)
+}
+
 /// The report of the run that these faults strike, by a crew that hands its tasks back in the order of these numbers.
 /// It writes nothing.
 pub fn ran_in_order<R: Threads + Sync + AllocGlobal>(
@@ -101,20 +133,10 @@ pub fn ran_in_order<R: Threads + Sync + AllocGlobal>(
 ) -> Result<Box<Report>, Fail> {
     let alloc = rt.alloc();
     let choice = Seq::from_slice(alloc, order)?;
-    let mut out = MemSink::new(alloc, 1000, Seq::new(alloc));
     let (work, begins) = plan_of_adders(alloc, faults)?;
-    let Begins {
-        layout,
-        inputs,
-        faults,
-        limits,
-        ..
-    } = begins;
-    let mut crew = ScriptCrew::new(alloc, &work, choice);
-    let ran = drive(
-        rt, alloc, &work, layout, inputs, faults, limits, &mut crew, &mut out,
-    );
-    reported(alloc, ran, &out)
+    let ran = ran_by_script(rt, &work, begins, choice);
+    drop(work);
+    ran
 }
 
 // How many positions retired, where they did so in order.
@@ -141,12 +163,17 @@ fn is_of_adders(report: &Report, posts: u64, noted: &[(Pos, i64)]) -> bool {
         && retired_in_order(report.journal.events.as_slice()) == Some(11)
 }
 
-#[test]
-fn a_scripted_order_posts_each_task_once(rt: HostRuntime) -> Result<(), Fail> {
+// Whether each task of the two threads is posted once, by a crew that hands its tasks back in the order of these
+// numbers.
+fn posts_once<R: Threads + Sync + AllocGlobal>(
+    rt: &R,
+    work: &Work,
+    begins: Begins,
+    choice: Nums,
+) -> bool
+    requires { Suits work.now begins.layout begins.inputs begins.limits }
+{
     let alloc = rt.alloc();
-    let choice = Seq::from_slice(alloc, &[1, 0].repeat(alloc, 10)?)?;
-    let mut out = MemSink::new(alloc, 1000, Seq::new(alloc));
-    let (work, begins) = plan_of_adders(alloc, "")?;
     let Begins {
         layout,
         inputs,
@@ -154,18 +181,33 @@ fn a_scripted_order_posts_each_task_once(rt: HostRuntime) -> Result<(), Fail> {
         limits,
         ..
     } = begins;
+    let mut out = MemSink::new(alloc, 1000, Seq::new(alloc));
     let mut crew = Noting {
-        crew: ScriptCrew::new(alloc, &work, choice),
+        crew: ScriptCrew::new(alloc, work, choice),
         noted: Vec::new(alloc),
     };
     let ran = drive(
-        &rt, alloc, &work, layout, inputs, faults, limits, &mut crew, &mut out,
+        rt, alloc, work, layout, inputs, faults, limits, &mut crew, &mut out,
     );
-    let is_told = match ran {
+    match ran {
         Ok(report) => is_of_adders(&report, crew.crew.posts(), crew.noted.as_slice()),
         Err(_) => false,
-    };
-    assert!(rt; is_told);
+    }
+}
+
+// The same for the run of the two threads that no fault strikes.
+fn posts_each_once<R: Threads + Sync + AllocGlobal>(rt: &R) -> Result<bool, Fail> {
+    let alloc = rt.alloc();
+    let choice = Seq::from_slice(alloc, &[1, 0].repeat(alloc, 10)?)?;
+    let (work, begins) = plan_of_adders(alloc, "")?;
+    let is_told = posts_once(rt, &work, begins, choice);
+    drop(work);
+    Ok(is_told)
+}
+
+#[test]
+fn a_scripted_order_posts_each_task_once(rt: HostRuntime) -> Result<(), Fail> {
+    assert!(rt; posts_each_once(&rt)?);
     Ok(())
 }
 

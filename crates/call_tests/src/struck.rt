@@ -96,6 +96,9 @@ const STRUCK: Run<'static> = Run {
     counts: [11, 1, 3, 0],
 };
 
+const THRICE: &str =
+    "1: front 6 struck 4 try 0 redo 4\n2: front 7 struck 4 try 1 redo 4 6\n3: front 8 struck 4 try 2 redo 4 6 7\n";
+
 static REDONE: [Run<'static>; 10] = [
     STRUCK,
     Run {
@@ -121,7 +124,7 @@ static REDONE: [Run<'static>; 10] = [
             faults: "4,0,1,9\n4,1,1,9\n4,2,1,9\n",
             ..ADDS
         },
-        restarts: "1: front 6 struck 4 try 0 redo 4\n2: front 7 struck 4 try 1 redo 4 6\n3: front 8 struck 4 try 2 redo 4 6 7\n",
+        restarts: THRICE,
         counts: [11, 3, 6, 0],
         ..STRUCK
     },
