@@ -30,13 +30,14 @@ use Rattle.task_ast.proofs.WholeFolds.{undamaged}
 use Rattle.task_code.specs.Reading.{Place}
 use Rattle.task_code.specs.Relation.{Rests}
 use Rattle.record_store.specs.declared.given.Bundle.{Bundle}
-use Rattle.record_store.specs.Given.{given_of, joined_by, found_of, bundle_of}
+use Rattle.task_ast.specs.SyncOps.{joined_by}
+use Rattle.record_store.specs.Given.{given_of, found_of, bundle_of}
 use Rattle.record_store.specs.Lent.{marked, lock_in, put_back, whole_effect, MayComeHome}
 use Rattle.record_store.specs.Stored.{Stored, state_of, FitsChild, IsAtHome}
 use Rattle.record_store.proofs.Givens.{given_law}
 use Rattle.subthread.specs.declared.task.Task.{Task}
 use Rattle.subthread.specs.declared.task.Done.{Done}
-use Rattle.subthread.specs.Footprints.{IsNumbered}
+use Rattle.task_ast.specs.SyncOps.{IsNumbered}
 use Rattle.subthread.specs.Tasks.{program_in, machine_of, under_of, task_of, effect_of, place_of, place_left, body_from, actions_from, IsRun, Fits}
 use Rattle.subthread.proofs.Among.{same_locks_back}
 use Rattle.subthread.proofs.HeldLocks.{owned_below, owned_increasing, bundle_locks, bundle_sizes}

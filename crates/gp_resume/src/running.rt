@@ -5,7 +5,7 @@ ghost use Rattle.std.specs.List.Sorted.{IsStrictlyIncreasing};
 ghost use Rattle.task_ast.specs.meaning.Plain.{Plain, Subthread};
 ghost use Rattle.record_store.specs.Lent.{marked, MayComeHome};
 ghost use Rattle.record_store.specs.Stored.{FitsChild, IsAtHome};
-ghost use Rattle.subthread.specs.Footprints.{IsNumbered};
+ghost use Rattle.task_ast.specs.SyncOps.{IsNumbered};
 ghost use Rattle.subthread.specs.Tasks.{Fits, IsRun, task_of};
 ghost use Rattle.crew.specs.Out.{pair_of};
 ghost use Rattle.gp_resume.specs.inner.Course.{IsSuited, IsBegun, Stands, Begins};
@@ -17,14 +17,14 @@ use gp_base::{Lines, Seq};
 use record_store::{Given, Store};
 use std::alloc::{AllocError, Global};
 use std::thread::Threads;
-use subthread::{Done, Task, joined_by, lend, room_for};
+use subthread::{Done, Task, lend, room_for};
 
 // The task of the subthread that begins, which has no cells yet.
 fn bare_task(alloc: Global, store: &Store, begun: Begun) -> Result<Task, AllocError>
     requires numbered { IsNumbered begun.begins.sync }
     ensures { IfOk result (λ task. task ≡ bare_task store.now begun) }
 {
-    let joined = joined_by(&begun.begins.sync);
+    let joined = begun.begins.sync.joined_by();
     let (regs, joined) = store.regs_of(alloc, begun.thread, joined)?;
     let bundles = Seq::new(alloc);
     let Begun {

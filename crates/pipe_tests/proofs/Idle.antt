@@ -16,7 +16,7 @@ use Rattle.task_code.specs.Reading.{Place, code_body, code_size, code_step, inst
 use Rattle.task_code.proofs.CodeSizes.{code_sized}
 use Rattle.subthread.specs.declared.task.Work.{Work}
 use Rattle.subthread.specs.declared.task.Task.{Task}
-use Rattle.subthread.specs.Footprints.{IsNumbered}
+use Rattle.task_ast.specs.SyncOps.{IsNumbered}
 use Rattle.subthread.specs.Tasks.{actions_from, place_of, under_of, Fits}
 
 -- it does nothing

@@ -17,7 +17,8 @@ use Rattle.dependence.specs.meaning.Dependents.{is_member}
 use Rattle.dependence.proofs.DependentSets.{is_member-is}
 use Rattle.dependence.proofs.Keeping.{under-writes, joined_same}
 use Rattle.dependence.proofs.Struck.{Contains-head, Contains-later}
-use Rattle.record_store.specs.Given.{joined_by, joined_value, bundle_of, value_beside, value_in}
+use Rattle.task_ast.specs.SyncOps.{joined_by}
+use Rattle.record_store.specs.Given.{joined_value, bundle_of, value_beside, value_in}
 use Rattle.record_store.specs.Laws.{GivenLaw, SameGivenLaw}
 
 -- the value joined is `$ret` of the thread that the synchronisation joins

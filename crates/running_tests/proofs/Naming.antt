@@ -21,7 +21,7 @@ use Rattle.task_code.specs.Reading.{CalcEnv, Place, begin_actions, calc_term, ca
 use Rattle.task_code.specs.Flat.{code_of}
 use Rattle.subthread.specs.declared.task.Work.{Work}
 use Rattle.subthread.specs.declared.task.Task.{Task}
-use Rattle.subthread.specs.Footprints.{IsNumbered}
+use Rattle.task_ast.specs.SyncOps.{IsNumbered}
 use Rattle.subthread.specs.Tasks.{actions_from, place_of, under_of, Fits}
 use Rattle.task_ast.specs.meaning.Under.{under_lock, is_under}
 use Rattle.record_store.specs.declared.given.Bundle.{Bundle}

@@ -2,7 +2,7 @@
 ghost use Rattle.std.specs.Prelude.{◌≡◌, ◌<◌, ◌^◌, [], ◌∷◌, IsTrue, IfOk, IfSome, length};
 ghost use Rattle.task_ast.specs.meaning.Under.{under_lock};
 ghost use Rattle.subthread.specs.declared.task.Work.{Work as PlainWork};
-ghost use Rattle.subthread.specs.Footprints.{IsNumbered};
+ghost use Rattle.task_ast.specs.SyncOps.{IsNumbered};
 ghost use Rattle.subthread.specs.Tasks.{Fits, under_of};
 ghost use Rattle.running_tests.specs.Named.{NamesBelow, FitsWithoutCells};
 

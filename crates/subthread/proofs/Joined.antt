@@ -15,7 +15,8 @@ use Rattle.task_ast.specs.meaning.Position.{before}
 use Rattle.task_ast.specs.Position.{body_at, IsStep, from_in}
 use Rattle.task_ast.proofs.Positions.{step_is}
 use Rattle.lock_checker.proofs.LocksHeld.{sound}
-use Rattle.record_store.specs.Given.{given_of, joined_by, found_of}
+use Rattle.task_ast.specs.SyncOps.{joined_by}
+use Rattle.record_store.specs.Given.{given_of, found_of}
 use Rattle.record_store.proofs.Givens.{given_law}
 use Rattle.task_code.specs.Reading.{Place, code_machine}
 use Rattle.task_code.proofs.Machines.{follows as follows_code}

@@ -9,7 +9,8 @@ use Rattle.task_ast.specs.Damage.{damaged}
 use Rattle.task_ast.specs.meaning.Plain.{Subthread, foot_of, order}
 use Rattle.task_ast.specs.meaning.Position.{before}
 use Rattle.task_ast.specs.Position.{from_in, body_at}
-use Rattle.record_store.specs.Given.{given_of, joined_by, found_of}
+use Rattle.task_ast.specs.SyncOps.{joined_by}
+use Rattle.record_store.specs.Given.{given_of, found_of}
 use Rattle.task_code.specs.Relation.{Rests}
 use Rattle.subthread.specs.declared.task.Work.{Work}
 use Rattle.subthread.specs.declared.task.Task.{Task}

@@ -4,7 +4,7 @@ ghost use Rattle.task_ast.specs.meaning.Control.{all_of};
 ghost use Rattle.task_code.specs.Instructions.{At as PlainAt};
 ghost use Rattle.task_code.specs.Reading.{begin_actions, behind, code_begins, code_first, fork_arguments, gift_action, passed};
 ghost use Rattle.task_code.specs.View.{plain_calc, plain_does, plain_forking, plain_gifts, plain_instrs};
-ghost use Rattle.subthread.specs.inner.Running.{env_in, place_in, doing_of, after_all, is_start, tasks_in, IsTask, StaysInside, Performs, AllPerform, Begun};
+ghost use Rattle.subthread.specs.inner.Running.{env_in, place_in, doing_of, after_all, tasks_in, IsTask, StaysInside, Performs, AllPerform, Begun};
 
 use crate::ground::{Doing, Ground, Stand};
 use crate::numbers::{set_number, zeros};
@@ -170,13 +170,6 @@ fn begin_at(
     Ok(())
 }
 
-// Whether a thread starts.
-fn is_start(begins: &SyncOp) -> bool
-    ensures { result ≡ is_start begins.now }
-{
-    matches!(begins, SyncOp::Start)
-}
-
 /// Performs the synchronisation with which a run begins, and stands after it: the data arguments of a fork go into the
 /// registers of its child, whose number goes into the variable that takes it; the value that a joined thread returns
 /// goes into the register that takes it.
@@ -192,7 +185,7 @@ pub fn begin(
     ensures begun { OnOk result (Begun ground.now (code_first (tasks_in ground.now) ground.now.feeds.now begins.now (place_in ground.now stand.old)) (code_begins (tasks_in ground.now) begins.now child (place_in ground.now stand.old)) (place_in ground.now stand.new) (doing_of doing.old) (doing_of doing.new)) }
     ensures cells { doing.new.cells ≡ doing.old.cells }
 {
-    if is_start(begins) {
+    if begins.is_start() {
         return Ok(());
     }
     if stand.pc < ground.instrs.len() {
@@ -214,7 +207,7 @@ pub fn begin_control(begins: &SyncOp, ground: &Ground, child: Option<ThreadNo>, 
     requires { IsTask ground.now }
     ensures { place_in ground.now stand.new ≡ code_begins (tasks_in ground.now) begins.now child (place_in ground.now stand.old) }
 {
-    if is_start(begins) {
+    if begins.is_start() {
         return;
     }
     if stand.pc < ground.instrs.len() {

@@ -2,28 +2,14 @@
 
 ghost use Rattle.std.specs.Prelude.{◌≡◌, ◌≤◌, true, [], length, All, IfOk};
 ghost use Rattle.std.specs.List.Sorted.{IsStrictlyIncreasing};
-ghost use Rattle.record_store.specs.Given.{joined_by};
 ghost use Rattle.record_store.specs.Lent.{marked};
 ghost use Rattle.record_store.specs.Stored.{IsAtHome};
-ghost use Rattle.subthread.specs.Footprints.{IsNumbered};
 ghost use Rattle.subthread.specs.Lending.{lent_by};
 
 use crate::task::Task;
-use gp_base::{Room, ThreadNo};
+use gp_base::Room;
 use record_store::{Bundle, Store};
 use std::alloc::{AllocError, Global};
-use task_ast::SyncOp;
-
-/// The thread that a synchronisation joins.
-pub fn joined_by(begins: &SyncOp) -> Option<ThreadNo>
-    requires numbered { IsNumbered begins.now }
-    ensures { result ≡ joined_by begins.now }
-{
-    match begins {
-        SyncOp::Join(thread) if *thread >= 0 => Some(ThreadNo(*thread as u32)),
-        _ => None,
-    }
-}
 
 /// Room for the cells of so many locks. The error is that memory is out.
 pub fn room_for(alloc: Global, locks: usize) -> Result<Room<Bundle>, AllocError>

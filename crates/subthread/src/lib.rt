@@ -23,7 +23,7 @@ mod walk;
 
 pub use control::control_of;
 pub use footprints::lock_footprint;
-pub use lending::{joined_by, lend, room_for};
+pub use lending::{lend, room_for};
 pub use run::{run_counted, run_task};
 pub use setting::set_cells;
 pub use task::{Done, Task, Work};

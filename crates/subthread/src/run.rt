@@ -7,7 +7,7 @@ ghost use Rattle.task_ast.specs.Damage.{damaged};
 ghost use Rattle.task_ast.specs.meaning.Under.{under_lock, is_under};
 ghost use Rattle.record_store.specs.Lent.{lock_in, put_back, whole_effect};
 ghost use Rattle.record_store.specs.declared.given.Bundle.{Bundle as BundleThere};
-ghost use Rattle.subthread.specs.Footprints.{IsNumbered};
+ghost use Rattle.task_ast.specs.SyncOps.{IsNumbered};
 ghost use Rattle.subthread.specs.Tasks.{with_bundles, under_of, task_of, Fits, IsRun};
 ghost use Rattle.subthread.specs.inner.Running.{doing_of, Holds, IsTask, AreAtHand};
 ghost use Rattle.subthread.specs.inner.Leaving.{IsGroundOf, Walked, actions_at, effect_in, EndsAs};

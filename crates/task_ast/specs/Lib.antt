@@ -13,6 +13,7 @@ pub mod Position
 pub mod Reached
 pub mod Repeat
 pub mod Shaped
+pub mod SyncOps
 pub mod Table
 pub mod Under
 pub mod View

@@ -18,7 +18,7 @@ pub use check_kind::CheckKind;
 pub use effect::Effect;
 pub use env::Env;
 pub use eval::{eval_c, eval_d};
-pub use layout::Layout;
+pub use layout::{Layout, natural};
 pub use operate::{apply, negate};
 pub use sync::{Next, SyncOp};
 pub use tree::{Atom, Expr, Head, Op, Param, Program, Stmt, TaskText, VarLine, What};

@@ -1,8 +1,12 @@
 // What begins a subthread and ends the one before it.
 
-ghost use Rattle.std.specs.Prelude.{◌≡◌, IfOk};
+ghost use Rattle.std.specs.Prelude.{◌≡◌, ◌≤◌, IfOk};
+ghost use Rattle.gp_base.specs.declared.limits.TheConstants.{MOST_THREADS};
+ghost use Rattle.task_ast.specs.SyncOps.{is_start, names_thread, joined_by, IsNumbered};
+ghost use Rattle.task_ast.specs.meaning.Table.{is_end, is_settle};
+ghost use Rattle.task_ast.specs.meaning.Turn.{child_of};
 
-use gp_base::{LockNo, Nums, RecNo, Seq};
+use gp_base::{LockNo, Nums, RecNo, Seq, ThreadNo};
 use std::alloc::{AllocError, Global};
 
 /// A synchronisation with its cells and control values looked up, or how a thread's last subthread ended: at the end
@@ -44,6 +48,63 @@ impl SyncOp {
             SyncOp::BadIndex => SyncOp::BadIndex,
             SyncOp::Spent => SyncOp::Spent,
         })
+    }
+
+    /// Whether a thread starts with it.
+    pub fn is_start(&self) -> bool
+        ensures { result ≡ is_start self.now }
+    {
+        matches!(self, SyncOp::Start)
+    }
+
+    /// Whether a thread ends with it.
+    pub fn is_end(&self) -> bool
+        ensures { result ≡ is_end self.now }
+    {
+        matches!(self, SyncOp::End)
+    }
+
+    /// Whether it is a settle.
+    pub fn is_settle(&self) -> bool
+        ensures { result ≡ is_settle self.now }
+    {
+        matches!(self, SyncOp::Settle { .. })
+    }
+
+    /// The number of the thread that it forks, where there are so many before it.
+    pub fn child_of(&self, threads: usize) -> Option<ThreadNo>
+        requires { threads ≤ MOST_THREADS }
+        ensures { result ≡ child_of self.now threads }
+    {
+        match self {
+            SyncOp::Fork { .. } => Some(ThreadNo(threads as u32)),
+            _ => None,
+        }
+    }
+
+    /// Whether it is no join of a thread that isn't there, where there are so many.
+    pub fn names_thread(&self, threads: usize) -> bool
+        requires { threads ≤ MOST_THREADS }
+        ensures { result ≡ names_thread self.now threads }
+    {
+        match self {
+            SyncOp::Join(thread) => {
+                let thread = *thread;
+                thread >= 0 && thread.unsigned_abs() < threads as u64
+            }
+            _ => true,
+        }
+    }
+
+    /// The thread that it joins, where it is a join of a thread that can be there.
+    pub fn joined_by(&self) -> Option<ThreadNo>
+        requires { IsNumbered self.now }
+        ensures { result ≡ joined_by self.now }
+    {
+        match self {
+            SyncOp::Join(thread) if *thread >= 0 => Some(ThreadNo(*thread as u32)),
+            _ => None,
+        }
     }
 }
 

@@ -41,7 +41,7 @@ use Rattle.dependence.specs.RunBuffer.{RunStands}
 use Rattle.rollback.specs.States.{HeldStands}
 use Rattle.gp_base.specs.Reserved.{Reserved}
 use Rattle.token_order.specs.View.{Roomy}
-use Rattle.subthread.specs.Footprints.{IsNumbered}
+use Rattle.task_ast.specs.SyncOps.{names_thread, IsNumbered}
 use Rattle.whole_run.specs.declared.parts.Parts.{Parts}
 use Rattle.whole_run.specs.declared.parts.Place.{Place}
 use Rattle.whole_run.specs.declared.calls.Halt.{Halt}
@@ -58,7 +58,7 @@ use Rattle.whole_run.specs.Gives.{Did, IsAwaited, TurnsTo, TurnsToSettle}
 use Rattle.whole_run.specs.inner.RingStands.{StartIs, places_after, point_before, plain_before, from_before}
 use Rattle.task_ast.specs.meaning.State.{State, RegistersOf, number_at}
 use Rattle.whole_run.specs.inner.Kept.{stage_of, view_of, IsPlaceIn, IsPlaced, IsHome, WindowStands, Keeps, Kept}
-use Rattle.whole_run.specs.inner.Prepared.{PreparedFor, IsPrepared, IsReadyFor, IsPushed, SameParts, IsSlotted, names_thread, new_entry, settled_place, settled_in}
+use Rattle.whole_run.specs.inner.Prepared.{PreparedFor, IsPrepared, IsReadyFor, IsPushed, SameParts, IsSlotted, new_entry, settled_place, settled_in}
 use Rattle.whole_run.proofs.Options.{some_none, none_some, some_same}
 use Rattle.whole_run.proofs.RingIssues.{same_run, ring_passed, ring_needs, ring_ends, ring_issued, told, begun, below, may_issue}
 use Rattle.whole_run.proofs.Histories.{histories-fit}

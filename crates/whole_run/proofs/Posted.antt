@@ -31,7 +31,8 @@ use Rattle.dependence.specs.Standing.{present, StageStands}
 use Rattle.dependence.specs.RunBuffer.{members_at}
 use Rattle.dependence.proofs.Posting.{post-by-locks, run-within}
 use Rattle.rollback.specs.meaning.Cuts.{cuts_of, rolling_of}
-use Rattle.record_store.specs.Given.{given_of, joined_by}
+use Rattle.task_ast.specs.SyncOps.{joined_by}
+use Rattle.record_store.specs.Given.{given_of}
 use Rattle.record_store.specs.Lent.{marked}
 use Rattle.record_store.specs.Stored.{Stored, state_of, IsAtHome}
 use Rattle.reorder_list.specs.declared.entry.Entry.{Entry}
@@ -42,7 +43,7 @@ use Rattle.reorder_list.proofs.Changes.{all-there, position-of}
 use Rattle.reorder_list.proofs.Staged.{is-runnable}
 use Rattle.subthread.specs.Lending.{lent_by}
 use Rattle.subthread.specs.declared.task.Task.{Task}
-use Rattle.subthread.specs.Footprints.{IsNumbered}
+use Rattle.task_ast.specs.SyncOps.{IsNumbered}
 use Rattle.subthread.specs.Tasks.{Fits, place_of}
 use Rattle.subthread.specs.Joining.{IsTaskOf, IsGiven}
 use Rattle.subthread.proofs.Fitted.{fits_law}

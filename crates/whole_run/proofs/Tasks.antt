@@ -31,7 +31,8 @@ use Rattle.dependence.proofs.Struck.{Contains-head, Contains-later}
 use Rattle.rollback.specs.meaning.Cuts.{cuts_of, rolling_of}
 use Rattle.rollback.specs.States.{held_after}
 use Rattle.rollback.proofs.States.{happens-held, held-finds}
-use Rattle.record_store.specs.Given.{given_of, joined_by, joined_value, bundle_of}
+use Rattle.task_ast.specs.SyncOps.{joined_by}
+use Rattle.record_store.specs.Given.{given_of, joined_value, bundle_of}
 use Rattle.record_store.proofs.Givens.{joined_is}
 use Rattle.subthread.specs.declared.task.Task.{Task}
 use Rattle.whole_run.specs.declared.recovery.Recovery.{Recovery}

@@ -40,7 +40,8 @@ use Rattle.dependence.specs.Removal.{undone_part}
 use Rattle.dependence.specs.RunBuffer.{members_at}
 use Rattle.dependence.proofs.Keeping.{laid_law}
 use Rattle.lock_checker.proofs.LocksHeld.{sound}
-use Rattle.record_store.specs.Given.{given_of, joined_by, found_of}
+use Rattle.task_ast.specs.SyncOps.{joined_by}
+use Rattle.record_store.specs.Given.{given_of, found_of}
 use Rattle.record_store.specs.Lent.{marked}
 use Rattle.record_store.specs.Stored.{Stored, state_of, Fits, SameShape, IsAllHome}
 use Rattle.record_store.specs.Laws.{IsWithin}

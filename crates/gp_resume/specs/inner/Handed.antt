@@ -3,7 +3,8 @@ use Rattle.std.specs.Prelude.{◌≡◌, pos, false, [], map, slice_set}
 use Rattle.task_ast.specs.meaning.State.{RegistersOf}
 use Rattle.task_ast.specs.meaning.Effect.{after}
 use Rattle.task_ast.specs.meaning.Table.{learning}
-use Rattle.record_store.specs.Given.{joined_by, joined_value}
+use Rattle.task_ast.specs.SyncOps.{joined_by}
+use Rattle.record_store.specs.Given.{joined_value}
 use Rattle.record_store.specs.Lent.{lock_in, marked, whole_effect}
 use Rattle.record_store.specs.Stored.{Stored, state_of, SameShape}
 use Rattle.subthread.specs.declared.task.Task.{Task}

@@ -3,7 +3,8 @@ use Rattle.std.specs.Prelude.{ℕ, List, []}
 use Rattle.gp_base.specs.declared.fault.Fault.{Fault}
 use Rattle.task_ast.specs.meaning.State.{RegistersOf}
 use Rattle.dependence.specs.Restarts.{mask_of}
-use Rattle.record_store.specs.Given.{joined_by, joined_value}
+use Rattle.task_ast.specs.SyncOps.{joined_by}
+use Rattle.record_store.specs.Given.{joined_value}
 use Rattle.record_store.specs.Stored.{Stored, state_of}
 use Rattle.reorder_list.specs.declared.entry.Entry.{Entry}
 use Rattle.subthread.specs.declared.task.Task.{Task}

@@ -6,6 +6,7 @@ use Rattle.task_ast.specs.declared.sync.SyncOp.{SyncOp}
 use Rattle.task_ast.specs.declared.sync.SyncOp.TheVariants as sync
 use Rattle.task_ast.specs.declared.sync.Next.{Next}
 use Rattle.task_ast.specs.Footprint.{lock_footprint}
+use Rattle.task_ast.specs.SyncOps.{names_thread}
 use Rattle.task_ast.specs.meaning.Table.{Table, owned_from}
 use Rattle.task_ast.specs.meaning.Turn.{owners_after, child_of, turns_left}
 use Rattle.task_ast.specs.laws.Threads.{ahead}
@@ -20,12 +21,6 @@ use Rattle.whole_run.specs.View.{Batch}
 use Rattle.whole_run.specs.Gives.{IssueGives}
 use Rattle.whole_run.specs.inner.Kept.{view_of, IsPlaceIn, Kept}
 use Rattle.whole_run.specs.inner.RingStands.{StartIs, places_after}
-
--- whether it is no join of a thread that isn't below n
-abbrev pub names_thread : SyncOp → (n : ℕ) → Bool
-names_thread (sync.Join (pos h)) n = nat_lt h n
-names_thread (sync.Join (negsuc h)) n = false
-names_thread _ n = true
 
 -- a place in which a settle has set its variable to the value that the state has
 abbrev pub settled_place : SyncOp → State → (thread : ℕ) → Place → Place

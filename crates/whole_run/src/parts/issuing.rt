@@ -2,9 +2,8 @@
 
 ghost use Rattle.std.specs.Prelude.{◌≡◌, ◌<◌, ◌≤◌, ◌+◌, ◌^◌, true, false, length, IfOk, OnOk, OnErr};
 ghost use Rattle.gp_base.specs.declared.limits.TheConstants.{MOST_THREADS};
-ghost use Rattle.task_ast.specs.meaning.Turn.{child_of};
 ghost use Rattle.dependence.specs.meaning.Restarts.{NoneDue};
-ghost use Rattle.subthread.specs.Footprints.{IsNumbered};
+ghost use Rattle.task_ast.specs.SyncOps.{IsNumbered};
 ghost use Rattle.reorder_list.specs.Entries.{ComesNext};
 ghost use Rattle.token_order.specs.Turned.{Turned};
 ghost use Rattle.record_store.specs.Stored.{state_of};
@@ -12,7 +11,7 @@ ghost use Rattle.whole_run.specs.View.{now};
 ghost use Rattle.whole_run.specs.Gives.{IssueGives};
 ghost use Rattle.whole_run.specs.inner.RingStands.{StartIs};
 ghost use Rattle.whole_run.specs.inner.Kept.{batch_in, view_of, IsPlaceIn, Kept};
-ghost use Rattle.whole_run.specs.inner.Prepared.{settled_in, names_thread, forks, new_entry, PreparedFor, IsPrepared, IsReadyFor, IsPushed, IsSlotted, SameParts, HasRoom, TurnGives};
+ghost use Rattle.whole_run.specs.inner.Prepared.{settled_in, forks, new_entry, PreparedFor, IsPrepared, IsReadyFor, IsPushed, IsSlotted, SameParts, HasRoom, TurnGives};
 
 use crate::parts::{Parts, Place, Plan};
 use crate::{Halt, Issued};
@@ -31,31 +30,6 @@ pub struct Prepared {
     pub held: Seq<LockNo>,
     pub locks: Footprint,
     pub start: Option<Place>,
-}
-
-/// Whether it is no join of a thread that isn't there.
-fn names_thread(sync: &SyncOp, threads: usize) -> bool
-    requires { threads ≤ MOST_THREADS }
-    ensures { result ≡ names_thread sync.now threads }
-{
-    match sync {
-        SyncOp::Join(h) => {
-            let h = *h;
-            h >= 0 && h.unsigned_abs() < threads as u64
-        }
-        _ => true,
-    }
-}
-
-/// The child of a fork.
-fn child_of(sync: &SyncOp, threads: usize) -> Option<ThreadNo>
-    requires { threads ≤ MOST_THREADS }
-    ensures { result ≡ child_of sync.now threads }
-{
-    match sync {
-        SyncOp::Fork { task: _, args: _ } => Some(ThreadNo(threads as u32)),
-        _ => None,
-    }
 }
 
 /// Whether a child starts.
@@ -104,7 +78,7 @@ fn prepare_for(
     let threads = parts.places.len();
     let place = parts.places[thread.0 as usize].copied(alloc)?;
     let held = parts.ring.held_after(alloc, thread, &begins.sync)?;
-    let child = child_of(&begins.sync, threads);
+    let child = begins.sync.child_of(threads);
     let locks = lock_footprint(alloc, begins, thread, child, &held)?;
     let start = start_of(alloc, plan, &begins.sync, threads)?;
     Ok(Prepared {
@@ -127,7 +101,7 @@ fn prepare(alloc: Global, plan: &Plan, parts: &Parts) -> Result<Option<Prepared>
     let Some(begins) = parts.ring.next_of(thread) else {
         return Ok(None);
     };
-    if !names_thread(&begins.sync, parts.places.len()) {
+    if !begins.sync.names_thread(parts.places.len()) {
         return Ok(None);
     }
     let prepared = prepare_for(alloc, plan, parts, thread, begins)?;

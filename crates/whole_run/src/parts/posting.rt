@@ -10,7 +10,7 @@ ghost use Rattle.record_store.specs.Lent.{lock_in, marked, AreAsLent};
 ghost use Rattle.record_store.specs.Stored.{IsAtHome, IsAway};
 ghost use Rattle.reorder_list.specs.Entries.{entry_at};
 ghost use Rattle.subthread.specs.declared.task.Task.{Task};
-ghost use Rattle.subthread.specs.Footprints.{IsNumbered};
+ghost use Rattle.task_ast.specs.SyncOps.{IsNumbered};
 ghost use Rattle.subthread.specs.Lending.{lent_by};
 ghost use Rattle.subthread.specs.Tasks.{Fits};
 ghost use Rattle.crew.specs.Out.{pair_of};
@@ -28,7 +28,7 @@ use record_store::{Bundle, Given, Store};
 use reorder_list::{Entry, Rol};
 use std::alloc::{AllocError, AllocFailed, Global};
 use std::thread::Threads;
-use subthread::{Task, joined_by, lend, room_for};
+use subthread::{Task, lend, room_for};
 
 /// The mask of the fault that strikes an attempt, or 0.
 fn mask_of(faults: &[Fault], pos: Pos, attempt: u32) -> i64
@@ -53,7 +53,7 @@ fn bare_in(
     requires numbered { IsNumbered entry.now.begins.sync }
     ensures { IfOk result (λ task. task ≡ bare_in faults.now store.now pos entry.now) }
 {
-    let joined = joined_by(&entry.begins.sync);
+    let joined = entry.begins.sync.joined_by();
     let (regs, joined) = store.regs_of(alloc, entry.thread, joined)?;
     let bundles = Seq::new(alloc);
     Ok(Task {

@@ -1,7 +1,7 @@
 use Rattle.std.proofs.Common.{arith, sym, ◌∙◌, ap, length}
 use Rattle.std.specs.Option.{option_copied}
 use Rattle.whole_run.specs.inner.Kept.{batch_in}
-use Rattle.whole_run.specs.inner.Prepared.{names_thread}
+use Rattle.task_ast.specs.SyncOps.{names_thread}
 use Rattle.whole_run.proofs.IssuesKept.{ahead_inside, is_numbered, unknown_ahead, not_prepared, prepared_for}
 use Rattle.whole_run.proofs.parts.issuing.prepare.Goals as goal
 
