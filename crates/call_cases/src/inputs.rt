@@ -3,7 +3,6 @@ ghost use Rattle.std.specs.Prelude.{◌≡◌, ◌<◌, ◌≤◌, ◌+◌, ◌-
 ghost use Rattle.gp_base.specs.declared.limits.TheConstants.{MOST_FEED_CELLS, MOST_FILE_BYTES};
 ghost use Rattle.gp_base.specs.meaning.Files.{bytes_of};
 ghost use Rattle.task_ast.specs.meaning.Tree.{Name};
-ghost use Rattle.task_ast.specs.meaning.Names.{natural};
 ghost use Rattle.task_ast.specs.Inputs.{fields_in};
 ghost use Rattle.call_cases.specs.meaning.Lines.{input_line, kind_number};
 ghost use Rattle.call_cases.specs.meaning.InputFiles.{nothing, room_after, by_file, by_record, record_rows, feed_rows, fault_rows, more_cells, more_feed, load_head, load_faults, load};
@@ -17,7 +16,7 @@ use batch_files::{FileFault, FileKind, read_faults, read_feed, read_records};
 use gp_base::limits::{MOST_FEED_CELLS, MOST_FILE_BYTES};
 use gp_base::{Faults, Feed, Inputs, Name, Nums, Seq, Shelf, ShelfFault, Text};
 use std::alloc::{AllocError, Global};
-use task_ast::Head;
+use task_ast::{Head, natural};
 
 // The number of a rule of files.
 fn kind_number(kind: FileKind) -> u8
@@ -127,14 +126,6 @@ pub struct Loading {
     pub records: Vec<i64>,
     pub feeds: Vec<Feed>,
     pub room: u32,
-}
-
-// A size as a number; a negative one counts as 0.
-fn natural(size: &i64) -> u32
-    requires { natural size.now < 2 ^ 32 }
-    ensures { result ≡ natural size.now }
-{
-    if *size < 0 { 0 } else { *size as u32 }
 }
 
 impl Loading {
@@ -264,10 +255,10 @@ fn load_head<H: Shelf>(
 {
     match head {
         Head::RecHead { size, from, .. } => {
-            load_record(alloc, shelf, from, natural(size), loading)
+            load_record(alloc, shelf, from, natural(*size) as u32, loading)
         }
         Head::FeedHead { fields, from, .. } => {
-            load_feed(alloc, shelf, from, natural(fields), loading)
+            load_feed(alloc, shelf, from, natural(*fields) as u32, loading)
         }
         _ => Ok(()),
     }

@@ -1,12 +1,12 @@
 // The names of a program's lock cells, record cells and barriers.
-ghost use Rattle.std.specs.Prelude.{◌≡◌, ◌<◌, ◌^◌, ◌++◌, OnOk};
-ghost use Rattle.task_ast.specs.meaning.Names.{natural, locks_of, records_of, barriers_of};
+ghost use Rattle.std.specs.Prelude.{◌≡◌, ◌++◌, OnOk};
+ghost use Rattle.task_ast.specs.meaning.Names.{locks_of, records_of, barriers_of};
 ghost use Rattle.run_views.specs.meaning.Order.{cell_name, cell_text, barrier_name};
 
 use gp_base::{LockNo, Name};
 use itoa::{Buffer, Integer};
 use std::alloc::AllocError;
-use task_ast::Head;
+use task_ast::{Head, natural};
 
 /// Appends a number in decimal.
 pub fn push_number<I: Integer>(text: &mut Vec<u8>, number: I) -> Result<(), AllocError>
@@ -38,14 +38,6 @@ pub fn push_between<I: Integer>(
 {
     push_labelled(text, before, number)?;
     text.extend_from_slice(after)
-}
-
-// A size as a number; a negative one counts as 0.
-fn natural(size: i64) -> u64
-    ensures value { result ≡ natural size }
-    ensures small { result < 2 ^ 63 }
-{
-    if size < 0 { 0 } else { size as u64 }
 }
 
 // Appends the cell of an array at an index.

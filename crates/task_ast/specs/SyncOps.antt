@@ -1,5 +1,5 @@
 -- What code asks of a synchronisation.
-use Rattle.std.specs.Prelude.{◌<◌, ◌^◌, ℕ, pos, negsuc, Bool, true, false, nat_lt, Option, Some, None, ⊤}
+use Rattle.std.specs.Prelude.{◌<◌, ◌^◌, ℕ, pos, Bool, true, false, Option, Some, None, ⊤}
 use Rattle.task_ast.specs.declared.sync.SyncOp.{SyncOp}
 use Rattle.task_ast.specs.declared.sync.SyncOp.TheVariants as sync
 
@@ -7,12 +7,6 @@ use Rattle.task_ast.specs.declared.sync.SyncOp.TheVariants as sync
 abbrev pub is_start : SyncOp → Bool
 is_start sync.Start = true
 is_start _ = false
-
--- whether it is no join of a thread that isn't there, where there are so many
-abbrev pub names_thread : SyncOp → (threads : ℕ) → Bool
-names_thread (sync.Join (pos h)) n = nat_lt h n
-names_thread (sync.Join (negsuc h)) n = false
-names_thread _ n = true
 
 -- the thread that it joins
 abbrev pub joined_by : SyncOp → Option ℕ

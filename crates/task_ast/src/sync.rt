@@ -2,7 +2,7 @@
 
 ghost use Rattle.std.specs.Prelude.{◌≡◌, ◌≤◌, IfOk};
 ghost use Rattle.gp_base.specs.declared.limits.TheConstants.{MOST_THREADS};
-ghost use Rattle.task_ast.specs.SyncOps.{is_start, names_thread, joined_by, IsNumbered};
+ghost use Rattle.task_ast.specs.SyncOps.{is_start, joined_by, IsNumbered};
 ghost use Rattle.task_ast.specs.meaning.Table.{is_end, is_settle};
 ghost use Rattle.task_ast.specs.meaning.Turn.{child_of};
 
@@ -79,20 +79,6 @@ impl SyncOp {
         match self {
             SyncOp::Fork { .. } => Some(ThreadNo(threads as u32)),
             _ => None,
-        }
-    }
-
-    /// Whether it is no join of a thread that isn't there, where there are so many.
-    pub fn names_thread(&self, threads: usize) -> bool
-        requires { threads ≤ MOST_THREADS }
-        ensures { result ≡ names_thread self.now threads }
-    {
-        match self {
-            SyncOp::Join(thread) => {
-                let thread = *thread;
-                thread >= 0 && thread.unsigned_abs() < threads as u64
-            }
-            _ => true,
         }
     }
 

@@ -1,8 +1,11 @@
 -- What a turn answers, by the rules of turns.
-use Rattle.std.specs.Prelude.{◌≡◌, ◌⊎◌, ⊤, ℕ, ℤ, pos, negsuc, Bool, true, false, cond, Option, Some, None, nat_lt}
+use Rattle.std.specs.Prelude.{◌≡◌, ◌⊎◌, ⊤, ℕ, ℤ, pos, negsuc, Bool, true, false, cond, Option, Some, None, is_none, nat_lt}
 use Rattle.task_ast.specs.meaning.Repeat.{Again, More, Done}
-use Rattle.task_ast.specs.meaning.Table.{Stand, Released, Away, Seat, Table, is_settle}
-use Rattle.task_ast.specs.meaning.Turn.{Turn, Issue, Needs, Ended, turn}
+use Rattle.task_ast.specs.declared.sync.SyncOp.{SyncOp}
+use Rattle.task_ast.specs.declared.sync.SyncOp.TheVariants as sync
+use Rattle.task_ast.specs.Table.{is_known_end}
+use Rattle.task_ast.specs.meaning.Table.{Stand, Released, Away, Seat, Table, next_of, is_settle}
+use Rattle.task_ast.specs.meaning.Turn.{Turn, Issue, Needs, Ended, owner_of, turn}
 use Rattle.token_order.specs.declared.rules.Turn.{Turn as TurnHere}
 use Rattle.token_order.specs.declared.rules.Turn.TheVariants as here
 
@@ -36,6 +39,13 @@ is_issue _ = false
 -- an issue uses up that a settle is let
 abbrev pub cleared_after : TurnHere → Bool → Bool
 cleared_after turn cleared = cond (is_issue turn) false cleared
+
+-- whether a thread that stands at it may go on, as far as the owner of a lock and the thread that is joined are concerned
+abbrev pub is_let : Table → SyncOp → Bool
+is_let table (sync.Lock l) = is_none (owner_of table l)
+is_let table (sync.Join (pos h)) = is_known_end (next_of table h)
+is_let table (sync.Join (negsuc h)) = false
+is_let table _ = true
 
 -- a seat whose thread began a subthread
 abbrev pub begun : ℕ → Seat → Seat

@@ -6,7 +6,7 @@ ghost use Rattle.task_ast.specs.Reached.{start_table};
 ghost use Rattle.task_ast.specs.meaning.Table.{next_of, learning, owned_from};
 ghost use Rattle.task_ast.specs.meaning.Turn.{owners_after};
 ghost use Rattle.task_ast.specs.laws.Threads.{ahead};
-ghost use Rattle.token_order.specs.Turned.{Turned, LeavesRoom, cleared_after};
+ghost use Rattle.token_order.specs.Turned.{Turned, LeavesRoom, is_let, cleared_after};
 ghost use Rattle.token_order.specs.View.{awaited};
 
 use crate::held::Held;
@@ -135,6 +135,14 @@ impl Ring {
             return None;
         }
         Some(ThreadNo(t))
+    }
+
+    /// Whether a thread that stands at it isn't kept back: nobody owns its lock, and the thread that it joins is known
+    /// to have ended. A turn issues no thread that is kept back.
+    pub fn lets(&self, sync: &SyncOp) -> bool
+        ensures { result ≡ is_let self.now.table sync.now }
+    {
+        self.threads.lets(sync)
     }
 
     /// A thread's next synchronisation, where it is known.

@@ -5,14 +5,15 @@ ghost use Rattle.std.specs.Option.{option_and_then};
 ghost use Rattle.gp_base.specs.declared.ending.End.TheVariants as ends;
 ghost use Rattle.gp_base.specs.declared.limits.TheConstants.{MOST_THREADS};
 ghost use Rattle.task_ast.specs.declared.sync.SyncOp.TheVariants as sync;
+ghost use Rattle.task_ast.specs.Table.{is_known_end};
 ghost use Rattle.task_ast.specs.meaning.Repeat.{More};
 ghost use Rattle.task_ast.specs.meaning.Table.{Away, next_of, waits_at};
 ghost use Rattle.task_ast.specs.meaning.Turn.{tried, issuing, passing, look, owners_after, seats_after, child_of, deadlocked, all_threads, arrived, stand_of, released_at};
 ghost use Rattle.token_order.specs.View.{table, seat_of, StandsInside};
 ghost use Rattle.token_order.specs.declared.rules.Turn.TheVariants as here;
-ghost use Rattle.token_order.specs.Turned.{Answered, is_free_to_go, begun, joined_in};
+ghost use Rattle.token_order.specs.Turned.{Answered, is_let, is_free_to_go, begun, joined_in};
 
-use crate::threads::{Seat, Stand, Threads, new_seat, unpass_all};
+use crate::threads::{Seat, Stand, Threads, has_ended, new_seat, unpass_all};
 use gp_base::limits::MOST_THREADS;
 use gp_base::{End, Pos, ThreadNo, Why};
 use task_ast::{Next, SyncOp};
@@ -95,6 +96,16 @@ fn is_free(owners: &[Option<u32>], lock: u32) -> bool
     }
 }
 
+// Whether this thread is known to have ended; one that is not there has not.
+fn is_over(seats: &[Seat], thread: usize) -> bool
+    ensures { result ≡ is_known_end (option_and_then (λ s. s.next) (slice_get (map seat_of seats.now) thread)) }
+{
+    match seats.get(thread) {
+        Some(seat) => has_ended(seat),
+        None => false,
+    }
+}
+
 // The thread that a join names, where there is one.
 fn joined(h: i64, threads: usize) -> Option<u32>
     requires few { threads ≤ MOST_THREADS }
@@ -112,6 +123,18 @@ fn joined(h: i64, threads: usize) -> Option<u32>
 }
 
 impl Threads {
+    /// Whether a thread that stands at it isn't kept back: nobody owns its lock, and the thread that it joins is known
+    /// to have ended.
+    pub fn lets(&self, sync: &SyncOp) -> bool
+        ensures { result ≡ is_let (table self.now) sync.now }
+    {
+        match sync {
+            SyncOp::Lock(lock) => is_free(&self.owners, lock.0),
+            SyncOp::Join(thread) => *thread >= 0 && is_over(&self.seats, *thread as usize),
+            _ => true,
+        }
+    }
+
     // The thread passes.
     fn pass(&mut self, t: u32)
         requires exists { t < length self.old.seats.items }

@@ -3,7 +3,9 @@
 -- what is known; an issue adds an entry, and where a child starts. What was prepared before, a slot of the store and
 -- the place, is for the thread that is ahead, which is the one that is issued.
 use Rattle.std.proofs.Common.{◌≡◌, inl, inr, ℕ, suc, ◌+◌, ◌<◌, ◌≤◌, true, false, List, [], ◌∷◌, ◌++◌, length, Option, Some, None, is_some, option_map, get_or, refl, sym, ap, ◌∙◌, subst, arith, ◌⊎◌, Bool, cond, nat_eq}
-use Rattle.std.specs.Prelude.{IsSome, slice_get, pos, negsuc, ℤ}
+use Rattle.std.specs.Prelude.{IsSome, slice_get, is_none, pos, negsuc, ℤ}
+use Rattle.std.specs.Option.{option_and_then}
+use Rattle.std.proofs.lemmas.Option.{slice_get_within}
 use Rattle.std.proofs.lemmas.Bool.{eqb-true, eq-eqb, lt-ltb, ltb-true, false≢true}
 use Rattle.gp_base.specs.declared.ending.End.{End}
 use Rattle.gp_base.specs.declared.fault.Fault.{Fault}
@@ -15,7 +17,7 @@ use Rattle.task_ast.specs.declared.sync.SyncOp.TheVariants as sync
 use Rattle.task_ast.specs.declared.sync.Next.{Next}
 use Rattle.task_ast.specs.Footprint.{lock_footprint}
 use Rattle.task_ast.specs.meaning.Repeat.{Again, More, Done}
-use Rattle.task_ast.specs.meaning.Table.{Table, next_of, owned_from, is_settle}
+use Rattle.task_ast.specs.meaning.Table.{Seat, Table, next_of, owned_from, is_settle}
 use Rattle.token_order.specs.Turned.{settling_in}
 use Rattle.task_ast.specs.meaning.Turn.{Turn, Issue, Needs, Ended, child_of, turn}
 use Rattle.dependence.specs.meaning.Runs.{settles_one}
@@ -41,7 +43,9 @@ use Rattle.dependence.specs.RunBuffer.{RunStands}
 use Rattle.rollback.specs.States.{HeldStands}
 use Rattle.gp_base.specs.Reserved.{Reserved}
 use Rattle.token_order.specs.View.{Roomy}
-use Rattle.task_ast.specs.SyncOps.{names_thread, IsNumbered}
+use Rattle.task_ast.specs.SyncOps.{IsNumbered}
+use Rattle.task_ast.specs.Table.{is_known_end}
+use Rattle.token_order.specs.Turned.{is_let}
 use Rattle.whole_run.specs.declared.parts.Parts.{Parts}
 use Rattle.whole_run.specs.declared.parts.Place.{Place}
 use Rattle.whole_run.specs.declared.calls.Halt.{Halt}
@@ -398,16 +402,25 @@ module _ (batch : Batch) (table : Table) (places : List Place) (entries : List E
           (names_issued batch events keeps.fit keeps.journal) allowed first placed after store home refl (omega arith) refl)
           keeps.journal.restarts_are (ap (λ n. n + 1) keeps.journal.issued_are) tt
 
--- a thread that is issued names a thread that is there, where it joins one
-names_below : (op : SyncOp) (table : Table) → MayBegin table op → names_thread op (length table.seats) ≡ true
-names_below (sync.Join (pos h)) table may = lt-ltb h (length table.seats) may.0
-names_below (sync.Join (negsuc h)) table may = absurd may
-names_below op table may = refl
+-- a thread that is issued was not kept back
+lets_begun : (op : SyncOp) (table : Table) → MayBegin table op → is_let table op ≡ true
+lets_begun (sync.Lock l) table may = ap is_none may
+lets_begun (sync.Join (pos h)) table may = may.1
+lets_begun (sync.Join (negsuc h)) table may = absurd may
+lets_begun op table may = refl
 
--- a join of a thread that is there has a number of 32 bits
-pub is_numbered : (op : SyncOp) (n : ℕ) → n ≤ 4096 → names_thread op n ≡ true → IsNumbered op
-is_numbered (sync.Join (pos h)) n few e = let l : h < n = ltb-true h n e in omega arith
-is_numbered op n few e = tt
+-- a thread that is known to have ended is there
+ended_below : (table : Table) (h : ℕ) → is_known_end (next_of table h) ≡ true → h < length table.seats
+ended_below table h e = go (slice_get table.seats h) refl
+  where
+    go : (o : Option Seat) → slice_get table.seats h ≡ o → h < length table.seats
+    go None there = absurd (false≢true (ap (λ o. is_known_end (option_and_then (λ s. s.next) o)) (sym there) ∙ e))
+    go (Some seat) there = slice_get_within table.seats h seat there
+
+-- a join that is not kept back has a number of 32 bits
+pub is_numbered : (op : SyncOp) (table : Table) → length table.seats ≤ 4096 → is_let table op ≡ true → IsNumbered op
+is_numbered (sync.Join (pos h)) table few e = let l = ended_below table h e in omega arith
+is_numbered op table few e = tt
 
 module _ (batch : Batch) (parts : Parts) (kept : Kept batch parts) (t : ℕ) (next : Next) (child : Option ℕ) (after : Table)
     (is : turn parts.ring.table ≡ Done (Issue t next child after)) where
@@ -420,7 +433,7 @@ module _ (batch : Batch) (parts : Parts) (kept : Kept batch parts) (t : ℕ) (ne
   not_none ready =
       let b = begun batch (IsPlaceIn batch) (stage_of batch parts.events.items) parts.ring.table parts.places.items kept.ring t next child
       after is in
-      false≢true (sym (ready.prepared_is t next tried) ∙ names_below next.sync parts.ring.table b.may)
+      false≢true (sym (ready.prepared_is t next tried) ∙ lets_begun next.sync parts.ring.table b.may)
 
   pub prepared_some : (o : Option Prepared) → IsReadyFor batch parts o → IsSome o
   prepared_some None there = absurd (not_none there)
@@ -502,10 +515,10 @@ module _ (batch : Batch) (table : Table) (places : List Place) where
         let same : ◌≡◌ {A = ℕ × Next} (t, next) (other, there) = some_same (sym (ahead_with table t next e known) ∙ is) in
         subst (λ x. PreparedFor batch table places x.0 x.1.sync prepared) same done
 
-    pub not_prepared : names_thread next.sync (length table.seats) ≡ false → IsPrepared batch table places None
+    pub not_prepared : is_let table next.sync ≡ false → IsPrepared batch table places None
     not_prepared none other there is =
         let same : ◌≡◌ {A = ℕ × Next} (t, next) (other, there) = some_same (sym (ahead_with table t next e known) ∙ is) in
-        subst (λ x. names_thread x.1.sync (length table.seats) ≡ false) same none
+        subst (λ x. is_let table x.1.sync ≡ false) same none
 
 -- nothing has changed but the room, and the store by a slot
 pub kept_same : (batch : Batch) (before after : Parts) → SameParts before after → IsSlotted before.store after.store → Kept batch before

@@ -6,7 +6,7 @@ use Rattle.task_ast.specs.declared.sync.SyncOp.{SyncOp}
 use Rattle.task_ast.specs.declared.sync.SyncOp.TheVariants as sync
 use Rattle.task_ast.specs.declared.sync.Next.{Next}
 use Rattle.task_ast.specs.Footprint.{lock_footprint}
-use Rattle.task_ast.specs.SyncOps.{names_thread}
+use Rattle.token_order.specs.Turned.{is_let}
 use Rattle.task_ast.specs.meaning.Table.{Table, owned_from}
 use Rattle.task_ast.specs.meaning.Turn.{owners_after, child_of, turns_left}
 use Rattle.task_ast.specs.laws.Threads.{ahead}
@@ -41,7 +41,7 @@ pub record PreparedFor (batch : Batch) (table : Table) (places : List Place) (t 
 -- what is prepared for the next turn
 abbrev pub IsPrepared : Batch → Table → List Place → Option Prepared → Type 0
 IsPrepared batch table places None =
-    (t : ℕ) (next : Next) → ahead table ≡ Some (t, next) → names_thread next.sync (length table.seats) ≡ false
+    (t : ℕ) (next : Next) → ahead table ≡ Some (t, next) → is_let table next.sync ≡ false
 IsPrepared batch table places (Some prepared) =
     (t : ℕ) (next : Next) → ahead table ≡ Some (t, next) → PreparedFor batch table places t next.sync prepared
 

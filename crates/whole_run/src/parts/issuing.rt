@@ -101,7 +101,7 @@ fn prepare(alloc: Global, plan: &Plan, parts: &Parts) -> Result<Option<Prepared>
     let Some(begins) = parts.ring.next_of(thread) else {
         return Ok(None);
     };
-    if !begins.sync.names_thread(parts.places.len()) {
+    if !parts.ring.lets(&begins.sync) {
         return Ok(None);
     }
     let prepared = prepare_for(alloc, plan, parts, thread, begins)?;
