@@ -30,7 +30,7 @@ use Rattle.whole_run.specs.declared.calls.Halt.{Halt}
 use Rattle.whole_run.specs.declared.calls.Halt.TheVariants as halt
 use Rattle.whole_run.specs.View.{Batch, View, run_in, dependence_in, end_in, now, is_known, IsHalt, Stands}
 use Rattle.whole_run.specs.Gives.{struck_now, BlockIsOpen, IsNear, NoneToPost, HasFinished}
-use Rattle.whole_run.specs.inner.Rounds.{left, left_to_know, Rests, Onward, IsQuiet, IsIssued, AreTaken, TakeGives}
+use Rattle.whole_run.specs.inner.Rounds.{left, left_to_know, Rests, Onward, IsQuiet, IsUnfinished, IsIssued, AreTaken, TakeGives}
 use Rattle.whole_run.proofs.Events.{stage-stands, now-same, left-same, onward-most}
 
 -- what is applied was taken
@@ -257,48 +257,52 @@ flag-most false = omega arith
 less-to-know : (first last : View) → left last < left first → left_to_know last < left_to_know first
 less-to-know first last less = let flag = flag-most (is_known last) in omega arith
 
--- a round in which nothing comes back leaves less to do, or makes the end known
-idle-round : (first quieted issued posted : View) → Onward first quieted → IsQuiet quieted
-    → ((ending : End) → ¬ HasFinished quieted ending) → Onward quieted issued → IsIssued issued → Onward issued posted
-    → NoneToPost posted 0 → AreTaken posted → left_to_know posted < left_to_know first
-idle-round first quieted issued posted one quiet unfinished two answer three none home =
-    elim one.moved [
-      | inl less ↦ less-to-know first posted
-          (let a = onward-most quieted issued two in let b = onward-most issued posted three in omega arith)
-      | inr rests ↦ elim two.moved [
-        | inl less ↦ less-to-know first posted
-            (let a = onward-most first quieted one in let b = onward-most issued posted three in omega arith)
-        | inr rests' ↦ elim three.moved [
-          | inl less ↦ less-to-know first posted
-              (let a = onward-most first quieted one in let b = onward-most quieted issued two in omega arith)
-          | inr rests'' ↦ go (is_known first) (is_known posted) refl refl rests rests' rests''
-        ]
+-- what goes on leaves no more to do, or to know
+pub onward-to-know : (before after : View) → Onward before after → left_to_know after ≤ left_to_know before
+onward-to-know before after onward =
+    elim onward.moved [
+      | inl less ↦ (let fewer = less-to-know before after less in omega arith)
+      | inr rests ↦ go (is_known before) (is_known after) refl refl rests
+    ]
+  where
+    go : (b c : Bool) → is_known before ≡ b → is_known after ≡ c → Rests before after → left_to_know after ≤ left_to_know before
+    go true false e f rests = absurd (false≢true (sym f ∙ rests.known e))
+    go true true e f rests = let same = left-same before after onward.batch rests.events in rw (e, f) (omega arith)
+    go false true e f rests = let same = left-same before after onward.batch rests.events in rw (e, f) (omega arith)
+    go false false e f rests = let same = left-same before after onward.batch rests.events in rw (e, f) (omega arith)
+
+-- issues and posts after which nothing comes back leave less to do, or make the end known
+idle-falls : (quieted issued posted : View) → Stands quieted → IsQuiet quieted → IsUnfinished quieted → Onward quieted issued
+    → IsIssued issued → Onward issued posted → NoneToPost posted 0 → AreTaken posted → left_to_know posted < left_to_know quieted
+idle-falls quieted issued posted stands quiet unfinished two answer three none home =
+    elim two.moved [
+      | inl less ↦ less-to-know quieted posted (let later = onward-most issued posted three in omega arith)
+      | inr rests ↦ elim three.moved [
+        | inl less ↦ less-to-know quieted posted (let earlier = onward-most quieted issued two in omega arith)
+        | inr rests' ↦ go (is_known quieted) (is_known posted) refl refl rests rests'
       ]
     ]
   where
-    impossible : Rests first quieted → Rests quieted issued → Rests issued posted → (is_known quieted ≡ true) ⊎ (is_known posted ≡ false)
-        → ⊥
-    impossible rests rests' rests'' =
-        stuck quieted issued posted one.stands two.stands three.stands quiet unfinished two.batch
-        (now-same quieted posted (three.batch ∙ two.batch) (rests''.events ∙ rests'.events))
-        (now-same issued posted three.batch rests''.events) answer none home rests''.known
+    impossible : Rests quieted issued → Rests issued posted → (is_known quieted ≡ true) ⊎ (is_known posted ≡ false) → ⊥
+    impossible rests rests' =
+        stuck quieted issued posted stands two.stands three.stands quiet unfinished two.batch
+        (now-same quieted posted (three.batch ∙ two.batch) (rests'.events ∙ rests.events))
+        (now-same issued posted three.batch rests'.events) answer none home rests'.known
 
-    go : (b c : Bool) → is_known first ≡ b → is_known posted ≡ c → Rests first quieted → Rests quieted issued → Rests issued posted
-        → left_to_know posted < left_to_know first
-    go b false e f rests rests' rests'' = absurd (impossible rests rests' rests'' (inr f))
-    go true true e f rests rests' rests'' = absurd (impossible rests rests' rests'' (inl (rests.known e)))
-    go false true e f rests rests' rests'' =
-        let same = left-same first posted (three.batch ∙ (two.batch ∙ one.batch)) (rests''.events ∙ (rests'.events ∙ rests.events)) in
-        rw (e, f) (omega arith)
+    go : (b c : Bool) → is_known quieted ≡ b → is_known posted ≡ c → Rests quieted issued → Rests issued posted
+        → left_to_know posted < left_to_know quieted
+    go b false e f rests rests' = absurd (impossible rests rests' (inr f))
+    go true true e f rests rests' = absurd (impossible rests rests' (inl e))
+    go false true e f rests rests' =
+        let same = left-same quieted posted (three.batch ∙ two.batch) (rests'.events ∙ rests.events) in rw (e, f) (omega arith)
 
--- each round leaves less to do, or makes the end known
-pub round-falls : (first quieted issued posted taken : View) (b : Bool) → Onward first quieted → IsQuiet quieted
-    → ((ending : End) → ¬ HasFinished quieted ending) → Onward quieted issued → IsIssued issued → Onward issued posted
-    → NoneToPost posted 0 → TakeGives posted taken b → left_to_know taken < left_to_know first
-round-falls first quieted issued posted taken true one quiet unfinished two answer three none less =
-    less-to-know first taken
-    (let a = onward-most first quieted one in let b = onward-most quieted issued two in let c = onward-most issued posted three in
-    omega arith)
-round-falls first quieted issued posted taken false one quiet unfinished two answer three none nothing =
-    subst (λ v. left_to_know v < left_to_know first) (sym nothing.0)
-    (idle-round first quieted issued posted one quiet unfinished two answer three none nothing.1)
+-- issues, posts and one run of a task leave less to do, or make the end known
+pub advance-falls : (quieted issued posted taken : View) (b : Bool) → Stands quieted → IsQuiet quieted → IsUnfinished quieted
+    → Onward quieted issued → IsIssued issued → Onward issued posted → NoneToPost posted 0 → TakeGives posted taken b
+    → left_to_know taken < left_to_know quieted
+advance-falls quieted issued posted taken true stands quiet unfinished two answer three none less =
+    less-to-know quieted taken
+    (let earlier = onward-most quieted issued two in let later = onward-most issued posted three in omega arith)
+advance-falls quieted issued posted taken false stands quiet unfinished two answer three none nothing =
+    subst (λ v. left_to_know v < left_to_know quieted) (sym nothing.0)
+    (idle-falls quieted issued posted stands quiet unfinished two answer three none nothing.1)

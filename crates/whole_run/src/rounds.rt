@@ -1,5 +1,5 @@
 // The rounds of a run.
-ghost use Rattle.std.specs.Prelude.{◌≡◌, None, OnOk, OnErr, IfOk, IsErrOf};
+ghost use Rattle.std.specs.Prelude.{◌≡◌, ◌<◌, None, OnOk, OnErr, IfOk, IsErrOf};
 ghost use Rattle.reorder_list.specs.declared.report.StopWhy.TheVariants as stop;
 ghost use Rattle.crew.specs.Noted.{NotesRetired, NotesPart};
 ghost use Rattle.whole_run.specs.Recovering.{CompleteBy};
@@ -7,7 +7,7 @@ ghost use Rattle.whole_run.specs.View.{run_in, end_in, now};
 ghost use Rattle.whole_run.specs.Gives.{struck_now, IsBack, IsScouted, HasStopCause, HasStopCauses, NoneToPost};
 ghost use Rattle.whole_run.specs.Notes.{KeepsLeftBy, KeepsNotes, KeepsAllNotes, StopsNotes};
 ghost use Rattle.whole_run.specs.Takes.{CrewStands};
-ghost use Rattle.whole_run.specs.inner.Rounds.{Agrees, Leaves, IsQuiet, IsIssued, KeepsWritten, KeepsPart, TakeGives};
+ghost use Rattle.whole_run.specs.inner.Rounds.{left_to_know, Agrees, Leaves, IsQuiet, IsUnfinished, IsIssued, KeepsWritten, KeepsPart, TakeGives};
 
 use crate::calls::{Calls, Issued};
 use crew::{Crew, Notes};
@@ -196,6 +196,29 @@ fn issue_all<R: Threads + Sync, E: Calls, C: Crew, N: Notes>(
     }
 }
 
+// Issues what can be issued, posts what may be posted and takes one run of a task, where nothing retires and the run has
+// not finished. That leaves less to do, or makes the end known.
+fn advance<R: Threads + Sync, E: Calls, C: Crew, N: Notes>(
+    rt: &R,
+    engine: &mut E,
+    crew: &mut C,
+    notes: &mut N,
+) -> Result<(), AllocError>
+    requires agrees { Agrees (E.view engine.old) (C.ready crew.old) (C.work crew.old) (C.posted crew.old) (C.out crew.old) }
+    requires quiet { IsQuiet (E.view engine.old) }
+    requires unfinished { IsUnfinished (E.view engine.old) }
+    ensures leaves { Leaves (E.view engine.old) (E.view engine.new) (C.ready crew.new) (C.work crew.new) (C.posted crew.new) }
+    ensures notes { KeepsAllNotes (E.view engine.old) (E.view engine.new) (N.tells notes.old) (N.tells notes.new) }
+    ensures crew { OnOk result (CrewStands (E.view engine.new) (C.posted crew.new) (C.out crew.new)) }
+    ensures retired { (now (E.view engine.new)).retired ≡ (now (E.view engine.old)).retired }
+    ensures falls { OnOk result (left_to_know (E.view engine.new) < left_to_know (E.view engine.old)) }
+{
+    issue_all(rt, engine, crew, notes)?;
+    post_all(rt, engine, crew)?;
+    take_one(rt, engine, crew, notes)?;
+    Ok(())
+}
+
 /// Goes on with a run to its end, and answers how it ends.
 pub fn run_rounds<R: Threads + Sync, E: Calls, C: Crew, O: Sink, N: Notes, L: Sink>(
     rt: &R,
@@ -221,8 +244,6 @@ pub fn run_rounds<R: Threads + Sync, E: Calls, C: Crew, O: Sink, N: Notes, L: Si
         if let Some(end) = engine.finished() {
             return Ok(end);
         }
-        issue_all(rt, engine, crew, notes)?;
-        post_all(rt, engine, crew)?;
-        take_one(rt, engine, crew, notes)?;
+        advance(rt, engine, crew, notes)?;
     }
 }

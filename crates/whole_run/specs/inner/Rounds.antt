@@ -9,7 +9,7 @@ use Rattle.subthread.specs.declared.task.Work.{Work}
 use Rattle.restart_log.specs.meaning.Lines.{printed}
 use Rattle.whole_run.specs.View.{View, dependence_in, lines_at, lines_below, now, is_known, Stands}
 use Rattle.whole_run.specs.declared.calls.Halt.TheVariants as halt
-use Rattle.whole_run.specs.Gives.{struck_now, MayRetireNow}
+use Rattle.whole_run.specs.Gives.{struck_now, MayRetireNow, HasFinished}
 use Rattle.whole_run.specs.Takes.{CrewStands}
 
 -- what is left to do
@@ -49,6 +49,10 @@ pub record Leaves (before after : View) (ready : Type 0) (work : Work) (posted :
 pub record IsQuiet (view : View) : Type 0 where
   pub none_struck : struck_now view ≡ None
   pub none_retires : ¬ MayRetireNow view
+
+-- the run has not ended with all positions retired
+abbrev pub IsUnfinished : View → Type 0
+IsUnfinished view = (ending : End) → ¬ HasFinished view ending
 
 -- the run has ended, or a settle waits for some position to retire, or some position below the front was never taken
 abbrev pub IsIssued : View → Type 0

@@ -1,17 +1,16 @@
--- A round is four calls one after another: retirements, issues, posts and one result. What was written and what was
--- noted after each of them is put together from the one before (written₁ to written₄, noted₁ to noted₄), and each way
--- out answers its clauses by the last that was reached. A round that goes on leaves less to do, or makes the end known
--- (round-falls).
+-- A round is two calls: retirements, and what goes on after them. What was written and what was noted after each of
+-- them is put together from what was before (written₁, written₂, noted₁, noted₂), and each way out answers its clauses
+-- by the last that was reached. A round that goes on leaves less to do, or makes the end known.
 use Rattle.std.proofs.Common.{◌∙◌, refl, arith}
 use Rattle.whole_run.specs.Gives.{HasFinished}
 use Rattle.whole_run.specs.inner.Rounds.{KeepsPart, KeepsWritten}
 use Rattle.whole_run.specs.Notes.{KeepsNotes, StopsNotes}
-use Rattle.whole_run.proofs.Noting.{keeps-notes-left, keeps-notes-then, keeps-stops, stops-then}
-use Rattle.whole_run.proofs.Progress.{completed, ends-so, round-falls}
+use Rattle.whole_run.proofs.Noting.{keeps-notes-then, keeps-stops, stops-then}
+use Rattle.whole_run.proofs.Progress.{completed, ends-so, onward-to-know}
 use Rattle.whole_run.proofs.Turns.{agrees-then, leaves-still, leaves-then, on-err}
 use Rattle.whole_run.proofs.Written.{wrote-same, written-whole}
 use Rattle.whole_run.proofs.rounds.run_rounds.Goals as goal
-use Rattle.whole_run.proofs.rounds.run_rounds.Goals.{In_ok-retire_all, In-Some, After-issue_all, After-post_all, After-take_one}
+use Rattle.whole_run.proofs.rounds.run_rounds.Goals.{In_ok-retire_all, In-Some, After-advance}
 
 -- what was written after the retirements of a round
 written₁ : (g : _) (c : In_ok-retire_all g)
@@ -19,36 +18,14 @@ written₁ : (g : _) (c : In_ok-retire_all g)
     (g.O.Sink.written c.retire_all.new.out)
 written₁ g c start wrote = c.in_ok-retire_all.ensures.written start (c.rounds.invariant.written start wrote)
 
--- after its issues
-written₂ : (g : _) (c : After-issue_all g)
-    → KeepsWritten (g.E.Calls.view c.args.engine.now) (g.E.Calls.view c.issue_all.new.engine) (g.O.Sink.written c.args.out.now)
+-- after the rest of it
+written₂ : (g : _) (c : After-advance g)
+    → KeepsWritten (g.E.Calls.view c.args.engine.now) (g.E.Calls.view c.advance.new.engine) (g.O.Sink.written c.args.out.now)
     (g.O.Sink.written c.retire_all.new.out)
 written₂ g c start wrote =
-    wrote-same start (g.E.Calls.view c.retire_all.new.engine) (g.E.Calls.view c.issue_all.new.engine)
+    wrote-same start (g.E.Calls.view c.retire_all.new.engine) (g.E.Calls.view c.advance.new.engine)
     (g.O.Sink.written c.retire_all.new.out) (g.O.Sink.written c.retire_all.new.out)
-    c.issue_all.ensures.leaves.onward.batch c.issue_all.ensures.retired refl
-    (c.in_ok-retire_all.ensures.written start (c.rounds.invariant.written start wrote))
-
--- after its posts
-written₃ : (g : _) (c : After-post_all g)
-    → KeepsWritten (g.E.Calls.view c.args.engine.now) (g.E.Calls.view c.post_all.new.engine) (g.O.Sink.written c.args.out.now)
-    (g.O.Sink.written c.retire_all.new.out)
-written₃ g c start wrote =
-    wrote-same start (g.E.Calls.view c.retire_all.new.engine) (g.E.Calls.view c.post_all.new.engine) (g.O.Sink.written c.retire_all.new.out)
-    (g.O.Sink.written c.retire_all.new.out)
-    (c.post_all.ensures.leaves.onward.batch ∙ c.issue_all.ensures.leaves.onward.batch)
-    (c.post_all.ensures.retired ∙ c.issue_all.ensures.retired) refl
-    (c.in_ok-retire_all.ensures.written start (c.rounds.invariant.written start wrote))
-
--- after its result
-written₄ : (g : _) (c : After-take_one g)
-    → KeepsWritten (g.E.Calls.view c.args.engine.now) (g.E.Calls.view c.take_one.new.engine) (g.O.Sink.written c.args.out.now)
-    (g.O.Sink.written c.retire_all.new.out)
-written₄ g c start wrote =
-    wrote-same start (g.E.Calls.view c.retire_all.new.engine) (g.E.Calls.view c.take_one.new.engine) (g.O.Sink.written c.retire_all.new.out)
-    (g.O.Sink.written c.retire_all.new.out)
-    (c.take_one.ensures.leaves.onward.batch ∙ (c.post_all.ensures.leaves.onward.batch ∙ c.issue_all.ensures.leaves.onward.batch))
-    (c.take_one.ensures.retired ∙ (c.post_all.ensures.retired ∙ c.issue_all.ensures.retired)) refl
+    c.advance.ensures.leaves.onward.batch c.advance.ensures.retired refl
     (c.in_ok-retire_all.ensures.written start (c.rounds.invariant.written start wrote))
 
 -- the notes after the retirements of a round
@@ -63,52 +40,20 @@ noted₁ g c =
     (tells c.rounds.notes) (tells c.retire_all.new.notes) (log c.args.log.now) (log c.rounds.log) (log c.retire_all.new.log)
     c.rounds.invariant.leaves.onward.batch c.rounds.invariant.notes c.in_ok-retire_all.ensures.notes
 
--- after its issues
-noted₂ : (g : _) (c : After-issue_all g)
+-- after the rest of it
+noted₂ : (g : _) (c : After-advance g)
     → KeepsNotes (g.E.Calls.view c.args.engine.now) (g.E.Calls.view c.retire_all.new.engine) (g.N.Notes.tells c.args.notes.now)
     (g.N.Notes.tells c.retire_all.new.notes) (g.L.Sink.written c.args.log.now) (g.L.Sink.written c.retire_all.new.log)
-    → KeepsNotes (g.E.Calls.view c.args.engine.now) (g.E.Calls.view c.issue_all.new.engine) (g.N.Notes.tells c.args.notes.now)
-    (g.N.Notes.tells c.issue_all.new.notes) (g.L.Sink.written c.args.log.now) (g.L.Sink.written c.retire_all.new.log)
+    → KeepsNotes (g.E.Calls.view c.args.engine.now) (g.E.Calls.view c.advance.new.engine) (g.N.Notes.tells c.args.notes.now)
+    (g.N.Notes.tells c.advance.new.notes) (g.L.Sink.written c.args.log.now) (g.L.Sink.written c.retire_all.new.log)
 noted₂ g c first =
     let view = g.E.Calls.view in
     let tells = g.N.Notes.tells in
     let log = g.L.Sink.written in
-    keeps-notes-then (view c.args.engine.now) (view c.retire_all.new.engine) (view c.issue_all.new.engine) (tells c.args.notes.now)
-    (tells c.retire_all.new.notes) (tells c.issue_all.new.notes) (log c.args.log.now) (log c.retire_all.new.log) (log c.retire_all.new.log)
+    keeps-notes-then (view c.args.engine.now) (view c.retire_all.new.engine) (view c.advance.new.engine) (tells c.args.notes.now)
+    (tells c.retire_all.new.notes) (tells c.advance.new.notes) (log c.args.log.now) (log c.retire_all.new.log) (log c.retire_all.new.log)
     (c.retire_all.ensures.leaves.onward.batch ∙ c.rounds.invariant.leaves.onward.batch) first
-    (c.issue_all.ensures.notes (log c.retire_all.new.log))
-
--- after its posts
-noted₃ : (g : _) (c : After-post_all g)
-    → KeepsNotes (g.E.Calls.view c.args.engine.now) (g.E.Calls.view c.issue_all.new.engine) (g.N.Notes.tells c.args.notes.now)
-    (g.N.Notes.tells c.issue_all.new.notes) (g.L.Sink.written c.args.log.now) (g.L.Sink.written c.retire_all.new.log)
-    → KeepsNotes (g.E.Calls.view c.args.engine.now) (g.E.Calls.view c.post_all.new.engine) (g.N.Notes.tells c.args.notes.now)
-    (g.N.Notes.tells c.issue_all.new.notes) (g.L.Sink.written c.args.log.now) (g.L.Sink.written c.retire_all.new.log)
-noted₃ g c first =
-    let view = g.E.Calls.view in
-    let tells = g.N.Notes.tells in
-    let log = g.L.Sink.written in
-    keeps-notes-then (view c.args.engine.now) (view c.issue_all.new.engine) (view c.post_all.new.engine) (tells c.args.notes.now)
-    (tells c.issue_all.new.notes) (tells c.issue_all.new.notes) (log c.args.log.now) (log c.retire_all.new.log) (log c.retire_all.new.log)
-    (c.issue_all.ensures.leaves.onward.batch ∙ (c.retire_all.ensures.leaves.onward.batch ∙ c.rounds.invariant.leaves.onward.batch)) first
-    (keeps-notes-left (view c.issue_all.new.engine) (view c.post_all.new.engine) (tells c.issue_all.new.notes) c.post_all.ensures.left
-    (log c.retire_all.new.log))
-
--- after its result
-noted₄ : (g : _) (c : After-take_one g)
-    → KeepsNotes (g.E.Calls.view c.args.engine.now) (g.E.Calls.view c.post_all.new.engine) (g.N.Notes.tells c.args.notes.now)
-    (g.N.Notes.tells c.issue_all.new.notes) (g.L.Sink.written c.args.log.now) (g.L.Sink.written c.retire_all.new.log)
-    → KeepsNotes (g.E.Calls.view c.args.engine.now) (g.E.Calls.view c.take_one.new.engine) (g.N.Notes.tells c.args.notes.now)
-    (g.N.Notes.tells c.take_one.new.notes) (g.L.Sink.written c.args.log.now) (g.L.Sink.written c.retire_all.new.log)
-noted₄ g c first =
-    let view = g.E.Calls.view in
-    let tells = g.N.Notes.tells in
-    let log = g.L.Sink.written in
-    keeps-notes-then (view c.args.engine.now) (view c.post_all.new.engine) (view c.take_one.new.engine) (tells c.args.notes.now)
-    (tells c.issue_all.new.notes) (tells c.take_one.new.notes) (log c.args.log.now) (log c.retire_all.new.log) (log c.retire_all.new.log)
-    (c.post_all.ensures.leaves.onward.batch
-    ∙ (c.issue_all.ensures.leaves.onward.batch ∙ (c.retire_all.ensures.leaves.onward.batch ∙ c.rounds.invariant.leaves.onward.batch)))
-    first (c.take_one.ensures.notes (log c.retire_all.new.log))
+    (c.advance.ensures.notes (log c.retire_all.new.log))
 
 pub rounds-init : goal.rounds-init
 rounds-init g c =
@@ -155,79 +100,39 @@ returns-in-Some-clause-crew g c other = c.in_ok-retire_all.ensures.crew (λ e. a
 pub returns-in-Some-clause-written : goal.returns-in-Some-clause-written
 returns-in-Some-clause-written g c = written₁ g (goal.at.returns-in-Some-clause-written g c).In_ok-retire_all
 
-pub issue_all-requires-clause-agrees : goal.issue_all-requires-clause-agrees
-issue_all-requires-clause-agrees g c lifetimes within =
+pub advance-requires-clause-agrees : goal.advance-requires-clause-agrees
+advance-requires-clause-agrees g c lifetimes within =
     agrees-then (leaves-then c.rounds.invariant.leaves c.retire_all.ensures.leaves) (c.in_ok-retire_all.ensures.crew (λ e. absurd (cc e)))
 
-pub returns-in_err-issue_all-clause-leaves : goal.returns-in_err-issue_all-clause-leaves
-returns-in_err-issue_all-clause-leaves g c =
-    leaves-then (leaves-then c.rounds.invariant.leaves c.retire_all.ensures.leaves) c.issue_all.ensures.leaves
+pub returns-in_err-advance-clause-leaves : goal.returns-in_err-advance-clause-leaves
+returns-in_err-advance-clause-leaves g c =
+    leaves-then (leaves-then c.rounds.invariant.leaves c.retire_all.ensures.leaves) c.advance.ensures.leaves
 
-pub returns-in_err-issue_all-clause-partly : goal.returns-in_err-issue_all-clause-partly
-returns-in_err-issue_all-clause-partly g c =
-    on-err c.from_residual-in_err-issue_all.result
-    (KeepsPart (g.E.Calls.view c.args.engine.now) (g.E.Calls.view c.issue_all.new.engine) (g.O.Sink.written c.args.out.now)
+pub returns-in_err-advance-clause-partly : goal.returns-in_err-advance-clause-partly
+returns-in_err-advance-clause-partly g c =
+    on-err c.from_residual-in_err-advance.result
+    (KeepsPart (g.E.Calls.view c.args.engine.now) (g.E.Calls.view c.advance.new.engine) (g.O.Sink.written c.args.out.now)
     (g.O.Sink.written c.retire_all.new.out))
-    (written-whole (g.E.Calls.view c.args.engine.now) (g.E.Calls.view c.issue_all.new.engine) (g.O.Sink.written c.args.out.now)
+    (written-whole (g.E.Calls.view c.args.engine.now) (g.E.Calls.view c.advance.new.engine) (g.O.Sink.written c.args.out.now)
     (g.O.Sink.written c.retire_all.new.out)
-    (written₂ g (goal.at.returns-in_err-issue_all-clause-partly g c).After-issue_all))
-
-pub returns-in_err-post_all-clause-leaves : goal.returns-in_err-post_all-clause-leaves
-returns-in_err-post_all-clause-leaves g c =
-    leaves-then (leaves-then (leaves-then c.rounds.invariant.leaves c.retire_all.ensures.leaves) c.issue_all.ensures.leaves)
-    c.post_all.ensures.leaves
-
-pub returns-in_err-post_all-clause-partly : goal.returns-in_err-post_all-clause-partly
-returns-in_err-post_all-clause-partly g c =
-    on-err c.from_residual-in_err-post_all.result
-    (KeepsPart (g.E.Calls.view c.args.engine.now) (g.E.Calls.view c.post_all.new.engine) (g.O.Sink.written c.args.out.now)
-    (g.O.Sink.written c.retire_all.new.out))
-    (written-whole (g.E.Calls.view c.args.engine.now) (g.E.Calls.view c.post_all.new.engine) (g.O.Sink.written c.args.out.now)
-    (g.O.Sink.written c.retire_all.new.out)
-    (written₃ g (goal.at.returns-in_err-post_all-clause-partly g c).After-post_all))
-
-pub returns-in_err-take_one-clause-leaves : goal.returns-in_err-take_one-clause-leaves
-returns-in_err-take_one-clause-leaves g c =
-    leaves-then
-    (leaves-then (leaves-then (leaves-then c.rounds.invariant.leaves c.retire_all.ensures.leaves) c.issue_all.ensures.leaves)
-    c.post_all.ensures.leaves)
-    c.take_one.ensures.leaves
-
-pub returns-in_err-take_one-clause-partly : goal.returns-in_err-take_one-clause-partly
-returns-in_err-take_one-clause-partly g c =
-    on-err c.from_residual-in_err-take_one.result
-    (KeepsPart (g.E.Calls.view c.args.engine.now) (g.E.Calls.view c.take_one.new.engine) (g.O.Sink.written c.args.out.now)
-    (g.O.Sink.written c.retire_all.new.out))
-    (written-whole (g.E.Calls.view c.args.engine.now) (g.E.Calls.view c.take_one.new.engine) (g.O.Sink.written c.args.out.now)
-    (g.O.Sink.written c.retire_all.new.out)
-    (written₄ g (goal.at.returns-in_err-take_one-clause-partly g c).After-take_one))
+    (written₂ g (goal.at.returns-in_err-advance-clause-partly g c).After-advance))
 
 pub rounds-smaller : goal.rounds-smaller
 rounds-smaller g c =
-    let view = g.E.Calls.view in
-    round-falls (view c.rounds.engine) (view c.retire_all.new.engine) (view c.issue_all.new.engine) (view c.post_all.new.engine)
-    (view c.take_one.new.engine) c.in_ok-take_one.field-0
-    c.retire_all.ensures.leaves.onward c.in_ok-retire_all.ensures.quiet c.in_default.ensures.none
-    c.issue_all.ensures.leaves.onward c.in_ok-issue_all.ensures.issued c.post_all.ensures.leaves.onward c.in_ok-post_all.ensures.none
-    c.in_ok-take_one.ensures.took
+    let most = onward-to-know (g.E.Calls.view c.rounds.engine) (g.E.Calls.view c.retire_all.new.engine) c.retire_all.ensures.leaves.onward in
+    let less = c.in_ok-advance.ensures.falls in
+    omega arith
 
 pub rounds-preserved : goal.rounds-preserved
 rounds-preserved g c =
     let whole = goal.at.rounds-preserved g c in
-    let there = whole.After-take_one in
     record {
-      leaves =
-          leaves-then
-          (leaves-then (leaves-then (leaves-then c.rounds.invariant.leaves c.retire_all.ensures.leaves) c.issue_all.ensures.leaves)
-          c.post_all.ensures.leaves)
-          c.take_one.ensures.leaves;
-      crew = c.in_ok-take_one.ensures.crew;
-      written = written₄ g there;
+      leaves = leaves-then (leaves-then c.rounds.invariant.leaves c.retire_all.ensures.leaves) c.advance.ensures.leaves;
+      crew = c.in_ok-advance.ensures.crew;
+      written = written₂ g whole.After-advance;
       later = let first = c.rounds.invariant.later in let second = c.retire_all.ensures.cause.later in omega arith;
       later' = let first = c.rounds.invariant.later' in let second = c.retire_all.ensures.cause.later' in omega arith;
-      notes =
-          noted₄ g there
-          (noted₃ g whole.After-post_all (noted₂ g whole.After-issue_all (noted₁ g whole.In_ok-retire_all)));
+      notes = noted₂ g whole.After-advance (noted₁ g whole.In_ok-retire_all);
     }
 
 pub returns-in-Some-clause-notes : goal.returns-in-Some-clause-notes
@@ -245,42 +150,15 @@ returns-in_err-retire_all-clause-stopped g c =
     (tells c.rounds.notes) (tells c.retire_all.new.notes) g.N.Notes.part (log c.args.log.now) (log c.rounds.log)
     (log c.retire_all.new.log) c.rounds.invariant.leaves.onward.batch c.rounds.invariant.notes c.in_err-retire_all.ensures.stopped)
 
-pub returns-in_err-issue_all-clause-stopped : goal.returns-in_err-issue_all-clause-stopped
-returns-in_err-issue_all-clause-stopped g c =
+pub returns-in_err-advance-clause-stopped : goal.returns-in_err-advance-clause-stopped
+returns-in_err-advance-clause-stopped g c =
     let view = g.E.Calls.view in
     let tells = g.N.Notes.tells in
     let log = g.L.Sink.written in
-    let there = goal.at.returns-in_err-issue_all-clause-stopped g c in
-    on-err c.from_residual-in_err-issue_all.result
-    (StopsNotes (view c.args.engine.now) (view c.issue_all.new.engine) (tells c.args.notes.now) (tells c.issue_all.new.notes)
+    let there = goal.at.returns-in_err-advance-clause-stopped g c in
+    on-err c.from_residual-in_err-advance.result
+    (StopsNotes (view c.args.engine.now) (view c.advance.new.engine) (tells c.args.notes.now) (tells c.advance.new.notes)
     g.N.Notes.part (log c.args.log.now) (log c.retire_all.new.log))
-    (keeps-stops (view c.args.engine.now) (view c.issue_all.new.engine) (tells c.args.notes.now) (tells c.issue_all.new.notes)
+    (keeps-stops (view c.args.engine.now) (view c.advance.new.engine) (tells c.args.notes.now) (tells c.advance.new.notes)
     g.N.Notes.part (log c.args.log.now) (log c.retire_all.new.log)
-    (noted₂ g there.After-issue_all (noted₁ g there.In_ok-retire_all)))
-
-pub returns-in_err-post_all-clause-stopped : goal.returns-in_err-post_all-clause-stopped
-returns-in_err-post_all-clause-stopped g c =
-    let view = g.E.Calls.view in
-    let tells = g.N.Notes.tells in
-    let log = g.L.Sink.written in
-    let there = goal.at.returns-in_err-post_all-clause-stopped g c in
-    on-err c.from_residual-in_err-post_all.result
-    (StopsNotes (view c.args.engine.now) (view c.post_all.new.engine) (tells c.args.notes.now) (tells c.issue_all.new.notes)
-    g.N.Notes.part (log c.args.log.now) (log c.retire_all.new.log))
-    (keeps-stops (view c.args.engine.now) (view c.post_all.new.engine) (tells c.args.notes.now) (tells c.issue_all.new.notes)
-    g.N.Notes.part (log c.args.log.now) (log c.retire_all.new.log)
-    (noted₃ g there.After-post_all (noted₂ g there.After-issue_all (noted₁ g there.In_ok-retire_all))))
-
-pub returns-in_err-take_one-clause-stopped : goal.returns-in_err-take_one-clause-stopped
-returns-in_err-take_one-clause-stopped g c =
-    let view = g.E.Calls.view in
-    let tells = g.N.Notes.tells in
-    let log = g.L.Sink.written in
-    let there = goal.at.returns-in_err-take_one-clause-stopped g c in
-    on-err c.from_residual-in_err-take_one.result
-    (StopsNotes (view c.args.engine.now) (view c.take_one.new.engine) (tells c.args.notes.now) (tells c.take_one.new.notes)
-    g.N.Notes.part (log c.args.log.now) (log c.retire_all.new.log))
-    (keeps-stops (view c.args.engine.now) (view c.take_one.new.engine) (tells c.args.notes.now) (tells c.take_one.new.notes)
-    g.N.Notes.part (log c.args.log.now) (log c.retire_all.new.log)
-    (noted₄ g there.After-take_one
-    (noted₃ g there.After-post_all (noted₂ g there.After-issue_all (noted₁ g there.In_ok-retire_all)))))
+    (noted₂ g there.After-advance (noted₁ g there.In_ok-retire_all)))
