@@ -6,6 +6,7 @@ pub mod History
 pub mod Inputs
 pub mod Layout
 pub mod LockLists
+pub mod Looking
 pub mod Members
 pub mod Names
 pub mod Plain
