@@ -20,7 +20,7 @@ use Rattle.task_ast.specs.meaning.Tree.{Name}
 use Rattle.gp_audit.specs.declared.line.TraceLine.{TraceLine}
 use Rattle.gp_audit.specs.declared.line.TraceFault.{TraceFault}
 use Rattle.gp_audit.specs.declared.line.TraceFault.TheVariants as fault
-use Rattle.gp_audit.specs.meaning.Lines.{line_text, trace_text, IsNarrowLine}
+use Rattle.gp_audit.specs.meaning.Lines.{line_text, lines_text, IsNarrowLine}
 use Rattle.gp_audit.specs.meaning.Reading.{IsBrokenAt}
 use Rattle.gp_audit.specs.Reading.{AnswersTrace}
 use Rattle.gp_audit.proofs.Once.{lines_once, read_once}
@@ -61,34 +61,34 @@ goes_on xs r ys s same short =
 -- where no line stands after some lines of a text, no more lines stand in it
 no_further : (xs ys : List TraceLine) (r s : List ℕ) → All IsNarrowLine xs → All IsNarrowLine ys
     → ((l : TraceLine) (after : List ℕ) → IsNarrowLine l → r ≢ line_text l ++ after)
-    → trace_text xs ++ r ≡ trace_text ys ++ s → length (trace_text xs) ≤ length (trace_text ys) → length xs ≡ length ys
+    → lines_text xs ++ r ≡ lines_text ys ++ s → length (lines_text xs) ≤ length (lines_text ys) → length xs ≡ length ys
 no_further xs ys r s nx ny none same short = go once.0 once.1 (rest ∙ ap (λ text. text ++ s) once.2)
   where
-    whole : trace_text ys ≡ trace_text xs ++ drop (length (trace_text xs)) (trace_text ys)
-    whole = goes_on (trace_text xs) r (trace_text ys) s same short
+    whole : lines_text ys ≡ lines_text xs ++ drop (length (lines_text xs)) (lines_text ys)
+    whole = goes_on (lines_text xs) r (lines_text ys) s same short
 
-    once : (zs : List TraceLine) × (ys ≡ xs ++ zs) × (drop (length (trace_text xs)) (trace_text ys) ≡ trace_text zs)
-    once = lines_once ys xs (drop (length (trace_text xs)) (trace_text ys)) ny nx whole
+    once : (zs : List TraceLine) × (ys ≡ xs ++ zs) × (drop (length (lines_text xs)) (lines_text ys) ≡ lines_text zs)
+    once = lines_once ys xs (drop (length (lines_text xs)) (lines_text ys)) ny nx whole
 
-    rest : r ≡ drop (length (trace_text xs)) (trace_text ys) ++ s
-    rest = cancel (trace_text xs) r (drop (length (trace_text xs)) (trace_text ys) ++ s)
-        (same ∙ (ap (λ text. text ++ s) whole ∙ append_assoc (trace_text xs) (drop (length (trace_text xs)) (trace_text ys)) s))
+    rest : r ≡ drop (length (lines_text xs)) (lines_text ys) ++ s
+    rest = cancel (lines_text xs) r (drop (length (lines_text xs)) (lines_text ys) ++ s)
+        (same ∙ (ap (λ text. text ++ s) whole ∙ append_assoc (lines_text xs) (drop (length (lines_text xs)) (lines_text ys)) s))
 
-    go : (zs : List TraceLine) → ys ≡ xs ++ zs → r ≡ trace_text zs ++ s → length xs ≡ length ys
+    go : (zs : List TraceLine) → ys ≡ xs ++ zs → r ≡ lines_text zs ++ s → length xs ≡ length ys
     go [] are is = ap length (sym (are ∙ append-nil xs))
     go (z ∷ zs) are is =
-        absurd (none z (trace_text zs ++ s)
+        absurd (none z (lines_text zs ++ s)
         (All-contains IsNarrowLine ys z ny (subst (λ lines. Contains lines z) (sym are)
         (Contains-append_right xs (z ∷ zs) z (0, omega arith, refl))))
-        (is ∙ append_assoc (line_text z) (trace_text zs) s))
+        (is ∙ append_assoc (line_text z) (lines_text zs) s))
 
 -- the first row that is no line has one number
 same_row : (xs ys : List TraceLine) (r s : List ℕ) → All IsNarrowLine xs → All IsNarrowLine ys
     → ((l : TraceLine) (after : List ℕ) → IsNarrowLine l → r ≢ line_text l ++ after)
-    → ((l : TraceLine) (after : List ℕ) → IsNarrowLine l → s ≢ line_text l ++ after) → trace_text xs ++ r ≡ trace_text ys ++ s
+    → ((l : TraceLine) (after : List ℕ) → IsNarrowLine l → s ≢ line_text l ++ after) → lines_text xs ++ r ≡ lines_text ys ++ s
     → length xs ≡ length ys
 same_row xs ys r s nx ny none_r none_s same =
-    elim (cases_lt (length (trace_text xs)) (length (trace_text ys))) [
+    elim (cases_lt (length (lines_text xs)) (length (lines_text ys))) [
       | inl below ↦ no_further xs ys r s nx ny none_r same (omega (arith, below))
       | inr above ↦ sym (no_further ys xs s r ny nx none_s (sym same) (omega (arith, above)))
     ]
@@ -112,9 +112,9 @@ one_reading bytes (Err row) (Err number) is other =
     (sym is.bytes_are ∙ other.bytes_are)) ∙ sym other.counted))
 
 -- no more lines than there may be bytes
-pub few_read : (text : List ℕ) (lines : List TraceLine) → length text ≤ MOST_FILE_BYTES → text ≡ trace_text lines
+pub few_read : (text : List ℕ) (lines : List TraceLine) → length text ≤ MOST_FILE_BYTES → text ≡ lines_text lines
     → length lines < 4294967295
-few_read text lines within is = let few = few-lines text [] lines (is ∙ sym (append-nil (trace_text lines))) in omega (arith, few)
+few_read text lines within is = let few = few-lines text [] lines (is ∙ sym (append-nil (lines_text lines))) in omega (arith, few)
 
 -- no read failed at a refusal of a text
 pub input_unread : (T : Type 0) (names failed : List Name) (line : List ℕ) (refusal : Refusal) → IsInputRefused line refusal

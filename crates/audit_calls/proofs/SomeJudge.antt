@@ -21,7 +21,7 @@ use Rattle.gp_audit.specs.declared.line.TraceLine.{TraceLine}
 use Rattle.gp_audit.specs.declared.line.TraceLine.TheVariants as line
 use Rattle.gp_audit.specs.declared.verdict.Verdict.{Verdict}
 use Rattle.gp_audit.specs.declared.verdict.Verdict.TheVariants.{Lawful, Unlawful, Incomplete}
-use Rattle.gp_audit.specs.meaning.Lines.{line_text, trace_text, redo_end, restart_end, IsNarrow, IsNarrowLine, IsNarrowRestart}
+use Rattle.gp_audit.specs.meaning.Lines.{line_text, lines_text, redo_end, restart_end, IsNarrow, IsNarrowLine, IsNarrowRestart}
 use Rattle.gp_audit.specs.meaning.Verdicts.{events_of, restarts_told, LawfulLines, IsVerdict}
 use Rattle.gp_audit.proofs.Parts.{cancel}
 use Rattle.gp_audit.proofs.Restarts.{head, parts, first_apart}
@@ -293,9 +293,9 @@ line_at bytes =
 
 -- traces
 read_from : (fuel : ℕ) (bytes : List ℕ) (lines : List TraceLine) (rest : List ℕ) → length rest ≤ fuel → All IsNarrowLine lines
-    → bytes ≡ trace_text lines ++ rest
+    → bytes ≡ lines_text lines ++ rest
     → (result : Result (List TraceLine) ℕ) × Reads bytes result
-read_from fuel bytes lines [] short narrow is = (Ok lines, (narrow, is ∙ append-nil (trace_text lines)))
+read_from fuel bytes lines [] short narrow is = (Ok lines, (narrow, is ∙ append-nil (lines_text lines)))
 read_from zero bytes lines (b ∷ rest) short narrow is = absurd (omega (arith, short))
 read_from (suc fuel) bytes lines (b ∷ rest) short narrow is =
     elim (line_at (b ∷ rest)) [

@@ -31,7 +31,7 @@ use Rattle.call_cases.specs.meaning.Case.{Go, IsCase, ForCase, ForRun, status_of
 use Rattle.call_cases.specs.meaning.RunCommands as run
 use Rattle.call_cases.specs.meaning.Headline.{Call, Headline}
 use Rattle.call_cases.proofs.OneCase.{one_case_of}
-use Rattle.audit_calls.specs.meaning.Tried.{Reads, Judge, tried}
+use Rattle.audit_calls.specs.meaning.Tried.{Reads, Judge, tried_with}
 use Rattle.audit_calls.specs.meaning.AuditCommands.{asking, commands}
 use Rattle.audit_calls.specs.Laws.{IsSameRun, TraceLaw}
 use Rattle.audit_calls.specs.inner.Trials.{AnswersLines}
@@ -121,7 +121,7 @@ same_dependence work other same =
 
 same_verdict : (judge : Judge) (work other : ToDo) (lines : List TraceLine) → IsSameRun work other
     → ((verdict : Verdict) → IsVerdict (dependence_for work) work.faults lines verdict → verdict ≡ Lawful)
-    → (tried judge other lines).verdict ≡ Lawful
+    → (tried_with judge other lines).verdict ≡ Lawful
 same_verdict judge work other lines same lawful =
     let verdict = judge.verdict_of (dependence_for other) other.faults lines in
     let faults =
@@ -138,7 +138,7 @@ trace_law judge call files names work headline known is runs whole narrow within
     subst (λ bytes. AnswersLines judge names' audited.trace work' bytes (Ok found.0)) (sym holds)
     (lines_told judge names' audited.trace work' text found.0 within (subst (Reads text) found.1 (judge.reads text))) in
     let one =
-    one_case_of (asking judge) audited files' (Go (names' ++ audited.trace ∷ []) (tried judge work' found.0)) case
+    one_case_of (asking judge) audited files' (Go (names' ++ audited.trace ∷ []) (tried_with judge work' found.0)) case
     (lines_case judge audited files' names' work' found.0 is' answers) is_case in
     let verdict = same_verdict judge work work' found.0 same found.2 in (
       sym (ap (status_of (commands judge)) one) ∙ ap verdict_status verdict,

@@ -26,14 +26,14 @@ use Rattle.call_cases.specs.Refusals.{RefusesCase, RefusesShelf, ReadsAmong}
 use Rattle.call_cases.proofs.Answering.{refuses_map}
 use Rattle.call_cases.proofs.Further.{further_asking, further_case, further, refuses_further}
 use Rattle.call_cases.proofs.Loads.{only_one}
-use Rattle.audit_calls.specs.meaning.Tried.{Judge, Tried, tried, by_rows, by_trace, supplied}
+use Rattle.audit_calls.specs.meaning.Tried.{Judge, Tried, tried_with, by_rows, by_trace, supplied}
 use Rattle.call_cases.specs.meaning.Headline.{ReadsNothing}
 use Rattle.audit_calls.specs.meaning.AuditCommands.{MayRead, of_run, the_trace, asking, commands}
 use Rattle.audit_calls.specs.inner.Trials.{AnswersLines}
 
 -- the case of what the file of a trace comes to
 abbrev traced_case : Supplied Tried → Case Tried
-traced_case (Supplies names tried) = Go names tried
+traced_case (Supplies names tried_with) = Go names tried_with
 traced_case (Lacks names name) = Missing names name
 traced_case (Spoils names line) = BadInput names line
 
@@ -120,7 +120,7 @@ module _ (judge : Judge) (audited : Audited) where
 
     pub lines_case : (names : List Name) (work : ToDo) (lines : List TraceLine) → IsCaseOf run.asking audited.run files (Go names work)
         → AnswersLines judge names audited.trace work (bytes_of files audited.trace) (Ok lines)
-        → IsCaseOf (asking judge) audited files (Go (names ++ audited.trace ∷ []) (tried judge work lines))
+        → IsCaseOf (asking judge) audited files (Go (names ++ audited.trace ∷ []) (tried_with judge work lines))
     lines_case names work lines is answers =
         subst (λ given. IsCaseOf (asking judge) audited files (traced_case given)) answers (case_after names work is)
 
@@ -153,7 +153,7 @@ module _ (judge : Judge) (audited : Audited) where
   pub lines_judged : (files known : Option Files) (names : List Name) (work : ToDo) (lines : List TraceLine) → known ≡ files
       → IfSome files (λ told. IsCaseOf run.asking audited.run told (Go names work))
       → IfSome known (λ told. AnswersLines judge names audited.trace work (bytes_of told audited.trace) (Ok lines))
-      → IfSome files (λ told. IsCaseOf (asking judge) audited told (Go (names ++ audited.trace ∷ []) (tried judge work lines)))
+      → IfSome files (λ told. IsCaseOf (asking judge) audited told (Go (names ++ audited.trace ∷ []) (tried_with judge work lines)))
   lines_judged None known names work lines same is answers = tt
   lines_judged (Some files) known names work lines same is answers =
       lines_case files names work lines is (subst

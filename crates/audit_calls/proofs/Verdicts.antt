@@ -26,7 +26,7 @@ use Rattle.call_cases.specs.meaning.Work.{ToDo}
 use Rattle.call_cases.specs.meaning.Journals.{run_of, dependence_for}
 use Rattle.call_cases.specs.Answers.{PutFor, unwritten}
 use Rattle.audit_calls.specs.Laws.{OneJudge}
-use Rattle.audit_calls.specs.meaning.Tried.{Judge, tried}
+use Rattle.audit_calls.specs.meaning.Tried.{Judge, tried_with}
 use Rattle.audit_calls.proofs.Readings.{one_reading}
 
 -- the plain run has few steps
@@ -42,7 +42,7 @@ few_steps program inputs limits steps are few =
 -- a verdict by the steps of the plain run is the judge's
 pub verdict_judged : (judge : Judge) (work : ToDo) (lines : List TraceLine) (steps : List Step) (verdict : Verdict)
     → steps ≡ map shown (order work.program work.inputs work.limits)
-    → IsVerdict (dependence_by steps) work.faults lines verdict → verdict ≡ (tried judge work lines).verdict
+    → IsVerdict (dependence_by steps) work.faults lines verdict → verdict ≡ (tried_with judge work lines).verdict
 unfolding run_of dependence_for
 verdict_judged judge work lines steps verdict are is =
     verdict_once (dependence_for work) work.faults lines verdict (judge.verdict_of (dependence_for work) work.faults lines)

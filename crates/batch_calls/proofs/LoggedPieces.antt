@@ -23,7 +23,7 @@ use Rattle.whole_run.specs.Drive.{stage_in}
 use Rattle.whole_run.specs.Notes.{left_below, NotesRun}
 use Rattle.whole_run.specs.declared.recovery.Recovery.TheVariants.{Selective}
 use Rattle.retirement_log.specs.meaning.Rows.{row_text, log_text}
-use Rattle.retirement_log.specs.meaning.Log.{row_of, size_of, rows_from, log_of}
+use Rattle.retirement_log.specs.meaning.Log.{log_row, size_of, rows_from, log_told}
 use Rattle.retirement_log.specs.meaning.Telling.{TellsPart}
 use Rattle.retirement_log.specs.Telling.{Tells}
 use Rattle.retirement_log.specs.declared.notes.LogNotes.{LogNotes}
@@ -43,7 +43,7 @@ rows_within : (p bytes n : ℕ) (told : List Effect)
 rows_within p bytes zero told = omega arith
 rows_within p bytes (suc n) [] = omega arith
 rows_within p bytes (suc n) (e ∷ told) =
-    let row = row_text (row_of p (bytes + size_of e) e) in
+    let row = row_text (log_row p (bytes + size_of e) e) in
     let shorter = rows_within (suc p) (bytes + size_of e) n told in
     omega (
       arith,
@@ -53,11 +53,11 @@ rows_within p bytes (suc n) (e ∷ told) =
     )
 
 -- a whole log is a part that lacks nothing
-whole_part : (start written : Option (List ℕ)) (told : List Effect) → Appends start written (log_of told) → TellsPart start written told
+whole_part : (start written : Option (List ℕ)) (told : List Effect) → Appends start written (log_told told) → TellsPart start written told
 whole_part start written told all = (
-  length (log_of told),
+  length (log_told told),
   rows_within 0 (length (codes "output\n")) (length told - 1) told,
-  subst (Appends start written) (sym (take_all (length (log_of told)) (log_of told) (le_refl (length (log_of told))))) all,
+  subst (Appends start written) (sym (take_all (length (log_told told)) (log_told told) (le_refl (length (log_told told))))) all,
 )
 
 -- each position left something
@@ -131,10 +131,10 @@ module _ (batch : Batch) (work : ToDo) (program : program_in batch ≡ work.prog
         → NotesRun (Tells notes) (Tells notes') TellsPart batch log.written log.written' result → IsLogged work log result
     logs_run (Ok report) reports run = elim (run selective log.written (λ p. None) begun) [
       | inl told ↦
-          let taken : Appends log.written log.written' (log_of (left_for work (retired_in work report.journal))) =
-          subst (λ l. Appends log.written log.written' (log_of l)) (told_same report.journal) told.1.log in
+          let taken : Appends log.written log.written' (log_told (left_for work (retired_in work report.journal))) =
+          subst (λ l. Appends log.written log.written' (log_told l)) (told_same report.journal) told.1.log in
           record {
-            whole = subst (λ l. Appends log.written log.written' (log_of l)) (left_all work report.journal reports.complete) taken;
+            whole = subst (λ l. Appends log.written log.written' (log_told l)) (left_all work report.journal reports.complete) taken;
             taken = whole_part log.written log.written' (left_for work (retired_in work report.journal)) taken;
           }
       | inr stopped ↦ absurd (false≢true stopped.0)
@@ -143,7 +143,7 @@ module _ (batch : Batch) (work : ToDo) (program : program_in batch ≡ work.prog
       whole = tt;
       taken = elim (run selective log.written (λ p. None) begun) [
         | inl told ↦ whole_part log.written log.written' (left_for work (retired_in work stop.journal))
-            (subst (λ l. Appends log.written log.written' (log_of l)) (told_same stop.journal) told.1.log)
+            (subst (λ l. Appends log.written log.written' (log_told l)) (told_same stop.journal) told.1.log)
         | inr stopped ↦ subst (TellsPart log.written log.written') (told_same stop.journal) stopped.1
       ];
     }

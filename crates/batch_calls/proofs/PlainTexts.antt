@@ -9,7 +9,7 @@ use Rattle.task_ast.specs.meaning.Plain.{Subthread, order, end, final_records}
 use Rattle.one_thread.specs.declared.run.PlainRun.{PlainRun}
 use Rattle.one_thread.specs.PlainRuns.{IsPlainRun, shown}
 use Rattle.restart_log.specs.meaning.Tail as tail
-use Rattle.call_cases.specs.meaning.Texts.{Ran, tail_text}
+use Rattle.call_cases.specs.meaning.Texts.{Ran, run_tail}
 use Rattle.call_cases.specs.meaning.Work.{ToDo}
 use Rattle.call_cases.specs.meaning.PlainText.{plain_ran}
 use Rattle.batch_calls.specs.inner.Steps.{lines_in, ran_in}
@@ -40,7 +40,7 @@ plain_ran-run work run is =
 -- what follows the lines of a plain run
 pub tail_by : (heads : List Head) (run : PlainRun) (count : ℕ) (bytes text : List ℕ) (cells : List ℤ) → cells ≡ run.records
     → count ≡ length run.order → text ≡ tail.tail_text run.end (cut (records_of heads) cells) count [] 0 → bytes ≡ text
-    → bytes ≡ tail_text (ran_in heads run) [] 0
+    → bytes ≡ run_tail (ran_in heads run) [] 0
 tail_by heads run count bytes text cells same counted told shown =
     shown ∙ told ∙ ap (λ c. tail.tail_text run.end (cut (records_of heads) c) count [] 0) same
     ∙ ap (λ n. tail.tail_text run.end (cut (records_of heads) run.records) n [] 0) counted

@@ -41,7 +41,7 @@ use Rattle.call_cases.specs.meaning.Answers.{Change, IsEmpty, TakesAll, TakesPar
 use Rattle.call_cases.proofs.RunSound.{empty_journal_of, none_retired}
 use Rattle.batch_calls.specs.inner.Planned.{recovery_of}
 use Rattle.batch_calls.specs.inner.Ran.{WritesLines, Stops, why_of, RunsBatch, bytes_below, bytes_at, IsReportOf, RunsIf, RunsWork, RanIf, RanFor, told_tail, told_soak}
-use Rattle.call_cases.specs.meaning.Texts.{tail_text, run_text, soak_text}
+use Rattle.call_cases.specs.meaning.Texts.{run_tail, run_text, run_soak}
 
 -- a run that recovers as a command does redoes what is said of the command, and its journals are lawful and complete as is said of it
 pub same_recovering : (c : Command) (run : List Subthread) → whole.recovering (recovery_of c) run ≡ recovering_by c run
@@ -236,7 +236,7 @@ all_retired work journal complete = retired_by (run_of work) work.faults journal
 
 -- what follows the lines of the report is what follows those of the work
 told_same : (work : ToDo) (report : Report) → IsReportOf work report
-    → told_tail work.program report ≡ tail_text (plain_ran work) (restarts_in work) (length work.faults)
+    → told_tail work.program report ≡ run_tail (plain_ran work) (restarts_in work) (length work.faults)
 unfolding plain_ran
 told_same work report is =
     let names = records_of work.program.heads in
@@ -249,7 +249,7 @@ told_same work report is =
     is.unused
 
 summary_same : (batch : Soak) (work : ToDo) (report : Report) → IsReportOf work report
-    → told_soak batch report ≡ soak_text batch (plain_ran work) (restarts_in work) (length work.faults)
+    → told_soak batch report ≡ run_soak batch (plain_ran work) (restarts_in work) (length work.faults)
 summary_same batch work report is =
     ap (λ e. soak.soak_text batch.moves batch.start e report.records report.subthreads report.journal.restarts report.unused) is.end
     ∙ ap (λ c. soak.soak_text batch.moves batch.start (plain_ran work).end c report.subthreads report.journal.restarts report.unused)
@@ -296,7 +296,7 @@ module _ (failed : Type 0) (work : ToDo) (writes : WritesLines work.command) whe
   all_text = run_text (plain_ran work) (restarts_in work) (length work.faults)
 
   abbrev ending : List ℕ
-  ending = tail_text (plain_ran work) (restarts_in work) (length work.faults)
+  ending = run_tail (plain_ran work) (restarts_in work) (length work.faults)
 
   -- the first line was not written
   pub ran_without_first : (out : Change) (stop : EngineStop) (journal : Journal) (fault : SinkFault) → IsEmpty journal
@@ -408,7 +408,7 @@ module _ (failed : Type 0) (work : ToDo) (writes : WritesLines work.command) whe
 -- the summary of a batch that the program made
 module _ (work : ToDo) (batch : Soak) (run : work.command ≡ command.Soak batch) where
   abbrev summary : List ℕ
-  summary = soak_text batch (plain_ran work) (restarts_in work) (length work.faults)
+  summary = run_soak batch (plain_ran work) (restarts_in work) (length work.faults)
 
   -- the run stopped, and nothing was written
   pub soak_without_run : (out nobody : Change) (stop : EngineStop) → out.written' ≡ out.written → nobody.faults ≡ 0 → nobody.faults' ≡ 0

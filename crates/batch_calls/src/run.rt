@@ -11,7 +11,7 @@ ghost use Rattle.call_cases.specs.meaning.Answers.{Change, change_of};
 ghost use Rattle.call_cases.specs.Answers.{LineEnds, unwritten};
 ghost use Rattle.call_cases.specs.Decided.{work_of};
 ghost use Rattle.call_cases.specs.meaning.PlainText.{plain_ran, restarts_in};
-ghost use Rattle.call_cases.specs.meaning.Texts.{run_text, soak_text};
+ghost use Rattle.call_cases.specs.meaning.Texts.{run_text, run_soak};
 ghost use Rattle.call_cases.specs.meaning.Work.{ToDo, is_journalled};
 ghost use Rattle.batch_calls.specs.inner.Planned.{IsPlanOf, IsPlanned, Carries, work_begun, work_planned};
 ghost use Rattle.batch_calls.specs.inner.Ran.{RanFor, EndsFor, StopsWith, WritesLines, why_of, told_tail, told_soak};

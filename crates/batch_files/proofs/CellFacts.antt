@@ -7,46 +7,46 @@ use Rattle.std.proofs.lemmas.Bool.Decides.{nat_tests}
 use Rattle.std.proofs.lemmas.List.{map-append, get_or-replicate, length-replicate, take_all}
 use Rattle.std.proofs.Math.Seq.{take-suc}
 use Rattle.batch_files.specs.meaning.Rows.{Row, first_broken}
-use Rattle.batch_files.specs.meaning.Records.{cells_below, records_by, entry_of, entry_rule, record_rule, value_at, value_or}
+use Rattle.batch_files.specs.meaning.Records.{cells_below, records_by, entry_of, entry_rule, record_rule, indexed_value, value_or}
 use Rattle.batch_files.specs.Records.{AreCells}
 use Rattle.batch_files.specs.declared.records.Entry.{Entry}
 use Rattle.batch_files.specs.declared.fault.FileKind.{FileKind}
 use Rattle.batch_files.specs.declared.fault.FileKind.TheVariants.{Twice}
 
-value_new : (size : ℕ) (rows : List Row) (row : Row) (entry : Entry) → entry_of size row ≡ Ok entry → value_at size rows entry.index ≡ None
-    → value_at size (rows ++ row ∷ []) entry.index ≡ Some entry.value
+value_new : (size : ℕ) (rows : List Row) (row : Row) (entry : Entry) → entry_of size row ≡ Ok entry → indexed_value size rows entry.index ≡ None
+    → indexed_value size (rows ++ row ∷ []) entry.index ≡ Some entry.value
 value_new size [] row entry e none =
     let here : (entry.index == entry.index) ≡ true = grind (arith, nat_tests) in
     rw (e, here) refl
 value_new size (r ∷ rows) row entry e none = go (entry_of size r) (value_new size rows row entry e) none
   where
-    pick : (b : Bool) (v : ℤ) → (value_at size rows entry.index ≡ None → value_at size (rows ++ row ∷ []) entry.index ≡ Some entry.value)
-        → (if b then Some v else value_at size rows entry.index) ≡ None
-        → (if b then Some v else value_at size (rows ++ row ∷ []) entry.index) ≡ Some entry.value
+    pick : (b : Bool) (v : ℤ) → (indexed_value size rows entry.index ≡ None → indexed_value size (rows ++ row ∷ []) entry.index ≡ Some entry.value)
+        → (if b then Some v else indexed_value size rows entry.index) ≡ None
+        → (if b then Some v else indexed_value size (rows ++ row ∷ []) entry.index) ≡ Some entry.value
     pick true v later none = cc none
     pick false v later none = later none
 
     go : (o : Result Entry FileKind)
-        → (value_at size rows entry.index ≡ None → value_at size (rows ++ row ∷ []) entry.index ≡ Some entry.value)
-        → value_or o entry.index (value_at size rows entry.index) ≡ None
-        → value_or o entry.index (value_at size (rows ++ row ∷ []) entry.index) ≡ Some entry.value
+        → (indexed_value size rows entry.index ≡ None → indexed_value size (rows ++ row ∷ []) entry.index ≡ Some entry.value)
+        → value_or o entry.index (indexed_value size rows entry.index) ≡ None
+        → value_or o entry.index (indexed_value size (rows ++ row ∷ []) entry.index) ≡ Some entry.value
     go (Ok old) later none = pick (old.index == entry.index) old.value later none
     go (Err kind) later none = later none
 
 value_other : (size : ℕ) (rows : List Row) (row : Row) (entry : Entry) (other : ℕ) → entry_of size row ≡ Ok entry → entry.index ≢ other
-    → value_at size (rows ++ row ∷ []) other ≡ value_at size rows other
+    → indexed_value size (rows ++ row ∷ []) other ≡ indexed_value size rows other
 value_other size [] row entry other e ne =
     let there : (entry.index == other) ≡ false = grind (arith, nat_tests) in
     rw (e, there) refl
 value_other size (r ∷ rows) row entry other e ne = ap (value_or (entry_of size r) other) (value_other size rows row entry other e ne)
 
 cells_are : (size n : ℕ) (rows : List Row) (cells : List (Option ℤ)) → n ≤ length cells
-    → ((i : ℕ) → i < n → get_or cells i None ≡ value_at size rows i)
+    → ((i : ℕ) → i < n → get_or cells i None ≡ indexed_value size rows i)
     → map (λ cell. unwrap_or cell (pos 0)) (take n cells) ≡ cells_below size n rows
 cells_are size zero rows cells room same = refl
 cells_are size (suc n) rows cells room same =
     rw (take-suc cells n None, map-append (λ cell. unwrap_or cell (pos 0)) (take n cells) (get_or cells n None ∷ []), same n (omega arith))
-    (ap (λ below. below ++ unwrap_or (value_at size rows n) (pos 0) ∷ [])
+    (ap (λ below. below ++ unwrap_or (indexed_value size rows n) (pos 0) ∷ [])
     (cells_are size n rows cells (omega arith) (λ i lt. same i (omega arith))))
 
 -- the values of all cells
@@ -65,13 +65,13 @@ no_rows size cells empty =
 
 -- the cells after one more row
 same_set : (size : ℕ) (rows : List Row) (row : Row) (entry : Entry) (cells : List (Option ℤ)) → length cells ≡ size → entry.index < size
-    → entry_of size row ≡ Ok entry → value_at size rows entry.index ≡ None
-    → ((i : ℕ) → i < size → get_or cells i None ≡ value_at size rows i)
-    → (i : ℕ) → i < size → get_or (slice_set cells entry.index (Some entry.value)) i None ≡ value_at size (rows ++ row ∷ []) i
+    → entry_of size row ≡ Ok entry → indexed_value size rows entry.index ≡ None
+    → ((i : ℕ) → i < size → get_or cells i None ≡ indexed_value size rows i)
+    → (i : ℕ) → i < size → get_or (slice_set cells entry.index (Some entry.value)) i None ≡ indexed_value size (rows ++ row ∷ []) i
 same_set size rows row entry cells room lt e free same i small = go (cases_Bool (entry.index == i))
   where
     go : ((entry.index == i) ≡ true) ⊎ ((entry.index == i) ≡ false)
-        → get_or (slice_set cells entry.index (Some entry.value)) i None ≡ value_at size (rows ++ row ∷ []) i
+        → get_or (slice_set cells entry.index (Some entry.value)) i None ≡ indexed_value size (rows ++ row ∷ []) i
     go (inl here) =
         let at : i ≡ entry.index = grind (arith, nat_tests, here) in
         let inside : entry.index < length cells = omega arith in
@@ -88,7 +88,7 @@ pub put_cell : (size : ℕ) (rows : List Row) (row : Row) (entry : Entry) (value
 put_cell size rows row entry value cells (room, same) e v lt none =
     let here = rw room at e in
     let inside = rw room at lt in
-    let free : value_at size rows entry.index ≡ None = sym (same entry.index inside) ∙ none in (
+    let free : indexed_value size rows entry.index ≡ None = sym (same entry.index inside) ∙ none in (
       ap (entry_rule size rows) here ∙ rw free refl,
       rw v (simp length-set room, same_set size rows row entry cells room inside here free same),
     )

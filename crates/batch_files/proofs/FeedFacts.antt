@@ -6,14 +6,14 @@ use Rattle.std.proofs.lemmas.Bool.Decides.{nat_tests}
 use Rattle.std.proofs.lemmas.Grind.{flat_map-append}
 use Rattle.std.proofs.lemmas.List.{append-nil}
 use Rattle.csv.specs.Records.{field_at}
-use Rattle.batch_files.specs.meaning.Numbers.{number_at, signed_number}
+use Rattle.batch_files.specs.meaning.Numbers.{field_number, signed_number}
 use Rattle.batch_files.specs.meaning.Rows.{Row}
 use Rattle.batch_files.specs.meaning.Feeds.{cells_of, feed_rule, number_before, numbers_of}
 use Rattle.batch_files.specs.Feeds.{AreCells}
 use Rattle.batch_files.specs.declared.fault.FileKind.TheVariants.{Number, TooMany}
 
 -- the numbers up to a field, and one more
-pub numbers_more : (row : Row) (i : ℕ) (number : ℤ) (numbers : List ℤ) → number_at row i ≡ Some number
+pub numbers_more : (row : Row) (i : ℕ) (number : ℤ) (numbers : List ℤ) → field_number row i ≡ Some number
     → numbers_of (take i row) ≡ Some numbers
     → numbers_of (take (suc i) row) ≡ Some (numbers ++ number ∷ [])
 unfolding field_at
@@ -32,7 +32,7 @@ numbers_more (f ∷ fs) (suc i) number numbers e so_far =
     go None rest is later e = cc e
 
 -- a field that writes no number
-pub no_numbers : (row : Row) (i : ℕ) → i < length row → number_at row i ≡ None → numbers_of row ≡ None
+pub no_numbers : (row : Row) (i : ℕ) → i < length row → field_number row i ≡ None → numbers_of row ≡ None
 unfolding field_at
 no_numbers [] i lt e = absurd (omega (arith, lt))
 no_numbers (f ∷ fs) zero lt e = rw e refl

@@ -10,7 +10,8 @@ use Rattle.std.proofs.lemmas.Str.Parse.{IsNumeralModel, numerals_by_value, tells
 use Rattle.std.proofs.lemmas.Bool.{cases_Bool}
 use Rattle.std.proofs.lemmas.Bool.Decides.{nat_tests}
 use mir.Syntax.{w64}
-use Rattle.batch_files.specs.meaning.Numbers.{is_digits, number_up_to, signed_number}
+use Rattle.batch_files.specs.meaning.Numbers.{number_up_to, signed_number}
+use Rattle.gp_base.specs.meaning.Digits.{is_digits}
 
 decimal : IsNumeralModel (λ ds. all_ascii_digits ds ≡ true) (digits_value 10)
 decimal = numerals_by_value _ tells_all_ascii_digits

@@ -7,7 +7,7 @@ use Rattle.csv.specs.declared.reader.Reader.{Reader}
 use Rattle.csv.specs.declared.parser.State.{State}
 use Rattle.csv.specs.declared.parser.State.TheVariants as st
 use Rattle.csv.proofs.ReadFacts.{rows-end, rows-more}
-use Rattle.batch_files.specs.meaning.Rows.{Broken, Row, Rule, first_broken, rows_of}
+use Rattle.batch_files.specs.meaning.Rows.{Broken, Row, Rule, first_broken, csv_rows}
 use Rattle.batch_files.specs.Answers.{PutsRow, Tells, fault_at}
 use Rattle.batch_files.specs.declared.fault.FileKind.{FileKind}
 use Rattle.batch_files.specs.declared.fault.RowFault.{RowFault}
@@ -61,7 +61,7 @@ passed_more rem a b rule text number Kept Now row done config p read put =
 with_rest : {R : Type 0} (rem : R → Option (List ℕ)) (a b : Reader R) (rule : Rule) (bytes : List ℕ) (number : ℕ)
     (Kept : List Row → Type 0) (row : Row)
     → a.config ≡ default_config → (p : Passed rule (strip_bom bytes) a.state (source_of rem a) number Kept) → ReadRecord rem a b true row
-    → (rest : List Row) × (rows_of bytes ≡ p.rows ++ row ∷ rest)
+    → (rest : List Row) × (csv_rows bytes ≡ p.rows ++ row ∷ rest)
 with_rest rem a b rule bytes number Kept row config p read =
     let m = rows-more rem a b row default_config st.StartRecord (strip_bom bytes) p.rest p.rows config p.known p.reached read in
     let all = reached_records default_config st.StartRecord b.state (strip_bom bytes) m.0 (p.rows ++ row ∷ []) m.2 in
@@ -78,7 +78,7 @@ pub passed_bad : {R : Type 0} (rem : R → Option (List ℕ)) (a b : Reader R) (
     (Kept Now : List Row → Type 0) (row : Row) (fault : RowFault)
     → a.config ≡ default_config → Passed rule (strip_bom bytes) a.state (source_of rem a) number Kept → ReadRecord rem a b true row
     → ((rows : List Row) → Kept rows → PutsRow (rule rows row) (Now (rows ++ row ∷ [])) (Err fault))
-    → Tells (fault_at fault number) (first_broken rule [] (rows_of bytes))
+    → Tells (fault_at fault number) (first_broken rule [] (csv_rows bytes))
 passed_bad rem a b rule bytes number Kept Now row fault config p read put =
     let all = with_rest rem a b rule bytes number Kept row config p read in
     told fault _ number (rule p.rows row) (Now (p.rows ++ row ∷ [])) (put p.rows p.kept)
@@ -88,9 +88,9 @@ passed_bad rem a b rule bytes number Kept Now row fault config p read put =
 pub passed_end : {R : Type 0} (rem : R → Option (List ℕ)) (a b : Reader R) (rule : Rule) (bytes : List ℕ) (number : ℕ)
     (Kept : List Row → Type 0) (row : Row)
     → a.config ≡ default_config → Passed rule (strip_bom bytes) a.state (source_of rem a) number Kept → ReadRecord rem a b false row
-    → (first_broken rule [] (rows_of bytes) ≡ None) × Kept (rows_of bytes)
+    → (first_broken rule [] (csv_rows bytes) ≡ None) × Kept (csv_rows bytes)
 passed_end rem a b rule bytes number Kept row config p read =
     let none = rows-end rem a b row default_config p.rest config p.known read in
-    let all : rows_of bytes ≡ p.rows = reached_records default_config st.StartRecord a.state (strip_bom bytes) p.rest p.rows p.reached
+    let all : csv_rows bytes ≡ p.rows = reached_records default_config st.StartRecord a.state (strip_bom bytes) p.rest p.rows p.reached
     ∙ rw (no_more default_config a.state p.rest none) (append-nil p.rows) in
     rw all (p.whole, p.kept)

@@ -4,7 +4,7 @@ ghost use Rattle.std.specs.List.{list_any};
 ghost use Rattle.csv.specs.Records.{fields_of};
 ghost use Rattle.gp_base.specs.meaning.Faults.{strikes_same};
 ghost use Rattle.gp_base.specs.Faults.{IsInRange};
-ghost use Rattle.batch_files.specs.meaning.Rows.{rows_of};
+ghost use Rattle.batch_files.specs.meaning.Rows.{csv_rows};
 ghost use Rattle.batch_files.specs.meaning.Faults as spec;
 ghost use Rattle.batch_files.specs.Faults.{AreFaults};
 ghost use Rattle.batch_files.specs.Answers.{Answers};
@@ -22,7 +22,7 @@ use std::alloc::Global;
 /// 2^32, a delay of at most `LONGEST_DELAY` and a mask that is not 0; a position and an attempt that no earlier row has
 /// together; and at most `MOST_FAULTS` rows.
 pub fn read_faults(alloc: Global, bytes: &Text) -> Result<Faults, FileFault>
-    ensures { Answers (λ faults. faults.list) result (spec.faults_by (rows_of bytes.now)) }
+    ensures { Answers (λ faults. faults.list) result (spec.faults_by (csv_rows bytes.now)) }
 {
     put_rows(alloc, bytes.as_slice(), Faults::none(alloc))
 }

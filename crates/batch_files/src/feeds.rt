@@ -2,7 +2,7 @@
 ghost use Rattle.std.specs.Prelude.{◌≡◌, ◌≤◌, ◌<◌, IfOk};
 ghost use Rattle.csv.specs.Records.{fields_of};
 ghost use Rattle.gp_base.specs.declared.limits.TheConstants.{MOST_FEED_CELLS};
-ghost use Rattle.batch_files.specs.meaning.Rows.{rows_of};
+ghost use Rattle.batch_files.specs.meaning.Rows.{csv_rows};
 ghost use Rattle.batch_files.specs.meaning.Feeds as spec;
 ghost use Rattle.batch_files.specs.Feeds.{AreCells};
 ghost use Rattle.batch_files.specs.Answers.{Answers, PushesNumbers};
@@ -20,7 +20,7 @@ use std::alloc::Global;
 pub fn read_feed(alloc: Global, bytes: &Text, fields: u32, room: u32) -> Result<Feed, FileFault>
     requires some_field { 0 < fields }
     requires room { room ≤ MOST_FEED_CELLS }
-    ensures cells { Answers (λ feed. feed.cells) result (spec.feed_by fields room (rows_of bytes.now)) }
+    ensures cells { Answers (λ feed. feed.cells) result (spec.feed_by fields room (csv_rows bytes.now)) }
     ensures fields { IfOk result (λ feed. feed.fields ≡ fields) }
 {
     let table = Cells {

@@ -27,7 +27,7 @@ fn starts_with_plus(text: &[u8]) -> bool
 
 /// The number that a field of a row writes.
 pub fn number_at(row: &ByteRecord, field: usize) -> Option<i64>
-    ensures { result ≡ spec.number_at (fields_of row.now) field }
+    ensures { result ≡ spec.field_number (fields_of row.now) field }
 {
     signed_number(row.get(field)?)
 }

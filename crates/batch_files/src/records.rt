@@ -1,7 +1,7 @@
 // Files of records: the index and the value of a cell in each row.
 ghost use Rattle.std.specs.Prelude.{◌≡◌, ◌<◌, None, IfOk, length, map, replicate, unwrap_or, pos};
 ghost use Rattle.csv.specs.Records.{fields_of};
-ghost use Rattle.batch_files.specs.meaning.Rows.{rows_of};
+ghost use Rattle.batch_files.specs.meaning.Rows.{csv_rows};
 ghost use Rattle.batch_files.specs.meaning.Records as spec;
 ghost use Rattle.batch_files.specs.Records.{AreCells};
 ghost use Rattle.batch_files.specs.Answers.{Answers};
@@ -17,7 +17,7 @@ use std::alloc::{AllocError, Global};
 /// `Bad` tells the first row that breaks a rule, with the first rule that it breaks: two fields, which are numbers; an
 /// index below the size; and one that no earlier row has.
 pub fn read_records(alloc: Global, bytes: &Text, size: u32) -> Result<Nums, FileFault>
-    ensures { Answers (λ cells. cells) result (spec.records_by size (rows_of bytes.now)) }
+    ensures { Answers (λ cells. cells) result (spec.records_by size (csv_rows bytes.now)) }
 {
     let cells = Cells::new(alloc, size)?;
     let cells = put_rows(alloc, bytes.as_slice(), cells)?;

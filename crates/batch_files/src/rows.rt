@@ -1,7 +1,7 @@
 // The rows of a file, one after the other.
 ghost use Rattle.std.specs.Prelude.{[], ◌∷◌, ◌++◌, List};
 ghost use Rattle.csv.specs.Records.{fields_of};
-ghost use Rattle.batch_files.specs.meaning.Rows.{Row, Rule, first_broken, rows_of};
+ghost use Rattle.batch_files.specs.meaning.Rows.{Row, Rule, first_broken, csv_rows};
 ghost use Rattle.batch_files.specs.Answers.{PutsRow, PutsAll};
 
 use crate::fault::{FileFault, RowFault, at_row};
@@ -25,7 +25,7 @@ pub trait Table {
 /// The table after all rows of a file.
 pub fn put_rows<T: Table + Drop>(alloc: Global, bytes: &[u8], mut table: T) -> Result<T, FileFault>
     requires { T.holds table table [] }
-    ensures { PutsAll (first_broken (T.rule table) [] (rows_of bytes.now)) (λ full. T.holds table full (rows_of bytes.now)) result }
+    ensures { PutsAll (first_broken (T.rule table) [] (csv_rows bytes.now)) (λ full. T.holds table full (csv_rows bytes.now)) result }
 {
     let mut reader = ReaderBuilder::new()
         .has_headers(false)

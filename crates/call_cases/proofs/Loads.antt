@@ -22,14 +22,14 @@ use Rattle.task_ast.specs.declared.tree.Head.{Head}
 use Rattle.task_ast.specs.declared.tree.Head.TheVariants.{LockHead, BarrierHead, RecHead, FeedHead}
 use Rattle.task_ast.specs.meaning.Tree.{Name}
 use Rattle.task_ast.specs.meaning.Names.{natural}
-use Rattle.batch_files.specs.meaning.Rows.{Broken, rows_of}
+use Rattle.batch_files.specs.meaning.Rows.{Broken, csv_rows}
 use Rattle.batch_files.specs.meaning.Records.{records_by}
 use Rattle.batch_files.specs.meaning.Feeds.{feed_by}
 use Rattle.call_cases.specs.declared.reading.Refusal.{Refusal}
 use Rattle.call_cases.specs.declared.reading.Refusal.TheVariants as refused
 use Rattle.call_cases.specs.meaning.Work.{Files, Supplied, Supplies, Lacks, Spoils}
 use Rattle.call_cases.specs.meaning.Lines.{input_line}
-use Rattle.call_cases.specs.meaning.InputFiles.{nothing, are_rows, feed_where, feed_with, with_cells, with_feed, room_after, record_rows, feed_rows, fault_rows, more_cells, more_feed, by_rows, by_file, load_faults, by_record, load_head, then_load, load}
+use Rattle.call_cases.specs.meaning.InputFiles.{no_inputs, are_rows, feed_where, feed_with, with_cells, with_feed, room_after, record_rows, feed_rows, fault_rows, more_cells, more_feed, by_rows, by_file, load_faults, by_record, load_head, then_load, load}
 use Rattle.call_cases.specs.InputFiles.{named, names_in, file_names}
 use Rattle.call_cases.specs.inner.Loading.{IsReadable, AreReadable, IsRefusedBy, AnswersRows, names_of, StepsTo, AnswersLoad, AnswersFaults}
 use Rattle.call_cases.specs.Refusals.{ReadsAmong}
@@ -181,7 +181,7 @@ file_among (h ∷ heads) (suc i) head name below is file =
 
 -- the steps of a record's file
 pub record_ok : (names : List Name) (file : Name) (size : ℕ) (bytes : Option (List ℕ)) (inputs : Inputs) (cells : List ℤ)
-    → IsSomeAnd bytes (λ text. (length text ≤ MOST_FILE_BYTES) × (records_by size (rows_of text) ≡ Ok cells))
+    → IsSomeAnd bytes (λ text. (length text ≤ MOST_FILE_BYTES) × (records_by size (csv_rows text) ≡ Ok cells))
     → by_file names file bytes (record_rows size) (more_cells inputs) ≡ Supplies (names ++ file ∷ []) (with_cells inputs cells)
 record_ok names file size bytes inputs cells is = ok_file names file bytes (record_rows size) (more_cells inputs) cells is
 
@@ -198,7 +198,7 @@ record_bad names file size bytes inputs refused.OutOfMemory is = tt
 -- the steps of a feed's file
 pub feed_ok : (names : List Name) (file : Name) (bytes : Option (List ℕ)) (inputs : Inputs) (feed : Feed)
     → IsSomeAnd bytes (λ text. (length text ≤ MOST_FILE_BYTES)
-    × (feed_by feed.fields (room_after inputs.feeds) (rows_of text) ≡ Ok feed.cells))
+    × (feed_by feed.fields (room_after inputs.feeds) (csv_rows text) ≡ Ok feed.cells))
     → by_file names file bytes (feed_rows feed.fields (room_after inputs.feeds)) (more_feed inputs feed.fields)
     ≡ Supplies (names ++ file ∷ []) (with_feed inputs (Some feed))
 feed_ok names file bytes inputs feed is =
@@ -240,7 +240,7 @@ pub feeds_ok : (told : Option Files) (file : Name) (fields room : ℕ) (inputs a
     → feed.fields ≡ fields
     → after.records ≡ inputs.records → after.feeds ≡ inputs.feeds ++ feed ∷ []
     → IfSome told (λ files. IsSomeAnd (bytes_of files file)
-    (λ text. (length text ≤ MOST_FILE_BYTES) × (feed_by fields room (rows_of text) ≡ Ok feed.cells)))
+    (λ text. (length text ≤ MOST_FILE_BYTES) × (feed_by fields room (csv_rows text) ≡ Ok feed.cells)))
     → IfSome told (λ files. (names : List Name)
     → by_file names file (bytes_of files file) (feed_rows fields (room_after inputs.feeds)) (more_feed inputs fields)
     ≡ Supplies (names ++ file ∷ []) after)
@@ -248,9 +248,9 @@ feeds_ok None file fields room inputs after feed same_room same_fields records f
 feeds_ok (Some files) file fields room inputs after feed same_room same_fields records feeds is =
     let meant =
     subst (λ r. IsSomeAnd (bytes_of files file)
-    (λ text. (length text ≤ MOST_FILE_BYTES) × (feed_by feed.fields r (rows_of text) ≡ Ok feed.cells))) same_room
+    (λ text. (length text ≤ MOST_FILE_BYTES) × (feed_by feed.fields r (csv_rows text) ≡ Ok feed.cells))) same_room
     (subst (λ f. IsSomeAnd (bytes_of files file)
-    (λ text. (length text ≤ MOST_FILE_BYTES) × (feed_by f room (rows_of text) ≡ Ok feed.cells))) (sym same_fields) is) in
+    (λ text. (length text ≤ MOST_FILE_BYTES) × (feed_by f room (csv_rows text) ≡ Ok feed.cells))) (sym same_fields) is) in
     let grown : with_feed inputs (Some feed) ≡ after = ap₂ (λ r f. inputs_of r f) (sym records) (sym feeds) in
     λ names.
     ap (λ f. by_file names file (bytes_of files file) (feed_rows f (room_after inputs.feeds)) (more_feed inputs f)) (sym same_fields)
@@ -316,35 +316,35 @@ room_after-more feeds feed = let sums = sum_by-append (λ (f : Feed). length f.c
 -- the same where the files are told, by whom they are told
 pub loads_more : (known told : Option Files) (heads : List Head) (i : ℕ) (head : Head) (before after : Inputs) → known ≡ told
     → i < length heads → head ≡ get_or heads i head
-    → IfSome told (λ files. load files (file_names (take i heads)) before (drop i heads) ≡ load files [] nothing heads)
+    → IfSome told (λ files. load files (file_names (take i heads)) before (drop i heads) ≡ load files [] no_inputs heads)
     → IfSome known (λ files. (names : List Name) → load_head files names before head ≡ Supplies (names ++ names_in head) after)
-    → IfSome told (λ files. load files (file_names (take (i + 1) heads)) after (drop (i + 1) heads) ≡ load files [] nothing heads)
+    → IfSome told (λ files. load files (file_names (take (i + 1) heads)) after (drop (i + 1) heads) ≡ load files [] no_inputs heads)
 loads_more known None heads i head before after same below is so_far step = tt
 loads_more known (Some files) heads i head before after same below is so_far step =
     let steps =
     subst (λ k. IfSome k (λ files. (names : List Name) → load_head files names before head ≡ Supplies (names ++ names_in head) after))
     same step in
-    load-more files heads i head before after (load files [] nothing heads) below is so_far (steps (file_names (take i heads)))
+    load-more files heads i head before after (load files [] no_inputs heads) below is so_far (steps (file_names (take i heads)))
 
 pub loads_stop : (known told : Option Files) (heads : List Head) (i : ℕ) (head : Head) (before after : Inputs) (failed failed' : List Name)
     (refusal : Refusal) → known ≡ told → i < length heads → head ≡ get_or heads i head
-    → IfSome told (λ files. load files (file_names (take i heads)) before (drop i heads) ≡ load files [] nothing heads)
+    → IfSome told (λ files. load files (file_names (take i heads)) before (drop i heads) ≡ load files [] no_inputs heads)
     → IfSome known (λ files. (names : List Name)
     → StepsTo {T = Unit {0}} names (names_in head) (load_head files names before head) after (Err refusal))
     → ReadsAmong {T = Unit {0}} (names_in head) failed failed' (Err refusal)
-    → IfSome told (λ files. AnswersLoad (load files [] nothing heads) (file_names heads) (Err refusal))
+    → IfSome told (λ files. AnswersLoad (load files [] no_inputs heads) (file_names heads) (Err refusal))
 loads_stop known None heads i head before after failed failed' refusal same below is so_far step among = tt
 loads_stop known (Some files) heads i head before after failed failed' refusal same below is so_far step among =
     let steps =
     subst (λ k. IfSome k (λ files. (names : List Name)
     → StepsTo {T = Unit {0}} names (names_in head) (load_head files names before head) after (Err refusal))) same step in
-    load-stops files heads i head before after (load files [] nothing heads) failed failed' refusal below is so_far
+    load-stops files heads i head before after (load files [] no_inputs heads) failed failed' refusal below is so_far
     (steps (file_names (take i heads))) among
 
 -- all heads were read
 pub loads_all : (told : Option Files) (heads : List Head) (n : ℕ) (after : Inputs) → length heads ≤ n
-    → IfSome told (λ files. load files (file_names (take n heads)) after (drop n heads) ≡ load files [] nothing heads)
-    → IfSome told (λ files. load files [] nothing heads ≡ Supplies (file_names heads) after)
+    → IfSome told (λ files. load files (file_names (take n heads)) after (drop n heads) ≡ load files [] no_inputs heads)
+    → IfSome told (λ files. load files [] no_inputs heads ≡ Supplies (file_names heads) after)
 loads_all None heads n after past is = tt
 loads_all (Some files) heads n after past is =
     sym is ∙ ap (λ l. load files (file_names (take n heads)) after l) (drop_all n heads past)

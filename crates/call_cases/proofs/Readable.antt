@@ -9,7 +9,7 @@ use Rattle.task_ast.specs.declared.tree.Head.TheVariants.{LockHead, BarrierHead,
 use Rattle.task_ast.specs.meaning.Tree.{Program}
 use Rattle.task_ast.specs.meaning.Names.{natural, is_among, head_name, records_of, cells_in}
 use Rattle.task_ast.specs.meaning.Visit.{Visit, fails_if, fault_at, first_fault}
-use Rattle.task_ast.specs.meaning.Declarations.{lacks_array, sizes_differ, passes_limit, count_of, head_visit, head_visits, task_visits, main_visit, line_of}
+use Rattle.task_ast.specs.meaning.Declarations.{lacks_array, sizes_differ, passes_limit, count_of, head_visit, head_visits, task_visits, main_visit, head_line}
 use Rattle.task_ast.specs.meaning.Check.{bodies_visits, check_fault}
 use Rattle.call_cases.specs.inner.Loading.{IsReadable, AreReadable}
 use Rattle.std.proofs.Common.{map}
@@ -63,7 +63,7 @@ readable_head program before h none =
 readable_heads : (program : Program) (before heads : List Head) → first_fault (head_visits program before heads) ≡ None → AreReadable heads
 readable_heads program before [] none = tt
 readable_heads program before (h ∷ heads) none =
-    let here = no_fault (line_of h) (head_visit program before h).fails (first_fault (head_visits program (before ++ h ∷ []) heads)) none in
+    let here = no_fault (head_line h) (head_visit program before h).fails (first_fault (head_visits program (before ++ h ∷ []) heads)) none in
     (readable_head program before h here.0, readable_heads program (before ++ h ∷ []) heads here.1)
 
 pub readable : (program : Program) → check_fault program ≡ None → AreReadable program.heads

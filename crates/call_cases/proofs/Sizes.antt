@@ -6,15 +6,15 @@ use Rattle.task_ast.specs.declared.tree.Head.{Head}
 use Rattle.task_ast.specs.declared.tree.Head.TheVariants.{LockHead, BarrierHead, RecHead, FeedHead}
 use Rattle.task_ast.specs.meaning.Names.{natural, records_of, cells_in}
 use Rattle.task_ast.specs.Inputs.{fields_of}
-use Rattle.batch_files.specs.meaning.Rows.{Broken, Row, rows_of, unless_broken, first_broken}
-use Rattle.batch_files.specs.meaning.Records.{cells_below, record_rule, value_at}
+use Rattle.batch_files.specs.meaning.Rows.{Broken, Row, csv_rows, unless_broken, first_broken}
+use Rattle.batch_files.specs.meaning.Records.{cells_below, record_rule, indexed_value}
 use Rattle.call_cases.specs.meaning.InputFiles.{record_rows}
 use Rattle.call_cases.specs.inner.Loading.{Counts, Grows}
 
 below_length : (size n : ℕ) (rows : List Row) → length (cells_below size n rows) ≡ n
 below_length size zero rows = refl
 below_length size (suc n) rows =
-    length-append (cells_below size n rows) (unwrap_or (value_at size rows n) (pos 0) ∷ []) ∙ ap (λ k. k + 1) (below_length size n rows)
+    length-append (cells_below size n rows) (unwrap_or (indexed_value size rows n) (pos 0) ∷ []) ∙ ap (λ k. k + 1) (below_length size n rows)
     ∙ add-one n
 
 meant_length : (size : ℕ) (rows : List Row) (broken : Option Broken) (cells : List ℤ)
@@ -26,7 +26,7 @@ meant_length size rows (Some broken) cells is = cc is
 
 -- the cells of a record, where its file has any, are as many as its size
 pub record_length : (size : ℕ) (bytes : List ℕ) (cells : List ℤ) → record_rows size bytes ≡ Ok cells → length cells ≡ size
-record_length size bytes cells is = meant_length size (rows_of bytes) (first_broken (record_rule size) [] (rows_of bytes)) cells is
+record_length size bytes cells is = meant_length size (csv_rows bytes) (first_broken (record_rule size) [] (csv_rows bytes)) cells is
 
 -- one head more
 cells_more : (heads : List Head) (head : Head)

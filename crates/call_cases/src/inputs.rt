@@ -5,7 +5,7 @@ ghost use Rattle.gp_base.specs.meaning.Files.{bytes_of};
 ghost use Rattle.task_ast.specs.meaning.Tree.{Name};
 ghost use Rattle.task_ast.specs.Inputs.{fields_in};
 ghost use Rattle.call_cases.specs.meaning.Lines.{input_line, kind_number};
-ghost use Rattle.call_cases.specs.meaning.InputFiles.{nothing, room_after, by_file, by_record, record_rows, feed_rows, fault_rows, more_cells, more_feed, load_head, load_faults, load};
+ghost use Rattle.call_cases.specs.meaning.InputFiles.{no_inputs, room_after, by_file, by_record, record_rows, feed_rows, fault_rows, more_cells, more_feed, load_head, load_faults, load};
 ghost use Rattle.call_cases.specs.InputFiles.{named, names_in, file_names};
 ghost use Rattle.call_cases.specs.Refusals.{IsInputRefused, IsUnread, ReadsAmong, AnswersFile};
 ghost use Rattle.call_cases.specs.inner.Loading.{RefusesFile, AnswersRows, IsReadable, AreReadable, seen, StepsTo, AnswersLoad, AnswersFaults, Grows, Counts};
@@ -274,7 +274,7 @@ pub fn read_inputs<H: Shelf>(
     requires { AreReadable heads.now }
     ensures kept { H.files shelf.new ≡ H.files shelf.old }
     ensures failed { ReadsAmong (file_names heads.now) (H.failed shelf.old) (H.failed shelf.new) result }
-    ensures told { IfSome (H.files shelf.old) (λ files. AnswersLoad (load files [] nothing heads.now) (file_names heads.now) result) }
+    ensures told { IfSome (H.files shelf.old) (λ files. AnswersLoad (load files [] no_inputs heads.now) (file_names heads.now) result) }
     ensures counts { IfOk result (Counts heads.now) }
 {
     let mut loading = Loading {

@@ -11,7 +11,7 @@ ghost use Rattle.command_line.specs.declared.asked.Command.TheVariants as comman
 ghost use Rattle.call_cases.specs.meaning.Work.{runs, makes_files};
 ghost use Rattle.call_cases.specs.meaning.Headline.{ReadsNothing};
 ghost use Rattle.call_cases.specs.meaning.RunCommands.{MayRead, asking, commands};
-ghost use Rattle.call_cases.specs.meaning.Lines.{fault_line, number_of};
+ghost use Rattle.call_cases.specs.meaning.Lines.{fault_line, rule_number};
 ghost use Rattle.call_cases.specs.meaning.Case.{IsCaseOf, IsCase};
 ghost use Rattle.lock_checker.specs.Accepted.{program_of};
 ghost use Rattle.call_cases.specs.inner.Loading.{AnswersLoad};
@@ -95,7 +95,7 @@ fn refused_parsing(alloc: Global, fault: ParseFault) -> Refusal
 
 // The number of a rule.
 fn number_of(kind: CheckKind) -> u8
-    ensures { result ≡ number_of kind }
+    ensures { result ≡ rule_number kind }
 {
     match kind {
         CheckKind::UnknownName => 1,

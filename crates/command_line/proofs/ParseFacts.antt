@@ -8,7 +8,8 @@ use Rattle.std.proofs.lemmas.Str.Parse.{IsNumeralModel, numerals_by_value, tells
 use Rattle.std.proofs.lemmas.Bool.{cases_Bool}
 use Rattle.std.proofs.Common.{inl, inr}
 use Rattle.std.proofs.lemmas.Bool.Decides.{nat_tests}
-use Rattle.command_line.specs.meaning.Numbers.{is_digits, number_in}
+use Rattle.command_line.specs.meaning.Numbers.{number_between}
+use Rattle.gp_base.specs.meaning.Digits.{is_digits}
 
 digits_model : IsNumeralModel (λ ds. all_ascii_digits ds ≡ true) (digits_value 10)
 digits_model = numerals_by_value _ tells_all_ascii_digits
@@ -39,25 +40,25 @@ is_within low high ds a b c d = grind (arith, nat_tests)
 
 -- what is read is the number within the widest limits
 pub reads : {E : Type 0} (text : List ℕ) (r : Result ℕ E) → get_or text 0 0 ≢ 43 → ParsesUnsigned 64 10 text r
-    → result_ok r ≡ number_in 0 (2 ^ 64 - 1) text
+    → result_ok r ≡ number_between 0 (2 ^ 64 - 1) text
 reads text r plain h = read_if r _ _ _
     (λ t. let w = within 0 (2 ^ 64 - 1) text t in (w.0, w.1, omega (arith, w.3)))
     (λ p. is_within 0 (2 ^ 64 - 1) text p.0 p.1 (omega arith) (omega (arith, p.2)))
     (parse_plain digits_model 64 text r h plain)
 
 -- narrower limits
-pub narrowed : (low high n : ℕ) (text : List ℕ) → number_in 0 (2 ^ 64 - 1) text ≡ Some n
-    → number_in low high text ≡ if nat_le low n && nat_le n high then Some n else None
+pub narrowed : (low high n : ℕ) (text : List ℕ) → number_between 0 (2 ^ 64 - 1) text ≡ Some n
+    → number_between low high text ≡ if nat_le low n && nat_le n high then Some n else None
 narrowed low high n text h = go (is_digits text) (nat_le 0 (digits_value 10 text)) (nat_le (digits_value 10 text) (2 ^ 64 - 1)) refl h
   where
     go : (a z b : Bool) → is_digits text ≡ a → (if a && (z && b) then Some (digits_value 10 text) else None) ≡ Some n
-        → number_in low high text ≡ if nat_le low n && nat_le n high then Some n else None
+        → number_between low high text ≡ if nat_le low n && nat_le n high then Some n else None
     go true true true e h = let same : digits_value 10 text ≡ n = cc h in rw (e, same) refl
     go true true false e h = cc h
     go true false b e h = cc h
     go false z b e h = cc h
 
-pub no_number : (low high : ℕ) (text : List ℕ) → high < 2 ^ 64 → number_in 0 (2 ^ 64 - 1) text ≡ None → number_in low high text ≡ None
+pub no_number : (low high : ℕ) (text : List ℕ) → high < 2 ^ 64 → number_between 0 (2 ^ 64 - 1) text ≡ None → number_between low high text ≡ None
 no_number low high text room h =
     elim (cases_Bool (is_digits text && (nat_le low (digits_value 10 text) && nat_le (digits_value 10 text) high))) [
       | inl found ↦

@@ -1,10 +1,10 @@
 // Decimal numbers.
 ghost use Rattle.std.specs.Prelude.{◌≡◌, ◌≤◌, ◌==◌, slice_index, IfSome};
-ghost use Rattle.command_line.specs.meaning.Numbers.{number_in};
+ghost use Rattle.command_line.specs.meaning.Numbers.{number_between};
 
 /// The value of a text that is one or more digits, where it lies within these limits.
 pub fn number_in(low: u64, high: u64, text: &str) -> Option<u64>
-    ensures value { result ≡ number_in low high text.now }
+    ensures value { result ≡ number_between low high text.now }
     ensures within { IfSome result (λ n. (low ≤ n) × (n ≤ high)) }
 {
     // `parse` takes a plus, which is no part of a number here.

@@ -10,7 +10,7 @@ use Rattle.gp_audit.specs.declared.line.TraceLine.TheVariants as line
 use Rattle.gp_audit.specs.declared.line.TraceFault.{TraceFault}
 use Rattle.gp_audit.specs.declared.line.TraceFault.TheVariants as fault
 use Rattle.gp_audit.specs.Reading.{AnswersTrace}
-use Rattle.gp_audit.specs.meaning.Lines.{line_text, trace_text, before_space, at_end, attempt_before, applies_word, redo_end, restart_end, IsNarrow, IsNarrowRestart, IsNarrowLine}
+use Rattle.gp_audit.specs.meaning.Lines.{line_text, lines_text, before_space, at_end, attempt_before, applies_word, redo_end, restart_end, IsNarrow, IsNarrowRestart, IsNarrowLine}
 use Rattle.gp_audit.proofs.Digits.{number_once}
 use Rattle.gp_audit.proofs.FirstWords.{only_issue, only_post, only_take, only_retire, only_restart}
 use Rattle.gp_audit.proofs.Parts.{cancel, before_once, attempt_once, space, line_end}
@@ -101,12 +101,12 @@ line_once (line.Restart a) m r s nl nm same =
 
 -- where lines begin a text of lines, they are the first of those
 pub lines_once : (xs ys : List TraceLine) (rest : List ℕ) → All IsNarrowLine xs → All IsNarrowLine ys
-    → trace_text xs ≡ trace_text ys ++ rest
-    → (zs : List TraceLine) × (xs ≡ ys ++ zs) × (rest ≡ trace_text zs)
+    → lines_text xs ≡ lines_text ys ++ rest
+    → (zs : List TraceLine) × (xs ≡ ys ++ zs) × (rest ≡ lines_text zs)
 lines_once xs [] rest nx ny same = (xs, refl, sym same)
 lines_once [] (y ∷ ys) rest nx ny same = absurd (none y same)
   where
-    none : (l : TraceLine) → [] ≢ (line_text l ++ trace_text ys) ++ rest
+    none : (l : TraceLine) → [] ≢ (line_text l ++ lines_text ys) ++ rest
     none (line.Issue p) e = absurd (let n = ap length e in omega arith)
     none (line.Post p a) e = absurd (let n = ap length e in omega arith)
     none (line.Take p a x) e = absurd (let n = ap length e in omega arith)
@@ -114,14 +114,14 @@ lines_once [] (y ∷ ys) rest nx ny same = absurd (none y same)
     none (line.Retire p) e = absurd (let n = ap length e in omega arith)
 lines_once (x ∷ xs) (y ∷ ys) rest nx ny same =
     let one =
-    line_once x y (trace_text xs) (trace_text ys ++ rest) (All-head IsNarrowLine x xs nx) (All-head IsNarrowLine y ys ny)
-    (same ∙ append_assoc (line_text y) (trace_text ys) rest) in
+    line_once x y (lines_text xs) (lines_text ys ++ rest) (All-head IsNarrowLine x xs nx) (All-head IsNarrowLine y ys ny)
+    (same ∙ append_assoc (line_text y) (lines_text ys) rest) in
     let more = lines_once xs ys rest (All-tail IsNarrowLine x xs nx) (All-tail IsNarrowLine y ys ny) one.1 in
     let heads = one.0 in
     let tails = more.1 in
     (more.0, (λ i. heads i ∷ tails i), more.2)
 
-no_text : (zs : List TraceLine) → [] ≡ trace_text zs → zs ≡ []
+no_text : (zs : List TraceLine) → [] ≡ lines_text zs → zs ≡ []
 no_text [] e = refl
 no_text (line.Issue p ∷ zs) e = absurd (let n = ap length e in omega arith)
 no_text (line.Post p a ∷ zs) e = absurd (let n = ap length e in omega arith)
@@ -131,20 +131,20 @@ no_text (line.Retire p ∷ zs) e = absurd (let n = ap length e in omega arith)
 
 -- the text of lines is read as these lines
 pub read_once : (lines : List TraceLine) → All IsNarrowLine lines → (result : Result (List TraceLine) TraceFault)
-    → AnswersTrace (trace_text lines) result
+    → AnswersTrace (lines_text lines) result
     → (result ≡ Ok lines) ⊎ (result ≡ Err fault.OutOfMemory)
 read_once lines narrow (Ok read) h =
-    let once = lines_once lines read [] narrow h.0 (h.1 ∙ sym (append-nil (trace_text read))) in
+    let once = lines_once lines read [] narrow h.0 (h.1 ∙ sym (append-nil (lines_text read))) in
     inl (ap Ok (sym (append-nil read) ∙ (ap (λ zs. read ++ zs) (sym (no_text once.0 once.2)) ∙ sym once.1)))
 read_once lines narrow (Err fault.OutOfMemory) h = inr refl
 read_once lines narrow (Err (fault.Line row)) h = absurd (broken once.0 once.1 once.2)
   where
-    once : (zs : List TraceLine) × (lines ≡ h.lines ++ zs) × (h.rest ≡ trace_text zs)
+    once : (zs : List TraceLine) × (lines ≡ h.lines ++ zs) × (h.rest ≡ lines_text zs)
     once = lines_once lines h.lines h.rest narrow h.narrow h.bytes_are
 
-    broken : (zs : List TraceLine) → lines ≡ h.lines ++ zs → h.rest ≡ trace_text zs → ⊥
+    broken : (zs : List TraceLine) → lines ≡ h.lines ++ zs → h.rest ≡ lines_text zs → ⊥
     broken [] are text = h.some_row text
     broken (z ∷ zs) are text =
-        h.no_line z (trace_text zs)
+        h.no_line z (lines_text zs)
         (All-contains IsNarrowLine lines z narrow
         (subst (λ xs. Contains xs z) (sym are) (Contains-append_right h.lines (z ∷ zs) z (0, omega arith, refl)))) text

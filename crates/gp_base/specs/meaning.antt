@@ -1,4 +1,5 @@
 -- What the top calls promise is said in the words of these definitions, and each of them is reached: so these have to be believed.
+pub mod Digits
 pub mod Faults
 pub mod Feeds
 pub mod Files

@@ -20,7 +20,7 @@ use Rattle.task_ast.specs.meaning.Names.{is_name, barriers_of, registers_of, tas
 use Rattle.task_ast.specs.meaning.Value.{value}
 use Rattle.task_ast.specs.meaning.Action.{term, Action, Set, Load, Store, Say, Choose, Child, Give, Bring, Arm, NoAction, OneAction}
 use Rattle.task_ast.specs.meaning.Body.{Step, Silent, Iteration, Act, Stop, Body, follow, stretch, body}
-use Rattle.task_ast.specs.meaning.Control.{Setting, Point, known, branch, action, arm, lock_number, record_number, register_number, all_of, control_arguments, data_arguments, fork_arguments, fork_of, step_at, step_from, step, size, begin_actions, env_at, tree_body}
+use Rattle.task_ast.specs.meaning.Control.{Setting, Point, known, branch, action, arm, lock_number, record_number, register_number, all_of, control_arguments, data_arguments, fork_arguments, fork_named, step_at, step_from, step, size, begin_actions, env_at, tree_body}
 use Rattle.task_ast.specs.meaning.State.{State, RegistersOf, cell_value}
 use Rattle.task_ast.specs.meaning.Effect.{Doing, picked, cell_now, term_value, done, arm_done, all_done, joined_ret, effect}
 use Rattle.task_ast.specs.meaning.Turn.{child_of}
@@ -34,7 +34,7 @@ use Rattle.task_ast.proofs.LessTurns.{inside_of}
 use Rattle.lock_checker.specs.Soundness.{LocksStand, IsAhead, at_start, at_stop, at_limit}
 use Rattle.lock_checker.proofs.StepStops.{IsOther, Stops, locking, unlocking, forking, ending, otherwise, failing, stops_from, task_there}
 use Rattle.retirement_log.specs.meaning.Log.{numbered, child_left}
-use Rattle.gp_resume.specs.meaning.Fitting.{StandsUnder, child_registers}
+use Rattle.gp_resume.specs.meaning.Fitting.{StandsUnder, child_size}
 
 -- ---- registers
 
@@ -191,7 +191,7 @@ module _ (s : Setting) where
   step_bears_at line (If e a b) rest p = known_bears line (value e (env_at s p)) _ (λ v known. branch_bears v _ _ tt tt)
   step_bears_at line (Lock a i) rest p = known_bears line (lock_number s a i (env_at s p)) _ (λ l known. tt)
   step_bears_at line (Unlock a i) rest p = known_bears line (lock_number s a i (env_at s p)) _ (λ l known. tt)
-  step_bears_at line (Fork t es x) rest p = known_bears line (fork_of s t es p) _ (λ arguments known. tt)
+  step_bears_at line (Fork t es x) rest p = known_bears line (fork_named s t es p) _ (λ arguments known. tt)
   step_bears_at line (Join e x) rest p = known_bears line (value e (env_at s p)) _ (λ h known. tt)
   step_bears_at line (Barrier b) rest p =
       known_bears line (position (λ other. is_name b other.0) (barriers_of s.program.heads)) _ (λ n known. tt)
@@ -273,7 +273,7 @@ module _ (s : Setting) where
       Bears made = BearsOne (length (registers_of task)) made.1
 
   -- a fork of the task of this name makes a child with the registers of the task of its number
-  fork_bears : (t : Name) (es : List Expr) (p : Point) (arguments : List ℤ × List Action) → fork_of s t es p ≡ Some arguments
+  fork_bears : (t : Name) (es : List Expr) (p : Point) (arguments : List ℤ × List Action) → fork_named s t es p ≡ Some arguments
       → BearsOne (length (registers_of (task_at s.program (unwrap_or (task_number s.program t) 0)))) arguments.1
   fork_bears t es p arguments is =
       chained (λ made. BearsOne (length (registers_of (task_at s.program (unwrap_or (task_number s.program t) 0)))) made.1)
@@ -295,12 +295,12 @@ module _ (s : Setting) where
       → BearsOne (length (registers_of (task_at s.program k))) (begin_actions s left p)
   stop_bears (locking known) p next k values is fork same = absurd (cc fork)
   stop_bears (unlocking known) p next k values is fork same = absurd (cc fork)
-  stop_bears (forking {line = line} {t = t} {es = es} task named) p next k values is fork same = go (fork_of s t es p) refl is
+  stop_bears (forking {line = line} {t = t} {es = es} task named) p next k values is fork same = go (fork_named s t es p) refl is
     where
       number : ℕ
       number = unwrap_or (task_number s.program t) 0
 
-      go : (o : Option (List ℤ × List Action)) → fork_of s t es p ≡ o
+      go : (o : Option (List ℤ × List Action)) → fork_named s t es p ≡ o
           → known line o (λ arguments. Stop (record { sync = sync.Fork number arguments.0; line = line })) ≡ Stop next
           → BearsOne (length (registers_of (task_at s.program k))) (unwrap_or (option_map (λ arguments. arguments.1) o) [])
       go None there is = absurd (let bad : sync.BadIndex ≡ sync.Fork k values = ap sync_in is ∙ same in cc bad)
@@ -353,7 +353,7 @@ module _ (program : Program) (inputs : Inputs) (limits : Limits) (x : Plain) (st
       first : BearsOne (length (registers_of (task_at program k))) (firsts s.begins.sync)
       first = subst (λ op. BearsOne (length (registers_of (task_at program k))) (firsts op)) (sym fork) (ahead_bears k values fork ahead)
 
-  child_by : (op : SyncOp) → s.begins.sync ≡ op → length (left_for (child_of op (length x.table.seats))) ≡ child_registers program op
+  child_by : (op : SyncOp) → s.begins.sync ≡ op → length (left_for (child_of op (length x.table.seats))) ≡ child_size program op
   child_by (sync.Fork k values) is = fork_child k values is
   child_by sync.Start is = refl
   child_by (sync.Lock l) is = refl
@@ -366,7 +366,7 @@ module _ (program : Program) (inputs : Inputs) (limits : Limits) (x : Plain) (st
   child_by sync.Spent is = refl
 
   -- a subthread leaves a child the registers of its task, and leaves none where it forks none
-  pub child_is : length (child_left (effect s.thread s.begins.sync s.child s.actions x.state).child) ≡ child_registers program s.begins.sync
+  pub child_is : length (child_left (effect s.thread s.begins.sync s.child s.actions x.state).child) ≡ child_size program s.begins.sync
   child_is =
       ap (λ (child : Option ℕ). length (left_for child)) step_is.child ∙ child_by s.begins.sync refl
 

@@ -26,8 +26,8 @@ use Rattle.task_ast.proofs.Repeats.{state_after_none, step_there, step_reached}
 use Rattle.task_ast.proofs.PlainRuns.{count_law}
 use Rattle.task_ast.proofs.Positions.{step_is}
 use Rattle.crew.specs.meaning.Noted.{left_at, left_from, left_in_order}
-use Rattle.retirement_log.specs.meaning.Rows.{Row}
-use Rattle.retirement_log.specs.meaning.Log.{row_of, size_of, rows_from, rows_of}
+use Rattle.retirement_log.specs.meaning.Rows.{LogRow}
+use Rattle.retirement_log.specs.meaning.Log.{log_row, size_of, rows_from, log_rows}
 use Rattle.gp_resume.specs.meaning.Fitting.{left_by, led_by, replayed, run_after, resumed_at}
 use Rattle.gp_resume.specs.meaning.Resumed.{steps_left, rest, last, final_records, count}
 use Rattle.gp_resume.specs.Laws.{own_rows, IsRest}
@@ -81,7 +81,7 @@ writes-back (w ∷ ws) = ap (λ rest. w ∷ rest) (writes-back ws)
 
 -- an effect is what its row says, but for the lines
 left-back : (p bytes t : ℕ) (begins : SyncOp) (child : Option ℕ) (actions : List Action) (state : State)
-    → after (left_by (row_of p bytes (effect t begins child actions state)) t child) state
+    → after (left_by (log_row p bytes (effect t begins child actions state)) t child) state
     ≡ after (effect t begins child actions state) state
 left-back p bytes t begins None actions state =
     let e : Effect = effect t begins None actions state in
@@ -105,7 +105,7 @@ length-rows k bytes (e ∷ told) = ap suc (length-rows (suc k) (bytes + size_of 
 module _ (program : Program) (inputs : Inputs) (limits : Limits) where
   -- the row of a position leads to the next one
   pub replay-step : (p bytes : ℕ) (s : Subthread) → slice_get (order program inputs limits) p ≡ Some s
-      → replayed program inputs limits (before program inputs limits p) (row_of p bytes (left_at program inputs limits p s))
+      → replayed program inputs limits (before program inputs limits p) (log_row p bytes (left_at program inputs limits p s))
       ≡ before program inputs limits (suc p)
   replay-step p bytes s e =
       let there = step_there (move program inputs limits) (suc limits.subthreads) p (opening program inputs limits) s e in
@@ -115,14 +115,14 @@ module _ (program : Program) (inputs : Inputs) (limits : Limits) where
       let state : (before program inputs limits (suc p)).state
       ≡ after (left_at program inputs limits p s) (before program inputs limits p).state =
       (step_is (tree_machine program inputs limits) program inputs limits p s e).state in
-      let same_data : after (left_by (row_of p bytes (left_at program inputs limits p s)) s.thread s.child)
+      let same_data : after (left_by (log_row p bytes (left_at program inputs limits p s)) s.thread s.child)
       (before program inputs limits p).state ≡ next.state =
       left-back p bytes s.thread s.begins.sync s.child s.actions (before program inputs limits p).state
       ∙ (sym state ∙ ap (λ (x : Plain). x.state) reached) in
-      ap (led_by (before program inputs limits p) (row_of p bytes (left_at program inputs limits p s))) there.moves
+      ap (led_by (before program inputs limits p) (log_row p bytes (left_at program inputs limits p s))) there.moves
       ∙ (ap (λ (st : State). let y : Plain = record next { state = st } in y) same_data ∙ sym reached)
 
-  pub run-push : (x : Plain) (rows : List Row) (row : Row)
+  pub run-push : (x : Plain) (rows : List LogRow) (row : LogRow)
       → run_after program inputs limits x (rows ++ row ∷ []) ≡ replayed program inputs limits (run_after program inputs limits x rows) row
   run-push x [] row = refl
   run-push x (r ∷ rows) row = run-push (replayed program inputs limits x r) rows row
@@ -130,24 +130,24 @@ module _ (program : Program) (inputs : Inputs) (limits : Limits) where
   -- a position has the row of what it left
   rows-at : (k b : ℕ) (run : List Subthread) (p : ℕ) (s : Subthread) → slice_get run p ≡ Some s
       → (bytes : ℕ) × (slice_get (rows_from k b (left_from program inputs limits k run)) p
-      ≡ Some (row_of (k + p) bytes (left_at program inputs limits (k + p) s)))
+      ≡ Some (log_row (k + p) bytes (left_at program inputs limits (k + p) s)))
   rows-at k b [] p s e = absurd (cc e)
   rows-at k b (x ∷ run) zero s e =
       let same : x ≡ s = cc e in
       let here : k ≡ k + 0 = omega arith in
       let bytes : ℕ = b + size_of (left_at program inputs limits k x) in (
         bytes,
-        ap (λ (y : Subthread). Some (row_of k bytes (left_at program inputs limits k y))) same
-            ∙ ap (λ (n : ℕ). Some (row_of n bytes (left_at program inputs limits n s))) here,
+        ap (λ (y : Subthread). Some (log_row k bytes (left_at program inputs limits k y))) same
+            ∙ ap (λ (n : ℕ). Some (log_row n bytes (left_at program inputs limits n s))) here,
       )
   rows-at k b (x ∷ run) (suc p) s e =
       let later = rows-at (suc k) (b + size_of (left_at program inputs limits k x)) run p s e in
       let here : suc k + p ≡ k + suc p = omega arith in
-      (later.0, later.1 ∙ ap (λ (n : ℕ). Some (row_of n later.0 (left_at program inputs limits n s))) here)
+      (later.0, later.1 ∙ ap (λ (n : ℕ). Some (log_row n later.0 (left_at program inputs limits n s))) here)
 
   -- the rows of all positions
-  abbrev all : List Row
-  all = rows_of (left_in_order program inputs limits)
+  abbrev all : List LogRow
+  all = log_rows (left_in_order program inputs limits)
 
   length-all : length all ≡ length (order program inputs limits)
   length-all =
@@ -171,14 +171,14 @@ module _ (program : Program) (inputs : Inputs) (limits : Limits) where
       there : slice_get (order program inputs limits) p ≡ Some s
       there = slice_get-get_or (order program inputs limits) p dummy (omega arith)
 
-      found : (bytes : ℕ) × (slice_get all p ≡ Some (row_of (0 + p) bytes (left_at program inputs limits (0 + p) s)))
+      found : (bytes : ℕ) × (slice_get all p ≡ Some (log_row (0 + p) bytes (left_at program inputs limits (0 + p) s)))
       found = rows-at 0 (length (codes "output\n")) (order program inputs limits) p s there
 
-      row : Row
-      row = row_of p found.0 (left_at program inputs limits p s)
+      row : LogRow
+      row = log_row p found.0 (left_at program inputs limits p s)
 
       is : slice_get all p ≡ Some row
-      is = let here : 0 + p ≡ p = omega arith in found.1 ∙ ap (λ (n : ℕ). Some (row_of n found.0 (left_at program inputs limits n s))) here
+      is = let here : 0 + p ≡ p = omega arith in found.1 ∙ ap (λ (n : ℕ). Some (log_row n found.0 (left_at program inputs limits n s))) here
 
       more : take (suc p) all ≡ take p all ++ row ∷ []
       more =

@@ -11,8 +11,8 @@ ghost use Rattle.task_ast.specs.meaning.Layout.{layout};
 ghost use Rattle.task_ast.specs.meaning.Plain.{Plain, Subthread};
 ghost use Rattle.task_code.specs.Flat.{code_of};
 ghost use Rattle.subthread.specs.Tasks.{program_in};
-ghost use Rattle.retirement_log.specs.meaning.Rows.{Row};
-ghost use Rattle.gp_resume.specs.meaning.Fitting.{StandsUnder, child_registers, FitsIssue, least_bytes};
+ghost use Rattle.retirement_log.specs.meaning.Rows.{LogRow};
+ghost use Rattle.gp_resume.specs.meaning.Fitting.{StandsUnder, child_size, FitsIssue, least_bytes};
 ghost use Rattle.gp_resume.specs.inner.Course.{IsSuited, Begins, IsBegun};
 ghost use Rattle.gp_resume.specs.inner.RowsRead.{row_in, write_in};
 
@@ -26,7 +26,7 @@ use task_code::Code;
 
 // How many registers a subthread that begins so gives to a child.
 fn registers_given(code: &Code, begins: &SyncOp) -> u32
-    ensures { result ≡ child_registers (code_of code.now).program begins.now }
+    ensures { result ≡ child_size (code_of code.now).program begins.now }
 {
     match begins {
         SyncOp::Fork { task, args: _ } => registers(code, *task),
@@ -98,7 +98,7 @@ fn fits_turn(position: Pos, least: i64, row: &LogRow) -> bool
 
 // Whether a row has as many registers as these, and as many of a child as a subthread gives that begins so.
 fn fits_registers(code: &Code, begins: &SyncOp, regs: &Nums, row: &LogRow) -> bool
-    ensures { IsTrue result ↔ (length row.now.regs ≡ length regs.now) × (length row.now.child ≡ child_registers (code_of code.now).program begins.now) }
+    ensures { IsTrue result ↔ (length row.now.regs ≡ length regs.now) × (length row.now.child ≡ child_size (code_of code.now).program begins.now) }
 {
     let given = registers_given(code, begins) as usize;
     row.regs.len() == regs.len() && row.child.len() == given
@@ -124,7 +124,7 @@ pub fn fits(
 ) -> Result<bool, AllocError>
     requires suits { IsSuited plan.now }
     requires begun { IsBegun plan.now begun.now course.now }
-    ensures { IfOk result (λ fits. (x : Plain) (s : Subthread) (y : Plain) (before : Option Row) → Begins plan.now x s y begun.now course.now → least ≡ least_bytes before
+    ensures { IfOk result (λ fits. (x : Plain) (s : Subthread) (y : Plain) (before : Option LogRow) → Begins plan.now x s y begun.now course.now → least ≡ least_bytes before
         → Decides fits (FitsIssue (program_in plan.now.work.now) x s before (row_in row.now))) }
 {
     let code = &plan.work.code;

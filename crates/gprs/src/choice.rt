@@ -1,7 +1,7 @@
 // Which of the top calls takes the words.
 ghost use Rattle.std.specs.Prelude.{◌≡◌, IfOk};
 ghost use Rattle.command_line.specs.meaning.Words.{texts};
-ghost use Rattle.gprs.specs.meaning.Choice.{begins_with, call_of};
+ghost use Rattle.gprs.specs.meaning.Choice.{begins_with, top_call};
 
 use command_line::wants_pipe;
 use std::alloc::{AllocError, Global};
@@ -33,7 +33,7 @@ fn begins_with(name: &str, words: &[String]) -> bool
 /// words are those of a command with the crew `pipe`, and else, also for words of no command, the first. The error is
 /// that memory is out.
 pub fn call_of(alloc: Global, words: &[String]) -> Result<TopCall, AllocError>
-    ensures { IfOk result (λ call. call ≡ call_of (texts words.now)) }
+    ensures { IfOk result (λ call. call ≡ top_call (texts words.now)) }
 {
     if begins_with("audit", words) {
         return Ok(TopCall::Audit);

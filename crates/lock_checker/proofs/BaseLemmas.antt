@@ -7,7 +7,7 @@ use Rattle.task_ast.specs.declared.check_kind.CheckKind.{CheckKind}
 use Rattle.task_ast.specs.declared.tree.Head.{Head}
 use Rattle.task_ast.specs.meaning.Tree.{Name, Program}
 use Rattle.task_ast.specs.meaning.Names.{is_name, locks_of, records_of, cells_in, head_name}
-use Rattle.task_ast.specs.meaning.Declarations.{head_visit, head_visits, task_visits, main_visit, line_of}
+use Rattle.task_ast.specs.meaning.Declarations.{head_visit, head_visits, task_visits, main_visit, head_line}
 use Rattle.task_ast.specs.meaning.Visit.{first_fault}
 use Rattle.task_ast.specs.meaning.Check.{bodies_visits, check_fault}
 use Rattle.lock_checker.specs.inner.Faults.{lowest}
@@ -61,11 +61,11 @@ heads_small program before [] none locks records = (
 )
 heads_small program before (h ∷ heads) none locks records =
     let parts =
-    none_of (on_line (line_of h) (lowest (head_visit program before h).fails))
+    none_of (on_line (head_line h) (lowest (head_visit program before h).fails))
     (first_fault (head_visits program (before ++ h ∷ []) heads))
-    (sym (fault_at-lowest (line_of h) (head_visit program before h).fails
+    (sym (fault_at-lowest (head_line h) (head_visit program before h).fails
     (first_fault (head_visits program (before ++ h ∷ []) heads))) ∙ none) in
-    let small = cells_small program before h (no_rule (line_of h) (lowest (head_visit program before h).fails) parts.0) locks records in
+    let small = cells_small program before h (no_rule (head_line h) (lowest (head_visit program before h).fails) parts.0) locks records in
     let rest = heads_small program (before ++ h ∷ []) heads parts.1 small.0 small.1 in (
       subst (λ l. cells_in (locks_of l) ≤ MOST_CELLS) (append_assoc before (h ∷ []) heads) rest.0,
       subst (λ l. cells_in (records_of l) ≤ MOST_CELLS) (append_assoc before (h ∷ []) heads) rest.1,

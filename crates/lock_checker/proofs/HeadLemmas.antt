@@ -5,7 +5,7 @@ use Rattle.std.proofs.lemmas.Bool.{ltb-false}
 use Rattle.std.proofs.lemmas.List.{map-append, at_drop_more, take_more}
 use Rattle.task_ast.specs.declared.check_kind.CheckKind.{CheckKind}
 use Rattle.task_ast.specs.declared.check_kind.CheckKind.TheVariants.{TooMany}
-use Rattle.task_ast.specs.meaning.Declarations.{line_of, passes_limit, head_visit, head_visits}
+use Rattle.task_ast.specs.meaning.Declarations.{head_line, passes_limit, head_visit, head_visits}
 use Rattle.task_ast.specs.meaning.Visit.{fails_if, first_fault}
 use Rattle.lock_checker.specs.inner.Faults.{lowest}
 use Rattle.lock_checker.proofs.VisitLemmas.{or_later, on_line, fault_at-lowest}
@@ -120,23 +120,23 @@ module _ (program : Program) (heads : List Head) (i : ℕ) (h : Head) (within : 
 
   found_from : (before : List Head)
       → first_fault (head_visits program before (drop i heads))
-      ≡ or_later (on_line (line_of h) (lowest (head_visit program before h).fails))
+      ≡ or_later (on_line (head_line h) (lowest (head_visit program before h).fails))
       (first_fault (head_visits program (before ++ h ∷ []) (drop (i + 1) heads)))
   found_from before =
       at_drop_more (λ l. first_fault (head_visits program before l)) heads i h within
       ∙ ap (λ (y : Head). first_fault (head_visit program before y ∷ head_visits program (before ++ y ∷ []) (drop (i + 1) heads))) (sym is)
-      ∙ fault_at-lowest (line_of h) (head_visit program before h).fails
+      ∙ fault_at-lowest (head_line h) (head_visit program before h).fails
       (first_fault (head_visits program (before ++ h ∷ []) (drop (i + 1) heads)))
 
   -- where no rule fails at the head, the later ones tell the rest
   pub heads_later : (before : List Head) → lowest (head_visit program before h).fails ≡ None
       → first_fault (head_visits program (before ++ h ∷ []) (drop (i + 1) heads)) ≡ first_fault (head_visits program before (drop i heads))
   heads_later before none =
-      sym (found_from before ∙ ap (λ o. or_later (on_line (line_of h) o)
+      sym (found_from before ∙ ap (λ o. or_later (on_line (head_line h) o)
       (first_fault (head_visits program (before ++ h ∷ []) (drop (i + 1) heads)))) none)
 
   pub head_told : (before : List Head) (kind : CheckKind) → lowest (head_visit program before h).fails ≡ Some kind
-      → first_fault (head_visits program before (drop i heads)) ≡ Some (kind, line_of h)
+      → first_fault (head_visits program before (drop i heads)) ≡ Some (kind, head_line h)
   head_told before kind some =
-      found_from before ∙ ap (λ o. or_later (on_line (line_of h) o)
+      found_from before ∙ ap (λ o. or_later (on_line (head_line h) o)
       (first_fault (head_visits program (before ++ h ∷ []) (drop (i + 1) heads)))) some

@@ -20,7 +20,7 @@ use Rattle.task_ast.specs.meaning.Names.{is_name, slot, firsts, locks_of, barrie
 use Rattle.task_ast.specs.meaning.Value.{value}
 use Rattle.task_ast.specs.meaning.Action.{Action, Child, Give, term, Term}
 use Rattle.task_ast.specs.meaning.Body.{Step, Act, Stop, spent}
-use Rattle.task_ast.specs.meaning.Control.{Setting, Point, step_at, step_from, known, branch, action, env_at, index_of, lock_number, register_number, fork_of, control_arguments, data_arguments, first_actions, begin_actions, going, fork_arguments}
+use Rattle.task_ast.specs.meaning.Control.{Setting, Point, step_at, step_from, known, branch, action, env_at, index_of, lock_number, register_number, fork_named, control_arguments, data_arguments, first_actions, begin_actions, going, fork_arguments}
 use Rattle.task_ast.specs.meaning.Held.{same_pair}
 use Rattle.task_ast.specs.laws.Keeps.{NamesOnly, AllName}
 use Rattle.task_ast.specs.Layout.{IsLaidOut}
@@ -91,7 +91,7 @@ module _ (s : Setting) where
   branch_stops (pos (suc n)) a b next first second e = first e
   branch_stops (negsuc n) a b next first second e = first e
 
-  named_task : (t : Name) (es : List Expr) (p : Point) (arguments : List ℤ × List Action) → fork_of s t es p ≡ Some arguments
+  named_task : (t : Name) (es : List Expr) (p : Point) (arguments : List ℤ × List Action) → fork_named s t es p ≡ Some arguments
       → (task : TaskText) × (task_named s.program t ≡ Some task)
   named_task t es p arguments e = go (task_named s.program t) refl e
     where
@@ -117,7 +117,7 @@ module _ (s : Setting) where
       known_stops (env_at s p) _ next line (lock_number s a i (env_at s p)) _
       (λ l known is. stops_so (env_at s p) _ next (sync.Unlock l) line (unlocking known) is) is
   stops_at line (Fork t es x) rest p next is =
-      known_stops (env_at s p) _ next line (fork_of s t es p) _ (λ arguments known is. let task = named_task t es p arguments known in
+      known_stops (env_at s p) _ next line (fork_named s t es p) _ (λ arguments known is. let task = named_task t es p arguments known in
       stops_so (env_at s p) _ next (sync.Fork (unwrap_or (task_number s.program t) 0) arguments.0) line (forking task.0 task.1) is) is
   stops_at line (Join e x) rest p next is =
       known_stops (env_at s p) _ next line (value e (env_at s p)) _
@@ -187,7 +187,7 @@ module _ (s : Setting) where
       never_acts line (value e (env_at s p)) _ a q (λ v is. branch_acts v _ _ a q (λ is. absurd (cc is)) (λ is. absurd (cc is)) is) is
   acts_at line (Lock x i) rest p q a is = never_acts line (lock_number s x i (env_at s p)) _ a q (λ v is. absurd (cc is)) is
   acts_at line (Unlock x i) rest p q a is = never_acts line (lock_number s x i (env_at s p)) _ a q (λ v is. absurd (cc is)) is
-  acts_at line (Fork t es x) rest p q a is = never_acts line (fork_of s t es p) _ a q (λ v is. absurd (cc is)) is
+  acts_at line (Fork t es x) rest p q a is = never_acts line (fork_named s t es p) _ a q (λ v is. absurd (cc is)) is
   acts_at line (Join e x) rest p q a is = never_acts line (value e (env_at s p)) _ a q (λ v is. absurd (cc is)) is
   acts_at line (Barrier b) rest p q a is =
       never_acts line (position (λ other. is_name b other.0) (barriers_of s.program.heads)) _ a q (λ v is. absurd (cc is)) is
@@ -227,7 +227,7 @@ module _ (s : Setting) where
   given_names test given registers (param.Reg x ∷ params) [] env actions is = subst (AllName test) (ap (λ o. unwrap_or o []) is) tt
 
   fork_names : (test : ℕ → Bool) (t : Name) (es : List Expr) (p : Point)
-      → AllName test (unwrap_or (option_map (λ (arguments : List ℤ × List Action). arguments.1) (fork_of s t es p)) [])
+      → AllName test (unwrap_or (option_map (λ (arguments : List ℤ × List Action). arguments.1) (fork_named s t es p)) [])
   fork_names test t es p = named (task_named s.program t)
     where
       both_of : (task : TaskText) (values : Option (List ℤ)) (o : Option (List Action))

@@ -21,7 +21,7 @@ use Rattle.task_ast.specs.meaning.Names.{is_name, slot, firsts, head_name, locks
 use Rattle.task_ast.specs.meaning.Value.{value_at, value}
 use Rattle.task_ast.specs.meaning.Action.{Action}
 use Rattle.task_ast.specs.meaning.Body.{Step, Silent, Iteration, Act, Stop}
-use Rattle.task_ast.specs.meaning.Control.{Setting, Point, step_at, step_from, known, branch, action, env_at, lock_number, fork_of, index_of, with_value, with_number, going, behind, beginning}
+use Rattle.task_ast.specs.meaning.Control.{Setting, Point, step_at, step_from, known, branch, action, env_at, lock_number, fork_named, index_of, with_value, with_number, going, behind, beginning}
 use Rattle.task_ast.specs.meaning.Visit.{Visit, visit, fails_if, first_fault}
 use Rattle.task_ast.specs.meaning.Declarations.{Scope, is_lock, is_register, is_atom, has_unknown, has_data_index, head_visits, task_visits, main_visit}
 use Rattle.task_ast.specs.meaning.Held.{Pair, same_pair, has, without, same_pairs, is_index, held_by, held_at_end}
@@ -220,12 +220,12 @@ module _ (s : Setting) (scope : Scope) (held : List Holding) where
       } in
       halts s scope p (At line (Unlock a i) ∷ rest) held (λ child. refl) unlocked (λ c. unlocked))
   step_keeps line (Fork t es None) rest p none shaped fits names =
-      known_keeps s scope p (At line (Fork t es None) ∷ rest) held line (fork_of s t es p) _ (λ arguments is.
+      known_keeps s scope p (At line (Fork t es None) ∷ rest) held line (fork_named s t es p) _ (λ arguments is.
       let forked : Good s scope (going p rest) held = record { fits = fits; names = names } in
       halts s scope p (At line (Fork t es None) ∷ rest) held (λ child. refl) forked (λ c. forked))
   step_keeps line (Fork t es (Some x)) rest p none shaped fits names =
       let free = last_kind _ (list_any (is_index x) pairs) IndexChangedWhileHeld (kinds_none scope line (Fork t es (Some x)) pairs none) in
-      known_keeps s scope p (At line (Fork t es (Some x)) ∷ rest) held line (fork_of s t es p) _ (λ arguments is.
+      known_keeps s scope p (At line (Fork t es (Some x)) ∷ rest) held line (fork_named s t es p) _ (λ arguments is.
       halts s scope p (At line (Fork t es (Some x)) ∷ rest) held (λ child. refl) (record { fits = fits; names = names })
       (λ c. record { fits = fits; names = named-set s.program.heads (env_at s p) x (pos c) held free names }))
   step_keeps line (Join e x) rest p none shaped fits names =
@@ -327,7 +327,7 @@ module _ (s : Setting) (scope : Scope) (held : List Holding) where
           absurd (known_other line (lock_number s a i (env_at s p)) _ settles
           (λ l e. other_op (sync.Unlock l) line (λ e. cc e) settles e) is)
       by (Fork t es x) none fits is =
-          absurd (known_other line (fork_of s t es p) _ settles (λ arguments e. other_op (sync.Fork _ _) line (λ e. cc e) settles e) is)
+          absurd (known_other line (fork_named s t es p) _ settles (λ arguments e. other_op (sync.Fork _ _) line (λ e. cc e) settles e) is)
       by (Join e x) none fits is =
           absurd (known_other line (value e (env_at s p)) _ settles (λ h e. other_op (sync.Join h) line (λ e. cc e) settles e) is)
       by (Barrier b) none fits is =

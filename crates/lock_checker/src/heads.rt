@@ -4,7 +4,7 @@ ghost use Rattle.gp_base.specs.declared.limits.TheConstants.{MOST_CELLS};
 ghost use Rattle.task_ast.specs.declared.tree.Head.{Head as PlainHead};
 ghost use Rattle.task_ast.specs.declared.tree.Program.{Program as PlainProgram};
 ghost use Rattle.task_ast.specs.meaning.Names.{head_name, locks_of, records_of, cells_in};
-ghost use Rattle.task_ast.specs.meaning.Declarations.{line_of, count_of, lacks_array, sizes_differ, passes_limit, head_visit};
+ghost use Rattle.task_ast.specs.meaning.Declarations.{head_line, count_of, lacks_array, sizes_differ, passes_limit, head_visit};
 ghost use Rattle.task_ast.specs.View.{plain_program};
 ghost use Rattle.lock_checker.specs.inner.Indexes.{IsIndexOf};
 ghost use Rattle.lock_checker.specs.inner.Heads.{AreHeads};
@@ -29,7 +29,7 @@ fn head_name(head: &Head) -> &Name
 }
 
 pub fn line_of(head: &Head) -> u32
-    ensures { result ≡ line_of head.now }
+    ensures { result ≡ head_line head.now }
 {
     match head {
         Head::LockHead { line, .. } => *line,

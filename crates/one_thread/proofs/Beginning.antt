@@ -5,7 +5,7 @@ use Rattle.std.proofs.lemmas.Bool.{false≢true}
 use Rattle.task_ast.specs.declared.tree.Stmt.{Stmt as CodeStmt}
 use Rattle.task_ast.specs.meaning.Tree.{Name, Expr, Stmt, At, What, SetCtl, While, If, Lock, Unlock, Fork, Join, Barrier, Settle, SetReg, Read, Write, Print, When}
 use Rattle.task_ast.specs.meaning.Names.{slot, registers_of}
-use Rattle.task_ast.specs.meaning.Control.{Setting, Point, going, begin_actions, behind, fork_of}
+use Rattle.task_ast.specs.meaning.Control.{Setting, Point, going, begin_actions, behind, fork_named}
 use Rattle.task_ast.specs.View.{plain_stmt, plain_what, plain_task}
 use Rattle.task_ast.proofs.Views.{stmt_At}
 use Rattle.one_thread.specs.declared.left.Left.{Left}
@@ -112,7 +112,7 @@ join_begun walk new line e x child joined k registers clean passed k_is names_ar
 
 -- at a fork
 pub fork_begun : (walk given new : Walk) (line : ℕ) (t : Name) (es : List Expr) (into : Option Name) (child : Option ℕ) (joined : ℤ)
-    → Gives (fork_of (setting_of walk) t es (point_of walk)) walk given
+    → Gives (fork_named (setting_of walk) t es (point_of walk)) walk given
     → ((line : ℕ) (t : Name) (es : List Expr)
     → LeadsTo (behind child (point_of given) (At line (Fork t es into) ∷ rest_of given.left)) given new × (new.data ≡ given.data))
     → Begun (begin_actions (setting_of walk) (At line (Fork t es into) ∷ rest_of walk.left) (point_of walk))

@@ -19,7 +19,7 @@ use Rattle.task_ast.specs.meaning.Tree.{Name, Expr, TaskText}
 use Rattle.task_ast.specs.meaning.Names.{is_name, is_task, task_named, task_number, registers_of}
 use Rattle.task_ast.specs.meaning.Action.{Term, Action, Give, Child, term}
 use Rattle.task_ast.specs.meaning.Body.{Step}
-use Rattle.task_ast.specs.meaning.Control.{Setting, Point, known, stop, control_arguments, data_arguments, fork_arguments, fork_of, register_number}
+use Rattle.task_ast.specs.meaning.Control.{Setting, Point, known, stop, control_arguments, data_arguments, fork_arguments, fork_named, register_number}
 use Rattle.task_ast.specs.View.{plain_expr, plain_exprs, plain_task, plain_program}
 use Rattle.task_ast.proofs.Terms.{position-cons}
 use Rattle.one_thread.specs.declared.walk.Walk.{Walk}
@@ -178,20 +178,20 @@ arguments_with walk task es env =
 
 args_of : (walk : Walk) (t : Name) (es : List Expr) (task : TaskText) → walk.env.regs ≡ []
     → task_named (setting_of walk).program t ≡ Some task
-    → fork_of (setting_of walk) t es (point_of walk) ≡ arguments_with walk task es walk.env
+    → fork_named (setting_of walk) t es (point_of walk) ≡ arguments_with walk task es walk.env
 args_of walk t es task clean named =
     ap (option_and_then (λ task. fork_arguments (setting_of walk) task es (point_of walk))) named
     ∙ ap (arguments_with walk task es) (env_is walk clean)
 
 pub no-task : (walk : Walk) (line : ℕ) (t : Name) (es : List Expr) → walk.env.regs ≡ [] → task_named (setting_of walk).program t ≡ None
-    → Stepped (forks walk line t (fork_of (setting_of walk) t es (point_of walk)))
+    → Stepped (forks walk line t (fork_named (setting_of walk) t es (point_of walk)))
     (went.Stopped (record { sync = sync.BadIndex; line = line })) walk walk
 no-task walk line t es clean none =
     none_forks walk line t _ clean (ap (option_and_then (λ task. fork_arguments (setting_of walk) task es (point_of walk))) none)
 
 pub no-control : (walk : Walk) (line : ℕ) (t : Name) (es : List Expr) (task : TaskText) → walk.env.regs ≡ []
     → task_named (setting_of walk).program t ≡ Some task → None ≡ control_arguments task.params es walk.env
-    → Stepped (forks walk line t (fork_of (setting_of walk) t es (point_of walk)))
+    → Stepped (forks walk line t (fork_named (setting_of walk) t es (point_of walk)))
     (went.Stopped (record { sync = sync.BadIndex; line = line })) walk walk
 no-control walk line t es task clean named none =
     none_forks walk line t _ clean (args_of walk t es task clean named ∙ ap (option_and_then _) (sym none))
@@ -208,7 +208,7 @@ data_some (Some x) f is = (x, refl)
 pub no-data : (walk : Walk) (line : ℕ) (t : Name) (es : List Expr) (task : TaskText) (values : List ℤ) → walk.env.regs ≡ []
     → task_named (setting_of walk).program t ≡ Some task → Some values ≡ control_arguments task.params es walk.env
     → false ≡ is_some (data_arguments (setting_of walk) (registers_of task) (registers_of (point_of walk).task) task.params es walk.env)
-    → Stepped (forks walk line t (fork_of (setting_of walk) t es (point_of walk)))
+    → Stepped (forks walk line t (fork_named (setting_of walk) t es (point_of walk)))
     (went.Stopped (record { sync = sync.BadIndex; line = line })) walk walk
 no-data walk line t es task values clean named some none =
     none_forks walk line t _ clean (args_of walk t es task clean named ∙ ap (option_and_then _) (sym some) ∙ data_none _ _ none)
@@ -217,7 +217,7 @@ pub forked : (walk : Walk) (line : ℕ) (t : Name) (es : List Expr) (task : Task
     → task_named (setting_of walk).program t ≡ Some task → task_number (setting_of walk).program t ≡ Some k
     → Some values ≡ control_arguments task.params es walk.env
     → true ≡ is_some (data_arguments (setting_of walk) (registers_of task) (registers_of (point_of walk).task) task.params es walk.env)
-    → Stepped (forks walk line t (fork_of (setting_of walk) t es (point_of walk)))
+    → Stepped (forks walk line t (fork_named (setting_of walk) t es (point_of walk)))
     (went.Stopped (record { sync = sync.Fork k values; line = line })) walk walk
 forked walk line t es task k values clean named number some fits =
     let has = data_some _ (λ actions. (values, Child (length (registers_of task)) ∷ actions)) fits in
@@ -227,18 +227,18 @@ forked walk line t es task k values clean named number some fits =
 
 -- where a fork's arguments are not resolved, and where they are
 pub fork-untasked : (walk : Walk) (t : Name) (es : List Expr) → task_named (setting_of walk).program t ≡ None
-    → fork_of (setting_of walk) t es (point_of walk) ≡ None
+    → fork_named (setting_of walk) t es (point_of walk) ≡ None
 fork-untasked walk t es none = ap (option_and_then (λ task. fork_arguments (setting_of walk) task es (point_of walk))) none
 
 pub fork-uncontrolled : (walk : Walk) (t : Name) (es : List Expr) (task : TaskText) → walk.env.regs ≡ []
     → task_named (setting_of walk).program t ≡ Some task → None ≡ control_arguments task.params es walk.env
-    → fork_of (setting_of walk) t es (point_of walk) ≡ None
+    → fork_named (setting_of walk) t es (point_of walk) ≡ None
 fork-uncontrolled walk t es task clean named none = args_of walk t es task clean named ∙ ap (option_and_then _) (sym none)
 
 pub fork-undata : (walk : Walk) (t : Name) (es : List Expr) (task : TaskText) (values : List ℤ) → walk.env.regs ≡ []
     → task_named (setting_of walk).program t ≡ Some task → Some values ≡ control_arguments task.params es walk.env
     → false ≡ is_some (data_arguments (setting_of walk) (registers_of task) (registers_of (point_of walk).task) task.params es walk.env)
-    → fork_of (setting_of walk) t es (point_of walk) ≡ None
+    → fork_named (setting_of walk) t es (point_of walk) ≡ None
 fork-undata walk t es task values clean named some none =
     args_of walk t es task clean named ∙ ap (option_and_then _) (sym some) ∙ data_none _ _ none
 
@@ -264,11 +264,11 @@ pub gives-all : (walk : Walk) (t : Name) (es : List Expr) (task : TaskText) (val
     → given ≡ registers_of task → names ≡ registers_of (point_of walk).task → child ≡ replicate (length given) (pos 0)
     → ((joined : ℤ) (s : Setting) (actions : List Action) → data_arguments s given names task.params es walk.env ≡ Some actions
     → new ≡ all_worked joined actions (record walk.data { child = child }))
-    → Gives (fork_of (setting_of walk) t es (point_of walk)) walk (record walk { «data» = new })
+    → Gives (fork_named (setting_of walk) t es (point_of walk)) walk (record walk { «data» = new })
 gives-all walk t es task values given names child new clean named some fits given_is names_is child_is works =
     let data_is =
     some_data (data_arguments (setting_of walk) (registers_of task) (registers_of (point_of walk).task) task.params es walk.env) fits in
-    let resolved : fork_of (setting_of walk) t es (point_of walk) ≡ Some (values, Child (length (registers_of task)) ∷ data_is.0) =
+    let resolved : fork_named (setting_of walk) t es (point_of walk) ≡ Some (values, Child (length (registers_of task)) ∷ data_is.0) =
     args_of walk t es task clean named ∙ ap (option_and_then _) (sym some)
     ∙ ap (option_map (λ actions. (values, Child (length (registers_of task)) ∷ actions))) data_is.1 in
     record {

@@ -13,7 +13,7 @@ use Rattle.task_ast.specs.declared.sync.SyncOp.TheVariants as sync
 use Rattle.task_ast.specs.declared.sync.Next.{Next}
 use Rattle.task_ast.specs.meaning.Repeat.{Again, More, Done, go_on, repeated, until_done}
 use Rattle.task_ast.specs.meaning.Table.{Stand, Away, Waits, Released, Seat, Table, ring, next_of, unpassed, with_nth, waits_at}
-use Rattle.task_ast.specs.meaning.Turn.{Turn, Issue, Needs, Ended, Look, To, Unknown, NoThread, look, at_look, tried, issuing, passing, joining, at_barrier, come_to, met, arrived, stand_of, owner_of, child_of, seats_after, released_at, most_threads, has_passed, deadlocked, all_threads, turn, turns_left, next_issue}
+use Rattle.task_ast.specs.meaning.Turn.{Turn, Issue, Needs, Ended, Look, To, Unknown, NoThread, look, at_look, tried, issuing, passing, at_join, at_barrier, come_to, met, arrived, stand_of, owner_of, child_of, seats_after, released_at, most_threads, has_passed, deadlocked, all_threads, turn, turns_left, next_issue}
 use Rattle.task_ast.proofs.Counting.{length-with_nth}
 use Rattle.task_ast.proofs.Turns.{Known, known_to, look_known}
 
@@ -82,7 +82,7 @@ module _ (limit issued threads : ℕ) where
       })
 
   joining_leads : (h : ℕ) (o : Option Next) (table : Table) (t : ℕ) (next : Next) → Like limit issued threads table → t < threads
-      → Leads limit issued threads (joining h o table t next)
+      → Leads limit issued threads (at_join h o table t next)
   joining_leads h None table t next like inside = needs
   joining_leads h (Some other) table t next like inside =
       cond_leads _ _ _ (λ e. issuing_leads table t next like inside) (λ e. passing_leads table t like)

@@ -4,7 +4,7 @@ ghost use Rattle.task_ast.specs.meaning.Names.{is_task, is_name, locks_of, recor
 ghost use Rattle.task_ast.specs.meaning.Tree as plain;
 ghost use Rattle.task_ast.specs.meaning.Tree.{Name as PlainName};
 ghost use Rattle.task_ast.specs.declared.sync.SyncOp.TheVariants as sync;
-ghost use Rattle.task_ast.specs.meaning.Control.{step, step_at, tree_body, control_arguments, data_arguments, fork_of, begin_actions, behind, Setting, lock_number as lock_number_at};
+ghost use Rattle.task_ast.specs.meaning.Control.{step, step_at, tree_body, control_arguments, data_arguments, fork_named, begin_actions, behind, Setting, lock_number as lock_number_at};
 ghost use Rattle.task_ast.specs.View.{plain_expr, plain_exprs, plain_stmts, plain_block, plain_what, plain_task, plain_program};
 ghost use Rattle.task_ast.specs.Shaped.{is_data};
 ghost use Rattle.task_ast.specs.meaning.Action.{Action};
@@ -364,7 +364,7 @@ impl<'a> Walk<'a> {
     fn give_registers(&mut self, alloc: Global, t: &Name, es: &[Expr]) -> Result<(), AllocError>
         requires registers { self.old.registers.now ≡ registers_of (plain_task self.old.task.now) }
         requires clean { self.old.env.regs ≡ [] }
-        ensures { OnOk result (Gives (fork_of (setting_of self.old) t.now (plain_exprs es.now) (point_of self.old)) self.old self.new) }
+        ensures { OnOk result (Gives (fork_named (setting_of self.old) t.now (plain_exprs es.now) (point_of self.old)) self.old self.new) }
     {
         let Some(k) = task_place(self.program.tasks.as_slice(), t) else {
             return Ok(());

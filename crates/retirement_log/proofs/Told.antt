@@ -18,7 +18,7 @@ use Rattle.crew.specs.Noted.{with_left, NotesResult, NotesNothing, NotesRetired,
 use Rattle.retirement_log.specs.declared.notes.Pending.{Pending}
 use Rattle.retirement_log.specs.declared.notes.LogNotes.{LogNotes}
 use Rattle.retirement_log.specs.meaning.Rows.{row_text, log_text}
-use Rattle.retirement_log.specs.meaning.Log.{row_of, size_of, rows_from, log_of}
+use Rattle.retirement_log.specs.meaning.Log.{log_row, size_of, rows_from, log_told}
 use Rattle.retirement_log.specs.meaning.Telling.{TellsPart}
 use Rattle.retirement_log.specs.Telling.{IsPending, KeepsRows, KeepsOthers, LacksFirst, Tells}
 
@@ -125,30 +125,30 @@ noted before after p e row ahead next bytes pending put kept start written left 
 
 -- one position more
 rows_more : (p b : ℕ) (told : List Effect) (e : Effect)
-    → rows_from p b (told ++ e ∷ []) ≡ rows_from p b told ++ row_of (p + length told) (b + sum_by size_of told + size_of e) e ∷ []
+    → rows_from p b (told ++ e ∷ []) ≡ rows_from p b told ++ log_row (p + length told) (b + sum_by size_of told + size_of e) e ∷ []
 rows_more p b [] e =
     let at : p ≡ p + 0 = omega arith in
     let sum : b + size_of e ≡ b + 0 + size_of e = omega arith in
-    (λ i. row_of (at i) (sum i) e ∷ [])
+    (λ i. log_row (at i) (sum i) e ∷ [])
 rows_more p b (f ∷ told) e =
     let at : suc p + length told ≡ p + suc (length told) = omega arith in
     let first = sum_by-cons size_of f told in
     let sum : b + size_of f + sum_by size_of told + size_of e ≡ b + sum_by size_of (f ∷ told) + size_of e = omega arith in
-    ap (λ rows. row_of p (b + size_of f) f ∷ rows)
+    ap (λ rows. log_row p (b + size_of f) f ∷ rows)
     (rows_more (suc p) (b + size_of f) told e
-    ∙ (λ i. rows_from (suc p) (b + size_of f) told ++ row_of (at i) (sum i) e ∷ []))
+    ∙ (λ i. rows_from (suc p) (b + size_of f) told ++ log_row (at i) (sum i) e ∷ []))
 
 -- its row is the last of the log
 pub log_more : (told : List Effect) (e : Effect)
-    → log_of (told ++ e ∷ []) ≡ log_of told ++ row_text
-    (row_of (length told) (length (codes "output\n") + sum_by size_of told + size_of e) e)
+    → log_told (told ++ e ∷ []) ≡ log_told told ++ row_text
+    (log_row (length told) (length (codes "output\n") + sum_by size_of told + size_of e) e)
 log_more told e =
-    let last = row_of (0 + length told) (length (codes "output\n") + sum_by size_of told + size_of e) e in
+    let last = log_row (0 + length told) (length (codes "output\n") + sum_by size_of told + size_of e) e in
     let number : 0 + length told ≡ length told = omega arith in
     ap log_text (rows_more 0 (length (codes "output\n")) told e)
     ∙ flat_map-append row_text (rows_from 0 (length (codes "output\n")) told) (last ∷ [])
-    ∙ ap (λ text. log_of told ++ text) (append-nil (row_text last))
-    ∙ ap (λ n. log_of told ++ row_text (row_of n (length (codes "output\n") + sum_by size_of told + size_of e) e)) number
+    ∙ ap (λ text. log_told told ++ text) (append-nil (row_text last))
+    ∙ ap (λ n. log_told told ++ row_text (log_row n (length (codes "output\n") + sum_by size_of told + size_of e) e)) number
 
 -- the rows but for the first come one place nearer
 nearer : (rows : List (Option Pending)) (first : Option Pending) (rest : List (Option Pending)) (k : ℕ) → rows ≡ first ∷ rest
@@ -185,11 +185,11 @@ parts_text p bytes groups = signed_decimal (pos p) ++ codes " " ++ signed_decima
 log_grows : (told : List Effect) (e : Effect) (row : Pending) (p before bytes : ℕ) → p ≡ length told
     → before ≡ length (codes "output\n") + sum_by size_of told
     → bytes ≡ before + row.size → IsPending (Some (Some row)) e
-    → log_of (told ++ e ∷ []) ≡ log_of told ++ parts_text p bytes row.groups.items
+    → log_told (told ++ e ∷ []) ≡ log_told told ++ parts_text p bytes row.groups.items
 log_grows told e row p before bytes at so_far sum pending =
     let size : row.size ≡ size_of e = pending.1 in
     let all : length (codes "output\n") + sum_by size_of told + size_of e ≡ bytes = omega arith in
-    log_more told e ∙ (λ i. log_of told ++ parts_text (sym at i) (all i) (sym pending.0 i))
+    log_more told e ∙ (λ i. log_told told ++ parts_text (sym at i) (all i) (sym pending.0 i))
 
 -- a position was told
 pub told_one : (before after : LogNotes) (row : Pending) (p : ℕ) (written later : Option (List ℕ))
@@ -201,7 +201,7 @@ told_one before after row p written later is next bytes out start left told e te
     let pending = first_pending before (Some row) after.rows.items p e is tells at left_is in
     record {
       log = subst (Appends start later) (sym (log_grows told e row p before.bytes after.bytes at tells.bytes bytes pending))
-          (Appends-append start written later (log_of told) (parts_text p after.bytes row.groups.items) tells.log out);
+          (Appends-append start written later (log_told told) (parts_text p after.bytes row.groups.items) tells.log out);
       bytes =
           (let all = sum_by_push size_of told e in let so_far = tells.bytes in let size : row.size ≡ size_of e = pending.1 in omega arith);
       next = (let count = length-append told (e ∷ []) in let so_far = tells.next in omega arith);
@@ -224,14 +224,14 @@ front_is told e =
 
 -- a part of the text by which the log grows
 part_out : (told : List Effect) (e : Effect) (text : List ℕ) (start written later : Option (List ℕ))
-    → log_of (told ++ e ∷ []) ≡ log_of told ++ text
-    → Appends start written (log_of told) → AppendsPrefix written later text → TellsPart start later (told ++ e ∷ [])
+    → log_told (told ++ e ∷ []) ≡ log_told told ++ text
+    → Appends start written (log_told told) → AppendsPrefix written later text → TellsPart start later (told ++ e ∷ [])
 part_out told e text start written later grows all (n, taken) =
-    let front = ap (λ effects. length (log_of effects)) (front_is told e) in (
-      length (log_of told) + n,
+    let front = ap (λ effects. length (log_told effects)) (front_is told e) in (
+      length (log_told told) + n,
       omega arith,
-      subst (Appends start later) (sym (ap (take (length (log_of told) + n)) grows ∙ take-append-add (log_of told) text n))
-          (Appends-append start written later (log_of told) (take n text) all taken),
+      subst (Appends start later) (sym (ap (take (length (log_told told) + n)) grows ∙ take-append-add (log_told told) text n))
+          (Appends-append start written later (log_told told) (take n text) all taken),
     )
 
 -- a position was told in part

@@ -6,8 +6,8 @@ use Rattle.task_ast.specs.meaning.Tree.{Program}
 use Rattle.task_ast.specs.meaning.Plain.{order}
 use Rattle.restart_log.specs.meaning.Lines.{printed}
 use Rattle.crew.specs.meaning.Noted.{left_in_order}
-use Rattle.retirement_log.specs.meaning.Rows.{Row}
-use Rattle.retirement_log.specs.meaning.Log.{rows_of}
+use Rattle.retirement_log.specs.meaning.Rows.{LogRow}
+use Rattle.retirement_log.specs.meaning.Log.{log_rows}
 
 -- the text of a run up to the end of the lines of its first positions
 abbrev pub text_of_first : (positions : ℕ) → Program → Inputs → Limits → List ℕ
@@ -18,11 +18,11 @@ text_of_first count program inputs limits =
 abbrev pub CountLaw : Type 0
 CountLaw =
     (program : Program) (inputs : Inputs) (limits : Limits)
-    → length (rows_of (left_in_order program inputs limits)) ≡ length (order program inputs limits)
+    → length (log_rows (left_in_order program inputs limits)) ≡ length (order program inputs limits)
 
 -- a row has its position, and how many bytes the text has up to the end of the lines of that
 abbrev pub BytesLaw : Type 0
 BytesLaw =
-    (program : Program) (inputs : Inputs) (limits : Limits) (p : ℕ) (row : Row)
-    → slice_get (rows_of (left_in_order program inputs limits)) p ≡ Some row
+    (program : Program) (inputs : Inputs) (limits : Limits) (p : ℕ) (row : LogRow)
+    → slice_get (log_rows (left_in_order program inputs limits)) p ≡ Some row
     → (row.position ≡ pos p) × (row.bytes ≡ pos (length (text_of_first (suc p) program inputs limits)))

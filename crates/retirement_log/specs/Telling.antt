@@ -3,14 +3,14 @@ use Rattle.std.specs.Prelude.{◌≡◌, ◌≢◌, ℕ, ◌+◌, ◌-◌, ◌�
 use Rattle.std.specs.Io.KnownBytes.{Appends}
 use Rattle.task_ast.specs.declared.effect.Effect.{Effect}
 use Rattle.retirement_log.specs.meaning.Rows.{groups_text}
-use Rattle.retirement_log.specs.meaning.Log.{row_of, size_of, log_of}
+use Rattle.retirement_log.specs.meaning.Log.{log_row, size_of, log_told}
 use Rattle.retirement_log.specs.declared.notes.Pending.{Pending}
 use Rattle.retirement_log.specs.declared.notes.LogNotes.{LogNotes}
 
 -- the groups of the row of a position that left this, and how many bytes its lines have; the groups have neither the
 -- position nor the bytes before them
 abbrev pub IsPending : Option (Option Pending) → Effect → Type 0
-IsPending (Some (Some row)) e = (row.groups.items ≡ groups_text (row_of 0 0 e)) × (row.size ≡ size_of e)
+IsPending (Some (Some row)) e = (row.groups.items ≡ groups_text (log_row 0 0 e)) × (row.size ≡ size_of e)
 IsPending other e = ⊥
 
 -- each place that has a row keeps it
@@ -29,7 +29,7 @@ LacksFirst rows = (row : Pending) → slice_get rows 0 ≡ Some (Some row) → �
 -- The sink took the log of what has retired. The notes have the number of these positions, and of the bytes of the text
 -- up to the end of their lines, and the row of each later position, as the last of its results that was noted left it.
 pub record Tells (notes : LogNotes) (start written : Option (List ℕ)) (left : ℕ → Option Effect) (told : List Effect) : Type 0 where
-  pub log : Appends start written (log_of told)
+  pub log : Appends start written (log_told told)
   pub bytes : notes.bytes ≡ length (codes "output\n") + sum_by size_of told
   pub next : notes.next ≡ length told
   pub rows : (p : ℕ) (e : Effect) → notes.next ≤ p → left p ≡ Some e → IsPending (slice_get notes.rows.items (p - notes.next)) e

@@ -7,7 +7,7 @@ ghost use Rattle.record_store.specs.Lent.{new_write};
 ghost use Rattle.subthread.specs.Tasks.{effect_of};
 ghost use Rattle.restart_log.specs.meaning.Lines.{spaced};
 ghost use Rattle.retirement_log.specs.meaning.Rows.{group, cell_numbers, groups_text};
-ghost use Rattle.retirement_log.specs.meaning.Log.{child_left, numbered, row_of};
+ghost use Rattle.retirement_log.specs.meaning.Log.{child_left, numbered, log_row};
 
 use gp_base::{LockNo, Nums, RecNo, Seq, ThreadNo};
 use record_store::Bundle;
@@ -99,7 +99,7 @@ fn push_cells(
 /// The three groups of the row of a run: the registers of its thread, those of its child, and each cell that was
 /// written with its value. The error is that memory is out.
 pub fn groups_of(alloc: Global, work: &Work, done: &Done) -> Result<Vec<u8>, AllocError>
-    ensures { IfOk result (λ text. text.items ≡ groups_text (row_of 0 0 (effect_of work.now done.now))) }
+    ensures { IfOk result (λ text. text.items ≡ groups_text (log_row 0 0 (effect_of work.now done.now))) }
 {
     let under = work.code.layout().under.as_slice();
     let bundles = done.task.given.bundles.as_slice();

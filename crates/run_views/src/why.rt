@@ -4,7 +4,7 @@ ghost use Rattle.gp_base.specs.declared.limits.TheConstants.{MOST_SUBTHREADS};
 ghost use Rattle.task_ast.specs.View.{plain_program};
 ghost use Rattle.task_ast.specs.meaning.Names.{records_of, cells_in};
 ghost use Rattle.lock_checker.specs.Accepted.{program_of};
-ghost use Rattle.run_views.specs.meaning.Why.{record_text, link_line, struck_line, link_text, chain, restart_line, restart_text, restart_texts, redone_line, why_lines, why_text};
+ghost use Rattle.run_views.specs.meaning.Why.{record_text, link_line, struck_line, link_text, chain, why_line, restart_text, restart_texts, redone_line, why_lines, why_text};
 ghost use Rattle.run_views.specs.inner.Seen.{seen, party_in};
 
 use crate::frame::{attempt_of, redoes};
@@ -106,7 +106,7 @@ fn push_struck(text: &mut Vec<u8>, position: usize) -> Result<(), AllocError>
 
 // Appends the line of a restart by its number.
 fn push_restart_line(text: &mut Vec<u8>, number: usize, restart: &Restart) -> Result<(), AllocError>
-    ensures { OnOk result (text.new.items ≡ text.old.items ++ restart_line number restart.now) }
+    ensures { OnOk result (text.new.items ≡ text.old.items ++ why_line number restart.now) }
 {
     push_labelled(text, b"restart ", number)?;
     push_labelled(text, b" front ", restart.front.0)?;

@@ -1,7 +1,7 @@
 -- One row more.
 use Rattle.std.proofs.Common.{◌≡◌, ℕ, suc, ◌+◌, ◌-◌, ◌<◌, List, [], ◌∷◌, ◌++◌, sym, ap, ◌∙◌, append_assoc, add-one, arith}
 use Rattle.soak_batch.specs.meaning.Draws.{after_row}
-use Rattle.soak_batch.specs.meaning.Rows.{row, account_rows, move_row, move_rows, after_rows, fault_row, fault_rows}
+use Rattle.soak_batch.specs.meaning.Rows.{row, account_rows, move_row, move_rows, after_rows, fault_row, drawn_rows}
 
 pub account_more : (most account : ℕ) (text after all : List ℕ) → account < most → text ++ account_rows account (most - account) ≡ all
     → after ≡ text ++ row account (1000 ∷ [])
@@ -35,14 +35,14 @@ state_more count made state next last less so_far drew =
     ap (after_rows rest) drew ∙ sym (ap (λ n. after_rows n state) left) ∙ so_far
 
 pub fault_more : (width most part state next : ℕ) (text after all : List ℕ) → part < most
-    → text ++ fault_rows width part (most - part) state ≡ all → after ≡ text ++ fault_row width part state
-    → next ≡ after_row state → after ++ fault_rows width (part + 1) (most - (part + 1)) next ≡ all
+    → text ++ drawn_rows width part (most - part) state ≡ all → after ≡ text ++ fault_row width part state
+    → next ≡ after_row state → after ++ drawn_rows width (part + 1) (most - (part + 1)) next ≡ all
 fault_more width most part state next text after all less so_far put drew =
     let rest = most - (part + 1) in
     let left : most - part ≡ suc rest = omega arith in
-    ap (λ t. t ++ fault_rows width (part + 1) rest next) put
-    ∙ append_assoc text (fault_row width part state) (fault_rows width (part + 1) rest next)
-    ∙ ap (λ p. text ++ (fault_row width part state ++ fault_rows width p rest next)) (add-one part)
-    ∙ ap (λ s. text ++ (fault_row width part state ++ fault_rows width (suc part) rest s)) drew
-    ∙ sym (ap (λ n. text ++ fault_rows width part n state) left)
+    ap (λ t. t ++ drawn_rows width (part + 1) rest next) put
+    ∙ append_assoc text (fault_row width part state) (drawn_rows width (part + 1) rest next)
+    ∙ ap (λ p. text ++ (fault_row width part state ++ drawn_rows width p rest next)) (add-one part)
+    ∙ ap (λ s. text ++ (fault_row width part state ++ drawn_rows width (suc part) rest s)) drew
+    ∙ sym (ap (λ n. text ++ drawn_rows width part n state) left)
     ∙ so_far

@@ -1,6 +1,6 @@
 // The rows of the batch's files.
 ghost use Rattle.std.specs.Prelude.{◌≡◌, ◌<◌, ◌^◌, [], ◌∷◌, ◌++◌, decimal, OnOk, IfOk};
-ghost use Rattle.soak_batch.specs.meaning.Rows.{row, account_rows, move_row, move_rows, after_rows, fault_row, fault_rows};
+ghost use Rattle.soak_batch.specs.meaning.Rows.{row, account_rows, move_row, move_rows, after_rows, fault_row, drawn_rows};
 ghost use Rattle.soak_batch.specs.meaning.Draws.{after_row};
 
 use crate::draws::Draws;
@@ -84,7 +84,7 @@ fn push_fault(
 pub fn fault_rows(alloc: Global, draws: &mut Draws, width: u64) -> Result<Text, AllocError>
     requires some { 0 < width }
     requires small { width < 2 ^ 32 }
-    ensures { IfOk result (λ text. text ≡ fault_rows width 0 40 draws.old.state) }
+    ensures { IfOk result (λ text. text ≡ drawn_rows width 0 40 draws.old.state) }
 {
     let mut text = Vec::new(alloc);
     for part in 0..40 {

@@ -11,7 +11,7 @@ use Rattle.task_ast.specs.declared.sync.SyncOp.TheVariants as sync
 use Rattle.task_ast.specs.declared.sync.Next.{Next}
 use Rattle.task_ast.specs.meaning.Repeat.{Again, More, Done}
 use Rattle.task_ast.specs.meaning.Table.{Stand, Away, Waits, Released, Seat, Table, numbers, ring, next_of, is_end, unpassed, with_nth, new_seat, waits_at}
-use Rattle.task_ast.specs.meaning.Turn.{Turn, Issue, Ended, Look, To, Unknown, NoThread, look_at, look, passing, issuing, seats_after, stand_of, released_at, arrived, met, come_to, at_barrier, owner_of, joining, tried, has_passed, at_look, deadlocked, all_threads, turn, most_threads}
+use Rattle.task_ast.specs.meaning.Turn.{Turn, Issue, Ended, Look, To, Unknown, NoThread, look_at, look, passing, issuing, seats_after, stand_of, released_at, arrived, met, come_to, at_barrier, owner_of, at_join, tried, has_passed, at_look, deadlocked, all_threads, turn, most_threads}
 use Rattle.task_ast.specs.Reached.{Reached}
 use Rattle.task_ast.proofs.Counting.{length-with_nth, get-with_nth}
 use Rattle.task_ast.proofs.Rounds.{rounds_kept, keeps_nth, keeps_map, other_nth, there_nth, arrive, length_arrive, pass, wait}
@@ -192,7 +192,7 @@ meeting_goes limit issued Waits table t b next whole t_in = barrier_goes limit i
 meeting_goes limit issued Released table t b next whole t_in = barrier_goes limit issued (stand_of table t) table t next whole t_in
 
 joining_goes : (limit issued h : ℕ) (o : Option Next) (table : Table) (t : ℕ) (next : Next) → Whole limit issued table
-    → t < length table.seats → (o ≡ None → ⊥) → Goes limit issued (joining h o table t next)
+    → t < length table.seats → (o ≡ None → ⊥) → Goes limit issued (at_join h o table t next)
 joining_goes limit issued h None table t next whole t_in some = absurd (some refl)
 joining_goes limit issued h (Some other) table t next whole t_in some =
     cond_goes limit issued (is_end other.sync) _ _ (λ e. issuing_goes limit issued table t next whole t_in)

@@ -11,7 +11,7 @@ use Rattle.task_ast.specs.declared.sync.Next.{Next}
 use Rattle.task_ast.specs.meaning.Repeat.{Again, Done}
 use Rattle.task_ast.specs.meaning.Table.{Stand, Away, Waits, Released, Table, numbers, ring, next_of, is_end}
 use Rattle.task_ast.specs.Table.{is_known_end, has_ended}
-use Rattle.task_ast.specs.meaning.Turn.{Turn, Ended, Look, To, Unknown, NoThread, look_at, look, issuing, stand_of, come_to, at_barrier, owner_of, joining, tried, has_passed, deadlocked, all_threads, at_look, most_threads}
+use Rattle.task_ast.specs.meaning.Turn.{Turn, Ended, Look, To, Unknown, NoThread, look_at, look, issuing, stand_of, come_to, at_barrier, owner_of, at_join, tried, has_passed, deadlocked, all_threads, at_look, most_threads}
 use Rattle.task_ast.specs.Reached.{FinishedLaw}
 use Rattle.task_ast.proofs.Rounds.{all_from, some_below}
 
@@ -32,7 +32,7 @@ barrier_not Away table t next = tt
 barrier_not Waits table t next = tt
 barrier_not Released table t next = issuing_not table t next
 
-joining_not : (h : ℕ) (o : Option Next) (table : Table) (t : ℕ) (next : Next) → NotFinished (joining h o table t next)
+joining_not : (h : ℕ) (o : Option Next) (table : Table) (t : ℕ) (next : Next) → NotFinished (at_join h o table t next)
 joining_not h None table t next = tt
 joining_not h (Some other) table t next = cond_not (is_end other.sync) _ _ (issuing_not table t next) tt
 

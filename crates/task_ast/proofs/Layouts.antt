@@ -15,7 +15,7 @@ use Rattle.task_ast.specs.meaning.Names.{is_name, is_among, head_name, natural, 
 use Rattle.task_ast.specs.declared.check_kind.CheckKind.{CheckKind}
 use Rattle.task_ast.specs.declared.check_kind.CheckKind.TheVariants.{UnknownName, DoubleName, WrongCount, SizesDiffer, TooMany}
 use Rattle.task_ast.specs.meaning.Visit.{Visit, fails_if, fault_at, first_fault}
-use Rattle.task_ast.specs.meaning.Declarations.{lacks_array, sizes_differ, is_other_size, line_of, count_of, passes_limit, head_visit, head_visits, task_visits, main_visit}
+use Rattle.task_ast.specs.meaning.Declarations.{lacks_array, sizes_differ, is_other_size, head_line, count_of, passes_limit, head_visit, head_visits, task_visits, main_visit}
 use Rattle.task_ast.specs.meaning.Check.{bodies_visits}
 use Rattle.task_ast.specs.Shaped.{IsAccepted}
 use Rattle.task_ast.specs.meaning.Table.{numbers}
@@ -236,7 +236,7 @@ sizes_agree : (program : Program) (before heads : List Head) → first_fault (he
 sizes_agree program before [] e = refl
 sizes_agree program before (head ∷ heads) e =
     let rules =
-    no_fault (line_of head) (head_visit program before head).fails (first_fault (head_visits program (before ++ head ∷ []) heads)) e in
+    no_fault (head_line head) (head_visit program before head).fails (first_fault (head_visits program (before ++ head ∷ []) heads)) e in
     let limits = both_empty _ (fails_if (passes_limit before head) TooMany) rules.0 in
     let sizes = both_empty _ (fails_if (sizes_differ program.heads head) SizesDiffer) limits.0 in
     let counts = both_empty _ (fails_if (count_of head == 0) WrongCount) sizes.0 in

@@ -12,7 +12,7 @@ use Rattle.task_ast.specs.declared.sync.SyncOp.TheVariants as sync
 use Rattle.task_ast.specs.declared.sync.Next.{Next}
 use Rattle.task_ast.specs.meaning.Repeat.{Again, Done}
 use Rattle.task_ast.specs.meaning.Table.{Stand, Away, Waits, Released, Seat, Table, numbers, ring, next_of, is_end, unpassed, new_seat, waits_at}
-use Rattle.task_ast.specs.meaning.Turn.{Turn, Ended, Look, To, Unknown, NoThread, look_at, look, passing, issuing, seats_after, stand_of, released_at, arrived, come_to, at_barrier, joining, tried, has_passed, at_look, turn, deadlocked, all_threads, most_threads, owner_of}
+use Rattle.task_ast.specs.meaning.Turn.{Turn, Ended, Look, To, Unknown, NoThread, look_at, look, passing, issuing, seats_after, stand_of, released_at, arrived, come_to, at_barrier, at_join, tried, has_passed, at_look, turn, deadlocked, all_threads, most_threads, owner_of}
 use Rattle.task_ast.specs.Reached.{Reached}
 use Rattle.task_ast.proofs.Rounds.{rounds_kept, keeps_nth, keeps_map, pass, wait, arrive}
 use Rattle.task_ast.proofs.Turns.{Known, known_to, look_known}
@@ -172,7 +172,7 @@ meeting_alike of table seats Away t b next e h =
 joining_alike : (table : Table) (seats : List Seat) (h : ℕ) (o p : Option Next) (t : ℕ) (next : Next) → h < length table.seats
     → next_of table h ≡ o
     → ((other : Next) → o ≡ Some other → p ≡ Some other) → next_of table t ≡ Some next → SeatsLess table.seats seats
-    → Alike table (joining h o table t next) (joining h p (seated table seats) t next)
+    → Alike table (at_join h o table t next) (at_join h p (seated table seats) t next)
 joining_alike table seats h None p t next h_in is same e less = needs h_in is
 joining_alike table seats h (Some other) p t next h_in is same e less =
     rw (same other refl) (cond_alike table (is_end other.sync) _ _ _ _ (λ b. issuing_alike table table seats t next less)
@@ -194,7 +194,7 @@ tried_alike (sync.Fork task arguments) table seats t next e h =
     (cond_alike table (nat_lt (length table.seats) most_threads) _ _ _ _ (λ b. issuing_alike table table seats t next h) (λ b. ends))
 tried_alike (sync.Join (pos h)) table seats t next e less =
     subst (λ n. Alike table (tried (sync.Join (pos h)) table t next)
-    (cond (nat_lt h n) (joining h (next_of (seated table seats) h) (seated table seats) t next)
+    (cond (nat_lt h n) (at_join h (next_of (seated table seats) h) (seated table seats) t next)
     (Done (Ended (Stuck why.Join t next.line)))))
     (length_less table.seats seats less)
     (cond_alike table (nat_lt h (length table.seats)) _ _ _ _

@@ -14,7 +14,7 @@ use Rattle.task_ast.specs.declared.sync.Next.{Next}
 use Rattle.task_ast.specs.meaning.Repeat.{Again, More, Done}
 use Rattle.task_ast.specs.meaning.Table.{Stand, Away, Waits, Released, Seat, Table, numbers, ring, next_of, is_end, unpassed, with_nth, new_seat, learning, waits_at}
 use Rattle.task_ast.specs.Table.{is_known_end, has_ended, all_passed}
-use Rattle.task_ast.specs.meaning.Turn.{Turn, Issue, Needs, Ended, Look, To, Unknown, NoThread, look_at, look, passing, issuing, seats_after, stand_of, released_at, arrived, met, come_to, at_barrier, owner_of, joining, tried, has_passed, at_look, deadlocked, all_threads, turn, most_threads}
+use Rattle.task_ast.specs.meaning.Turn.{Turn, Issue, Needs, Ended, Look, To, Unknown, NoThread, look_at, look, passing, issuing, seats_after, stand_of, released_at, arrived, met, come_to, at_barrier, owner_of, at_join, tried, has_passed, at_look, deadlocked, all_threads, turn, most_threads}
 use Rattle.task_ast.specs.Reached.{Reached, at_start, by_pass, by_issue, by_learning, start_table}
 use Rattle.task_ast.proofs.Counting.{length-with_nth, get-with_nth}
 use Rattle.task_ast.proofs.Turns.{Known, known_to, look_known}
@@ -407,7 +407,7 @@ meeting_keeps Released table t b next rounds nearest =
     barrier_keeps (stand_of table t) table t next nearest.here (passing_keeps table t rounds nearest)
 
 joining_keeps : (h : ℕ) (o : Option Next) (table : Table) (t : ℕ) (next : Next) → Rounds table → Nearest table t
-    → Keeps (joining h o table t next)
+    → Keeps (at_join h o table t next)
 joining_keeps h None table t next rounds nearest = needs
 joining_keeps h (Some other) table t next rounds nearest =
     cond_keeps (is_end other.sync) _ _ (issuing_keeps table t next nearest.here) (passing_keeps table t rounds nearest)

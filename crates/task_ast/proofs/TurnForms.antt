@@ -13,7 +13,7 @@ use Rattle.task_ast.specs.declared.sync.Next.{Next}
 use Rattle.task_ast.specs.meaning.Repeat.{Again, More, Done, go_on, repeated, until_done}
 use Rattle.task_ast.specs.meaning.Table.{Stand, Away, Waits, Released, Seat, Table, ring, next_of, is_end, unpassed, with_seat, waits_at}
 use Rattle.task_ast.specs.Table.{is_known_end}
-use Rattle.task_ast.specs.meaning.Turn.{Turn, Issue, Needs, Ended, Look, To, Unknown, NoThread, look, passing, issuing, owners_after, seats_after, child_of, stand_of, released_at, arrived, met, come_to, at_barrier, owner_of, joining, tried, has_passed, at_look, turn, turns_left, next_issue, most_threads, deadlocked, all_threads}
+use Rattle.task_ast.specs.meaning.Turn.{Turn, Issue, Needs, Ended, Look, To, Unknown, NoThread, look, passing, issuing, owners_after, seats_after, child_of, stand_of, released_at, arrived, met, come_to, at_barrier, owner_of, at_join, tried, has_passed, at_look, turn, turns_left, next_issue, most_threads, deadlocked, all_threads}
 use Rattle.task_ast.proofs.Counting.{length-with_nth}
 use Rattle.task_ast.proofs.Rounds.{keeps_nth, keeps_map, length_arrive, pass, wait, arrive}
 use Rattle.task_ast.proofs.Turns.{Known, known_to, look_known}
@@ -149,7 +149,7 @@ come_same Waits table t b = same_threads table
 come_same Released table t b = same_threads table
 
 joining_form : (h : ℕ) (o : Option Next) (table : Table) (t : ℕ) (next : Next) → next_of table t ≡ Some next
-    → (is_known_end o ≡ true → MayBegin table next.sync) → Form table (joining h o table t next)
+    → (is_known_end o ≡ true → MayBegin table next.sync) → Form table (at_join h o table t next)
 joining_form h None table t next e may = needs
 joining_form h (Some other) table t next e may =
     cond_form table (is_end other.sync) _ _ (λ b. issuing_form table table t next (same_threads table) e (may b))

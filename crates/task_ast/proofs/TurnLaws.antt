@@ -6,7 +6,7 @@ use Rattle.task_ast.specs.declared.sync.SyncOp.TheVariants as sync
 use Rattle.task_ast.specs.declared.sync.Next.{Next}
 use Rattle.task_ast.specs.meaning.Repeat.{Again, More, Done}
 use Rattle.task_ast.specs.meaning.Table.{Stand, Away, Waits, Released, Table, ring, next_of, is_end}
-use Rattle.task_ast.specs.meaning.Turn.{Turn, Issue, Look, To, Unknown, NoThread, look, issuing, child_of, stand_of, come_to, at_barrier, owner_of, joining, tried, has_passed, at_look, turn, most_threads, deadlocked, all_threads, owners_after}
+use Rattle.task_ast.specs.meaning.Turn.{Turn, Issue, Look, To, Unknown, NoThread, look, issuing, child_of, stand_of, come_to, at_barrier, owner_of, at_join, tried, has_passed, at_look, turn, most_threads, deadlocked, all_threads, owners_after}
 use Rattle.task_ast.proofs.Turns.{Known, known_to, look_known}
 use Rattle.task_ast.specs.laws.Threads.{with_child, SameThreads, tries, ahead, HasBegun, AheadLaw, PassLaw, IssueLaw}
 use Rattle.task_ast.proofs.LessTurns.{inside_of}
@@ -31,7 +31,7 @@ barrier_as Away table t next = tt
 barrier_as Waits table t next = tt
 barrier_as Released table t next = issuing_as table t next
 
-joining_as : (h : ℕ) (o : Option Next) (table : Table) (t : ℕ) (next : Next) → IssuesAs t next (joining h o table t next)
+joining_as : (h : ℕ) (o : Option Next) (table : Table) (t : ℕ) (next : Next) → IssuesAs t next (at_join h o table t next)
 joining_as h None table t next = tt
 joining_as h (Some other) table t next = cond_as t next (is_end other.sync) _ _ (issuing_as table t next) tt
 

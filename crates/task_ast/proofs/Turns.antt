@@ -12,7 +12,7 @@ use Rattle.task_ast.specs.declared.sync.Next.{Next}
 use Rattle.task_ast.specs.meaning.Repeat.{Again, More, Done, go_on}
 use Rattle.task_ast.specs.Repeat.{IsFalling}
 use Rattle.task_ast.specs.meaning.Table.{Stand, Away, Waits, Released, Seat, Table, ring, next_of, is_end, unpassed, with_nth, waits_at, meets, is_waiting}
-use Rattle.task_ast.specs.meaning.Turn.{Turn, Ended, Look, To, Unknown, NoThread, look_at, look, passing, issuing, stand_of, released_at, arrived, met, come_to, at_barrier, owner_of, joining, tried, has_passed, at_look, turn, is_away, turns_left, next_issue, most_threads, deadlocked, all_threads}
+use Rattle.task_ast.specs.meaning.Turn.{Turn, Ended, Look, To, Unknown, NoThread, look_at, look, passing, issuing, stand_of, released_at, arrived, met, come_to, at_barrier, owner_of, at_join, tried, has_passed, at_look, turn, is_away, turns_left, next_issue, most_threads, deadlocked, all_threads}
 use Rattle.task_ast.proofs.Counting.{one, count-with_nth, count-with_nth-same, length-with_nth, count-map, get-map, less_second, less_first}
 use Rattle.task_ast.proofs.Repeats.{until_done_step}
 
@@ -156,7 +156,7 @@ stand_of-is : (table : Table) (t : ℕ) (seat : Seat) → slice_get table.seats 
 stand_of-is table t seat e = ap (λ o. unwrap_or (option_map (λ s. s.stand) o) Away) e
 
 joining_falls : (h : ℕ) (o : Option Next) (table : Table) (t : ℕ) (next : Next) → Falls (turns_left table) (passing table t)
-    → Falls (turns_left table) (joining h o table t next)
+    → Falls (turns_left table) (at_join h o table t next)
 joining_falls h None table t next falls = ends
 joining_falls h (Some other) table t next falls = cond_falls _ (is_end other.sync) _ _ (issuing_falls _ table t next) falls
 

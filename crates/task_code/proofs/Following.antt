@@ -12,7 +12,7 @@ use Rattle.task_ast.specs.meaning.Names.{is_name, slot, locks_of, barriers_of, c
 use Rattle.task_ast.specs.Names.{seconds}
 use Rattle.task_ast.specs.meaning.Value.{value}
 use Rattle.task_ast.specs.meaning.Body.{Step, Silent, Act}
-use Rattle.task_ast.specs.meaning.Control.{Setting, Point, with_value, going, stop, known, branch, env_at, lock_number, action, fork_of, step_at, step_from, step}
+use Rattle.task_ast.specs.meaning.Control.{Setting, Point, with_value, going, stop, known, branch, env_at, lock_number, action, fork_named, step_at, step_from, step}
 use Rattle.task_ast.specs.meaning.Plain.{setting_of}
 use Rattle.task_ast.specs.laws.Following.{Matches, both_silent, both_turn, both_act, both_stop, IsFollowing}
 use Rattle.task_ast.proofs.Slots.{sets_first}
@@ -92,7 +92,7 @@ module _ (program : Program) (inputs : Inputs) (p : Point) (q : Place) (r : Corr
       (locks_of program.heads) a i
 
   pub fork_same : (t : Name) (es : List Expr) (k : ℕ) (into : Option ℕ)
-      → fork_of s t es p ≡ fork_arguments (forking sc (task_named program t) k es into) (env_of inputs.feeds q)
+      → fork_named s t es p ≡ fork_arguments (forking sc (task_named program t) k es into) (env_of inputs.feeds q)
   fork_same t es k into =
       same_fork program inputs.feeds (controls_of p.task) (registers_of p.task) p.names q.ctl p.me q.me r.names r.values r.me
       (task_named program t) k es into
@@ -189,7 +189,7 @@ module _ (program : Program) (inputs : Inputs) (p : Point) (q : Place) (r : Corr
       let into = option_map (slot (controls_of p.task)) x in
       let f = forking sc (task_named program t) k es into in
       inr (at_instr line (Fork f) _ has.0
-      (known_same line (fork_of s t es p) (fork_arguments f (env_of inputs.feeds q)) _ _ (fork_same t es k into)
+      (known_same line (fork_named s t es p) (fork_arguments f (env_of inputs.feeds q)) _ _ (fork_same t es k into)
       (λ arguments. subst (λ n. Matches R (stop (sync.Fork k arguments.0) line) (halt (sync.Fork n arguments.0) line))
       (sym (forking_task sc (task_named program t) k es into)) both_stop)))
   at_statement line (tree.Join e x) rest has after =

@@ -2,7 +2,7 @@
 -- begins, and with which it could go on, are lists of kinds here, so that what the laws of Exact ask of them (apart,
 -- within) is computed.
 use Rattle.std.proofs.Common.{◌≡◌, ℕ, zero, suc, true, List, [], ◌∷◌, Option, Some, None, option_map}
-use Rattle.task_parser.specs.meaning.Words.{Form, One, Both, Made, ◌∣◌, many, perhaps, Opened, nothing, first_of, second_of, put_first, the, ◌◂◌, after, some, separated}
+use Rattle.task_parser.specs.meaning.Words.{Form, One, Both, Made, ◌∣◌, many, perhaps, Opened, nothing, first_of, second_of, put_first, the, ◌◂◌, preceded, some, separated}
 use Rattle.task_parser.specs.inner.Reading.{Reader, read_one, read_both, read_made, read_either, repeat, read_perhaps, read_opened, read_the, ◌◃◌, read_after, read_some, read_separated}
 use Rattle.task_parser.specs.inner.Laws.{Sound, Complete, Starts, Inhabited, Parted}
 use Rattle.task_parser.proofs.Exact.{sound_one, sound_both, sound_made, sound_either, sound_opened, sound_opened_none, complete_one, complete_both, complete_made, complete_either, complete_opened, complete_opened_none, complete_wider, starts_one, starts_both, starts_made, starts_either, starts_opened, starts_wider, inhabited_one, inhabited_both, inhabited_made, inhabited_left, inhabited_opened, parted_starts, parted_made}
@@ -120,7 +120,7 @@ pub reads_mark : {A : Type 0} {room : ℕ} {T P : Form A} {p : Reader A} {first 
 reads_mark n d h = reads_made first_of (reads_both h (reads_the n) d)
 
 pub reads_after : {A : Type 0} {room : ℕ} {T P : Form A} {p : Reader A} {first goes : List ℕ} (n : ℕ) → disjoint first [] ≡ true
-    → Reads room T P p first goes → Reads room (after n T) (after n P) (read_after n p) (n ∷ []) goes
+    → Reads room T P p first goes → Reads room (preceded n T) (preceded n P) (read_after n p) (n ∷ []) goes
 reads_after n d h = reads_made second_of (reads_both (reads_the n) h d)
 
 -- one or more

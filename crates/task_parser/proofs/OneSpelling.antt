@@ -9,7 +9,7 @@ use Rattle.task_parser.specs.meaning.Lexing.{lexed}
 use Rattle.task_parser.specs.meaning.Promise.{Stop}
 use Rattle.task_parser.specs.meaning.Expressions.{Text}
 use Rattle.task_parser.specs.meaning.Promise.{StandFor, StopFirst}
-use Rattle.task_parser.specs.meaning.Answer.{place, IsFirstFault}
+use Rattle.task_parser.specs.meaning.Answer.{offset_of, IsFirstFault}
 use Rattle.task_parser.specs.inner.WholeText.{read_all}
 use Rattle.task_parser.specs.meaning.Spelling.{HasFault, Meaning, Stands, LexFails, ParseFails, Means}
 use Rattle.task_parser.specs.OneReading.{OnePlace, SomeMeaning, OneMeaning, OneSpelling}
@@ -19,8 +19,8 @@ use Rattle.task_parser.proofs.OneReading.{first_fault_answer, program_or_fault, 
 -- ---- a first fault by its place
 
 fault_of : Text → Bool → List Token → ParseFault
-fault_of text false rest = Unexpected (place text rest)
-fault_of text true rest = TooDeep (place text rest)
+fault_of text false rest = Unexpected (offset_of text rest)
+fault_of text true rest = TooDeep (offset_of text rest)
 
 -- where the fault stands
 record Stops (text : Text) (tokens : List Token) (fault : ParseFault) : Type 0 where

@@ -6,7 +6,7 @@ ghost use Rattle.task_parser.specs.inner.Reading.{begins};
 ghost use Rattle.task_parser.specs.inner.ProgramReaders.{read_program};
 ghost use Rattle.task_parser.specs.inner.Gives.{Gives};
 ghost use Rattle.task_parser.specs.meaning.Promise.{StandFor};
-ghost use Rattle.task_parser.specs.meaning.Answer.{place, IsFirstFault};
+ghost use Rattle.task_parser.specs.meaning.Answer.{offset_of, IsFirstFault};
 ghost use Rattle.task_parser.specs.Answer.{Answers};
 ghost use Rattle.task_parser.specs.inner.WholeText.{fault_at, read_all};
 
@@ -47,7 +47,7 @@ fn whole<'a>(source: Source<'_>, tokens: &'a [Token]) -> Result<Program, Halt<'a
 // Where the rest of the tokens begins in the text.
 fn place_of(text: &[u8], rest: &[Token]) -> u32
     requires { length text.now < 2 ^ 32 }
-    ensures { result ≡ place text.now rest.now }
+    ensures { result ≡ offset_of text.now rest.now }
 {
     match rest {
         [] => text.len() as u32,

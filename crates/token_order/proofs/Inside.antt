@@ -11,7 +11,7 @@ use Rattle.task_ast.specs.declared.sync.SyncOp.TheVariants as sync
 use Rattle.task_ast.specs.declared.sync.Next.{Next}
 use Rattle.task_ast.specs.meaning.Repeat.{Again, More, Done}
 use Rattle.task_ast.specs.meaning.Table.{Seat, Stand, Away, Waits, Released, Table, ring, next_of, is_end, unpassed, with_nth, new_seat, waits_at, learning}
-use Rattle.task_ast.specs.meaning.Turn.{Turn, Issue, Needs, Ended, Look, To, Unknown, NoThread, look, turn, tried, at_look, deadlocked, has_passed, stand_of, met, arrived, come_to, at_barrier, released_at, issuing, passing, joining, seats_after, owner_of, most_threads, all_threads}
+use Rattle.task_ast.specs.meaning.Turn.{Turn, Issue, Needs, Ended, Look, To, Unknown, NoThread, look, turn, tried, at_look, deadlocked, has_passed, stand_of, met, arrived, come_to, at_barrier, released_at, issuing, passing, at_join, seats_after, owner_of, most_threads, all_threads}
 use Rattle.task_ast.specs.laws.Threads.{table_after}
 use Rattle.task_ast.proofs.Counting.{length-with_nth}
 use Rattle.task_ast.proofs.IssuedTables.{learnt_length}
@@ -86,7 +86,7 @@ barrier-token Waits table t next l = pass-token table t l
 barrier-token Released table t next l = issue-token table t next l
 
 joining-token : (h : ℕ) (o : Option Next) (table : Table) (t : ℕ) (next : Next) → t < length table.seats
-    → TokenAfter (joining h o table t next)
+    → TokenAfter (at_join h o table t next)
 joining-token h None table t next l = needs
 joining-token h (Some other) table t next l = cond-token (is_end other.sync) _ _ (issue-token table t next l) (pass-token table t l)
 

@@ -23,8 +23,8 @@ use Rattle.call_cases.proofs.Headlines.{run_of_failed, run_of_memory, run_of_who
 use Rattle.audit_calls.specs.meaning.Tried.{Judge}
 use Rattle.view_calls.specs.declared.words.Viewed.{Viewed}
 use Rattle.view_calls.specs.meaning.Commands.{MayRead, IsShown, asking, commands}
-use Rattle.view_calls.specs.meaning.Sights.{Sight, text_of, status_by, status_of, absent_of}
-use Rattle.view_calls.specs.meaning.Lines.{absent_line, usage_line, read_fault_line, out_of_memory_line, line_of, under_own_name}
+use Rattle.view_calls.specs.meaning.Sights.{Sight, sight_text, status_by, sight_status, absent_of}
+use Rattle.view_calls.specs.meaning.Lines.{absent_line, usage_line, read_fault_line, out_of_memory_line, own_line, under_own_name}
 use Rattle.view_calls.specs.Lines.{refusal_line, refusal_status, fault_line, fault_status}
 use Rattle.view_calls.specs.meaning.Shows.{untold, FailsToRead, IsLine, HasOwnLine, Shows}
 use Rattle.view_calls.specs.Shows.{ShowEnds, shown, absent, unshown}
@@ -89,23 +89,23 @@ module _ (judge : Judge) where
     module _ (words : List (List ℕ)) (files : Option Files) where
       refusal_told : (refusal : Refusal) (status : ℕ) → IfSome files (λ told. RefusesCase (IsCase (asking judge) words told) refusal)
           → LineEnds (refusal_status refusal) (refusal_line refusal) err status
-          → ForCase (asking judge) words files (λ case. HasOwnLine status → TakesAll err (line_of case))
+          → ForCase (asking judge) words files (λ case. HasOwnLine status → TakesAll err (own_line case))
       refusal_told refusal status known (line_failed part fails) =
-          for_each (asking judge) words files (λ case. HasOwnLine 8 → TakesAll err (line_of case)) (λ case is. absurd (grind (arith, is)))
+          for_each (asking judge) words files (λ case. HasOwnLine 8 → TakesAll err (own_line case)) (λ case is. absurd (grind (arith, is)))
       refusal_told refusal status known (line_no_memory part) =
-          for_each (asking judge) words files (λ case. HasOwnLine 1 → TakesAll err (line_of case)) (λ case is. absurd (grind (arith, is)))
+          for_each (asking judge) words files (λ case. HasOwnLine 1 → TakesAll err (own_line case)) (λ case is. absurd (grind (arith, is)))
       refusal_told RefusedUsage status known (whole all) =
-          for_known (asking judge) words files Usage (λ case. HasOwnLine 2 → TakesAll err (line_of case)) known (λ _. all)
+          for_known (asking judge) words files Usage (λ case. HasOwnLine 2 → TakesAll err (own_line case)) known (λ _. all)
       refusal_told (RefusedProgram told) status known (whole all) =
           for_some (commands judge) words files Name (λ name. BadProgram name told)
-          (λ case. HasOwnLine 3 → TakesAll err (line_of case)) known (λ name _. all)
+          (λ case. HasOwnLine 3 → TakesAll err (own_line case)) known (λ name _. all)
       refusal_told (RefusedInput told) status known (whole all) =
           for_some (commands judge) words files (List Name) (λ names. BadInput names told)
-          (λ case. HasOwnLine 4 → TakesAll err (line_of case)) known (λ names _. all)
+          (λ case. HasOwnLine 4 → TakesAll err (own_line case)) known (λ names _. all)
       refusal_told (ReadFault name) status known (whole all) =
-          for_each (asking judge) words files (λ case. HasOwnLine 7 → TakesAll err (line_of case)) (λ case is. absurd (grind (arith, is)))
+          for_each (asking judge) words files (λ case. HasOwnLine 7 → TakesAll err (own_line case)) (λ case is. absurd (grind (arith, is)))
       refusal_told OutOfMemory status known (whole all) =
-          for_each (asking judge) words files (λ case. HasOwnLine 1 → TakesAll err (line_of case)) (λ case is. absurd (grind (arith, is)))
+          for_each (asking judge) words files (λ case. HasOwnLine 1 → TakesAll err (own_line case)) (λ case is. absurd (grind (arith, is)))
 
       -- a part of the line of a refusal is a part of a line of the case
       refusal_part : (refusal : Refusal) → IfSome files (λ told. RefusesCase (IsCase (asking judge) words told) refusal)
@@ -192,19 +192,19 @@ module _ (judge : Judge) where
   -- a run was shown, or it was not
   module _ (sight : Sight) (out err : Change) where
     abbrev text : List ℕ
-    text = text_of sight
+    text = sight_text sight
 
-    show_ends : (status : ℕ) → ShowEnds sight out err status → RunEnds text [] (status_of sight) out (untold err) status
+    show_ends : (status : ℕ) → ShowEnds sight out err status → RunEnds text [] (sight_status sight) out (untold err) status
     show_ends status (shown none all kept) =
         subst (λ due. RunEnds text [] due out (untold err) 0) (sym (ap status_by none)) (finished all tt)
     show_ends status (absent {position = position} is all ends) =
         subst (λ due. RunEnds text [] due out (untold err) status) (sym (ap status_by is))
         (run_of_whole text [] 5 out (untold err) status all (untold_ends 5 (absent_line (Some position)) [] err status ends))
     show_ends status (unshown Failed part fails ends) =
-        run_of_failed text [] (status_of sight) out (untold err) status part (fails refl)
+        run_of_failed text [] (sight_status sight) out (untold err) status part (fails refl)
         (untold_ends 8 (fault_line Failed) gprs_lines.write_fault_line err status ends)
     show_ends status (unshown sink.OutOfMemory part fails ends) =
-        run_of_memory text [] (status_of sight) out (untold err) status part
+        run_of_memory text [] (sight_status sight) out (untold err) status part
         (untold_ends 1 (fault_line sink.OutOfMemory) gprs_lines.out_of_memory_line err status ends)
 
     -- it stopped
@@ -289,7 +289,7 @@ module _ (judge : Judge) where
             (record { events = []; restarts = [] }) names sight viewed refl some known same
             (λ _. (refl, refl)) (λ _. (tt, (λ _. tt), tt)) (show_ends sight out err status ends);
         quiet = show_quiet sight out err status ends;
-        line = for_known (asking judge) words files (Go names sight) (λ case. HasOwnLine status → TakesAll err (line_of case)) known
+        line = for_known (asking judge) words files (Go names sight) (λ case. HasOwnLine status → TakesAll err (own_line case)) known
             (show_line sight out err status ends);
         read_fault = λ is. absurd (grind (arith, is, is_status));
         write_fault = show_fault sight out err status ends;

@@ -5,7 +5,7 @@ use Rattle.std.specs.declared.alloc.Global.{Global}
 use Rattle.std.proofs.lemmas.Bool.Decides.{nat_tests}
 use Rattle.std.proofs.lemmas.List.{drop_more, length-drop, take-map, drop-map, map-append, length-map, get_or-map}
 use Rattle.command_line.specs.meaning.Words.{texts}
-use Rattle.view_calls.specs.meaning.Commands.{order_by, trace_at, untraced, traced_by, timeline_at, timeline_by, run_by}
+use Rattle.view_calls.specs.meaning.Commands.{order_asked, trace_at, untraced, traced_by, timeline_at, timeline_by, run_by}
 
 drop-past : {A : Type 0} (xs : List A) (i : ℕ) → length xs ≤ i → drop i xs ≡ []
 drop-past [] zero past = refl
@@ -101,5 +101,5 @@ timeline-first [] word some first other named = absurd (omega (arith, some))
 timeline-first (w ∷ words) word some first other named =
     let all = texts (w ∷ words) in
     sym (ap (λ b. if b then timeline_by all else None) (ap (λ s. bytes_eq (string_bytes s) (codes "timeline")) (sym first) ∙ named))
-    ∙ sym (ap (λ b. if b then order_by all else (if bytes_eq (string_bytes w) (codes "timeline") then timeline_by all else None))
+    ∙ sym (ap (λ b. if b then order_asked all else (if bytes_eq (string_bytes w) (codes "timeline") then timeline_by all else None))
     (ap (λ s. bytes_eq (string_bytes s) (codes "order")) (sym first) ∙ other))

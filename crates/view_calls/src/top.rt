@@ -8,7 +8,7 @@ ghost use Rattle.call_cases.specs.meaning.Answers.{change_of};
 ghost use Rattle.call_cases.specs.Decided.{work_of};
 ghost use Rattle.audit_calls.specs.meaning.Tried.{Judge};
 ghost use Rattle.view_calls.specs.meaning.Commands.{viewed_by};
-ghost use Rattle.view_calls.specs.meaning.Sights.{text_for, view_of, text_of, absent_of};
+ghost use Rattle.view_calls.specs.meaning.Sights.{text_for, view_of, sight_text, absent_of};
 ghost use Rattle.view_calls.specs.Sights.{lines_in, sight_of};
 ghost use Rattle.view_calls.specs.meaning.Shows.{Shows};
 ghost use Rattle.view_calls.specs.Shows.{ShowEnds};
@@ -83,8 +83,8 @@ fn put_text<O: Sink>(
     out: &mut O,
 ) -> Result<Option<u64>, SinkFault>
     requires { IsWithinLimits viewing.now.request.asked }
-    ensures all { OnOk result (Appends (O.written out.old) (O.written out.new) (text_of (sight_of viewing.now))) }
-    ensures prefix { OnErr result (AppendsPrefix (O.written out.old) (O.written out.new) (text_of (sight_of viewing.now))) }
+    ensures all { OnOk result (Appends (O.written out.old) (O.written out.new) (sight_text (sight_of viewing.now))) }
+    ensures prefix { OnErr result (AppendsPrefix (O.written out.old) (O.written out.new) (sight_text (sight_of viewing.now))) }
     ensures cause { HasCause (O.faults out.old) (O.faults out.new) result }
     ensures absent { IfOk result (λ absent. absent ≡ absent_of (sight_of viewing.now)) }
 {

@@ -2,7 +2,7 @@
 ghost use Rattle.std.specs.Prelude.{◌≡◌, ◌<◌, ◌≤◌, ◌+◌, ◌++◌, take, length, IfOk, IfSome, OnOk};
 ghost use Rattle.command_line.specs.meaning.Words.{texts};
 ghost use Rattle.command_line.specs.Words.{IsWithinLimits};
-ghost use Rattle.view_calls.specs.meaning.Commands.{order_by, trace_at, untraced, traced_by, timeline_by, run_by, viewed_by};
+ghost use Rattle.view_calls.specs.meaning.Commands.{order_asked, trace_at, untraced, traced_by, timeline_by, run_by, viewed_by};
 
 use command_line::{Asked, Verb, asked_of, read_why_words};
 use gp_base::Name;
@@ -19,7 +19,7 @@ pub struct Viewed {
 
 // The run whose order is asked for, or none where the words are not those of `order`.
 fn read_order(alloc: Global, words: &[String]) -> Result<Option<Viewed>, AllocError>
-    ensures viewed { IfOk result (λ viewed. viewed ≡ order_by (texts words.now)) }
+    ensures viewed { IfOk result (λ viewed. viewed ≡ order_asked (texts words.now)) }
     ensures within { IfOk result (λ viewed. IfSome viewed (λ v. IsWithinLimits v.run)) }
 {
     let Some(run) = asked_of(alloc, true, Verb::One, words)? else {

@@ -10,14 +10,14 @@ use Rattle.call_cases.specs.meaning.Work.{ToDo, Supplies, Spoils}
 use Rattle.call_cases.specs.meaning.Case.{Case, Go}
 use Rattle.call_cases.specs.Decided.{program_in, files_read, work_of}
 use Rattle.audit_calls.specs.declared.trial.Trial.{Trial}
-use Rattle.audit_calls.specs.meaning.Tried.{Judge, Tried, tried, by_trace}
+use Rattle.audit_calls.specs.meaning.Tried.{Judge, Tried, tried_with, by_trace}
 
 -- the words that ask for a trial, and what there is to be judged in it
 abbrev pub audited_in : Trial → Audited
 audited_in trial = record { run = trial.request.asked; trace = trial.trace }
 
 abbrev pub tried_in : Judge → Trial → Tried
-tried_in judge trial = tried judge (work_of trial.request) trial.lines
+tried_in judge trial = tried_with judge (work_of trial.request) trial.lines
 
 -- the files that were read for it, and its case
 abbrev pub files_tried : Trial → List Name
@@ -34,7 +34,7 @@ pub record IsShort (trial : Trial) : Type 0 where
 -- the answer to the file of a trace with these bytes, after these files
 abbrev pub AnswersLines : Judge → (names : List Name) → (file : Name) → ToDo → Option (List ℕ) → Result (List TraceLine) Refusal → Type 0
 AnswersLines judge names file work bytes (Ok lines) =
-    by_trace judge names file work bytes ≡ Supplies (names ++ file ∷ []) (tried judge work lines)
+    by_trace judge names file work bytes ≡ Supplies (names ++ file ∷ []) (tried_with judge work lines)
 AnswersLines judge names file work bytes (Err (BadInput line)) = by_trace judge names file work bytes ≡ Spoils (names ++ file ∷ []) line
 AnswersLines judge names file work bytes (Err (ReadFault name)) = file ≡ name
 AnswersLines judge names file work bytes (Err OutOfMemory) = ⊤

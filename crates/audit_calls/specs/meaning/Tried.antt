@@ -7,7 +7,7 @@ use Rattle.task_ast.specs.meaning.Tree.{Name, Program}
 use Rattle.dependence.specs.meaning.Restarts.{Dependence}
 use Rattle.gp_audit.specs.declared.line.TraceLine.{TraceLine}
 use Rattle.gp_audit.specs.declared.verdict.Verdict.{Verdict}
-use Rattle.gp_audit.specs.meaning.Lines.{trace_text, IsNarrowLine}
+use Rattle.gp_audit.specs.meaning.Lines.{lines_text, IsNarrowLine}
 use Rattle.gp_audit.specs.meaning.Reading.{IsBrokenAt}
 use Rattle.gp_audit.specs.meaning.Verdicts.{IsVerdict}
 use Rattle.command_line.specs.declared.audit_words.Audited.{Audited}
@@ -18,7 +18,7 @@ use Rattle.call_cases.specs.meaning.Lines.{input_line}
 
 -- the bytes are those of a trace with these lines, or this row, counted from 1, is the first that is none
 abbrev pub Reads : (bytes : List ℕ) → Result (List TraceLine) ℕ → Type 0
-Reads bytes (Ok lines) = All IsNarrowLine lines × (bytes ≡ trace_text lines)
+Reads bytes (Ok lines) = All IsNarrowLine lines × (bytes ≡ lines_text lines)
 Reads bytes (Err row) = IsBrokenAt bytes row
 
 -- Who reads traces, and judges their lines, by the definitions of both. No two differ.
@@ -36,12 +36,12 @@ pub record Tried : Type 0 where
   pub verdict : Verdict
 
 module _ (judge : Judge) where
-  abbrev pub tried : ToDo → List TraceLine → Tried
-  tried work lines = record { work = work; lines = lines; verdict = judge.verdict_of (dependence_for work) work.faults lines }
+  abbrev pub tried_with : ToDo → List TraceLine → Tried
+  tried_with work lines = record { work = work; lines = lines; verdict = judge.verdict_of (dependence_for work) work.faults lines }
 
   -- what comes of the rows of a trace, after these files
   abbrev pub by_rows : (names : List Name) → (file : Name) → ToDo → Result (List TraceLine) ℕ → Supplied Tried
-  by_rows names file work (Ok lines) = Supplies (names ++ file ∷ []) (tried work lines)
+  by_rows names file work (Ok lines) = Supplies (names ++ file ∷ []) (tried_with work lines)
   by_rows names file work (Err row) = Spoils (names ++ file ∷ []) (input_line file 9 row)
 
   -- what comes of the file of a trace with these bytes, or of none

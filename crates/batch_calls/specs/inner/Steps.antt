@@ -6,7 +6,7 @@ use Rattle.task_ast.specs.meaning.Layout.{cut}
 use Rattle.one_thread.specs.declared.run.Step.{Step}
 use Rattle.one_thread.specs.declared.run.PlainRun.{PlainRun}
 use Rattle.restart_log.specs.meaning.Lines.{printed}
-use Rattle.call_cases.specs.meaning.Texts.{Ran, tail_text}
+use Rattle.call_cases.specs.meaning.Texts.{Ran, run_tail}
 
 -- the lines that these subthreads print
 abbrev pub lines_in : List Step → List (List ℤ)
@@ -25,4 +25,4 @@ ran_in heads run =
 
 -- what follows the first line of the text of such a run
 abbrev pub rest_text : Ran → List ℕ
-rest_text ran = printed ran.lines ++ tail_text ran [] 0
+rest_text ran = printed ran.lines ++ run_tail ran [] 0

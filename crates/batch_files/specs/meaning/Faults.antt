@@ -7,20 +7,21 @@ use Rattle.std.specs.Result.{result_ok}
 use Rattle.gp_base.specs.meaning.Faults.{strikes_same}
 use Rattle.gp_base.specs.declared.fault.Fault.{Fault}
 use Rattle.gp_base.specs.declared.limits.TheConstants.{LONGEST_DELAY, MOST_FAULTS}
-use Rattle.batch_files.specs.meaning.Numbers.{natural_below, number_at}
+use Rattle.batch_files.specs.meaning.Numbers.{natural_below, field_number}
 use Rattle.batch_files.specs.meaning.Rows.{Broken, Row, by_rule}
 use Rattle.batch_files.specs.declared.fault.FileKind.{FileKind}
 use Rattle.batch_files.specs.declared.fault.FileKind.TheVariants.{Fields, Number, Range, Twice, TooMany}
 
-abbrev pub fault_at : (position attempt delay : Option ℕ) → ℤ → Option Fault
-fault_at (Some position) (Some attempt) (Some delay) mask =
+-- the fault of three numbers in their ranges, where its mask turns some bit
+abbrev pub fault_in_range : (position attempt delay : Option ℕ) → ℤ → Option Fault
+fault_in_range (Some position) (Some attempt) (Some delay) mask =
     if int_eq mask (pos 0) then None else Some (record { pos = position; attempt = attempt; delay = delay; mask = mask })
-fault_at position attempt delay mask = None
+fault_in_range position attempt delay mask = None
 
 -- the fault of these numbers, where each is in its range
 abbrev pub fault_in : (position attempt delay mask : ℤ) → Option Fault
 fault_in position attempt delay mask =
-    fault_at (natural_below (2 ^ 32) position) (natural_below (2 ^ 32) attempt) (natural_below (LONGEST_DELAY + 1) delay) mask
+    fault_in_range (natural_below (2 ^ 32) position) (natural_below (2 ^ 32) attempt) (natural_below (LONGEST_DELAY + 1) delay) mask
 
 abbrev pub fault_with : (position attempt delay mask : Option ℤ) → Result Fault FileKind
 fault_with (Some position) (Some attempt) (Some delay) (Some mask) = ok_or (fault_in position attempt delay mask) Range
@@ -28,7 +29,8 @@ fault_with position attempt delay mask = Err Number
 
 -- the fault of a row, or the first rule that the row breaks by itself
 abbrev pub fault_of : Row → Result Fault FileKind
-fault_of row = if length row == 4 then fault_with (number_at row 0) (number_at row 1) (number_at row 2) (number_at row 3) else Err Fields
+fault_of row =
+    if length row == 4 then fault_with (field_number row 0) (field_number row 1) (field_number row 2) (field_number row 3) else Err Fields
 
 -- the faults of all rows
 abbrev pub faults_of : List Row → List Fault

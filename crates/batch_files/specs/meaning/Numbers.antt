@@ -1,13 +1,9 @@
 -- Numbers as files write them.
-use Rattle.std.specs.Prelude.{ℕ, ℤ, pos, negsuc, neg_ℤ, ◌-◌, ◌^◌, ◌==◌, ◌&&◌, Bool, List, length, drop, nat_le, nat_lt, if◌then◌else◌}
+use Rattle.std.specs.Prelude.{ℕ, ℤ, pos, negsuc, neg_ℤ, ◌-◌, ◌^◌, ◌==◌, ◌&&◌, Bool, List, drop, nat_le, nat_lt, if◌then◌else◌}
 use Rattle.std.specs.Prelude.{Option, Some, None, option_map, option_and_then, slice_index}
-use Rattle.std.specs.Str.{all_ascii_digits}
 use Rattle.std.specs.Str.Parse.{digits_value}
 use Rattle.csv.specs.Records.{field_at}
-
--- one or more decimal digits and nothing else
-abbrev pub is_digits : List ℕ → Bool
-is_digits text = all_ascii_digits text && nat_lt 0 (length text)
+use Rattle.gp_base.specs.meaning.Digits.{is_digits}
 
 -- the number that a text of digits writes, where it is at most so large
 abbrev pub number_up_to : ℕ → List ℕ → Option ℕ
@@ -21,8 +17,8 @@ signed_number text =
     else option_map pos (number_up_to (2 ^ 63 - 1) text)
 
 -- the number that a field of a row writes; a field that isn't there writes none
-abbrev pub number_at : List (List ℕ) → ℕ → Option ℤ
-number_at row field = option_and_then signed_number (field_at row field)
+abbrev pub field_number : List (List ℕ) → ℕ → Option ℤ
+field_number row field = option_and_then signed_number (field_at row field)
 
 -- the number, where it is natural and below the limit
 abbrev pub natural_below : ℕ → ℤ → Option ℕ

@@ -8,8 +8,8 @@ abbrev pub Row : Type 0
 Row = List (List ℕ)
 
 -- the rows of a file that has no header row, as the crate `csv` defines them: blank lines are none
-abbrev pub rows_of : List ℕ → List Row
-rows_of bytes = records default_config (strip_bom bytes)
+abbrev pub csv_rows : List ℕ → List Row
+csv_rows bytes = records default_config (strip_bom bytes)
 
 -- a rule that a row breaks, and the row's number from 1
 abbrev pub Broken : Type 0

@@ -12,7 +12,7 @@ use Rattle.task_ast.specs.declared.tree.Head.{Head}
 use Rattle.task_ast.specs.declared.tree.Head.TheVariants.{RecHead, FeedHead}
 use Rattle.task_ast.specs.meaning.Tree.{Name, Program}
 use Rattle.task_ast.specs.meaning.Names.{natural}
-use Rattle.batch_files.specs.meaning.Rows.{Broken, rows_of}
+use Rattle.batch_files.specs.meaning.Rows.{Broken, csv_rows}
 use Rattle.batch_files.specs.meaning.Records.{records_by}
 use Rattle.batch_files.specs.meaning.Feeds.{feed_by}
 use Rattle.batch_files.specs.meaning.Faults.{faults_by}
@@ -41,8 +41,8 @@ abbrev pub feed_with : (fields : ℕ) → List ℤ → Option Feed
 feed_with fields cells = feed_where fields cells (cases_Bool (are_rows fields cells))
 
 -- no inputs
-abbrev pub nothing : Inputs
-nothing = record { records = []; feeds = [] }
+abbrev pub no_inputs : Inputs
+no_inputs = record { records = []; feeds = [] }
 
 -- the inputs with the cells of one more record
 abbrev pub with_cells : Inputs → List ℤ → Inputs
@@ -72,21 +72,21 @@ by_file names file (Some bytes) meant next =
 
 -- the cells of a record of this size, by the bytes of its file, and the inputs with them
 abbrev pub record_rows : (size : ℕ) → List ℕ → Result (List ℤ) Broken
-record_rows size bytes = records_by size (rows_of bytes)
+record_rows size bytes = records_by size (csv_rows bytes)
 
 abbrev pub more_cells : Inputs → List Name → List ℤ → Supplied Inputs
 more_cells inputs names cells = Supplies names (with_cells inputs cells)
 
 -- the cells of a feed of so many fields, for which there is so much room, by the bytes of its file, and the inputs with it
 abbrev pub feed_rows : (fields room : ℕ) → List ℕ → Result (List ℤ) Broken
-feed_rows fields room bytes = feed_by fields room (rows_of bytes)
+feed_rows fields room bytes = feed_by fields room (csv_rows bytes)
 
 abbrev pub more_feed : Inputs → (fields : ℕ) → List Name → List ℤ → Supplied Inputs
 more_feed inputs fields names cells = Supplies names (with_feed inputs (feed_with fields cells))
 
 -- the faults of a file, by its bytes
 abbrev pub fault_rows : List ℕ → Result (List Fault) Broken
-fault_rows bytes = faults_by (rows_of bytes)
+fault_rows bytes = faults_by (csv_rows bytes)
 
 -- what comes of a record of this size, which has cells of 0 where it names no file
 abbrev pub by_record : Files → List Name → Inputs → (size : ℕ) → Option Name → Supplied Inputs
@@ -118,7 +118,7 @@ load_faults files names (Some file) = by_file names file (bytes_of files file) f
 
 -- what they give
 abbrev pub supplied_for : Command → List Head → Files → Supplied Inputs
-supplied_for command heads files = if runs command then load files [] nothing heads else Supplies [] nothing
+supplied_for command heads files = if runs command then load files [] no_inputs heads else Supplies [] no_inputs
 
 -- what is to be done for what is asked on a program, after these files, from these inputs
 abbrev pub with_faults : Files → Asked → Program → List Name → Inputs → Supplied ToDo

@@ -45,22 +45,22 @@ parse_line (parse.TooDeep at) = fault_line (codes "parse") 2 (codes "byte") at
 parse_line parse.OutOfMemory = []
 
 -- the number of a rule
-abbrev pub number_of : CheckKind → ℕ
-number_of check.UnknownName = 1
-number_of check.DoubleName = 2
-number_of check.WrongCount = 3
-number_of check.DataInControl = 4
-number_of check.NotHeld = 5
-number_of check.HeldTwice = 6
-number_of check.HeldAtEnd = 7
-number_of check.BranchesDiffer = 8
-number_of check.IndexChangedWhileHeld = 9
-number_of check.SizesDiffer = 10
-number_of check.TooMany = 11
+abbrev pub rule_number : CheckKind → ℕ
+rule_number check.UnknownName = 1
+rule_number check.DoubleName = 2
+rule_number check.WrongCount = 3
+rule_number check.DataInControl = 4
+rule_number check.NotHeld = 5
+rule_number check.HeldTwice = 6
+rule_number check.HeldAtEnd = 7
+rule_number check.BranchesDiffer = 8
+rule_number check.IndexChangedWhileHeld = 9
+rule_number check.SizesDiffer = 10
+rule_number check.TooMany = 11
 
 -- a rule that a program breaks, at a line of its text
 abbrev pub check_line : CheckKind → (line : ℕ) → List ℕ
-check_line kind line = fault_line (codes "check") (number_of kind) (codes "line") line
+check_line kind line = fault_line (codes "check") (rule_number kind) (codes "line") line
 
 -- a file that is refused by a rule at a row
 abbrev pub input_line : Name → (kind row : ℕ) → List ℕ

@@ -12,7 +12,7 @@ use Rattle.command_line.specs.declared.asked.Asked.{Asked}
 use Rattle.call_cases.specs.meaning.Work.{ToDo, runs, is_traced, makes_files, is_journalled}
 use Rattle.call_cases.specs.meaning.InputFiles.{supplied_by}
 use Rattle.call_cases.specs.meaning.SoakFiles.{files_for}
-use Rattle.call_cases.specs.meaning.Texts.{run_text, soak_text}
+use Rattle.call_cases.specs.meaning.Texts.{run_text, run_soak}
 use Rattle.call_cases.specs.meaning.PlainText.{plain_ran, restarts_in}
 use Rattle.call_cases.specs.meaning.Journals.{IsJournalOf, IsCompleteOf, TakesRetired}
 use Rattle.call_cases.specs.meaning.Commands.{Asking, Commands, Unlogged}
@@ -36,7 +36,7 @@ abbrev pub work_text : Command → ToDo → List ℕ
 work_text Run work = run_text (plain_ran work) (restarts_in work) (length work.faults)
 work_text One work = run_text (plain_ran work) [] 0
 work_text Check work = codes "ok\n"
-work_text (Soak soak) work = soak_text soak (plain_ran work) (restarts_in work) (length work.faults)
+work_text (Soak soak) work = run_soak soak (plain_ran work) (restarts_in work) (length work.faults)
 work_text (Ckpt every) work = run_text (plain_ran work) (restarts_in work) (length work.faults)
 work_text Log work = run_text (plain_ran work) (restarts_in work) (length work.faults)
 

@@ -17,14 +17,14 @@ pub record Ran : Type 0 where
   pub subthreads : ℕ
 
 -- what follows the printed lines of a run that went so, with these restarts, where so many faults were asked for
-abbrev pub tail_text : Ran → List Restart → ℕ → List ℕ
-tail_text ran restarts faults = tail.tail_text ran.end ran.records ran.subthreads restarts (faults - length restarts)
+abbrev pub run_tail : Ran → List Restart → ℕ → List ℕ
+run_tail ran restarts faults = tail.tail_text ran.end ran.records ran.subthreads restarts (faults - length restarts)
 
 -- the text of such a run
 abbrev pub run_text : Ran → List Restart → ℕ → List ℕ
-run_text ran restarts faults = codes "output\n" ++ (printed ran.lines ++ tail_text ran restarts faults)
+run_text ran restarts faults = codes "output\n" ++ (printed ran.lines ++ run_tail ran restarts faults)
 
 -- the summary of such a run of a batch that the program made
-abbrev pub soak_text : Soak → Ran → List Restart → ℕ → List ℕ
-soak_text batch ran restarts faults =
+abbrev pub run_soak : Soak → Ran → List Restart → ℕ → List ℕ
+run_soak batch ran restarts faults =
     soak.soak_text batch.moves batch.start ran.end ran.cells ran.subthreads restarts (faults - length restarts)

@@ -3,7 +3,7 @@ use Rattle.std.specs.Prelude.{ℕ, Bool, true, false, List, [], ◌∷◌, Optio
 use Rattle.std.specs.Str.{bytes_eq}
 use Rattle.clap.specs.Words.{Kinds, Row, Rule, Text, first_of, new_rule}
 use Rattle.clap.specs.declared.builder.action.ArgAction.TheVariants.{SetTrue}
-use Rattle.command_line.specs.meaning.Numbers.{number_in}
+use Rattle.command_line.specs.meaning.Numbers.{number_between}
 
 -- a required positional, an option with a value, and a flag
 abbrev pub positional : Text → Rule
@@ -21,12 +21,12 @@ is_faultless [] = true
 is_faultless (kind ∷ kinds) = false
 
 -- the text that stands for an argument, if one does
-abbrev pub text_of : Text → List Row → Option Text
-text_of = first_of
+abbrev pub argument_text : Text → List Row → Option Text
+argument_text = first_of
 
 -- the number of a text, where there is one
 abbrev pub number_of : (low high : ℕ) → Option Text → Option ℕ
-number_of low high (Some text) = number_in low high text
+number_of low high (Some text) = number_between low high text
 number_of low high None = None
 
 -- whether the text of a flag says that it is there
@@ -36,5 +36,5 @@ is_on None = false
 
 -- the number of an option's text, or another number where there is no text
 abbrev pub number_or : (low high other : ℕ) → Option Text → Option ℕ
-number_or low high other (Some text) = number_in low high text
+number_or low high other (Some text) = number_between low high text
 number_or low high other None = Some other

@@ -2,7 +2,7 @@
 use Rattle.std.specs.Prelude.{false, List, [], ◌∷◌, Option, Some, None, codes, if◌then◌else◌}
 use Rattle.std.specs.Str.{bytes_eq}
 use Rattle.clap.specs.Words.{App, Row, Text, fault_of, matches_of, with_rule}
-use Rattle.command_line.specs.meaning.Arguments.{is_faultless, positional, option_of, text_of}
+use Rattle.command_line.specs.meaning.Arguments.{is_faultless, positional, option_of, argument_text}
 use Rattle.command_line.specs.meaning.Words.{on_program, with_limits, asked_in}
 use Rattle.command_line.specs.declared.asked.Asked.{Asked}
 use Rattle.command_line.specs.declared.asked.Verb.TheVariants.{Run}
@@ -19,7 +19,7 @@ audited_with run trace = None
 
 -- what the texts that were found ask for
 abbrev pub audited_in : List Row → Option Audited
-audited_in rows = audited_with (asked_in false Run rows) (text_of (codes "trace_file") rows)
+audited_in rows = audited_with (asked_in false Run rows) (argument_text (codes "trace_file") rows)
 
 -- what the words ask for, where `audit` takes them
 abbrev pub audited_of : List Text → Option Audited

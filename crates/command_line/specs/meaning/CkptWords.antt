@@ -2,7 +2,7 @@
 use Rattle.std.specs.Prelude.{ℕ, false, List, [], ◌∷◌, Option, Some, None, codes, if◌then◌else◌}
 use Rattle.std.specs.Str.{bytes_eq}
 use Rattle.clap.specs.Words.{App, Row, Text, fault_of, matches_of, with_rule}
-use Rattle.command_line.specs.meaning.Arguments.{is_faultless, option_of, number_or, text_of}
+use Rattle.command_line.specs.meaning.Arguments.{is_faultless, option_of, number_or, argument_text}
 use Rattle.command_line.specs.meaning.Words.{on_program, with_limits, with_crew, asked_in}
 use Rattle.command_line.specs.declared.asked.Asked.{Asked}
 use Rattle.command_line.specs.declared.asked.Command.TheVariants.{Ckpt}
@@ -16,7 +16,7 @@ for_ckpt =
 
 -- after how many subthreads there is a checkpoint: a number in its range, or the default
 abbrev pub every_in : List Row → Option ℕ
-every_in rows = number_or LEAST_EVERY MOST_EVERY DEFAULT_EVERY (text_of (codes "every") rows)
+every_in rows = number_or LEAST_EVERY MOST_EVERY DEFAULT_EVERY (argument_text (codes "every") rows)
 
 -- the run that is asked for, by checkpoints after so many subthreads, where both have to be there; it is not traced
 abbrev pub ckpt_with : (every : Option ℕ) (run : Option Asked) → Option Asked

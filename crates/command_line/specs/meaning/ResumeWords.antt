@@ -2,7 +2,7 @@
 use Rattle.std.specs.Prelude.{false, List, [], ◌∷◌, Option, Some, None, codes, if◌then◌else◌}
 use Rattle.std.specs.Str.{bytes_eq}
 use Rattle.clap.specs.Words.{App, Row, Text, fault_of, matches_of, with_rule}
-use Rattle.command_line.specs.meaning.Arguments.{is_faultless, positional, text_of}
+use Rattle.command_line.specs.meaning.Arguments.{is_faultless, positional, argument_text}
 use Rattle.command_line.specs.meaning.Words.{on_program, with_limits, asked_in}
 use Rattle.command_line.specs.declared.asked.Asked.{Asked}
 use Rattle.command_line.specs.declared.asked.Verb.TheVariants.{One}
@@ -19,7 +19,7 @@ resumed_with run log = None
 
 -- what the texts that were found ask for
 abbrev pub resumed_in : List Row → Option Resumed
-resumed_in rows = resumed_with (asked_in false One rows) (text_of (codes "log_file") rows)
+resumed_in rows = resumed_with (asked_in false One rows) (argument_text (codes "log_file") rows)
 
 -- what the words ask for, where `resume` takes them
 abbrev pub resumed_of : List Text → Option Resumed

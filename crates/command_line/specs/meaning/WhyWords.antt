@@ -2,7 +2,7 @@
 use Rattle.std.specs.Prelude.{ℕ, false, List, [], ◌∷◌, Option, Some, None, codes, if◌then◌else◌}
 use Rattle.std.specs.Str.{bytes_eq}
 use Rattle.clap.specs.Words.{App, Row, Text, fault_of, matches_of, with_rule}
-use Rattle.command_line.specs.meaning.Arguments.{is_faultless, positional, option_of, number_of, text_of}
+use Rattle.command_line.specs.meaning.Arguments.{is_faultless, positional, option_of, number_of, argument_text}
 use Rattle.command_line.specs.meaning.Words.{on_program, with_limits, asked_in}
 use Rattle.command_line.specs.declared.asked.Asked.{Asked}
 use Rattle.command_line.specs.declared.asked.Verb.TheVariants.{Run}
@@ -14,7 +14,7 @@ for_why = with_limits (with_rule (with_rule (on_program (codes "why")) (position
 
 -- a position is a number below 2^64
 abbrev pub position_in : List Row → Option ℕ
-position_in rows = number_of 0 18446744073709551615 (text_of (codes "position") rows)
+position_in rows = number_of 0 18446744073709551615 (argument_text (codes "position") rows)
 
 -- the run, and the position of it, where both have to be there
 abbrev pub sought_with : (run : Option Asked) → (position : Option ℕ) → Option Sought

@@ -6,7 +6,7 @@ use Rattle.std.specs.declared.alloc.Global.{Global}
 use Rattle.clap.specs.Words.{App, Row, Text, fault_of, matches_of, new_app, with_rule}
 use Rattle.gp_base.specs.declared.limits.Limits.{Limits}
 use Rattle.gp_base.specs.declared.limits.TheConstants.{DEFAULT_TURNS, DEFAULT_SUBTHREADS, DEFAULT_WORKERS, LEAST_MOVES, MOST_MOVES, MOST_TURNS, MOST_SUBTHREADS, MOST_WORKERS}
-use Rattle.command_line.specs.meaning.Arguments.{is_faultless, positional, option_of, flag_of, is_on, number_of, number_or, text_of}
+use Rattle.command_line.specs.meaning.Arguments.{is_faultless, positional, option_of, flag_of, is_on, number_of, number_or, argument_text}
 use Rattle.command_line.specs.declared.asked.Asked.{Asked}
 use Rattle.command_line.specs.declared.asked.Soak.{Soak}
 use Rattle.command_line.specs.declared.asked.Command.{Command}
@@ -75,8 +75,8 @@ soak_with moves start = None
 
 abbrev pub soak_in : List Row → Option Soak
 soak_in rows =
-    soak_with (number_of LEAST_MOVES MOST_MOVES (text_of (codes "moves") rows))
-    (number_of 0 18446744073709551615 (text_of (codes "start") rows))
+    soak_with (number_of LEAST_MOVES MOST_MOVES (argument_text (codes "moves") rows))
+    (number_of 0 18446744073709551615 (argument_text (codes "start") rows))
 
 -- what is to be done
 abbrev pub command_in : Verb → List Row → Option Command
@@ -88,11 +88,11 @@ command_in SoakVerb rows = option_map command.Soak (soak_in rows)
 -- the program's file, and the file of faults; a batch that is made has both in itself
 abbrev pub program_in : Verb → List Row → Option Text
 program_in SoakVerb rows = Some (codes "soak.gp")
-program_in verb rows = text_of (codes "program") rows
+program_in verb rows = argument_text (codes "program") rows
 
 abbrev pub faults_in : Verb → List Row → Option Text
 faults_in SoakVerb rows = Some (codes "faults.csv")
-faults_in verb rows = text_of (codes "faults") rows
+faults_in verb rows = argument_text (codes "faults") rows
 
 -- a limit is a number in its range, or stands at its default
 abbrev pub limits_with : (turns subthreads : Option ℕ) → Option Limits
@@ -101,15 +101,15 @@ limits_with turns subthreads = None
 
 abbrev pub limits_in : List Row → Option Limits
 limits_in rows =
-    limits_with (number_or 1 MOST_TURNS DEFAULT_TURNS (text_of (codes "turns") rows))
-    (number_or 1 MOST_SUBTHREADS DEFAULT_SUBTHREADS (text_of (codes "subthreads") rows))
+    limits_with (number_or 1 MOST_TURNS DEFAULT_TURNS (argument_text (codes "turns") rows))
+    (number_or 1 MOST_SUBTHREADS DEFAULT_SUBTHREADS (argument_text (codes "subthreads") rows))
 
 -- the crew is one that a word names, or the default
 abbrev pub crew_in : (waits : Bool) → List Row → Option CrewKind
-crew_in waits rows = option_map_or (named_crew waits) (text_of (codes "crew") rows) (Some crew.Wave)
+crew_in waits rows = option_map_or (named_crew waits) (argument_text (codes "crew") rows) (Some crew.Wave)
 
 abbrev pub workers_in : List Row → Option ℕ
-workers_in rows = number_or 1 MOST_WORKERS DEFAULT_WORKERS (text_of (codes "workers") rows)
+workers_in rows = number_or 1 MOST_WORKERS DEFAULT_WORKERS (argument_text (codes "workers") rows)
 
 -- what is asked for, where all that has to be there is
 abbrev pub asked_with : Option Command → (program faults : Option Text) → Option Limits → Option CrewKind → (workers : Option ℕ)
@@ -130,7 +130,7 @@ asked_with command program faults limits crew workers trace = None
 abbrev pub asked_in : (waits : Bool) → Verb → List Row → Option Asked
 asked_in waits verb rows =
     asked_with (command_in verb rows) (program_in verb rows) (faults_in verb rows) (limits_in rows) (crew_in waits rows) (workers_in rows)
-    (text_of (codes "trace") rows)
+    (argument_text (codes "trace") rows)
 
 -- what the words of this command ask for, where it takes them
 abbrev pub asked_of : (waits : Bool) → Verb → List Text → Option Asked

@@ -12,8 +12,8 @@ begins_with name (word ∷ words) = bytes_eq word name
 
 -- the call that audits, the call by checkpoints, the call with a log and the call from a log by their first words, the
 -- call by lasting workers by the crew that is asked for, and that which runs and checks for all other words
-abbrev pub call_of : List (List ℕ) → TopCall
-call_of words =
+abbrev pub top_call : List (List ℕ) → TopCall
+top_call words =
     if begins_with (codes "audit") words then Audit
     else (if begins_with (codes "ckpt") words then Ckpt
     else (if begins_with (codes "log") words then Log

@@ -51,14 +51,14 @@ chain heads parties redo (suc most) q =
     (linked parties redo q) (struck_line q)
 
 -- the line of the restart of this number
-abbrev pub restart_line : (number : ℕ) → Restart → List ℕ
-restart_line number r =
+abbrev pub why_line : (number : ℕ) → Restart → List ℕ
+why_line number r =
     codes "restart " ++ decimal number ++ codes " front " ++ decimal r.front ++ codes " struck " ++ decimal r.struck ++ codes " try "
     ++ decimal r.attempt ++ codes "\n"
 
 -- its lines, where it redoes p; each link goes down, so there are no more than p
 abbrev pub restart_text : List Head → List Party → (p number : ℕ) → Restart → List ℕ
-restart_text heads parties p number r = cond (redoes p r) (restart_line number r ++ chain heads parties r.redo p p) []
+restart_text heads parties p number r = cond (redoes p r) (why_line number r ++ chain heads parties r.redo p p) []
 
 -- those of restarts, of which the first has this number
 abbrev pub restart_texts : List Head → List Party → (p number : ℕ) → List Restart → List ℕ

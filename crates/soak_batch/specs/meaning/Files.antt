@@ -1,14 +1,14 @@
 -- The files of the batch.
 use Rattle.std.specs.Prelude.{ℕ, ◌+◌, ◌*◌, ◌/◌, List, [], ◌∷◌, ◌++◌, codes}
-use Rattle.soak_batch.specs.meaning.Rows.{account_rows, move_rows, after_rows, fault_rows}
+use Rattle.soak_batch.specs.meaning.Rows.{account_rows, move_rows, after_rows, drawn_rows}
 
 -- how many subthreads a run of so many moves has: four for each, and 25 more
 abbrev pub subthreads : (moves : ℕ) → ℕ
 subthreads moves = 4 * moves + 25
 
 -- the width of each of the 40 parts of such a run that one fault strikes
-abbrev pub width : (moves : ℕ) → ℕ
-width moves = subthreads moves / 40
+abbrev pub part_width : (moves : ℕ) → ℕ
+part_width moves = subthreads moves / 40
 
 -- The program's text. Eight threads carry out the moves of a feed between accounts, each eighth move by one of them. A
 -- move takes the locks of its two accounts in rising order, and is left out where an account would go below 0; their
@@ -59,4 +59,4 @@ program_text =
 abbrev pub soak_files : (moves start : ℕ) → List (List ℕ × List ℕ)
 soak_files moves start =
     (codes "soak.gp", program_text) ∷ (codes "acct.csv", account_rows 0 100) ∷ (codes "moves.csv", move_rows moves start)
-    ∷ (codes "faults.csv", fault_rows (width moves) 0 40 (after_rows moves start)) ∷ []
+    ∷ (codes "faults.csv", drawn_rows (part_width moves) 0 40 (after_rows moves start)) ∷ []

@@ -32,6 +32,6 @@ abbrev pub fault_row : (width part state : ℕ) → List ℕ
 fault_row width part state = row (part * width + first state % width) (0 ∷ second state % 65 ∷ (third state + 1) ∷ [])
 
 -- so many faults from this part on, drawn from this state
-abbrev pub fault_rows : (width part count state : ℕ) → List ℕ
-fault_rows width part zero state = []
-fault_rows width part (suc count) state = fault_row width part state ++ fault_rows width (suc part) count (after_row state)
+abbrev pub drawn_rows : (width part count state : ℕ) → List ℕ
+drawn_rows width part zero state = []
+drawn_rows width part (suc count) state = fault_row width part state ++ drawn_rows width (suc part) count (after_row state)

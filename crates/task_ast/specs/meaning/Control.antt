@@ -133,8 +133,8 @@ module _ (s : Setting) where
       (control_arguments task.params es (env_at p))
 
   -- the arguments of a fork of the task of this name
-  abbrev pub fork_of : Name → List Expr → Point → Option (List ℤ × List Action)
-  fork_of t es p = option_and_then (λ task. fork_arguments task es p) (task_named s.program t)
+  abbrev pub fork_named : Name → List Expr → Point → Option (List ℤ × List Action)
+  fork_named t es p = option_and_then (λ task. fork_arguments task es p) (task_named s.program t)
 
   -- the step at a statement that has these statements after it
   abbrev pub step_at : (line : ℕ) → What → List Stmt → Point → Step Point
@@ -148,7 +148,7 @@ module _ (s : Setting) where
   step_at line (Lock a i) rest p = known line (lock_number a i (env_at p)) (λ l. stop (sync.Lock l) line)
   step_at line (Unlock a i) rest p = known line (lock_number a i (env_at p)) (λ l. stop (sync.Unlock l) line)
   step_at line (Fork t es x) rest p =
-      known line (fork_of t es p) (λ arguments. stop (sync.Fork (unwrap_or (task_number s.program t) 0) arguments.0) line)
+      known line (fork_named t es p) (λ arguments. stop (sync.Fork (unwrap_or (task_number s.program t) 0) arguments.0) line)
   step_at line (Join e x) rest p = known line (value e (env_at p)) (λ h. stop (sync.Join h) line)
   step_at line (Barrier b) rest p =
       known line (position (λ other. is_name b other.0) (barriers_of s.program.heads)) (λ n. stop (sync.Barrier n) line)
@@ -166,7 +166,7 @@ module _ (s : Setting) where
 
   -- the actions of the synchronisation at a point, with which the next subthread begins
   abbrev pub begin_actions : List Stmt → Point → List Action
-  begin_actions (At line (Fork t es x) ∷ rest) p = unwrap_or (option_map (λ arguments. arguments.1) (fork_of t es p)) []
+  begin_actions (At line (Fork t es x) ∷ rest) p = unwrap_or (option_map (λ arguments. arguments.1) (fork_named t es p)) []
   begin_actions (At line (Join e (Some x)) ∷ rest) p = Bring (register_number (registers_of p.task) x) ∷ []
   begin_actions _ p = []
 

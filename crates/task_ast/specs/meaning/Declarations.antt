@@ -100,11 +100,11 @@ abbrev pub any_misplaced : Option TaskText → List Expr → Bool
 any_misplaced None arguments = false
 any_misplaced (Some task) arguments = list_any is_misplaced (zip task.params arguments)
 
-abbrev pub line_of : Head → ℕ
-line_of (LockHead name size line) = line
-line_of (BarrierHead name number line) = line
-line_of (RecHead name size by from line) = line
-line_of (FeedHead name fields from line) = line
+abbrev pub head_line : Head → ℕ
+head_line (LockHead name size line) = line
+head_line (BarrierHead name number line) = line
+head_line (RecHead name size by from line) = line
+head_line (FeedHead name fields from line) = line
 
 -- the size of an array or a record, the number of a barrier, the fields of a feed
 abbrev pub count_of : Head → ℕ
@@ -137,7 +137,7 @@ passes_limit before (FeedHead name fields from line) = nat_lt MOST_FIELDS (natur
 -- the visit of a head that has these before it
 abbrev pub head_visit : Program → List Head → Head → Visit
 head_visit program before head =
-    visit (line_of head) (
+    visit (head_line head) (
     fails_if (lacks_array program.heads head) UnknownName
     ++ fails_if (is_among (head_name head) (map head_name before)) DoubleName
     ++ fails_if (count_of head == 0) WrongCount

@@ -108,9 +108,9 @@ abbrev pub owner_of : Table → ℕ → Option ℕ
 owner_of table l = owner_in table.owners l
 
 -- a join of a thread whose next synchronisation is this
-abbrev pub joining : ℕ → Option Next → Table → ℕ → Next → Again Table Turn
-joining h None table t next = Done (Needs h)
-joining h (Some other) table t next = cond (is_end other.sync) (issuing table t next) (passing table t)
+abbrev pub at_join : ℕ → Option Next → Table → ℕ → Next → Again Table Turn
+at_join h None table t next = Done (Needs h)
+at_join h (Some other) table t next = cond (is_end other.sync) (issuing table t next) (passing table t)
 
 -- the position of the thread's last subthread; 0 where it has none
 abbrev pub last_of : Table → ℕ → ℕ
@@ -129,7 +129,7 @@ abbrev pub tried : SyncOp → Table → ℕ → Next → Again Table Turn
 tried sync.BadIndex table t next = stuck why.Index t next
 tried sync.Spent table t next = Done (Ended (Spent (last_of table t)))
 tried (sync.Join (pos h)) table t next =
-    cond (nat_lt h (length table.seats)) (joining h (next_of table h) table t next) (stuck why.Join t next)
+    cond (nat_lt h (length table.seats)) (at_join h (next_of table h) table t next) (stuck why.Join t next)
 tried (sync.Join (negsuc h)) table t next = stuck why.Join t next
 tried (sync.Fork task arguments) table t next =
     cond (nat_lt (length table.seats) most_threads) (issuing table t next) (stuck why.Threads t next)

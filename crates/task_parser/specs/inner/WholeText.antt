@@ -9,15 +9,15 @@ use Rattle.task_parser.specs.declared.halt.Halt.{Halt}
 use Rattle.task_parser.specs.declared.halt.Halt.TheVariants as halts
 use Rattle.task_parser.specs.meaning.Expressions.{Text}
 use Rattle.task_parser.specs.meaning.Promise.{Stop, StandFor, StopFirst}
-use Rattle.task_parser.specs.meaning.Answer.{place}
+use Rattle.task_parser.specs.meaning.Answer.{offset_of}
 use Rattle.task_parser.specs.inner.Reading.{◌>>=◌, unexpected}
 use Rattle.task_parser.specs.inner.ProgramReaders.{read_program}
 
 -- why reading halted, by its place in the text
 abbrev pub fault_at : Text → Halt → ParseFault
 fault_at text halts.Memory = OutOfMemory
-fault_at text (halts.Unexpected rest) = Unexpected (place text rest.now)
-fault_at text (halts.TooDeep rest) = TooDeep (place text rest.now)
+fault_at text (halts.Unexpected rest) = Unexpected (offset_of text rest.now)
+fault_at text (halts.TooDeep rest) = TooDeep (offset_of text rest.now)
 
 -- reading all of the tokens
 abbrev pub to_end : Program → List Token → Result Program Stop

@@ -7,14 +7,14 @@ use Rattle.task_parser.specs.meaning.Expressions.{Text}
 use Rattle.task_parser.specs.meaning.Promise.{StopFirst}
 
 -- where the rest of the tokens begins in the text
-abbrev pub place : Text → List Token → ℕ
-place text [] = length text
-place text (t ∷ ts) = t.from
+abbrev pub offset_of : Text → List Token → ℕ
+offset_of text [] = length text
+offset_of text (t ∷ ts) = t.from
 
 -- The fault is the first one, and stands at its place.
 abbrev pub IsFirstFault : Text → List Token → ParseFault → Type 0
 IsFirstFault text tokens OutOfMemory = Unit {0}
 IsFirstFault text tokens (Unexpected at) =
-    (rest : List Token) × (at ≡ place text rest) × StopFirst text tokens (record { deep = false; rest = rest })
+    (rest : List Token) × (at ≡ offset_of text rest) × StopFirst text tokens (record { deep = false; rest = rest })
 IsFirstFault text tokens (TooDeep at) =
-    (rest : List Token) × (at ≡ place text rest) × StopFirst text tokens (record { deep = true; rest = rest })
+    (rest : List Token) × (at ≡ offset_of text rest) × StopFirst text tokens (record { deep = true; rest = rest })

@@ -8,7 +8,7 @@ use Rattle.task_ast.specs.declared.tree.VarLine.{VarLine}
 use Rattle.task_ast.specs.meaning.Tree.{Block, block, TaskText, Program}
 use Rattle.task_parser.specs.declared.token.Token.{Token}
 use Rattle.task_parser.specs.declared.classes.TheConstants.{NUM, NAME, REG, QUOTED, LOCK, BARRIER, RECORD, BY, FROM, FEED, TASK, VAR, OPEN_BRACKET, CLOSE_BRACKET, OPEN_PAREN, CLOSE_PAREN, OPEN_BRACE, CLOSE_BRACE, COMMA, SEMICOLON}
-use Rattle.task_parser.specs.meaning.Words.{Form, ◌▸◌, Made, ◌∣◌, many, perhaps, the, ◌◂◌, after, some, separated}
+use Rattle.task_parser.specs.meaning.Words.{Form, ◌▸◌, Made, ◌∣◌, many, perhaps, the, ◌◂◌, preceded, some, separated}
 use Rattle.task_parser.specs.meaning.Expressions.{Text, between, name_of, reg_name, number_in}
 use Rattle.task_parser.specs.meaning.Statements.{listed_in, statement}
 
@@ -60,7 +60,7 @@ abbrev pub barrier_head : Text → Form Head
 barrier_head text = Made (barrier_head_of text) (the BARRIER ▸ the NAME ◂ OPEN_PAREN ▸ the NUM ◂ CLOSE_PAREN ◂ SEMICOLON)
 
 abbrev pub from_file : Text → Form (Option Text)
-from_file text = Made (file_in text) (perhaps (after FROM (the QUOTED)))
+from_file text = Made (file_in text) (perhaps (preceded FROM (the QUOTED)))
 
 abbrev pub record_head : Text → Form Head
 record_head text =

@@ -5,7 +5,7 @@ use Rattle.task_ast.specs.declared.tree.Atom.TheVariants as atoms
 use Rattle.task_ast.specs.meaning.Tree.{Expr, Stmt, At, SetCtl, While, If, Lock, Unlock, Fork, Join, Barrier, Settle, SetReg, Read, Write, Print, When, Block, Nothing, block}
 use Rattle.task_parser.specs.declared.token.Token.{Token}
 use Rattle.task_parser.specs.declared.classes.TheConstants.{NUM, NAME, REG, LOCK, UNLOCK, BARRIER, WHILE, IF, ELSE, FORK, INTO, JOIN, READ, WRITE, PRINT, WHEN, SETTLE, OPEN_BRACKET, CLOSE_BRACKET, OPEN_PAREN, CLOSE_PAREN, OPEN_BRACE, CLOSE_BRACE, COMMA, SEMICOLON, ASSIGN}
-use Rattle.task_parser.specs.meaning.Words.{Form, ◌▸◌, Made, ◌∣◌, many, perhaps, Opened, the, ◌◂◌, after, separated, nothing}
+use Rattle.task_parser.specs.meaning.Words.{Form, ◌▸◌, Made, ◌∣◌, many, perhaps, Opened, the, ◌◂◌, preceded, separated, nothing}
 use Rattle.task_parser.specs.meaning.Expressions.{Text, name_of, reg_name, number_in, is, expression}
 
 -- ---- what the parts stand for
@@ -86,17 +86,17 @@ abbrev pub block_of : Form Stmt → Form Block
 block_of s = Opened (is OPEN_BRACE) (Made block (many s)) ◂ CLOSE_BRACE
 
 abbrev pub else_block : Form Stmt → Form Block
-else_block s = Made or_nothing (perhaps (after ELSE (block_of s)))
+else_block s = Made or_nothing (perhaps (preceded ELSE (block_of s)))
 
 -- members with commas between them, or none
 abbrev pub listed_in : {A : Type 0} → Form A → Form (List A)
 listed_in P = Made or_empty (perhaps (separated COMMA P))
 
 abbrev pub into_name : Text → Form (Option Text)
-into_name text = Made (named_in text) (perhaps (after INTO (the NAME)))
+into_name text = Made (named_in text) (perhaps (preceded INTO (the NAME)))
 
 abbrev pub into_reg : Text → Form (Option Text)
-into_reg text = Made (reg_in text) (perhaps (after INTO (the REG)))
+into_reg text = Made (reg_in text) (perhaps (preceded INTO (the REG)))
 
 abbrev pub set_ctl : Text → Form Expr → Form Stmt
 set_ctl text e = Made (set_ctl_of text) (the NAME ◂ ASSIGN ▸ e ◂ SEMICOLON)

@@ -82,8 +82,8 @@ abbrev pub ◌◂◌ : {A : Type 0} → Form A → ℕ → Form A
 P ◂ class = Made first_of (P ▸ the class)
 
 -- a P after a token of the class, which leaves no mark
-abbrev pub after : {A : Type 0} → ℕ → Form A → Form A
-after class P = Made second_of (the class ▸ P)
+abbrev pub preceded : {A : Type 0} → ℕ → Form A → Form A
+preceded class P = Made second_of (the class ▸ P)
 
 -- one P or more
 abbrev pub some : {A : Type 0} → Form A → Form (List A)
@@ -91,7 +91,7 @@ some P = Made put_first (P ▸ many P)
 
 -- one P or more, with separators between them
 abbrev pub separated : {A : Type 0} → ℕ → Form A → Form (List A)
-separated class P = Made put_first (P ▸ many (after class P))
+separated class P = Made put_first (P ▸ many (preceded class P))
 
 abbrev pub tokens_of : List Placed → List Token
 tokens_of [] = []

@@ -12,7 +12,7 @@ use Rattle.call_cases.specs.meaning.Commands.{Asking, Commands, Unlogged}
 use Rattle.call_cases.specs.meaning.RunCommands as gprs
 use Rattle.audit_calls.specs.meaning.Tried.{Judge}
 use Rattle.view_calls.specs.declared.words.Viewed.{Viewed}
-use Rattle.view_calls.specs.meaning.Sights.{Sight, supplied, text_of, status_of}
+use Rattle.view_calls.specs.meaning.Sights.{Sight, supplied, sight_text, sight_status}
 
 -- a whole run without a trace, and a position of a run
 abbrev pub whole_run : Asked → Viewed
@@ -22,8 +22,8 @@ abbrev pub placed_run : Sought → Viewed
 placed_run sought = record { run = sought.run; position = Some sought.position; trace = None }
 
 -- behind `order` stand the words that `gprs one` takes
-abbrev pub order_by : List (List ℕ) → Option Viewed
-order_by words = option_map whole_run (asked_of true One words)
+abbrev pub order_asked : List (List ℕ) → Option Viewed
+order_asked words = option_map whole_run (asked_of true One words)
 
 -- where the option `--trace` stands among the words, which is past them where it is not there
 abbrev pub trace_at : List (List ℕ) → ℕ
@@ -54,7 +54,7 @@ timeline_by words = timeline_at (trace_at words) words
 abbrev pub run_by : List (List ℕ) → Option Viewed
 run_by [] = None
 run_by (word ∷ words) =
-    if bytes_eq word (codes "order") then order_by (word ∷ words) else
+    if bytes_eq word (codes "order") then order_asked (word ∷ words) else
     (if bytes_eq word (codes "timeline") then timeline_by (word ∷ words) else None)
 
 -- what the words ask for: it is the run of these that is shown, or a position of the run of `why`
@@ -82,8 +82,8 @@ commands judge = record {
   makes_files = λ viewed. false;
   is_journalled = λ viewed. false;
   has_journal = λ sight. false;
-  status = status_of;
-  text = text_of;
+  status = sight_status;
+  text = sight_text;
   whole = IsShown;
   error = λ viewed journal. [];
   log = Unlogged;

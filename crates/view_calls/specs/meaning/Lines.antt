@@ -34,9 +34,9 @@ absent_line None = []
 absent_line (Some position) = no_position_line position
 
 -- the line of a case
-abbrev pub line_of : Case Sight → List ℕ
-line_of Usage = usage_line
-line_of (Missing names name) = read_fault_line name
-line_of (BadProgram name line) = under_own_name line
-line_of (BadInput names line) = under_own_name line
-line_of (Go names sight) = absent_line (absent_of sight)
+abbrev pub own_line : Case Sight → List ℕ
+own_line Usage = usage_line
+own_line (Missing names name) = read_fault_line name
+own_line (BadProgram name line) = under_own_name line
+own_line (BadInput names line) = under_own_name line
+own_line (Go names sight) = absent_line (absent_of sight)

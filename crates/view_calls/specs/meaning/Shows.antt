@@ -9,7 +9,7 @@ use Rattle.call_cases.specs.meaning.Headline.{Call, HasCaseLine, IsStop, Headlin
 use Rattle.audit_calls.specs.meaning.Tried.{Judge}
 use Rattle.view_calls.specs.meaning.Commands.{asking, commands}
 use Rattle.view_calls.specs.meaning.Sights.{Sight}
-use Rattle.view_calls.specs.meaning.Lines.{line_of, read_fault_line, out_of_memory_line, write_fault_line}
+use Rattle.view_calls.specs.meaning.Lines.{own_line, read_fault_line, out_of_memory_line, write_fault_line}
 
 -- a call: what it was given, and what it left
 pub record View : Type 0 where
@@ -47,7 +47,7 @@ pub record FailsToRead (judge : Judge) (view : View) (name : Name) : Type 0 wher
 -- a line that the error stream may take: that of the case, of a file that it reads, or of a stop
 abbrev pub IsLine : Case Sight → List ℕ → Type 0
 IsLine case line =
-    (line ≡ line_of case) ⊎ (line ≡ out_of_memory_line) ⊎ (line ≡ write_fault_line) ⊎ (name : Name) × Contains (names_read case) name
+    (line ≡ own_line case) ⊎ (line ≡ out_of_memory_line) ⊎ (line ≡ write_fault_line) ⊎ (name : Name) × Contains (names_read case) name
     × (line ≡ read_fault_line name)
 
 -- ended with the line of the case
@@ -60,7 +60,7 @@ pub record Shows (judge : Judge) (view : View) : Type 0 where
   pub call : Headline (commands judge) (call_of view)
   -- The error stream grew by nothing, or by the line that tells the refusal, the position that is not there or the fault.
   pub quiet : view.status ≡ 0 → TakesAll view.err []
-  pub line : ForCase (asking judge) view.words view.files (λ case. HasOwnLine view.status → TakesAll view.err (line_of case))
+  pub line : ForCase (asking judge) view.words view.files (λ case. HasOwnLine view.status → TakesAll view.err (own_line case))
   pub read_fault : view.status ≡ 7 → (name : Name) × FailsToRead judge view name × TakesAll view.err (read_fault_line name)
   pub write_fault : view.status ≡ 8 → Fails view.err ⊎ Fails view.out × TakesAll view.err write_fault_line
   pub stopped : IsStop view.status

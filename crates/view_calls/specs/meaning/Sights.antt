@@ -76,12 +76,12 @@ abbrev pub absent_of : Sight → Option ℕ
 absent_of sight = absent_by (view_of sight) sight.position
 
 -- what is written, and the status of that
-abbrev pub text_of : Sight → List ℕ
-text_of sight = unwrap_or (view_of sight) []
+abbrev pub sight_text : Sight → List ℕ
+sight_text sight = unwrap_or (view_of sight) []
 
 abbrev pub status_by : (absent : Option ℕ) → ℕ
 status_by None = 0
 status_by (Some position) = 5
 
-abbrev pub status_of : Sight → ℕ
-status_of sight = status_by (absent_of sight)
+abbrev pub sight_status : Sight → ℕ
+sight_status sight = status_by (absent_of sight)

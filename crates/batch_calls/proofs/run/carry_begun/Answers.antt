@@ -2,7 +2,7 @@ use Rattle.std.proofs.Common.{◌≡◌, ◌∙◌, inl, inr, true, false, sym, 
 use Rattle.command_line.specs.declared.asked.Command.{Command}
 use Rattle.call_cases.specs.meaning.Answers.{change_of}
 use Rattle.call_cases.specs.meaning.PlainText.{plain_ran, restarts_in}
-use Rattle.call_cases.specs.meaning.Texts.{run_text, soak_text}
+use Rattle.call_cases.specs.meaning.Texts.{run_text, run_soak}
 use Rattle.batch_calls.specs.inner.Planned.{EndsBy, work_begun}
 use Rattle.batch_calls.proofs.run.carry_begun.Goals as goal
 
@@ -28,7 +28,7 @@ returns-in-Soak g c =
     let out = change_of g.O.Sink.written g.O.Sink.faults c.args.out.now c.put_soak-ran.new.out in
     let err = change_of g.E.Sink.written g.E.Sink.faults c.args.err.now c.outcome_of-in-Soak.new.err in
     let ends =
-    c.outcome_of-in-Soak.ensures work (soak_text c.in-Soak.soak (plain_ran work) (restarts_in work) (length work.faults)) out
+    c.outcome_of-in-Soak.ensures work (run_soak c.in-Soak.soak (plain_ran work) (restarts_in work) (length work.faults)) out
     c.put_soak-ran.ensures in
     record {
       ends =

@@ -1,5 +1,5 @@
 use Rattle.std.proofs.Common.{◌≡◌, [], IfSome, take, drop}
-use Rattle.call_cases.specs.meaning.InputFiles.{nothing, room_after, load}
+use Rattle.call_cases.specs.meaning.InputFiles.{no_inputs, room_after, load}
 use Rattle.call_cases.specs.InputFiles.{file_names}
 use Rattle.call_cases.specs.inner.Loading.{AreReadable, Counts, seen}
 use Rattle.call_cases.proofs.inputs.read_inputs.Given as goal
@@ -14,5 +14,5 @@ invariant-loop-head g l = record {
   readable : AreReadable (drop l.head-index l.heads);
   told : IfSome (g.H.Shelf.files l.fn.shelf)
       (λ files. load files (file_names (take l.head-index l.heads)) (seen l.loading) (drop l.head-index l.heads)
-      ≡ load files [] nothing l.heads);
+      ≡ load files [] no_inputs l.heads);
 }

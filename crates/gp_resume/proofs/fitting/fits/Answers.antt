@@ -15,7 +15,7 @@ use Rattle.subthread.specs.Tasks.{program_in}
 use Rattle.gp_resume.specs.declared.course.Plan.{Plan}
 use Rattle.gp_resume.specs.declared.course.Course.{Course}
 use Rattle.gp_resume.specs.declared.course.Begun.{Begun}
-use Rattle.gp_resume.specs.meaning.Fitting.{StandsUnder, child_registers}
+use Rattle.gp_resume.specs.meaning.Fitting.{StandsUnder, child_size}
 use Rattle.gp_resume.specs.inner.Course.{Begins}
 use Rattle.gp_resume.specs.inner.RowsRead.{write_in}
 use Rattle.gp_resume.proofs.Tasks.{rising}
@@ -30,8 +30,8 @@ module _ (plan : Plan) (x : Plain) (s : Subthread) (y : Plain) (begun : Begun) (
       ∙ (ap (λ (state : State). length (state (RegistersOf begun.thread))) begins.state
       ∙ ap (λ t. length (x.state (RegistersOf t))) begins.thread)
 
-  given-are : child_registers (program_in plan.work.now) begun.begins.sync ≡ child_registers (program_in plan.work.now) s.begins.sync
-  given-are = ap (λ (next : Next). child_registers (program_in plan.work.now) next.sync) begins.begins
+  given-are : child_size (program_in plan.work.now) begun.begins.sync ≡ child_size (program_in plan.work.now) s.begins.sync
+  given-are = ap (λ (next : Next). child_size (program_in plan.work.now) next.sync) begins.begins
 
 -- what a test tells of locks and cells it tells of the same ones
 abbrev Fits : Program → List ℕ → List (ℤ × ℤ) → Type 0

@@ -2,7 +2,7 @@ use Rattle.std.proofs.Common.{◌≡◌, sym, ap, ◌∙◌, refl, cond, length,
 use Rattle.std.specs.Prelude.{ℤ}
 use Rattle.std.proofs.lemmas.Int.{to_z-of_z}
 use Rattle.std.proofs.lemmas.List.{length-map}
-use Rattle.task_ast.specs.meaning.Turn.{issuing, passing, joining}
+use Rattle.task_ast.specs.meaning.Turn.{issuing, passing, at_join}
 use Rattle.token_order.specs.View.{table, seat_of}
 use Rattle.token_order.specs.Turned.{joined_in}
 use Rattle.task_ast.proofs.Looks.{get-at}
@@ -26,7 +26,7 @@ returns-in-None-clause-answer c next known line =
     let some = (goal.at.returns-in-None-clause-answer c).In-Some in
     let at = get-at c.args.self.now.seats.items c.in-Some.other c.index.result.now (search rules) c.index.ensures in (
       join_there (table c.args.self.now) c.args.h c.len.result c.in-Some.other c.args.t next (found some) (many some)
-          ∙ ap (λ o. joining c.in-Some.other o (table c.args.self.now) c.args.t next)
+          ∙ ap (λ o. at_join c.in-Some.other o (table c.args.self.now) c.args.t next)
           (seat-next c.args.self.now c.in-Some.other c.index.result.now at ∙ c.in-None.is),
       refl,
     )
@@ -37,7 +37,7 @@ returns-then-is_end-clause-answer c next known line =
     let at = get-at c.args.self.now.seats.items c.in-Some.other c.index.result.now (search rules) c.index.ensures in
     by (table c.args.self.now) (table c.issue.new.self) c.issue.result
     (join_there (table c.args.self.now) c.args.h c.len.result c.in-Some.other c.args.t next (found some) (many some)
-    ∙ ap (λ o. joining c.in-Some.other o (table c.args.self.now) c.args.t next)
+    ∙ ap (λ o. at_join c.in-Some.other o (table c.args.self.now) c.args.t next)
     (seat-next c.args.self.now c.in-Some.other c.index.result.now at ∙ c.in-Some-next.is)
     ∙ ap (λ b. cond b (issuing (table c.args.self.now) c.args.t next) (passing (table c.args.self.now) c.args.t))
     (sym c.is_end.ensures ∙ c.if-is_end.true))
@@ -48,7 +48,7 @@ returns-else-is_end-clause-answer c next known line =
     let some = (goal.at.returns-else-is_end-clause-answer c).In-Some in
     let at = get-at c.args.self.now.seats.items c.in-Some.other c.index.result.now (search rules) c.index.ensures in
     join_there (table c.args.self.now) c.args.h c.len.result c.in-Some.other c.args.t next (found some) (many some)
-    ∙ ap (λ o. joining c.in-Some.other o (table c.args.self.now) c.args.t next)
+    ∙ ap (λ o. at_join c.in-Some.other o (table c.args.self.now) c.args.t next)
     (seat-next c.args.self.now c.in-Some.other c.index.result.now at ∙ c.in-Some-next.is)
     ∙ ap (λ b. cond b (issuing (table c.args.self.now) c.args.t next) (passing (table c.args.self.now) c.args.t))
     (sym c.is_end.ensures ∙ c.if-is_end.false)
