@@ -4,7 +4,7 @@
 -- later conflict leaves the set: by the law of removal its histories undo it, and the rest finds what it found.
 use Rattle.std.proofs.Common.{◌≡◌, inl, inr, ℕ, zero, suc, ◌+◌, ◌<◌, ◌≤◌, Bool, true, false, cond, [], nat_eq, ◌&&◌, ◌||◌, Some, None, refl, sym, ◌∙◌, ap, arith, add-one}
 use Rattle.std.proofs.lemmas.Bool.{false≢true, both_ways, cases_eq, cases_lt, eq-eqb, ne_eqb, and_parts, and_from, or_right}
-use Rattle.task_ast.specs.meaning.State.{Place, State}
+use Rattle.task_ast.specs.meaning.State.{Location, State}
 use Rattle.task_ast.specs.meaning.Effect.{after}
 use Rattle.task_ast.specs.History.{old_of}
 use Rattle.task_ast.specs.Fold.{Member, applied, fold}
@@ -15,7 +15,7 @@ use Rattle.dependence.specs.Removal.{without, done_in, history_in, undone, undon
 use Rattle.dependence.specs.Buffer.{Buffer, BufferStands, buffer_with, buffer_without}
 use Rattle.dependence.proofs.Folds.{Kept, outside, history_same, fold_same, insertion, removal, fold_later, fold_rest, rest_agrees}
 
-module _ (Writes Sees : ℕ → Place → Type 0) (Clash : ℕ → ℕ → Type 0) (members : ℕ → Member) (kept : Kept Writes Sees Clash members)
+module _ (Writes Sees : ℕ → Location → Type 0) (Clash : ℕ → ℕ → Type 0) (members : ℕ → Member) (kept : Kept Writes Sees Clash members)
     (opening : State) (set : ℕ → Bool) (low front : ℕ) (buffer : Buffer)
     (stands : BufferStands Clash members opening set low front buffer) where
   -- what a position that comes late finds is what it would have found in its place
@@ -220,7 +220,7 @@ members-stand Clash members others opening set low front buffer same stands =
     below p = fold_members members others opening set p (λ q l. same q)
 
 -- what a position outside of a part finds, which is not in the set, stays as it is when the part is undone
-pub undone-finds : (Writes Sees : ℕ → Place → Type 0) (Clash : ℕ → ℕ → Type 0) (members : ℕ → Member)
+pub undone-finds : (Writes Sees : ℕ → Location → Type 0) (Clash : ℕ → ℕ → Type 0) (members : ℕ → Member)
     (kept : Kept Writes Sees Clash members)
     (opening : State) (set : ℕ → Bool) (low front : ℕ) (buffer : Buffer)
     → BufferStands Clash members opening set low front buffer → HasCells opening → (part : ℕ → Bool) → ((q : ℕ) → q < low → part q ≡ false)

@@ -9,7 +9,7 @@ use Rattle.std.specs.Cmp.{unsigned_tied}
 use Rattle.std.specs.FinMap.{find}
 use Rattle.std.proofs.lemmas.Bool.{eqb-true, eq-eqb, false≢true}
 use Rattle.std.proofs.Math.Path.{fun_ext}
-use Rattle.task_ast.specs.meaning.State.{Place, RegistersOf, CellOf, State, cell_value, number_at}
+use Rattle.task_ast.specs.meaning.State.{Location, RegistersOf, CellOf, State, cell_value, number_at}
 use Rattle.task_ast.specs.declared.effect.Effect.{Effect}
 use Rattle.task_ast.specs.meaning.Effect.{after, one_number, left_to}
 use Rattle.task_ast.specs.History.{named_child, named, IsNamed, old_write, old_child, old_of}
@@ -31,7 +31,7 @@ after_is e state (RegistersOf t) = go (nat_eq t e.thread) e.child
     go false (Some child) = kept (nat_eq t child.0) child.1 (state (RegistersOf t))
 
 -- a place that an effect doesn't name stays
-pub after_outside : (e : Effect) (state : State) (place : Place) → (IsNamed e place → ⊥) → after e state place ≡ state place
+pub after_outside : (e : Effect) (state : State) (place : Location) → (IsNamed e place → ⊥) → after e state place ≡ state place
 after_outside e state place free = after_is e state place ∙ go (named e place) free
   where
     go : (o : Option (List ℤ)) → (is_some o ≡ true → ⊥) → unwrap_or o (state place) ≡ state place
@@ -39,11 +39,11 @@ after_outside e state place free = after_is e state place ∙ go (named e place)
     go (Some xs) f = absurd (f refl)
 
 -- one effect leaves the same where the same was
-pub after_same : (e : Effect) (left right : State) (place : Place) → left place ≡ right place → after e left place ≡ after e right place
+pub after_same : (e : Effect) (left right : State) (place : Location) → left place ≡ right place → after e left place ≡ after e right place
 after_same e left right place same = after_is e left place ∙ (ap (unwrap_or (named e place)) same ∙ sym (after_is e right place))
 
 -- effects that name no common place commute
-pub swap : (e f : Effect) → ((place : Place) → IsNamed e place → IsNamed f place → ⊥) → (state : State)
+pub swap : (e f : Effect) → ((place : Location) → IsNamed e place → IsNamed f place → ⊥) → (state : State)
     → after e (after f state) ≡ after f (after e state)
 swap e f apart state = fun_ext at
   where
@@ -53,7 +53,7 @@ swap e f apart state = fun_ext at
     go (Some x) None v free = refl
     go (Some x) (Some y) v free = absurd (free refl refl)
 
-    at : (place : Place) → after e (after f state) place ≡ after f (after e state) place
+    at : (place : Location) → after e (after f state) place ≡ after f (after e state) place
     at place =
         after_is e (after f state) place
         ∙ (ap (unwrap_or (named e place)) (after_is f state place)
@@ -101,7 +101,7 @@ undo_is e state cells =
     go (Some w) v = refl
 
 -- a history names what its effect names
-pub old_named : (e : Effect) (state : State) → HasCells state → (place : Place) → IsNamed (old_of e state) place → IsNamed e place
+pub old_named : (e : Effect) (state : State) → HasCells state → (place : Location) → IsNamed (old_of e state) place → IsNamed e place
 old_named e state cells place some = go (named e place) (ap is_some (sym (history_is e state cells place)) ∙ some)
   where
     go : (o : Option (List ℤ)) → is_some (option_map (λ value. state place) o) ≡ true → is_some o ≡ true
@@ -128,7 +128,7 @@ module _ (left right : State) where
       later c true some = refl
       later c false some = some
 
-  pub old_same : (e : Effect) → ((place : Place) → IsNamed e place → left place ≡ right place) → old_of e left ≡ old_of e right
+  pub old_same : (e : Effect) → ((place : Location) → IsNamed e place → left place ≡ right place) → old_of e left ≡ old_of e right
   old_same e same =
       let writes = old_writes e.writes (λ c some. same (CellOf c) (there (find nat_cmp c e.writes) some)) in
       λ i. record {

@@ -5,7 +5,7 @@
 use Rattle.std.proofs.Common.{◌≡◌, inl, inr, ℕ, zero, suc, ◌<◌, ◌≤◌, Bool, true, false, cond, nat_eq, refl, sym, ◌∙◌, ap, Some, arith}
 use Rattle.std.proofs.lemmas.Bool.{both_ways, cases_eq, eq-eqb, ne_eqb}
 use Rattle.task_ast.specs.declared.effect.Effect.{Effect}
-use Rattle.task_ast.specs.meaning.State.{Place, State}
+use Rattle.task_ast.specs.meaning.State.{Location, State}
 use Rattle.task_ast.specs.meaning.Effect.{after}
 use Rattle.task_ast.specs.History.{IsNamed, old_of}
 use Rattle.task_ast.specs.Fold.{Member, applied, fold}
@@ -16,19 +16,19 @@ use Rattle.dependence.specs.Removal.{without, done_in, history_in, undone_part, 
 use Rattle.dependence.proofs.Effects.{after_outside, after_same, swap, undo_is, old_named, old_same, HasCells-after}
 
 -- each member keeps to its places, and places in common with a write are a conflict
-pub record Kept (Writes Sees : ℕ → Place → Type 0) (Clash : ℕ → ℕ → Type 0) (members : ℕ → Member) : Type 0 where
+pub record Kept (Writes Sees : ℕ → Location → Type 0) (Clash : ℕ → ℕ → Type 0) (members : ℕ → Member) : Type 0 where
   pub keeps : (p : ℕ) → KeepsTo (Writes p) (Sees p) (members p)
-  pub sees : (p : ℕ) (place : Place) → Writes p place → Sees p place
-  pub writes_first : (p q : ℕ) (place : Place) → Writes p place → Sees q place → Clash p q
-  pub writes_second : (p q : ℕ) (place : Place) → Sees p place → Writes q place → Clash p q
+  pub sees : (p : ℕ) (place : Location) → Writes p place → Sees p place
+  pub writes_first : (p q : ℕ) (place : Location) → Writes p place → Sees q place → Clash p q
+  pub writes_second : (p q : ℕ) (place : Location) → Sees p place → Writes q place → Clash p q
 
-module _ (Writes Sees : ℕ → Place → Type 0) (Clash : ℕ → ℕ → Type 0) (members : ℕ → Member) (kept : Kept Writes Sees Clash members) where
+module _ (Writes Sees : ℕ → Location → Type 0) (Clash : ℕ → ℕ → Type 0) (members : ℕ → Member) (kept : Kept Writes Sees Clash members) where
   -- a member leaves each place that it may not write
-  pub outside : (p : ℕ) (state : State) (place : Place) → (Writes p place → ⊥) → applied (members p) state place ≡ state place
+  pub outside : (p : ℕ) (state : State) (place : Location) → (Writes p place → ⊥) → applied (members p) state place ≡ state place
   outside p state place free = after_outside (done_by (members p) state) state place (λ n. free ((kept.keeps p).within state place n))
 
   -- on states that agree at what it touches and at the place, a member leaves the place the same
-  pub agreed : (p : ℕ) (left right : State) (place : Place) → Agree (Sees p) left right → left place ≡ right place
+  pub agreed : (p : ℕ) (left right : State) (place : Location) → Agree (Sees p) left right → left place ≡ right place
       → applied (members p) left place ≡ applied (members p) right place
   agreed p left right place agree same =
       ap (λ e. after e left place) ((kept.keeps p).same left right agree) ∙ after_same (done_by (members p) right) left right place same
@@ -48,7 +48,7 @@ module _ (Writes Sees : ℕ → Place → Type 0) (Clash : ℕ → ℕ → Type 
       (λ place t. outside p state place (λ w. free (kept.writes_first p q place w t))))))
 
   -- so do undoing p and applying q
-  pub apart_undone : (p q : ℕ) → (Clash p q → ⊥) → (history : Effect) → ((place : Place) → IsNamed history place → Writes p place)
+  pub apart_undone : (p q : ℕ) → (Clash p q → ⊥) → (history : Effect) → ((place : Location) → IsNamed history place → Writes p place)
       → (state : State)
       → after history (applied (members q) state) ≡ applied (members q) (after history state)
   apart_undone p q free history within state =
@@ -98,13 +98,13 @@ module _ (Writes Sees : ℕ → Place → Type 0) (Clash : ℕ → ℕ → Type 
 
     -- a place that no member of the part writes is the same in the fold of the rest
     pub fold_rest : (set part : ℕ → Bool) (n : ℕ) → ClosedAfter Clash set part → IsPart part set
-        → (place : Place) → ((p : ℕ) → p < n → part p ≡ true → Writes p place → ⊥)
+        → (place : Location) → ((p : ℕ) → p < n → part p ≡ true → Writes p place → ⊥)
         → fold members opening set n place ≡ fold members opening (without set part) n place
     fold_rest set part zero closed inside place free = refl
     fold_rest set part (suc m) closed inside place free = go (part m) (set m) refl refl (fold_rest set part m closed inside)
       where
         go : (b c : Bool) → part m ≡ b → set m ≡ c
-            → ((x : Place) → ((p : ℕ) → p < m → part p ≡ true → Writes p x → ⊥)
+            → ((x : Location) → ((p : ℕ) → p < m → part p ≡ true → Writes p x → ⊥)
             → fold members opening set m x ≡ fold members opening (without set part) m x)
             → fold members opening set (suc m) place ≡ fold members opening (without set part) (suc m) place
         go true true e f ih =
@@ -149,7 +149,7 @@ module _ (Writes Sees : ℕ → Place → Type 0) (Clash : ℕ → ℕ → Type 
           go false h = h
 
       -- a history names only what its position may write
-      history_within : (set : ℕ → Bool) (p : ℕ) (place : Place) → IsNamed (history_in members opening set p) place → Writes p place
+      history_within : (set : ℕ → Bool) (p : ℕ) (place : Location) → IsNamed (history_in members opening set p) place → Writes p place
       history_within set p place n =
           (kept.keeps p).within (fold members opening set p) place
           (old_named (done_in members opening set p) (fold members opening set p) (HasCells-fold set p) place n)

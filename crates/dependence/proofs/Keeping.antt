@@ -22,7 +22,7 @@ use Rattle.task_ast.specs.meaning.Names.{locks_of, cells_in}
 use Rattle.task_ast.specs.meaning.Layout.{cells_under, layout}
 use Rattle.task_ast.specs.Layout.{IsLaidOut}
 use Rattle.task_ast.specs.meaning.Table.{numbers}
-use Rattle.task_ast.specs.meaning.State.{Place, RegistersOf, CellOf, State, number_at}
+use Rattle.task_ast.specs.meaning.State.{Location, RegistersOf, CellOf, State, number_at}
 use Rattle.task_ast.specs.meaning.Effect.{effect, joined_ret, one_number}
 use Rattle.task_ast.specs.Damage.{damaged, masked, all_masked}
 use Rattle.task_ast.specs.meaning.Footprint.{named_by, footprint, joined_registers, child_registers}
@@ -152,7 +152,7 @@ module _ (m : Member) where
       go true same some = rw (eqb-true t c same) (Contains-head (loc.Regs c) rest)
       go false same some = absurd (false≢true some)
 
-  within : (state : State) (place : Place) → IsNamed (done_by m state) place → MayWrite own_location foot place
+  within : (state : State) (place : Location) → IsNamed (done_by m state) place → MayWrite own_location foot place
   within state (CellOf c) some =
       written c (writes_within (λ x. is_member x (named_by m.actions).writes) m.thread m.begins m.child m.actions state
       (writes-named m.actions) c
@@ -187,15 +187,15 @@ run-keeps run masks p = go run p
     go (s ∷ rest) (suc q) = go rest q
 
 -- members that keep to their footprints are in conflict where they have a place in common that one may write
-pub kept-feet : (location : Place → Loc) (feet : ℕ → Footprint) (members : ℕ → Member) → KeepToFeet location feet members
+pub kept-feet : (location : Location → Loc) (feet : ℕ → Footprint) (members : ℕ → Member) → KeepToFeet location feet members
     → Kept (λ p. MayWrite location (feet p)) (λ p. MayTouch location (feet p)) (InConflict feet) members
 kept-feet location feet members keeps = record { keeps = keeps; sees = λ p place w. inr w; writes_first = first; writes_second = second }
   where
-    first : (p q : ℕ) (place : Place) → MayWrite location (feet p) place → MayTouch location (feet q) place → InConflict feet p q
+    first : (p q : ℕ) (place : Location) → MayWrite location (feet p) place → MayTouch location (feet q) place → InConflict feet p q
     first p q place w (inl r) = inr (inl (location place, w, r))
     first p q place w (inr v) = inl (location place, w, v)
 
-    second : (p q : ℕ) (place : Place) → MayTouch location (feet p) place → MayWrite location (feet q) place → InConflict feet p q
+    second : (p q : ℕ) (place : Location) → MayTouch location (feet p) place → MayWrite location (feet q) place → InConflict feet p q
     second p q place (inl r) w = inr (inr (location place, r, w))
     second p q place (inr v) w = inl (location place, v, w)
 

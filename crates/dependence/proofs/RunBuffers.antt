@@ -12,7 +12,7 @@ use Rattle.gp_base.specs.declared.fault.Fault.{Fault}
 use Rattle.gp_base.specs.declared.journal.Event.{Event}
 use Rattle.gp_base.specs.declared.journal.Event.TheVariants as event
 use Rattle.task_ast.specs.meaning.Tree.{Program}
-use Rattle.task_ast.specs.meaning.State.{Place, State}
+use Rattle.task_ast.specs.meaning.State.{Location, State}
 use Rattle.task_ast.specs.meaning.Effect.{effect}
 use Rattle.task_ast.specs.meaning.Plain.{Subthread, tree_machine, order, opening, last_state}
 use Rattle.task_ast.specs.Fold.{fold}
@@ -64,10 +64,10 @@ module _ (run : List Subthread) (faults : List Fault) where
   module _ (start : State) (cells : HasCells start)
       (at : Stage) (buffer : Buffer) (stands : StageStands (dependence_of run) faults at)
       (holds : RunStands run faults start at buffer) where
-    abbrev Writes : ℕ → Place → Type 0
+    abbrev Writes : ℕ → Location → Type 0
     Writes p = MayWrite own_location (foot_at (feet_of run) p)
 
-    abbrev Touches : ℕ → Place → Type 0
+    abbrev Touches : ℕ → Location → Type 0
     Touches p = MayTouch own_location (foot_at (feet_of run) p)
 
     kept : Kept Writes Touches (ClashIn (feet_of run)) (members_at run faults at)

@@ -4,7 +4,7 @@ use Rattle.std.specs.Prelude.{◌≡◌, ◌≢◌, ℕ, ◌+◌, ◌<◌, ◌�
 use Rattle.gp_base.specs.declared.footprint.Loc.{Loc}
 use Rattle.gp_base.specs.declared.footprint.Footprint.{Footprint}
 use Rattle.task_ast.specs.declared.effect.Effect.{Effect}
-use Rattle.task_ast.specs.meaning.State.{Place, State}
+use Rattle.task_ast.specs.meaning.State.{Location, State}
 use Rattle.task_ast.specs.meaning.Effect.{after}
 use Rattle.task_ast.specs.History.{old_of}
 use Rattle.task_ast.specs.Fold.{Member, fold}
@@ -71,7 +71,7 @@ buffer_without part front buffer =
 -- a position that is applied late leaves what it would have left in its place
 abbrev pub AppliedLaw : Type 0
 AppliedLaw =
-    (location : Place → Loc) (feet : ℕ → Footprint) (members : ℕ → Member) (opening : State) (set : ℕ → Bool) (low front : ℕ)
+    (location : Location → Loc) (feet : ℕ → Footprint) (members : ℕ → Member) (opening : State) (set : ℕ → Bool) (low front : ℕ)
     (buffer : Buffer) (p : ℕ)
     → KeepToFeet location feet members → BufferStands (InConflict feet) members opening set low front buffer → low ≤ p
     → MayApply (InConflict feet) set front p
@@ -81,7 +81,7 @@ AppliedLaw =
 -- what a position finds that is not in the set, at what it may touch, is what it finds in the fold below it
 abbrev pub FoundLaw : Type 0
 FoundLaw =
-    (location : Place → Loc) (feet : ℕ → Footprint) (members : ℕ → Member) (opening : State) (set : ℕ → Bool) (low front : ℕ)
+    (location : Location → Loc) (feet : ℕ → Footprint) (members : ℕ → Member) (opening : State) (set : ℕ → Bool) (low front : ℕ)
     (buffer : Buffer) (p : ℕ)
     → KeepToFeet location feet members → BufferStands (InConflict feet) members opening set low front buffer → p < front → set p ≡ false
     → Agree (MayTouch location (feet p)) buffer.state (fold members opening set p)
@@ -89,7 +89,7 @@ FoundLaw =
 -- of two positions that may be applied, the one finds the same after the other
 abbrev pub ApartLaw : Type 0
 ApartLaw =
-    (location : Place → Loc) (feet : ℕ → Footprint) (members : ℕ → Member) (opening : State) (set : ℕ → Bool) (low front : ℕ)
+    (location : Location → Loc) (feet : ℕ → Footprint) (members : ℕ → Member) (opening : State) (set : ℕ → Bool) (low front : ℕ)
     (buffer : Buffer) (p q : ℕ)
     → KeepToFeet location feet members → BufferStands (InConflict feet) members opening set low front buffer → low ≤ p
     → MayApply (InConflict feet) set front p
@@ -99,7 +99,7 @@ ApartLaw =
 -- what is left after a part was undone stands as if that part had never been
 abbrev pub UndoneLaw : Type 0
 UndoneLaw =
-    (location : Place → Loc) (feet : ℕ → Footprint) (members : ℕ → Member) (opening : State) (set part : ℕ → Bool)
+    (location : Location → Loc) (feet : ℕ → Footprint) (members : ℕ → Member) (opening : State) (set part : ℕ → Bool)
     (low front : ℕ) (buffer : Buffer)
     → KeepToFeet location feet members → HasCells opening → BufferStands (InConflict feet) members opening set low front buffer
     → MayUndo (InConflict feet) low front part
@@ -108,7 +108,7 @@ UndoneLaw =
 -- a position that is neither in the set nor in the part finds the same after the part was undone
 abbrev pub UntouchedLaw : Type 0
 UntouchedLaw =
-    (location : Place → Loc) (feet : ℕ → Footprint) (members : ℕ → Member) (opening : State) (set part : ℕ → Bool) (low front : ℕ)
+    (location : Location → Loc) (feet : ℕ → Footprint) (members : ℕ → Member) (opening : State) (set part : ℕ → Bool) (low front : ℕ)
     (buffer : Buffer) (p : ℕ)
     → KeepToFeet location feet members → HasCells opening → BufferStands (InConflict feet) members opening set low front buffer
     → MayUndo (InConflict feet) low front part

@@ -3,7 +3,7 @@ use Rattle.std.specs.Prelude.{◌≡◌, ℕ, zero, suc, ◌<◌, Bool, true, fa
 use Rattle.gp_base.specs.declared.footprint.Loc.{Loc}
 use Rattle.gp_base.specs.declared.footprint.Footprint.{Footprint}
 use Rattle.task_ast.specs.declared.effect.Effect.{Effect}
-use Rattle.task_ast.specs.meaning.State.{Place, State}
+use Rattle.task_ast.specs.meaning.State.{Location, State}
 use Rattle.task_ast.specs.meaning.Effect.{after}
 use Rattle.task_ast.specs.History.{old_of}
 use Rattle.task_ast.specs.Fold.{Member, fold}
@@ -44,7 +44,7 @@ IsPart part set = (q : ℕ) → part q ≡ true → set q ≡ true
 -- undoing a part of a set that is closed under later conflict, the newest first, leaves the fold of the rest
 abbrev pub RemovalLaw : Type 0
 RemovalLaw =
-    (location : Place → Loc) (feet : ℕ → Footprint) (members : ℕ → Member) (opening : State) (set part : ℕ → Bool) (front : ℕ)
+    (location : Location → Loc) (feet : ℕ → Footprint) (members : ℕ → Member) (opening : State) (set part : ℕ → Bool) (front : ℕ)
     → KeepToFeet location feet members → HasCells opening → ClosedAfter (InConflict feet) set part → IsPart part set
     → undone_part (λ p. Some (history_in members opening set p)) part front (fold members opening set front)
     ≡ fold members opening (without set part) front

@@ -10,7 +10,7 @@ use Rattle.gp_base.specs.declared.fault.Fault.{Fault}
 use Rattle.gp_base.specs.declared.journal.Event.{Event}
 use Rattle.gp_base.specs.declared.journal.Event.TheVariants as event
 use Rattle.task_ast.specs.meaning.Tree.{Program}
-use Rattle.task_ast.specs.meaning.State.{Place, State}
+use Rattle.task_ast.specs.meaning.State.{Location, State}
 use Rattle.task_ast.specs.Fold.{Member, applied, fold}
 use Rattle.task_ast.specs.Members.{member_of}
 use Rattle.task_ast.specs.meaning.Plain.{Subthread, tree_machine, order, opening, last_state}
@@ -222,10 +222,10 @@ module _ (run : List Subthread) (faults : List Fault) (start : State) where
                       omega arith)
                 ]
 
-            Writes : ℕ → Place → Type 0
+            Writes : ℕ → Location → Type 0
             Writes p = MayWrite own_location (foot_at (feet_of run) p)
 
-            Touches : ℕ → Place → Type 0
+            Touches : ℕ → Location → Type 0
             Touches p = MayTouch own_location (foot_at (feet_of run) p)
 
             kept : Kept Writes Touches (ClashIn (feet_of run)) (members at)

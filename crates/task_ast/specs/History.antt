@@ -4,7 +4,7 @@ use Rattle.std.specs.Prelude.{◌≡◌, ℕ, ℤ, true, List, [], map, Option, 
 use Rattle.std.specs.Ordering.{nat_cmp}
 use Rattle.std.specs.FinMap.{find}
 use Rattle.task_ast.specs.declared.effect.Effect.{Effect}
-use Rattle.task_ast.specs.meaning.State.{Place, RegistersOf, CellOf, State, cell_value}
+use Rattle.task_ast.specs.meaning.State.{Location, RegistersOf, CellOf, State, cell_value}
 use Rattle.task_ast.specs.meaning.Effect.{one_number}
 
 -- the registers that are left to a thread where it is the child
@@ -13,12 +13,12 @@ named_child None t = None
 named_child (Some child) t = cond (nat_eq t child.0) (Some child.1) None
 
 -- what an effect leaves at a place, where it names that place
-abbrev pub named : Effect → Place → Option (List ℤ)
+abbrev pub named : Effect → Location → Option (List ℤ)
 named e (RegistersOf t) = cond (nat_eq t e.thread) (Some e.regs) (named_child e.child t)
 named e (CellOf c) = option_map one_number (find nat_cmp c e.writes)
 
 -- the effect names this place
-abbrev pub IsNamed : Effect → Place → Type 0
+abbrev pub IsNamed : Effect → Location → Type 0
 IsNamed e place = is_some (named e place) ≡ true
 
 -- a cell with its value in the state

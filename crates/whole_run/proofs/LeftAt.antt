@@ -12,7 +12,7 @@ use Rattle.gp_base.specs.declared.journal.Event.{Event}
 use Rattle.gp_base.specs.declared.journal.Event.TheVariants as event
 use Rattle.task_ast.specs.declared.effect.Effect.{Effect}
 use Rattle.task_ast.specs.meaning.Tree.{Program}
-use Rattle.task_ast.specs.meaning.State.{Place, State}
+use Rattle.task_ast.specs.meaning.State.{Location, State}
 use Rattle.task_ast.specs.meaning.Effect.{effect}
 use Rattle.task_ast.specs.meaning.Plain.{Subthread, tree_machine, order, opening}
 use Rattle.task_ast.specs.Fold.{Member, fold}
@@ -42,7 +42,7 @@ use Rattle.dependence.proofs.Keeping.{run-keeps, kept-feet}
 use Rattle.dependence.proofs.Buffers.{late-finds, fold_members, fold_all}
 use Rattle.crew.specs.meaning.Noted.{left_at, left_from}
 
-module _ (Writes Sees : ℕ → Place → Type 0) (Clash : ℕ → ℕ → Type 0) (members : ℕ → Member) (kept : Kept Writes Sees Clash members)
+module _ (Writes Sees : ℕ → Location → Type 0) (Clash : ℕ → ℕ → Type 0) (members : ℕ → Member) (kept : Kept Writes Sees Clash members)
     (opening : State) (set : ℕ → Bool) (low front : ℕ) (buffer : Buffer)
     (stands : BufferStands Clash members opening set low front buffer) where
   -- a position is applied late
@@ -138,10 +138,10 @@ module _ (run : List Subthread) (faults : List Fault) (start : State) where
 
   module _ (at : Stage) (buffer : Buffer) (stands : StageStands (dependence_of run) faults at)
       (holds : RunStands run faults start at buffer) where
-    abbrev Writes : ℕ → Place → Type 0
+    abbrev Writes : ℕ → Location → Type 0
     Writes p = MayWrite own_location (foot_at (feet_of run) p)
 
-    abbrev Touches : ℕ → Place → Type 0
+    abbrev Touches : ℕ → Location → Type 0
     Touches p = MayTouch own_location (foot_at (feet_of run) p)
 
     kept : Kept Writes Touches (ClashIn (feet_of run)) (members_at run faults at)

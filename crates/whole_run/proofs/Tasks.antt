@@ -7,7 +7,7 @@ use Rattle.gp_base.specs.declared.fault.Fault.{Fault}
 use Rattle.gp_base.specs.declared.footprint.Loc.TheVariants as loc
 use Rattle.gp_base.specs.declared.journal.Event.{Event}
 use Rattle.gp_base.specs.declared.journal.Event.TheVariants as event
-use Rattle.task_ast.specs.meaning.State.{Place, RegistersOf, CellOf, State, cell_value, number_at}
+use Rattle.task_ast.specs.meaning.State.{Location, RegistersOf, CellOf, State, cell_value, number_at}
 use Rattle.task_ast.specs.meaning.Footprint.{named_by, joined_registers, child_registers}
 use Rattle.task_ast.specs.meaning.Under.{under_lock}
 use Rattle.task_ast.specs.Under.{NamesHeld}
@@ -202,7 +202,7 @@ module _ (view : View) (stands : Stands view) (e : Event)
           }
 
       -- a place that is as it was in the fold is so in the store
-      left-alone : (place : Place)
+      left-alone : (place : Location)
           → folded (run_in view.batch) view.batch.faults (start_in view.batch) later place ≡ state_in view place
           → state_in view place ≡ state_in (grown view e) place
       left-alone place same = sym (ap (λ (state : State). state place) state-later ∙ same)

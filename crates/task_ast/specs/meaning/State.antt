@@ -1,14 +1,14 @@
 -- The data state of a run.
 use Rattle.std.specs.Prelude.{ℕ, ℤ, pos, List, [], ◌∷◌, unwrap_or, slice_get, replicate, cond, nat_eq}
 
--- a place of the data: the registers of a thread, or one cell of the records
-pub data Place : Type 0 where
-  RegistersOf : (thread : ℕ) → Place
-  CellOf : (cell : ℕ) → Place
+-- a location of the data: the registers of a thread, or one cell of the records
+pub data Location : Type 0 where
+  RegistersOf : (thread : ℕ) → Location
+  CellOf : (cell : ℕ) → Location
 
--- a state gives each place its numbers: a thread its registers, a cell its one value
+-- a state gives each location its numbers: a thread its registers, a cell its one value
 abbrev pub State : Type 0
-State = Place → List ℤ
+State = Location → List ℤ
 
 -- the number at a place of a list, or 0
 abbrev pub number_at : List ℤ → ℕ → ℤ
