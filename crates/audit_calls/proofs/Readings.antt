@@ -32,7 +32,7 @@ use Rattle.call_cases.specs.meaning.Work.{Files, ToDo, Spoils}
 use Rattle.call_cases.specs.meaning.Lines.{input_line}
 use Rattle.call_cases.specs.Refusals.{IsInputRefused, ReadsAmong, AnswersFile}
 use Rattle.call_cases.proofs.Loads.{only_one}
-use Rattle.audit_calls.specs.meaning.Tried.{Reads, Judge, by_rows}
+use Rattle.audit_calls.specs.meaning.Tried.{Reads, Judge, by_trace_rows}
 use Rattle.audit_calls.specs.inner.Trials.{AnswersLines}
 
 -- what was read, as an answer that memory may keep back
@@ -135,11 +135,11 @@ module _ (judge : Judge) (names : List Name) (file : Name) (work : ToDo) where
   -- a text that is short enough comes to what it is read as
   by_reading : (text : List ℕ) (read : Result (List TraceLine) ℕ) → length text ≤ MOST_FILE_BYTES → Reads text read
       → (if nat_lt MOST_FILE_BYTES (length text) then Spoils (names ++ file ∷ [])
-      (input_line file 6 0) else by_rows judge names file work (judge.lines_of text)) ≡ by_rows judge names file work read
+      (input_line file 6 0) else by_trace_rows judge names file work (judge.lines_of text)) ≡ by_trace_rows judge names file work read
   by_reading text read within is =
-      ap (λ b. if b then Spoils (names ++ file ∷ []) (input_line file 6 0) else by_rows judge names file work (judge.lines_of text))
+      ap (λ b. if b then Spoils (names ++ file ∷ []) (input_line file 6 0) else by_trace_rows judge names file work (judge.lines_of text))
       (within_file text within)
-      ∙ ap (by_rows judge names file work) (one_reading text (judge.lines_of text) read (judge.reads text) is)
+      ∙ ap (by_trace_rows judge names file work) (one_reading text (judge.lines_of text) read (judge.reads text) is)
 
   pub lines_told : (text : List ℕ) (lines : List TraceLine) → length text ≤ MOST_FILE_BYTES → AnswersTrace text (Ok lines)
       → AnswersLines judge names file work (Some text) (Ok lines)
@@ -165,7 +165,7 @@ module _ (judge : Judge) (names : List Name) (file : Name) (work : ToDo) where
       → IsSomeAnd bytes (λ text. MOST_FILE_BYTES < length text) → AnswersLines judge names file work bytes (Err (BadInput line))
   long_told None line is above = absurd above
   long_told (Some text) line is above =
-      ap (λ b. if b then Spoils (names ++ file ∷ []) (input_line file 6 0) else by_rows judge names file work (judge.lines_of text))
+      ap (λ b. if b then Spoils (names ++ file ∷ []) (input_line file 6 0) else by_trace_rows judge names file work (judge.lines_of text))
       (past_file text above) ∙ ap (Spoils (names ++ file ∷ [])) (sym is)
 
   pub unread_told : (T : Type 0) (files : Option Files) (before now : List Name) (refusal : Refusal)

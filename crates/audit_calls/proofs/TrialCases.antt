@@ -26,7 +26,7 @@ use Rattle.call_cases.specs.Refusals.{RefusesCase, RefusesShelf, ReadsAmong}
 use Rattle.call_cases.proofs.Answering.{refuses_map}
 use Rattle.call_cases.proofs.Further.{further_asking, further_case, further, refuses_further}
 use Rattle.call_cases.proofs.Loads.{only_one}
-use Rattle.audit_calls.specs.meaning.Tried.{Judge, Tried, tried_with, by_rows, by_trace, supplied}
+use Rattle.audit_calls.specs.meaning.Tried.{Judge, Tried, tried_with, by_trace_rows, by_trace, supplied}
 use Rattle.call_cases.specs.meaning.Headline.{ReadsNothing}
 use Rattle.audit_calls.specs.meaning.AuditCommands.{MayRead, of_run, the_trace, asking, commands}
 use Rattle.audit_calls.specs.inner.Trials.{AnswersLines}
@@ -39,15 +39,15 @@ traced_case (Spoils names line) = BadInput names line
 
 module _ (judge : Judge) (audited : Audited) where
   below_rows : (program : Name) (names : List Name) (work : ToDo) (rows : Result (List TraceLine) ℕ)
-      → supplied_case program (by_rows judge names audited.trace work rows)
-      ≡ traced_case (by_rows judge (program ∷ names) audited.trace work rows)
+      → supplied_case program (by_trace_rows judge names audited.trace work rows)
+      ≡ traced_case (by_trace_rows judge (program ∷ names) audited.trace work rows)
   below_rows program names work (Ok lines) = refl
   below_rows program names work (Err row) = refl
 
   below_long : (program : Name) (names : List Name) (work : ToDo) (long : Bool) (rows : Result (List TraceLine) ℕ)
       → supplied_case program (if long then Spoils (names ++ audited.trace ∷ [])
-      (input_line audited.trace 6 0) else by_rows judge names audited.trace work rows)
-      ≡ traced_case (if long then Spoils ((program ∷ names) ++ audited.trace ∷ []) (input_line audited.trace 6 0) else by_rows judge
+      (input_line audited.trace 6 0) else by_trace_rows judge names audited.trace work rows)
+      ≡ traced_case (if long then Spoils ((program ∷ names) ++ audited.trace ∷ []) (input_line audited.trace 6 0) else by_trace_rows judge
       (program ∷ names) audited.trace work rows)
   below_long program names work true rows = refl
   below_long program names work false rows = below_rows program names work rows
@@ -61,14 +61,14 @@ module _ (judge : Judge) (audited : Audited) where
   -- what was read before the trace, and the trace, were read
   keeps_rows : (names : List Name) (work : ToDo) (rows : Result (List TraceLine) ℕ) (name : Name)
       → Contains (names ++ audited.trace ∷ []) name
-      → Contains (names_read (traced_case (by_rows judge names audited.trace work rows))) name
+      → Contains (names_read (traced_case (by_trace_rows judge names audited.trace work rows))) name
   keeps_rows names work (Ok lines) name is = is
   keeps_rows names work (Err row) name is = is
 
   keeps_long : (names : List Name) (work : ToDo) (long : Bool) (rows : Result (List TraceLine) ℕ) (name : Name)
       → Contains (names ++ audited.trace ∷ []) name
       → Contains (names_read (traced_case (if long then Spoils (names ++ audited.trace ∷ [])
-      (input_line audited.trace 6 0) else by_rows judge names audited.trace work rows))) name
+      (input_line audited.trace 6 0) else by_trace_rows judge names audited.trace work rows))) name
   keeps_long names work true rows name is = is
   keeps_long names work false rows name is = keeps_rows names work rows name is
 

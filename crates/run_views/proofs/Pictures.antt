@@ -24,7 +24,7 @@ use Rattle.gp_audit.specs.Steps.{dependence_by}
 use Rattle.gp_audit.proofs.Orders.{order-is}
 use Rattle.gp_audit.proofs.StepOrder.{steps-struck}
 use Rattle.run_views.specs.declared.frame.Frame.{Frame}
-use Rattle.run_views.specs.meaning.Timeline.{rows_for, lanes_for, frame_of, left, top, words, rows, Tells, told_of, opening, title, attempt_box, ended_by, boxes, column_of, columns, restart_marks, picture, timeline_text}
+use Rattle.run_views.specs.meaning.Timeline.{rows_for, lanes_for, frame_of, left, top, words_at, rows, Tells, told_of, picture_start, title, attempt_box, ended_by, boxes, column_of, columns, restart_marks, picture, timeline_text}
 use Rattle.run_views.specs.inner.Seen.{seen}
 use Rattle.run_views.proofs.SeenSteps.{child_written}
 
@@ -49,7 +49,7 @@ column-bare : (frame : Frame) (heads : List Head) (tells : Tells) (restarts : Li
 unfolding column_of
 column-bare frame heads tells restarts p s =
     ap (λ own. cond (nat_eq (p % 40) 0) (rows frame p frame.threads) []
-    ++ words (codes "column") (left p + 16) (top frame p + 12) (decimal p) ++ own)
+    ++ words_at (codes "column") (left p + 16) (top frame p + 12) (decimal p) ++ own)
     (boxes-bare frame heads tells p s 0 1 restarts)
 
 columns-seen : (frame : Frame) (heads : List Head) (tells : Tells) (restarts : List Restart) (p : ℕ) (run : List Subthread)
@@ -73,7 +73,7 @@ frame-seen run restarts = λ i.
 picture-seen : (traced : Bool) (heads : List Head) (tells : Tells) (run : List Subthread) (ending : End) (restarts : List Restart)
     → picture traced heads tells (map seen (map shown run)) ending restarts ≡ picture traced heads tells run ending restarts
 picture-seen traced heads tells run ending restarts =
-    let from : Frame → List ℕ → List ℕ = λ frame own. opening traced frame (length restarts) ending ++ own ++ restart_marks frame 1 restarts
+    let from : Frame → List ℕ → List ℕ = λ frame own. picture_start traced frame (length restarts) ending ++ own ++ restart_marks frame 1 restarts
     ++ codes "</svg>\n" in
     ap (λ frame. from frame (columns frame heads tells restarts 0 (map seen (map shown run)))) (frame-seen run restarts)
     ∙ ap (from (frame_of run restarts)) (columns-seen (frame_of run restarts) heads tells restarts 0 run)

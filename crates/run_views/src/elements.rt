@@ -1,6 +1,6 @@
 // The elements of a picture.
 ghost use Rattle.std.specs.Prelude.{◌≡◌, ◌++◌, codes, decimal, OnOk};
-ghost use Rattle.run_views.specs.meaning.Timeline.{at_place, placed, sized, words_from, words};
+ghost use Rattle.run_views.specs.meaning.Timeline.{at_place, placed, sized, words_from, words_at};
 
 use crate::names::{push_between, push_labelled};
 use std::alloc::AllocError;
@@ -58,7 +58,7 @@ pub fn end_words(text: &mut Vec<u8>) -> Result<(), AllocError>
 }
 
 /// Appends a number as words of a class at a place.
-#[tactic(auto, unfolding(crate::specs::meaning::Timeline::words, crate::specs::meaning::Timeline::words_from))]
+#[tactic(auto, unfolding(crate::specs::meaning::Timeline::words_at, crate::specs::meaning::Timeline::words_from))]
 pub fn push_numeral(
     text: &mut Vec<u8>,
     class: &[u8],
@@ -66,7 +66,7 @@ pub fn push_numeral(
     y: u64,
     number: u64,
 ) -> Result<(), AllocError>
-    ensures { OnOk result (text.new.items ≡ text.old.items ++ words class.now x y (decimal number)) }
+    ensures { OnOk result (text.new.items ≡ text.old.items ++ words_at class.now x y (decimal number)) }
 {
     push_placed(text, b"<text", class, x, y)?;
     push_between(text, b">", number, b"</text>\n")

@@ -3,7 +3,7 @@ ghost use Rattle.std.specs.Prelude.{◌≡◌, ◌<◌, ◌≤◌, ◌++◌, len
 ghost use Rattle.gp_base.specs.declared.limits.TheConstants.{MOST_SUBTHREADS};
 ghost use Rattle.task_ast.specs.View.{plain_program};
 ghost use Rattle.lock_checker.specs.Accepted.{program_of};
-ghost use Rattle.run_views.specs.meaning.Timeline.{svg_start, colours, legend, told_legend, told_part, summary, opening, rows, row, mark, fate_class, stale_class, class_of, fate_text, told_text, outcome_text, title, attempt_box, ended_by, boxes, column_of, columns, struck_text, note, restart_mark, restart_marks, picture, timeline_text};
+ghost use Rattle.run_views.specs.meaning.Timeline.{svg_start, colours, legend, told_legend, told_part, summary, picture_start, rows, thread_row, mark, fate_class, stale_class, class_of, fate_text, told_text, outcome_text, title, attempt_box, ended_by, boxes, column_of, columns, struck_text, note, restart_mark, restart_marks, picture, timeline_text};
 ghost use Rattle.run_views.specs.inner.Seen.{seen};
 ghost use Rattle.run_views.specs.inner.Small.{IsSmall};
 ghost use Rattle.run_views.specs.inner.Tellings.{found};
@@ -107,7 +107,7 @@ fn push_summary(
 }
 
 // Appends the head of a picture.
-#[tactic(auto, unfolding(crate::specs::meaning::Timeline::opening, crate::specs::meaning::Timeline::words))]
+#[tactic(auto, unfolding(crate::specs::meaning::Timeline::picture_start, crate::specs::meaning::Timeline::words_at))]
 fn push_opening(
     text: &mut Vec<u8>,
     traced: bool,
@@ -117,7 +117,7 @@ fn push_opening(
 ) -> Result<(), AllocError>
     requires small { IsSmall frame.now }
     requires few { restarts ≤ 1000 }
-    ensures { OnOk result (text.new.items ≡ text.old.items ++ opening traced frame.now restarts end) }
+    ensures { OnOk result (text.new.items ≡ text.old.items ++ picture_start traced frame.now restarts end) }
 {
     push_start(text)?;
     let width = (frame.width() + 60).max(660);
@@ -131,12 +131,12 @@ fn push_opening(
 }
 
 // Appends the row of a thread in the band of a position.
-#[tactic(auto, unfolding(crate::specs::meaning::Timeline::row))]
+#[tactic(auto, unfolding(crate::specs::meaning::Timeline::thread_row))]
 fn push_row(text: &mut Vec<u8>, frame: &Frame, position: u64, thread: u64) -> Result<(), AllocError>
     requires small { IsSmall frame.now }
     requires position { position ≤ 200040 }
     requires thread { thread < 4294967296 }
-    ensures { OnOk result (text.new.items ≡ text.old.items ++ row frame.now position thread) }
+    ensures { OnOk result (text.new.items ≡ text.old.items ++ thread_row frame.now position thread) }
 {
     let top = frame.row_top(position, thread);
     push_placed(text, b"<rect", b"row", 50, top)?;
@@ -266,7 +266,7 @@ fn push_title(
 }
 
 // Appends the box of an attempt.
-#[tactic(auto, unfolding(crate::specs::meaning::Timeline::attempt_box, crate::specs::meaning::Timeline::words))]
+#[tactic(auto, unfolding(crate::specs::meaning::Timeline::attempt_box, crate::specs::meaning::Timeline::words_at))]
 fn push_box(
     text: &mut Vec<u8>,
     column: &Column<'_>,
@@ -390,7 +390,7 @@ fn push_note(text: &mut Vec<u8>, number: u64, restart: &Restart) -> Result<(), A
 }
 
 // Appends a restart by its number: a line behind the last position before its front, and a note at the foot.
-#[tactic(auto, unfolding(crate::specs::meaning::Timeline::restart_mark, crate::specs::meaning::Timeline::words))]
+#[tactic(auto, unfolding(crate::specs::meaning::Timeline::restart_mark, crate::specs::meaning::Timeline::words_at))]
 fn push_restart(
     text: &mut Vec<u8>,
     frame: &Frame,

@@ -22,7 +22,7 @@ use Rattle.call_cases.proofs.Loads.{only_one}
 use Rattle.audit_calls.specs.meaning.Tried.{Judge}
 use Rattle.audit_calls.proofs.Readings.{one_reading}
 use Rattle.view_calls.specs.meaning.Traces.{unlawful_in}
-use Rattle.view_calls.specs.meaning.Sights.{Sight, by_lines, by_rows}
+use Rattle.view_calls.specs.meaning.Sights.{Sight, by_lines, by_trace_rows}
 use Rattle.view_calls.specs.inner.Answers.{AnswersLines}
 
 within_file : (text : List ℕ) → length text ≤ MOST_FILE_BYTES → nat_lt MOST_FILE_BYTES (length text) ≡ false
@@ -37,13 +37,13 @@ read_judged judge text lines is = one_reading text (judge.lines_of text) (Ok lin
 
 module _ (judge : Judge) (names : List Name) (file : Name) (position : Option ℕ) (work : ToDo) where
   abbrev short_or : (long : Bool) → Result (List TraceLine) ℕ → Supplied Sight
-  short_or long rows = if long then Spoils (names ++ file ∷ []) (input_line file 6 0) else by_rows judge names file position work rows
+  short_or long rows = if long then Spoils (names ++ file ∷ []) (input_line file 6 0) else by_trace_rows judge names file position work rows
 
   -- a text that is short enough comes to what it is read as
   by_reading : (text : List ℕ) (read : Result (List TraceLine) ℕ) → length text ≤ MOST_FILE_BYTES → judge.lines_of text ≡ read
-      → short_or (nat_lt MOST_FILE_BYTES (length text)) (judge.lines_of text) ≡ by_rows judge names file position work read
+      → short_or (nat_lt MOST_FILE_BYTES (length text)) (judge.lines_of text) ≡ by_trace_rows judge names file position work read
   by_reading text read within is =
-      ap (λ b. short_or b (judge.lines_of text)) (within_file text within) ∙ ap (by_rows judge names file position work) is
+      ap (λ b. short_or b (judge.lines_of text)) (within_file text within) ∙ ap (by_trace_rows judge names file position work) is
 
   by_line : (text : List ℕ) (lines : List TraceLine) (unlawful : Option ℕ) → length text ≤ MOST_FILE_BYTES → judge.lines_of text ≡ Ok lines
       → unlawful_in (judge.verdict_of (dependence_for work) work.faults lines) ≡ unlawful

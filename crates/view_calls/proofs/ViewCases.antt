@@ -27,7 +27,7 @@ use Rattle.audit_calls.specs.meaning.Tried.{Judge}
 use Rattle.view_calls.specs.declared.words.Viewed.{Viewed}
 use Rattle.view_calls.specs.meaning.Traces.{unlawful_in}
 use Rattle.view_calls.specs.meaning.Commands.{MayRead, of_run, the_trace, viewed_by, asking, commands}
-use Rattle.view_calls.specs.meaning.Sights.{Sight, by_lines, by_rows, by_bytes, by_trace, supplied}
+use Rattle.view_calls.specs.meaning.Sights.{Sight, by_lines, by_trace_rows, by_bytes, by_trace, supplied}
 use Rattle.view_calls.specs.inner.Answers.{AnswersLines}
 
 -- the case of what a trace comes to
@@ -44,17 +44,17 @@ module _ (judge : Judge) (file : Name) (position : Option ℕ) where
   below_lines program names work lines (Some row) = refl
 
   below_rows : (program : Name) (names : List Name) (work : ToDo) (rows : Result (List TraceLine) ℕ)
-      → supplied_case program (by_rows judge names file position work rows)
-      ≡ traced_case (by_rows judge (program ∷ names) file position work rows)
+      → supplied_case program (by_trace_rows judge names file position work rows)
+      ≡ traced_case (by_trace_rows judge (program ∷ names) file position work rows)
   below_rows program names work (Ok lines) =
       below_lines program names work lines (unlawful_in (judge.verdict_of (dependence_for work) work.faults lines))
   below_rows program names work (Err row) = refl
 
   below_long : (program : Name) (names : List Name) (work : ToDo) (long : Bool) (rows : Result (List TraceLine) ℕ)
       → supplied_case program (if long then Spoils (names ++ file ∷ []) (input_line file 6 0)
-      else by_rows judge names file position work rows)
+      else by_trace_rows judge names file position work rows)
       ≡ traced_case (if long then Spoils ((program ∷ names) ++ file ∷ []) (input_line file 6 0)
-      else by_rows judge (program ∷ names) file position work rows)
+      else by_trace_rows judge (program ∷ names) file position work rows)
   below_long program names work true rows = refl
   below_long program names work false rows = below_rows program names work rows
 
@@ -72,7 +72,7 @@ module _ (judge : Judge) (file : Name) (position : Option ℕ) where
   keeps_lines names work lines (Some row) name is = is
 
   keeps_rows : (names : List Name) (work : ToDo) (rows : Result (List TraceLine) ℕ) (name : Name) → Contains (names ++ file ∷ []) name
-      → Contains (names_read (traced_case (by_rows judge names file position work rows))) name
+      → Contains (names_read (traced_case (by_trace_rows judge names file position work rows))) name
   keeps_rows names work (Ok lines) name is =
       keeps_lines names work lines (unlawful_in (judge.verdict_of (dependence_for work) work.faults lines)) name is
   keeps_rows names work (Err row) name is = is
@@ -80,7 +80,7 @@ module _ (judge : Judge) (file : Name) (position : Option ℕ) where
   keeps_long : (names : List Name) (work : ToDo) (long : Bool) (rows : Result (List TraceLine) ℕ) (name : Name)
       → Contains (names ++ file ∷ []) name
       → Contains (names_read (traced_case (if long then Spoils (names ++ file ∷ []) (input_line file 6 0)
-      else by_rows judge names file position work rows))) name
+      else by_trace_rows judge names file position work rows))) name
   keeps_long names work true rows name is = is
   keeps_long names work false rows name is = keeps_rows names work rows name is
 

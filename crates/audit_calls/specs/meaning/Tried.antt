@@ -40,16 +40,16 @@ module _ (judge : Judge) where
   tried_with work lines = record { work = work; lines = lines; verdict = judge.verdict_of (dependence_for work) work.faults lines }
 
   -- what comes of the rows of a trace, after these files
-  abbrev pub by_rows : (names : List Name) → (file : Name) → ToDo → Result (List TraceLine) ℕ → Supplied Tried
-  by_rows names file work (Ok lines) = Supplies (names ++ file ∷ []) (tried_with work lines)
-  by_rows names file work (Err row) = Spoils (names ++ file ∷ []) (input_line file 9 row)
+  abbrev pub by_trace_rows : (names : List Name) → (file : Name) → ToDo → Result (List TraceLine) ℕ → Supplied Tried
+  by_trace_rows names file work (Ok lines) = Supplies (names ++ file ∷ []) (tried_with work lines)
+  by_trace_rows names file work (Err row) = Spoils (names ++ file ∷ []) (input_line file 9 row)
 
   -- what comes of the file of a trace with these bytes, or of none
   abbrev pub by_trace : (names : List Name) → (file : Name) → ToDo → Option (List ℕ) → Supplied Tried
   by_trace names file work None = Lacks names file
   by_trace names file work (Some bytes) =
       if nat_lt MOST_FILE_BYTES (length bytes) then Spoils (names ++ file ∷ [])
-      (input_line file 6 0) else by_rows names file work (judge.lines_of bytes)
+      (input_line file 6 0) else by_trace_rows names file work (judge.lines_of bytes)
 
   -- what there is to be judged, by the files beside a program: those that its run would read, and then that of the trace
   abbrev pub supplied : Audited → Program → Files → Supplied Tried

@@ -81,8 +81,8 @@ placed name class x y = name ++ codes " class='" ++ class ++ codes "'" ++ at_pla
 unfoldable pub words_from : (class : List ℕ) → (x y : ℕ) → List ℕ
 words_from class x y = placed (codes "<text") class x y ++ codes ">"
 
-unfoldable pub words : (class : List ℕ) → (x y : ℕ) → List ℕ → List ℕ
-words class x y content = words_from class x y ++ content ++ codes "</text>\n"
+unfoldable pub words_at : (class : List ℕ) → (x y : ℕ) → List ℕ → List ℕ
+words_at class x y content = words_from class x y ++ content ++ codes "</text>\n"
 
 -- how the picture begins
 unfoldable pub svg_start : List ℕ
@@ -111,21 +111,21 @@ told_part traced = cond traced told_legend []
 
 -- the head of the picture: its size and its colours, a summary, and what the colours mean, and both of what a trace tells, where there is
 -- one
-unfoldable pub opening : (traced : Bool) → Frame → (restarts : ℕ) → End → List ℕ
-opening traced frame restarts ending =
+unfoldable pub picture_start : (traced : Bool) → Frame → (restarts : ℕ) → End → List ℕ
+picture_start traced frame restarts ending =
     svg_start ++ sized (max 660 (width frame + 60)) (foot frame + 16 * restarts + 20) ++ colours
-    ++ words (codes "run") 50 20 (summary frame restarts ending) ++ legend ++ told_part traced
+    ++ words_at (codes "run") 50 20 (summary frame restarts ending) ++ legend ++ told_part traced
 
 -- the row of a thread in the band of a position, with its number
-unfoldable pub row : Frame → (position thread : ℕ) → List ℕ
-row frame p thread =
+unfoldable pub thread_row : Frame → (position thread : ℕ) → List ℕ
+thread_row frame p thread =
     placed (codes "<rect") (codes "row") 50 (row_top frame p thread) ++ sized (width frame) (row_height frame - 2) ++ codes "/>\n"
-    ++ words (codes "side") 44 (row_top frame p thread + 11) (decimal thread)
+    ++ words_at (codes "side") 44 (row_top frame p thread + 11) (decimal thread)
 
 -- the rows of the threads below this one
 abbrev pub rows : Frame → (position threads : ℕ) → List ℕ
 rows frame p zero = []
-rows frame p (suc thread) = rows frame p thread ++ row frame p thread
+rows frame p (suc thread) = rows frame p thread ++ thread_row frame p thread
 
 -- how a subthread begins, in short
 abbrev pub mark : SyncOp → (child : Option ℕ) → List ℕ
@@ -205,7 +205,7 @@ unfoldable pub attempt_box : Frame → List Head → (position : ℕ) → Subthr
 attempt_box frame heads p s attempt fate told =
     placed (codes "<rect") (class_of attempt fate told) (left p) (lane_top frame p s.thread attempt) ++ sized 32 12
     ++ codes "><title>" ++ title heads p s attempt fate told ++ codes "</title></rect>\n"
-    ++ words (class_of attempt fate told) (left p + 16) (lane_top frame p s.thread attempt + 10) (mark s.begins.sync s.child)
+    ++ words_at (class_of attempt fate told) (left p + 16) (lane_top frame p s.thread attempt + 10) (mark s.begins.sync s.child)
 
 -- what becomes of an attempt that a restart of this number redoes
 abbrev pub ended_by : (position number : ℕ) → Restart → Fate
@@ -224,7 +224,7 @@ boxes frame heads tells p s attempt number (r ∷ later) =
 -- the column of a subthread; the first of a band comes with the rows
 unfoldable pub column_of : Frame → List Head → Tells → List Restart → (position : ℕ) → Subthread → List ℕ
 column_of frame heads tells restarts p s =
-    cond (nat_eq (p % 40) 0) (rows frame p frame.threads) [] ++ words (codes "column") (left p + 16) (top frame p + 12) (decimal p)
+    cond (nat_eq (p % 40) 0) (rows frame p frame.threads) [] ++ words_at (codes "column") (left p + 16) (top frame p + 12) (decimal p)
     ++ boxes frame heads tells p s 0 1 restarts
 
 -- the columns of subthreads, the first of which is at this position
@@ -244,8 +244,8 @@ unfoldable pub restart_mark : Frame → (number : ℕ) → Restart → List ℕ
 restart_mark frame number r =
     placed (codes "<rect") (codes "front") (left (r.front - 1) + 32) (top frame (r.front - 1) + 14)
     ++ sized 2 (band_height frame - 24) ++ codes "/>\n"
-    ++ words (codes "note") (left (r.front - 1) + 30) (top frame (r.front - 1) + band_height frame) (decimal number)
-    ++ words (codes "note") 50 (foot frame + 16 * number) (note number r)
+    ++ words_at (codes "note") (left (r.front - 1) + 30) (top frame (r.front - 1) + band_height frame) (decimal number)
+    ++ words_at (codes "note") 50 (foot frame + 16 * number) (note number r)
 
 -- the restarts, the first of which has this number
 abbrev pub restart_marks : Frame → (number : ℕ) → List Restart → List ℕ
@@ -256,7 +256,7 @@ restart_marks frame number (r ∷ restarts) = restart_mark frame number r ++ res
 abbrev pub picture : (traced : Bool) → List Head → Tells → List Subthread → End → List Restart → List ℕ
 picture traced heads tells run ending restarts =
     let frame = frame_of run restarts in
-    opening traced frame (length restarts) ending ++ columns frame heads tells restarts 0 run
+    picture_start traced frame (length restarts) ending ++ columns frame heads tells restarts 0 run
     ++ restart_marks frame 1 restarts ++ codes "</svg>\n"
 
 -- the picture of a program's run with these faults, and with what a trace tells of it, where there is one

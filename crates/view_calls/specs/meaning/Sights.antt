@@ -32,17 +32,17 @@ by_lines names file position work lines (Some row) = Spoils (names ++ file ∷ [
 
 module _ (judge : Judge) where
   -- what comes of the rows of a trace
-  abbrev pub by_rows : (names : List Name) → (file : Name) → (position : Option ℕ) → ToDo → Result (List TraceLine) ℕ → Supplied Sight
-  by_rows names file position work (Ok lines) =
+  abbrev pub by_trace_rows : (names : List Name) → (file : Name) → (position : Option ℕ) → ToDo → Result (List TraceLine) ℕ → Supplied Sight
+  by_trace_rows names file position work (Ok lines) =
       by_lines names file position work lines (unlawful_in (judge.verdict_of (dependence_for work) work.faults lines))
-  by_rows names file position work (Err row) = Spoils (names ++ file ∷ []) (input_line file 1 row)
+  by_trace_rows names file position work (Err row) = Spoils (names ++ file ∷ []) (input_line file 1 row)
 
   -- what comes of the file of a trace with these bytes, or of none
   abbrev pub by_bytes : (names : List Name) → (file : Name) → (position : Option ℕ) → ToDo → Option (List ℕ) → Supplied Sight
   by_bytes names file position work None = Lacks names file
   by_bytes names file position work (Some bytes) =
       if nat_lt MOST_FILE_BYTES (length bytes) then Spoils (names ++ file ∷ [])
-      (input_line file 6 0) else by_rows names file position work (judge.lines_of bytes)
+      (input_line file 6 0) else by_trace_rows names file position work (judge.lines_of bytes)
 
   -- what comes of the trace that the words name, where they name one
   abbrev pub by_trace : (trace : Option Name) → Files → (names : List Name) → (position : Option ℕ) → ToDo → Supplied Sight
