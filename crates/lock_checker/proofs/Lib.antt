@@ -2,6 +2,7 @@ pub mod BaseLemmas
 pub mod BlockLemmas
 pub mod BodyLemmas
 pub mod BodyWalks
+pub mod CellLemmas
 pub mod ChangeLemmas
 pub mod EndLemmas
 pub mod HeadLemmas

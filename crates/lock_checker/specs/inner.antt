@@ -1,6 +1,7 @@
 pub mod Faults
 pub mod Heads
 pub mod Indexes
+pub mod Numberings
 pub mod Pairs
 pub mod Positions
 pub mod Scopes

@@ -10,12 +10,12 @@ ghost use Rattle.lock_checker.specs.inner.Indexes.{IsIndexOf};
 ghost use Rattle.lock_checker.specs.inner.Heads.{AreHeads};
 ghost use Rattle.lock_checker.specs.inner.Faults.{lowest};
 
-use crate::index::{Index, natural};
+use crate::index::Index;
 use crate::symbol_table::SymbolTable;
 use gp_base::Name;
 use gp_base::limits::{MOST_CELLS, MOST_FIELDS, MOST_THREADS};
 use std::alloc::{AllocError, Global};
-use task_ast::{CheckKind, Head};
+use task_ast::{CheckKind, Head, natural};
 
 fn head_name(head: &Head) -> &Name
     ensures { result.now ≡ head_name head.now }

@@ -1,7 +1,7 @@
 // What a program declares, by name.
-ghost use Rattle.std.specs.Prelude.{◌≡◌, ◌<◌, ◌^◌, IfOk, is_some, option_map, ◌||◌};
+ghost use Rattle.std.specs.Prelude.{◌≡◌, IfOk, is_some, option_map, ◌||◌};
 ghost use Rattle.task_ast.specs.meaning.Tree as plain;
-ghost use Rattle.task_ast.specs.meaning.Names.{is_among, natural, named, locks_of, arrays_over, barriers_of, feeds_of, task_named};
+ghost use Rattle.task_ast.specs.meaning.Names.{is_among, named, locks_of, arrays_over, barriers_of, feeds_of, task_named};
 ghost use Rattle.task_ast.specs.View.{plain_task, plain_program};
 ghost use Rattle.lock_checker.specs.inner.Tables.{found};
 ghost use Rattle.lock_checker.specs.inner.Indexes.{target, IsIndexOf};
@@ -9,7 +9,7 @@ ghost use Rattle.lock_checker.specs.inner.Indexes.{target, IsIndexOf};
 use crate::symbol_table::SymbolTable;
 use gp_base::Name;
 use std::alloc::{AllocError, Global};
-use task_ast::{Head, Program, TaskText};
+use task_ast::{Head, Program, TaskText, natural};
 
 /// The sizes of the lock arrays, the lock array of each record, the barriers, the feeds and the tasks; of a name that
 /// is declared twice the first counts.
@@ -20,14 +20,6 @@ pub struct Index<'a> {
     pub barriers: SymbolTable<()>,
     pub feeds: SymbolTable<()>,
     pub tasks: SymbolTable<&'a TaskText>,
-}
-
-/// A size as a number; a negative one counts as 0.
-pub fn natural(size: i64) -> u64
-    ensures value { result ≡ natural size }
-    ensures small { result < 2 ^ 63 }
-{
-    if size < 0 { 0 } else { size as u64 }
 }
 
 #[tactic(auto, using(crate::proofs::TableLemmas::put_steps))]

@@ -1,52 +1,11 @@
-// The first cells of lock arrays and records, and the record cells under each lock cell.
+// The record cells under each lock cell.
 ghost use Rattle.std.specs.Prelude.{◌≡◌, ◌+◌, ◌≤◌, ◌^◌, [], ◌++◌, map, length, IfOk, OnOk};
 ghost use Rattle.gp_base.specs.declared.limits.TheConstants.{MOST_CELLS};
-ghost use Rattle.task_ast.specs.Layout.{base_of};
-ghost use Rattle.task_ast.specs.meaning.Names.{locks_of, records_of, cells_in};
 ghost use Rattle.task_ast.specs.meaning.Table.{numbers};
-ghost use Rattle.task_ast.specs.meaning.Tree as plain;
 ghost use Rattle.lock_checker.specs.inner.Positions.{positions};
-ghost use Rattle.lock_checker.specs.inner.Tables.{found};
 
-use crate::index::natural;
-use crate::symbol_table::SymbolTable;
 use gp_base::{LockNo, RecNo, Seq};
 use std::alloc::{AllocError, Global};
-use task_ast::Head;
-
-/// The number of the first cell of each lock array.
-#[tactic(auto, using(crate::proofs::TableLemmas::put_steps, crate::proofs::BaseLemmas::base_steps))]
-pub fn lock_bases(alloc: Global, heads: &[Head]) -> Result<SymbolTable<u32>, AllocError>
-    requires { cells_in (locks_of heads.now) ≤ MOST_CELLS }
-    ensures { IfOk result (λ bases. (x : plain.Name) → found bases x ≡ base_of (locks_of heads.now) x) }
-{
-    let mut bases = SymbolTable::new(alloc);
-    let mut base: u64 = 0;
-    for head in heads {
-        if let Head::LockHead { name, size, .. } = head {
-            bases.put(name, base as u32)?;
-            base += natural(*size);
-        }
-    }
-    Ok(bases)
-}
-
-/// The number of the first cell of each record.
-#[tactic(auto, using(crate::proofs::TableLemmas::put_steps, crate::proofs::BaseLemmas::base_steps))]
-pub fn record_bases(alloc: Global, heads: &[Head]) -> Result<SymbolTable<u32>, AllocError>
-    requires { cells_in (records_of heads.now) ≤ MOST_CELLS }
-    ensures { IfOk result (λ bases. (x : plain.Name) → found bases x ≡ base_of (records_of heads.now) x) }
-{
-    let mut bases = SymbolTable::new(alloc);
-    let mut base: u64 = 0;
-    for head in heads {
-        if let Head::RecHead { name, size, .. } = head {
-            bases.put(name, base as u32)?;
-            base += natural(*size);
-        }
-    }
-    Ok(bases)
-}
 
 // An empty list for each of so many lock cells.
 fn empty_lists(alloc: Global, count: u32) -> Result<Vec<Seq<RecNo>>, AllocError>

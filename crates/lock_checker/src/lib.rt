@@ -1,6 +1,7 @@
 //! Whether a batch program keeps the rules of names, counts and held locks, and the first rule that it breaks.
 #![tactic(auto)]
 
+mod cells;
 mod checked;
 mod ends;
 mod expressions;
@@ -19,6 +20,7 @@ mod tasks;
 mod variables;
 mod walk;
 
+pub use cells::Cells;
 pub use checked::Checked;
 pub use fault::CheckFault;
 pub use laws::{soundness_laws, walk_law};

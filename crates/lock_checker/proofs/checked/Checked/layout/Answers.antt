@@ -23,7 +23,7 @@ returns c =
     let fits = accepted_sizes (plain_program c.args.self.now.program) c.args.self.now.accepted in
     ap (λ (cells : List (List ℕ)). record { under = cells }) (
     c.in_ok-under.ensures
-    ∙ ap (λ l. map (positions 0 l) (numbers 0 c.lock_count.result)) (c.deref.ensures.value ∙ c.in_ok-over.ensures)
-    ∙ ap (λ n. map (positions 0 (cells_over (locks_of heads) heads)) (numbers 0 n)) c.lock_count.ensures
+    ∙ ap (λ l. map (positions 0 l) (numbers 0 c.args.self.now.locks.count)) (c.deref.ensures.value ∙ c.in_ok-over.ensures)
+    ∙ ap (λ n. map (positions 0 (cells_over (locks_of heads) heads)) (numbers 0 n)) c.args.self.now.locks_numbered.count
     ∙ map_numbers (positions 0 (cells_over (locks_of heads) heads)) (cells_under heads) 0 0 (cells_in (locks_of heads))
     (λ k less. under_told heads fits (0 + k)))

@@ -8,5 +8,5 @@ use Rattle.lock_checker.proofs.checked.Checked.over.Goals as goal
 pub returns : goal.returns
 returns c cell =
     let program = c.args.self.now.program in
-    ap (λ (l : List ℕ). slice_get l cell) (c.from_vec.ensures ∙ c.in_ok-lock_cells.ensures)
+    ap (λ (l : List ℕ). slice_get l cell) (c.from_vec.ensures ∙ c.in_ok-locks_over.ensures)
     ∙ over_got program.heads (accepted_sizes (plain_program program) c.args.self.now.accepted) cell

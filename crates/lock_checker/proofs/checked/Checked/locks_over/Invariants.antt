@@ -2,7 +2,7 @@ use Rattle.std.proofs.Common.{◌≡◌, ◌++◌, ◌≤◌, drop}
 use Rattle.gp_base.specs.declared.limits.TheConstants.{MOST_CELLS}
 use Rattle.task_ast.specs.meaning.Names.{locks_of, records_of, cells_in}
 use Rattle.lock_checker.specs.inner.Positions.{cells_over}
-use Rattle.lock_checker.proofs.checked.Checked.lock_cells.Given as goal
+use Rattle.lock_checker.proofs.checked.Checked.locks_over.Given as goal
 
 abbrev pub invariant-loop-head : goal.invariant-loop-head
 invariant-loop-head l = record {

@@ -1,7 +1,7 @@
 use Rattle.std.proofs.Common.{rules}
 use Rattle.task_ast.specs.View.{plain_program}
 use Rattle.lock_checker.proofs.BaseLemmas.{accepted_small}
-use Rattle.lock_checker.proofs.checked.Checked.lock_cells.Goals as goal
+use Rattle.lock_checker.proofs.checked.Checked.locks_over.Goals as goal
 
 pub loop-head-init : goal.loop-head-init
 loop-head-init c =

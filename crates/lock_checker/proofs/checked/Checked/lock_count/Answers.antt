@@ -1,8 +1,0 @@
-use Rattle.std.proofs.Common.{zero-add}
-use Rattle.task_ast.specs.View.{plain_program}
-use Rattle.lock_checker.proofs.BaseLemmas.{accepted_small}
-use Rattle.lock_checker.proofs.checked.Checked.lock_count.Goals as goal
-
-pub loop-head-init : goal.loop-head-init
-loop-head-init c =
-    record { cells = zero-add _; small = (accepted_small (plain_program c.args.self.now.program) c.args.self.now.accepted.faultless).0 }
