@@ -1,8 +1,10 @@
 // Desks that are claimed.
 ghost use Rattle.std.specs.Prelude.{◌≡◌, ℕ, ◌<◌, ◌≤◌, [], length, slice_get, Some, IfOk};
 ghost use Rattle.gp_steal.specs.Held.{about, hand, gathered, book, IsPassOf, IsClerkOf};
-ghost use Rattle.gp_steal.specs.Rule.{first_hand, first_book};
-ghost use Rattle.gp_steal.specs.Told.{IsWhole, IsRunAt};
+ghost use Rattle.desk_board.specs.Rule.{first_book};
+ghost use Rattle.gp_steal.specs.Rule.{first_hand};
+ghost use Rattle.desk_board.specs.Told.{IsRunAt};
+ghost use Rattle.gp_steal.specs.Told.{IsWhole};
 
 use crate::numbers::{Number, numbers};
 use gp_base::Job;

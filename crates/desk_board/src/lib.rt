@@ -13,4 +13,6 @@ mod types;
 mod view;
 
 pub use laws::rule_law;
+pub use made::{lay_out, take_back};
 pub use types::{Board, Clerk, Desk, Pass};
+pub use view::{About, Book, Plan, Slot};

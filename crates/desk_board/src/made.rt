@@ -12,8 +12,8 @@ use gp_base::{Job, Seq};
 use std::alloc::{AllocError, Global};
 use std::snapshot::Snapshot;
 
-// Moves the jobs into slots. There is room for them.
-fn lay_out<J: Drop, R: Drop>(jobs: &mut Vec<J>, slots: &mut Vec<Slot<J, R>>)
+/// Moves the jobs into slots. There is room for them.
+pub fn lay_out<J: Drop, R: Drop>(jobs: &mut Vec<J>, slots: &mut Vec<Slot<J, R>>)
     requires room { (slots.old.items ≡ []) × (vec_len jobs.old ≤ vec_capacity slots.old) }
     ensures slots { slots.new.items ≡ map Todo jobs.old.items }
     ensures jobs { (jobs.new.items ≡ []) × (vec_capacity jobs.new ≡ vec_capacity jobs.old) }
@@ -24,8 +24,8 @@ fn lay_out<J: Drop, R: Drop>(jobs: &mut Vec<J>, slots: &mut Vec<Slot<J, R>>)
     }
 }
 
-// Moves the jobs back. `were` is what they were.
-fn take_back<J: Drop, R: Drop>(
+/// Moves the jobs back out of the slots. `were` is what they were.
+pub fn take_back<J: Drop, R: Drop>(
     mut slots: Vec<Slot<J, R>>,
     jobs: &mut Vec<J>,
     were: &Snapshot<Vec<J>>,

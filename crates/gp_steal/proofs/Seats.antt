@@ -10,13 +10,13 @@ use mathlib.Core.Option as maybe
 use lib.ListN.{get_elem?, length-map, length-replicate, get_or-replicate}
 use Rattle.atomic_table.specs.Table.{State, Me, Splits, Joins, opening}
 use Rattle.atomic_table.proofs.Lists.{at_set, set_else, at_snoc}
-use Rattle.gp_steal.specs.declared.view.Book.{Book}
+use Rattle.desk_board.specs.declared.view.Book.{Book}
 use Rattle.gp_steal.specs.declared.view.View.{View}
-use Rattle.gp_steal.specs.declared.view.Plan.{Plan}
-use Rattle.gp_steal.specs.declared.view.Slot.{Slot}
-use Rattle.gp_steal.specs.declared.view.Slot.TheVariants.{Todo}
-use Rattle.desk_board.specs.Rule.{times}
-use Rattle.gp_steal.specs.Rule.{waiting, about_of, blank, first_view, no_book, ViewOk, Kept}
+use Rattle.desk_board.specs.declared.view.Plan.{Plan}
+use Rattle.desk_board.specs.declared.view.Slot.{Slot}
+use Rattle.desk_board.specs.declared.view.Slot.TheVariants.{Todo}
+use Rattle.desk_board.specs.Rule.{times, about_of, no_book}
+use Rattle.gp_steal.specs.Rule.{waiting, blank, first_view, ViewOk, Kept}
 use Rattle.gp_steal.specs.Told.{cut_left, cut_right, pass_part, clerk_part, passes_both, gathered_both}
 use Rattle.desk_board.proofs.Tallies.{tally_set, tally_part, tally_more, times_append}
 use Rattle.desk_board.proofs.Places.{found_set}

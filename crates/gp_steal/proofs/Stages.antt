@@ -1,7 +1,7 @@
 -- What the stage of a desk says.
 use Rattle.std.proofs.Common.{◌≡◌, ℕ, ◌≤◌, ◌∙◌, arith}
 use mathlib.Core.Option as maybe
-use Rattle.gp_steal.specs.declared.view.Slot.{Slot}
+use Rattle.desk_board.specs.declared.view.Slot.{Slot}
 use Rattle.gp_steal.specs.Rule.{Stage, waiting, claimed, done, collected, AtStage}
 
 module _ {J W R : Type 0} (is_run : W → J → R → Type 0) (with : W) where

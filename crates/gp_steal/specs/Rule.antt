@@ -6,22 +6,18 @@ use mathlib.Core.Option.{some, none}
 use mathlib.Core.Option as maybe
 use lib.ListN.{get_elem?}
 use Rattle.atomic_table.specs.Table.{State}
-use Rattle.desk_board.specs.Rule.{times}
-use Rattle.gp_steal.specs.declared.view.About.{About}
+use Rattle.desk_board.specs.Rule.{times, no_book, first_book, about_of}
+use Rattle.desk_board.specs.declared.view.About.{About}
 use Rattle.gp_steal.specs.declared.view.Hand.{Hand}
-use Rattle.gp_steal.specs.declared.view.Book.{Book}
+use Rattle.desk_board.specs.declared.view.Book.{Book}
 use Rattle.gp_steal.specs.declared.view.View.{View}
-use Rattle.gp_steal.specs.declared.view.Plan.{Plan}
-use Rattle.gp_steal.specs.declared.view.Slot.{Slot}
-use Rattle.gp_steal.specs.declared.view.Slot.TheVariants.{Todo, Done}
+use Rattle.desk_board.specs.declared.view.Plan.{Plan}
+use Rattle.desk_board.specs.declared.view.Slot.{Slot}
+use Rattle.desk_board.specs.declared.view.Slot.TheVariants.{Todo, Done}
 
 -- nothing in hand: no pass
 abbrev pub no_hand : Hand
 no_hand = record { share = 0; claimed = []; held = []; swept = 0; tried = None }
-
--- nothing on the books: no clerk
-abbrev pub no_book : Book
-no_book = record { clerk = 0; seen = []; taken = []; looks = 0; last = None }
 
 -- how far a desk has come
 pub data Stage : Type 0 where
@@ -34,15 +30,7 @@ pub data Stage : Type 0 where
 abbrev pub first_hand : Hand
 first_hand = record { share = 64; claimed = []; held = []; swept = 0; tried = None }
 
--- the clerk of a new board has seen and taken nothing
-abbrev pub first_book : Book
-first_book = record { clerk = 1; seen = []; taken = []; looks = 0; last = None }
-
 module _ {J W : Type 0} where
-  -- the jobs of the board, and what they are run under
-  abbrev pub about_of : Plan J W → About J W
-  about_of plan = record { jobs = plan.jobs.value.items; with = plan.with.value }
-
   -- a view that knows nothing: a seat that was joined into another, or the seat of a desk
   abbrev pub blank : View J W
   blank = record { about = None; hand = no_hand; book = no_book }

@@ -3,15 +3,15 @@ use Rattle.std.specs.Prelude.{◌≡◌, ℕ, ◌+◌, ◌-◌, ◌<◌, ◌≤�
 use Rattle.atomic_table.specs.Table.{Me, Step, rest}
 use Rattle.atomic_table.specs.Seated.{TableId}
 use Rattle.atomic_table.specs.declared.shared.Seat.{Seat}
-use Rattle.desk_board.specs.Rule.{times}
-use Rattle.desk_board.specs.Told.{without, NoneTwice}
-use Rattle.gp_steal.specs.Rule.{no_hand, no_book}
-use Rattle.gp_steal.specs.declared.view.About.{About}
+use Rattle.desk_board.specs.Rule.{times, no_book}
+use Rattle.desk_board.specs.Told.{without, NoneTwice, book_took}
+use Rattle.gp_steal.specs.Rule.{no_hand}
+use Rattle.desk_board.specs.declared.view.About.{About}
 use Rattle.gp_steal.specs.declared.view.Hand.{Hand}
-use Rattle.gp_steal.specs.declared.view.Book.{Book}
+use Rattle.desk_board.specs.declared.view.Book.{Book}
 use Rattle.gp_steal.specs.declared.view.View.{View}
-use Rattle.gp_steal.specs.declared.view.Slot.{Slot}
-use Rattle.gp_steal.specs.declared.view.Slot.TheVariants.{Todo, Done}
+use Rattle.desk_board.specs.declared.view.Slot.{Slot}
+use Rattle.desk_board.specs.declared.view.Slot.TheVariants.{Todo, Done}
 
 -- the swept number after a try of desk k
 abbrev pub swept_after : ℕ → ℕ → ℕ
@@ -32,10 +32,6 @@ hand_finished k h = record h { held = without k h.held }
 -- a look at desk k found this number
 abbrev pub book_looked : ℕ → ℕ → Book → Book
 book_looked k found b = record b { looks = b.looks + 1; last = Some (k, found); seen = cond (nat_lt found 2) b.seen (b.seen ++ k ∷ []) }
-
--- the run of desk k was collected
-abbrev pub book_took : ℕ → Book → Book
-book_took k b = record b { taken = b.taken ++ k ∷ [] }
 
 -- the whole share has swept all of m desks, with none in hand: no desk can be claimed or put back any more
 abbrev pub IsWhole : ℕ → Hand → Type 0
@@ -133,11 +129,3 @@ module _ {J W : Type 0} where
   -- a seat of the board that was made of `about`
   abbrev pub IsOf : {R : Type 0} → TableId → About J W → Seat (Slot J R) (View J W) → Type 0
   IsOf id about seat = (seat.table_id ≡ id) × (seat.me.0.about ≡ Some about)
-
-  -- it is the job of desk k, and fits
-  abbrev pub IsJobAt : (W → J → Type 0) → About J W → ℕ → J → Type 0
-  IsJobAt fits about k job = (slice_get about.jobs k ≡ Some job) × fits about.with job
-
-  -- it is a run of the job of desk k
-  abbrev pub IsRunAt : {R : Type 0} → (W → J → R → Type 0) → About J W → ℕ → R → Type 0
-  IsRunAt is_run about k run = (job : J) × (slice_get about.jobs k ≡ Some job) × is_run about.with job run

@@ -1,12 +1,12 @@
 // What passes do: they claim desks, put runs back, split and join.
 ghost use Rattle.std.specs.Prelude.{◌≡◌, ◌<◌, ◌≤◌, [], length, Contains, MatchOption, IfSome};
 ghost use Rattle.gp_steal.specs.Held.{about, hand, IsPassOf, IsDeskOf};
-ghost use Rattle.desk_board.specs.Told.{NoneTwice};
-ghost use Rattle.gp_steal.specs.Told.{HasFailed, IsJobAt, IsRunAt, hand_claimed, hand_finished, hand_both, hand_kept, hand_given, swept_after};
+ghost use Rattle.desk_board.specs.Told.{NoneTwice, IsJobAt, IsRunAt};
+ghost use Rattle.gp_steal.specs.Told.{HasFailed, hand_claimed, hand_finished, hand_both, hand_kept, hand_given, swept_after};
 
 use crate::plays::{Claim, Cut, Finish, Leave, Merge, Return};
 use crate::types::{StealBoard, StealDesk, StealPass};
-use crate::view::Slot;
+use desk_board::Slot;
 use gp_base::Job;
 use std::mem;
 

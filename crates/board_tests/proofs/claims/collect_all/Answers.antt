@@ -1,6 +1,7 @@
 use Rattle.std.proofs.Common.{rules, ◌≡◌, ℕ, ◌+◌, ◌<◌, All, List, ◌∷◌, ◌++◌, [], length, slice_get, sym, ap, ◌∙◌, subst}
 use Rattle.gp_steal.specs.Held.{about}
-use Rattle.gp_steal.specs.Told.{IsWhole, IsRunAt}
+use Rattle.desk_board.specs.Told.{IsRunAt}
+use Rattle.gp_steal.specs.Told.{IsWhole}
 use Rattle.desk_board.proofs.Collecting.{taken_more, runs_more}
 use Rattle.board_tests.proofs.claims.collect_all.Goals as goal
 

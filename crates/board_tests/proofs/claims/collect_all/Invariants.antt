@@ -1,6 +1,7 @@
 use Rattle.std.proofs.Common.{◌≡◌, ℕ, ◌<◌, ◌≤◌, All, Some, slice_get, length, vec_len, vec_capacity}
 use Rattle.gp_steal.specs.Held.{about, book, gathered, IsClerkOf}
-use Rattle.gp_steal.specs.Told.{IsWhole, IsRunAt}
+use Rattle.desk_board.specs.Told.{IsRunAt}
+use Rattle.gp_steal.specs.Told.{IsWhole}
 use Rattle.board_tests.proofs.claims.collect_all.Given as goal
 
 abbrev pub invariant-loop-desk : goal.invariant-loop-desk

@@ -1,6 +1,6 @@
 use Rattle.std.proofs.Common.{rules, arith, ◌≡◌, ◌≤◌, [], ◌∷◌, length, Some, sym, refl, ap, ◌∙◌, subst}
 use Rattle.atomic_table.specs.Table.{rest}
-use Rattle.gp_steal.specs.declared.view.Slot.TheVariants.{Empty, Todo}
+use Rattle.desk_board.specs.declared.view.Slot.TheVariants.{Empty, Todo}
 use Rattle.gp_steal.specs.Held.{about}
 use Rattle.desk_board.specs.Told.{NoneTwice}
 use Rattle.gp_steal.specs.Told.{swept_after}

@@ -1,5 +1,5 @@
 use Rattle.std.proofs.Common.{rules, ◌≡◌, ◌<◌, length, All, sym, refl, ap, ◌∙◌, subst}
-use Rattle.gp_steal.specs.declared.view.Slot.TheVariants.{Done}
+use Rattle.desk_board.specs.declared.view.Slot.TheVariants.{Done}
 use Rattle.gp_steal.specs.Held.{about}
 use Rattle.gp_steal.proofs.Steps.{collects}
 use Rattle.desk_board.proofs.DeskLists.{times_from_Contains, times_none, below_from, front, front_is}
