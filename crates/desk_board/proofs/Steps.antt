@@ -2,7 +2,7 @@
 -- other desk stands as before, since no list of the views has it more or less often (Alike); what a view says of the
 -- words stays true, since the counter does not fall and a desk that is done stays so. Of the desk that is touched the
 -- rule is shown anew.
-use Rattle.std.proofs.Common.{◌≡◌, ◌≢◌, ℕ, ◌+◌, ◌%◌, ◌^◌, ◌<◌, ◌≤◌, eqb, Bool, true, false, cond, List, [], ◌∷◌, ◌++◌, length, get_or, set, sym, refl, ap, ◌∙◌, subst, ⊎_elim, arith, eq-eqb, length-set, get_or-set_other, get_or-set_same, lt_of_not-le, true≢false}
+use Rattle.std.proofs.Common.{◌≡◌, ◌≢◌, ℕ, ◌+◌, ◌%◌, ◌^◌, ◌<◌, ◌≤◌, eqb, Bool, true, false, cond, List, [], ◌∷◌, ◌++◌, length, get_or, set, sym, refl, ap, ◌∙◌, subst, arith, eq-eqb, length-set, get_or-set_other, get_or-set_same, lt_of_not-le, true≢false}
 use Rattle.std.specs.Prelude.{sum_by, All, slice_get, Option, Some, None, IfSome}
 use Rattle.std.proofs.lemmas.Option.{slice_get_within, get_or_from_slice_get}
 use mathlib.Core.Option.{some, none, some-injective, some-ne-none}
@@ -12,7 +12,7 @@ use native.Mathlib.Decide.{ℕ_discrete, dec_le}
 use lib.ListN.{get_elem?}
 use lib.Seq.{set-get_or}
 use Rattle.atomic_table.specs.Table.{State, Me, step, keeps, takes, gives, stepped, Allows}
-use Rattle.atomic_table.proofs.Lists.{at_set, set_here, set_else}
+use Rattle.atomic_table.proofs.Lists.{set_here, set_else}
 use Rattle.desk_board.specs.declared.view.About.{About}
 use Rattle.desk_board.specs.declared.view.Book.{Book}
 use Rattle.desk_board.specs.declared.view.View.{View}
@@ -21,9 +21,9 @@ use Rattle.desk_board.specs.declared.view.Slot.{Slot}
 use Rattle.desk_board.specs.declared.view.Slot.TheVariants.{Todo, Done}
 use Rattle.desk_board.specs.Rule.{times, live, drawn, done, collected, about_of, drawns, ViewOk, DeskOk, Kept}
 use Rattle.desk_board.specs.Told.{without, hand_drew, hand_ended, hand_finished, book_looked, book_took, DrewFrom, drew, finished, looked, TookFrom, took, IsRunAt, NoneTwice}
-use Rattle.desk_board.proofs.Tallies.{tally_set, tally_part, tally_alone, tally_le, times_append, times_more, times_else, without_same, without_else, without_le, all_from_times}
+use Rattle.desk_board.proofs.Tallies.{tally_set, tally_same, tally_one_more, tally_part, tally_alone, tally_le, times_append, times_more, times_else, without_same, without_else, without_le, all_from_times}
 use Rattle.desk_board.proofs.Hands.{ended_stays, live_none, live_share}
-use Rattle.desk_board.proofs.Places.{got, found_set}
+use Rattle.desk_board.proofs.Places.{got, found_set, each_set}
 use Rattle.desk_board.proofs.Stages.{stage_stays, is_waiting, is_drawn, is_done, past_done, word_low, drawn_at_most, drawn_past, is_below}
 
 module _ {J W R : Type 0} (fits : W → J → Type 0) (is_run : W → J → R → Type 0) (plan : Plan J W) where
@@ -44,13 +44,6 @@ module _ {J W R : Type 0} (fits : W → J → Type 0) (is_run : W → J → R �
 
   abbrev Rule : St → Type 0
   Rule = Kept fits is_run plan
-
-  same_tally : (f : V → ℕ) (vs : List V) (id : ℕ) (v w : V) → get_elem? vs id ≡ some v → f w ≡ f v → sum_by f (set vs id w) ≡ sum_by f vs
-  same_tally f vs id v w at e = omega (arith, tally_set f vs id v w at, e)
-
-  more_tally : (f : V → ℕ) (vs : List V) (id : ℕ) (v w : V) → get_elem? vs id ≡ some v → f w ≡ f v + 1
-      → sum_by f (set vs id w) ≡ sum_by f vs + 1
-  more_tally f vs id v w at e = omega (arith, tally_set f vs id v w at, e)
 
   -- each list has desk j as often as before
   abbrev Alike : ℕ → V → V → Type 0
@@ -74,8 +67,8 @@ module _ {J W R : Type 0} (fits : W → J → Type 0) (is_run : W → J → R �
         was.0,
         stage_stays is_run plan.with.value j job _ _ _ _ _ _ _ _ _ _ _ _ up
             (down j ne (slice_get_within jobs j job has)) (ws j ne) (hs j ne)
-            (same_tally (λ x. times j x.hand.drawn) s.views id v w at a.0) (same_tally (λ x. times j x.hand.held) s.views id v w at a.1)
-            (same_tally (λ x. times j x.book.taken) s.views id v w at a.2) was.0 was.1,
+            (tally_same (λ x. times j x.hand.drawn) s.views id v w at a.0) (tally_same (λ x. times j x.hand.held) s.views id v w at a.1)
+            (tally_same (λ x. times j x.book.taken) s.views id v w at a.2) was.0 was.1,
       ))
 
   view_stays : (words words' : List ℕ) (v : V) → get_or words 0 0 ≤ get_or words' 0 0
@@ -90,12 +83,11 @@ module _ {J W R : Type 0} (fits : W → J → Type 0) (is_run : W → J → R �
     seen = λ k h. more k (ok.seen k h);
   }
 
-  pub views_after : (s : St) (r : Rule s) (words' : List ℕ) (id : ℕ) (w : V) → get_or s.words 0 0 ≤ get_or words' 0 0
+  views_after : (s : St) (r : Rule s) (words' : List ℕ) (id : ℕ) (w : V) → get_or s.words 0 0 ≤ get_or words' 0 0
       → ((k : ℕ) → 1 ≤ get_or s.words (k + 1) 0 → 1 ≤ get_or words' (k + 1) 0) → ViewOk (about_of plan) words' w
       → (j : ℕ) (x : V) → get_elem? (set s.views id w) j ≡ some x → ViewOk (about_of plan) words' x
-  views_after s r words' id w up more mine j x e = ⊎_elim (λ (t : (j ≡ id) × (w ≡ x)). subst (ViewOk (about_of plan) words') t.1 mine)
-      (λ (t : (j ≢ id) × (get_elem? s.views j ≡ some x)). view_stays s.words words' x up more (r.each_view j x t.1))
-      (at_set s.views id j w x e)
+  views_after s r words' id w up more mine =
+      each_set (ViewOk (about_of plan) words') s.views id w mine (λ j x e. view_stays s.words words' x up more (r.each_view j x e))
 
   -- the desks that a seat has drawn lie below the counter
   below_counter : (s : St) (r : Rule s) (id : ℕ) (v : V) → get_elem? s.views id ≡ some v → All (λ d. d < get_or s.words 0 0) v.hand.drawn
@@ -142,20 +134,20 @@ module _ {J W R : Type 0} (fits : W → J → Type 0) (is_run : W → J → R �
       λ j. get_or-set_other s.words 0 (j + 1) (n + 1) 0 (λ e. omega arith) in
       let is_live = live_none v.hand fresh in let lives : live w.hand ≡ live v.hand = refl in
       let parts : live v.hand ≤ sum_by (λ x. live x.hand) s.views = tally_part (λ x. live x.hand) s.views id v at in
-      let all_lives = same_tally (λ x. live x.hand) s.views id v w at lives in let low = r.low in (
+      let all_lives = tally_same (λ x. live x.hand) s.views id v w at lives in let low = r.low in (
         st.2,
         record {
           all_fit = r.all_fit;
           few = r.few;
           wide = length-set s.words 0 (n + 1) ∙ wide;
           deep = length-set s.homes n none ∙ deep;
-          shares = same_tally (λ x. x.hand.share) s.views id v w at refl ∙ r.shares;
-          clerks = same_tally (λ x. x.book.clerk) s.views id v w at refl ∙ r.clerks;
+          shares = tally_same (λ x. x.hand.share) s.views id v w at refl ∙ r.shares;
+          clerks = tally_same (λ x. x.book.clerk) s.views id v w at refl ∙ r.clerks;
           low =
               (let most = tally_le (λ (x : V). live x.hand) (λ x. x.hand.share) s.views (λ x. live_share x.hand) in let all = r.shares in
               omega (arith, counter, all_lives, most, all));
           beyond =
-              λ j l. same_tally (λ x. times j x.hand.drawn) s.views id v w at (times_else j n v.hand.drawn (λ e. omega arith))
+              λ j l. tally_same (λ x. times j x.hand.drawn) s.views id v w at (times_else j n v.hand.drawn (λ e. omega arith))
               ∙ r.beyond j l;
           each_desk =
               desks_after s r words' homes' id v w n at (omega arith) (λ j ne l a. omega arith) (λ j ne. words_same j)
@@ -168,11 +160,11 @@ module _ {J W R : Type 0} (fits : W → J → Type 0) (is_run : W → J → R �
                   words_same n
                       ∙ st.1,
                   set_here s.homes n none (omega arith),
-                  more_tally (λ x. times n x.hand.drawn) s.views id v w at (times_more n v.hand.drawn)
+                  tally_one_more (λ x. times n x.hand.drawn) s.views id v w at (times_more n v.hand.drawn)
                       ∙ ap (λ (z : ℕ). z + 1) st.3,
-                  more_tally (λ x. times n x.hand.held) s.views id v w at (times_more n v.hand.held)
+                  tally_one_more (λ x. times n x.hand.held) s.views id v w at (times_more n v.hand.held)
                       ∙ ap (λ (z : ℕ). z + 1) st.4,
-                  same_tally (λ x. times n x.book.taken) s.views id v w at refl ∙ st.5,
+                  tally_same (λ x. times n x.book.taken) s.views id v w at refl ∙ st.5,
                 ),
               ));
           each_view = views_after s r words' id w (omega arith) (λ k h. omega (arith, words_same k, h)) record {
@@ -204,10 +196,10 @@ module _ {J W R : Type 0} (fits : W → J → Type 0) (is_run : W → J → R �
         few = r.few;
         wide = length-set s.words 0 (n + 1) ∙ wide;
         deep = r.deep;
-        shares = same_tally (λ x. x.hand.share) s.views id v w at refl ∙ r.shares;
-        clerks = same_tally (λ x. x.book.clerk) s.views id v w at refl ∙ r.clerks;
+        shares = tally_same (λ x. x.hand.share) s.views id v w at refl ∙ r.shares;
+        clerks = tally_same (λ x. x.book.clerk) s.views id v w at refl ∙ r.clerks;
         low = omega (arith, counter, is_live, lives, low, part);
-        beyond = λ j l. same_tally (λ x. times j x.hand.drawn) s.views id v w at refl ∙ r.beyond j l;
+        beyond = λ j l. tally_same (λ x. times j x.hand.drawn) s.views id v w at refl ∙ r.beyond j l;
         each_desk =
             desks_after s r words' s.homes id v w (length jobs) at (omega arith) (λ j ne l a. absurd (omega arith)) (λ j ne. words_same j)
             (λ j ne. refl) (λ j ne. (refl, refl, refl))
@@ -279,7 +271,7 @@ module _ {J W R : Type 0} (fits : W → J → Type 0) (is_run : W → J → R �
       λ j h. dite (ℕ_discrete j k) (λ e. subst (λ (z : ℕ). 1 ≤ get_or words' (z + 1) 0) (sym e) (omega (arith, here)))
       (λ ne. omega (arith, else_same j ne, h)) in
       let low = r.low in
-      let lives = same_tally (λ x. live x.hand) s.views id v w at refl in
+      let lives = tally_same (λ x. live x.hand) s.views id v w at refl in
       let moved = tally_set (λ (x : V). times k x.hand.held) s.views id v w at in
       let gone : times k w.hand.held ≡ 0 = without_same k v.hand.held in let once = st.4 in let under = st.0 in (
         w,
@@ -290,10 +282,10 @@ module _ {J W R : Type 0} (fits : W → J → Type 0) (is_run : W → J → R �
           few = r.few;
           wide = length-set s.words (k + 1) 1 ∙ wide;
           deep = length-set s.homes k (some (Done run)) ∙ deep;
-          shares = same_tally (λ x. x.hand.share) s.views id v w at refl ∙ r.shares;
-          clerks = same_tally (λ x. x.book.clerk) s.views id v w at refl ∙ r.clerks;
+          shares = tally_same (λ x. x.hand.share) s.views id v w at refl ∙ r.shares;
+          clerks = tally_same (λ x. x.book.clerk) s.views id v w at refl ∙ r.clerks;
           low = omega (arith, counter, low, lives);
-          beyond = λ j l. same_tally (λ x. times j x.hand.drawn) s.views id v w at refl ∙ r.beyond j l;
+          beyond = λ j l. tally_same (λ x. times j x.hand.drawn) s.views id v w at refl ∙ r.beyond j l;
           each_desk =
               desks_after s r words' homes' id v w k at (omega (arith, counter)) (λ j ne l a. omega (arith, counter, a)) else_same
               (λ j ne. set_else s.homes k j (some (Done run)) ne)
@@ -304,9 +296,9 @@ module _ {J W R : Type 0} (fits : W → J → Type 0) (is_run : W → J → R �
                   omega (arith, counter, under),
                   here,
                   (run, set_here s.homes k (some (Done run)) (omega arith), subst (λ (z : J). is_run plan.with.value z run) same known.1),
-                  same_tally (λ x. times k x.hand.drawn) s.views id v w at refl ∙ st.3,
+                  tally_same (λ x. times k x.hand.drawn) s.views id v w at refl ∙ st.3,
                   omega (arith, moved, gone, once, helds, mine),
-                  same_tally (λ x. times k x.book.taken) s.views id v w at refl ∙ st.5,
+                  tally_same (λ x. times k x.book.taken) s.views id v w at refl ∙ st.5,
                 ),
               ));
           each_view = views_after s r words' id w (omega (arith, counter)) rises record {
@@ -339,10 +331,10 @@ module _ {J W R : Type 0} (fits : W → J → Type 0) (is_run : W → J → R �
         few = r.few;
         wide = r.wide;
         deep = r.deep;
-        shares = same_tally (λ x. x.hand.share) s.views id v w at refl ∙ r.shares;
-        clerks = same_tally (λ x. x.book.clerk) s.views id v w at clerk ∙ r.clerks;
-        low = (let low = r.low in let lives = same_tally (λ x. live x.hand) s.views id v w at refl in omega (arith, low, lives));
-        beyond = λ j l. same_tally (λ x. times j x.hand.drawn) s.views id v w at refl ∙ r.beyond j l;
+        shares = tally_same (λ x. x.hand.share) s.views id v w at refl ∙ r.shares;
+        clerks = tally_same (λ x. x.book.clerk) s.views id v w at clerk ∙ r.clerks;
+        low = (let low = r.low in let lives = tally_same (λ x. live x.hand) s.views id v w at refl in omega (arith, low, lives));
+        beyond = λ j l. tally_same (λ x. times j x.hand.drawn) s.views id v w at refl ∙ r.beyond j l;
         each_desk =
             desks_after s r s.words s.homes id v w (length jobs) at (omega arith) (λ j ne l a. a) (λ j ne. refl) (λ j ne. refl)
             (λ j ne. (refl, refl, ap (times j) taken))
@@ -421,7 +413,7 @@ module _ {J W R : Type 0} (fits : W → J → Type 0) (is_run : W → J → R �
       let rises : (j : ℕ) → 1 ≤ get_or s.words (j + 1) 0 → 1 ≤ get_or words' (j + 1) 0 =
       λ j h. dite (ℕ_discrete j k) (λ e. subst (λ (z : ℕ). 1 ≤ get_or words' (z + 1) 0) (sym e) (omega (arith, here)))
       (λ ne. omega (arith, else_same j ne, h)) in
-      let low = r.low in let lives = same_tally (λ x. live x.hand) s.views id v w at refl in let under = st.0 in (
+      let low = r.low in let lives = tally_same (λ x. live x.hand) s.views id v w at refl in let under = st.0 in (
         w,
         takes k (Done run),
         st.2.1,
@@ -430,10 +422,10 @@ module _ {J W R : Type 0} (fits : W → J → Type 0) (is_run : W → J → R �
           few = r.few;
           wide = length-set s.words (k + 1) 2 ∙ wide;
           deep = length-set s.homes k none ∙ deep;
-          shares = same_tally (λ x. x.hand.share) s.views id v w at refl ∙ r.shares;
-          clerks = same_tally (λ x. x.book.clerk) s.views id v w at refl ∙ r.clerks;
+          shares = tally_same (λ x. x.hand.share) s.views id v w at refl ∙ r.shares;
+          clerks = tally_same (λ x. x.book.clerk) s.views id v w at refl ∙ r.clerks;
           low = omega (arith, counter, low, lives);
-          beyond = λ j l. same_tally (λ x. times j x.hand.drawn) s.views id v w at refl ∙ r.beyond j l;
+          beyond = λ j l. tally_same (λ x. times j x.hand.drawn) s.views id v w at refl ∙ r.beyond j l;
           each_desk =
               desks_after s r words' homes' id v w k at (omega (arith, counter)) (λ j ne l a. omega (arith, counter, a)) else_same
               (λ j ne. set_else s.homes k j none ne)
@@ -444,9 +436,9 @@ module _ {J W R : Type 0} (fits : W → J → Type 0) (is_run : W → J → R �
                   omega (arith, counter, under),
                   here,
                   set_here s.homes k none (omega arith),
-                  same_tally (λ x. times k x.hand.drawn) s.views id v w at refl ∙ st.3,
-                  same_tally (λ x. times k x.hand.held) s.views id v w at refl ∙ st.4,
-                  more_tally (λ x. times k x.book.taken) s.views id v w at (times_more k v.book.taken) ∙ ap (λ (z : ℕ). z + 1) st.5,
+                  tally_same (λ x. times k x.hand.drawn) s.views id v w at refl ∙ st.3,
+                  tally_same (λ x. times k x.hand.held) s.views id v w at refl ∙ st.4,
+                  tally_one_more (λ x. times k x.book.taken) s.views id v w at (times_more k v.book.taken) ∙ ap (λ (z : ℕ). z + 1) st.5,
                 ),
               ));
           each_view = views_after s r words' id w (omega (arith, counter)) rises record {

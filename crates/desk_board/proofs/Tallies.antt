@@ -17,6 +17,14 @@ module _ {A : Type 0} where
   tally_set f (a ∷ zs) zero x y e = let is = ap f (some-injective a x e) in omega (arith, is, sum_by-cons f y zs, sum_by-cons f a zs)
   tally_set f (a ∷ zs) (suc i) x y e = omega (arith, tally_set f zs i x y e, sum_by-cons f a (set zs i y), sum_by-cons f a zs)
 
+  -- where it counts as much as before, or 1 more
+  pub tally_same : (f : A → ℕ) (xs : List A) (i : ℕ) (x y : A) → get_elem? xs i ≡ some x → f y ≡ f x → sum_by f (set xs i y) ≡ sum_by f xs
+  tally_same f xs i x y at e = omega (arith, tally_set f xs i x y at, e)
+
+  pub tally_one_more : (f : A → ℕ) (xs : List A) (i : ℕ) (x y : A) → get_elem? xs i ≡ some x → f y ≡ f x + 1
+      → sum_by f (set xs i y) ≡ sum_by f xs + 1
+  tally_one_more f xs i x y at e = omega (arith, tally_set f xs i x y at, e)
+
   pub tally_part : (f : A → ℕ) (xs : List A) (i : ℕ) (x : A) → get_elem? xs i ≡ some x → f x ≤ sum_by f xs
   tally_part f [] i x e = absurd (some-ne-none x (sym e))
   tally_part f (a ∷ zs) zero x e = let is = ap f (some-injective a x e) in omega (arith, is, sum_by-cons f a zs)
@@ -47,6 +55,26 @@ module _ {A : Type 0} where
 
   pub tally_more : (f : A → ℕ) (xs : List A) (y : A) → sum_by f (xs ++ y ∷ []) ≡ sum_by f xs + f y
   tally_more f xs y = omega (arith, sum_by-append f xs (y ∷ []), sum_by-cons f y [])
+
+  -- one value is split in two
+  pub tally_split : (f : A → ℕ) (xs : List A) (i : ℕ) (x left right : A) → get_elem? xs i ≡ some x
+      → sum_by f (set xs i left ++ right ∷ []) + f x ≡ sum_by f xs + (f left + f right)
+  tally_split f xs i x left right at = omega (arith, tally_more f (set xs i left) right, tally_set f xs i x left at)
+
+  -- two values are joined into one of them
+  pub tally_join : (f : A → ℕ) (xs : List A) (i : ℕ) (x : A) (j : ℕ) (y both spent : A) → get_elem? xs i ≡ some x
+      → get_elem? (set xs i both) j ≡ some y
+      → sum_by f (set (set xs i both) j spent) + (f x + f y) ≡ sum_by f xs + (f both + f spent)
+  tally_join f xs i x j y both spent at there = omega (arith, tally_set f (set xs i both) j y spent there, tally_set f xs i x both at)
+
+  -- what is split or joined without gain or loss: `none` counts nothing
+  pub split_same : (f : A → ℕ) (xs : List A) (i : ℕ) (x none left right : A) → get_elem? xs i ≡ some x → f none ≡ 0
+      → f left + f right ≡ f x + f none → sum_by f (set xs i left ++ right ∷ []) ≡ sum_by f xs
+  split_same f xs i x none left right at nothing e = omega (arith, nothing, e, tally_split f xs i x left right at)
+
+  pub join_same : (f : A → ℕ) (xs : List A) (i : ℕ) (x : A) (j : ℕ) (y both spent : A) → get_elem? xs i ≡ some x
+      → get_elem? (set xs i both) j ≡ some y → f both + f spent ≡ f x + f y → sum_by f (set (set xs i both) j spent) ≡ sum_by f xs
+  join_same f xs i x j y both spent at there e = omega (arith, e, tally_join f xs i x j y both spent at there)
 
 abbrev pub mark : ℕ → ℕ → ℕ
 mark k d = cond (eqb d k) 1 0

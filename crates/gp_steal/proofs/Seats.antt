@@ -2,14 +2,13 @@
 -- cut or a joining leaves as it is, since the views have together after it what they had before (Adds). So for each way
 -- of cutting and joining it is enough that the new views are sound by themselves.
 use Rattle.std.proofs.Common.{◌≡◌, ◌≢◌, ℕ, zero, suc, ◌⊎◌, inl, inr, max, ◌+◌, ◌<◌, ◌≤◌, List, [], ◌∷◌, ◌++◌, map, length, replicate, get_or, set, sym, refl, ap, ap₂, ◌∙◌, subst, ⊎_elim, arith}
-use Rattle.std.specs.Prelude.{sum_by, All, slice_get, Option, Some, None}
+use Rattle.std.specs.Prelude.{sum_by, All}
 use Rattle.std.proofs.lemmas.Option.{slice_get_within}
 use Rattle.std.proofs.lemmas.Bool.{cases_lt}
-use mathlib.Core.Option.{some, none, some-injective, some-ne-none}
-use mathlib.Core.Option as maybe
+use mathlib.Core.Option.{some, some-injective, some-ne-none}
 use lib.ListN.{get_elem?, length-map, length-replicate, get_or-replicate}
-use Rattle.atomic_table.specs.Table.{State, Me, Splits, Joins, opening}
-use Rattle.atomic_table.proofs.Lists.{at_set, set_else, at_snoc}
+use Rattle.atomic_table.specs.Table.{State, Splits, Joins, opening}
+use Rattle.atomic_table.proofs.Lists.{at_set, set_else}
 use Rattle.desk_board.specs.declared.view.Book.{Book}
 use Rattle.gp_steal.specs.declared.view.View.{View}
 use Rattle.desk_board.specs.declared.view.Plan.{Plan}
@@ -18,10 +17,10 @@ use Rattle.desk_board.specs.declared.view.Slot.TheVariants.{Todo}
 use Rattle.desk_board.specs.Rule.{times, about_of, no_book}
 use Rattle.gp_steal.specs.Rule.{waiting, blank, first_view, ViewOk, Kept}
 use Rattle.gp_steal.specs.Told.{cut_left, cut_right, pass_part, clerk_part, passes_both, gathered_both}
-use Rattle.desk_board.proofs.Tallies.{tally_set, tally_part, tally_more, times_append}
-use Rattle.desk_board.proofs.Places.{found_set}
+use Rattle.desk_board.proofs.Tallies.{tally_part, tally_join, split_same, join_same, times_append}
+use Rattle.desk_board.proofs.Places.{found_set, each_set, each_snoc}
+use Rattle.desk_board.proofs.LaidOut.{laid_at}
 use Rattle.gp_steal.proofs.Stages.{stage_stays}
-use Rattle.gp_steal.proofs.Steps.{views_after}
 
 module _ {J W R : Type 0} (fits : W → J → Type 0) (is_run : W → J → R → Type 0) (plan : Plan J W) where
   abbrev V : Type 0
@@ -29,12 +28,6 @@ module _ {J W R : Type 0} (fits : W → J → Type 0) (is_run : W → J → R �
 
   abbrev St : Type 0
   St = State (Slot J R) (View J W)
-
-  abbrev Known : Type 0
-  Known = Me (Slot J R) (View J W)
-
-  abbrev Homes : Type 0
-  Homes = List (maybe.Option (Slot J R))
 
   abbrev jobs : List J
   jobs = plan.jobs.value.items
@@ -73,28 +66,18 @@ module _ {J W R : Type 0} (fits : W → J → Type 0) (is_run : W → J → R �
     each_view = oks;
   }
 
-  split_tally : (f : V → ℕ) (vs : List V) (id : ℕ) (v left right : V) → get_elem? vs id ≡ some v
-      → sum_by f (set vs id left ++ right ∷ []) + f v ≡ sum_by f vs + (f left + f right)
-  split_tally f vs id v left right at = omega (arith, tally_more f (set vs id left) right, tally_set f vs id v left at)
-
-  join_tally : (f : V → ℕ) (vs : List V) (id : ℕ) (v : V) (other : ℕ) (u both spent : V) → get_elem? vs id ≡ some v
-      → get_elem? (set vs id both) other ≡ some u
-      → sum_by f (set (set vs id both) other spent) + (f v + f u) ≡ sum_by f vs + (f both + f spent)
-  join_tally f vs id v other u both spent at there =
-      omega (arith, tally_set f (set vs id both) other u spent there, tally_set f vs id v both at)
-
   pub forks : (id : ℕ) (v left right : V) → Adds v blank left right
       → ((words : List ℕ) → ViewOk (about_of plan) words v → ViewOk (about_of plan) words left × ViewOk (about_of plan) words right)
       → Splits Rule id v left right
   forks id v left right adds ok s r at = let oks = ok s.words (r.each_view id v at) in
       revised s r (set s.views id left ++ right ∷ [])
-      (let e = adds.share in omega (arith, e, split_tally (λ x. x.hand.share) s.views id v left right at))
-      (let e = adds.clerk in omega (arith, e, split_tally (λ x. x.book.clerk) s.views id v left right at))
-      (λ k. let e = adds.claims k in omega (arith, e, split_tally (λ x. times k x.hand.claimed) s.views id v left right at))
-      (λ k. let e = adds.helds k in omega (arith, e, split_tally (λ x. times k x.hand.held) s.views id v left right at))
-      (λ k. let e = adds.takens k in omega (arith, e, split_tally (λ x. times k x.book.taken) s.views id v left right at))
-      (λ j x e. ⊎_elim (views_after fits is_run plan s r s.words id left (λ k. omega arith) oks.0 j x)
-      (λ (t : right ≡ x). subst (ViewOk (about_of plan) s.words) t oks.1) (at_snoc (set s.views id left) right x j e))
+      (split_same (λ x. x.hand.share) s.views id v blank left right at refl adds.share)
+      (split_same (λ x. x.book.clerk) s.views id v blank left right at refl adds.clerk)
+      (λ k. split_same (λ x. times k x.hand.claimed) s.views id v blank left right at refl (adds.claims k))
+      (λ k. split_same (λ x. times k x.hand.held) s.views id v blank left right at refl (adds.helds k))
+      (λ k. split_same (λ x. times k x.book.taken) s.views id v blank left right at refl (adds.takens k))
+      (each_snoc (ViewOk (about_of plan) s.words) (set s.views id left) right oks.1
+      (each_set (ViewOk (about_of plan) s.words) s.views id left oks.0 r.each_view))
 
   pub merges : (id : ℕ) (v : V) (other : ℕ) (u both spent : V)
       → ((s : St) → Rule s → get_elem? s.views id ≡ some v → other ≢ id → get_elem? (set s.views id both) other ≡ some u
@@ -105,15 +88,13 @@ module _ {J W R : Type 0} (fits : W → J → Type 0) (is_run : W → J → R �
       let was : get_elem? s.views other ≡ some u = ⊎_elim (λ t. absurd (apart t.0)) (λ t. t.1) (at_set s.views id other both u there) in
       let oks = ok s r at was in let adds = added s r at apart there in
       revised s r (set (set s.views id both) other spent)
-      (let e = adds.share in omega (arith, e, join_tally (λ x. x.hand.share) s.views id v other u both spent at there))
-      (let e = adds.clerk in omega (arith, e, join_tally (λ x. x.book.clerk) s.views id v other u both spent at there))
-      (λ k. let e = adds.claims k in omega (arith, e, join_tally (λ x. times k x.hand.claimed) s.views id v other u both spent at there))
-      (λ k. let e = adds.helds k in omega (arith, e, join_tally (λ x. times k x.hand.held) s.views id v other u both spent at there))
-      (λ k. let e = adds.takens k in omega (arith, e, join_tally (λ x. times k x.book.taken) s.views id v other u both spent at there))
-      (λ j x e. ⊎_elim (λ (t : (j ≡ other) × (spent ≡ x)). subst (ViewOk (about_of plan) s.words) t.1 oks.1)
-      (λ (t : (j ≢ other) × (get_elem? (set s.views id both) j ≡ some x)).
-      views_after fits is_run plan s r s.words id both (λ k. omega arith) oks.0 j x t.1)
-      (at_set (set s.views id both) other j spent x e))
+      (join_same (λ x. x.hand.share) s.views id v other u both spent at there adds.share)
+      (join_same (λ x. x.book.clerk) s.views id v other u both spent at there adds.clerk)
+      (λ k. join_same (λ x. times k x.hand.claimed) s.views id v other u both spent at there (adds.claims k))
+      (λ k. join_same (λ x. times k x.hand.held) s.views id v other u both spent at there (adds.helds k))
+      (λ k. join_same (λ x. times k x.book.taken) s.views id v other u both spent at there (adds.takens k))
+      (each_set (ViewOk (about_of plan) s.words) (set s.views id both) other spent oks.1
+      (each_set (ViewOk (about_of plan) s.words) s.views id both oks.0 r.each_view))
 
   blank_ok : (words : List ℕ) → ViewOk (about_of plan) words (blank {J = J} {W = W})
   blank_ok words = record {
@@ -246,7 +227,7 @@ module _ {J W R : Type 0} (fits : W → J → Type 0) (is_run : W → J → R �
       (λ s r at apart there. let w : V = gathered_both v u in let vs : List V = set (set s.views id w) other blank in
       let mine : get_elem? vs id ≡ some w = set_else (set s.views id w) other id blank (λ e. apart (sym e)) ∙ found_set s.views id v w at in
       let p = tally_part (λ (x : V). x.hand.share) vs id w mine in
-      let t = join_tally (λ (x : V). x.hand.share) s.views id v other u w blank at there in
+      let t = tally_join (λ (x : V). x.hand.share) s.views id v other u w blank at there in
       let all = r.shares in
       let none : v.hand.share ≡ 0 = omega (arith, p, t, all, whole) in let idle = (r.each_view id v at).idle none in record {
         share = omega (arith, none);
@@ -269,14 +250,6 @@ module _ {J W R : Type 0} (fits : W → J → Type 0) (is_run : W → J → R �
         blank_ok s.words,
       ))
 
-  laid : (js : List J) (k : ℕ) (job : J) → slice_get js k ≡ Some job
-      → get_elem? (map some (map (λ (j : J). let x : Slot J R = Todo j in x) js)) k ≡ some (some (Todo job))
-  laid [] k job e = absurd (let h = slice_get_within [] k job e in omega arith)
-  laid (j ∷ js) zero job e =
-      ap (λ (o : Option J). let x : maybe.Option (maybe.Option (Slot J R)) =
-      elim o [ None ↦ some (some (Todo j)) | Some y ↦ some (some (Todo y)) ] in x) e
-  laid (j ∷ js) (suc k) job e = laid js k job e
-
   pub starts : (words : List ℕ) (slots : List (Slot J R)) → All (fits plan.with.value) jobs → length jobs ≤ 65536
       → words ≡ replicate (length jobs + 1) 0 → slots ≡ map Todo jobs → Rule (opening words slots (first_view plan))
   starts words slots all_fit few blank_words laid_out =
@@ -296,7 +269,7 @@ module _ {J W R : Type 0} (fits : W → J → Type 0) (is_run : W → J → R �
           (
             blank_word (k + 1) (omega arith),
             ap (λ (xs : List (Slot J R)). get_elem? (map some xs) k) laid_out
-                ∙ laid jobs k job has,
+                ∙ laid_at Todo jobs k job has,
             refl,
             refl,
             refl,

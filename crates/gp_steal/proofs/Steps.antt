@@ -1,7 +1,7 @@
 -- The steps on a word keep the rule: a try of a desk, putting back, a look, collecting. A step touches one view and at
 -- most one desk. Every other desk stands as before, since no list of the views has it more or less often (Alike); what
 -- a view says of the words stays true, since no desk's word falls. Of the desk that is touched the rule is shown anew.
-use Rattle.std.proofs.Common.{◌≡◌, ◌≢◌, ℕ, zero, suc, ◌+◌, ◌<◌, ◌≤◌, ◌==◌, nat_lt, Bool, true, false, cond, List, [], ◌∷◌, ◌++◌, length, get_or, set, sym, refl, ap, ◌∙◌, subst, ⊎_elim, arith, length-set, get_or-set_other, get_or-set_same, lt_of_not-le}
+use Rattle.std.proofs.Common.{◌≡◌, ◌≢◌, ℕ, zero, suc, ◌+◌, ◌<◌, ◌≤◌, ◌==◌, nat_lt, Bool, true, false, cond, List, [], ◌∷◌, ◌++◌, length, get_or, set, sym, refl, ap, ◌∙◌, subst, arith, length-set, get_or-set_other, get_or-set_same, lt_of_not-le}
 use Rattle.std.specs.Prelude.{sum_by, slice_get, Option, Some, IfSome}
 use Rattle.std.proofs.lemmas.Option.{slice_get_within, get_or_from_slice_get}
 use Rattle.std.proofs.lemmas.Bool.{ltb-false, ne_eqb}
@@ -13,7 +13,7 @@ use prog.Atomic.{either}
 use lib.ListN.{get_elem?}
 use lib.Seq.{set-get_or}
 use Rattle.atomic_table.specs.Table.{State, Me, step, keeps, takes, gives, stepped, Allows}
-use Rattle.atomic_table.proofs.Lists.{at_set, set_here, set_else}
+use Rattle.atomic_table.proofs.Lists.{set_here, set_else}
 use Rattle.desk_board.specs.declared.view.About.{About}
 use Rattle.gp_steal.specs.declared.view.View.{View}
 use Rattle.desk_board.specs.declared.view.Plan.{Plan}
@@ -23,9 +23,9 @@ use Rattle.desk_board.specs.Rule.{times, about_of}
 use Rattle.desk_board.specs.Told.{without, NoneTwice, book_took, IsRunAt}
 use Rattle.gp_steal.specs.Rule.{claimed, done, collected, claims, ViewOk, DeskOk, Kept}
 use Rattle.gp_steal.specs.Told.{hand_tried, hand_claimed, hand_finished, book_looked, TriedFrom, tried, finished, looked, TookFrom, took}
-use Rattle.desk_board.proofs.Tallies.{tally_set, tally_part, tally_alone, times_append, times_more, times_else, without_same, without_else, without_le}
+use Rattle.desk_board.proofs.Tallies.{tally_set, tally_same, tally_one_more, tally_part, tally_alone, times_append, times_more, times_else, without_same, without_else, without_le}
 use Rattle.gp_steal.proofs.Hands.{swept_within, swept_words, tried_stays}
-use Rattle.desk_board.proofs.Places.{got, found_set}
+use Rattle.desk_board.proofs.Places.{got, found_set, each_set}
 use Rattle.gp_steal.proofs.Stages.{stage_stays, is_waiting, is_claimed, is_done, past_done, word_low, claimed_at_most, claimed_past}
 
 module _ {J W R : Type 0} (fits : W → J → Type 0) (is_run : W → J → R → Type 0) (plan : Plan J W) where
@@ -47,13 +47,6 @@ module _ {J W R : Type 0} (fits : W → J → Type 0) (is_run : W → J → R �
   abbrev Rule : St → Type 0
   Rule = Kept fits is_run plan
 
-  same_tally : (f : V → ℕ) (vs : List V) (id : ℕ) (v w : V) → get_elem? vs id ≡ some v → f w ≡ f v → sum_by f (set vs id w) ≡ sum_by f vs
-  same_tally f vs id v w at e = omega (arith, tally_set f vs id v w at, e)
-
-  more_tally : (f : V → ℕ) (vs : List V) (id : ℕ) (v w : V) → get_elem? vs id ≡ some v → f w ≡ f v + 1
-      → sum_by f (set vs id w) ≡ sum_by f vs + 1
-  more_tally f vs id v w at e = omega (arith, tally_set f vs id v w at, e)
-
   -- each list has desk j as often as before
   abbrev Alike : ℕ → V → V → Type 0
   Alike j v w =
@@ -74,8 +67,8 @@ module _ {J W R : Type 0} (fits : W → J → Type 0) (is_run : W → J → R �
       (λ ne. let was = r.each_desk j job has in let a = alike j ne in (
         was.0,
         stage_stays is_run plan.with.value job _ _ _ _ _ _ _ _ _ _ (ws j ne) (hs j ne)
-            (same_tally (λ x. times j x.hand.claimed) s.views id v w at a.0) (same_tally (λ x. times j x.hand.held) s.views id v w at a.1)
-            (same_tally (λ x. times j x.book.taken) s.views id v w at a.2) was.0 was.1,
+            (tally_same (λ x. times j x.hand.claimed) s.views id v w at a.0) (tally_same (λ x. times j x.hand.held) s.views id v w at a.1)
+            (tally_same (λ x. times j x.book.taken) s.views id v w at a.2) was.0 was.1,
       ))
 
   -- no desk's word falls
@@ -94,10 +87,10 @@ module _ {J W R : Type 0} (fits : W → J → Type 0) (is_run : W → J → R �
     seen = λ k h. (let a = ok.seen k h in let b = up k in omega arith);
   }
 
-  pub views_after : (s : St) (r : Rule s) (words' : List ℕ) (id : ℕ) (w : V) → Up s.words words' → ViewOk (about_of plan) words' w
+  views_after : (s : St) (r : Rule s) (words' : List ℕ) (id : ℕ) (w : V) → Up s.words words' → ViewOk (about_of plan) words' w
       → (j : ℕ) (x : V) → get_elem? (set s.views id w) j ≡ some x → ViewOk (about_of plan) words' x
-  views_after s r words' id w up mine j x e = ⊎_elim (λ (t : (j ≡ id) × (w ≡ x)). subst (ViewOk (about_of plan) words') t.1 mine)
-      (λ (t : (j ≢ id) × (get_elem? s.views j ≡ some x)). view_stays s.words words' x up (r.each_view j x t.1)) (at_set s.views id j w x e)
+  views_after s r words' id w up mine =
+      each_set (ViewOk (about_of plan) words') s.views id w mine (λ j x e. view_stays s.words words' x up (r.each_view j x e))
 
   -- all views together have no desk twice as claimed
   pub claimed_by_all : (s : St) (r : Rule s) (k : ℕ) → claims s.views k ≤ 1
@@ -146,10 +139,10 @@ module _ {J W R : Type 0} (fits : W → J → Type 0) (is_run : W → J → R �
           wide = length-set s.words (k + 1) 1 ∙ wide;
           deep = length-set s.homes k none ∙ deep;
           still = get_or-set_other s.words (k + 1) 0 1 0 (λ e. omega arith) ∙ r.still;
-          shares = same_tally (λ x. x.hand.share) s.views id v w at refl ∙ r.shares;
-          clerks = same_tally (λ x. x.book.clerk) s.views id v w at refl ∙ r.clerks;
+          shares = tally_same (λ x. x.hand.share) s.views id v w at refl ∙ r.shares;
+          clerks = tally_same (λ x. x.book.clerk) s.views id v w at refl ∙ r.clerks;
           beyond =
-              λ j l. same_tally (λ x. times j x.hand.claimed) s.views id v w at (times_else j k v.hand.claimed (λ e. omega arith))
+              λ j l. tally_same (λ x. times j x.hand.claimed) s.views id v w at (times_else j k v.hand.claimed (λ e. omega arith))
               ∙ r.beyond j l;
           each_desk = desks_after s r words' homes' id v w k at else_same (λ j ne. set_else s.homes k j none ne)
               (λ j ne. (times_else j k v.hand.claimed ne, times_else j k v.hand.held ne, refl))
@@ -158,11 +151,11 @@ module _ {J W R : Type 0} (fits : W → J → Type 0) (is_run : W → J → R �
                 (
                   here,
                   set_here s.homes k none (omega arith),
-                  more_tally (λ x. times k x.hand.claimed) s.views id v w at (times_more k v.hand.claimed)
+                  tally_one_more (λ x. times k x.hand.claimed) s.views id v w at (times_more k v.hand.claimed)
                       ∙ ap (λ (z : ℕ). z + 1) st.2,
-                  more_tally (λ x. times k x.hand.held) s.views id v w at (times_more k v.hand.held)
+                  tally_one_more (λ x. times k x.hand.held) s.views id v w at (times_more k v.hand.held)
                       ∙ ap (λ (z : ℕ). z + 1) st.3,
-                  same_tally (λ x. times k x.book.taken) s.views id v w at refl ∙ st.4,
+                  tally_same (λ x. times k x.book.taken) s.views id v w at refl ∙ st.4,
                 ),
               ));
           each_view = views_after s r words' id w up record {
@@ -190,9 +183,9 @@ module _ {J W R : Type 0} (fits : W → J → Type 0) (is_run : W → J → R �
         wide = r.wide;
         deep = r.deep;
         still = r.still;
-        shares = same_tally (λ x. x.hand.share) s.views id v w at share ∙ r.shares;
-        clerks = same_tally (λ x. x.book.clerk) s.views id v w at clerk ∙ r.clerks;
-        beyond = λ j l. same_tally (λ x. times j x.hand.claimed) s.views id v w at (ap (times j) own) ∙ r.beyond j l;
+        shares = tally_same (λ x. x.hand.share) s.views id v w at share ∙ r.shares;
+        clerks = tally_same (λ x. x.book.clerk) s.views id v w at clerk ∙ r.clerks;
+        beyond = λ j l. tally_same (λ x. times j x.hand.claimed) s.views id v w at (ap (times j) own) ∙ r.beyond j l;
         each_desk =
             desks_after s r s.words s.homes id v w (length jobs) at (λ j ne. refl) (λ j ne. refl)
             (λ j ne. (ap (times j) own, ap (times j) held, ap (times j) taken))
@@ -295,9 +288,9 @@ module _ {J W R : Type 0} (fits : W → J → Type 0) (is_run : W → J → R �
           wide = length-set s.words (k + 1) 2 ∙ wide;
           deep = length-set s.homes k (some (Done run)) ∙ deep;
           still = get_or-set_other s.words (k + 1) 0 2 0 (λ e. omega arith) ∙ r.still;
-          shares = same_tally (λ x. x.hand.share) s.views id v w at refl ∙ r.shares;
-          clerks = same_tally (λ x. x.book.clerk) s.views id v w at refl ∙ r.clerks;
-          beyond = λ j l. same_tally (λ x. times j x.hand.claimed) s.views id v w at refl ∙ r.beyond j l;
+          shares = tally_same (λ x. x.hand.share) s.views id v w at refl ∙ r.shares;
+          clerks = tally_same (λ x. x.book.clerk) s.views id v w at refl ∙ r.clerks;
+          beyond = λ j l. tally_same (λ x. times j x.hand.claimed) s.views id v w at refl ∙ r.beyond j l;
           each_desk = desks_after s r words' homes' id v w k at else_same (λ j ne. set_else s.homes k j (some (Done run)) ne)
               (λ j ne. (refl, without_else j k v.hand.held ne, refl))
               (λ y e. let same : job ≡ y = cc in (
@@ -305,9 +298,9 @@ module _ {J W R : Type 0} (fits : W → J → Type 0) (is_run : W → J → R �
                 (
                   here,
                   (run, set_here s.homes k (some (Done run)) (omega arith), subst (λ (z : J). is_run plan.with.value z run) same known.1),
-                  same_tally (λ x. times k x.hand.claimed) s.views id v w at refl ∙ st.2,
+                  tally_same (λ x. times k x.hand.claimed) s.views id v w at refl ∙ st.2,
                   omega (arith, moved, gone, once, helds, mine),
-                  same_tally (λ x. times k x.book.taken) s.views id v w at refl ∙ st.4,
+                  tally_same (λ x. times k x.book.taken) s.views id v w at refl ∙ st.4,
                 ),
               ));
           each_view = views_after s r words' id w up record {
@@ -416,9 +409,9 @@ module _ {J W R : Type 0} (fits : W → J → Type 0) (is_run : W → J → R �
           wide = length-set s.words (k + 1) 3 ∙ wide;
           deep = length-set s.homes k none ∙ deep;
           still = get_or-set_other s.words (k + 1) 0 3 0 (λ e. omega arith) ∙ r.still;
-          shares = same_tally (λ x. x.hand.share) s.views id v w at refl ∙ r.shares;
-          clerks = same_tally (λ x. x.book.clerk) s.views id v w at refl ∙ r.clerks;
-          beyond = λ j l. same_tally (λ x. times j x.hand.claimed) s.views id v w at refl ∙ r.beyond j l;
+          shares = tally_same (λ x. x.hand.share) s.views id v w at refl ∙ r.shares;
+          clerks = tally_same (λ x. x.book.clerk) s.views id v w at refl ∙ r.clerks;
+          beyond = λ j l. tally_same (λ x. times j x.hand.claimed) s.views id v w at refl ∙ r.beyond j l;
           each_desk = desks_after s r words' homes' id v w k at else_same (λ j ne. set_else s.homes k j none ne)
               (λ j ne. (refl, refl, times_else j k v.book.taken ne))
               (λ y e. (
@@ -426,9 +419,9 @@ module _ {J W R : Type 0} (fits : W → J → Type 0) (is_run : W → J → R �
                 (
                   here,
                   set_here s.homes k none (omega arith),
-                  same_tally (λ x. times k x.hand.claimed) s.views id v w at refl ∙ st.2,
-                  same_tally (λ x. times k x.hand.held) s.views id v w at refl ∙ st.3,
-                  more_tally (λ x. times k x.book.taken) s.views id v w at (times_more k v.book.taken) ∙ ap (λ (z : ℕ). z + 1) st.4,
+                  tally_same (λ x. times k x.hand.claimed) s.views id v w at refl ∙ st.2,
+                  tally_same (λ x. times k x.hand.held) s.views id v w at refl ∙ st.3,
+                  tally_one_more (λ x. times k x.book.taken) s.views id v w at (times_more k v.book.taken) ∙ ap (λ (z : ℕ). z + 1) st.4,
                 ),
               ));
           each_view = views_after s r words' id w up record {

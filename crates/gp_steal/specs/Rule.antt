@@ -9,7 +9,6 @@ use Rattle.atomic_table.specs.Table.{State}
 use Rattle.desk_board.specs.Rule.{times, no_book, first_book, about_of}
 use Rattle.desk_board.specs.declared.view.About.{About}
 use Rattle.gp_steal.specs.declared.view.Hand.{Hand}
-use Rattle.desk_board.specs.declared.view.Book.{Book}
 use Rattle.gp_steal.specs.declared.view.View.{View}
 use Rattle.desk_board.specs.declared.view.Plan.{Plan}
 use Rattle.desk_board.specs.declared.view.Slot.{Slot}
