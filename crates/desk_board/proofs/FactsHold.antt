@@ -5,10 +5,9 @@ use mathlib.Core.Logic.{dite}
 use native.Mathlib.Decide.{dec_le}
 use lib.ListN.{get_elem?}
 use Rattle.atomic_table.specs.Table.{State}
-use Rattle.desk_board.specs.declared.view.View.{View}
+use Rattle.desk_board.specs.Rule.{View, times, drawns, helds, takens, Stage, waiting, drawn, done, collected, Kept}
 use Rattle.desk_board.specs.declared.view.Plan.{Plan}
 use Rattle.desk_board.specs.declared.view.Slot.{Slot}
-use Rattle.desk_board.specs.Rule.{times, drawns, helds, takens, Stage, waiting, drawn, done, collected, Kept}
 use Rattle.desk_board.specs.Told.{HasEnded}
 use Rattle.desk_board.specs.Facts.{tickets, word_of, IsView, DeskFacts, ViewFacts, BoardFacts}
 use Rattle.desk_board.proofs.Counts.{counted_once, counted_alike}

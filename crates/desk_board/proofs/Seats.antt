@@ -10,12 +10,12 @@ use lib.ListN.{get_elem?, length-map, length-replicate, get_or-replicate}
 use Rattle.atomic_table.specs.Table.{State, Splits, Joins, opening}
 use Rattle.atomic_table.proofs.Lists.{at_set, set_else}
 use Rattle.desk_board.specs.declared.view.Book.{Book}
-use Rattle.desk_board.specs.declared.view.View.{View}
+use Rattle.desk_board.specs.Rule.{View, times, live, waiting, about_of, blank, first_view, no_book, drawns, helds, takens, ViewOk, Kept, no_hand}
 use Rattle.desk_board.specs.declared.view.Plan.{Plan}
 use Rattle.desk_board.specs.declared.view.Slot.{Slot}
 use Rattle.desk_board.specs.declared.view.Slot.TheVariants.{Todo}
-use Rattle.desk_board.specs.Rule.{times, live, waiting, about_of, blank, first_view, no_book, drawns, helds, takens, ViewOk, Kept}
-use Rattle.desk_board.specs.Told.{cut_left, cut_right, pass_part, clerk_part, passes_both, gathered_both}
+use Rattle.desk_board.specs.Told.{hand_kept, hand_given, hand_both}
+use Rattle.desk_board.specs.Views.{cut_left, cut_right, pass_part, clerk_part, passes_both, gathered_both}
 use Rattle.desk_board.proofs.Tallies.{tally_part, tally_split, tally_join, split_same, join_same, times_append}
 use Rattle.desk_board.proofs.Hands.{live_share, live_cut, live_both, ended_either}
 use Rattle.desk_board.proofs.Places.{found_set, each_set, each_snoc}
@@ -138,8 +138,8 @@ module _ {J W R : Type 0} (fits : W → J → Type 0) (is_run : W → J → R �
   pub comes_back : (id : ℕ) (v : V) (other : ℕ) (u : V) → v ≡ blank → Joins Rule id v other u u blank
   comes_back id v other u e = subst (λ (x : V). Joins Rule id x other u u blank) (sym e) (back_to_blank id other u)
 
-  pub cuts : (id : ℕ) (v : V) → 2 ≤ v.hand.share → Splits Rule id v (cut_left v) (cut_right v)
-  cuts id v big = forks id v (cut_left v) (cut_right v) record {
+  pub cuts : (id : ℕ) (v : V) → 2 ≤ v.hand.share → Splits Rule id v (cut_left hand_kept v) (cut_right hand_given v)
+  cuts id v big = forks id v (cut_left hand_kept v) (cut_right hand_given v) record {
     share = omega arith;
     clerk = omega arith;
     lives = live_cut v.hand big;
@@ -166,8 +166,8 @@ module _ {J W R : Type 0} (fits : W → J → Type 0) (is_run : W → J → R �
   ))
 
   -- the first pass and the clerk
-  pub opens : (id : ℕ) (v : V) → Splits Rule id v (pass_part v) (clerk_part v)
-  opens id v = forks id v (pass_part v) (clerk_part v) record {
+  pub opens : (id : ℕ) (v : V) → Splits Rule id v (pass_part v) (clerk_part no_hand v)
+  opens id v = forks id v (pass_part v) (clerk_part no_hand v) record {
     share = omega arith;
     clerk = omega arith;
     lives = omega arith;
@@ -193,8 +193,8 @@ module _ {J W R : Type 0} (fits : W → J → Type 0) (is_run : W → J → R �
     },
   ))
 
-  pub joins : (id : ℕ) (v : V) (other : ℕ) (u : V) → u.book ≡ no_book → Joins Rule id v other u (passes_both v u) blank
-  joins id v other u plain = merges id v other u (passes_both v u) blank (λ s r at apart there. record {
+  pub joins : (id : ℕ) (v : V) (other : ℕ) (u : V) → u.book ≡ no_book → Joins Rule id v other u (passes_both hand_both v u) blank
+  joins id v other u plain = merges id v other u (passes_both hand_both v u) blank (λ s r at apart there. record {
     share = omega arith;
     clerk = (let e = ap (λ (b : Book). b.clerk) plain in omega (arith, e));
     lives = live_both v.hand u.hand;

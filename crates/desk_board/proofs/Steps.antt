@@ -15,12 +15,12 @@ use Rattle.atomic_table.specs.Table.{State, Me, step, keeps, takes, gives, stepp
 use Rattle.atomic_table.proofs.Lists.{set_here, set_else}
 use Rattle.desk_board.specs.declared.view.About.{About}
 use Rattle.desk_board.specs.declared.view.Book.{Book}
-use Rattle.desk_board.specs.declared.view.View.{View}
+use Rattle.desk_board.specs.Rule.{View, times, live, drawn, done, collected, about_of, drawns, ViewOk, DeskOk, Kept}
 use Rattle.desk_board.specs.declared.view.Plan.{Plan}
 use Rattle.desk_board.specs.declared.view.Slot.{Slot}
 use Rattle.desk_board.specs.declared.view.Slot.TheVariants.{Todo, Done}
-use Rattle.desk_board.specs.Rule.{times, live, drawn, done, collected, about_of, drawns, ViewOk, DeskOk, Kept}
-use Rattle.desk_board.specs.Told.{without, hand_drew, hand_ended, hand_finished, book_looked, book_took, DrewFrom, drew, finished, looked, TookFrom, took, IsRunAt, NoneTwice}
+use Rattle.desk_board.specs.Told.{without, hand_drew, hand_ended, hand_finished, book_looked, book_took, DrewFrom, drew, finished, looked, IsRunAt, NoneTwice}
+use Rattle.desk_board.specs.Views.{took, TookFrom}
 use Rattle.desk_board.proofs.Tallies.{tally_set, tally_same, tally_one_more, tally_part, tally_alone, tally_le, times_append, times_more, times_else, without_same, without_else, without_le, all_from_times}
 use Rattle.desk_board.proofs.Hands.{ended_stays, live_none, live_share}
 use Rattle.desk_board.proofs.Places.{got, found_set, each_set}

@@ -3,11 +3,10 @@ use Rattle.std.specs.Prelude.{◌≡◌, ◌≢◌, ◌↔◌, ℕ, ◌+◌, ◌
 use mathlib.Core.Option.{some, none}
 use lib.ListN.{get_elem?}
 use Rattle.atomic_table.specs.Table.{State}
-use Rattle.desk_board.specs.declared.view.View.{View}
+use Rattle.desk_board.specs.Rule.{View, times, live, drawns, about_of, Kept}
 use Rattle.desk_board.specs.declared.view.Plan.{Plan}
 use Rattle.desk_board.specs.declared.view.Slot.{Slot}
 use Rattle.desk_board.specs.declared.view.Slot.TheVariants.{Todo, Done}
-use Rattle.desk_board.specs.Rule.{times, live, drawns, about_of, Kept}
 use Rattle.desk_board.specs.Told.{HasEnded, IsWhole, NoneTwice}
 
 module _ {J W R : Type 0} where

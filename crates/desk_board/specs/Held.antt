@@ -9,7 +9,7 @@ use Rattle.desk_board.specs.declared.view.About.{About}
 use Rattle.desk_board.specs.declared.view.Hand.{Hand}
 use Rattle.desk_board.specs.declared.view.Book.{Book}
 use Rattle.desk_board.specs.Rule.{about_of}
-use Rattle.desk_board.specs.Told.{IsOf}
+use Rattle.desk_board.specs.Views.{IsOf}
 
 -- the jobs of the board, and what they are run under
 abbrev pub about : {J W R : Type 0} → Board J W R → About J W

@@ -9,7 +9,7 @@ use Rattle.atomic_table.specs.Table.{State}
 use Rattle.desk_board.specs.declared.view.About.{About}
 use Rattle.desk_board.specs.declared.view.Hand.{Hand}
 use Rattle.desk_board.specs.declared.view.Book.{Book}
-use Rattle.desk_board.specs.declared.view.View.{View}
+use Rattle.desk_board.specs.declared.view.SeatView.{SeatView}
 use Rattle.desk_board.specs.declared.view.Plan.{Plan}
 use Rattle.desk_board.specs.declared.view.Slot.{Slot}
 use Rattle.desk_board.specs.declared.view.Slot.TheVariants.{Todo, Done}
@@ -21,6 +21,10 @@ times k desks = count_by (λ d. eqb d k) desks
 -- the share of a pass that has not ended
 abbrev pub live : Hand → ℕ
 live h = elim h.ticket [ None ↦ h.share | Some t ↦ 0 ]
+
+-- what a seat at such a board knows
+abbrev pub View : Type 0 → Type 0 → Type 0
+View J W = SeatView J W Hand
 
 -- nothing in hand: no pass
 abbrev pub no_hand : Hand

@@ -1,15 +1,12 @@
 -- What each step changes in the view of who makes it, and what that caller learns.
 use Rattle.std.specs.Prelude.{◌≡◌, ℕ, ◌+◌, ◌-◌, ◌<◌, ◌≤◌, eqb, not, cond, Bool, IsTrue, ◌↔◌, List, [], ◌∷◌, ◌++◌, length, slice_get, filter, All, Option, Some, None}
 use Rattle.atomic_table.specs.Table.{Me, Step, rest}
-use Rattle.atomic_table.specs.Seated.{TableId}
-use Rattle.atomic_table.specs.declared.shared.Seat.{Seat}
-use Rattle.desk_board.specs.Rule.{times, no_hand, no_book}
+use Rattle.desk_board.specs.Rule.{times, View}
 use Rattle.desk_board.specs.declared.view.About.{About}
 use Rattle.desk_board.specs.declared.view.Hand.{Hand}
 use Rattle.desk_board.specs.declared.view.Book.{Book}
-use Rattle.desk_board.specs.declared.view.View.{View}
 use Rattle.desk_board.specs.declared.view.Slot.{Slot}
-use Rattle.desk_board.specs.declared.view.Slot.TheVariants.{Todo, Done}
+use Rattle.desk_board.specs.declared.view.Slot.TheVariants.{Todo}
 
 -- the list without the desk
 abbrev pub without : ℕ → List ℕ → List ℕ
@@ -87,16 +84,6 @@ module _ {J W R : Type 0} where
       × (IsWhole m.0.hand → 1 ≤ found) × ((about : About J W) → m.0.about ≡ Some about → IsWhole m.0.hand
       → EachOnce (length about.jobs) m.0.hand.drawn)
 
-  -- the run of desk k's job was taken
-  abbrev pub TookFrom : (W → J → R → Type 0) → About J W → ℕ → Known J W R → Known J W R → Type 0
-  TookFrom is_run about k m m' =
-      (job : J) × (run : R) × (slice_get about.jobs k ≡ Some job) × is_run about.with job run
-      × (m' ≡ (record m.0 { book = book_took k m.0.book }, (k, Done run) ∷ m.1))
-
-  -- a run was collected
-  abbrev pub took : (W → J → R → Type 0) → Step (Slot J R) → Known J W R → ℕ → Known J W R → Type 0
-  took is_run st m found m' = (k : ℕ) (about : About J W) → st.word ≡ k + 1 → m.0.about ≡ Some about → TookFrom is_run about k m m'
-
 -- the first ticket, or else the second
 abbrev pub ticket_either : Option ℕ → Option ℕ → Option ℕ
 ticket_either a b = elim a [ None ↦ b | Some t ↦ Some t ]
@@ -114,32 +101,6 @@ abbrev pub hand_given : Hand → Hand
 hand_given h = record { share = 1; drawn = []; held = []; ticket = h.ticket }
 
 module _ {J W : Type 0} where
-  -- the pass that was split, and the new one
-  abbrev pub cut_left : View J W → View J W
-  cut_left v = record v { hand = hand_kept v.hand }
-
-  abbrev pub cut_right : View J W → View J W
-  cut_right v = record v { hand = hand_given v.hand; book = no_book }
-
-  -- the first pass, and the clerk
-  abbrev pub pass_part : View J W → View J W
-  pass_part v = record v { book = no_book }
-
-  abbrev pub clerk_part : View J W → View J W
-  clerk_part v = record v { hand = no_hand }
-
-  -- two passes as one
-  abbrev pub passes_both : View J W → View J W → View J W
-  passes_both v u = record v { hand = hand_both v.hand u.hand }
-
-  -- the clerk with the hand of the pass
-  abbrev pub gathered_both : View J W → View J W → View J W
-  gathered_both v u = record v { hand = u.hand }
-
-  -- a seat of the board that was made of `about`
-  abbrev pub IsOf : {R : Type 0} → TableId → About J W → Seat (Slot J R) (View J W) → Type 0
-  IsOf id about seat = (seat.table_id ≡ id) × (seat.me.0.about ≡ Some about)
-
   -- it is the job of desk k, and fits
   abbrev pub IsJobAt : (W → J → Type 0) → About J W → ℕ → J → Type 0
   IsJobAt fits about k job = (slice_get about.jobs k ≡ Some job) × fits about.with job

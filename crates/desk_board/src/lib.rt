@@ -14,5 +14,6 @@ mod view;
 
 pub use laws::rule_law;
 pub use made::{lay_out, take_back};
+pub use plays::{Cut, Gather, Leave, Merge, Office, Return, Take};
 pub use types::{Board, Clerk, Desk, Pass};
-pub use view::{About, Book, Plan, Slot};
+pub use view::{About, Book, PassHand, Plan, SeatView, Slot};

@@ -1,8 +1,8 @@
 // What each kind of step tells who makes it, and how views are cut and put together.
-ghost use Rattle.desk_board.specs.Rule.{blank};
-ghost use Rattle.desk_board.specs.Told.{drew, finished, looked, took, cut_left, cut_right, pass_part, clerk_part, passes_both, gathered_both};
+ghost use Rattle.desk_board.specs.Views.{took, given_up, cut_left, cut_right, pass_part, clerk_part, passes_both, gathered_both};
+ghost use Rattle.desk_board.specs.Told.{drew, finished, looked};
 
-use crate::view::{Slot, View};
+use crate::view::{PassHand, SeatView, Slot, View};
 use atomic_table::{Join, Play, Split};
 use gp_base::Job;
 
@@ -27,63 +27,63 @@ impl<J, W, R> Play<Slot<J, R>, View<J, W>> for Look {
     ghost then = { looked };
 }
 
-/// A run is taken: the desk's word becomes 2.
-pub(crate) struct Take;
+/// A run is taken off a desk.
+pub struct Take;
 
-impl<J: Job> Play<Slot<J, J::Run>, View<J, J::With>> for Take {
+impl<J: Job, H> Play<Slot<J, J::Run>, SeatView<J, J::With, H>> for Take {
     ghost then = { took J.is_run };
 }
 
 /// A part of the share goes to a new pass.
-pub(crate) struct Cut;
+pub struct Cut;
 
-impl<J, W> Split<View<J, W>> for Cut {
-    ghost left = { cut_left };
+impl<J, W, H: PassHand> Split<SeatView<J, W, H>> for Cut {
+    ghost left = { cut_left H.kept };
 
-    ghost right = { cut_right };
+    ghost right = { cut_right H.given };
 }
 
 /// The pass goes on at a new seat, and the old one keeps the desk's slot alone.
-pub(crate) struct Leave;
+pub struct Leave;
 
-impl<J, W> Split<View<J, W>> for Leave {
-    ghost left = { λ _. blank };
+impl<J, W, H: PassHand> Split<SeatView<J, W, H>> for Leave {
+    ghost left = { λ _. given_up H.none };
 
     ghost right = { λ v. v };
 }
 
 /// The pass comes to the seat that has the desk's slot.
-pub(crate) struct Return;
+pub struct Return;
 
-impl<J, W> Join<View<J, W>> for Return {
+impl<J, W, H: PassHand> Join<SeatView<J, W, H>> for Return {
     ghost both = { λ _ u. u };
 
-    ghost spent = { blank };
+    ghost spent = { given_up H.none };
 }
 
 /// The first seat becomes that of the first pass and that of the clerk.
-pub(crate) struct Office;
+pub struct Office;
 
-impl<J, W> Split<View<J, W>> for Office {
+impl<J, W, H: PassHand> Split<SeatView<J, W, H>> for Office {
     ghost left = { pass_part };
 
-    ghost right = { clerk_part };
+    ghost right = { clerk_part H.none };
 }
 
 /// Two passes become one.
-pub(crate) struct Merge;
+pub struct Merge;
 
-impl<J, W> Join<View<J, W>> for Merge {
-    ghost both = { passes_both };
+impl<J, W, H: PassHand> Join<SeatView<J, W, H>> for Merge {
+    ghost both = { passes_both H.both };
 
-    ghost spent = { blank };
+    ghost spent = { given_up H.none };
 }
 
 /// The clerk takes the last pass in.
-pub(crate) struct Gather;
+pub struct Gather;
 
-impl<J, W> Join<View<J, W>> for Gather {
+impl<J, W, H: PassHand> Join<SeatView<J, W, H>> for Gather {
     ghost both = { gathered_both };
 
-    ghost spent = { blank };
+    ghost spent = { given_up H.none };
 }

@@ -44,12 +44,43 @@ pub struct Book {
     pub last: Option<(u64, u64)>,
 }
 
-/// What a seat knows. A pass has an empty book, and the clerk an empty hand until it has gathered.
-pub struct View<J, W> {
+/// What a seat knows, where passes have such hands. A pass has an empty book, and the clerk an empty hand until it has
+/// gathered.
+pub struct SeatView<J, W, H> {
     /// What the board was made of, except at a seat that is given up.
     pub about: Option<About<J, W>>,
-    pub hand: Hand,
+    pub hand: H,
     pub book: Book,
+}
+
+pub type View<J, W> = SeatView<J, W, Hand>;
+
+/// How hands are cut and put together.
+pub trait PassHand {
+    /// That of a seat that is no pass's.
+    ghost none: { Self };
+
+    /// What a pass keeps when a part of its share goes to a new pass.
+    ghost kept: { Self → Self };
+
+    /// What the new pass has.
+    ghost given: { Self → Self };
+
+    /// What two passes have together.
+    ghost both: { Self → Self → Self };
+}
+
+impl PassHand for Hand {
+    ghost use Rattle.desk_board.specs.Rule.{no_hand};
+    ghost use Rattle.desk_board.specs.Told.{hand_kept, hand_given, hand_both};
+
+    ghost none = { no_hand };
+
+    ghost kept = { hand_kept };
+
+    ghost given = { hand_given };
+
+    ghost both = { hand_both };
 }
 
 /// What the rule is told once, when the table is made.

@@ -5,11 +5,10 @@ use mathlib.Core.Logic.{dite}
 use native.Mathlib.Decide.{dec_le}
 use lib.ListN.{get_elem?}
 use Rattle.atomic_table.specs.Table.{State}
-use Rattle.gp_steal.specs.declared.view.View.{View}
+use Rattle.gp_steal.specs.Rule.{View, claims, helds, takens, Stage, waiting, claimed, done, collected, Kept}
 use Rattle.desk_board.specs.declared.view.Plan.{Plan}
 use Rattle.desk_board.specs.declared.view.Slot.{Slot}
 use Rattle.desk_board.specs.Rule.{times}
-use Rattle.gp_steal.specs.Rule.{claims, helds, takens, Stage, waiting, claimed, done, collected, Kept}
 use Rattle.gp_steal.specs.Facts.{word_of, IsView, DeskFacts, ViewFacts, BoardFacts}
 use Rattle.desk_board.proofs.Counts.{counted_once, counted_alike}
 use Rattle.desk_board.proofs.DeskLists.{times_from_Contains, Contains_from_times}

@@ -10,13 +10,13 @@ use lib.ListN.{get_elem?, length-map, length-replicate, get_or-replicate}
 use Rattle.atomic_table.specs.Table.{State, Splits, Joins, opening}
 use Rattle.atomic_table.proofs.Lists.{at_set, set_else}
 use Rattle.desk_board.specs.declared.view.Book.{Book}
-use Rattle.gp_steal.specs.declared.view.View.{View}
+use Rattle.gp_steal.specs.Rule.{View, waiting, blank, first_view, ViewOk, Kept, no_hand}
 use Rattle.desk_board.specs.declared.view.Plan.{Plan}
 use Rattle.desk_board.specs.declared.view.Slot.{Slot}
 use Rattle.desk_board.specs.declared.view.Slot.TheVariants.{Todo}
 use Rattle.desk_board.specs.Rule.{times, about_of, no_book}
-use Rattle.gp_steal.specs.Rule.{waiting, blank, first_view, ViewOk, Kept}
-use Rattle.gp_steal.specs.Told.{cut_left, cut_right, pass_part, clerk_part, passes_both, gathered_both}
+use Rattle.gp_steal.specs.Told.{hand_kept, hand_given, hand_both}
+use Rattle.desk_board.specs.Views.{cut_left, cut_right, pass_part, clerk_part, passes_both, gathered_both}
 use Rattle.desk_board.proofs.Tallies.{tally_part, tally_join, split_same, join_same, times_append}
 use Rattle.desk_board.proofs.Places.{found_set, each_set, each_snoc}
 use Rattle.desk_board.proofs.LaidOut.{laid_at}
@@ -131,8 +131,8 @@ module _ {J W R : Type 0} (fits : W → J → Type 0) (is_run : W → J → R �
   pub comes_back : (id : ℕ) (v : V) (other : ℕ) (u : V) → v ≡ blank → Joins Rule id v other u u blank
   comes_back id v other u e = subst (λ (x : V). Joins Rule id x other u u blank) (sym e) (back_to_blank id other u)
 
-  pub cuts : (id : ℕ) (v : V) → 2 ≤ v.hand.share → Splits Rule id v (cut_left v) (cut_right v)
-  cuts id v big = forks id v (cut_left v) (cut_right v) record {
+  pub cuts : (id : ℕ) (v : V) → 2 ≤ v.hand.share → Splits Rule id v (cut_left hand_kept v) (cut_right (λ _. hand_given) v)
+  cuts id v big = forks id v (cut_left hand_kept v) (cut_right (λ _. hand_given) v) record {
     share = omega arith;
     clerk = omega arith;
     claims = λ k. omega arith;
@@ -162,8 +162,8 @@ module _ {J W R : Type 0} (fits : W → J → Type 0) (is_run : W → J → R �
   ))
 
   -- the first pass and the clerk
-  pub opens : (id : ℕ) (v : V) → Splits Rule id v (pass_part v) (clerk_part v)
-  opens id v = forks id v (pass_part v) (clerk_part v) record {
+  pub opens : (id : ℕ) (v : V) → Splits Rule id v (pass_part v) (clerk_part no_hand v)
+  opens id v = forks id v (pass_part v) (clerk_part no_hand v) record {
     share = omega arith;
     clerk = omega arith;
     claims = λ k. omega arith;
@@ -196,8 +196,8 @@ module _ {J W R : Type 0} (fits : W → J → Type 0) (is_run : W → J → R �
   lower : (k a b : ℕ) → k < max a b → (k < a) ⊎ (k < b)
   lower k a b l = elim (cases_lt k a) [ inl m ↦ inl m | inr m ↦ inr (omega arith) ]
 
-  pub joins : (id : ℕ) (v : V) (other : ℕ) (u : V) → u.book ≡ no_book → Joins Rule id v other u (passes_both v u) blank
-  joins id v other u plain = merges id v other u (passes_both v u) blank (λ s r at apart there. record {
+  pub joins : (id : ℕ) (v : V) (other : ℕ) (u : V) → u.book ≡ no_book → Joins Rule id v other u (passes_both hand_both v u) blank
+  joins id v other u plain = merges id v other u (passes_both hand_both v u) blank (λ s r at apart there. record {
     share = omega arith;
     clerk = (let e = ap (λ (b : Book). b.clerk) plain in omega (arith, e));
     claims = λ k. omega (arith, times_append k v.hand.claimed u.hand.claimed);

@@ -15,14 +15,14 @@ use lib.Seq.{set-get_or}
 use Rattle.atomic_table.specs.Table.{State, Me, step, keeps, takes, gives, stepped, Allows}
 use Rattle.atomic_table.proofs.Lists.{set_here, set_else}
 use Rattle.desk_board.specs.declared.view.About.{About}
-use Rattle.gp_steal.specs.declared.view.View.{View}
+use Rattle.gp_steal.specs.Rule.{View, claimed, done, collected, claims, ViewOk, DeskOk, Kept}
 use Rattle.desk_board.specs.declared.view.Plan.{Plan}
 use Rattle.desk_board.specs.declared.view.Slot.{Slot}
 use Rattle.desk_board.specs.declared.view.Slot.TheVariants.{Todo, Done}
 use Rattle.desk_board.specs.Rule.{times, about_of}
 use Rattle.desk_board.specs.Told.{without, NoneTwice, book_took, IsRunAt}
-use Rattle.gp_steal.specs.Rule.{claimed, done, collected, claims, ViewOk, DeskOk, Kept}
-use Rattle.gp_steal.specs.Told.{hand_tried, hand_claimed, hand_finished, book_looked, TriedFrom, tried, finished, looked, TookFrom, took}
+use Rattle.gp_steal.specs.Told.{hand_tried, hand_claimed, hand_finished, book_looked, TriedFrom, tried, finished, looked}
+use Rattle.desk_board.specs.Views.{took, TookFrom}
 use Rattle.desk_board.proofs.Tallies.{tally_set, tally_same, tally_one_more, tally_part, tally_alone, times_append, times_more, times_else, without_same, without_else, without_le}
 use Rattle.gp_steal.proofs.Hands.{swept_within, swept_words, tried_stays}
 use Rattle.desk_board.proofs.Places.{got, found_set, each_set}

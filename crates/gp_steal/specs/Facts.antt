@@ -3,13 +3,12 @@ use Rattle.std.specs.Prelude.{◌≡◌, ◌≢◌, ◌↔◌, ℕ, ◌+◌, ◌
 use mathlib.Core.Option.{some, none}
 use lib.ListN.{get_elem?}
 use Rattle.atomic_table.specs.Table.{State}
-use Rattle.gp_steal.specs.declared.view.View.{View}
+use Rattle.gp_steal.specs.Rule.{View, claims, Kept}
 use Rattle.desk_board.specs.declared.view.Plan.{Plan}
 use Rattle.desk_board.specs.declared.view.Slot.{Slot}
 use Rattle.desk_board.specs.declared.view.Slot.TheVariants.{Todo, Done}
 use Rattle.desk_board.specs.Rule.{times, about_of}
 use Rattle.desk_board.specs.Told.{NoneTwice}
-use Rattle.gp_steal.specs.Rule.{claims, Kept}
 use Rattle.gp_steal.specs.Told.{IsWhole}
 
 module _ {J W R : Type 0} where

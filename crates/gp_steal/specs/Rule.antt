@@ -9,10 +9,14 @@ use Rattle.atomic_table.specs.Table.{State}
 use Rattle.desk_board.specs.Rule.{times, no_book, first_book, about_of}
 use Rattle.desk_board.specs.declared.view.About.{About}
 use Rattle.gp_steal.specs.declared.view.Hand.{Hand}
-use Rattle.gp_steal.specs.declared.view.View.{View}
+use Rattle.desk_board.specs.declared.view.SeatView.{SeatView}
 use Rattle.desk_board.specs.declared.view.Plan.{Plan}
 use Rattle.desk_board.specs.declared.view.Slot.{Slot}
 use Rattle.desk_board.specs.declared.view.Slot.TheVariants.{Todo, Done}
+
+-- what a seat at such a board knows
+abbrev pub View : Type 0 → Type 0 → Type 0
+View J W = SeatView J W Hand
 
 -- nothing in hand: no pass
 abbrev pub no_hand : Hand

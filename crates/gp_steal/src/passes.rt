@@ -4,9 +4,9 @@ ghost use Rattle.gp_steal.specs.Held.{about, hand, IsPassOf, IsDeskOf};
 ghost use Rattle.desk_board.specs.Told.{NoneTwice, IsJobAt, IsRunAt};
 ghost use Rattle.gp_steal.specs.Told.{HasFailed, hand_claimed, hand_finished, hand_both, hand_kept, hand_given, swept_after};
 
-use crate::plays::{Claim, Cut, Finish, Leave, Merge, Return};
+use crate::plays::{Claim, Finish};
 use crate::types::{StealBoard, StealDesk, StealPass};
-use desk_board::Slot;
+use desk_board::{Cut, Leave, Merge, Return, Slot};
 use gp_base::Job;
 use std::mem;
 
