@@ -15,7 +15,7 @@ use Rattle.task_ast.specs.meaning.Action.{Term, Action, Arm, Set, Load, Store, S
 use Rattle.task_ast.specs.meaning.Body.{Step, Silent, Iteration, Act, Stop, Body, follow, stretch, body}
 use Rattle.task_ast.specs.meaning.Control.{all_of}
 use Rattle.task_ast.specs.laws.Keeps.{NamesOnly, ArmNamesOnly, AllName}
-use Rattle.task_code.specs.declared.instrs.Cells.{Cells}
+use Rattle.lock_checker.specs.declared.cells.Cells.{Cells}
 use Rattle.task_code.specs.Instructions.{Deed, SetReg, Read, Write, Print, When, Deeds, NoDeeds, Also, Does, Assign, GoOn, Unless, Again, Lock, Unlock, Fork, Join, Barrier, Settle, Do, Instr, At, Calc}
 use Rattle.task_code.specs.Reading.{CalcEnv, Place, begin_actions, calc_term, calc_value, cell_of, code_begins, code_body, code_first, code_size, code_step, deed_action, deeds_arm, either, env_of, fork_arguments, gift_action, given_value, goto, halt, index_at, instr_at, instrs_of, next_place, step_does, step_instr, behind, with_child}
 use Rattle.task_code.specs.Flat.{code_of}

@@ -1,6 +1,6 @@
 -- Code that names only record cells below a number.
 use Rattle.std.specs.Prelude.{ℕ, ◌+◌, ◌≤◌, List, [], ◌∷◌, ⊤}
-use Rattle.task_code.specs.declared.instrs.Cells.{Cells}
+use Rattle.lock_checker.specs.declared.cells.Cells.{Cells}
 use Rattle.task_code.specs.Flat.{code_of}
 use Rattle.task_code.specs.Reading.{instrs_of}
 use Rattle.subthread.specs.declared.task.Work.{Work}

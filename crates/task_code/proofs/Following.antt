@@ -16,9 +16,10 @@ use Rattle.task_ast.specs.meaning.Control.{Setting, Point, with_value, going, st
 use Rattle.task_ast.specs.meaning.Plain.{setting_of}
 use Rattle.task_ast.specs.laws.Following.{Matches, both_silent, both_turn, both_act, both_stop, IsFollowing}
 use Rattle.task_ast.proofs.Slots.{sets_first}
+use Rattle.lock_checker.specs.Cells.{cells_of}
 use Rattle.task_code.specs.Instructions.{Instr, At, Does, Assign, GoOn, Unless, Again, Lock, Unlock, Fork, Join, Settle, Do}
 use Rattle.task_code.specs.Reading.{Place, goto, halt, given_value, either, env_of, calc_value, cell_of, index_at, deed_action, fork_arguments, step_does, step_instr, instrs_of, code_step}
-use Rattle.task_code.specs.Lowering.{Scope, cells_of, barrier_code, if_code, while_code, calc, index, deed, forking, what_code, block_code, scope_of, lowered}
+use Rattle.task_code.specs.Lowering.{Scope, barrier_code, if_code, while_code, calc, index, deed, forking, what_code, block_code, scope_of, lowered}
 use Rattle.task_code.specs.Relation.{HasAt, Left, ends, stands, jumps, tests, Corresponds}
 use Rattle.task_code.proofs.Values.{same_value, same_cell, same_action, same_fork}
 use Rattle.task_code.proofs.Standing.{has_front, has_back, stands_block}

@@ -21,10 +21,11 @@ use Rattle.task_ast.specs.meaning.Value.{value, value_on, value_at, operate_on, 
 use Rattle.task_ast.specs.meaning.Action.{Term, Constant, Negated, Inverted, Joined, OneTerm, register, term, terms, Action, Set, Load, Store, Say, Choose, Child, Give, OneAction}
 use Rattle.task_ast.specs.meaning.Control.{Setting, index_of, all_of, action, arm, action_of, control_arguments, data_arguments}
 use Rattle.task_ast.proofs.Terms.{position-cons}
+use Rattle.lock_checker.specs.Cells.{cells_of}
 use Rattle.task_code.specs.Instructions.{Calc}
 use Rattle.task_code.specs.Reading.{CalcEnv, calc_value, calc_value_on, calc_term, calc_terms, index_at, cell_of, deed_action, deeds_arm, gift_action}
 use Rattle.task_code.specs.Reading as code
-use Rattle.task_code.specs.Lowering.{Scope, cells_of, register_calc, rows_calc, cell_calc, calc, operands_of, index, deed, deed_in, control_calcs, gifts, forking}
+use Rattle.task_code.specs.Lowering.{Scope, register_calc, rows_calc, cell_calc, calc, operands_of, index, deed, deed_in, control_calcs, gifts, forking}
 use Rattle.task_code.specs.Lowering as lowering
 
 -- ---- names and numbers

@@ -3,7 +3,7 @@ use Rattle.std.proofs.Common.{◌≡◌, ℕ, ℤ, List, Box, Global, ap, sym, �
 use Rattle.task_ast.specs.declared.tree.Op.{Op}
 use Rattle.task_code.specs.Instructions as plain
 use Rattle.task_code.specs.View.{calc_of, plain_calc, plain_operands, plain_calcs, deed_of, plain_deed, plain_arm}
-use Rattle.task_code.specs.declared.instrs.Cells.{Cells}
+use Rattle.lock_checker.specs.declared.cells.Cells.{Cells}
 use Rattle.task_code.specs.declared.instrs.Index.{Index}
 use Rattle.task_code.specs.declared.instrs.Calc.{Calc}
 use Rattle.task_code.specs.declared.instrs.Calc.TheOpen as c

@@ -2,7 +2,7 @@
 use Rattle.std.specs.Prelude.{ℕ, ℤ, List, [], ◌∷◌, Option}
 use Rattle.task_ast.specs.declared.tree.Op.{Op}
 use Rattle.task_ast.specs.meaning.Tree.{Program}
-use Rattle.task_code.specs.declared.instrs.Cells.{Cells}
+use Rattle.lock_checker.specs.declared.cells.Cells.{Cells}
 use Rattle.task_code.specs.declared.instrs.Index.{Index}
 
 mutual

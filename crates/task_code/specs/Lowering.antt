@@ -6,16 +6,11 @@ use Rattle.task_ast.specs.declared.tree.Param.{Param}
 use Rattle.task_ast.specs.declared.tree.Param.TheVariants as param
 use Rattle.task_ast.specs.meaning.Tree as tree
 use Rattle.task_ast.specs.meaning.Tree.{Name, Expr, Links, What, Stmt, Block, TaskText, Program}
-use Rattle.task_ast.specs.meaning.Names.{is_name, named, slot, locks_of, records_of, barriers_of, feeds_of, controls_of, registers_of, task_named, task_number}
-use Rattle.task_ast.specs.Layout.{base_of}
-use Rattle.task_code.specs.declared.instrs.Cells.{Cells}
+use Rattle.task_ast.specs.meaning.Names.{is_name, slot, locks_of, records_of, barriers_of, feeds_of, controls_of, registers_of, task_named, task_number}
+use Rattle.lock_checker.specs.Cells.{cells_of}
 use Rattle.task_code.specs.declared.instrs.Index.{Index}
 use Rattle.task_code.specs.declared.instrs.Index.TheVariants.{Number, Variable}
 use Rattle.task_code.specs.Instructions.{Calc, Const, Ctl, Reg, Me, Rows, Cell, Neg, Not, Chain, NoValue, Operands, NoOperands, Operand, Deed, SetReg, Read, Write, Print, When, Deeds, NoDeeds, Also, Forking, Does, Assign, GoOn, Unless, Again, Lock, Unlock, Fork, Join, Barrier, Settle, Do, Instr, At, Lowered}
-
--- the cells of the array of a name; where there is none, it has no cells
-abbrev pub cells_of : List (Name × ℕ) → Name → Cells
-cells_of arrays x = record { first = unwrap_or (base_of arrays x) 0; size = unwrap_or (named x arrays) 0 }
 
 -- the register of this number, or 0 where there is none
 abbrev pub register_calc : Option ℕ → Calc

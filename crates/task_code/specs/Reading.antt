@@ -15,7 +15,7 @@ use Rattle.task_ast.specs.meaning.Action.{Term, Constant, Register, Negated, Inv
 use Rattle.task_ast.specs.meaning.Body.{Step, Silent, Iteration, Act, Stop, Body, body}
 use Rattle.task_ast.specs.meaning.Control.{all_of}
 use Rattle.task_ast.specs.meaning.Plain.{Machine, task_at, start_point}
-use Rattle.task_code.specs.declared.instrs.Cells.{Cells}
+use Rattle.lock_checker.specs.declared.cells.Cells.{Cells}
 use Rattle.task_code.specs.declared.instrs.Index.{Index}
 use Rattle.task_code.specs.declared.instrs.Index.TheVariants.{Number, Variable}
 use Rattle.task_code.specs.Instructions.{Calc, Const, Ctl, Reg, Me, Rows, Cell, Neg, Not, Chain, NoValue, Operands, NoOperands, Operand, Deed, SetReg, Read, Write, Print, When, Deeds, NoDeeds, Also, Forking, Does, Assign, GoOn, Unless, Again, Lock, Unlock, Fork, Join, Barrier, Settle, Do, Instr, At, Lowered}

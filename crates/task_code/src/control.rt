@@ -116,7 +116,9 @@ fn known_forking(
     requires within { task < length (scope_here scope.now).program.tasks }
     ensures { IfOk result (λ f. plain_forking f ≡ forking (scope_here scope.now) (slice_get (scope_here scope.now).program.tasks task) task (plain_exprs es.now) into) }
 {
-    let params = scope.program.tasks.as_slice()[task].params.as_slice();
+    let params = scope.checked.program().tasks.as_slice()[task]
+        .params
+        .as_slice();
     let registers = scope.index.registers[task].as_slice();
     let controls = lower_controls(alloc, scope, params, es)?;
     let gifts = lower_gifts(alloc, scope, registers, params, es)?;

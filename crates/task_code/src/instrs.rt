@@ -1,15 +1,8 @@
 // Instructions, and what they compute with.
 
 use gp_base::Seq;
+use lock_checker::Cells;
 use task_ast::Op;
-
-/// The cells of an array among those of all lock arrays, or of all records: the number of its first cell, and how many
-/// there are.
-#[derive(Clone, Copy)]
-pub struct Cells {
-    pub first: u32,
-    pub size: u32,
-}
 
 /// The index of a lock cell or of a record cell: a number, or the number of a control variable.
 #[derive(Clone, Copy)]

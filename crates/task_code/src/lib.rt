@@ -14,5 +14,6 @@ mod tables;
 mod variables;
 
 pub use code::Code;
-pub use instrs::{Calc, Cells, Deed, Does, Forking, Index, Instr, Shape};
+pub use instrs::{Calc, Deed, Does, Forking, Index, Instr, Shape};
+pub use lock_checker::Cells;
 pub use lowering::lower;

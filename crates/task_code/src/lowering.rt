@@ -1,6 +1,6 @@
 // From the tree to flat code.
 
-ghost use Rattle.std.specs.Prelude.{◌≡◌, ℕ, ◌<◌, ◌^◌, length, map, IfOk};
+ghost use Rattle.std.specs.Prelude.{◌≡◌, IfOk};
 ghost use Rattle.lock_checker.specs.Accepted.{program_of};
 ghost use Rattle.task_ast.specs.meaning.Names.{registers_of, natural};
 ghost use Rattle.task_ast.specs.meaning.Plain.{main_number};
@@ -21,31 +21,30 @@ use crate::control::{lower_block, small};
 use crate::instrs::{Instr, Shape};
 use crate::parts::Parts;
 use crate::scope::{Index, Scope, index_of};
-use crate::tables::natural;
 use crate::variables::{all_params, control_names};
 use gp_base::{Name, Seq};
 use lock_checker::Checked;
 use std::alloc::{AllocError, Global};
 use std::snapshot::Snapshot;
-use task_ast::{Head, Program, TaskText};
+use task_ast::{Head, Program, TaskText, natural};
 
 // The instructions of a task whose registers have these names, and how many variables it has.
 fn lower_task(
     alloc: Global,
-    program: &Program,
+    checked: &Checked,
     index: &Index,
     task: &TaskText,
     registers: &[Name],
 ) -> Result<(Seq<Instr>, Shape), AllocError>
-    requires index { IsIndexOf index.now (plain_program program.now) }
+    requires index { IsIndexOf index.now (plain_program (program_of checked.now)) }
     requires registers { registers.now ≡ registers_of (plain_task task.now) }
-    ensures code { IfOk result (λ r. plain_instrs r.0 ≡ task_code (plain_program program.now) (plain_task task.now)) }
+    ensures code { IfOk result (λ r. plain_instrs r.0 ≡ task_code (plain_program (program_of checked.now)) (plain_task task.now)) }
     ensures shape { IfOk result (λ r. r.1 ≡ shape_of (plain_task task.now)) }
     ensures short { IfOk result (λ r. IsShort (plain_instrs r.0)) }
 {
     let controls = control_names(alloc, task)?;
     let scope = Scope {
-        program,
+        checked,
         index,
         controls: controls.as_slice(),
         registers,
@@ -63,17 +62,17 @@ fn lower_task(
 // The instructions and the shapes of all tasks.
 fn lower_tasks(
     alloc: Global,
-    program: &Program,
+    checked: &Checked,
     index: &Index,
 ) -> Result<(Seq<Seq<Instr>>, Seq<Shape>), AllocError>
-    requires { IsIndexOf index.now (plain_program program.now) }
-    ensures { IfOk result (λ r. AreTasksOf (plain_program program.now) program.now.tasks r.0 r.1) }
+    requires { IsIndexOf index.now (plain_program (program_of checked.now)) }
+    ensures { IfOk result (λ r. AreTasksOf (plain_program (program_of checked.now)) (program_of checked.now).tasks r.0 r.1) }
 {
     let mut tasks = Seq::new(alloc);
     let mut shapes = Seq::new(alloc);
-    for (k, task) in program.tasks.as_slice().iter().enumerate() {
+    for (k, task) in checked.program().tasks.as_slice().iter().enumerate() {
         let registers = index.registers[k].as_slice();
-        let (instrs, shape) = lower_task(alloc, program, index, task, registers)?;
+        let (instrs, shape) = lower_task(alloc, checked, index, task, registers)?;
         tasks.push(instrs)?;
         shapes.push(shape)?;
     }
@@ -107,7 +106,7 @@ pub fn lower(alloc: Global, c: &Checked) -> Result<Code, AllocError>
 {
     let program = c.program();
     let index = index_of(alloc, program)?;
-    let (tasks, shapes) = lower_tasks(alloc, program, &index)?;
+    let (tasks, shapes) = lower_tasks(alloc, c, &index)?;
     let params = all_params(alloc, program.tasks.as_slice())?;
     let main = main_number(alloc, &index)?;
     let barriers = barrier_numbers(alloc, program)?;

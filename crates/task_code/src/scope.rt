@@ -1,37 +1,33 @@
 // What the names of a task's statements stand for.
 
-ghost use Rattle.std.specs.Prelude.{◌≡◌, ◌≤◌, map, option_map, position, IfOk};
-ghost use Rattle.gp_base.specs.declared.limits.TheConstants.{MOST_CELLS};
-ghost use Rattle.task_ast.specs.meaning.Names.{is_name, slot, locks_of, records_of, barriers_of, feeds_of, cells_in, registers_of, task_named, task_number};
+ghost use Rattle.std.specs.Prelude.{◌≡◌, map, option_map, position, IfOk};
+ghost use Rattle.task_ast.specs.meaning.Names.{is_name, slot, locks_of, records_of, barriers_of, feeds_of, registers_of, task_named, task_number};
 ghost use Rattle.task_ast.specs.View.{plain_task, plain_program};
-ghost use Rattle.task_code.specs.Lowering.{cells_of, index};
+ghost use Rattle.lock_checker.specs.Cells.{cells_of};
+ghost use Rattle.task_code.specs.Lowering.{index};
 ghost use Rattle.task_code.specs.inner.Scopes.{scope_here, IsIndexOf, IsScope};
-ghost use Rattle.task_code.specs.inner.Tables.{cells_or_none};
 
-use crate::instrs::{Cells, Index as CellIndex};
-use crate::tables::{barrier_names, feed_names, lock_cells, places, record_cells, task_names};
+use crate::instrs::Index as CellIndex;
+use crate::tables::{barrier_names, feed_names, places, task_names};
 use crate::variables::{place, register_names, slot};
 use gp_base::{Name, Seq};
-use lock_checker::SymbolTable;
+use lock_checker::{Cells, Checked, SymbolTable};
 use std::alloc::{AllocError, Global};
 use task_ast::{Atom, Program, TaskText};
 
-/// The cells of the lock arrays and of the records, and the places of the barriers, the feeds and the tasks, by name;
-/// and the names of each task's registers.
+/// The places of the barriers, the feeds and the tasks, by name, and the names of each task's registers.
 #[derive(Drop)]
 pub struct Index {
-    pub locks: SymbolTable<Cells>,
-    pub records: SymbolTable<Cells>,
     pub barriers: SymbolTable<usize>,
     pub feeds: SymbolTable<usize>,
     pub tasks: SymbolTable<usize>,
     pub registers: Vec<Seq<Name>>,
 }
 
-/// A program with its index, and the names of the variables of the task that is lowered.
+/// An accepted program with its index, and the names of the variables of the task that is lowered.
 #[derive(Clone, Copy)]
 pub struct Scope<'s> {
-    pub program: &'s Program,
+    pub checked: &'s Checked,
     pub index: &'s Index,
     pub controls: &'s [Name],
     pub registers: &'s [Name],
@@ -50,8 +46,6 @@ fn all_registers(alloc: Global, tasks: &[TaskText]) -> Result<Vec<Seq<Name>>, Al
 
 /// The index of a program.
 pub fn index_of(alloc: Global, program: &Program) -> Result<Index, AllocError>
-    requires locks { cells_in (locks_of program.now.heads) ≤ MOST_CELLS }
-    requires records { cells_in (records_of program.now.heads) ≤ MOST_CELLS }
     ensures { IfOk result (λ i. IsIndexOf i (plain_program program.now)) }
 {
     let heads = program.heads.as_slice();
@@ -59,15 +53,11 @@ pub fn index_of(alloc: Global, program: &Program) -> Result<Index, AllocError>
     let barrier_names = barrier_names(alloc, heads)?;
     let feed_names = feed_names(alloc, heads)?;
     let task_names = task_names(alloc, tasks)?;
-    let locks = lock_cells(alloc, heads)?;
-    let records = record_cells(alloc, heads)?;
     let barriers = places(alloc, &barrier_names)?;
     let feeds = places(alloc, &feed_names)?;
     let tasks_at = places(alloc, &task_names)?;
     let registers = all_registers(alloc, tasks)?;
     Ok(Index {
-        locks,
-        records,
         barriers,
         feeds,
         tasks: tasks_at,
@@ -75,32 +65,18 @@ pub fn index_of(alloc: Global, program: &Program) -> Result<Index, AllocError>
     })
 }
 
-// The cells that were found, or none.
-fn or_no_cells(cells: Option<Cells>) -> Cells
-    ensures { result ≡ cells_or_none cells }
-{
-    match cells {
-        Some(cells) => cells,
-        None => Cells { first: 0, size: 0 },
-    }
-}
-
 /// The cells of the lock array of a name; where there is none, it has no cells.
-#[tactic(auto, using(crate::proofs::TableLemmas::cells_is))]
 pub fn lock_array(scope: &Scope, x: &Name) -> Cells
-    requires { IsScope scope.now }
     ensures { result ≡ cells_of (locks_of (scope_here scope.now).program.heads) x.now }
 {
-    or_no_cells(scope.index.locks.get(x))
+    scope.checked.lock_array(x)
 }
 
 /// The cells of the record of a name; where there is none, it has no cells.
-#[tactic(auto, using(crate::proofs::TableLemmas::cells_is))]
 pub fn record_array(scope: &Scope, x: &Name) -> Cells
-    requires { IsScope scope.now }
     ensures { result ≡ cells_of (records_of (scope_here scope.now).program.heads) x.now }
 {
-    or_no_cells(scope.index.records.get(x))
+    scope.checked.record_array(x)
 }
 
 /// The place of the barrier of a name.

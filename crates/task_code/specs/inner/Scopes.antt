@@ -1,18 +1,16 @@
 -- What the statements of a task are lowered under, from the code's scope.
 use Rattle.std.specs.Prelude.{◌≡◌, map, position}
 use Rattle.task_ast.specs.meaning.Tree as plain
-use Rattle.task_ast.specs.meaning.Names.{is_name, locks_of, records_of, barriers_of, feeds_of, registers_of, is_task}
+use Rattle.task_ast.specs.meaning.Names.{is_name, barriers_of, feeds_of, registers_of, is_task}
 use Rattle.task_ast.specs.View.{plain_program}
+use Rattle.lock_checker.specs.Accepted.{program_of}
 use Rattle.lock_checker.specs.inner.Tables.{found}
 use Rattle.task_code.specs.declared.scope.Index.{Index}
 use Rattle.task_code.specs.declared.scope.Scope as here
 use Rattle.task_code.specs.Lowering.{Scope}
-use Rattle.task_code.specs.inner.Tables.{cells_from}
 
 -- the tables find what the program declares
 pub record IsIndexOf (index : Index) (program : plain.Program) : Type 0 where
-  pub locks : (x : plain.Name) → found index.locks x ≡ cells_from 0 (locks_of program.heads) x
-  pub records : (x : plain.Name) → found index.records x ≡ cells_from 0 (records_of program.heads) x
   pub barriers : (x : plain.Name) → found index.barriers x ≡ position (λ other. is_name x other.0) (barriers_of program.heads)
   pub feeds : (x : plain.Name) → found index.feeds x ≡ position (is_name x) (feeds_of program.heads)
   pub tasks : (x : plain.Name) → found index.tasks x ≡ position (is_task x) program.tasks
@@ -20,8 +18,8 @@ pub record IsIndexOf (index : Index) (program : plain.Program) : Type 0 where
 
 -- the scope as definitions see it
 abbrev pub scope_here : here.Scope → Scope
-scope_here s = record { program = plain_program s.program.now; controls = s.controls.now; registers = s.registers.now }
+scope_here s = record { program = plain_program (program_of s.checked.now); controls = s.controls.now; registers = s.registers.now }
 
 -- the scope's tables are those of its program
 pub record IsScope (s : here.Scope) : Type 0 where
-  pub index : IsIndexOf s.index.now (plain_program s.program.now)
+  pub index : IsIndexOf s.index.now (plain_program (program_of s.checked.now))

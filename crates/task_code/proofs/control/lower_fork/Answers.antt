@@ -2,6 +2,7 @@ use Rattle.std.proofs.Common.{◌≡◌, None, unwrap_or, sym, subst}
 use Rattle.std.specs.Prelude.{IfOk, slice_get}
 use Rattle.task_ast.specs.meaning.Names.{task_number}
 use Rattle.task_ast.specs.View.{plain_exprs, plain_program}
+use Rattle.lock_checker.specs.Accepted.{program_of}
 use Rattle.task_code.specs.Lowering.{forking}
 use Rattle.task_code.specs.View.{plain_forking}
 use Rattle.task_code.specs.inner.Scopes.{scope_here}
@@ -12,7 +13,7 @@ pub known_forking-requires : goal.known_forking-requires
 known_forking-requires c =
     record {
       scope = c.requires;
-      within = (task_at_place c.args.t.now (plain_program c.args.scope.now.program.now).tasks c.in-Some.task (sym c.in-Some.ensures)).0;
+      within = (task_at_place c.args.t.now (plain_program (program_of c.args.scope.now.checked.now)).tasks c.in-Some.task (sym c.in-Some.ensures)).0;
     }
 
 pub returns-in-Some : goal.returns-in-Some

@@ -1,13 +1,14 @@
 use Rattle.std.proofs.Common.{◌++◌, ap, ◌∙◌}
 use Rattle.task_ast.specs.meaning.Names.{controls_of}
 use Rattle.task_ast.specs.View.{plain_program, plain_task, plain_block}
+use Rattle.lock_checker.specs.Accepted.{program_of}
 use Rattle.task_code.specs.Lowering.{Scope, block_code}
 use Rattle.task_code.specs.View.{plain_instrs}
 use Rattle.task_code.proofs.lowering.lower_task.Goals as goal
 
 pub returns-clause-code : goal.returns-clause-code
 returns-clause-code c =
-    let p = plain_program c.args.program.now in
+    let p = plain_program (program_of c.args.checked.now) in
     let regs = c.args.registers.now in
     let s : Scope = record { program = p; controls = c.as_slice.result.now; registers = regs } in
     let names = c.as_slice.ensures ∙ c.in_ok-controls.ensures in

@@ -1,7 +1,7 @@
 use Rattle.std.proofs.Common.{ap, ◌∙◌, map, position}
-use Rattle.task_ast.specs.meaning.Names.{is_name, locks_of, records_of, barriers_of, feeds_of, registers_of, is_task}
+use Rattle.task_ast.specs.meaning.Names.{is_name, barriers_of, feeds_of, registers_of, is_task}
 use Rattle.task_ast.specs.View.{plain_task}
-use Rattle.task_code.specs.inner.Tables.{targets, cells_from}
+use Rattle.task_code.specs.inner.Tables.{targets}
 use Rattle.task_code.proofs.TableLemmas.{position_firsts, position_names}
 use Rattle.task_code.proofs.scope.index_of.Goals as goal
 
@@ -10,8 +10,6 @@ returns c =
     let heads = c.as_slice-heads.ensures in
     let tasks = c.as_slice-tasks.ensures in
     record {
-      locks = λ x. c.in_ok-locks.ensures x ∙ ap (λ h. cells_from 0 (locks_of h) x) heads;
-      records = λ x. c.in_ok-records.ensures x ∙ ap (λ h. cells_from 0 (records_of h) x) heads;
       barriers = λ x.
           c.in_ok-barriers.ensures x ∙ ap (λ l. position (is_name x) (targets l)) c.deref.ensures.value
           ∙ ap (position (is_name x)) c.in_ok-barrier_names.ensures
