@@ -1,5 +1,5 @@
 -- A thread at a barrier.
-use Rattle.std.proofs.Common.{◌≡◌, ℕ, ◌+◌, ◌<◌, ◌≤◌, Bool, true, false, cond, nat_le, nat_lt, unwrap_or, count_by, map, Option, Some, None, refl, sym, ap, ◌∙◌, arith}
+use Rattle.std.proofs.Common.{◌≡◌, ℕ, ◌+◌, ◌<◌, ◌≤◌, true, false, cond, nat_le, nat_lt, unwrap_or, count_by, map, Option, Some, None, refl, sym, ap, ◌∙◌, arith}
 use Rattle.std.specs.Prelude.{slice_get}
 use Rattle.std.specs.Option.{option_map, option_and_then}
 use Rattle.std.proofs.lemmas.Bool.{false≢true, le-leb, lt-leb, eq-eqb}
@@ -11,8 +11,8 @@ use Rattle.task_ast.specs.meaning.Repeat.{Done}
 use Rattle.task_ast.specs.meaning.Table.{Seat, Stand, Away, Waits, Released, Table, next_of, unpassed, meets, waits_at}
 use Rattle.task_ast.specs.meaning.Turn.{Ended, tried, stand_of, met, arrived, released_at, issuing, passing, is_away}
 use Rattle.task_ast.proofs.Counting.{one, count-with_nth, count-map, get-map, get-with_nth}
-use Rattle.task_ast.proofs.Rounds.{keeps_nth, keeps_map}
-use Rattle.token_order.specs.Turned.{is_free_to_go}
+use Rattle.task_ast.proofs.SeenSeats.{opened}
+use Rattle.task_ast.specs.Looking.{is_free_to_go}
 
 meets_own : (b : ℕ) (op : SyncOp) (line : ℕ) → op ≡ sync.Barrier b → meets b (Some (record { sync = op; line = line })) ≡ true
 meets_own b op line e = rw e (eq-eqb b b refl)
@@ -57,10 +57,6 @@ arrival_counts table t b at =
     let after : one (waits_at b (record (unpassed seat) { stand = Waits })) ≡ 1 = ap (λ m. one (cond true m false)) at.meets in
     omega (arith, changed, same, before, after)
 
--- the table in which all that wait at the barrier are released
-abbrev pub opened : Table → ℕ → ℕ → Table
-opened table t b = record (arrived table t) { seats = map (released_at b) (arrived table t).seats }
-
 pub met_opened : (table : Table) (t b number count : ℕ) → Comes table t b → number ≡ unwrap_or (slice_get table.barriers b) 0
     → count ≡ count_by (waits_at b) table.seats → number ≤ count + 1 → met (arrived table t) b ≡ opened table t b
 met_opened table t b number count at number_is count_is enough =
@@ -104,22 +100,6 @@ pub one_waits : (table : Table) (t b number count : ℕ) (next : Next) → Comes
     → count ≡ count_by (waits_at b) table.seats → count + 1 < number → tried (sync.Barrier b) table t next ≡ passing (arrived table t) t
 one_waits table t b number count next at away number_is count_is few =
     rw (away, met_closed table t b number count at number_is count_is few, arrived_waits table t b at) refl
-
-pub arrived_next : (table : Table) (t u : ℕ) → next_of (arrived table t) u ≡ next_of table u
-arrived_next table t u =
-    keeps_nth (option_and_then (λ s. s.next)) (λ s. record s { stand = Waits }) (λ s. refl) (map unpassed table.seats) t u
-    ∙ keeps_map (option_and_then (λ s. s.next)) unpassed (λ s. refl) table.seats u
-
-released_next : (b : ℕ) (s : Seat) → (released_at b s).next ≡ s.next
-released_next b s = go (waits_at b s)
-  where
-    go : (c : Bool) → (cond c (record s { stand = Released }) s).next ≡ s.next
-    go true = refl
-    go false = refl
-
-pub opened_next : (table : Table) (t b u : ℕ) → next_of (opened table t b) u ≡ next_of table u
-opened_next table t b u =
-    keeps_map (option_and_then (λ s. s.next)) (released_at b) (λ s. released_next b s) (arrived table t).seats u ∙ arrived_next table t u
 
 -- a released thread goes on
 pub free_goes : (table : Table) (t b : ℕ) (next : Next) (s : Stand) → stand_of table t ≡ s → is_free_to_go s ≡ true

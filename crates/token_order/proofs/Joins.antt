@@ -1,12 +1,12 @@
 -- A join of a thread that is there.
-use Rattle.std.proofs.Common.{◌≡◌, ℕ, Bool, true, false, cond, nat_lt, length, Option, Some, None, unwrap_or, refl, sym, ap, ◌∙◌}
+use Rattle.std.proofs.Common.{◌≡◌, ℕ, Bool, true, false, cond, nat_lt, length, Some, None, unwrap_or, refl, sym, ap, ◌∙◌}
 use Rattle.std.specs.Prelude.{ℤ, pos, negsuc}
 use Rattle.gp_base.specs.declared.ending.Why.TheVariants as why
 use Rattle.task_ast.specs.declared.sync.SyncOp.TheVariants as sync
 use Rattle.task_ast.specs.declared.sync.Next.{Next}
 use Rattle.task_ast.specs.meaning.Table.{Table, next_of}
 use Rattle.task_ast.specs.meaning.Turn.{tried, at_join, stuck}
-use Rattle.token_order.specs.Turned.{joined_in}
+use Rattle.task_ast.specs.Looking.{joined_in}
 
 pub join_there : (table : Table) (h : ℤ) (n other t : ℕ) (next : Next) → Some other ≡ joined_in h n → n ≡ length table.seats
     → tried (sync.Join h) table t next ≡ at_join other (next_of table other) table t next

@@ -1,9 +1,7 @@
 pub mod Barriers
 pub mod Holds
 pub mod Inside
-pub mod Issuing
 pub mod Joins
-pub mod Looking
 pub mod Owned
 pub mod Rings
 pub mod Settling

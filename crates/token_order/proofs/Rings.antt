@@ -1,5 +1,5 @@
 -- What a ring keeps over a turn.
-use Rattle.std.proofs.Common.{◌≡◌, ◌∙◌, ◌-◌, ap, sym, refl, ℕ, Bool, false, cond, is_none, length, map, vec_len, vec_capacity}
+use Rattle.std.proofs.Common.{◌≡◌, ◌∙◌, ◌-◌, ap, sym, refl, false, cond, is_none, length, vec_len, vec_capacity}
 use Rattle.std.proofs.lemmas.List.{length-map}
 use Rattle.task_ast.specs.meaning.Table.{Table}
 use Rattle.task_ast.specs.meaning.Turn.{turn}

@@ -1,10 +1,10 @@
 -- What a turn answers, by the rules of turns.
-use Rattle.std.specs.Prelude.{◌≡◌, ◌⊎◌, ⊤, ℕ, ℤ, pos, negsuc, Bool, true, false, cond, Option, Some, None, is_none, nat_lt}
-use Rattle.task_ast.specs.meaning.Repeat.{Again, More, Done}
+use Rattle.std.specs.Prelude.{◌≡◌, ◌⊎◌, ⊤, ℕ, pos, negsuc, Bool, true, false, cond, Option, Some, None, is_none}
 use Rattle.task_ast.specs.declared.sync.SyncOp.{SyncOp}
 use Rattle.task_ast.specs.declared.sync.SyncOp.TheVariants as sync
 use Rattle.task_ast.specs.Table.{is_known_end}
-use Rattle.task_ast.specs.meaning.Table.{Stand, Released, Away, Seat, Table, next_of, is_settle}
+use Rattle.task_ast.specs.meaning.Repeat.{Again, More, Done}
+use Rattle.task_ast.specs.meaning.Table.{Table, next_of, is_settle}
 use Rattle.task_ast.specs.meaning.Turn.{Turn, Issue, Needs, Ended, owner_of, turn}
 use Rattle.token_order.specs.declared.rules.Turn.{Turn as TurnHere}
 use Rattle.token_order.specs.declared.rules.Turn.TheVariants as here
@@ -46,17 +46,3 @@ is_let table (sync.Lock l) = is_none (owner_of table l)
 is_let table (sync.Join (pos h)) = is_known_end (next_of table h)
 is_let table (sync.Join (negsuc h)) = false
 is_let table _ = true
-
--- a seat whose thread began a subthread
-abbrev pub begun : ℕ → Seat → Seat
-begun issued seat = record { next = None; last = Some issued; passed = false; stand = Away }
-
--- the thread that a join names
-abbrev pub joined_in : ℤ → ℕ → Option ℕ
-joined_in (pos h) n = cond (nat_lt h n) (Some h) None
-joined_in (negsuc h) n = None
-
--- whether a thread at a barrier was released
-abbrev pub is_free_to_go : Stand → Bool
-is_free_to_go Released = true
-is_free_to_go _ = false

@@ -1,9 +1,7 @@
 -- How the fields stand for the thread table.
-use Rattle.std.specs.Prelude.{ℕ, Bool, suc, ◌<◌, ◌≤◌, ⊤, cond, length, map, Option, Some, None, is_none}
+use Rattle.std.specs.Prelude.{ℕ, Bool, ◌<◌, ◌≤◌, ⊤, cond, length, map, Option, Some, None, is_none}
 use Rattle.gp_base.specs.declared.limits.TheConstants.{MOST_THREADS}
-use Rattle.task_ast.specs.declared.sync.Next.{Next}
 use Rattle.task_ast.specs.meaning.Table.{Stand, Away, Waits, Released, Seat, Table, next_of, last_in}
-use Rattle.task_ast.specs.meaning.Turn.{Look, To, Unknown, NoThread}
 use Rattle.token_order.specs.declared.threads.Stand.{Stand as StandHere}
 use Rattle.token_order.specs.declared.threads.Stand.TheVariants as stands
 use Rattle.token_order.specs.declared.threads.Seat.{Seat as SeatHere}
@@ -35,15 +33,6 @@ table threads =
       issued = threads.issued;
     }
 
-abbrev pub look_with : ℕ → Option Next → Look
-look_with t None = Unknown t
-look_with t (Some next) = To t next
-
--- the first thread that isn't known to have ended, with its next synchronisation
-abbrev pub look_of : Table → Option ℕ → Look
-look_of table None = NoThread
-look_of table (Some t) = look_with t (next_of table t)
-
 abbrev pub IsBelow : ℕ → Option ℕ → Type 0
 IsBelow n None = ⊤
 IsBelow n (Some t) = t < n
@@ -54,11 +43,6 @@ pub record StandsInside (threads : Threads) : Type 0 where
   pub few : length threads.seats.items ≤ MOST_THREADS
   pub token : IsBelow (length threads.seats.items) threads.token
   pub locks : length threads.owners.items ≤ 4294967295
-
--- where the token begins to look
-abbrev pub start_of : Option ℕ → ℕ
-start_of None = 0
-start_of (Some t) = suc t
 
 -- from which position a thread's next synchronisation is awaited
 abbrev pub awaited : Table → ℕ → Option ℕ

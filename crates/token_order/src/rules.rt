@@ -4,6 +4,7 @@ ghost use Rattle.std.specs.Prelude.{◌≡◌, ℕ, ◌<◌, ◌≤◌, ◌+◌,
 ghost use Rattle.std.specs.Option.{option_and_then};
 ghost use Rattle.gp_base.specs.declared.ending.End.TheVariants as ends;
 ghost use Rattle.gp_base.specs.declared.limits.TheConstants.{MOST_THREADS};
+ghost use Rattle.task_ast.specs.Looking.{begun, joined_in, is_free_to_go};
 ghost use Rattle.task_ast.specs.declared.sync.SyncOp.TheVariants as sync;
 ghost use Rattle.task_ast.specs.Table.{is_known_end};
 ghost use Rattle.task_ast.specs.meaning.Repeat.{More};
@@ -11,7 +12,7 @@ ghost use Rattle.task_ast.specs.meaning.Table.{Away, next_of, waits_at};
 ghost use Rattle.task_ast.specs.meaning.Turn.{tried, issuing, passing, look, owners_after, seats_after, child_of, deadlocked, all_threads, arrived, stand_of, released_at};
 ghost use Rattle.token_order.specs.View.{table, seat_of, StandsInside};
 ghost use Rattle.token_order.specs.declared.rules.Turn.TheVariants as here;
-ghost use Rattle.token_order.specs.Turned.{Answered, is_let, is_free_to_go, begun, joined_in};
+ghost use Rattle.token_order.specs.Turned.{Answered, is_let};
 
 use crate::threads::{Seat, Stand, Threads, has_ended, new_seat, unpass_all};
 use gp_base::limits::MOST_THREADS;
@@ -73,17 +74,14 @@ fn add_child(seats: &mut Vec<Seat>, sync: &SyncOp) -> Option<ThreadNo>
     ensures child { result ≡ child_of sync.now (length seats.old.items) }
     ensures capacity { vec_capacity seats.new ≡ vec_capacity seats.old }
 {
-    let child = seats.len() as u32;
-    match sync {
-        SyncOp::Fork { task: _, args: _ } => {
-            seats.push_reserved(new_seat(Next {
-                sync: SyncOp::Start,
-                line: 0,
-            }));
-            Some(ThreadNo(child))
-        }
-        _ => None,
+    let child = sync.child_of(seats.len());
+    if let SyncOp::Fork { .. } = sync {
+        seats.push_reserved(new_seat(Next {
+            sync: SyncOp::Start,
+            line: 0,
+        }));
     }
+    child
 }
 
 // Whether nobody owns the lock.
@@ -200,7 +198,7 @@ impl Threads {
         match &self.seats[other as usize].next {
             None => Turn::Needs(ThreadNo(other)),
             Some(next) => {
-                if is_end(next) {
+                if next.sync.is_end() {
                     return self.issue(t);
                 }
                 self.pass(t);
@@ -315,7 +313,7 @@ impl Threads {
         if seat.passed {
             return None;
         }
-        if is_settle(next) { Some(t) } else { None }
+        if next.sync.is_settle() { Some(t) } else { None }
     }
 
     /// One turn, by its rules.
@@ -370,20 +368,6 @@ fn stuck(why: Why, t: u32, line: u32) -> Turn
         thread: ThreadNo(t),
         line,
     })
-}
-
-// Whether it is a settle.
-fn is_settle(next: &Next) -> bool
-    ensures { result ≡ Rattle.task_ast.specs.meaning.Table.is_settle next.now.sync }
-{
-    matches!(next.sync, SyncOp::Settle { reg: _, ctl: _ })
-}
-
-// Whether the thread ends with it.
-fn is_end(next: &Next) -> bool
-    ensures { result ≡ Rattle.task_ast.specs.meaning.Table.is_end next.now.sync }
-{
-    matches!(next.sync, SyncOp::End)
 }
 
 // The position of the thread's last subthread; 0 where it has none.

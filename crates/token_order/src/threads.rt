@@ -2,11 +2,12 @@
 
 ghost use Rattle.std.specs.Prelude.{◌≡◌, ◌<◌, ◌≤◌, ◌-◌, length, map, Option, Some, None, IfSome, IfOk, replicate, vec_capacity};
 ghost use Rattle.gp_base.specs.declared.limits.TheConstants.{MOST_THREADS};
+ghost use Rattle.task_ast.specs.Looking.{start_of, look_of};
 ghost use Rattle.task_ast.specs.Reached.{start_table};
 ghost use Rattle.task_ast.specs.meaning.Table.{numbers, ring, learning, unpassed};
 ghost use Rattle.task_ast.specs.meaning.Turn.{look};
 ghost use Rattle.task_ast.specs.Table;
-ghost use Rattle.token_order.specs.View.{table, seat_of, look_of, start_of, StandsInside};
+ghost use Rattle.token_order.specs.View.{table, seat_of, StandsInside};
 
 use gp_base::limits::MOST_THREADS;
 use std::alloc::{AllocError, Global};
@@ -58,7 +59,7 @@ pub fn has_ended(seat: &Seat) -> bool
     ensures { result ≡ Rattle.task_ast.specs.Table.has_ended (seat_of seat.now) }
 {
     match &seat.next {
-        Some(next) => matches!(next.sync, SyncOp::End),
+        Some(next) => next.sync.is_end(),
         None => false,
     }
 }

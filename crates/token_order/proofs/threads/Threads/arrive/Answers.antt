@@ -1,9 +1,9 @@
 use Rattle.std.proofs.Common.{ap, refl, rules}
 use Rattle.std.specs.Vec.{with_items}
 use Rattle.std.proofs.lemmas.List.{with_items_is}
-use Rattle.token_order.specs.View.{table}
+use Rattle.token_order.specs.View.{table, seat_of}
 use Rattle.task_ast.proofs.Looks.{get-at}
-use Rattle.token_order.proofs.Turning.{arrived-is}
+use Rattle.task_ast.proofs.SeenSeats.{arrived-is}
 use Rattle.token_order.specs.declared.threads.Stand.TheVariants.{Waits}
 use Rattle.token_order.proofs.threads.Threads.arrive.Goals as goal
 
@@ -11,7 +11,7 @@ pub returns-clause-table : goal.returns-clause-table
 returns-clause-table c =
     let same = with_items_is c.args.self.now.seats c.unpass_all.new.seats (search rules) in
     ap (λ ss. record (table c.args.self.now) { seats = ss })
-    (arrived-is c.args.self.now c.args.t c.unpass_all.new.seats
+    (arrived-is seat_of (table c.args.self.now) c.args.t c.unpass_all.new.seats
     (with_items c.args.self.now.seats c.unpass_all.new.seats).items c.index_mut.result.now
     (record c.index_mut.result.now { stand = Waits }) same (search rules)
     (get-at (with_items c.args.self.now.seats c.unpass_all.new.seats).items c.args.t c.index_mut.result.now

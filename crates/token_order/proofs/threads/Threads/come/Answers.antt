@@ -4,7 +4,8 @@ use Rattle.task_ast.specs.meaning.Table.{next_of}
 use Rattle.task_ast.specs.meaning.Turn.{issuing, passing}
 use Rattle.token_order.specs.View.{table}
 use Rattle.token_order.specs.Turned.{Answered}
-use Rattle.token_order.proofs.Barriers.{comes, one_waits, last_goes, opened, opened_next, spent_issue}
+use Rattle.token_order.proofs.Barriers.{comes, one_waits, last_goes, spent_issue}
+use Rattle.task_ast.proofs.SeenSeats.{opened, opened_next}
 use Rattle.token_order.proofs.Turning.{by, moved}
 use Rattle.token_order.proofs.threads.Threads.come.Goals as goal
 

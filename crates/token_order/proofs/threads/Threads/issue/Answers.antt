@@ -1,14 +1,16 @@
-use Rattle.std.proofs.Common.{◌∙◌, sym, arith, rules}
+use Rattle.std.proofs.Common.{◌∙◌, refl, sym, arith, rules}
 use Rattle.std.specs.Vec.{with_item}
 use Rattle.std.proofs.lemmas.List.{with_items_is}
 use Rattle.std.proofs.lemmas.Bool.{lt-ltb}
 use Rattle.task_ast.proofs.Looks.{get-at}
-use Rattle.token_order.proofs.Issuing.{issued-as}
+use Rattle.task_ast.proofs.SeenSeats.{issued-as}
+use Rattle.token_order.specs.View.{table, seat_of}
 use Rattle.token_order.proofs.threads.Threads.issue.Goals as goal
 
 pub returns-clause-answer : goal.returns-clause-answer
 returns-clause-answer c next e =
-    issued-as c.args.self.now c.args.t c.index_mut.result.now c.begin.new.seat next c.in-Some.next c.unpass_all.new.seats _ _ _ _
+    issued-as seat_of (table c.args.self.now) c.args.self.now.seats.items c.args.t c.index_mut.result.now c.begin.new.seat next
+    c.in-Some.next c.unpass_all.new.seats _ _ _ _ refl
     (get-at c.args.self.now.seats.items c.args.t c.index_mut.result.now c.requires.exists c.index_mut.ensures.value)
     (sym c.begin.ensures.next ∙ c.in-Some.is)
     c.begin.ensures.seat
