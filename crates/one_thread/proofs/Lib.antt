@@ -1,11 +1,9 @@
 pub mod Assigned
 pub mod Beginning
-pub mod Changing
 pub mod Fitting
 pub mod Forks
 pub mod Holds
 pub mod Issues
-pub mod Issuing
 pub mod Lefts
 pub mod Looking
 pub mod Mirroring

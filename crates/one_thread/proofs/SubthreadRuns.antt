@@ -5,13 +5,14 @@ use Rattle.std.proofs.lemmas.Bool.{false≢true}
 use Rattle.std.specs.declared.alloc.AllocError.{AllocError}
 use Rattle.task_ast.specs.declared.sync.SyncOp.{SyncOp}
 use Rattle.task_ast.specs.declared.sync.SyncOp.TheVariants as sync
+use Rattle.task_ast.specs.SyncOps.{is_start}
 use Rattle.task_ast.specs.meaning.Control.{beginning, first_actions, begin_actions, behind, tree_body}
 use Rattle.one_thread.specs.declared.walk.Walk.{Walk}
 use Rattle.one_thread.specs.declared.work.Shared.{Shared}
 use Rattle.one_thread.specs.declared.work.Done.{Done}
 use Rattle.one_thread.specs.inner.Working.{all_worked}
 use Rattle.one_thread.specs.inner.Walking.{setting_of, point_of, Keeps, Begun, Ran}
-use Rattle.one_thread.specs.inner.Subthreads.{is_start, at_work, body_from, data_from, RanWith}
+use Rattle.one_thread.specs.inner.Subthreads.{at_work, body_from, data_from, RanWith}
 use Rattle.one_thread.proofs.Steps.{stays}
 use Rattle.one_thread.proofs.Walks.{keeps_on, same_setting}
 use Rattle.one_thread.proofs.Mirroring.{worked-append}

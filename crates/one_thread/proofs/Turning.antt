@@ -17,45 +17,11 @@ use Rattle.task_ast.specs.meaning.Table.{Seat as SeatThere, Stand, Away, Waits, 
 use Rattle.gp_base.specs.declared.ending.End.TheVariants.{Finished}
 use Rattle.task_ast.specs.meaning.Turn.{Turn, Needs, Ended, deadlocked, all_threads, look, turn, tried, has_passed, stand_of, met, arrived, come_to, at_barrier, released_at, issuing, passing, last_of, is_away}
 use Rattle.std.proofs.lemmas.Bool.{false≢true, le-leb, lt-leb}
-use Rattle.task_ast.proofs.Rounds.{keeps_nth, keeps_map}
 use Rattle.one_thread.specs.declared.seats.Table.{Table as Ring}
 use Rattle.one_thread.specs.declared.seats.Seat.{Seat}
-use Rattle.one_thread.specs.inner.View.{table_of, seat_of, stand_view, look_of, is_free_to_go, gives, gave}
-use Rattle.one_thread.proofs.Looking.{seat-next}
-use Rattle.task_ast.proofs.ChangedSeats.{map-replaced}
-
-abbrev pub LooksAt : Ring → Option ℕ → Type 0
-LooksAt ring o =
-    look (table_of ring) (Rattle.task_ast.specs.meaning.Table.ring (table_of ring).token (length (table_of ring).seats))
-    ≡ look_of (table_of ring) o
-
-pub there : (ring : Ring) (t : ℕ) (seat : Seat) (next : Next) → slice_get ring.seats.items t ≡ Some seat → seat.next ≡ Some next
-    → next_of (table_of ring) t ≡ Some next
-there ring t seat next at is = seat-next ring t seat at ∙ is
-
-passed-is : (ring : Ring) (t : ℕ) (seat : Seat) → slice_get ring.seats.items t ≡ Some seat → has_passed (table_of ring) t ≡ seat.passed
-passed-is ring t seat at =
-    ap (λ o. unwrap_or (option_map (λ s. s.passed) o) false) (slice_get-map seat_of ring.seats.items t ∙ ap (option_map seat_of) at)
-
--- the rules of the thread are tried
-pub turn-tries : (ring : Ring) (t : ℕ) (seat : Seat) (next : Next) (sync : Sync) → LooksAt ring (Some t)
-    → slice_get ring.seats.items t ≡ Some seat → seat.next ≡ Some next → seat.passed ≡ false
-    → next.sync ≡ sync → turn (table_of ring) ≡ tried sync (table_of ring) t next
-turn-tries ring t seat next sync looks at is fresh s = rw (looks, there ring t seat next at is, passed-is ring t seat at, fresh, sym s) refl
-
-pub last-is : (ring : Ring) (t : ℕ) (seat : Seat) → slice_get ring.seats.items t ≡ Some seat
-    → last_of (table_of ring) t ≡ unwrap_or seat.last 0
-last-is ring t seat at =
-    ap (λ o. unwrap_or (option_and_then (λ s. s.last) o) 0) (slice_get-map seat_of ring.seats.items t ∙ ap (option_map seat_of) at)
-
--- the seats after an arrival
-pub arrived-is : (before : Ring) (t : ℕ) (cleared items : List Seat) (seat after : Seat) → items ≡ cleared
-    → map seat_of cleared ≡ map unpassed (map seat_of before.seats.items)
-    → slice_get items t ≡ Some seat → seat_of after ≡ record (seat_of seat) { stand = Waits }
-    → map seat_of (set items t after) ≡ (arrived (table_of before) t).seats
-arrived-is before t cleared items seat after same cleared_is at is =
-    map-replaced seat_of items t (λ s. record s { stand = Waits }) seat after at is
-    ∙ ap (λ ss. with_nth ss t (λ s. record s { stand = Waits })) (ap (map seat_of) same ∙ cleared_is)
+use Rattle.one_thread.specs.inner.View.{table_of, seat_of, gives, gave}
+use Rattle.task_ast.specs.Looking.{is_free_to_go}
+use Rattle.task_ast.proofs.SeenSeats.{LooksAt, next-at, passed-at, stand-at, arrived_next, opened, opened_next}
 
 pub met-released : (before : Ring) (t b number count : ℕ) (middle released : List Seat)
     → map seat_of middle ≡ (arrived (table_of before) t).seats → number ≡ unwrap_or (slice_get before.barriers.items b) 0
@@ -85,44 +51,27 @@ come-there Away table t b e = absurd (false≢true (sym e))
 come-there Waits table t b e = refl
 come-there Released table t b e = refl
 
-stand-is : (ring : Ring) (t : ℕ) (seat : Seat) → slice_get ring.seats.items t ≡ Some seat
-    → stand_of (table_of ring) t ≡ stand_view seat.stand
-stand-is ring t seat at =
-    ap (λ o. unwrap_or (option_map (λ s. s.stand) o) Away) (slice_get-map seat_of ring.seats.items t ∙ ap (option_map seat_of) at)
-
 abbrev pub HasCome : Ring → Ring → ℕ → ℕ → Type 0
 HasCome before after t b = table_of after ≡ come_to (stand_of (table_of before) t) (table_of before) t b
 
-pub come-by : (before after : Ring) (t b : ℕ) (seat : Seat) → slice_get before.seats.items t ≡ Some seat
-    → is_away (seat_of seat).stand ≡ true → table_of after ≡ met (arrived (table_of before) t) b → HasCome before after t b
+pub come-by : (before after : Ring) (t b : ℕ) (seat : SeatThere) → slice_get (table_of before).seats t ≡ Some seat
+    → is_away seat.stand ≡ true → table_of after ≡ met (arrived (table_of before) t) b → HasCome before after t b
 come-by before after t b seat at away e =
-    e ∙ sym (ap (λ s. come_to s (table_of before) t b) (stand-is before t seat at)
-    ∙ come-away (stand_view seat.stand) (table_of before) t b away)
+    e ∙ sym (ap (λ s. come_to s (table_of before) t b) (stand-at (table_of before) t seat at)
+    ∙ come-away seat.stand (table_of before) t b away)
 
-pub come-not : (before after : Ring) (t b : ℕ) (seat : Seat) → slice_get before.seats.items t ≡ Some seat
-    → is_away (seat_of seat).stand ≡ false → after ≡ before → HasCome before after t b
+pub come-not : (before after : Ring) (t b : ℕ) (seat : SeatThere) → slice_get (table_of before).seats t ≡ Some seat
+    → is_away seat.stand ≡ false → after ≡ before → HasCome before after t b
 come-not before after t b seat at away e =
-    ap table_of e ∙ sym (ap (λ s. come_to s (table_of before) t b) (stand-is before t seat at)
-    ∙ come-there (stand_view seat.stand) (table_of before) t b away)
+    ap table_of e ∙ sym (ap (λ s. come_to s (table_of before) t b) (stand-at (table_of before) t seat at)
+    ∙ come-there seat.stand (table_of before) t b away)
 
 met-next : (table : Table) (t b : ℕ) → next_of (met (arrived table t) b) t ≡ next_of table t
 met-next table t b = go (nat_le (unwrap_or (slice_get table.barriers b) 0) (count_by (waits_at b) (arrived table t).seats))
   where
-    arrived-next : next_of (arrived table t) t ≡ next_of table t
-    arrived-next =
-        keeps_nth (option_and_then (λ s. s.next)) (λ s. record s { stand = Waits }) (λ s. refl) (map unpassed table.seats) t t
-        ∙ keeps_map (option_and_then (λ s. s.next)) unpassed (λ s. refl) table.seats t
-
-    same : (c : Bool) (s : SeatThere) → (cond c (record s { stand = Released }) s).next ≡ s.next
-    same true s = refl
-    same false s = refl
-
-    go : (all : Bool)
-        → next_of (cond all (record (arrived table t) { seats = map (released_at b) (arrived table t).seats }) (arrived table t)) t
-        ≡ next_of table t
-    go true =
-        keeps_map (option_and_then (λ s. s.next)) (released_at b) (λ s. same (waits_at b s) s) (arrived table t).seats t ∙ arrived-next
-    go false = arrived-next
+    go : (all : Bool) → next_of (cond all (opened table t b) (arrived table t)) t ≡ next_of table t
+    go true = opened_next table t b t
+    go false = arrived_next table t t
 
 come-next : (s : Stand) (table : Table) (t b : ℕ) → next_of (come_to s table t b) t ≡ next_of table t
 come-next Away table t b = met-next table t b
@@ -143,29 +92,29 @@ waits Away table t next e = refl
 waits Waits table t next e = refl
 waits Released table t next e = absurd (false≢true (sym e))
 
-pub meets-goes : (before after : Ring) (t b : ℕ) (seat : Seat) (next : Next) → HasCome before after t b
-    → slice_get after.seats.items t ≡ Some seat → is_free_to_go (seat_of seat).stand ≡ true
+pub meets-goes : (before after : Ring) (t b : ℕ) (seat : SeatThere) (next : Next) → HasCome before after t b
+    → slice_get (table_of after).seats t ≡ Some seat → is_free_to_go seat.stand ≡ true
     → tried (sync_op.Barrier b) (table_of before) t next ≡ issuing (table_of after) t next
 meets-goes before after t b seat next e at free =
-    rw (sym e, stand-is after t seat at) (goes (stand_view seat.stand) (table_of after) t next free)
+    rw (sym e, stand-at (table_of after) t seat at) (goes seat.stand (table_of after) t next free)
 
-pub meets-waits : (before after : Ring) (t b : ℕ) (seat : Seat) (next : Next) → HasCome before after t b
-    → slice_get after.seats.items t ≡ Some seat → is_free_to_go (seat_of seat).stand ≡ false
+pub meets-waits : (before after : Ring) (t b : ℕ) (seat : SeatThere) (next : Next) → HasCome before after t b
+    → slice_get (table_of after).seats t ≡ Some seat → is_free_to_go seat.stand ≡ false
     → tried (sync_op.Barrier b) (table_of before) t next ≡ passing (table_of after) t
 meets-waits before after t b seat next e at free =
-    rw (sym e, stand-is after t seat at) (waits (stand_view seat.stand) (table_of after) t next free)
+    rw (sym e, stand-at (table_of after) t seat at) (waits seat.stand (table_of after) t next free)
 
 -- a thread that has passed ends the run
-pub turn-stuck : (ring : Ring) (t : ℕ) (seat : Seat) (next : Next) → LooksAt ring (Some t) → slice_get ring.seats.items t ≡ Some seat
-    → seat.next ≡ Some next → seat.passed ≡ true
-    → turn (table_of ring) ≡ deadlocked (look (table_of ring) (all_threads (table_of ring)))
-turn-stuck ring t seat next looks at is passed = rw (looks, there ring t seat next at is, passed-is ring t seat at, passed) refl
+pub turn-stuck : (table : Table) (t : ℕ) (seat : SeatThere) (next : Next) → LooksAt table (Some t) → slice_get table.seats t ≡ Some seat
+    → seat.next ≡ Some next → seat.passed ≡ true → turn table ≡ deadlocked (look table (all_threads table))
+turn-stuck table t seat next looks at is passed = rw (looks, next-at table t seat at ∙ is, passed-at table t seat at, passed) refl
 
 -- an unknown thread is needed
-pub turn-needs : (ring : Ring) (t : ℕ) → LooksAt ring (Some t) → next_of (table_of ring) t ≡ None → turn (table_of ring) ≡ Done (Needs t)
+pub turn-needs : (ring : Ring) (t : ℕ) → LooksAt (table_of ring) (Some t) → next_of (table_of ring) t ≡ None
+    → turn (table_of ring) ≡ Done (Needs t)
 turn-needs ring t looks none = rw (looks, none) refl
 
-pub turn-finished : (ring : Ring) → LooksAt ring None → turn (table_of ring) ≡ Done (Ended Finished)
+pub turn-finished : (ring : Ring) → LooksAt (table_of ring) None → turn (table_of ring) ≡ Done (Ended Finished)
 turn-finished ring looks = rw looks refl
 
 abbrev NextIs : Ring → ℕ → Next → Type 0

@@ -1,18 +1,10 @@
 // The cells of lock arrays and of records, numbered in declared order, and the barriers.
-ghost use Rattle.std.specs.Prelude.{◌≡◌, ◌<◌, ◌≤◌, ◌^◌, map, option_map, position, IfOk, IfSome};
-ghost use Rattle.task_ast.specs.meaning.Names.{is_name, natural, locks_of, records_of, barriers_of, cells_in, cell_number};
+ghost use Rattle.std.specs.Prelude.{◌≡◌, ◌<◌, ◌≤◌, map, option_map, position, IfOk, IfSome};
+ghost use Rattle.task_ast.specs.meaning.Names.{is_name, locks_of, records_of, barriers_of, cells_in, cell_number};
 
 use gp_base::Name;
 use std::alloc::{AllocError, Global};
-use task_ast::Head;
-
-// A size as a number; a negative one counts as 0.
-fn natural(size: i64) -> u64
-    ensures value { result ≡ natural size }
-    ensures small { result < 2 ^ 63 }
-{
-    if size < 0 { 0 } else { size as u64 }
-}
+use task_ast::{Head, natural};
 
 /// Whether two names are one.
 pub fn same_name(x: &Name, y: &Name) -> bool

@@ -1,10 +1,11 @@
 // The threads of a run, and the thread that the token comes to.
 ghost use Rattle.std.specs.Prelude.{◌≡◌, ◌<◌, ◌-◌, [], ◌∷◌, length, map, replicate, IfOk, IfSome, None};
+ghost use Rattle.task_ast.specs.Looking.{look_of};
 ghost use Rattle.task_ast.specs.meaning.Table.{numbers, ring, learning, unpassed};
 ghost use Rattle.task_ast.specs.meaning.Turn.{look};
 ghost use Rattle.task_ast.specs.Table;
 ghost use Rattle.one_thread.specs.inner.Holding.{AreHeld};
-ghost use Rattle.one_thread.specs.inner.View.{table_of, seat_of, look_of};
+ghost use Rattle.one_thread.specs.inner.View.{table_of, seat_of};
 
 use crate::owners::Owners;
 use std::alloc::{AllocError, Global};
@@ -39,19 +40,12 @@ pub struct Table {
     pub issued: u32,
 }
 
-/// Whether a thread ends with this.
-pub fn is_end(next: &Next) -> bool
-    ensures { result ≡ Rattle.task_ast.specs.meaning.Table.is_end next.now.sync }
-{
-    matches!(next.sync, SyncOp::End)
-}
-
 // Whether the seat's thread is known to have ended.
 fn has_ended(seat: &Seat) -> bool
     ensures { result ≡ Rattle.task_ast.specs.Table.has_ended (seat_of seat.now) }
 {
     match &seat.next {
-        Some(next) => is_end(next),
+        Some(next) => next.sync.is_end(),
         None => false,
     }
 }

@@ -1,14 +1,15 @@
 // The turn of the thread that the token comes to.
 ghost use Rattle.std.specs.Prelude.{◌≡◌, ℕ, ℤ, ◌<◌, length, map, List, Some, None, IfOk, OnOk, slice_get, unwrap_or, count_by, ⊤};
 ghost use Rattle.gp_base.specs.declared.ending.End.TheVariants.{Stuck};
+ghost use Rattle.task_ast.specs.Looking.{begun, joined_in, is_free_to_go};
 ghost use Rattle.task_ast.specs.declared.sync.Next.{Next as NextThere};
 ghost use Rattle.task_ast.specs.declared.sync.SyncOp.TheVariants as sync;
 ghost use Rattle.task_ast.specs.meaning.Table.{next_of, waits_at};
 ghost use Rattle.task_ast.specs.meaning.Turn.{turn, next_issue, tried, issuing, passing, look, seats_after, child_of, deadlocked, all_threads, met, arrived, released_at};
 ghost use Rattle.one_thread.specs.inner.Holding.{AreHeld};
-ghost use Rattle.one_thread.specs.inner.View.{table_of, seat_of, gives, gave, begun, joined_in, is_free_to_go, Halts};
+ghost use Rattle.one_thread.specs.inner.View.{table_of, seat_of, gives, gave, Halts};
 
-use crate::seats::{Seat, Stand, Table, clear, is_end, new_seat};
+use crate::seats::{Seat, Stand, Table, clear, new_seat};
 use gp_base::limits::MOST_THREADS;
 use gp_base::{End, Pos, ThreadNo, Why};
 use std::alloc::{AllocError, Global};
@@ -138,7 +139,7 @@ impl Table {
         match &self.seats[other].next {
             None => Ok(Turn::Needs(other)),
             Some(next) => {
-                if is_end(next) {
+                if next.sync.is_end() {
                     self.issue(alloc, t)
                 } else {
                     Ok(self.pass(t))

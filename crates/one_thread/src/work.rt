@@ -4,7 +4,7 @@ ghost use Rattle.task_ast.specs.meaning.Names.{locks_of, records_of, cells_in, r
 ghost use Rattle.task_ast.specs.View.{plain_task};
 ghost use Rattle.task_ast.specs.meaning.Control.{first_actions, beginning};
 ghost use Rattle.one_thread.specs.inner.Walking.{setting_of, point_of, Begun};
-ghost use Rattle.one_thread.specs.inner.Subthreads.{at_work, is_start, RanWith};
+ghost use Rattle.one_thread.specs.inner.Subthreads.{at_work, RanWith};
 
 use crate::names::Names;
 use crate::walk::Walk;
@@ -47,13 +47,6 @@ fn hand_out(alloc: Global, walk: &mut Walk, shared: &mut Shared)
     walk.data.named = Names::new(alloc);
 }
 
-// Whether a thread starts.
-fn is_start(begins: &SyncOp) -> bool
-    ensures { result ≡ is_start begins.now }
-{
-    matches!(begins, SyncOp::Start)
-}
-
 // The synchronisation that a subthread begins with.
 fn start(
     alloc: Global,
@@ -66,7 +59,7 @@ fn start(
     requires clean { walk.old.env.regs ≡ [] }
     ensures { OnOk result (Begun (first_actions (setting_of walk.old) begins.now (point_of walk.old)) (beginning begins.now child (point_of walk.old)) joined walk.old walk.new) }
 {
-    if is_start(begins) {
+    if begins.is_start() {
         return Ok(());
     }
     walk.begin(alloc, child, joined)

@@ -1,5 +1,5 @@
 -- What the work of one subthread does.
-use Rattle.std.specs.Prelude.{◌≡◌, ℕ, ℤ, Bool, true, false, List, [], ◌++◌, Option}
+use Rattle.std.specs.Prelude.{◌≡◌, ℕ, ℤ, List, [], ◌++◌, Option}
 use Rattle.task_ast.specs.declared.sync.SyncOp.{SyncOp}
 use Rattle.task_ast.specs.declared.sync.SyncOp.TheVariants as sync
 use Rattle.task_ast.specs.meaning.Action.{Action}
@@ -14,11 +14,6 @@ use Rattle.one_thread.specs.declared.work.Shared.{Shared}
 use Rattle.one_thread.specs.declared.work.Done.{Done}
 use Rattle.one_thread.specs.inner.Working.{all_worked}
 use Rattle.one_thread.specs.inner.Walking.{setting_of, point_of}
-
--- whether a thread starts
-abbrev pub is_start : SyncOp → Bool
-is_start sync.Start = true
-is_start _ = false
 
 -- its control variables, of which a settle has set one to the value of a register
 abbrev pub settled_names : SyncOp → Walk → List (Name × ℤ)

@@ -1,11 +1,8 @@
 -- The table of the code as the thread table that definitions see.
-use Rattle.std.specs.Prelude.{◌≡◌, ℕ, zero, suc, ℤ, pos, negsuc, Bool, true, false, cond, map, Option, Some, None, nat_lt}
-use Rattle.task_ast.specs.declared.sync.Next.{Next}
+use Rattle.std.specs.Prelude.{◌≡◌, ℕ, zero, suc, true, map, Option, Some, None, nat_lt}
 use Rattle.task_ast.specs.meaning.Repeat.{Again, More, Done}
 use Rattle.task_ast.specs.meaning.Table as plain
-use Rattle.task_ast.specs.meaning.Table.{next_of}
 use Rattle.task_ast.specs.meaning.Turn as there
-use Rattle.task_ast.specs.meaning.Turn.{Look, To, Unknown, NoThread}
 use Rattle.one_thread.specs.declared.seats.Stand.{Stand}
 use Rattle.one_thread.specs.declared.seats.Stand.TheVariants as stands
 use Rattle.one_thread.specs.declared.seats.Seat.{Seat}
@@ -50,29 +47,6 @@ gave (here.Issue t next child) after = there.Issue t next child after
 gave here.Pass after = there.Needs 0
 gave (here.Needs t) after = there.Needs t
 gave (here.Ended e) after = there.Ended e
-
-abbrev pub look_with : ℕ → Option Next → Look
-look_with t None = Unknown t
-look_with t (Some next) = To t next
-
--- the first thread that isn't known to have ended, with its next synchronisation
-abbrev pub look_of : plain.Table → Option ℕ → Look
-look_of table None = NoThread
-look_of table (Some t) = look_with t (next_of table t)
-
--- a seat whose thread began a subthread
-abbrev pub begun : ℕ → plain.Seat → plain.Seat
-begun issued seat = record { next = None; last = Some issued; passed = false; stand = plain.Away }
-
--- the thread that a join names
-abbrev pub joined_in : ℤ → ℕ → Option ℕ
-joined_in (pos h) n = cond (nat_lt h n) (Some h) None
-joined_in (negsuc h) n = None
-
--- whether a thread at a barrier was released
-abbrev pub is_free_to_go : plain.Stand → Bool
-is_free_to_go plain.Released = true
-is_free_to_go _ = false
 
 -- the turn is none that passes, and a subthread that it begins is of a thread that is there
 abbrev pub Halts : Turn → (threads : ℕ) → Type 0

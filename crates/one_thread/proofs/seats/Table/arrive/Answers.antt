@@ -3,7 +3,8 @@ use Rattle.std.specs.Vec.{with_item, with_items}
 use Rattle.std.proofs.lemmas.List.{with_items_is}
 use Rattle.one_thread.specs.inner.View.{table_of, seat_of}
 use Rattle.task_ast.proofs.Looks.{get-at}
-use Rattle.one_thread.proofs.Turning.{arrived-is, met-released, met-not}
+use Rattle.one_thread.proofs.Turning.{met-released, met-not}
+use Rattle.task_ast.proofs.SeenSeats.{arrived-is}
 use Rattle.one_thread.specs.declared.seats.Stand.TheVariants.{Waits}
 use Rattle.one_thread.proofs.seats.Table.arrive.Goals as goal
 
@@ -11,7 +12,7 @@ pub returns-then-stated-waiting-clause-table : goal.returns-then-stated-waiting-
 returns-then-stated-waiting-clause-table c =
     let same = with_items_is c.args.self.now.seats c.clear.new.seats (search rules) in
     let middle =
-    arrived-is c.args.self.now c.args.t c.clear.new.seats
+    arrived-is seat_of (table_of c.args.self.now) c.args.t c.clear.new.seats
     (with_items c.args.self.now.seats c.clear.new.seats).items c.index_mut.result.now
     (record c.index_mut.result.now { stand = Waits }) same (search rules)
     (get-at (with_items c.args.self.now.seats c.clear.new.seats).items c.args.t c.index_mut.result.now
@@ -28,7 +29,7 @@ pub returns-else-stated-waiting-clause-table : goal.returns-else-stated-waiting-
 returns-else-stated-waiting-clause-table c =
     let same = with_items_is c.args.self.now.seats c.clear.new.seats (search rules) in
     let middle =
-    arrived-is c.args.self.now c.args.t c.clear.new.seats
+    arrived-is seat_of (table_of c.args.self.now) c.args.t c.clear.new.seats
     (with_items c.args.self.now.seats c.clear.new.seats).items c.index_mut.result.now
     (record c.index_mut.result.now { stand = Waits }) same (search rules)
     (get-at (with_items c.args.self.now.seats c.clear.new.seats).items c.args.t c.index_mut.result.now

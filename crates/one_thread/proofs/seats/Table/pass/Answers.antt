@@ -1,8 +1,13 @@
+use Rattle.std.proofs.Common.{sym, ap, refl, true, Some}
+use Rattle.task_ast.specs.meaning.Repeat.{More}
 use Rattle.task_ast.proofs.Looks.{get-at}
-use Rattle.one_thread.proofs.Changing.{passed-as}
+use Rattle.task_ast.proofs.ChangedSeats.{map-replaced}
+use Rattle.one_thread.specs.inner.View.{table_of, seat_of}
+use Rattle.one_thread.proofs.Looking.{token-is}
 use Rattle.one_thread.proofs.seats.Table.pass.Goals as goal
 
 pub returns-clause-turn : goal.returns-clause-turn
 returns-clause-turn c =
-    passed-as c.args.self.now c.args.t c.index_mut.result.now
-    (get-at c.args.self.now.seats.items c.args.t c.index_mut.result.now c.requires.exists c.index_mut.ensures.value)
+    rw (token-is c.args.t) (ap (λ ss. More (record (table_of c.args.self.now) { seats = ss; token = Some c.args.t }))
+    (sym (map-replaced seat_of c.args.self.now.seats.items c.args.t (λ s. record s { passed = true }) c.index_mut.result.now _
+    (get-at c.args.self.now.seats.items c.args.t c.index_mut.result.now c.requires.exists c.index_mut.ensures.value) refl)))

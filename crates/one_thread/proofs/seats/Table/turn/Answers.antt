@@ -4,104 +4,110 @@ use Rattle.gp_base.specs.declared.ending.End.TheVariants.{Spent}
 use Rattle.task_ast.specs.declared.sync.SyncOp.TheVariants as sync
 use Rattle.task_ast.specs.meaning.Repeat.{Done}
 use Rattle.task_ast.specs.meaning.Turn.{tried, issuing, Ended}
-use Rattle.one_thread.specs.inner.View.{table_of}
-use Rattle.one_thread.proofs.Looking.{at-get}
-use Rattle.one_thread.proofs.Turning.{turn-tries, there, last-is, by-rule, by-line, by-fork, by-end}
+use Rattle.one_thread.specs.inner.View.{table_of, seat_of}
+use Rattle.task_ast.proofs.SeenSeats.{turn-tries, next-at, last-at}
+use Rattle.one_thread.proofs.Looking.{seen-get}
+use Rattle.one_thread.proofs.Turning.{by-rule, by-line, by-fork, by-end}
 use Rattle.one_thread.proofs.seats.Table.turn.Goals as goal
 
 pub returns-in-Start-clause-turn : goal.returns-in-Start-clause-turn
 returns-in-Start-clause-turn c =
     let at =
-    at-get _ c.args.self.now.seats.items c.in-Some.t c.in-Some-get.seat.now c.deref.ensures.value c.in-Some-get.ensures.lookup.0
+    seen-get c.args.self.now _ c.in-Some.t c.in-Some-get.seat.now c.deref.ensures.value c.in-Some-get.ensures.lookup.0
     c.in-Some-get.ensures.lookup.1 in
     by-rule c.issue.result c.args.self.now c.issue.new.self c.in-Some.t c.in-Some-next.next
     (λ n. issuing (table_of c.args.self.now) c.in-Some.t n)
-    (turn-tries c.args.self.now c.in-Some.t c.in-Some-get.seat.now c.in-Some-next.next sync.Start c.in-Some.ensures at c.in-Some-next.is
+    (turn-tries (table_of c.args.self.now) c.in-Some.t (seat_of c.in-Some-get.seat.now) c.in-Some-next.next
+    sync.Start c.in-Some.ensures at c.in-Some-next.is
     c.if-seat.false c.in-Start.is)
-    (there c.args.self.now c.in-Some.t c.in-Some-get.seat.now c.in-Some-next.next at c.in-Some-next.is) c.issue.ensures.turn
+    (next-at (table_of c.args.self.now) c.in-Some.t (seat_of c.in-Some-get.seat.now) at ∙ c.in-Some-next.is) c.issue.ensures.turn
 
 pub returns-in-Unlock-clause-turn : goal.returns-in-Unlock-clause-turn
 returns-in-Unlock-clause-turn c =
     let at =
-    at-get _ c.args.self.now.seats.items c.in-Some.t c.in-Some-get.seat.now c.deref.ensures.value c.in-Some-get.ensures.lookup.0
+    seen-get c.args.self.now _ c.in-Some.t c.in-Some-get.seat.now c.deref.ensures.value c.in-Some-get.ensures.lookup.0
     c.in-Some-get.ensures.lookup.1 in
     by-rule c.issue-in-Unlock.result c.args.self.now c.issue-in-Unlock.new.self c.in-Some.t c.in-Some-next.next
     (λ n. issuing (table_of c.args.self.now) c.in-Some.t n)
-    (turn-tries c.args.self.now c.in-Some.t c.in-Some-get.seat.now c.in-Some-next.next
+    (turn-tries (table_of c.args.self.now) c.in-Some.t (seat_of c.in-Some-get.seat.now) c.in-Some-next.next
     (sync.Unlock c.in-Unlock.field-0) c.in-Some.ensures at c.in-Some-next.is c.if-seat.false c.in-Unlock.is)
-    (there c.args.self.now c.in-Some.t c.in-Some-get.seat.now c.in-Some-next.next at c.in-Some-next.is) c.issue-in-Unlock.ensures.turn
+    (next-at (table_of c.args.self.now) c.in-Some.t (seat_of c.in-Some-get.seat.now) at ∙ c.in-Some-next.is) c.issue-in-Unlock.ensures.turn
 
 pub returns-in-End-clause-turn : goal.returns-in-End-clause-turn
 returns-in-End-clause-turn c =
     let at =
-    at-get _ c.args.self.now.seats.items c.in-Some.t c.in-Some-get.seat.now c.deref.ensures.value c.in-Some-get.ensures.lookup.0
+    seen-get c.args.self.now _ c.in-Some.t c.in-Some-get.seat.now c.deref.ensures.value c.in-Some-get.ensures.lookup.0
     c.in-Some-get.ensures.lookup.1 in
     by-rule c.issue-in-End.result c.args.self.now c.issue-in-End.new.self c.in-Some.t c.in-Some-next.next
     (λ n. issuing (table_of c.args.self.now) c.in-Some.t n)
-    (turn-tries c.args.self.now c.in-Some.t c.in-Some-get.seat.now c.in-Some-next.next sync.End c.in-Some.ensures at c.in-Some-next.is
+    (turn-tries (table_of c.args.self.now) c.in-Some.t (seat_of c.in-Some-get.seat.now) c.in-Some-next.next
+    sync.End c.in-Some.ensures at c.in-Some-next.is
     c.if-seat.false c.in-End.is)
-    (there c.args.self.now c.in-Some.t c.in-Some-get.seat.now c.in-Some-next.next at c.in-Some-next.is) c.issue-in-End.ensures.turn
+    (next-at (table_of c.args.self.now) c.in-Some.t (seat_of c.in-Some-get.seat.now) at ∙ c.in-Some-next.is) c.issue-in-End.ensures.turn
 
 pub returns-in-Settle-clause-turn : goal.returns-in-Settle-clause-turn
 returns-in-Settle-clause-turn c =
     let at =
-    at-get _ c.args.self.now.seats.items c.in-Some.t c.in-Some-get.seat.now c.deref.ensures.value c.in-Some-get.ensures.lookup.0
+    seen-get c.args.self.now _ c.in-Some.t c.in-Some-get.seat.now c.deref.ensures.value c.in-Some-get.ensures.lookup.0
     c.in-Some-get.ensures.lookup.1 in
     by-rule c.issue-in-Settle.result c.args.self.now c.issue-in-Settle.new.self c.in-Some.t c.in-Some-next.next
     (λ n. issuing (table_of c.args.self.now) c.in-Some.t n)
-    (turn-tries c.args.self.now c.in-Some.t c.in-Some-get.seat.now c.in-Some-next.next
+    (turn-tries (table_of c.args.self.now) c.in-Some.t (seat_of c.in-Some-get.seat.now) c.in-Some-next.next
     (sync.Settle c.in-Settle.reg c.in-Settle.ctl) c.in-Some.ensures at c.in-Some-next.is c.if-seat.false c.in-Settle.is)
-    (there c.args.self.now c.in-Some.t c.in-Some-get.seat.now c.in-Some-next.next at c.in-Some-next.is) c.issue-in-Settle.ensures.turn
+    (next-at (table_of c.args.self.now) c.in-Some.t (seat_of c.in-Some-get.seat.now) at ∙ c.in-Some-next.is) c.issue-in-Settle.ensures.turn
 
 pub returns-in-Barrier-clause-turn : goal.returns-in-Barrier-clause-turn
 returns-in-Barrier-clause-turn c =
     let at =
-    at-get _ c.args.self.now.seats.items c.in-Some.t c.in-Some-get.seat.now c.deref.ensures.value c.in-Some-get.ensures.lookup.0
+    seen-get c.args.self.now _ c.in-Some.t c.in-Some-get.seat.now c.deref.ensures.value c.in-Some-get.ensures.lookup.0
     c.in-Some-get.ensures.lookup.1 in
     by-rule c.meet.result c.args.self.now c.meet.new.self c.in-Some.t c.in-Some-next.next
     (λ n. tried (sync.Barrier c.in-Barrier.barrier) (table_of c.args.self.now) c.in-Some.t n)
-    (turn-tries c.args.self.now c.in-Some.t c.in-Some-get.seat.now c.in-Some-next.next
+    (turn-tries (table_of c.args.self.now) c.in-Some.t (seat_of c.in-Some-get.seat.now) c.in-Some-next.next
     (sync.Barrier c.in-Barrier.barrier) c.in-Some.ensures at c.in-Some-next.is c.if-seat.false c.in-Barrier.is)
-    (there c.args.self.now c.in-Some.t c.in-Some-get.seat.now c.in-Some-next.next at c.in-Some-next.is) c.meet.ensures.turn
+    (next-at (table_of c.args.self.now) c.in-Some.t (seat_of c.in-Some-get.seat.now) at ∙ c.in-Some-next.is) c.meet.ensures.turn
 
 pub returns-in-Join-clause-turn : goal.returns-in-Join-clause-turn
 returns-in-Join-clause-turn c =
     let at =
-    at-get _ c.args.self.now.seats.items c.in-Some.t c.in-Some-get.seat.now c.deref.ensures.value c.in-Some-get.ensures.lookup.0
+    seen-get c.args.self.now _ c.in-Some.t c.in-Some-get.seat.now c.deref.ensures.value c.in-Some-get.ensures.lookup.0
     c.in-Some-get.ensures.lookup.1 in
     let fits : SFits w64 c.in-Join.h = search rules in
     by-line c.join.result c.args.self.now c.join.new.self c.in-Some.t c.in-Some-next.next
     (λ n. tried (sync.Join c.in-Join.h) (table_of c.args.self.now) c.in-Some.t n)
-    (turn-tries c.args.self.now c.in-Some.t c.in-Some-get.seat.now c.in-Some-next.next
+    (turn-tries (table_of c.args.self.now) c.in-Some.t (seat_of c.in-Some-get.seat.now) c.in-Some-next.next
     (sync.Join c.in-Join.h) c.in-Some.ensures at c.in-Some-next.is c.if-seat.false c.in-Join.is)
-    (there c.args.self.now c.in-Some.t c.in-Some-get.seat.now c.in-Some-next.next at c.in-Some-next.is)
+    (next-at (table_of c.args.self.now) c.in-Some.t (seat_of c.in-Some-get.seat.now) at ∙ c.in-Some-next.is)
     (simp to_z-of_z at c.join.ensures.turn)
 
 pub returns-in-Fork-clause-turn : goal.returns-in-Fork-clause-turn
 returns-in-Fork-clause-turn c =
     let at =
-    at-get _ c.args.self.now.seats.items c.in-Some.t c.in-Some-get.seat.now c.deref.ensures.value c.in-Some-get.ensures.lookup.0
+    seen-get c.args.self.now _ c.in-Some.t c.in-Some-get.seat.now c.deref.ensures.value c.in-Some-get.ensures.lookup.0
     c.in-Some-get.ensures.lookup.1 in
     by-fork c.fork.result c.args.self.now c.fork.new.self c.in-Some.t c.in-Some-next.next c.in-Fork.task c.in-Fork.args
-    (turn-tries c.args.self.now c.in-Some.t c.in-Some-get.seat.now c.in-Some-next.next
+    (turn-tries (table_of c.args.self.now) c.in-Some.t (seat_of c.in-Some-get.seat.now) c.in-Some-next.next
     (sync.Fork c.in-Fork.task c.in-Fork.args) c.in-Some.ensures at c.in-Some-next.is c.if-seat.false c.in-Fork.is)
-    (there c.args.self.now c.in-Some.t c.in-Some-get.seat.now c.in-Some-next.next at c.in-Some-next.is) c.fork.ensures.turn
+    (next-at (table_of c.args.self.now) c.in-Some.t (seat_of c.in-Some-get.seat.now) at ∙ c.in-Some-next.is) c.fork.ensures.turn
 
 pub returns-in-BadIndex-clause-turn : goal.returns-in-BadIndex-clause-turn
 returns-in-BadIndex-clause-turn c =
     let at =
-    at-get _ c.args.self.now.seats.items c.in-Some.t c.in-Some-get.seat.now c.deref.ensures.value c.in-Some-get.ensures.lookup.0
+    seen-get c.args.self.now _ c.in-Some.t c.in-Some-get.seat.now c.deref.ensures.value c.in-Some-get.ensures.lookup.0
     c.in-Some-get.ensures.lookup.1 in
     by-end c.stuck.result c.args.self.now _
-    (turn-tries c.args.self.now c.in-Some.t c.in-Some-get.seat.now c.in-Some-next.next sync.BadIndex c.in-Some.ensures at c.in-Some-next.is
+    (turn-tries (table_of c.args.self.now) c.in-Some.t (seat_of c.in-Some-get.seat.now) c.in-Some-next.next
+    sync.BadIndex c.in-Some.ensures at c.in-Some-next.is
     c.if-seat.false c.in-BadIndex.is)
     c.stuck.ensures
 
 pub returns-in-Spent-clause-turn : goal.returns-in-Spent-clause-turn
 returns-in-Spent-clause-turn c =
     let at =
-    at-get _ c.args.self.now.seats.items c.in-Some.t c.in-Some-get.seat.now c.deref.ensures.value c.in-Some-get.ensures.lookup.0
+    seen-get c.args.self.now _ c.in-Some.t c.in-Some-get.seat.now c.deref.ensures.value c.in-Some-get.ensures.lookup.0
     c.in-Some-get.ensures.lookup.1 in
-    (turn-tries c.args.self.now c.in-Some.t c.in-Some-get.seat.now c.in-Some-next.next sync.Spent c.in-Some.ensures at c.in-Some-next.is
+    (turn-tries (table_of c.args.self.now) c.in-Some.t (seat_of c.in-Some-get.seat.now) c.in-Some-next.next
+    sync.Spent c.in-Some.ensures at c.in-Some-next.is
     c.if-seat.false c.in-Spent.is)
-    ∙ ap (λ p. Done (Ended (Spent p))) (last-is c.args.self.now c.in-Some.t c.in-Some-get.seat.now at ∙ sym c.unwrap_or-last.ensures)
+    ∙ ap (λ p. Done (Ended (Spent p))) (last-at (table_of c.args.self.now) c.in-Some.t
+    (seat_of c.in-Some-get.seat.now) at ∙ sym c.unwrap_or-last.ensures)

@@ -17,7 +17,8 @@ pub returns-in-Start-clause-answer : goal.returns-in-Start-clause-answer
 returns-in-Start-clause-answer c =
     let at = seen c.args.self.now c.in-Some.t c.index-seat.result.now c.in-Some.ensures.below c.index-seat.ensures in
     by (table c.args.self.now) (table c.issue.new.self) c.issue.result
-    (turn-tries (table c.args.self.now) c.in-Some.t (seat_of c.index-seat.result.now) c.in-Some-next.next sync.Start c.in-Some.ensures.found at
+    (turn-tries (table c.args.self.now) c.in-Some.t (seat_of c.index-seat.result.now) c.in-Some-next.next
+    sync.Start c.in-Some.ensures.found at
     c.in-Some-next.is c.if-seat.false c.in-Start.is)
     (c.issue.ensures.answer c.in-Some-next.next
     (next-at (table c.args.self.now) c.in-Some.t (seat_of c.index-seat.result.now) at ∙ c.in-Some-next.is))
@@ -61,7 +62,8 @@ returns-in-Join-clause-answer c =
     by (table c.args.self.now) (table c.join.new.self) c.join.result
     (turn-tries (table c.args.self.now) c.in-Some.t (seat_of c.index-seat.result.now) c.in-Some-next.next
     (sync.Join c.in-Join.h) c.in-Some.ensures.found at c.in-Some-next.is c.if-seat.false c.in-Join.is)
-    (joins c c.in-Some-next.next (next-at (table c.args.self.now) c.in-Some.t (seat_of c.index-seat.result.now) at ∙ c.in-Some-next.is) refl)
+    (joins c c.in-Some-next.next (next-at (table c.args.self.now) c.in-Some.t (seat_of c.index-seat.result.now) at
+    ∙ c.in-Some-next.is) refl)
 
 pub returns-in-Barrier-clause-answer : goal.returns-in-Barrier-clause-answer
 returns-in-Barrier-clause-answer c =
@@ -85,7 +87,8 @@ pub returns-in-End-clause-answer : goal.returns-in-End-clause-answer
 returns-in-End-clause-answer c =
     let at = seen c.args.self.now c.in-Some.t c.index-seat.result.now c.in-Some.ensures.below c.index-seat.ensures in
     by (table c.args.self.now) (table c.issue-in-End.new.self) c.issue-in-End.result
-    (turn-tries (table c.args.self.now) c.in-Some.t (seat_of c.index-seat.result.now) c.in-Some-next.next sync.End c.in-Some.ensures.found at
+    (turn-tries (table c.args.self.now) c.in-Some.t (seat_of c.index-seat.result.now) c.in-Some-next.next
+    sync.End c.in-Some.ensures.found at
     c.in-Some-next.is c.if-seat.false c.in-End.is)
     (c.issue-in-End.ensures.answer c.in-Some-next.next
     (next-at (table c.args.self.now) c.in-Some.t (seat_of c.index-seat.result.now) at ∙ c.in-Some-next.is))
@@ -102,7 +105,8 @@ returns-in-BadIndex-clause-answer c =
 pub returns-in-Spent-clause-answer : goal.returns-in-Spent-clause-answer
 returns-in-Spent-clause-answer c =
     let at = seen c.args.self.now c.in-Some.t c.index-seat.result.now c.in-Some.ensures.below c.index-seat.ensures in (
-      (turn-tries (table c.args.self.now) c.in-Some.t (seat_of c.index-seat.result.now) c.in-Some-next.next sync.Spent c.in-Some.ensures.found at
+      (turn-tries (table c.args.self.now) c.in-Some.t (seat_of c.index-seat.result.now) c.in-Some-next.next
+          sync.Spent c.in-Some.ensures.found at
           c.in-Some-next.is c.if-seat.false c.in-Spent.is)
           ∙ ap (λ p. Done (Ended (ends.Spent p)))
           (last-at (table c.args.self.now) c.in-Some.t (seat_of c.index-seat.result.now) at ∙ sym c.last_of-last.ensures),
