@@ -2,7 +2,7 @@
 ghost use Rattle.std.specs.Prelude.{◌≡◌};
 ghost use Rattle.std.specs.Arc.{arc_value};
 ghost use Rattle.desk_board.specs.Held.{about, hand};
-ghost use Rattle.desk_board.specs.Told.{IsOf};
+ghost use Rattle.desk_board.specs.Views.{IsOf};
 ghost use Rattle.pipe_crew.specs.inner.Passes.{unused};
 
 use crate::draining::drain;
