@@ -13,7 +13,7 @@ use Rattle.task_ast.specs.meaning.Layout.{layout}
 use Rattle.task_ast.specs.meaning.Under.{is_under}
 use Rattle.task_ast.specs.meaning.Repeat.{Move, Goes, Ends}
 use Rattle.task_ast.specs.meaning.Plain.{Subthread, Plain, opening, move}
-use Rattle.retirement_log.specs.meaning.Rows.{LogRow}
+use Rattle.retirement_log.specs.meaning.Rows.{Retirement}
 use Rattle.gp_resume.specs.meaning.Fitting.{writes_in, child_size, StandsUnder, least_bytes, FitsIssue, FitsMove, replayed, FitFrom, Fit}
 use Rattle.gp_resume.proofs.Choices.{Choice, same-choice, is-true, same-int, no-more, all}
 
@@ -24,7 +24,7 @@ stands-under under held (pos c) =
     (is-true (is_under under held c))
 stands-under under held (negsuc c) = inr (λ h. let same = h.1 in cc same)
 
-module _ (program : Program) (x : Plain) (s : Subthread) (before : Option LogRow) (row : LogRow) where
+module _ (program : Program) (x : Plain) (s : Subthread) (before : Option Retirement) (row : Retirement) where
   fits-issue : Choice (FitsIssue program x s before row)
   fits-issue =
       elim (same-int row.position (pos x.table.issued)) [
@@ -57,13 +57,13 @@ module _ (program : Program) (x : Plain) (s : Subthread) (before : Option LogRow
         | inr not ↦ inr (λ fits. not fits.position)
       ]
 
-fits-move : (program : Program) (x : Plain) (m : Move Plain Subthread End) (before : Option LogRow) (row : LogRow)
+fits-move : (program : Program) (x : Plain) (m : Move Plain Subthread End) (before : Option Retirement) (row : Retirement)
     → Choice (FitsMove program x m before row)
 fits-move program x (Goes s y) before row = fits-issue program x s before row
 fits-move program x (Ends end) before row = inr (λ never. never)
 
 module _ (program : Program) (inputs : Inputs) (limits : Limits) where
-  fits-from : (x : Plain) (before : Option LogRow) (rows : List LogRow) (row : LogRow) → FitFrom program inputs limits x before rows
+  fits-from : (x : Plain) (before : Option Retirement) (rows : List Retirement) (row : Retirement) → FitFrom program inputs limits x before rows
       → Choice (FitFrom program inputs limits x before (rows ++ row ∷ []))
   fits-from x before [] row fit =
       same-choice (λ fits. (fits, tt)) (λ h. h.0) (fits-move program x (move program inputs limits x) before row)
@@ -71,16 +71,16 @@ module _ (program : Program) (inputs : Inputs) (limits : Limits) where
       same-choice (λ rest. (fit.0, rest)) (λ h. h.1) (fits-from (replayed program inputs limits x r) (Some r) rows row fit.1)
 
   -- whether one more row fits
-  pub one-more : (rows : List LogRow) (row : LogRow) → Fit program inputs limits rows → Choice (Fit program inputs limits (rows ++ row ∷ []))
+  pub one-more : (rows : List Retirement) (row : Retirement) → Fit program inputs limits rows → Choice (Fit program inputs limits (rows ++ row ∷ []))
   one-more rows row fit = fits-from (opening program inputs limits) None rows row fit
 
-  first-fit : (x : Plain) (before : Option LogRow) (rows more : List LogRow) → FitFrom program inputs limits x before (rows ++ more)
+  first-fit : (x : Plain) (before : Option Retirement) (rows more : List Retirement) → FitFrom program inputs limits x before (rows ++ more)
       → FitFrom program inputs limits x before rows
   first-fit x before [] more fit = tt
   first-fit x before (r ∷ rows) more fit = (fit.0, first-fit (replayed program inputs limits x r) (Some r) rows more fit.1)
 
   -- the first of rows that fit do so
-  pub fit-upto : (rows : List LogRow) (row : LogRow) (more : List LogRow) → Fit program inputs limits (rows ++ row ∷ more)
+  pub fit-upto : (rows : List Retirement) (row : Retirement) (more : List Retirement) → Fit program inputs limits (rows ++ row ∷ more)
       → Fit program inputs limits (rows ++ row ∷ [])
   fit-upto rows row more fit =
       first-fit (opening program inputs limits) None (rows ++ row ∷ []) more

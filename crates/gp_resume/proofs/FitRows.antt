@@ -11,16 +11,16 @@ use Rattle.task_ast.specs.meaning.Body.{body, stretch}
 use Rattle.task_ast.specs.meaning.Repeat.{steps, state_after, repeated, until_done}
 use Rattle.task_ast.proofs.RowPrograms.{two_adders}
 use Rattle.task_ast.proofs.RunRows.{zeros, limits}
-use Rattle.retirement_log.specs.meaning.Rows.{LogRow}
+use Rattle.retirement_log.specs.meaning.Rows.{Retirement}
 use Rattle.gp_resume.specs.meaning.Fitting.{StandsUnder, Fit}
 use Rattle.gp_resume.specs.meaning.Resumed.{end, final_records, count, lines}
 use Rattle.gp_resume.specs.Laws.{own_rows}
 
-abbrev row : ℕ → List ℤ → List ℤ → List (ℤ × ℤ) → LogRow
+abbrev row : ℕ → List ℤ → List ℤ → List (ℤ × ℤ) → Retirement
 row p regs child cells = record { position = pos p; bytes = pos 7; regs = regs; child = child; cells = cells }
 
 -- main begins, forks and forks again, and the first adder takes the lock and adds 3
-abbrev first_rows : List LogRow
+abbrev first_rows : List Retirement
 first_rows =
     row 0 (pos 0 ∷ []) [] [] ∷ row 1 (pos 0 ∷ []) (pos 0 ∷ pos 0 ∷ []) [] ∷ row 2 (pos 0 ∷ pos 0 ∷ []) [] []
     ∷ row 3 (pos 0 ∷ []) (pos 0 ∷ pos 0 ∷ []) [] ∷ row 4 (pos 0 ∷ pos 0 ∷ []) [] ((pos 0, pos 3) ∷ []) ∷ []
@@ -82,7 +82,7 @@ record Went : Type 0 where
   subthreads : ℕ
   printed : List (List ℤ)
 
-abbrev went : List LogRow → Went
+abbrev went : List Retirement → Went
 went rows = record {
   ending = end two_adders (zeros 1) (limits 1000 20) rows;
   records = final_records two_adders (zeros 1) (limits 1000 20) rows;

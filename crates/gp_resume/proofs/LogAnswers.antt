@@ -8,7 +8,7 @@ use Rattle.std.proofs.lemmas.List.Elements.{All-head, All-tail}
 use Rattle.gp_base.specs.declared.limits.Limits.{Limits}
 use Rattle.gp_base.specs.declared.feed.Inputs.{Inputs}
 use Rattle.task_ast.specs.meaning.Tree.{Program}
-use Rattle.retirement_log.specs.meaning.Rows.{LogRow, row_text, log_text}
+use Rattle.retirement_log.specs.meaning.Rows.{Retirement, row_text, log_text}
 use Rattle.gp_resume.specs.meaning.Fitting.{Fit}
 use Rattle.gp_resume.specs.meaning.Reading.{IsWideRow, EndsNoLine, BeginsWithRow, BeginsWith, LogAnswer, Rows, Broken, Unfit, IsAnswer}
 use Rattle.gp_resume.proofs.Choices.{Choice, contains}
@@ -23,18 +23,18 @@ no-line bytes = elim (contains 10 bytes) [ inl some ↦ inr (λ none. none some)
 
 module _ (program : Program) (inputs : Inputs) (limits : Limits) where
   -- no row that fits stands behind the rows
-  abbrev Stops : List LogRow → (rest : List ℕ) → Type 0
-  Stops rows rest = (r : LogRow) (later : List ℕ) → IsWideRow r → rest ≡ row_text r ++ later → Fit program inputs limits (rows ++ r ∷ []) → ⊥
+  abbrev Stops : List Retirement → (rest : List ℕ) → Type 0
+  Stops rows rest = (r : Retirement) (later : List ℕ) → IsWideRow r → rest ≡ row_text r ++ later → Fit program inputs limits (rows ++ r ∷ []) → ⊥
 
   -- a row behind the rows is one of those that fit
-  goes-on : (front : List LogRow) (rest later : List ℕ) (r : LogRow) (more : List LogRow) → Stops (front ++ []) rest → All IsWideRow (r ∷ more)
+  goes-on : (front : List Retirement) (rest later : List ℕ) (r : Retirement) (more : List Retirement) → Stops (front ++ []) rest → All IsWideRow (r ∷ more)
       → Fit program inputs limits (front ++ r ∷ more) → rest ≡ log_text (r ∷ more) ++ later → ⊥
   goes-on front rest later r more stops wide fit is =
       stops r (log_text more ++ later) (All-head IsWideRow r more wide) (is ∙ log-cons r more later)
       (subst (λ rows. Fit program inputs limits (rows ++ r ∷ [])) (sym (append-nil front))
       (fit-upto program inputs limits front r more fit))
 
-  same-rows : (front rows others : List LogRow) (rest later : List ℕ) → All IsWideRow rows → All IsWideRow others
+  same-rows : (front rows others : List Retirement) (rest later : List ℕ) → All IsWideRow rows → All IsWideRow others
       → Fit program inputs limits (front ++ rows) → Fit program inputs limits (front ++ others) → Stops (front ++ rows) rest
       → Stops (front ++ others) later
       → log_text rows ++ rest ≡ log_text others ++ later → (rows ≡ others) × (rest ≡ later)
@@ -55,13 +55,13 @@ module _ (program : Program) (inputs : Inputs) (limits : Limits) where
   -- ---- answers
 
   -- what stands behind the rows, by the answer
-  abbrev Settles : LogAnswer → List LogRow → (rest : List ℕ) → Type 0
+  abbrev Settles : LogAnswer → List Retirement → (rest : List ℕ) → Type 0
   Settles (Rows all) rows rest = (all ≡ rows) × EndsNoLine rest
   Settles (Broken n) rows rest = (n ≡ length rows + 1) × (EndsNoLine rest → ⊥) × (BeginsWithRow rest → ⊥)
   Settles (Unfit n) rows rest = (n ≡ length rows + 1) × BeginsWithRow rest
 
   record Settled (bytes : List ℕ) (answer : LogAnswer) : Type 0 where
-    rows : List LogRow
+    rows : List Retirement
     rest : List ℕ
     begins : BeginsWith program inputs limits bytes rows rest
     stops : Stops rows rest
@@ -98,7 +98,7 @@ module _ (program : Program) (inputs : Inputs) (limits : Limits) where
   row-ends-line : (rest : List ℕ) → BeginsWithRow rest → EndsNoLine rest → ⊥
   row-ends-line rest begins none = ends-line begins.row begins.rest rest begins.bytes_are none
 
-  same-answer : (first second : LogAnswer) (rows : List LogRow) (rest : List ℕ) → Settles first rows rest → Settles second rows rest
+  same-answer : (first second : LogAnswer) (rows : List Retirement) (rest : List ℕ) → Settles first rows rest → Settles second rows rest
       → first ≡ second
   same-answer (Rows all) (Rows others) rows rest a b = ap Rows (a.0 ∙ sym b.0)
   same-answer (Rows all) (Broken m) rows rest a b = absurd (b.1 a.1)
@@ -128,11 +128,11 @@ module _ (program : Program) (inputs : Inputs) (limits : Limits) where
   abbrev Answered : List ℕ → Type 0
   Answered bytes = (answer : LogAnswer) × IsAnswer program inputs limits bytes answer
 
-  abbrev Next : (bytes rest : List ℕ) (rows : List LogRow) → Type 0
+  abbrev Next : (bytes rest : List ℕ) (rows : List Retirement) → Type 0
   Next bytes rest rows =
-      (r : LogRow) × (later : List ℕ) × BeginsWith program inputs limits bytes (rows ++ r ∷ []) later × (length later < length rest)
+      (r : Retirement) × (later : List ℕ) × BeginsWith program inputs limits bytes (rows ++ r ∷ []) later × (length later < length rest)
 
-  answered-or-next : (bytes rest : List ℕ) (rows : List LogRow) → BeginsWith program inputs limits bytes rows rest
+  answered-or-next : (bytes rest : List ℕ) (rows : List Retirement) → BeginsWith program inputs limits bytes rows rest
       → Answered bytes ⊎ Next bytes rest rows
   answered-or-next bytes rest rows begins =
       elim (no-line rest) [
@@ -165,7 +165,7 @@ module _ (program : Program) (inputs : Inputs) (limits : Limits) where
         ]
       ]
 
-  answered-from : (fuel : ℕ) (bytes rest : List ℕ) (rows : List LogRow) → length rest ≤ fuel → BeginsWith program inputs limits bytes rows rest
+  answered-from : (fuel : ℕ) (bytes rest : List ℕ) (rows : List Retirement) → length rest ≤ fuel → BeginsWith program inputs limits bytes rows rest
       → Answered bytes
   answered-from zero bytes rest rows short begins =
       elim (answered-or-next bytes rest rows begins) [

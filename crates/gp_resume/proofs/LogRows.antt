@@ -6,7 +6,7 @@ use Rattle.std.proofs.lemmas.List.Elements.{All-nil, All-push, All-head, All-tai
 use Rattle.gp_base.specs.declared.limits.Limits.{Limits}
 use Rattle.gp_base.specs.declared.feed.Inputs.{Inputs}
 use Rattle.task_ast.specs.meaning.Tree.{Program}
-use Rattle.retirement_log.specs.meaning.Rows.{LogRow, group, cell_numbers, groups_text, row_text, log_text}
+use Rattle.retirement_log.specs.meaning.Rows.{Retirement, group, cell_numbers, groups_text, row_text, log_text}
 use Rattle.gp_resume.specs.meaning.Fitting.{Fit}
 use Rattle.gp_resume.specs.meaning.Reading.{IsWideRow, EndsNoLine, BeginsWith}
 use Rattle.gp_resume.proofs.RowsOnce.{row-once}
@@ -14,18 +14,18 @@ use Rattle.gp_resume.proofs.RowsOnce.{row-once}
 -- ---- rows
 
 -- a line ends in a row
-pub row-line : (r : LogRow) → Contains (row_text r) 10
+pub row-line : (r : Retirement) → Contains (row_text r) 10
 row-line r =
     let groups = group r.regs ++ group r.child ++ group (flat_map cell_numbers r.cells) in
     Contains-append_right (signed_decimal r.position ++ codes " " ++ signed_decimal r.bytes) (groups_text r) 10
     (Contains-append_right groups (codes "\n") 10 (0, omega arith, refl))
 
 -- so where none ends, there is no row
-pub ends-line : (r : LogRow) (rest bytes : List ℕ) → bytes ≡ row_text r ++ rest → EndsNoLine bytes → ⊥
+pub ends-line : (r : Retirement) (rest bytes : List ℕ) → bytes ≡ row_text r ++ rest → EndsNoLine bytes → ⊥
 ends-line r rest bytes is none = none (subst (λ b. Contains b 10) (sym is) (Contains-append_left (row_text r) rest 10 (row-line r)))
 
 -- fewer bytes come after a row
-pub row-some : (r : LogRow) (rest bytes : List ℕ) → bytes ≡ row_text r ++ rest → length rest < length bytes
+pub row-some : (r : Retirement) (rest bytes : List ℕ) → bytes ≡ row_text r ++ rest → length rest < length bytes
 row-some r rest bytes is =
     let size = ap length is in
     let parts = length-append (row_text r) rest in
@@ -34,17 +34,17 @@ row-some r rest bytes is =
 
 -- ---- logs
 
-pub log-cons : (r : LogRow) (rows : List LogRow) (rest : List ℕ) → log_text (r ∷ rows) ++ rest ≡ row_text r ++ (log_text rows ++ rest)
+pub log-cons : (r : Retirement) (rows : List Retirement) (rest : List ℕ) → log_text (r ∷ rows) ++ rest ≡ row_text r ++ (log_text rows ++ rest)
 log-cons r rows rest = append_assoc (row_text r) (log_text rows) rest
 
 -- one more row
-pub log-push : (rows : List LogRow) (r : LogRow) (rest : List ℕ) → log_text (rows ++ r ∷ []) ++ rest ≡ log_text rows ++ (row_text r ++ rest)
+pub log-push : (rows : List Retirement) (r : Retirement) (rest : List ℕ) → log_text (rows ++ r ∷ []) ++ rest ≡ log_text rows ++ (row_text r ++ rest)
 log-push [] r rest = append_assoc (row_text r) [] rest
 log-push (x ∷ rows) r rest =
     log-cons x (rows ++ r ∷ []) rest ∙ (ap (λ t. row_text x ++ t) (log-push rows r rest) ∙ sym (log-cons x rows (row_text r ++ rest)))
 
 -- there are no more rows than bytes
-pub few-rows : (rows : List LogRow) (rest bytes : List ℕ) → bytes ≡ log_text rows ++ rest → length rows ≤ length bytes
+pub few-rows : (rows : List Retirement) (rest bytes : List ℕ) → bytes ≡ log_text rows ++ rest → length rows ≤ length bytes
 few-rows [] rest bytes is = omega arith
 few-rows (r ∷ rows) rest bytes is =
     let fewer = row-some r (log_text rows ++ rest) bytes (is ∙ log-cons r rows rest) in
@@ -52,7 +52,7 @@ few-rows (r ∷ rows) rest bytes is =
     omega (arith, fewer, others)
 
 -- wide rows at the front of rows are the first of them
-pub first-rows : (rows all : List LogRow) (rest later : List ℕ) → All IsWideRow rows → log_text all ≡ (log_text rows ++ rest) ++ later
+pub first-rows : (rows all : List Retirement) (rest later : List ℕ) → All IsWideRow rows → log_text all ≡ (log_text rows ++ rest) ++ later
     → (p : ℕ) × (p ≤ length all) × (rows ≡ take p all)
 first-rows [] all rest later wide same = (0, omega arith, refl)
 first-rows (r ∷ rows) [] rest later wide same =
@@ -72,7 +72,7 @@ module _ (program : Program) (inputs : Inputs) (limits : Limits) where
   no-rows bytes = record { wide = All-nil IsWideRow; fit = tt; bytes_are = refl }
 
   -- the bytes begin with one more row
-  pub next-row : (bytes rest later : List ℕ) (rows : List LogRow) (r : LogRow) → BeginsWith program inputs limits bytes rows rest → IsWideRow r
+  pub next-row : (bytes rest later : List ℕ) (rows : List Retirement) (r : Retirement) → BeginsWith program inputs limits bytes rows rest → IsWideRow r
       → rest ≡ row_text r ++ later
       → Fit program inputs limits (rows ++ r ∷ []) → BeginsWith program inputs limits bytes (rows ++ r ∷ []) later
   next-row bytes rest later rows r begins wide is fit =

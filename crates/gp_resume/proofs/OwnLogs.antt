@@ -7,7 +7,7 @@ use Rattle.gp_base.specs.declared.feed.Inputs.{Inputs}
 use Rattle.task_ast.specs.meaning.Tree.{Program}
 use Rattle.task_ast.specs.meaning.Plain.{order}
 use Rattle.crew.specs.meaning.Noted.{left_in_order}
-use Rattle.retirement_log.specs.meaning.Rows.{LogRow}
+use Rattle.retirement_log.specs.meaning.Rows.{Retirement}
 use Rattle.retirement_log.specs.meaning.Log.{log_rows, log}
 use Rattle.gp_resume.specs.meaning.Reading.{IsLogOf}
 use Rattle.gp_resume.specs.Laws.{own_rows}
@@ -15,7 +15,7 @@ use Rattle.gp_resume.proofs.LogRows.{first-rows}
 use Rattle.gp_resume.proofs.Replaying.{length-left, length-rows}
 
 module _ (program : Program) (inputs : Inputs) (limits : Limits) where
-  pub first-own : (logged : ℕ) (rows : List LogRow) → IsLogOf program inputs limits (take logged (log program inputs limits)) rows
+  pub first-own : (logged : ℕ) (rows : List Retirement) → IsLogOf program inputs limits (take logged (log program inputs limits)) rows
       → (p : ℕ) × (p ≤ length (order program inputs limits)) × (rows ≡ own_rows program inputs limits p)
   first-own logged rows is =
       let text = log program inputs limits in

@@ -24,7 +24,7 @@ use Rattle.task_ast.proofs.Positions.{plain_stands, step_is}
 use Rattle.task_ast.proofs.Writes.{writes_rise}
 use Rattle.lock_checker.proofs.LocksHeld.{before_stands, sound}
 use Rattle.crew.specs.meaning.Noted.{left_at, left_from}
-use Rattle.retirement_log.specs.meaning.Rows.{LogRow}
+use Rattle.retirement_log.specs.meaning.Rows.{Retirement}
 use Rattle.retirement_log.specs.meaning.Log.{log_row, size_of, rows_from}
 use Rattle.gp_resume.specs.meaning.Fitting.{least_bytes, FitsIssue, FitsMove, replayed, FitFrom, Fit}
 use Rattle.gp_resume.specs.Laws.{own_rows}
@@ -37,7 +37,7 @@ no-fewer b more = record { le = subst T (sym (le-leb b (b + more) (omega arith))
 
 module _ (program : Program) (inputs : Inputs) (limits : Limits) (accepted : IsAccepted program) where
   -- the row of a position fits there, after a row with no more bytes
-  row-fits : (p b : ℕ) (s : Subthread) (earlier : Option LogRow) → slice_get (order program inputs limits) p ≡ Some s
+  row-fits : (p b : ℕ) (s : Subthread) (earlier : Option Retirement) → slice_get (order program inputs limits) p ≡ Some s
       → least_bytes earlier ≡ pos b
       → FitsIssue program (before program inputs limits p) s earlier
       (log_row p (b + size_of (left_at program inputs limits p s)) (left_at program inputs limits p s))
@@ -63,7 +63,7 @@ module _ (program : Program) (inputs : Inputs) (limits : Limits) (accepted : IsA
       within = slice_get_within (order program inputs limits) p s at_p
 
   -- the rows of so many positions fit, from one on
-  fit-from : (n p b : ℕ) (earlier : Option LogRow) (run : List Subthread) → least_bytes earlier ≡ pos b
+  fit-from : (n p b : ℕ) (earlier : Option Retirement) (run : List Subthread) → least_bytes earlier ≡ pos b
       → ((k : ℕ) (s : Subthread) → slice_get run k ≡ Some s → slice_get (order program inputs limits) (p + k) ≡ Some s)
       → FitFrom program inputs limits (before program inputs limits p) earlier
       (take n (rows_from p b (left_from program inputs limits p run)))
@@ -74,7 +74,7 @@ module _ (program : Program) (inputs : Inputs) (limits : Limits) (accepted : IsA
       bytes : ℕ
       bytes = b + size_of (left_at program inputs limits p s)
 
-      row : LogRow
+      row : Retirement
       row = log_row p bytes (left_at program inputs limits p s)
 
       at_p : slice_get (order program inputs limits) p ≡ Some s

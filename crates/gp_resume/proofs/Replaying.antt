@@ -26,7 +26,7 @@ use Rattle.task_ast.proofs.Repeats.{state_after_none, step_there, step_reached}
 use Rattle.task_ast.proofs.PlainRuns.{count_law}
 use Rattle.task_ast.proofs.Positions.{step_is}
 use Rattle.crew.specs.meaning.Noted.{left_at, left_from, left_in_order}
-use Rattle.retirement_log.specs.meaning.Rows.{LogRow}
+use Rattle.retirement_log.specs.meaning.Rows.{Retirement}
 use Rattle.retirement_log.specs.meaning.Log.{log_row, size_of, rows_from, log_rows}
 use Rattle.gp_resume.specs.meaning.Fitting.{left_by, led_by, replayed, run_after, resumed_at}
 use Rattle.gp_resume.specs.meaning.Resumed.{steps_left, rest, last, final_records, count}
@@ -122,7 +122,7 @@ module _ (program : Program) (inputs : Inputs) (limits : Limits) where
       ap (led_by (before program inputs limits p) (log_row p bytes (left_at program inputs limits p s))) there.moves
       ∙ (ap (λ (st : State). let y : Plain = record next { state = st } in y) same_data ∙ sym reached)
 
-  pub run-push : (x : Plain) (rows : List LogRow) (row : LogRow)
+  pub run-push : (x : Plain) (rows : List Retirement) (row : Retirement)
       → run_after program inputs limits x (rows ++ row ∷ []) ≡ replayed program inputs limits (run_after program inputs limits x rows) row
   run-push x [] row = refl
   run-push x (r ∷ rows) row = run-push (replayed program inputs limits x r) rows row
@@ -146,7 +146,7 @@ module _ (program : Program) (inputs : Inputs) (limits : Limits) where
       (later.0, later.1 ∙ ap (λ (n : ℕ). Some (log_row n later.0 (left_at program inputs limits n s))) here)
 
   -- the rows of all positions
-  abbrev all : List LogRow
+  abbrev all : List Retirement
   all = log_rows (left_in_order program inputs limits)
 
   length-all : length all ≡ length (order program inputs limits)
@@ -174,7 +174,7 @@ module _ (program : Program) (inputs : Inputs) (limits : Limits) where
       found : (bytes : ℕ) × (slice_get all p ≡ Some (log_row (0 + p) bytes (left_at program inputs limits (0 + p) s)))
       found = rows-at 0 (length (codes "output\n")) (order program inputs limits) p s there
 
-      row : LogRow
+      row : Retirement
       row = log_row p found.0 (left_at program inputs limits p s)
 
       is : slice_get all p ≡ Some row

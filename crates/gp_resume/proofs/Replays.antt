@@ -18,7 +18,7 @@ use Rattle.task_code.specs.Reading.{Place}
 use Rattle.task_code.specs.Relation.{Rests}
 use Rattle.record_store.specs.Stored.{state_of, SameShape}
 use Rattle.subthread.specs.Tasks.{program_in, body_from}
-use Rattle.retirement_log.specs.meaning.Rows.{LogRow}
+use Rattle.retirement_log.specs.meaning.Rows.{Retirement}
 use Rattle.gp_resume.specs.declared.course.Plan.{Plan}
 use Rattle.gp_resume.specs.declared.course.Begun.{Begun}
 use Rattle.gp_resume.specs.declared.course.Course.{Course}
@@ -37,12 +37,12 @@ pub all-under : (under : List (List ℕ)) (held : List ℕ) (cells : List (ℤ �
 all-under under held cells stand =
     All-map (λ w. is_under under held w.0 ≡ true) write_in cells (λ k d less. under-one under held (get_or cells k d) (stand k d less))
 
-child-is : (row : LogRow) (child : Option ℕ) → option_map (λ c. (c, row.child)) child ≡ child_in row child
+child-is : (row : Retirement) (child : Option ℕ) → option_map (λ c. (c, row.child)) child ≡ child_in row child
 child-is row None = refl
 child-is row (Some c) = refl
 
 -- the effect that a row says
-pub effect-said : (row : LogRow) (t u : ℕ) (child other : Option ℕ) → t ≡ u → child ≡ other
+pub effect-said : (row : Retirement) (t u : ℕ) (child other : Option ℕ) → t ≡ u → child ≡ other
     → with_cells (record { thread = t; regs = row.regs; child = option_map (λ c. (c, row.child)) child; prints = [] }) row.cells
     ≡ left_by row u other
 effect-said row t u child other threads children =
@@ -74,7 +74,7 @@ sound-for plan y state sound =
     }
 
 module _ (plan : Plan) (suits : IsSuited plan) (x : Plain) (s : Subthread) (y : Plain) (begun : Begun) (course : Course)
-    (begins : Begins plan x s y begun course) (row : LogRow) where
+    (begins : Begins plan x s y begun course) (row : Retirement) where
   -- where the run stands after the row
   abbrev after_row : Plain
   after_row = record y { state = after (left_by row s.thread s.child) x.state }

@@ -20,7 +20,7 @@ use Rattle.dependence.proofs.Struck.{Contains-head, Contains-later}
 use Rattle.record_store.proofs.States.{records_law}
 use Rattle.reorder_list.specs.declared.report.Report.{Report}
 use Rattle.restart_log.specs.meaning.Lines.{printed}
-use Rattle.retirement_log.specs.meaning.Rows.{LogRow}
+use Rattle.retirement_log.specs.meaning.Rows.{Retirement}
 use Rattle.subthread.specs.Tasks.{program_in}
 use Rattle.gp_resume.specs.declared.course.Plan.{Plan}
 use Rattle.gp_resume.specs.declared.course.Course.{Course}
@@ -115,7 +115,7 @@ natural (negsuc n) low = absurd low
 
 module _ (program : Program) (inputs : Inputs) (limits : Limits) where
   -- each row is of one position
-  issued-after : (x : Plain) (before : Option LogRow) (rows : List LogRow) → FitFrom program inputs limits x before rows
+  issued-after : (x : Plain) (before : Option Retirement) (rows : List Retirement) → FitFrom program inputs limits x before rows
       → (run_after program inputs limits x rows).table.issued ≡ x.table.issued + length rows
   issued-after x before [] fit = omega arith
   issued-after x before (row ∷ rows) fit =
@@ -133,12 +133,12 @@ module _ (program : Program) (inputs : Inputs) (limits : Limits) where
           omega arith
       go (Ends end) is (fits, later) again = absurd fits
 
-  pub issued-are : (rows : List LogRow) → Fit program inputs limits rows → (resumed_at program inputs limits rows).table.issued ≡ length rows
+  pub issued-are : (rows : List Retirement) → Fit program inputs limits rows → (resumed_at program inputs limits rows).table.issued ≡ length rows
   issued-are rows fit =
       issued-after (opening program inputs limits) None rows fit ∙ (let same : 0 + length rows ≡ length rows = omega arith in same)
 
   -- the bytes of rows are a number of bytes
-  bytes-rise : (x : Plain) (before : Option LogRow) (rows : List LogRow) → FitFrom program inputs limits x before rows → (b : ℤ)
+  bytes-rise : (x : Plain) (before : Option Retirement) (rows : List Retirement) → FitFrom program inputs limits x before rows → (b : ℤ)
       → IsNatural b → IsNatural (least_bytes before) → IsNatural (bytes_from b rows)
   bytes-rise x before [] fit b low least = low
   bytes-rise x before (row ∷ rows) fit b low least =
@@ -149,13 +149,13 @@ module _ (program : Program) (inputs : Inputs) (limits : Limits) where
       go (Goes s y) fits = rises (least_bytes before) row.bytes least fits.bytes
       go (Ends end) fits = absurd fits
 
-  pub bytes-natural : (rows : List LogRow) → Fit program inputs limits rows → (n : ℕ) × (bytes_before rows ≡ pos n)
+  pub bytes-natural : (rows : List Retirement) → Fit program inputs limits rows → (n : ℕ) × (bytes_before rows ≡ pos n)
   bytes-natural rows fit =
       natural (bytes_before rows) (bytes-rise (opening program inputs limits) None rows fit (pos 0) tt tt)
 
 -- ---- how the run goes on from them
 
-module _ (plan : Plan) (rows : List LogRow) (fit : Fit (program_in plan.work.now) plan.inputs.value plan.limits rows) where
+module _ (plan : Plan) (rows : List Retirement) (fit : Fit (program_in plan.work.now) plan.inputs.value plan.limits rows) where
   abbrev pub begun_at : Plain
   begun_at = resumed_at (program_in plan.work.now) plan.inputs.value plan.limits rows
 
@@ -214,7 +214,7 @@ module _ (plan : Plan) (rows : List LogRow) (fit : Fit (program_in plan.work.now
       (some-once posted (length rows) n (length (rest plan begun_at)) few (are ∙ ap (λ p. firsts_from p n) issued-is))
 
 -- the rows of a log are these alone
-pub same-rows : (program : Program) (inputs : Inputs) (limits : Limits) (bytes : List ℕ) (first second : List LogRow)
+pub same-rows : (program : Program) (inputs : Inputs) (limits : Limits) (bytes : List ℕ) (first second : List Retirement)
     → IsLogOf program inputs limits bytes first → IsLogOf program inputs limits bytes second → first ≡ second
 same-rows program inputs limits bytes first second a b =
     let same = one-answer program inputs limits bytes (Rows first) (Rows second) a b in cc same
@@ -227,7 +227,7 @@ module _ (plan : Plan) (log : List ℕ) (logged : Logged) (course : Course) (rep
       let some = bytes-natural (program_in plan.work.now) plan.inputs.value plan.limits replays.rows replays.is_log.begins.fit in
       (some.0, replays.bytes ∙ some.1)
 
-  module _ (rows : List LogRow) (is_log : IsLogOf (program_in plan.work.now) plan.inputs.value plan.limits log rows) where
+  module _ (rows : List Retirement) (is_log : IsLogOf (program_in plan.work.now) plan.inputs.value plan.limits log rows) where
     same : replays.rows ≡ rows
     same = same-rows (program_in plan.work.now) plan.inputs.value plan.limits log replays.rows rows replays.is_log is_log
 
@@ -273,7 +273,7 @@ module _ (plan : Plan) (log : List ℕ) (logged : Logged) (course : Course) (rep
 
 -- where a log has rows, and is not refused
 pub told-answers : (A : Type 0) (program : Program) (inputs : Inputs) (limits : Limits) (bytes : List ℕ) (result : Result A ResumeStop)
-    → ¬ IsRefused result → (rows : List LogRow) → IsLogOf program inputs limits bytes rows → AnswersLog program inputs limits bytes result
+    → ¬ IsRefused result → (rows : List Retirement) → IsLogOf program inputs limits bytes rows → AnswersLog program inputs limits bytes result
 told-answers A program inputs limits bytes (Ok value) told rows is_log = (rows, is_log)
 told-answers A program inputs limits bytes (Err (stop.LogLine number)) told rows is_log = absurd (told tt)
 told-answers A program inputs limits bytes (Err (stop.LogFit number)) told rows is_log = absurd (told tt)

@@ -6,7 +6,7 @@ use Rattle.std.specs.Char.{is_ascii_digit}
 use Rattle.std.specs.Str.{all_ascii_digits}
 use Rattle.std.proofs.lemmas.Bool.{and_parts}
 use Rattle.restart_log.specs.meaning.Lines.{spaced}
-use Rattle.retirement_log.specs.meaning.Rows.{LogRow, group, cell_numbers, row_text}
+use Rattle.retirement_log.specs.meaning.Rows.{Retirement, group, cell_numbers, row_text}
 use Rattle.gp_resume.specs.meaning.Reading.{IsWide, IsWideRow, BeginsWithRow}
 use Rattle.gp_resume.specs.inner.Fronts.{IsOnlyFront, EndsNumber, EndsNumbers, EndsCells, IsWideCell, Anything, is_numeral, spaced_number, cell_text, cells_end, head_text}
 use Rattle.gp_resume.proofs.Fronts.{NoFront, both, both_fit, then-some, then-none, first-none, word-then, no-word, word-then-none, then-word, then-no-word}
@@ -72,10 +72,10 @@ no-cells = no-word cells_line (All IsWideCell) Anything (codes " ;")
 abbrev Parts : Type 0
 Parts = (((ℤ × ℤ) × List ℤ) × List ℤ) × List (ℤ × ℤ)
 
-abbrev parts : LogRow → Parts
+abbrev parts : Retirement → Parts
 parts row = ((((row.position, row.bytes), row.regs), row.child), row.cells)
 
-abbrev row_of : Parts → LogRow
+abbrev row_of : Parts → Retirement
 row_of p = record { position = p.0.0.0.0; bytes = p.0.0.0.1; regs = p.0.0.1; child = p.0.1; cells = p.1 }
 
 abbrev one_group : (ℤ × ℤ) × List ℤ → List ℕ
@@ -102,7 +102,7 @@ cells-spaced (x ∷ cells) =
     ap (λ t. spaced_number x.0 ++ (spaced_number x.1 ++ t)) (cells-spaced cells)
     ∙ sym (append_assoc (spaced_number x.0) (spaced_number x.1) (flat_map cell_text cells))
 
-text-parts : (row : LogRow) → row_text row ≡ parts_text (parts row)
+text-parts : (row : Retirement) → row_text row ≡ parts_text (parts row)
 text-parts row =
     let p = signed_decimal row.position in
     let b = signed_decimal row.bytes in
@@ -116,7 +116,7 @@ text-parts row =
     ∙ (sym (append_assoc head g (h ++ (k ++ codes "\n")))
     ∙ (sym (append_assoc (head ++ g) h (k ++ codes "\n")) ∙ ap (λ t. ((head ++ g) ++ h) ++ t) cells)))
 
-parts-fit : (row : LogRow) → IsWideRow row → parts_fit (parts row)
+parts-fit : (row : Retirement) → IsWideRow row → parts_fit (parts row)
 parts-fit row wide = ((((wide.position, wide.bytes), wide.regs), wide.child), wide.cells)
 
 whole-row : (bytes rest : List ℕ) (p : Parts) → IsOnlyFront parts_text parts_fit Anything bytes p rest
@@ -130,7 +130,7 @@ whole-row bytes rest p read =
           (read.only (parts other) after (parts-fit other wide) end (same ∙ ap (λ t. t ++ after) (text-parts other)));
     }
   where
-    once : (other : LogRow) (after : List ℕ) → (parts other ≡ p) × (after ≡ rest) → (other ≡ row_of p) × (after ≡ rest)
+    once : (other : Retirement) (after : List ℕ) → (parts other ≡ p) × (after ≡ rest) → (other ≡ row_of p) × (after ≡ rest)
     once other after h = (ap row_of h.0, h.1)
 
 no-row : (bytes : List ℕ) → NoFront parts_text parts_fit Anything bytes → NoFront row_text IsWideRow Anything bytes

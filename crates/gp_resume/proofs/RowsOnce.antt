@@ -4,7 +4,7 @@ use Rattle.std.specs.Prelude.{All, codes, flat_map}
 use Rattle.std.specs.Fmt.{signed_decimal}
 use Rattle.std.proofs.lemmas.List.Elements.{All-nil, All-cons, All-head, All-tail}
 use Rattle.restart_log.specs.meaning.Lines.{spaced}
-use Rattle.retirement_log.specs.meaning.Rows.{LogRow, group, cell_numbers, row_text}
+use Rattle.retirement_log.specs.meaning.Rows.{Retirement, group, cell_numbers, row_text}
 use Rattle.gp_resume.specs.meaning.Reading.{IsWide, IsWideRow}
 use Rattle.gp_resume.specs.inner.Fronts.{EndsNumber, IsWideCell, spaced_number}
 use Rattle.gp_resume.proofs.Fronts.{cancel}
@@ -54,19 +54,19 @@ group-once xs ys r s wide hr hs same =
 -- ---- rows
 
 -- what comes after the cells, after the child, after the registers and after the bytes
-abbrev behind_child : LogRow → List ℕ → List ℕ
+abbrev behind_child : Retirement → List ℕ → List ℕ
 behind_child r rest = group (flat_map cell_numbers r.cells) ++ (codes "\n" ++ rest)
 
-abbrev behind_regs : LogRow → List ℕ → List ℕ
+abbrev behind_regs : Retirement → List ℕ → List ℕ
 behind_regs r rest = group r.child ++ behind_child r rest
 
-abbrev behind_bytes : LogRow → List ℕ → List ℕ
+abbrev behind_bytes : Retirement → List ℕ → List ℕ
 behind_bytes r rest = group r.regs ++ behind_regs r rest
 
-abbrev behind_position : LogRow → List ℕ → List ℕ
+abbrev behind_position : Retirement → List ℕ → List ℕ
 behind_position r rest = codes " " ++ (signed_decimal r.bytes ++ behind_bytes r rest)
 
-row-parts : (r : LogRow) (rest : List ℕ) → row_text r ++ rest ≡ signed_decimal r.position ++ behind_position r rest
+row-parts : (r : Retirement) (rest : List ℕ) → row_text r ++ rest ≡ signed_decimal r.position ++ behind_position r rest
 row-parts r rest =
     let p = signed_decimal r.position in
     let b = signed_decimal r.bytes in
@@ -98,7 +98,7 @@ cells-once (x ∷ xs) (y ∷ ys) same =
     λ i. (cell i, value i) ∷ rest i
 
 -- a row is read in one way
-pub row-once : (r s : LogRow) (a b : List ℕ) → IsWideRow r → row_text r ++ a ≡ row_text s ++ b → (r ≡ s) × (a ≡ b)
+pub row-once : (r s : Retirement) (a b : List ℕ) → IsWideRow r → row_text r ++ a ≡ row_text s ++ b → (r ≡ s) × (a ≡ b)
 row-once r s a b wide same =
     let first = number-once r.position s.position (behind_position r a) (behind_position s b) wide.position refl refl
     (sym (row-parts r a) ∙ (same ∙ row-parts s b)) in

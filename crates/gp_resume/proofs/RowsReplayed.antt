@@ -9,7 +9,7 @@ use Rattle.gp_base.specs.declared.ending.End.{End}
 use Rattle.task_ast.specs.meaning.Tree.{Program}
 use Rattle.task_ast.specs.meaning.Repeat.{Move, Goes, Ends}
 use Rattle.task_ast.specs.meaning.Plain.{Subthread, Plain, opening, move}
-use Rattle.retirement_log.specs.meaning.Rows.{LogRow, row_text}
+use Rattle.retirement_log.specs.meaning.Rows.{Retirement, row_text}
 use Rattle.subthread.specs.Tasks.{program_in}
 use Rattle.gp_resume.specs.declared.course.Plan.{Plan}
 use Rattle.gp_resume.specs.declared.course.Course.{Course}
@@ -25,19 +25,19 @@ use Rattle.gp_resume.proofs.Replaying.{run-push}
 -- ---- the bytes of the text
 
 -- the last of the rows, or the one before them
-abbrev pub last_row : (before : Option LogRow) → List LogRow → Option LogRow
+abbrev pub last_row : (before : Option Retirement) → List Retirement → Option Retirement
 last_row before [] = before
 last_row before (row ∷ rows) = last_row (Some row) rows
 
-bytes-last : (r : LogRow) (rows : List LogRow) → least_bytes (last_row (Some r) rows) ≡ bytes_from r.bytes rows
+bytes-last : (r : Retirement) (rows : List Retirement) → least_bytes (last_row (Some r) rows) ≡ bytes_from r.bytes rows
 bytes-last r [] = refl
 bytes-last r (s ∷ rows) = bytes-last s rows
 
-bytes-push : (b : ℤ) (rows : List LogRow) (row : LogRow) → bytes_from b (rows ++ row ∷ []) ≡ row.bytes
+bytes-push : (b : ℤ) (rows : List Retirement) (row : Retirement) → bytes_from b (rows ++ row ∷ []) ≡ row.bytes
 bytes-push b [] row = refl
 bytes-push b (r ∷ rows) row = bytes-push r.bytes rows row
 
-move-rises : (program : Program) (x : Plain) (m : Move Plain Subthread End) (before : Option LogRow) (row : LogRow)
+move-rises : (program : Program) (x : Plain) (m : Move Plain Subthread End) (before : Option Retirement) (row : Retirement)
     → FitsMove program x m before row
     → least_bytes before ≤ℤ row.bytes
 move-rises program x (Goes s y) before row fits = fits.bytes
@@ -52,20 +52,20 @@ greatest b h = omega (arith, ints, clamps)
 module _ (program : Program) (inputs : Inputs) (limits : Limits) where
   -- ---- which rows fit
 
-  fits-push : (x : Plain) (before : Option LogRow) (rows : List LogRow) (row : LogRow) → FitFrom program inputs limits x before rows
+  fits-push : (x : Plain) (before : Option Retirement) (rows : List Retirement) (row : Retirement) → FitFrom program inputs limits x before rows
       → FitsMove program (run_after program inputs limits x rows) (move program inputs limits (run_after program inputs limits x rows))
       (last_row before rows) row
       → FitFrom program inputs limits x before (rows ++ row ∷ [])
   fits-push x before [] row fit here = (here, tt)
   fits-push x before (r ∷ rows) row fit here = (fit.0, fits-push (replayed program inputs limits x r) (Some r) rows row fit.1 here)
 
-  fits-last : (x : Plain) (before : Option LogRow) (rows : List LogRow) (row : LogRow) → FitFrom program inputs limits x before (rows ++ row ∷ [])
+  fits-last : (x : Plain) (before : Option Retirement) (rows : List Retirement) (row : Retirement) → FitFrom program inputs limits x before (rows ++ row ∷ [])
       → FitsMove program (run_after program inputs limits x rows) (move program inputs limits (run_after program inputs limits x rows))
       (last_row before rows) row
   fits-last x before [] row fit = fit.0
   fits-last x before (r ∷ rows) row fit = fits-last (replayed program inputs limits x r) (Some r) rows row fit.1
 
-  rises-from : (x : Plain) (before : Option LogRow) (rows : List LogRow) (b : ℤ) → FitFrom program inputs limits x before rows
+  rises-from : (x : Plain) (before : Option Retirement) (rows : List Retirement) (b : ℤ) → FitFrom program inputs limits x before rows
       → b ≤ℤ least_bytes before → b ≤ℤ least_bytes (last_row before rows)
   rises-from x before [] b fit low = low
   rises-from x before (r ∷ rows) b fit low =
@@ -73,7 +73,7 @@ module _ (program : Program) (inputs : Inputs) (limits : Limits) where
       (no-less b (least_bytes before) r.bytes low (move-rises program x (move program inputs limits x) before r fit.0))
 
   -- the least bytes of the next row
-  pub least-is : (rows : List LogRow) → Fit program inputs limits rows → int_max (bytes_before rows) (pos 7) ≡ least_bytes (last_row None rows)
+  pub least-is : (rows : List Retirement) → Fit program inputs limits rows → int_max (bytes_before rows) (pos 7) ≡ least_bytes (last_row None rows)
   least-is [] fit = refl
   least-is (r ∷ rows) fit =
       let rises : pos 7 ≤ℤ least_bytes (last_row None (r ∷ rows)) =
@@ -95,7 +95,7 @@ module _ (plan : Plan) (log : List ℕ) where
     counted : logged.rows + 1 ≡ length replays.rows + 1
     counted = ap (λ n. n + 1) replays.count
 
-    module _ (row : LogRow) (later : List ℕ) (wide : IsWideRow row) (is : rest ≡ row_text row ++ later)
+    module _ (row : Retirement) (later : List ℕ) (wide : IsWideRow row) (is : rest ≡ row_text row ++ later)
         (least : ℤ) (least_is : least ≡ int_max logged.bytes (pos 7)) where
       abbrev Here : Type 0
       Here =

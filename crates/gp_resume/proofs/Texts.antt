@@ -17,7 +17,7 @@ use Rattle.task_ast.proofs.Positions.{step_is}
 use Rattle.restart_log.specs.meaning.Lines.{printed_line, printed}
 use Rattle.restart_log.specs.meaning.Tail.{tail_text}
 use Rattle.crew.specs.meaning.Noted.{left_at, left_from, left_in_order}
-use Rattle.retirement_log.specs.meaning.Rows.{LogRow}
+use Rattle.retirement_log.specs.meaning.Rows.{Retirement}
 use Rattle.retirement_log.specs.meaning.Log.{size_of, rows_from}
 use Rattle.gp_resume.specs.meaning.Resumed.{lines_of, first_line, end, final_records, count, text}
 use Rattle.gp_resume.specs.Resumed.{bytes_from, bytes_before}
@@ -43,7 +43,7 @@ printed-split xs ys =
     ap printed (flat_map-append (λ (s : Subthread). s.lines) xs ys) ∙ flat_map-append printed_line (lines_of xs) (lines_of ys)
 
 -- no first line is to come where there is a row
-no-first-line : (rows : List LogRow) (p : ℕ) → suc p ≤ length rows → first_line rows ≡ []
+no-first-line : (rows : List Retirement) (p : ℕ) → suc p ≤ length rows → first_line rows ≡ []
 no-first-line [] p l = absurd (omega arith)
 no-first-line (row ∷ rows) p l = refl
 
@@ -101,7 +101,7 @@ module _ (program : Program) (inputs : Inputs) (limits : Limits) where
 
   same-tail : (p : ℕ) → IsRest program inputs limits p → own_tail p ≡ tail_of_one
   same-tail p r =
-      let rows : List LogRow = own_rows program inputs limits p in
+      let rows : List Retirement = own_rows program inputs limits p in
       ap (λ (e : End). tail_of e (final_records program inputs limits rows) (count program inputs limits rows)) r.end
       ∙ (ap (λ (cells : List ℤ). tail_of (plain.end program inputs limits) cells (count program inputs limits rows)) r.final_records
       ∙ ap (λ (n : ℕ). tail_of (plain.end program inputs limits) (plain.final_records program inputs limits) n) r.count)

@@ -11,7 +11,7 @@ use Rattle.task_ast.specs.meaning.Position.{before}
 use Rattle.restart_log.specs.meaning.Lines.{printed}
 use Rattle.restart_log.specs.meaning.Tail.{tail_text}
 use Rattle.crew.specs.meaning.Noted.{left_in_order}
-use Rattle.retirement_log.specs.meaning.Rows.{LogRow}
+use Rattle.retirement_log.specs.meaning.Rows.{Retirement}
 use Rattle.retirement_log.specs.meaning.Log.{log_rows, log}
 use Rattle.gp_resume.specs.meaning.Fitting.{Fit, resumed_at}
 use Rattle.gp_resume.specs.meaning.Reading.{LogAnswer, IsAnswer, IsLogOf}
@@ -21,7 +21,7 @@ use Rattle.gp_resume.specs.Resumed.{bytes_before}
 
 module _ (program : Program) (inputs : Inputs) (limits : Limits) where
   -- the first rows of the plain run's own log
-  abbrev pub own_rows : ℕ → List LogRow
+  abbrev pub own_rows : ℕ → List Retirement
   own_rows p = take p (log_rows (left_in_order program inputs limits))
 
   -- the text up to the lines of so many positions; it is there once one has retired
@@ -90,6 +90,6 @@ SomeAnswerLaw =
 -- the rows of a first part of the run's own log are the first of its own rows
 abbrev pub OwnRowsLaw : Type 0
 OwnRowsLaw =
-    (program : Program) (inputs : Inputs) (limits : Limits) (logged : ℕ) (rows : List LogRow)
+    (program : Program) (inputs : Inputs) (limits : Limits) (logged : ℕ) (rows : List Retirement)
     → IsLogOf program inputs limits (take logged (log program inputs limits)) rows
     → (p : ℕ) × (p ≤ length (plain.order program inputs limits)) × (rows ≡ own_rows program inputs limits p)

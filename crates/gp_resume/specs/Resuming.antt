@@ -7,7 +7,7 @@ use Rattle.gp_base.specs.declared.feed.Inputs.{Inputs}
 use Rattle.task_ast.specs.meaning.Tree.{Program}
 use Rattle.dependence.specs.JournalTests.{same_attempt}
 use Rattle.reorder_list.specs.declared.report.Report.{Report}
-use Rattle.retirement_log.specs.meaning.Rows.{LogRow}
+use Rattle.retirement_log.specs.meaning.Rows.{Retirement}
 use Rattle.gp_resume.specs.declared.stop.ResumeStop.{ResumeStop}
 use Rattle.gp_resume.specs.declared.stop.ResumeStop.TheVariants.{LogLine, LogFit, WriteFault, OutOfMemory}
 use Rattle.gp_resume.specs.meaning.Reading.{LogAnswer, Rows, Broken, Unfit, IsAnswer, IsLogOf}
@@ -16,10 +16,10 @@ use Rattle.gp_resume.specs.Resumed.{bytes_before}
 
 -- The log is refused at its first row that is none or doesn't fit, and only such a row; else it has rows, unless memory is out.
 abbrev pub AnswersLog : {T : Type 0} → Program → Inputs → Limits → (bytes : List ℕ) → Result T ResumeStop → Type 0
-AnswersLog program inputs limits bytes (Ok value) = (rows : List LogRow) × IsLogOf program inputs limits bytes rows
+AnswersLog program inputs limits bytes (Ok value) = (rows : List Retirement) × IsLogOf program inputs limits bytes rows
 AnswersLog program inputs limits bytes (Err (LogLine number)) = IsAnswer program inputs limits bytes (Broken number)
 AnswersLog program inputs limits bytes (Err (LogFit number)) = IsAnswer program inputs limits bytes (Unfit number)
-AnswersLog program inputs limits bytes (Err WriteFault) = (rows : List LogRow) × IsLogOf program inputs limits bytes rows
+AnswersLog program inputs limits bytes (Err WriteFault) = (rows : List Retirement) × IsLogOf program inputs limits bytes rows
 AnswersLog program inputs limits bytes (Err OutOfMemory) = ⊤
 
 -- the log is refused
@@ -30,7 +30,7 @@ IsRefused result = ⊥
 
 -- How the run ended that went on from these rows, whose text had so many bytes: with the end, the records and the count that it has by
 -- definition; nothing was restarted, no fault was there, and no journal was kept.
-pub record ReportsRest (program : Program) (inputs : Inputs) (limits : Limits) (rows : List LogRow) (bytes : ℕ)
+pub record ReportsRest (program : Program) (inputs : Inputs) (limits : Limits) (rows : List Retirement) (bytes : ℕ)
     (report : Report) : Type 0 where
   pub bytes_are : pos bytes ≡ bytes_before rows
   pub end : report.end ≡ end program inputs limits rows

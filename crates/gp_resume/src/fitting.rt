@@ -11,7 +11,7 @@ ghost use Rattle.task_ast.specs.meaning.Layout.{layout};
 ghost use Rattle.task_ast.specs.meaning.Plain.{Plain, Subthread};
 ghost use Rattle.task_code.specs.Flat.{code_of};
 ghost use Rattle.subthread.specs.Tasks.{program_in};
-ghost use Rattle.retirement_log.specs.meaning.Rows.{LogRow};
+ghost use Rattle.retirement_log.specs.meaning.Rows.{Retirement};
 ghost use Rattle.gp_resume.specs.meaning.Fitting.{StandsUnder, child_size, FitsIssue, least_bytes};
 ghost use Rattle.gp_resume.specs.inner.Course.{IsSuited, Begins, IsBegun};
 ghost use Rattle.gp_resume.specs.inner.RowsRead.{row_in, write_in};
@@ -124,7 +124,7 @@ pub fn fits(
 ) -> Result<bool, AllocError>
     requires suits { IsSuited plan.now }
     requires begun { IsBegun plan.now begun.now course.now }
-    ensures { IfOk result (λ fits. (x : Plain) (s : Subthread) (y : Plain) (before : Option LogRow) → Begins plan.now x s y begun.now course.now → least ≡ least_bytes before
+    ensures { IfOk result (λ fits. (x : Plain) (s : Subthread) (y : Plain) (before : Option Retirement) → Begins plan.now x s y begun.now course.now → least ≡ least_bytes before
         → Decides fits (FitsIssue (program_in plan.now.work.now) x s before (row_in row.now))) }
 {
     let code = &plan.work.code;

@@ -8,7 +8,7 @@ ghost use Rattle.task_ast.specs.meaning.Effect.{after};
 ghost use Rattle.task_ast.specs.meaning.Plain.{Plain, Subthread};
 ghost use Rattle.record_store.specs.Stored.{state_of, SameShape, FitsChild, IsAtHome};
 ghost use Rattle.subthread.specs.Tasks.{program_in, under_of, body_from};
-ghost use Rattle.retirement_log.specs.meaning.Rows.{LogRow};
+ghost use Rattle.retirement_log.specs.meaning.Rows.{Retirement};
 ghost use Rattle.gp_resume.specs.meaning.Fitting.{StandsUnder, left_by, FitsIssue, replayed};
 ghost use Rattle.gp_resume.specs.inner.Course.{IsSuited, Stands, Begins};
 ghost use Rattle.gp_resume.specs.inner.Replayed.{FitsBegun};
@@ -144,7 +144,7 @@ pub fn replay(
 ) -> Result<(), AllocError>
     requires suits { IsSuited plan.now }
     requires fits { FitsBegun plan.now begun course.old (row_in row) }
-    ensures { OnOk result ((x : Plain) (s : Subthread) (y : Plain) (before : Option LogRow) → Begins plan.now x s y begun course.old → FitsIssue (program_in plan.now.work.now) x s before (row_in row)
+    ensures { OnOk result ((x : Plain) (s : Subthread) (y : Plain) (before : Option Retirement) → Begins plan.now x s y begun course.old → FitsIssue (program_in plan.now.work.now) x s before (row_in row)
         → Stands plan.now (replayed (program_in plan.now.work.now) plan.now.inputs.value plan.now.limits x (row_in row)) course.new) }
 {
     let (next, at, ctl) = control(alloc, plan.work, &begun)?;

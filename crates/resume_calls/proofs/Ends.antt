@@ -8,7 +8,7 @@ use Rattle.std.specs.Io.KnownBytes.{Appends}
 use Rattle.gp_base.specs.declared.journal.Journal.{Journal}
 use Rattle.gp_base.proofs.Written.{prefix_whole}
 use Rattle.task_ast.specs.meaning.Tree.{Name}
-use Rattle.retirement_log.specs.meaning.Rows.{LogRow}
+use Rattle.retirement_log.specs.meaning.Rows.{Retirement}
 use Rattle.gp_resume.specs.declared.stop.ResumeStop.{ResumeStop}
 use Rattle.gp_resume.specs.declared.stop.ResumeStop.TheVariants as stop
 use Rattle.gp_resume.specs.Laws.{OneAnswerLaw}
@@ -93,7 +93,7 @@ module _ (one : OneAnswerLaw) (reader : Reader) (words : List (List ℕ)) (files
   apart a b is other = one work.program work.inputs work.limits halted.text a b is other
 
   -- the run went on
-  went_on : (rows : List LogRow) → Known (Rows rows)
+  went_on : (rows : List Retirement) → Known (Rows rows)
       → RunEnds (rest_text (record { work = work; rows = rows })) [] (rest_status (record { work = work; rows = rows })) out err status
       → Promised
   went_on rows known ends =
@@ -137,7 +137,7 @@ module _ (one : OneAnswerLaw) (reader : Reader) (words : List (List ℕ)) (files
       (files_before halted ++ halted.log ∷ []) line failed failed' refusal known kept is in
       untouched refusal written faults refuses.0 refuses.1 ends
 
-  by_rows : (rows : List LogRow) → Answered (Rows rows) → Known (Rows rows) → (result : Result ℕ ResumeStop) → Put result
+  by_rows : (rows : List Retirement) → Answered (Rows rows) → Known (Rows rows) → (result : Result ℕ ResumeStop) → Put result
       → EndsSo halted.log result err status → Promised
   by_rows rows is known (Ok due) put ends =
       went_on rows known (subst (λ s. RunEnds (rest_text (record { work = work; rows = rows })) [] s out err status) (put.status rows is)
@@ -153,7 +153,7 @@ module _ (one : OneAnswerLaw) (reader : Reader) (words : List (List ℕ)) (files
       (rest_status (record { work = work; rows = rows })) out err status (put.part rows is) ends)
 
   -- the log was refused, or memory was out before
-  no_rows : (answer : LogAnswer) → Answered answer → ((rows : List LogRow) → Rows rows ≡ answer → ⊥) → (result : Result ℕ ResumeStop)
+  no_rows : (answer : LogAnswer) → Answered answer → ((rows : List Retirement) → Rows rows ≡ answer → ⊥) → (result : Result ℕ ResumeStop)
       → Put result
       → (out.written' ≡ out.written) × (out.faults' ≡ out.faults)
   no_rows answer is other result put =

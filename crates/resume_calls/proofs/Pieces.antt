@@ -17,7 +17,7 @@ use Rattle.task_ast.specs.meaning.Layout.{cut}
 use Rattle.reorder_list.specs.declared.report.Report.{Report}
 use Rattle.restart_log.specs.meaning.Lines.{printed}
 use Rattle.restart_log.specs.meaning.Tail.{tail_text}
-use Rattle.retirement_log.specs.meaning.Rows.{LogRow, group, cell_numbers, groups_text, row_text, log_text}
+use Rattle.retirement_log.specs.meaning.Rows.{Retirement, group, cell_numbers, groups_text, row_text, log_text}
 use Rattle.gp_resume.specs.declared.stop.ResumeStop.{ResumeStop}
 use Rattle.gp_resume.specs.declared.stop.ResumeStop.TheVariants.{LogLine, LogFit, WriteFault, OutOfMemory}
 use Rattle.gp_resume.specs.meaning.Reading.{EndsNoLine, IsLogOf}
@@ -29,7 +29,7 @@ use Rattle.call_cases.proofs.Headlines.{none_taken}
 use Rattle.resume_calls.specs.inner.Resting.{PutsFirst, PutsTail, Drives, Resumes}
 
 -- a line ends in a row
-row_ends : (row : LogRow) → Contains (row_text row) 10
+row_ends : (row : Retirement) → Contains (row_text row) 10
 row_ends row =
     Contains-append_right (signed_decimal row.position ++ codes " " ++ signed_decimal row.bytes) (groups_text row) 10
     (Contains-append_right (group row.regs ++ group row.child ++ group (flat_map cell_numbers row.cells))
@@ -40,7 +40,7 @@ abbrev between : (before after : Option (List ℕ)) → (faults faults' : ℕ) �
 between before after faults faults' = record { written = before; written' = after; faults = faults; faults' = faults' }
 
 module _ (program : Program) (inputs : Inputs) (limits : Limits) (bytes : List ℕ) where
-  abbrev IsLog : List LogRow → Type 0
+  abbrev IsLog : List Retirement → Type 0
   IsLog rows = IsLogOf program inputs limits bytes rows
 
   -- a log in which no line ends has no row, and only such a log has none
@@ -52,7 +52,7 @@ module _ (program : Program) (inputs : Inputs) (limits : Limits) (bytes : List �
         ends = none;
       }
 
-  lined : (row : LogRow) (rows : List LogRow) → IsLog (row ∷ rows) → EndsNoLine bytes → ⊥
+  lined : (row : Retirement) (rows : List Retirement) → IsLog (row ∷ rows) → EndsNoLine bytes → ⊥
   lined row rows log none =
       none (subst (λ text. Contains text 10) (sym log.begins.bytes_are)
       (Contains-append_left (log_text (row ∷ rows)) log.rest 10 (Contains-append_left (row_text row) (log_text rows) 10 (row_ends row))))
@@ -61,7 +61,7 @@ module _ (program : Program) (inputs : Inputs) (limits : Limits) (bytes : List �
   rowless log = subst EndsNoLine (sym log.begins.bytes_are) log.ends
 
   -- the answer to a log that is not refused, and the same of another type
-  has_rows : (T : Type 0) (stop : ResumeStop) → (IsRefused {T = T} (Err stop) → ⊥) → (rows : List LogRow) → IsLog rows
+  has_rows : (T : Type 0) (stop : ResumeStop) → (IsRefused {T = T} (Err stop) → ⊥) → (rows : List Retirement) → IsLog rows
       → AnswersLog {T = ℕ} program inputs limits bytes (Err stop)
   has_rows T (LogLine number) told rows log = absurd (told tt)
   has_rows T (LogFit number) told rows log = absurd (told tt)
@@ -75,10 +75,10 @@ module _ (program : Program) (inputs : Inputs) (limits : Limits) (bytes : List �
   same_log T WriteFault is = is
   same_log T OutOfMemory is = is
 
-  abbrev lines_text : List LogRow → List ℕ
+  abbrev lines_text : List Retirement → List ℕ
   lines_text rows = printed (rest.lines program inputs limits rows)
 
-  abbrev ending : List LogRow → List ℕ
+  abbrev ending : List Retirement → List ℕ
   ending rows =
       tail_text (rest.end program inputs limits rows) (cut (records_of program.heads) (rest.final_records program inputs limits rows))
       (rest.count program inputs limits rows) [] 0
@@ -87,7 +87,7 @@ module _ (program : Program) (inputs : Inputs) (limits : Limits) (bytes : List �
   told_ending report =
       tail_text report.end (cut (records_of program.heads) report.records) report.subthreads report.journal.restarts report.unused
 
-  same_ending : (rows : List LogRow) (count : ℕ) (report : Report) → ReportsRest program inputs limits rows count report
+  same_ending : (rows : List Retirement) (count : ℕ) (report : Report) → ReportsRest program inputs limits rows count report
       → told_ending report ≡ ending rows
   same_ending rows count report is =
       let records = cut (records_of program.heads) (rest.final_records program inputs limits rows) in
@@ -101,13 +101,13 @@ module _ (program : Program) (inputs : Inputs) (limits : Limits) (bytes : List �
 
   module _ (before first : Option (List ℕ)) (f f' : ℕ) where
     -- the first line was written, or it had been
-    first_taken : {T : Type 0} {value : T} → PutsFirst bytes (between before first f f') (Ok value) → (rows : List LogRow) → IsLog rows
+    first_taken : {T : Type 0} {value : T} → PutsFirst bytes (between before first f f') (Ok value) → (rows : List Retirement) → IsLog rows
         → Appends before first (rest.first_line rows)
     first_taken puts [] log = puts.all (rowless log)
     first_taken puts (row ∷ rows) log =
         subst (λ written. Appends before written []) (sym (puts.kept (lined row rows log)).written) (none_taken before)
 
-    first_part : {T : Type 0} (stop : ResumeStop) → PutsFirst {T = T} bytes (between before first f f') (Err stop) → (rows : List LogRow)
+    first_part : {T : Type 0} (stop : ResumeStop) → PutsFirst {T = T} bytes (between before first f f') (Err stop) → (rows : List Retirement)
         → IsLog rows
         → AppendsPrefix before first (rest.text program inputs limits rows)
     first_part stop puts [] log = prefix_first before first (codes "output\n") (lines_text [] ++ ending []) (puts.part puts.lacks)
@@ -174,7 +174,7 @@ module _ (program : Program) (inputs : Inputs) (limits : Limits) (bytes : List �
           cause = tt;
         }
           where
-            whole : (rows : List LogRow) → IsLog rows → Appends before third (rest.text program inputs limits rows)
+            whole : (rows : List Retirement) → IsLog rows → Appends before third (rest.text program inputs limits rows)
             whole rows log =
                 Appends-append before first third (rest.first_line rows) (lines_text rows ++ ending rows) (first_taken puts rows log)
                 (Appends-append first second third (lines_text rows) (ending rows) (drives.lines rows log)

@@ -6,14 +6,14 @@ use Rattle.task_ast.specs.meaning.Body.{body, stretch}
 use Rattle.task_ast.specs.meaning.Repeat.{steps, state_after, repeated, until_done}
 use Rattle.task_ast.proofs.RowPrograms.{two_adders}
 use Rattle.task_ast.proofs.RunRows.{zeros, limits}
-use Rattle.retirement_log.specs.meaning.Rows.{LogRow}
+use Rattle.retirement_log.specs.meaning.Rows.{Retirement}
 use Rattle.crew.specs.meaning.Noted.{left_in_order}
 use Rattle.retirement_log.specs.meaning.Log.{log_rows}
 
-abbrev adders : List LogRow
+abbrev adders : List Retirement
 adders = log_rows (left_in_order two_adders (zeros 1) (limits 1000 20))
 
-abbrev row : ℕ → List ℤ → List ℤ → List (ℤ × ℤ) → Option LogRow
+abbrev row : ℕ → List ℤ → List ℤ → List (ℤ × ℤ) → Option Retirement
 row p regs child cells = Some (record { position = pos p; bytes = pos 7; regs = regs; child = child; cells = cells })
 
 start_of_main : slice_get adders 0 ≡ row 0 (pos 0 ∷ []) [] []

@@ -10,7 +10,7 @@ use Rattle.task_ast.specs.meaning.Plain.{Subthread, order, tree_machine}
 use Rattle.task_ast.proofs.Positions.{step_is}
 use Rattle.restart_log.specs.meaning.Lines.{printed, printed_line}
 use Rattle.crew.specs.meaning.Noted.{left_at, left_from, left_in_order}
-use Rattle.retirement_log.specs.meaning.Rows.{LogRow}
+use Rattle.retirement_log.specs.meaning.Rows.{Retirement}
 use Rattle.retirement_log.specs.meaning.Log.{size_of, log_row, rows_from, log_rows}
 use Rattle.retirement_log.specs.Laws.{text_of_first}
 
@@ -52,7 +52,7 @@ module _ (program : Program) (inputs : Inputs) (limits : Limits) where
   rows_count p b (s ∷ run) = ap suc (rows_count (suc p) (b + size_of (left_at program inputs limits p s)) run)
 
   -- a row has its place, and the bytes of the lines up to its own
-  abbrev IsPlaced : (p b k : ℕ) → List Subthread → LogRow → Type 0
+  abbrev IsPlaced : (p b k : ℕ) → List Subthread → Retirement → Type 0
   IsPlaced p b k run row = (row.position ≡ pos (p + k)) × (row.bytes ≡ pos (b + lines_size (take (suc k) run)))
 
   first_placed : (p b : ℕ) (s : Subthread) (run : List Subthread) → HaveLines p (s ∷ run)
@@ -65,7 +65,7 @@ module _ (program : Program) (inputs : Inputs) (limits : Limits) where
       let sum : b + size_of (left_at program inputs limits p s) ≡ b + lines_size (take 1 (s ∷ run)) = omega arith in
       (ap pos at, ap pos sum)
 
-  placed : (p b : ℕ) (run : List Subthread) → HaveLines p run → (k : ℕ) (row : LogRow)
+  placed : (p b : ℕ) (run : List Subthread) → HaveLines p run → (k : ℕ) (row : Retirement)
       → slice_get (rows_from p b (left_from program inputs limits p run)) k ≡ Some row
       → IsPlaced p b k run row
   placed p b [] have k row is = absurd (none_some row is)
@@ -91,7 +91,7 @@ module _ (program : Program) (inputs : Inputs) (limits : Limits) where
   pub count_is : length (log_rows (left_in_order program inputs limits)) ≡ length (order program inputs limits)
   count_is = rows_count 0 (length (codes "output\n")) (order program inputs limits)
 
-  pub bytes_are : (p : ℕ) (row : LogRow) → slice_get (log_rows (left_in_order program inputs limits)) p ≡ Some row
+  pub bytes_are : (p : ℕ) (row : Retirement) → slice_get (log_rows (left_in_order program inputs limits)) p ≡ Some row
       → (row.position ≡ pos p) × (row.bytes ≡ pos (length (text_of_first (suc p) program inputs limits)))
   bytes_are p row is =
       let there = placed 0 (length (codes "output\n")) (order program inputs limits) plain_lines p row is in (

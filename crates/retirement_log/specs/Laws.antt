@@ -6,7 +6,7 @@ use Rattle.task_ast.specs.meaning.Tree.{Program}
 use Rattle.task_ast.specs.meaning.Plain.{order}
 use Rattle.restart_log.specs.meaning.Lines.{printed}
 use Rattle.crew.specs.meaning.Noted.{left_in_order}
-use Rattle.retirement_log.specs.meaning.Rows.{LogRow}
+use Rattle.retirement_log.specs.meaning.Rows.{Retirement}
 use Rattle.retirement_log.specs.meaning.Log.{log_rows}
 
 -- the text of a run up to the end of the lines of its first positions
@@ -23,6 +23,6 @@ CountLaw =
 -- a row has its position, and how many bytes the text has up to the end of the lines of that
 abbrev pub BytesLaw : Type 0
 BytesLaw =
-    (program : Program) (inputs : Inputs) (limits : Limits) (p : ℕ) (row : LogRow)
+    (program : Program) (inputs : Inputs) (limits : Limits) (p : ℕ) (row : Retirement)
     → slice_get (log_rows (left_in_order program inputs limits)) p ≡ Some row
     → (row.position ≡ pos p) × (row.bytes ≡ pos (length (text_of_first (suc p) program inputs limits)))

@@ -7,7 +7,7 @@ use Rattle.task_ast.specs.meaning.Table.{numbers}
 use Rattle.task_ast.specs.meaning.Plain.{Subthread, Plain, ending_of, move}
 use Rattle.record_store.specs.Stored.{state_of}
 use Rattle.restart_log.specs.meaning.Lines.{printed}
-use Rattle.retirement_log.specs.meaning.Rows.{LogRow}
+use Rattle.retirement_log.specs.meaning.Rows.{Retirement}
 use Rattle.subthread.specs.Tasks.{program_in}
 use Rattle.gp_resume.specs.declared.course.Plan.{Plan}
 use Rattle.gp_resume.specs.declared.course.Course.{Course}
@@ -55,7 +55,7 @@ pub record Went (plan : Plan) (x : Plain) (before written : Option (List ℕ)) (
 
 -- So many rows stand in the log before the rest, and fit, with so many bytes of the text; the course stands where they leave the run.
 pub record HasReplayed (plan : Plan) (log rest : List ℕ) (logged : Logged) (course : Course) : Type 0 where
-  pub rows : List LogRow
+  pub rows : List Retirement
   pub begins : BeginsWith (program_in plan.work.now) plan.inputs.value plan.limits log rows rest
   pub count : logged.rows ≡ length rows
   pub bytes : logged.bytes ≡ bytes_before rows
@@ -63,7 +63,7 @@ pub record HasReplayed (plan : Plan) (log rest : List ℕ) (logged : Logged) (co
 
 -- The log has rows, which fit: these are so many, with so many bytes of the text, and the course stands where they leave the run.
 pub record Replays (plan : Plan) (log : List ℕ) (logged : Logged) (course : Course) : Type 0 where
-  pub rows : List LogRow
+  pub rows : List Retirement
   pub is_log : IsLogOf (program_in plan.work.now) plan.inputs.value plan.limits log rows
   pub count : logged.rows ≡ length rows
   pub bytes : logged.bytes ≡ bytes_before rows

@@ -3,12 +3,12 @@ use Rattle.std.specs.Prelude.{◌≡◌, List, ◌++◌, map, ℕ, ℤ, Option, 
 use Rattle.task_ast.specs.declared.effect.Effect.{Effect}
 use Rattle.task_ast.specs.meaning.Names.{natural}
 use Rattle.record_store.specs.declared.effect.Effect as left
-use Rattle.retirement_log.specs.meaning.Rows.{LogRow, row_text}
+use Rattle.retirement_log.specs.meaning.Rows.{Retirement, row_text}
 use Rattle.gp_resume.specs.declared.row.LogRow.{LogRow}
 use Rattle.gp_resume.specs.meaning.Reading.{IsWideRow, BeginsWithRow}
 
 -- the row that this is
-abbrev pub row_in : LogRow → LogRow
+abbrev pub row_in : LogRow → Retirement
 row_in row = record { position = row.position; bytes = row.bytes; regs = row.regs; child = row.child; cells = row.cells }
 
 -- a cell that a row names, with its value
@@ -20,6 +20,6 @@ abbrev pub with_cells : left.Effect → List (ℤ × ℤ) → Effect
 with_cells e cells = record { thread = e.thread; writes = map write_in cells; regs = e.regs; child = e.child; prints = e.prints }
 
 -- the row at the front of the bytes, with what comes after it; or there is none
-abbrev pub IsRowRead : (bytes : List ℕ) → Option (LogRow × List ℕ) → Type 0
+abbrev pub IsRowRead : (bytes : List ℕ) → Option (Retirement × List ℕ) → Type 0
 IsRowRead bytes (Some read) = IsWideRow read.0 × (bytes ≡ row_text read.0 ++ read.1)
 IsRowRead bytes None = ¬ BeginsWithRow bytes

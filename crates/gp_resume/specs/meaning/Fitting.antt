@@ -16,19 +16,19 @@ use Rattle.task_ast.specs.meaning.Layout.{layout}
 use Rattle.task_ast.specs.meaning.Under.{is_under}
 use Rattle.task_ast.specs.meaning.Repeat.{Move, Goes, Ends}
 use Rattle.task_ast.specs.meaning.Plain.{Subthread, Plain, task_at, opening, move}
-use Rattle.retirement_log.specs.meaning.Rows.{LogRow}
+use Rattle.retirement_log.specs.meaning.Rows.{Retirement}
 
 -- the cells that a row names, each with its value
-abbrev pub writes_in : LogRow → List (ℕ × ℤ)
+abbrev pub writes_in : Retirement → List (ℕ × ℤ)
 writes_in row = map (λ cell. (natural cell.0, cell.1)) row.cells
 
 -- the registers of the child, if there is one
-abbrev pub child_in : LogRow → Option ℕ → Option (ℕ × List ℤ)
+abbrev pub child_in : Retirement → Option ℕ → Option (ℕ × List ℤ)
 child_in row None = None
 child_in row (Some child) = Some (child, row.child)
 
 -- what a row says that a subthread left, but for its lines
-abbrev pub left_by : LogRow → (thread : ℕ) → (child : Option ℕ) → Effect
+abbrev pub left_by : Retirement → (thread : ℕ) → (child : Option ℕ) → Effect
 left_by row t child = record { thread = t; writes = writes_in row; regs = row.regs; child = child_in row child; prints = [] }
 
 -- how many registers a subthread that begins so gives to a child; where it forks none, there are none
@@ -41,12 +41,12 @@ abbrev pub StandsUnder : List (List ℕ) → (held : List ℕ) → ℤ → Type 
 StandsUnder under held cell = (c : ℕ) × (cell ≡ pos c) × IsTrue (is_under under held c)
 
 -- the bytes of the text up to a row's lines are no fewer than up to those of the row before, or than those of the first line of the text
-abbrev pub least_bytes : (before : Option LogRow) → ℤ
+abbrev pub least_bytes : (before : Option Retirement) → ℤ
 least_bytes None = pos (length (codes "output\n"))
 least_bytes (Some row) = row.bytes
 
 -- a row may be that of this subthread, which is the next one of a run that stands so
-pub record FitsIssue (program : Program) (x : Plain) (s : Subthread) (before : Option LogRow) (row : LogRow) : Type 0 where
+pub record FitsIssue (program : Program) (x : Plain) (s : Subthread) (before : Option Retirement) (row : Retirement) : Type 0 where
   pub position : row.position ≡ pos x.table.issued
   pub registers : length row.regs ≡ length (x.state (RegistersOf s.thread))
   pub child : length row.child ≡ child_size program s.begins.sync
@@ -55,34 +55,34 @@ pub record FitsIssue (program : Program) (x : Plain) (s : Subthread) (before : O
   pub bytes : least_bytes before ≤ℤ row.bytes
 
 -- a row may be that of the subthread with which the run goes on; none is where it has ended
-abbrev pub FitsMove : Program → Plain → Move Plain Subthread End → (before : Option LogRow) → LogRow → Type 0
+abbrev pub FitsMove : Program → Plain → Move Plain Subthread End → (before : Option Retirement) → Retirement → Type 0
 FitsMove program x (Goes s y) before row = FitsIssue program x s before row
 FitsMove program x (Ends end) before row = ⊥
 
 -- the run after a row: it stands where the move leads, but for the data, which are what the row says
-abbrev pub led_by : Plain → LogRow → Move Plain Subthread End → Plain
+abbrev pub led_by : Plain → Retirement → Move Plain Subthread End → Plain
 led_by x row (Goes s y) = record y { state = after (left_by row s.thread s.child) x.state }
 led_by x row (Ends end) = x
 
 module _ (program : Program) (inputs : Inputs) (limits : Limits) where
   -- the run after one row
-  abbrev pub replayed : Plain → LogRow → Plain
+  abbrev pub replayed : Plain → Retirement → Plain
   replayed x row = led_by x row (move program inputs limits x)
 
   -- the run after these rows
-  abbrev pub run_after : Plain → List LogRow → Plain
+  abbrev pub run_after : Plain → List Retirement → Plain
   run_after x [] = x
   run_after x (row ∷ rows) = run_after (replayed x row) rows
 
   -- each row fits after those before it
-  abbrev pub FitFrom : Plain → (before : Option LogRow) → List LogRow → Type 0
+  abbrev pub FitFrom : Plain → (before : Option Retirement) → List Retirement → Type 0
   FitFrom x before [] = ⊤
   FitFrom x before (row ∷ rows) = FitsMove program x (move program inputs limits x) before row × FitFrom (replayed x row) (Some row) rows
 
   -- the rows fit from the start of the run on
-  abbrev pub Fit : List LogRow → Type 0
+  abbrev pub Fit : List Retirement → Type 0
   Fit rows = FitFrom (opening program inputs limits) None rows
 
   -- the run that the rows leave
-  abbrev pub resumed_at : List LogRow → Plain
+  abbrev pub resumed_at : List Retirement → Plain
   resumed_at rows = run_after (opening program inputs limits) rows

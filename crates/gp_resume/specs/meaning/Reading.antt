@@ -3,7 +3,7 @@ use Rattle.std.specs.Prelude.{◌≡◌, ◌<◌, ◌+◌, ◌^◌, ℕ, ℤ, po
 use Rattle.gp_base.specs.declared.limits.Limits.{Limits}
 use Rattle.gp_base.specs.declared.feed.Inputs.{Inputs}
 use Rattle.task_ast.specs.meaning.Tree.{Program}
-use Rattle.retirement_log.specs.meaning.Rows.{LogRow, row_text, log_text}
+use Rattle.retirement_log.specs.meaning.Rows.{Retirement, row_text, log_text}
 use Rattle.gp_resume.specs.meaning.Fitting.{Fit}
 
 -- a number of 64 bits, with a sign
@@ -12,7 +12,7 @@ IsWide (pos n) = n < 2 ^ 63
 IsWide (negsuc n) = n < 2 ^ 63
 
 -- each number of the row is one
-pub record IsWideRow (row : LogRow) : Type 0 where
+pub record IsWideRow (row : Retirement) : Type 0 where
   pub position : IsWide row.position
   pub bytes : IsWide row.bytes
   pub regs : All IsWide row.regs
@@ -25,27 +25,27 @@ EndsNoLine bytes = ¬ Contains bytes 10
 
 -- a row stands at the front of these bytes
 pub record BeginsWithRow (bytes : List ℕ) : Type 0 where
-  pub row : LogRow
+  pub row : Retirement
   pub wide : IsWideRow row
   pub rest : List ℕ
   pub bytes_are : bytes ≡ row_text row ++ rest
 
 module _ (program : Program) (inputs : Inputs) (limits : Limits) where
   -- the bytes begin with these rows, which fit, and go on with the rest
-  pub record BeginsWith (bytes : List ℕ) (rows : List LogRow) (rest : List ℕ) : Type 0 where
+  pub record BeginsWith (bytes : List ℕ) (rows : List Retirement) (rest : List ℕ) : Type 0 where
     pub wide : All IsWideRow rows
     pub fit : Fit program inputs limits rows
     pub bytes_are : bytes ≡ log_text rows ++ rest
 
   -- the bytes are those of a log with these rows; what comes after the last line end is no row
-  pub record IsLogOf (bytes : List ℕ) (rows : List LogRow) : Type 0 where
+  pub record IsLogOf (bytes : List ℕ) (rows : List Retirement) : Type 0 where
     pub rest : List ℕ
     pub begins : BeginsWith bytes rows rest
     pub ends : EndsNoLine rest
 
   -- the first row that is refused is this one, counted from 1, since it is no row
   pub record IsRefusedAt (bytes : List ℕ) (number : ℕ) : Type 0 where
-    pub rows : List LogRow
+    pub rows : List Retirement
     pub rest : List ℕ
     pub begins : BeginsWith bytes rows rest
     pub some_line : ¬ EndsNoLine rest
@@ -54,8 +54,8 @@ module _ (program : Program) (inputs : Inputs) (limits : Limits) where
 
   -- the first row that is refused is this one, counted from 1, since it doesn't fit
   pub record IsUnfitAt (bytes : List ℕ) (number : ℕ) : Type 0 where
-    pub rows : List LogRow
-    pub row : LogRow
+    pub rows : List Retirement
+    pub row : Retirement
     pub wide : IsWideRow row
     pub rest : List ℕ
     pub begins : BeginsWith bytes rows (row_text row ++ rest)
@@ -65,7 +65,7 @@ module _ (program : Program) (inputs : Inputs) (limits : Limits) where
 -- what the bytes of a log come to
 pub data LogAnswer : Type 0 where
   -- these rows, which fit
-  Rows : List LogRow → LogAnswer
+  Rows : List Retirement → LogAnswer
   -- the first row that is refused, counted from 1: it is no row, or it doesn't fit
   Broken : ℕ → LogAnswer
   Unfit : ℕ → LogAnswer

@@ -12,7 +12,7 @@ use Rattle.task_ast.specs.meaning.Layout.{cut}
 use Rattle.task_ast.specs.meaning.Plain.{Subthread, Plain, ending_of, move}
 use Rattle.restart_log.specs.meaning.Lines.{printed}
 use Rattle.restart_log.specs.meaning.Tail.{tail_text}
-use Rattle.retirement_log.specs.meaning.Rows.{LogRow}
+use Rattle.retirement_log.specs.meaning.Rows.{Retirement}
 use Rattle.gp_resume.specs.meaning.Fitting.{resumed_at}
 
 -- the lines of subthreads, in order
@@ -20,11 +20,11 @@ abbrev pub lines_of : List Subthread → List (List ℤ)
 lines_of run = flat_map (λ (s : Subthread). s.lines) run
 
 -- the first line of the text, where it was not there before
-abbrev pub first_line : List LogRow → List ℕ
+abbrev pub first_line : List Retirement → List ℕ
 first_line [] = codes "output\n"
 first_line (row ∷ rows) = []
 
-module _ (program : Program) (inputs : Inputs) (limits : Limits) (rows : List LogRow) where
+module _ (program : Program) (inputs : Inputs) (limits : Limits) (rows : List Retirement) where
   -- where the run goes on
   abbrev pub start : Plain
   start = resumed_at program inputs limits rows

@@ -5,7 +5,7 @@ use Rattle.gp_base.specs.declared.feed.Inputs.{Inputs}
 use Rattle.gp_base.specs.declared.limits.Limits.{Limits}
 use Rattle.gp_base.specs.declared.limits.TheConstants.{MOST_FILE_BYTES}
 use Rattle.task_ast.specs.meaning.Tree.{Name, Program}
-use Rattle.retirement_log.specs.meaning.Rows.{LogRow}
+use Rattle.retirement_log.specs.meaning.Rows.{Retirement}
 use Rattle.gp_resume.specs.meaning.Reading.{LogAnswer, Rows, Broken, Unfit, IsAnswer}
 use Rattle.command_line.specs.declared.resume_words.Resumed.{Resumed}
 use Rattle.call_cases.specs.meaning.Work.{Files, ToDo, Supplied, Supplies, Lacks, Spoils}
@@ -21,7 +21,7 @@ pub record Reader : Type 0 where
 -- the run that is to go on, and the rows of its log
 pub record Resumption : Type 0 where
   pub work : ToDo
-  pub rows : List LogRow
+  pub rows : List Retirement
 
 -- what comes of the answer to the bytes of a log, after these files
 abbrev pub by_answer : (names : List Name) → (file : Name) → ToDo → LogAnswer → Supplied Resumption

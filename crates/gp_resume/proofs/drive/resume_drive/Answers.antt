@@ -2,7 +2,7 @@ use Rattle.std.proofs.Common.{rules, List, length, subst}
 use Rattle.std.specs.Io.KnownBytes.{Appends}
 use Rattle.gp_base.specs.meaning.Sinks.{AppendsPrefix}
 use Rattle.restart_log.specs.meaning.Lines.{printed}
-use Rattle.retirement_log.specs.meaning.Rows.{LogRow}
+use Rattle.retirement_log.specs.meaning.Rows.{Retirement}
 use Rattle.subthread.specs.Tasks.{program_in}
 use Rattle.gp_resume.specs.meaning.Reading.{IsLogOf}
 use Rattle.gp_resume.specs.meaning.Resumed.{lines, count}
@@ -45,7 +45,7 @@ returns-in_err-end-clause-unread g c none =
 pub returns-in_err-end-clause-partly : goal.returns-in_err-end-clause-partly
 returns-in_err-end-clause-partly g c =
     let at = (goal.at.returns-in_err-end-clause-partly g c).In_ok-course in
-    subst (λ inputs. (rows : List LogRow) → IsLogOf (program_in c.args.w.now) inputs c.args.limits c.args.log.now rows
+    subst (λ inputs. (rows : List Retirement) → IsLogOf (program_in c.args.w.now) inputs c.args.limits c.args.log.now rows
     → AppendsPrefix (g.O.Sink.written c.args.out.now) (g.O.Sink.written c.go_on.new.out)
     (printed (lines (program_in c.args.w.now) inputs c.args.limits rows)))
     c.of.ensures
@@ -56,7 +56,7 @@ returns-in_err-end-clause-partly g c =
 pub returns-in_err-end-clause-some : goal.returns-in_err-end-clause-some
 returns-in_err-end-clause-some g c =
     let at = (goal.at.returns-in_err-end-clause-some g c).In_ok-course in
-    subst (λ inputs. (rows : List LogRow) → IsLogOf (program_in c.args.w.now) inputs c.args.limits c.args.log.now rows
+    subst (λ inputs. (rows : List Retirement) → IsLogOf (program_in c.args.w.now) inputs c.args.limits c.args.log.now rows
     → AreSomeOnce (g.C.Crew.posted c.go_on.new.crew) (length rows) (count (program_in c.args.w.now) inputs c.args.limits rows))
     c.of.ensures
     (λ rows is_log. all-some (record { work = c.args.w; inputs = c.of.result; limits = c.args.limits }) c.args.log.now
@@ -78,7 +78,7 @@ returns-clause-unread g c none =
 pub returns-clause-report : goal.returns-clause-report
 returns-clause-report g c =
     let at = (goal.at.returns-clause-report g c).In_ok-course in
-    subst (λ inputs. (rows : List LogRow) → IsLogOf (program_in c.args.w.now) inputs c.args.limits c.args.log.now rows
+    subst (λ inputs. (rows : List Retirement) → IsLogOf (program_in c.args.w.now) inputs c.args.limits c.args.log.now rows
     → ReportsRest (program_in c.args.w.now) inputs c.args.limits rows c.text_bytes.result c.report_of.result)
     c.of.ensures
     (λ rows is_log. all-reports (record { work = c.args.w; inputs = c.of.result; limits = c.args.limits }) c.args.log.now
@@ -89,7 +89,7 @@ returns-clause-report g c =
 pub returns-clause-lines : goal.returns-clause-lines
 returns-clause-lines g c =
     let at = (goal.at.returns-clause-lines g c).In_ok-course in
-    subst (λ inputs. (rows : List LogRow) → IsLogOf (program_in c.args.w.now) inputs c.args.limits c.args.log.now rows
+    subst (λ inputs. (rows : List Retirement) → IsLogOf (program_in c.args.w.now) inputs c.args.limits c.args.log.now rows
     → Appends (g.O.Sink.written c.args.out.now) (g.O.Sink.written c.go_on.new.out)
     (printed (lines (program_in c.args.w.now) inputs c.args.limits rows)))
     c.of.ensures
@@ -100,7 +100,7 @@ returns-clause-lines g c =
 pub returns-clause-partly : goal.returns-clause-partly
 returns-clause-partly g c =
     let at = (goal.at.returns-clause-partly g c).In_ok-course in
-    subst (λ inputs. (rows : List LogRow) → IsLogOf (program_in c.args.w.now) inputs c.args.limits c.args.log.now rows
+    subst (λ inputs. (rows : List Retirement) → IsLogOf (program_in c.args.w.now) inputs c.args.limits c.args.log.now rows
     → AppendsPrefix (g.O.Sink.written c.args.out.now) (g.O.Sink.written c.go_on.new.out)
     (printed (lines (program_in c.args.w.now) inputs c.args.limits rows)))
     c.of.ensures
@@ -111,7 +111,7 @@ returns-clause-partly g c =
 pub returns-clause-posts : goal.returns-clause-posts
 returns-clause-posts g c =
     let at = (goal.at.returns-clause-posts g c).In_ok-course in
-    subst (λ inputs. (rows : List LogRow) → IsLogOf (program_in c.args.w.now) inputs c.args.limits c.args.log.now rows
+    subst (λ inputs. (rows : List Retirement) → IsLogOf (program_in c.args.w.now) inputs c.args.limits c.args.log.now rows
     → IsEachOnce (g.C.Crew.posted c.go_on.new.crew) (length rows) (count (program_in c.args.w.now) inputs c.args.limits rows))
     c.of.ensures
     (λ rows is_log. all-posts (record { work = c.args.w; inputs = c.of.result; limits = c.args.limits }) c.args.log.now
@@ -120,7 +120,7 @@ returns-clause-posts g c =
 pub returns-clause-some : goal.returns-clause-some
 returns-clause-some g c =
     let at = (goal.at.returns-clause-some g c).In_ok-course in
-    subst (λ inputs. (rows : List LogRow) → IsLogOf (program_in c.args.w.now) inputs c.args.limits c.args.log.now rows
+    subst (λ inputs. (rows : List Retirement) → IsLogOf (program_in c.args.w.now) inputs c.args.limits c.args.log.now rows
     → AreSomeOnce (g.C.Crew.posted c.go_on.new.crew) (length rows) (count (program_in c.args.w.now) inputs c.args.limits rows))
     c.of.ensures
     (λ rows is_log. all-some (record { work = c.args.w; inputs = c.of.result; limits = c.args.limits }) c.args.log.now

@@ -3,7 +3,7 @@ use Rattle.std.proofs.lemmas.Bool.{false≢true}
 use Rattle.std.proofs.lemmas.Int.{to_z-of_z}
 use Rattle.task_ast.specs.meaning.Plain.{Subthread, Plain, move}
 use Rattle.subthread.specs.Tasks.{program_in}
-use Rattle.retirement_log.specs.meaning.Rows.{LogRow}
+use Rattle.retirement_log.specs.meaning.Rows.{Retirement}
 use Rattle.gp_resume.specs.declared.course.Plan.{Plan}
 use Rattle.gp_resume.specs.declared.course.Course.{Course}
 use Rattle.gp_resume.specs.declared.course.Begun.{Begun}
@@ -20,7 +20,7 @@ begun-of c = rw c.in-Goes.is at c.in_ok-begun.ensures
 
 -- the move of the run is the subthread that begins
 module _ (plan : Plan) (x : Plain) (s : Subthread) (y : Plain) (begun : Begun) (course : Course) (begins : Begins plan x s y begun course)
-    (before : Option LogRow) (row : LogRow) where
+    (before : Option Retirement) (row : Retirement) where
   fits-move : FitsIssue (program_in plan.work.now) x s before row
       → FitsMove (program_in plan.work.now) x (move (program_in plan.work.now) plan.inputs.value plan.limits x) before row
   fits-move fits = subst (λ m. FitsMove (program_in plan.work.now) x m before row) (sym begins.moves) fits
@@ -45,7 +45,7 @@ replay-requires-clause-fits c =
     let wide : SFits w64 c.args.least = search rules in
     let x = c.requires.stands.0 in
     let next = begun-of (goal.at.replay-requires-clause-fits c).In-Goes x c.requires.stands.1 in
-    let last : LogRow = record { position = pos 0; bytes = c.args.least; regs = []; child = []; cells = [] } in
+    let last : Retirement = record { position = pos 0; bytes = c.args.least; regs = []; child = []; cells = [] } in
     record {
       before = x;
       subthread = next.0;
@@ -70,6 +70,6 @@ pub returns-clause-stands : goal.returns-clause-stands
 returns-clause-stands c fit x stands =
     let wide : SFits w64 c.args.least = search rules in
     let next = begun-of (goal.at.returns-clause-stands c).In-Goes x stands in
-    let last : LogRow = record { position = pos 0; bytes = c.args.least; regs = []; child = []; cells = [] } in
+    let last : Retirement = record { position = pos 0; bytes = c.args.least; regs = []; child = []; cells = [] } in
     let fits = (c.in_ok-fits.ensures x next.0 next.1.0 (Some last) next.1.1 (to_z-of_z w64 c.args.least wide)).0 c.if-not-branch.false in
     c.in_ok-replay.ensures x next.0 next.1.0 (Some last) next.1.1 fits

@@ -1,6 +1,6 @@
 use Rattle.std.proofs.Common.{◌≡◌, ◌++◌, sym, subst, ℤ}
 use Rattle.std.specs.Prelude.{All}
-use Rattle.retirement_log.specs.meaning.Rows.{LogRow, group, row_text}
+use Rattle.retirement_log.specs.meaning.Rows.{Retirement, group, row_text}
 use Rattle.gp_resume.specs.meaning.Reading.{IsWide, IsWideRow}
 use Rattle.gp_resume.specs.inner.Fronts.{IsOnlyFront, EndsNumbers, IsWideCell, Anything, cells_end}
 use Rattle.gp_resume.proofs.Numerals.{kept}
@@ -46,9 +46,9 @@ returns c =
     row-whole c.args.bytes.now c.in-Some.rest.now (c.in-Some.position, c.in-Some.size) c.in-Some.ensures c.in-Some-2.regs
     c.in-Some-2.rest.now (regs-read (goal.at.returns c).In-Some-2)
     c.in-Some-3.child c.in-Some-3.rest.now (child-read (goal.at.returns c).In-Some-3) c.in-Some-4.cells c.in-Some-4.rest.now last in
-    let row : ℤ → ℤ → LogRow =
+    let row : ℤ → ℤ → Retirement =
     λ p b. record { position = p; bytes = b; regs = c.in-Some-2.regs; child = c.in-Some-3.child; cells = c.in-Some-4.cells } in
     let position = sym (kept c.in-Some.position whole.fit.position) in
     let size = sym (kept c.in-Some.size whole.fit.bytes) in
-    subst (λ (r : LogRow). IsWideRow r × (c.args.bytes.now ≡ row_text r ++ c.in-Some-4.rest.now)) (λ i. row (position i) (size i))
+    subst (λ (r : Retirement). IsWideRow r × (c.args.bytes.now ≡ row_text r ++ c.in-Some-4.rest.now)) (λ i. row (position i) (size i))
     (whole.fit, whole.bytes_are)
