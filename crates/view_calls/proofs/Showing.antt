@@ -29,9 +29,9 @@ use Rattle.view_calls.specs.Lines.{refusal_line, refusal_status, fault_line, fau
 use Rattle.view_calls.specs.meaning.Shows.{untold, FailsToRead, IsLine, HasOwnLine, Shows}
 use Rattle.view_calls.specs.Shows.{ShowEnds, shown, absent, unshown}
 
-sight_status : (absent : Option ℕ) → IsShown (status_by absent)
-sight_status None = inl refl
-sight_status (Some position) = inr refl
+absent_shown : (absent : Option ℕ) → IsShown (status_by absent)
+absent_shown None = inl refl
+absent_shown (Some position) = inr refl
 
 shown_apart : (status : ℕ) → IsShown status → IsApart status
 shown_apart status (inl is) = inl is
@@ -41,7 +41,7 @@ module _ (judge : Judge) where
   commands_sound : AreSound (commands judge)
   commands_sound =
       record {
-        ends = λ sight. sight_status (absent_of sight);
+        ends = λ sight. absent_shown (absent_of sight);
         apart = shown_apart;
         begins = λ sight journal empty. tt;
         unbegun = λ sight journal written faults empty. tt;
