@@ -148,7 +148,7 @@ fn put_soak<R: Threads + Sync, C: Crew, O: Sink>(
     requires none_posted { C.posted crew.old ≡ [] }
     requires run { asked.now.command ≡ command.Soak soak }
     ensures { let work = work_begun asked.now checked.now begins in
-        RanFor work (soak_text soak (plain_ran work) (restarts_in work) (length work.faults)) (change_of O.written O.faults out.old out.new) result }
+        RanFor work (run_soak soak (plain_ran work) (restarts_in work) (length work.faults)) (change_of O.written O.faults out.old out.new) result }
 {
     let mut nobody = NeverSink::new();
     let report = match put_lines(rt, alloc, asked, checked, code, begins, crew, &mut nobody) {
