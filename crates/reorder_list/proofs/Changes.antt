@@ -15,7 +15,7 @@ KeepsPosition change = (e : Entry) → (change e).pos ≡ e.pos
 abbrev pub changed_where : Bool → (Entry → Entry) → Entry → Entry
 changed_where b change e = cond b (change e) e
 
-same-position : (b : Bool) (change : Entry → Entry) (e : Entry) → KeepsPosition change → (changed_where b change e).pos ≡ e.pos
+pub same-position : (b : Bool) (change : Entry → Entry) (e : Entry) → KeepsPosition change → (changed_where b change e).pos ≡ e.pos
 same-position true change e keeps = keeps e
 same-position false change e keeps = refl
 

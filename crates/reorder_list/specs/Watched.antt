@@ -1,19 +1,14 @@
 -- What the list keeps so that it need not look at all entries for one that is runnable.
-use Rattle.std.specs.Prelude.{◌≡◌, ◌<◌, ℕ, Bool, true, false, not, ⊤, List, Option, Some, None, is_some, count_by}
-use Rattle.std.specs.Option.{IsSomeAnd}
-use Rattle.std.specs.List.{AllZip}
+use Rattle.std.specs.Prelude.{◌≡◌, ◌⊎◌, ◌<◌, ◌≤◌, min, max, ℕ, Bool, true, false, not, cond, nat_eq, List, [], ◌∷◌, length, Option, Some, None, is_some, count_by}
 use Rattle.dependence.specs.Conflict.{Conflict}
 use Rattle.reorder_list.specs.declared.entry.Entry.{Entry}
 use Rattle.reorder_list.specs.declared.entry.State.{State}
+use Rattle.reorder_list.specs.declared.entry.State.TheVariants.{Waiting}
 use Rattle.reorder_list.specs.declared.marks.Marks.{Marks}
-use Rattle.reorder_list.specs.Entries.{entry_at, is_waiting, is_applied}
+use Rattle.reorder_list.specs.declared.marks.Watch.{Watch}
+use Rattle.reorder_list.specs.Entries.{entry_at, is_applied}
 use Rattle.reorder_list.specs.Places.{IsKept}
 use Rattle.reorder_list.specs.Runnable.{AllLetPass}
-
--- the position, if one is watched, is before the entry, and the entry there, if there is one, is in conflict with it by locks
-abbrev pub IsWatch : List Entry → Entry → Option ℕ → Type 0
-IsWatch entries e None = ⊤
-IsWatch entries e (Some q) = (q < e.pos) × ((x : Entry) → entry_at entries q ≡ Some x → Conflict x.locks e.locks)
 
 -- the earlier position holds up the later one: its entry is in conflict by locks with that one's and is not applied
 pub record HoldsUp (entries : List Entry) (earlier later : ℕ) : Type 0 where
@@ -27,29 +22,67 @@ pub record HoldsUp (entries : List Entry) (earlier later : ℕ) : Type 0 where
 abbrev pub IsReady : List Entry → ℕ → Type 0
 IsReady entries p = (e : Entry) → entry_at entries p ≡ Some e → AllLetPass entries p e
 
--- the entry of the position, if one is watched, is not applied
-abbrev pub StillWatched : List Entry → Option ℕ → Type 0
-StillWatched entries watch = IsSomeAnd watch (λ q. IsSomeAnd (entry_at entries q) (λ x. is_applied x.state ≡ false))
+-- the watch that is kept beside the entry of a position
+abbrev pub watch_at : List Entry → List Watch → ℕ → Option Watch
+watch_at [] watches q = None
+watch_at (e ∷ entries) [] q = None
+watch_at (e ∷ entries) (w ∷ watches) q = cond (nat_eq e.pos q) (Some w) (watch_at entries watches q)
 
--- for each entry a position is watched, or none
-abbrev pub AreWatched : List Entry → List (Option ℕ) → Type 0
-AreWatched entries watched = AllZip (IsWatch entries) entries watched
+-- an earlier position holds this one up, and has it in its watch
+pub record IsHeldUp (entries : List Entry) (watches : List Watch) (p : ℕ) : Type 0 where
+  pub by : ℕ
+  pub holds : HoldsUp entries by p
+  pub watch : Watch
+  pub is_there : watch_at entries watches by ≡ Some watch
+  pub from : watch.from ≤ p
+  pub to : p ≤ watch.to
+
+-- an entry of the position that waits is held up
+abbrev pub IsLooked : List Entry → List Watch → ℕ → Type 0
+IsLooked entries watches q = (e : Entry) → entry_at entries q ≡ Some e → e.state ≡ Waiting → IsHeldUp entries watches q
+
+-- so is each from the one position on and before the other
+abbrev pub AreLooked : List Entry → List Watch → (start stop : ℕ) → Type 0
+AreLooked entries watches start stop = (q : ℕ) → start ≤ q → q < stop → IsLooked entries watches q
+
+-- each entry that waits before the first position, and before the second or after the third, is held up
+abbrev pub AreAsleep : List Entry → List Watch → (fresh low last : ℕ) → Type 0
+AreAsleep entries watches fresh low last =
+    (q : ℕ) → q < fresh → (q < low) ⊎ (last < q) → IsLooked entries watches q
+
+-- a watch holds each position that another does
+pub record IsWider (watch wider : Watch) : Type 0 where
+  pub from : wider.from ≤ watch.from
+  pub to : watch.to ≤ wider.to
+
+-- as many watches, each of which holds what the one at its place did
+pub record AreWider (watches wider : List Watch) : Type 0 where
+  pub many : length wider ≡ length watches
+  pub each : (entries : List Entry) (q : ℕ) (w : Watch) → watch_at entries watches q ≡ Some w
+      → (v : Watch) × (watch_at entries wider q ≡ Some v) × IsWider w v
 
 -- the test gives this answer of each entry before the position
 abbrev pub Below : (State → Bool) → Bool → List Entry → ℕ → Type 0
 Below test answer entries below = (q : ℕ) (e : Entry) → q < below → entry_at entries q ≡ Some e → test e.state ≡ answer
 
--- no entry before the position waits
-abbrev pub NoneWaits : List Entry → ℕ → Type 0
-NoneWaits entries idle = Below is_waiting false entries idle
-
 -- each entry before the position is applied
 abbrev pub AllApplied : List Entry → ℕ → Type 0
 AllApplied entries whole = Below is_applied true entries whole
 
--- no entry before the one mark waits, and each before the other is applied
-pub record AreMarks (entries : List Entry) (marks : Marks) : Type 0 where
-  pub none_waits : NoneWaits entries marks.idle
+-- what the position of this watch held up has to be looked at again
+abbrev pub waking : Watch → Marks → Marks
+waking watch marks = record marks { low = min marks.low watch.from; last = max marks.last watch.to }
+
+-- what is left to look at after a search that follows the mark or not, found a position or none, and looked at all or not
+abbrev pub narrowed : (follows : Bool) → (found : Option ℕ) → (all : Bool) → Marks → Marks
+narrowed false found all marks = marks
+narrowed true (Some p) all marks = record marks { low = p }
+narrowed true None true marks = record marks { low = 4294967295; last = 0 }
+narrowed true None false marks = marks
+
+-- what stands by the marks
+pub record AreMarks (entries : List Entry) (watches : List Watch) (marks : Marks) : Type 0 where
+  pub asleep : AreAsleep entries watches marks.fresh marks.low marks.last
   pub all_applied : AllApplied entries marks.whole
 
 -- of how many entries it is not known what the subthread touches
@@ -59,9 +92,9 @@ is_unknown e = not (is_some e.foot)
 abbrev pub unknown_in : List Entry → ℕ
 unknown_in entries = count_by is_unknown entries
 
--- what is kept of the entries, of the positions that are watched, of the marks, and of how many are unknown
-pub record IsUpheld (entries : List Entry) (watched : List (Option ℕ)) (marks : Marks) (unknown : ℕ) : Type 0 where
+-- what is kept of the entries, of the watches, of the marks, and of how many are unknown
+pub record IsUpheld (entries : List Entry) (watches : List Watch) (marks : Marks) (unknown : ℕ) : Type 0 where
   pub kept : IsKept entries
-  pub watches : AreWatched entries watched
-  pub marked : AreMarks entries marks
+  pub many : length watches ≡ length entries
+  pub marked : AreMarks entries watches marks
   pub unknowns : unknown ≡ unknown_in entries

@@ -1,19 +1,27 @@
-// Marks among the entries: what stands before them need not be looked at.
+// Where entries have to be looked at again for one that is runnable.
 
-ghost use Rattle.std.specs.Prelude.{◌≡◌, min};
-ghost use Rattle.reorder_list.specs.Entries.{IsInRow};
-ghost use Rattle.reorder_list.specs.Watched.{AreMarks};
+ghost use Rattle.std.specs.Prelude.{◌≡◌, min, max, cond, None};
+ghost use Rattle.reorder_list.specs.Watched.{waking, narrowed};
 
-use crate::Entry;
-use crate::search::{first_unapplied, first_waiting};
 use gp_base::Pos;
-use std::collections::VecDeque;
 
-/// No entry before `idle` waits, and each entry before `whole` is applied.
+/// An entry that waits before `fresh`, and before `low` or after `last`, is held up by a position in whose watch it is,
+/// and each entry before `whole` is applied. So only those from `low` to `last`, and from `fresh` on, need be looked at.
 #[derive(Clone, Copy)]
 pub struct Marks {
-    pub idle: Pos,
+    pub fresh: Pos,
+    pub low: Pos,
+    pub last: Pos,
     pub whole: Pos,
+}
+
+/// What is kept beside an entry: an earlier position that held it up when it was last looked at, and the first and the
+/// last of the positions that it was found to hold up itself.
+#[derive(Clone, Copy)]
+pub struct Watch {
+    pub by: Option<Pos>,
+    pub from: Pos,
+    pub to: Pos,
 }
 
 // The earlier of two positions.
@@ -23,27 +31,88 @@ fn earlier_of(a: Pos, b: Pos) -> Pos
     Pos(a.0.min(b.0))
 }
 
+// The later of two positions.
+fn later_of(a: Pos, b: Pos) -> Pos
+    ensures { result ≡ max a b }
+{
+    Pos(a.0.max(b.0))
+}
+
+/// The watch of an entry at this position of which nothing was looked at.
+pub fn new_watch(p: Pos) -> Watch
+    ensures { result ≡ record { by = None; from = p; to = p } }
+{
+    Watch {
+        by: None,
+        from: p,
+        to: p,
+    }
+}
+
+/// This position is held up by the entry.
+pub fn cover(watch: &mut Watch, p: Pos)
+    ensures { watch.new ≡ record watch.old { from = min watch.old.from p; to = max watch.old.to p } }
+{
+    watch.from = earlier_of(watch.from, p);
+    watch.to = later_of(watch.to, p);
+}
+
+/// The entry is held up by this position, or by none.
+pub fn hold(watch: &mut Watch, by: Option<Pos>)
+    ensures { watch.new ≡ record watch.old { by = by } }
+{
+    watch.by = by;
+}
+
+/// Leaves what is left to look at after a search from `low` on, which follows the mark or begins later. It found this
+/// position, or none, and then it looked at all up to `last`, or not.
+pub fn narrow(marks: &mut Marks, follows: bool, found: &Option<Pos>, all: bool)
+    ensures { marks.new ≡ narrowed follows found.now all marks.old }
+{
+    if !follows {
+        return;
+    }
+    if let Some(p) = found {
+        marks.low = *p;
+        return;
+    }
+    if all {
+        marks.low = Pos(u32::MAX);
+        marks.last = Pos(0);
+    }
+}
+
+/// All from `fresh` up to this position were looked at, if the search follows the mark.
+pub fn refresh(marks: &mut Marks, follows: bool, reached: Pos)
+    ensures { marks.new ≡ record marks.old { fresh = cond follows reached marks.old.fresh } }
+{
+    if follows {
+        marks.fresh = reached;
+    }
+}
+
 impl Marks {
-    /// Both no later than this position.
+    /// All from the position on have to be looked at again, and it need not be applied.
     pub fn lowered(self, p: Pos) -> Marks
-        ensures idle { result.idle ≡ min self.idle p }
-        ensures whole { result.whole ≡ min self.whole p }
+        ensures { result ≡ record self { fresh = min self.fresh p; whole = min self.whole p } }
     {
         Marks {
-            idle: earlier_of(self.idle, p),
+            fresh: earlier_of(self.fresh, p),
+            low: self.low,
+            last: self.last,
             whole: earlier_of(self.whole, p),
         }
     }
 
-    /// Both as far as they go among these entries. Looks at those that are passed alone.
-    pub fn raised(self, entries: &VecDeque<Entry>) -> Marks
-        requires in_row { IsInRow entries.now.items }
-        requires marks { AreMarks entries.now.items self }
-        ensures { AreMarks entries.now.items result }
+    /// All that a position was found to hold up has to be looked at again.
+    pub fn waking(self, watch: Watch) -> Marks
+        ensures { result ≡ waking watch self }
     {
         Marks {
-            idle: first_waiting(entries, self.idle),
-            whole: first_unapplied(entries, self.whole),
+            fresh: self.fresh,
+            low: earlier_of(self.low, watch.from),
+            last: later_of(self.last, watch.to),
+            whole: self.whole,
         }
     }
 }

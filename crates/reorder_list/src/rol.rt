@@ -8,8 +8,8 @@ ghost use Rattle.reorder_list.specs.Runnable.{IsRunnable, IsFirstRunnable, NoneR
 ghost use Rattle.reorder_list.specs.declared.entry.Entry.{Entry};
 ghost use Rattle.reorder_list.specs.declared.entry.State.TheVariants.{Out, Applied};
 
-use crate::marks::Marks;
-use crate::search::{first_runnable, is_runnable, place_of};
+use crate::marks::{Marks, Watch, new_watch};
+use crate::search::{first_runnable, first_unapplied, is_runnable, place_of};
 use crate::{Entry, State};
 use gp_base::{Footprint, Lines, Pos, Seq};
 use record_store::History;
@@ -22,8 +22,8 @@ use std::marker::Model;
 #[derive(Drop)]
 pub struct Rol {
     entries: VecDeque<Entry>,
-    // for each entry an earlier position in conflict with it by locks that was not applied when last looked for
-    watched: VecDeque<Option<Pos>>,
+    // for each entry what held it up when it was last looked at, and what it was found to hold up itself
+    watches: VecDeque<Watch>,
     marks: Marks,
     // of how many entries it is not known what the subthread touches
     unknown: usize,
@@ -37,9 +37,9 @@ impl Model for Rol {
 
     ghost Value = { Entered };
 
-    ghost view = { λ r. record { entries = r.entries.items; spare = min (deque_capacity r.entries - deque_len r.entries) (deque_capacity r.watched - deque_len r.watched) } };
+    ghost view = { λ r. record { entries = r.entries.items; spare = min (deque_capacity r.entries - deque_len r.entries) (deque_capacity r.watches - deque_len r.watches) } };
 
-    ghost invariant = { λ r. IsUpheld r.entries.items r.watched.items r.marks r.unknown };
+    ghost invariant = { λ r. IsUpheld r.entries.items r.watches.items r.marks r.unknown };
 }
 
 // The next attempt of an entry begins at this front and waits; the history of the last one is handed out.
@@ -100,9 +100,11 @@ impl Rol {
     {
         Rol {
             entries: VecDeque::new(alloc),
-            watched: VecDeque::new(alloc),
+            watches: VecDeque::new(alloc),
             marks: Marks {
-                idle: Pos(0),
+                fresh: Pos(0),
+                low: Pos(0),
+                last: Pos(0),
                 whole: Pos(0),
             },
             unknown: 0,
@@ -145,7 +147,7 @@ impl Rol {
         ensures kept { self.old.spare ≤ self.new.spare }
     {
         self.entries.reserve(1)?;
-        self.watched.reserve(1)
+        self.watches.reserve(1)
     }
 
     /// Puts the entry of the next position, which waits, at the end. Takes no memory, as every call but `reserve`.
@@ -158,8 +160,8 @@ impl Rol {
     {
         self.marks = self.marks.lowered(entry.pos);
         self.unknown += 1;
+        self.watches.push_back_reserved(new_watch(entry.pos));
         self.entries.push_back_reserved(entry);
-        self.watched.push_back_reserved(None);
     }
 
     /// The oldest entry, where there is one.
@@ -187,17 +189,22 @@ impl Rol {
         }
     }
 
-    /// The first position from one on and before another whose entry is runnable. It first raises the marks as far as
-    /// they go, also beyond the other position; the search itself goes over no entry from the other position on. The
-    /// list that contracts see stays as it is.
+    /// The first position from one on and before another whose entry is runnable. Looks at none that is held up as it
+    /// was when it was last looked at, or few. The list that contracts see stays as it is.
     pub fn next_runnable(&mut self, from: Pos, below: Pos) -> Option<Pos>
         ensures found { IfSome result (λ p. IsFirstRunnable self.old.entries from p) }
         ensures within { IfSome result (λ p. p < below) }
         ensures none { IfNone result (NoneRunnable self.old.entries from below) }
         ensures same { self.new ≡ self.old }
     {
-        self.marks = self.marks.raised(&self.entries);
-        first_runnable(&self.entries, &mut self.watched, self.marks, from, below)
+        self.marks.whole = first_unapplied(&self.entries, self.marks.whole);
+        first_runnable(
+            &self.entries,
+            &mut self.watches,
+            &mut self.marks,
+            from,
+            below,
+        )
     }
 
     /// The attempt of a position is out.
@@ -232,6 +239,7 @@ impl Rol {
         ensures spare { self.new.spare ≡ self.old.spare }
     {
         if let Some(place) = place_of(&self.entries, p) {
+            self.marks = self.marks.waking(self.watches[place]);
             apply_entry(&mut self.entries[place], history, lines);
         }
     }
@@ -257,7 +265,7 @@ impl Rol {
         ensures entries { self.old.entries ≡ result ∷ self.new.entries }
         ensures spare { self.old.spare ≤ self.new.spare }
     {
-        let _ = self.watched.pop_front();
+        let _ = self.watches.pop_front();
         let Some(entry) = self.entries.pop_front() else {
             unreachable!();
         };

@@ -1,15 +1,15 @@
 // Which entry is runnable.
 
-ghost use Rattle.std.specs.Prelude.{◌≡◌, ◌↔◌, ◌⊎◌, ◌+◌, ◌<◌, ◌≤◌, length, IsTrue, IfSome, IfNone, MatchOption, None, false};
+ghost use Rattle.std.specs.Prelude.{ℕ, unwrap_or, ◌≡◌, ◌↔◌, ◌⊎◌, ◌+◌, ◌<◌, ◌≤◌, length, IsTrue, IfSome, IfNone, MatchOption, None, false};
 ghost use Rattle.std.specs.VecDeque.{deque_len, deque_capacity};
 ghost use Rattle.dependence.specs.Conflict.{Conflict};
 ghost use Rattle.reorder_list.specs.Entries.{IsInRow, entry_at, first_position, is_applied};
 ghost use Rattle.reorder_list.specs.Places.{IsPlaceOf};
 ghost use Rattle.reorder_list.specs.Runnable.{LetsPass, IsRunnable, IsFirstRunnable, NoneRunnable};
-ghost use Rattle.reorder_list.specs.Watched.{HoldsUp, IsReady, StillWatched, AreWatched, NoneWaits, AllApplied, AreMarks};
+ghost use Rattle.reorder_list.specs.Watched.{HoldsUp, IsReady, IsHeldUp, IsLooked, AreLooked, AreWider, AllApplied, AreMarks};
 
 use crate::Entry;
-use crate::marks::Marks;
+use crate::marks::{Marks, Watch, cover, hold, narrow, refresh};
 use dependence::conflict;
 use gp_base::Pos;
 use std::collections::VecDeque;
@@ -48,6 +48,19 @@ fn place_from(entries: &VecDeque<Entry>, p: Pos) -> usize
     place.min(entries.len())
 }
 
+// The place behind a position, or how many entries there are.
+fn place_behind(entries: &VecDeque<Entry>, p: Pos) -> usize
+    ensures within { result ≤ length entries.now.items }
+    ensures later { result < length entries.now.items → p < first_position entries.now.items + result }
+{
+    let place = place_from(entries, p);
+    if place < entries.len() {
+        place + 1
+    } else {
+        place
+    }
+}
+
 // Whether an earlier entry is in conflict with the later one by locks and not applied.
 fn blocks(earlier: &Entry, later: &Entry) -> bool
     ensures blocks { IsTrue result → Conflict earlier.now.locks later.now.locks × (is_applied earlier.now.state ≡ false) }
@@ -56,7 +69,7 @@ fn blocks(earlier: &Entry, later: &Entry) -> bool
     !earlier.state.is_applied() && conflict(&earlier.locks, &later.locks)
 }
 
-// The first position before the one at a place that holds it up, where each entry before another position is applied.
+// The last position before the one at a place that holds it up, where each entry before another position is applied.
 fn blocker(entries: &VecDeque<Entry>, place: usize, whole: Pos) -> Option<Pos>
     requires in_row { IsInRow entries.now.items }
     requires in_range { place < length entries.now.items }
@@ -65,7 +78,7 @@ fn blocker(entries: &VecDeque<Entry>, place: usize, whole: Pos) -> Option<Pos>
     ensures some { IfSome result (λ q. HoldsUp entries.now.items q (first_position entries.now.items + place)) }
 {
     let entry = &entries[place];
-    for earlier in place_from(entries, whole)..place {
+    for earlier in (place_from(entries, whole)..place).rev() {
         let before = &entries[earlier];
         if blocks(before, entry) {
             return Some(before.pos);
@@ -85,62 +98,79 @@ pub fn is_runnable(entries: &VecDeque<Entry>, place: usize, whole: Pos) -> bool
     entries[place].state.is_waiting() && blocker(entries, place, whole).is_none()
 }
 
-// Whether the entry of the position that is watched is still not applied.
-fn is_blocked(entries: &VecDeque<Entry>, watch: Option<Pos>) -> bool
-    requires { IsInRow entries.now.items }
-    ensures { IsTrue result → StillWatched entries.now.items watch }
+// The position, if it still holds up the entry at a place.
+fn still_holding(entries: &VecDeque<Entry>, by: Option<Pos>, place: usize) -> Option<Pos>
+    requires in_row { IsInRow entries.now.items }
+    requires in_range { place < length entries.now.items }
+    ensures { IfSome result (λ q. HoldsUp entries.now.items q (first_position entries.now.items + place)) }
 {
-    let Some(earlier) = watch else {
-        return false;
-    };
-    match place_of(entries, earlier) {
-        Some(place) => !entries[place].state.is_applied(),
-        None => false,
+    let earlier = by?;
+    let at = place_of(entries, earlier)?;
+    if at < place && blocks(&entries[at], &entries[place]) {
+        return Some(earlier);
+    }
+    None
+}
+
+// A position that holds up the entry at a place. Looks for another only where the one that last did so does no longer.
+fn holder(entries: &VecDeque<Entry>, by: Option<Pos>, place: usize, whole: Pos) -> Option<Pos>
+    requires in_row { IsInRow entries.now.items }
+    requires in_range { place < length entries.now.items }
+    requires all_applied { AllApplied entries.now.items whole }
+    ensures none { IfNone result (IsReady entries.now.items (first_position entries.now.items + place)) }
+    ensures some { IfSome result (λ q. HoldsUp entries.now.items q (first_position entries.now.items + place)) }
+{
+    match still_holding(entries, by, place) {
+        Some(earlier) => Some(earlier),
+        None => blocker(entries, place, whole),
     }
 }
 
-// Whether the entry at a place is runnable. Looks for another position that holds it up only where the one that is
-// watched does so no longer.
+// Notes that a position holds up the entry at a place.
+fn note_holder(entries: &VecDeque<Entry>, watches: &mut VecDeque<Watch>, place: usize, earlier: Pos)
+    requires in_row { IsInRow entries.now.items }
+    requires in_range { place < length entries.now.items }
+    requires many { length watches.old.items ≡ length entries.now.items }
+    requires holds { HoldsUp entries.now.items earlier (first_position entries.now.items + place) }
+    ensures held { IsHeldUp entries.now.items watches.new.items (first_position entries.now.items + place) }
+    ensures wider { AreWider watches.old.items watches.new.items }
+    ensures len { deque_len watches.new ≡ deque_len watches.old }
+    ensures capacity { deque_capacity watches.new ≡ deque_capacity watches.old }
+{
+    hold(&mut watches[place], Some(earlier));
+    let Some(at) = place_of(entries, earlier) else {
+        unreachable!();
+    };
+    cover(&mut watches[at], entries[place].pos);
+}
+
+// Whether the entry at a place is runnable. One that waits and is not is in the watch of a position that holds it up.
 fn is_ready(
     entries: &VecDeque<Entry>,
-    watched: &mut VecDeque<Option<Pos>>,
+    watches: &mut VecDeque<Watch>,
     place: usize,
     whole: Pos,
 ) -> bool
     requires in_row { IsInRow entries.now.items }
     requires in_range { place < length entries.now.items }
     requires all_applied { AllApplied entries.now.items whole }
-    requires watches { AreWatched entries.now.items watched.old.items }
+    requires many { length watches.old.items ≡ length entries.now.items }
     ensures runnable { IsTrue result ↔ IsRunnable entries.now.items (first_position entries.now.items + place) }
-    ensures watches { AreWatched entries.now.items watched.new.items }
-    ensures len { deque_len watched.new ≡ deque_len watched.old }
-    ensures capacity { deque_capacity watched.new ≡ deque_capacity watched.old }
+    ensures held { result ≡ false → IsLooked entries.now.items watches.new.items (first_position entries.now.items + place) }
+    ensures wider { AreWider watches.old.items watches.new.items }
+    ensures len { deque_len watches.new ≡ deque_len watches.old }
+    ensures capacity { deque_capacity watches.new ≡ deque_capacity watches.old }
 {
     if !entries[place].state.is_waiting() {
         return false;
     }
-    if is_blocked(entries, watched[place]) {
-        return false;
-    }
-    let found = blocker(entries, place, whole);
-    watched[place] = found;
-    found.is_none()
-}
-
-/// A position before which no entry waits, from one that is so on: that of the first entry that waits, or of the last.
-pub fn first_waiting(entries: &VecDeque<Entry>, idle: Pos) -> Pos
-    requires in_row { IsInRow entries.now.items }
-    requires none_waits { NoneWaits entries.now.items idle }
-    ensures { NoneWaits entries.now.items result }
-{
-    let mut first = idle;
-    for place in place_from(entries, idle)..entries.len() {
-        first = entries[place].pos;
-        if entries[place].state.is_waiting() {
-            return first;
+    match holder(entries, watches[place].by, place, whole) {
+        Some(earlier) => {
+            note_holder(entries, watches, place, earlier);
+            false
         }
+        None => true,
     }
-    first
 }
 
 /// A position before which each entry is applied, from one that is so on: that of the first entry that is not applied,
@@ -160,30 +190,124 @@ pub fn first_unapplied(entries: &VecDeque<Entry>, whole: Pos) -> Pos
     first
 }
 
-/// The first position from one on and before another whose entry is runnable.
-pub fn first_runnable(
+// The first position at one of these places whose entry is runnable. Those before it that wait are held up.
+fn look(
     entries: &VecDeque<Entry>,
-    watched: &mut VecDeque<Option<Pos>>,
-    marks: Marks,
-    from: Pos,
-    below: Pos,
+    watches: &mut VecDeque<Watch>,
+    start: usize,
+    end: usize,
+    whole: Pos,
 ) -> Option<Pos>
     requires in_row { IsInRow entries.now.items }
-    requires watches { AreWatched entries.now.items watched.old.items }
-    requires marks { AreMarks entries.now.items marks }
-    ensures found { IfSome result (λ p. IsFirstRunnable entries.now.items from p) }
-    ensures within { IfSome result (λ p. p < below) }
-    ensures none { IfNone result (NoneRunnable entries.now.items from below) }
-    ensures watches { AreWatched entries.now.items watched.new.items }
-    ensures len { deque_len watched.new ≡ deque_len watched.old }
-    ensures capacity { deque_capacity watched.new ≡ deque_capacity watched.old }
+    requires in_range { end ≤ length entries.now.items }
+    requires all_applied { AllApplied entries.now.items whole }
+    requires many { length watches.old.items ≡ length entries.now.items }
+    ensures found { IfSome result (λ p. (first_position entries.now.items + start ≤ p) × (p < first_position entries.now.items + end) × IsRunnable entries.now.items p) }
+    ensures looked { AreLooked entries.now.items watches.new.items (first_position entries.now.items + start) (unwrap_or result (first_position entries.now.items + end)) }
+    ensures wider { AreWider watches.old.items watches.new.items }
+    ensures len { deque_len watches.new ≡ deque_len watches.old }
+    ensures capacity { deque_capacity watches.new ≡ deque_capacity watches.old }
 {
-    let start = Pos(from.0.max(marks.idle.0));
-    let end = place_from(entries, below);
-    for place in place_from(entries, start)..end {
-        if is_ready(entries, watched, place, marks.whole) {
+    for place in start..end {
+        if is_ready(entries, watches, place, whole) {
             return Some(entries[place].pos);
         }
     }
     None
+}
+
+// The position that was found, or else one before which all entries stand before a place.
+fn reached(entries: &VecDeque<Entry>, found: &Option<Pos>, end: usize) -> Pos
+    requires in_row { IsInRow entries.now.items }
+    requires in_range { end ≤ length entries.now.items }
+    ensures { result ≤ unwrap_or found.now (first_position entries.now.items + end) }
+{
+    if let Some(p) = found {
+        return *p;
+    }
+    if end == 0 {
+        return Pos(0);
+    }
+    entries[end - 1].pos
+}
+
+// The first runnable position of those from `low` to `last` that stand before `fresh`, from one position on and before
+// another.
+fn first_woken(
+    entries: &VecDeque<Entry>,
+    watches: &mut VecDeque<Watch>,
+    marks: &mut Marks,
+    from: Pos,
+    below: Pos,
+) -> Option<Pos>
+    requires in_row { IsInRow entries.now.items }
+    requires many { length watches.old.items ≡ length entries.now.items }
+    requires marks { AreMarks entries.now.items watches.old.items marks.old }
+    ensures found { IfSome result (λ p. (from ≤ p) × (p < below) × (p < marks.old.fresh) × IsRunnable entries.now.items p) }
+    ensures looked { (q : ℕ) → marks.old.low ≤ q → q ≤ marks.old.last → q < marks.old.fresh → from ≤ q → q < below → IfSome result (λ p. q < p) → IsLooked entries.now.items watches.new.items q }
+    ensures wider { AreWider watches.old.items watches.new.items }
+    ensures marks { AreMarks entries.now.items watches.new.items marks.new }
+    ensures fresh { marks.new.fresh ≡ marks.old.fresh }
+    ensures len { deque_len watches.new ≡ deque_len watches.old }
+    ensures capacity { deque_capacity watches.new ≡ deque_capacity watches.old }
+{
+    let follows = from.0 <= marks.low.0;
+    let start = place_from(entries, Pos(from.0.max(marks.low.0)));
+    let behind = place_behind(entries, marks.last).min(place_from(entries, marks.fresh));
+    let end = behind.min(place_from(entries, below));
+    let found = look(entries, watches, start, end, marks.whole);
+    narrow(marks, follows, &found, end == behind);
+    found
+}
+
+// The first runnable position of those from `fresh` on, from one position on and before another.
+fn first_fresh(
+    entries: &VecDeque<Entry>,
+    watches: &mut VecDeque<Watch>,
+    marks: &mut Marks,
+    from: Pos,
+    below: Pos,
+) -> Option<Pos>
+    requires in_row { IsInRow entries.now.items }
+    requires many { length watches.old.items ≡ length entries.now.items }
+    requires marks { AreMarks entries.now.items watches.old.items marks.old }
+    ensures found { IfSome result (λ p. (from ≤ p) × (p < below) × IsRunnable entries.now.items p) }
+    ensures looked { (q : ℕ) → marks.old.fresh ≤ q → from ≤ q → q < below → IfSome result (λ p. q < p) → IsLooked entries.now.items watches.new.items q }
+    ensures wider { AreWider watches.old.items watches.new.items }
+    ensures marks { AreMarks entries.now.items watches.new.items marks.new }
+    ensures len { deque_len watches.new ≡ deque_len watches.old }
+    ensures capacity { deque_capacity watches.new ≡ deque_capacity watches.old }
+{
+    let follows = from.0 <= marks.fresh.0;
+    let start = place_from(entries, Pos(from.0.max(marks.fresh.0)));
+    let end = place_from(entries, below);
+    let found = look(entries, watches, start, end, marks.whole);
+    refresh(marks, follows, reached(entries, &found, end));
+    found
+}
+
+/// The first position from one on and before another whose entry is runnable. Those that are looked at and held up need
+/// not be looked at again until what holds them up is applied.
+pub fn first_runnable(
+    entries: &VecDeque<Entry>,
+    watches: &mut VecDeque<Watch>,
+    marks: &mut Marks,
+    from: Pos,
+    below: Pos,
+) -> Option<Pos>
+    requires in_row { IsInRow entries.now.items }
+    requires many { length watches.old.items ≡ length entries.now.items }
+    requires marks { AreMarks entries.now.items watches.old.items marks.old }
+    ensures found { IfSome result (λ p. IsFirstRunnable entries.now.items from p) }
+    ensures within { IfSome result (λ p. p < below) }
+    ensures none { IfNone result (NoneRunnable entries.now.items from below) }
+    ensures many { length watches.new.items ≡ length entries.now.items }
+    ensures marks { AreMarks entries.now.items watches.new.items marks.new }
+    ensures len { deque_len watches.new ≡ deque_len watches.old }
+    ensures capacity { deque_capacity watches.new ≡ deque_capacity watches.old }
+{
+    match first_woken(entries, watches, marks, from, below) {
+        Some(woken) => Some(woken),
+        None => first_fresh(entries, watches, marks, from, below),
+    }
 }

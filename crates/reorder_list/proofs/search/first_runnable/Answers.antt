@@ -1,45 +1,35 @@
-use Rattle.std.proofs.Common.{inl, inr, ap, refl, sym, subst, arith}
-use Rattle.reorder_list.specs.declared.marks.Marks.{Marks}
-use Rattle.reorder_list.specs.Runnable.{IsRunnable}
-use Rattle.reorder_list.proofs.Readiness.{none-all, read-position}
-use Rattle.reorder_list.proofs.Watching.{none-start}
+use Rattle.std.proofs.Common.{arith}
+use Rattle.reorder_list.proofs.Watching.{none-before-fresh, none-either, first-found, none-found}
 use Rattle.reorder_list.proofs.search.first_runnable.Goals as goal
 
-pub loop-place-init : goal.loop-place-init
-loop-place-init c =
-    let top = c.max.ensures in
-    let from = c.from.view_is in
-    let idle = ap (λ (m : Marks). m.idle) c.marks.view_is in
+pub returns-in-Some-clause-found : goal.returns-in-Some-clause-found
+returns-in-Some-clause-found c =
+    let found = c.in-Some.ensures.found in
+    let below = found.1 in
+    let fresh = found.2 in
     record {
-      none = none-start c.args.entries.now.items c.args.from c.args.marks.idle _ c.place_from-place.result c.requires.in_row
-          (λ q l low. omega arith) c.place_from-place.ensures.before c.requires.marks.none_waits;
-      later = λ l. (let after = c.place_from-place.ensures.later l in omega arith);
-      watches = c.requires.watches;
-      len = refl;
-      capacity = refl;
+      later = found.0;
+      runnable = found.3;
+      first =
+          λ q l high. none-before-fresh c.args.entries.now.items c.args.watches.now.items c.first_woken.new.watches.items c.args.marks.now q
+          c.requires.marks c.in-Some.ensures.wider
+          (λ low last. c.in-Some.ensures.looked q low last (omega arith) l (omega arith) high) (omega arith);
     }
 
-pub returns-then-is_ready-clause-found : goal.returns-then-is_ready-clause-found
-returns-then-is_ready-clause-found c =
-    let ok = c.place_from-end.ensures.within in
-    let within = c.loop-place-test.true in
-    let is = read-position c.args.entries.now.items c.loop-place.place c.index.result.now c.requires.in_row (omega arith) c.index.ensures in
-    let later = c.loop-place.invariant.later (omega arith) in
-    record {
-      later = omega arith;
-      runnable = subst (IsRunnable c.args.entries.now.items) (sym is) (c.is_ready.ensures.runnable.0 c.if-is_ready.true);
-      first = λ q l low. c.loop-place.invariant.none q l (omega arith);
-    }
+pub returns-in-None-clause-found : goal.returns-in-None-clause-found
+returns-in-None-clause-found c =
+    let same = c.in-None.ensures.fresh in
+    first-found c.args.entries.now.items c.first_fresh.result c.args.from c.args.below c.first_fresh.ensures.found
+    (λ q l high some. none-either c.args.entries.now.items c.args.watches.now.items c.first_woken.new.watches.items
+    c.first_fresh.new.watches.items c.args.marks.now q c.requires.marks c.in-None.ensures.wider c.first_fresh.ensures.wider
+    (λ low last before. c.in-None.ensures.looked q low last before l high tt)
+    (λ after. c.first_fresh.ensures.looked q (omega arith) l high some))
 
-pub returns-then-is_ready-clause-within : goal.returns-then-is_ready-clause-within
-returns-then-is_ready-clause-within c =
-    let ok = c.place_from-end.ensures.within in
-    let within = c.loop-place-test.true in
-    let is = read-position c.args.entries.now.items c.loop-place.place c.index.result.now c.requires.in_row (omega arith) c.index.ensures in
-    elim c.place_from-end.ensures.before [ inl none ↦ absurd (omega arith) | inr low ↦ omega arith ]
-
-pub returns-clause-none : goal.returns-clause-none
-returns-clause-none c =
-    let ok = c.place_from-end.ensures.within in
-    none-all c.args.entries.now.items c.args.from c.args.below c.loop-place.place c.place_from-end.result c.requires.in_row
-    (let past = c.loop-place-test.false in omega arith) c.place_from-end.ensures.later c.loop-place.invariant.none
+pub returns-in-None-clause-none : goal.returns-in-None-clause-none
+returns-in-None-clause-none c =
+    let same = c.in-None.ensures.fresh in
+    none-found c.args.entries.now.items c.first_fresh.result c.args.from c.args.below
+    (λ q l high some. none-either c.args.entries.now.items c.args.watches.now.items c.first_woken.new.watches.items
+    c.first_fresh.new.watches.items c.args.marks.now q c.requires.marks c.in-None.ensures.wider c.first_fresh.ensures.wider
+    (λ low last before. c.in-None.ensures.looked q low last before l high tt)
+    (λ after. c.first_fresh.ensures.looked q (omega arith) l high some))

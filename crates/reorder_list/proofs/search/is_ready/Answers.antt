@@ -1,9 +1,9 @@
-use Rattle.std.proofs.Common.{◌∙◌, ◌+◌, sym, arith}
-use Rattle.std.proofs.lemmas.Bool.{false≢true}
-use Rattle.reorder_list.specs.Entries.{first_position}
-use Rattle.reorder_list.proofs.Rows.{read-at}
-use Rattle.reorder_list.proofs.Readiness.{not-waiting, read-there}
-use Rattle.reorder_list.proofs.Watching.{found-decides, watch-at, watch-set, watch-holds, holds-watch, watches-length}
+use Rattle.std.proofs.Common.{◌∙◌, ◌+◌, ap, sym, arith, is_some, true}
+use Rattle.std.proofs.lemmas.Bool.{false≢true, both_ways}
+use Rattle.reorder_list.specs.declared.entry.Entry.{Entry}
+use Rattle.reorder_list.specs.Entries.{first_position, is_waiting}
+use Rattle.reorder_list.proofs.Readiness.{not-waiting, one-entry, read-there}
+use Rattle.reorder_list.proofs.Watching.{found-decides}
 use Rattle.reorder_list.proofs.search.is_ready.Goals as goal
 
 pub returns-then-not-is_waiting-clause-runnable : goal.returns-then-not-is_waiting-clause-runnable
@@ -13,45 +13,27 @@ returns-then-not-is_waiting-clause-runnable c = (
       (sym c.is_waiting.ensures ∙ c.if-not-is_waiting.true) r),
 )
 
+pub returns-then-not-is_waiting-clause-held : goal.returns-then-not-is_waiting-clause-held
+returns-then-not-is_waiting-clause-held c is e there waits =
+    let entries = c.args.entries.now.items in
+    let same =
+    one-entry entries (first_position entries + c.args.place) c.index.result.now e
+    (read-there entries c.args.place c.index.result.now c.requires.in_row c.requires.in_range c.index.ensures) there in
+    absurd (both_ways (is_waiting e.state)
+    (ap (λ (x : Entry). is_waiting x.state) (sym same) ∙ (sym c.is_waiting.ensures ∙ c.if-not-is_waiting.true))
+    (ap is_waiting waits))
+
 pub index-requires-2 : goal.index-requires-2
 index-requires-2 c =
-    let same = watches-length c.args.entries.now.items c.args.entries.now.items c.args.watched.now.items c.requires.watches in
-    let ok = c.args.watched.now.ok in
+    let same = c.requires.many in
+    let ok = c.args.watches.now.ok in
     let l = c.requires.in_range in
     omega arith
 
-pub index_mut-requires : goal.index_mut-requires
-index_mut-requires c =
-    let same = watches-length c.args.entries.now.items c.args.entries.now.items c.args.watched.now.items c.requires.watches in
-    let ok = c.args.watched.now.ok in
-    let l = c.requires.in_range in
-    omega arith
-
-pub returns-then-is_blocked-clause-runnable : goal.returns-then-is_blocked-clause-runnable
-returns-then-is_blocked-clause-runnable c =
+pub returns-in-None-clause-runnable : goal.returns-in-None-clause-runnable
+returns-in-None-clause-runnable c =
     let entries = c.args.entries.now.items in
-    let there = read-there entries c.args.place c.index.result.now c.requires.in_row c.requires.in_range c.index.ensures in
-    let watch =
-    watch-at entries entries c.args.watched.now.items c.args.place c.index.result.now c.index-2.result.now c.requires.watches
-    (read-at entries c.args.place c.index.result.now c.requires.in_range c.index.ensures) c.index-2.ensures in (
-      λ t. absurd (false≢true t),
-      λ r. absurd (watch-holds entries (first_position entries + c.args.place) c.index.result.now c.index-2.result.now there watch
-          (c.is_blocked.ensures c.if-is_blocked.true) r),
-    )
-
-pub returns-clause-runnable : goal.returns-clause-runnable
-returns-clause-runnable c =
-    let entries = c.args.entries.now.items in
-    found-decides entries (first_position entries + c.args.place) c.index.result.now c.blocker-found.result
-    c.is_none.result c.is_none.ensures
+    found-decides entries (first_position entries + c.args.place) c.index.result.now c.holder.result
+    true (ap (λ o. is_some o) c.in-None.is)
     (read-there entries c.args.place c.index.result.now c.requires.in_row c.requires.in_range c.index.ensures)
-    (sym c.is_waiting.ensures ∙ c.if-not-is_waiting.false) c.blocker-found.ensures.none c.blocker-found.ensures.some
-
-pub returns-clause-watches : goal.returns-clause-watches
-returns-clause-watches c =
-    let entries = c.args.entries.now.items in
-    let there = read-there entries c.args.place c.index.result.now c.requires.in_row c.requires.in_range c.index.ensures in
-    watch-set entries entries c.args.watched.now.items c.args.place c.index.result.now c.blocker-found.result c.requires.watches
-    (read-at entries c.args.place c.index.result.now c.requires.in_range c.index.ensures)
-    (holds-watch entries (first_position entries + c.args.place) c.index.result.now c.blocker-found.result there
-    c.blocker-found.ensures.some)
+    (sym c.is_waiting.ensures ∙ c.if-not-is_waiting.false) c.holder.ensures.none c.holder.ensures.some

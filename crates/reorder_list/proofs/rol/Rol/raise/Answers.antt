@@ -1,6 +1,7 @@
-use Rattle.std.proofs.Common.{◌∙◌, ◌<◌, Option, IfSome, IsTrue, ap, arith, nat_eq, refl, sym, subst, is_some}
+use Rattle.std.proofs.Common.{inl, ◌∙◌, ◌<◌, Option, IfSome, IsTrue, ap, arith, nat_eq, refl, sym, subst, is_some}
 use Rattle.std.specs.Option.{IsSomeAnd}
 use Rattle.reorder_list.specs.declared.entry.Entry.{Entry}
+use Rattle.reorder_list.specs.declared.marks.Marks.{Marks}
 use Rattle.reorder_list.specs.Entries.{Entered, entry_at, is_applied, histories_of, raised_entry, with_change_at}
 use Rattle.reorder_list.proofs.Kept.{changed-entries, changed-kept, entry-is, history-of-applied, holds-here}
 use Rattle.std.proofs.lemmas.Bool.{eqb-true}
@@ -20,11 +21,14 @@ invariant_of-self c =
     let kept = c.self.invariant.kept in
     let place = c.in_ok-place.place in
     let old = c.index_mut.result.now in
-    let idle = c.lowered-self-inside.ensures.idle in
-    let whole = c.lowered-self-inside.ensures.whole in
-    upheld-kept entries c.self.inside.watched.items c.self.inside.marks c.lowered-self-inside.result c.self.inside.unknown
+    let fresh = ap (λ (m : Marks). m.fresh) c.lowered-self-inside.ensures in
+    let low = ap (λ (m : Marks). m.low) c.lowered-self-inside.ensures in
+    let last = ap (λ (m : Marks). m.last) c.lowered-self-inside.ensures in
+    let whole = ap (λ (m : Marks). m.whole) c.lowered-self-inside.ensures in
+    upheld-kept entries c.self.inside.watches.items c.self.inside.marks c.lowered-self-inside.result c.self.inside.unknown
     (λ q. nat_eq q c.args.p) (raised_entry c.args.front) _ (λ e. refl) (λ e. refl) (λ e. refl)
-    (λ q l is e here was. absurd (let same = eqb-true q c.args.p is in omega arith)) (omega arith)
+    (λ q e is there waits l. absurd (let same = eqb-true q c.args.p is in omega arith))
+    (λ q x w is here there un. inl refl) (omega arith) (omega arith) (omega arith)
     (λ q l is e here was. absurd (let same = eqb-true q c.args.p is in omega arith)) (omega arith)
     (changed-entries entries kept c.args.p place c.in_ok-place.ensures old c.index_mut.ensures.value
     (raised_entry c.args.front) c.raise_entry.new.entry c.raise_entry.ensures.entry)

@@ -1,4 +1,4 @@
-use Rattle.std.proofs.Common.{◌∙◌, ap, arith, nat_eq, refl}
+use Rattle.std.proofs.Common.{◌∙◌, ap, arith, nat_eq, refl, inl}
 use Rattle.reorder_list.specs.Entries.{entry_at, out_entry, with_change_at}
 use Rattle.reorder_list.proofs.Kept.{changed-entries, out-kept}
 use Rattle.reorder_list.proofs.Watching.{upheld-kept, waiting-kept}
@@ -6,9 +6,9 @@ use Rattle.reorder_list.proofs.rol.Rol.set_out.Goals as goal
 
 pub invariant_of-self : goal.invariant_of-self
 invariant_of-self c =
-    upheld-kept c.self.inside.entries.items c.self.inside.watched.items c.self.inside.marks c.self.inside.marks c.self.inside.unknown
+    upheld-kept c.self.inside.entries.items c.self.inside.watches.items c.self.inside.marks c.self.inside.marks c.self.inside.unknown
     (λ q. nat_eq q c.args.p) out_entry _ (λ e. refl) (λ e. refl) (λ e. refl)
-    (λ q l is e here was. refl) (omega arith)
+    (λ p e is there waits l. absurd (cc waits)) (λ q x w is here there un. inl refl) (omega arith) (omega arith) (omega arith)
     (waiting-kept c.self.inside.entries.items c.args.p c.self.inside.marks.whole c.requires.entry out_entry
     (ap (λ s. entry_at s.entries c.args.p) c.self.view_is ∙ c.requires.is_there) c.requires.waits) (omega arith)
     (changed-entries c.self.inside.entries.items c.self.invariant.kept c.args.p c.in-Some.place c.in-Some.ensures c.index_mut.result.now
