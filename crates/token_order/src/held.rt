@@ -24,7 +24,7 @@ pub struct Change {
 #[derive(Drop)]
 pub struct Held {
     pub owners: Vec<Option<u32>>,
-    pub locks: Vec<Seq<u32>>,
+    pub locks: Vec<Seq<LockNo>>,
     pub change: Option<Change>,
     pub alloc: Global,
 }
@@ -54,20 +54,26 @@ fn change_of(sync: &SyncOp, t: u32, locks: usize) -> Option<Change>
 }
 
 // The locks of a rising list with one more or one less.
-fn with_lock(alloc: Global, held: &[u32], lock: u32, holds: bool) -> Result<Seq<u32>, AllocError>
+fn with_lock(
+    alloc: Global,
+    held: &[LockNo],
+    lock: u32,
+    holds: bool,
+) -> Result<Seq<LockNo>, AllocError>
     ensures { IfOk result (λ locks. locks ≡ with_lock holds lock held.now) }
 {
-    let mut locks = Seq::new(alloc);
+    let most = held.len().saturating_add(holds as usize);
+    let mut locks = Seq::from_vec(Vec::with_capacity(alloc, most)?);
     for other in held {
-        if *other < lock {
+        if other.0 < lock {
             locks.push(*other)?;
         }
     }
     if holds {
-        locks.push(lock)?;
+        locks.push(LockNo(lock))?;
     }
     for other in held {
-        if *other > lock {
+        if other.0 > lock {
             locks.push(*other)?;
         }
     }
@@ -87,10 +93,10 @@ fn is_owner(t: u32, owner: Option<u32>) -> bool
 // The locks of a thread after a change, where there is one.
 fn locks_with(
     alloc: Global,
-    held: &[u32],
+    held: &[LockNo],
     t: u32,
     change: Option<Change>,
-) -> Result<Seq<u32>, AllocError>
+) -> Result<Seq<LockNo>, AllocError>
     ensures { IfOk result (λ locks. locks ≡ locks_with change t held.now) }
 {
     match change {
@@ -99,15 +105,21 @@ fn locks_with(
     }
 }
 
-// The locks by their numbers.
-fn lock_numbers(alloc: Global, locks: &[u32]) -> Result<Seq<LockNo>, AllocError>
-    ensures { IfOk result (λ numbers. numbers ≡ locks.now) }
+// The locks of a thread after two changes. They are copied once where there is no first.
+fn locks_with_both(
+    alloc: Global,
+    held: &[LockNo],
+    t: u32,
+    first: Option<Change>,
+    second: Option<Change>,
+) -> Result<Seq<LockNo>, AllocError>
+    ensures { IfOk result (λ locks. locks ≡ locks_with second t (locks_with first t held.now)) }
 {
-    let mut numbers = Seq::new(alloc);
-    for lock in locks {
-        numbers.push(LockNo(*lock))?;
+    if first.is_none() {
+        return locks_with(alloc, held, t, second);
     }
-    Ok(numbers)
+    let now = locks_with(alloc, held, t, first)?;
+    locks_with(alloc, now.as_slice(), t, second)
 }
 
 impl Held {
@@ -125,7 +137,7 @@ impl Held {
     }
 
     // The list of a thread.
-    fn of(&self, t: u32) -> &[u32]
+    fn of(&self, t: u32) -> &[LockNo]
         ensures { result.now ≡ held_at self.now.locks.items t }
     {
         match self.locks.get(t as usize) {
@@ -221,9 +233,7 @@ impl Held {
         requires { HeldStands self.now }
         ensures { IfOk result (λ locks. locks ≡ owned_from 0 (owners_after sync.now t (owners_now self.now)) t) }
     {
-        let now = locks_with(alloc, self.of(t), t, self.change)?;
         let change = change_of(sync, t, self.owners.len());
-        let after = locks_with(alloc, now.as_slice(), t, change)?;
-        lock_numbers(alloc, after.as_slice())
+        locks_with_both(alloc, self.of(t), t, self.change, change)
     }
 }

@@ -14,8 +14,7 @@ returns c =
     let inside =
     for_some (λ last. last.lock < length owners) change
     (subst (λ n. IfSome change (λ last. last.lock < n)) (sym long) c.change_of-change.ensures.within) in
-    subst (λ locks. IfOk c.lock_numbers.result (λ numbers. numbers ≡ locks))
-    (c.as_slice-2.ensures ∙ c.in_ok-after.ensures
-    ∙ ap (locks_with change t) (c.as_slice.ensures ∙ c.in_ok-now.ensures ∙ ap (locks_with held.change t) (c.of.ensures ∙ c.requires.each t))
+    subst (λ locks. IfOk c.locks_with_both.result (λ numbers. numbers ≡ locks))
+    (ap (locks_with change t) (ap (locks_with held.change t) (c.of.ensures ∙ c.requires.each t))
     ∙ locks_twice held.change change owners _ t c.requires.within inside told)
-    c.lock_numbers.ensures
+    c.locks_with_both.ensures
