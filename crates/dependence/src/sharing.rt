@@ -90,11 +90,15 @@ fn share_rising(left: &[Loc], right: &[Loc]) -> bool
 // Lists this short are compared location by location: that is faster than first to look whether they rise.
 const FEW: usize = 8;
 
-/// Whether one location stands in both lists. Takes a time that grows with the lengths alone where both rise, as those
+/// Whether one location stands in both lists. Most subthreads read no location by their locks, and that is seen without a
+/// look at the other list. Else it takes a time that grows with the lengths alone where both rise, as those
 /// of footprints do, or where one of them is short, and else with their product.
 pub fn share(left: &Seq<Loc>, right: &Seq<Loc>) -> bool
     ensures { IsTrue result ↔ Shared left.now right.now }
 {
+    if left.is_empty() || right.is_empty() {
+        return false;
+    }
     let left = left.as_slice();
     let right = right.as_slice();
     if left.len() > FEW && right.len() > FEW && rises(left) && rises(right) {
