@@ -126,6 +126,9 @@ impl MeanSteps {
         ensures most { result ≤ max 1 most }
         ensures tasks { result ≤ max 1 (length tasks.now) }
     {
+        if tasks.len() < 2 {
+            return 1;
+        }
         let mut longest = 0u64;
         for task in tasks {
             longest = longest.max(self.reckoned(task));

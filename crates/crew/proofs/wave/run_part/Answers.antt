@@ -29,7 +29,7 @@ pub loop-task-init : goal.loop-task-init
 loop-task-init g c =
     let gives = c.into_iter-task-iterator.ensures.into_iter_gives.0 in
     let whole = c.into_vec-task-items.ensures in
-    let runs = c.new-runs.ensures.items in
+    let runs = c.in_ok-runs.ensures.items in
     record {
       tasks = rw (runs, gives, whole) refl;
       runs = rw runs (All-nil (IsRun c.args.work.now));
