@@ -71,9 +71,9 @@ fn oldest_retires(plan: &Plan, parts: &Parts) -> bool
     match rol.front() {
         Some(entry) => {
             entry.state.is_applied()
-                && none_strikes(rol, faults, front, false)
                 && (is_safe(plan.recovery, rol, &parts.backup, entry, front)
                     || parts.ended.is_some() && none_strikes(rol, faults, front, true))
+                && none_strikes(rol, faults, front, false)
         }
         None => false,
     }
