@@ -2,7 +2,7 @@
 -- one that is applied finds in the fold below it, at what it may touch, what it found before, so it leaves the same; and the one that is
 -- applied late leaves in its place what it did to the fold of all. What has retired is a member without damage, and below it all is
 -- applied: so what retires left what its subthread leaves in the plain run.
-use Rattle.std.proofs.Common.{◌≡◌, inl, inr, ℕ, zero, suc, ◌+◌, ◌<◌, ◌≤◌, Bool, true, false, cond, nat_eq, ◌&&◌, ◌||◌, List, [], ◌∷◌, ◌++◌, take, length, Contains, Option, Some, None, refl, sym, ap, subst, ◌∙◌, arith, slice_get}
+use Rattle.std.proofs.Common.{◌≡◌, inl, inr, ℕ, zero, suc, ◌+◌, ◌<◌, ◌≤◌, Bool, true, false, cond, ◌&&◌, ◌||◌, List, [], ◌∷◌, ◌++◌, take, length, Contains, Option, Some, None, refl, sym, ap, subst, ◌∙◌, arith, slice_get}
 use Rattle.std.specs.Prelude.{pos, ⊤}
 use Rattle.std.proofs.lemmas.Bool.{false≢true, both_ways, cases_lt, ne_eqb, eqb-true, and_parts, and_from, false_from_ne_true}
 use Rattle.gp_base.specs.declared.limits.Limits.{Limits}
@@ -26,7 +26,7 @@ use Rattle.dependence.specs.meaning.Restarts.{struck_next, restart_of}
 use Rattle.dependence.specs.Restarts.{mask_of, mask_now}
 use Rattle.dependence.specs.meaning.Journal.{Stage, Allowed, MayRetire, happens, restarted}
 use Rattle.dependence.specs.meaning.Runs.{feet_of, dependence_of}
-use Rattle.dependence.specs.Standing.{present, NamesAttempt, AreShort, StageStands}
+use Rattle.dependence.specs.Standing.{present, AreShort, StageStands}
 use Rattle.dependence.specs.Touching.{Agree, MayWrite, MayTouch, done_by, own_location}
 use Rattle.dependence.specs.Insertion.{with_position}
 use Rattle.dependence.specs.Removal.{without, done_in, ClosedAfter, IsPart}
@@ -35,12 +35,12 @@ use Rattle.dependence.specs.RunBuffer.{members_at, RunStands}
 use Rattle.dependence.proofs.Conflicting.{conflicting-is}
 use Rattle.dependence.proofs.DependentSets.{is_member-is}
 use Rattle.dependence.proofs.RestartEnds.{attempt-push}
-use Rattle.dependence.proofs.Struck.{Contains-head, Contains-later}
 use Rattle.dependence.proofs.Standing.{happens-stands, keeps-retired, run-redoes, run-later}
 use Rattle.dependence.proofs.Folds.{Kept, outside, insertion, fold_same, rest_agrees}
 use Rattle.dependence.proofs.Keeping.{run-keeps, kept-feet}
 use Rattle.dependence.proofs.Buffers.{late-finds, fold_members, fold_all}
 use Rattle.crew.specs.meaning.Noted.{left_at, left_from}
+use Rattle.whole_run.proofs.InOrder.{unmasked}
 
 module _ (Writes Sees : ℕ → Location → Type 0) (Clash : ℕ → ℕ → Type 0) (members : ℕ → Member) (kept : Kept Writes Sees Clash members)
     (opening : State) (set : ℕ → Bool) (low front : ℕ) (buffer : Buffer)
@@ -103,20 +103,6 @@ module _ (Writes Sees : ℕ → Location → Type 0) (Clash : ℕ → ℕ → Ty
         sym ((kept.keeps q).same (fold members opening set q) (fold members opening (without set part) q)
         (λ place t. rest_agrees Writes Sees Clash members kept opening set both q closed-both inside e (rw f refl) place t
         ∙ ap (λ (s : State). s place) (alike q)))
-
--- a mask is 0 where no fault names the attempt
-unmasked : (faults : List Fault) (p attempt : ℕ) → ¬ NamesAttempt faults p attempt → mask_of faults p attempt ≡ pos 0
-unmasked [] p attempt free = refl
-unmasked (fault ∷ rest) p attempt free =
-    go (nat_eq fault.pos p && nat_eq fault.attempt attempt) refl
-    (unmasked rest p attempt (λ n. free (n.0, Contains-later fault rest n.0 n.1, n.2, n.3)))
-  where
-    go : (b : Bool) → (nat_eq fault.pos p && nat_eq fault.attempt attempt) ≡ b → mask_of rest p attempt ≡ pos 0
-        → cond b fault.mask (mask_of rest p attempt) ≡ pos 0
-    go true e ih =
-        absurd (let h = and_parts (nat_eq fault.pos p) (nat_eq fault.attempt attempt) e in
-        free (fault, Contains-head fault rest, eqb-true fault.pos p h.0, eqb-true fault.attempt attempt h.1))
-    go false e ih = ih
 
 -- events that apply nothing, and after which nothing has retired that had not
 abbrev pub AppliesNothing : Event → Type 0

@@ -13,6 +13,7 @@ pub mod EntryLines
 pub mod Events
 pub mod Folds
 pub mod Histories
+pub mod InOrder
 pub mod IssuesKept
 pub mod Kepts
 pub mod Lendings

@@ -1,7 +1,7 @@
 // The engine over its real parts.
 
 use crate::Recovery;
-use crate::parts::{Parts, Plan, begin};
+use crate::parts::{FaultsInOrder, Parts, Plan, begin};
 use gp_base::{Faults, Inputs, Limits};
 use std::alloc::{AllocError, Global};
 use std::marker::Model;
@@ -64,7 +64,7 @@ impl<'a> Engine<'a> {
             recovery,
             inputs: Snapshot::of(&inputs),
             limits,
-            faults,
+            faults: FaultsInOrder::new(faults),
         };
         let Inputs { records, feeds: _ } = inputs;
         let parts = begin(alloc, &plan, layout, records)?;

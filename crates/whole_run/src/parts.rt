@@ -17,7 +17,7 @@ pub use backing::{Backup, Checkpoint};
 pub use beginning::begin;
 pub use closing::{finished, into_journal, into_report, runnable};
 pub use detecting::{all_home, detect, due, scouted};
-use gp_base::{At, Event, Faults, Inputs, Limits, Nums, Restart, Room};
+use gp_base::{At, Event, Inputs, Limits, Nums, Restart, Room};
 pub use issuing::issue;
 pub use posting::post;
 use record_store::Store;
@@ -25,6 +25,7 @@ use reorder_list::Rol;
 pub use retiring::retire;
 use std::alloc::{AllocError, Global};
 use std::snapshot::Snapshot;
+pub use striking::FaultsInOrder;
 use subthread::Work;
 pub use taking::accept;
 use token_order::Ring;
@@ -37,7 +38,7 @@ pub struct Plan<'a> {
     pub recovery: Recovery,
     pub inputs: Snapshot<Inputs>,
     pub limits: Limits,
-    pub faults: Faults,
+    pub faults: FaultsInOrder,
 }
 
 /// A place of the code with the values of the control variables.

@@ -104,7 +104,7 @@ pub fn into_report(plan: &Plan, parts: Parts, end: End) -> Report
     requires home { NoneLent (view_of (batch_in plan.now) parts) }
     ensures { IsReportOf (view_of (batch_in plan.now) parts) end result }
 {
-    let unused = (plan.faults.as_slice().len() - parts.restarts.len()) as u32;
+    let unused = (plan.faults.len() - parts.restarts.len()) as u32;
     let Parts {
         store,
         events,

@@ -11,7 +11,6 @@ ghost use Rattle.whole_run.specs.inner.Detected.{HasRooms, DidRestart, attempt_i
 
 use crate::Recovery;
 use crate::parts::backing::{drop_after, open_cut, restored};
-use crate::parts::striking::struck;
 use crate::parts::{Parts, Plan};
 use gp_base::{Event, Pos, Restart, Room};
 use record_store::Store;
@@ -24,8 +23,10 @@ pub fn due(plan: &Plan, parts: &Parts) -> bool
     requires kept { Kept (batch_in plan.now) parts.now }
     ensures { result ≡ is_some (struck_now (view_of (batch_in plan.now) parts.now)) }
 {
-    let faults = plan.faults.as_slice();
-    struck(&parts.rol, faults, parts.issued, parts.ended.is_some()).is_some()
+    let known = parts.ended.is_some();
+    plan.faults
+        .struck(&parts.rol, parts.issued, known)
+        .is_some()
 }
 
 /// Whether all that a restart waits for is back: each lock is at home, or, where all is rolled back, nothing is out.
@@ -206,8 +207,8 @@ pub fn detect(alloc: Global, plan: &Plan, parts: &mut Parts) -> Result<bool, All
     ensures gives { IfOk result (DetectGives (view_of (batch_in plan.now) parts.old) (view_of (batch_in plan.now) parts.new)) }
     ensures err { OnErr result (view_of (batch_in plan.now) parts.new ≡ view_of (batch_in plan.now) parts.old) }
 {
-    let faults = plan.faults.as_slice();
-    let Some(p) = struck(&parts.rol, faults, parts.issued, parts.ended.is_some()) else {
+    let known = parts.ended.is_some();
+    let Some(p) = plan.faults.struck(&parts.rol, parts.issued, known) else {
         return Ok(false);
     };
     let most = parts.rol.len();

@@ -4,7 +4,6 @@ ghost use Rattle.std.specs.Prelude.{◌≡◌, ◌≤◌, true, false, [], ◌�
 ghost use Rattle.std.specs.Option.{IsSomeAnd};
 ghost use Rattle.std.specs.List.Sorted.{IsStrictlyIncreasing};
 ghost use Rattle.gp_base.specs.declared.journal.Event.TheVariants as event;
-ghost use Rattle.dependence.specs.Restarts.{mask_of};
 ghost use Rattle.dependence.specs.Standing.{present};
 ghost use Rattle.record_store.specs.Lent.{lock_in, marked, AreAsLent};
 ghost use Rattle.record_store.specs.Stored.{IsAtHome, IsAway};
@@ -21,37 +20,25 @@ ghost use Rattle.whole_run.specs.inner.Kept.{batch_in, view_of, Kept};
 ghost use Rattle.whole_run.specs.inner.Posted.{bare_in};
 
 use crate::parts::backing::open_block;
-use crate::parts::{Parts, Plan};
+use crate::parts::{FaultsInOrder, Parts, Plan};
 use crew::Crew;
-use gp_base::{Event, Fault, Pos, Room, Seq};
+use gp_base::{Event, Pos, Room, Seq};
 use record_store::{Bundle, Given, Store};
 use reorder_list::{Entry, Rol};
 use std::alloc::{AllocError, AllocFailed, Global};
 use std::thread::Threads;
 use subthread::{Task, lend, room_for};
 
-/// The mask of the fault that strikes an attempt, or 0.
-fn mask_of(faults: &[Fault], pos: Pos, attempt: u32) -> i64
-    ensures { result ≡ mask_of faults.now pos attempt }
-{
-    for fault in faults {
-        if fault.pos == pos.0 && fault.attempt == attempt {
-            return fault.mask;
-        }
-    }
-    0
-}
-
 /// The task of an entry's present attempt, which has no cells yet.
 fn bare_in(
     alloc: Global,
-    faults: &[Fault],
+    faults: &FaultsInOrder,
     store: &Store,
     pos: Pos,
     entry: &Entry,
 ) -> Result<Task, AllocError>
     requires numbered { IsNumbered entry.now.begins.sync }
-    ensures { IfOk result (λ task. task ≡ bare_in faults.now store.now pos entry.now) }
+    ensures { IfOk result (λ task. task ≡ bare_in faults.now.list store.now pos entry.now) }
 {
     let joined = entry.begins.sync.joined_by();
     let (regs, joined) = store.regs_of(alloc, entry.thread, joined)?;
@@ -70,20 +57,20 @@ fn bare_in(
             bundles,
         },
         held: entry.held.copied(alloc)?,
-        mask: mask_of(faults, pos, entry.attempt),
+        mask: faults.mask_of(pos, entry.attempt),
     })
 }
 
 /// The task of a position's present attempt, which has no cells yet.
 fn bare_at(
     alloc: Global,
-    faults: &[Fault],
+    faults: &FaultsInOrder,
     store: &Store,
     rol: &Rol,
     pos: Pos,
 ) -> Result<Task, AllocError>
     requires found { IsSomeAnd (entry_at rol.now.entries pos) (λ e. IsNumbered e.begins.sync) }
-    ensures { IfOk result (λ task. IsSomeAnd (entry_at rol.now.entries pos) (λ e. task ≡ bare_in faults.now store.now pos e)) }
+    ensures { IfOk result (λ task. IsSomeAnd (entry_at rol.now.entries pos) (λ e. task ≡ bare_in faults.now.list store.now pos e)) }
 {
     match rol.get(pos) {
         Some(entry) => bare_in(alloc, faults, store, pos, entry),
@@ -186,8 +173,7 @@ pub fn post<R: Threads + Sync, C: Crew>(
 {
     open_block(alloc, plan, parts, position)?;
     parts.events.reserve(1)?;
-    let faults = plan.faults.as_slice();
-    let task = bare_at(alloc, faults, &parts.store, &parts.rol, position)?;
+    let task = bare_at(alloc, &plan.faults, &parts.store, &parts.rol, position)?;
     let room = room_for(alloc, task.held.len())?;
     let attempt = task.attempt;
     send(rt, crew, &mut parts.store, task, room)?;

@@ -3,6 +3,7 @@
 ghost use Rattle.std.specs.Prelude.{◌≡◌, ◌≤◌, false, is_some, IfOk, OnErr, OnOk};
 ghost use Rattle.std.specs.Io.KnownBytes.{Appends};
 ghost use Rattle.gp_base.specs.meaning.Sinks.{AppendsPrefix};
+ghost use Rattle.reorder_list.specs.Entries.{IsInRow};
 ghost use Rattle.restart_log.specs.meaning.Lines.{printed};
 ghost use Rattle.whole_run.specs.Gives.{RetireGives, RetireWrites, HasStopCause};
 ghost use Rattle.whole_run.specs.inner.Kept.{batch_in, view_of, Kept};
@@ -11,19 +12,19 @@ ghost use Rattle.whole_run.specs.inner.Retiring.{none_strikes, is_old, block_is_
 
 use crate::Recovery;
 use crate::parts::backing::drop_before;
-use crate::parts::striking::least_struck;
-use crate::parts::{Backup, Parts, Plan};
+use crate::parts::{Backup, FaultsInOrder, Parts, Plan};
 use gp_base::limits::LONGEST_DELAY;
-use gp_base::{Event, Fault, Pos, Sink, SinkFault, put_all};
+use gp_base::{Event, Pos, Sink, SinkFault, put_all};
 use reorder_list::{Entry, Rol, StopWhy};
 use restart_log::printed;
 use std::alloc::Global;
 
 // Whether no fault strikes at this front, or no fault that is due.
-fn none_strikes(rol: &Rol, faults: &[Fault], front: u32, any: bool) -> bool
-    ensures { result ≡ none_strikes any rol.now.entries front faults.now }
+fn none_strikes(rol: &Rol, faults: &FaultsInOrder, front: u32, any: bool) -> bool
+    requires { IsInRow rol.now.entries }
+    ensures { result ≡ none_strikes any rol.now.entries front faults.now.list }
 {
-    least_struck(rol, faults, front, any).is_none()
+    faults.least_struck(rol, front, any).is_none()
 }
 
 // Whether no fault can come that strikes an entry at this front.
@@ -62,10 +63,11 @@ fn is_safe(recovery: Recovery, rol: &Rol, backup: &Backup, oldest: &Entry, front
 
 // Whether the oldest entry is applied and no fault can strike it any more, or any that would roll it back.
 fn oldest_retires(plan: &Plan, parts: &Parts) -> bool
-    requires { HasCuts plan.now.recovery }
+    requires cuts { HasCuts plan.now.recovery }
+    requires row { IsInRow parts.now.rol.entries }
     ensures { result ≡ oldest_retires plan.now.recovery (is_some parts.now.ended) parts.now.rol.entries parts.now.backup.whole parts.now.issued plan.now.faults.list }
 {
-    let faults = plan.faults.as_slice();
+    let faults = &plan.faults;
     let rol = &parts.rol;
     let front = parts.issued;
     match rol.front() {

@@ -1,6 +1,7 @@
 use Rattle.std.proofs.Common.{◌≡◌, ◌∙◌, refl, sym}
 use Rattle.whole_run.specs.Gives.{struck_now}
 use Rattle.whole_run.specs.inner.Kept.{batch_in, view_of}
+use Rattle.whole_run.proofs.InOrder.{in-row}
 use Rattle.whole_run.proofs.Options.{some_none, some_is}
 use Rattle.whole_run.proofs.Struck.{struck-same}
 use Rattle.whole_run.proofs.parts.detecting.detect.Goals as goal
@@ -9,8 +10,11 @@ use Rattle.whole_run.proofs.parts.detecting.detect.Goals.{After-struck}
 -- what is struck as far as the end is known
 told : (c : After-struck) → struck_now (view_of (batch_in c.args.plan.now) c.args.parts.now) ≡ c.struck.result
 told c =
-    sym (struck-same (batch_in c.args.plan.now) c.args.parts.now c.requires.kept c.is_some.result c.is_some.ensures)
-    ∙ sym (rw c.as_slice-faults.ensures at c.struck.ensures)
+    sym (struck-same (batch_in c.args.plan.now) c.args.parts.now c.requires.kept c.is_some-known.result c.is_some-known.ensures)
+    ∙ sym c.struck.ensures
+
+pub struck-requires : goal.struck-requires
+struck-requires c = in-row _ c.args.parts.now.rol.entries c.requires.kept.window.entries_are.row
 
 pub returns-in_default-clause-gives : goal.returns-in_default-clause-gives
 returns-in_default-clause-gives c = (refl, told (goal.at.returns-in_default-clause-gives c).After-struck ∙ c.in_default.is)

@@ -21,7 +21,7 @@ send-requires-clause-fits g c lifetimes within =
     let batch = batch_in c.args.plan.now in
     let opened = c.in_ok-open_block.ensures in
     let may = may-then batch c.args.parts.now c.open_block.new.parts opened.same c.args.position c.requires.may in
-    let task = rw c.as_slice-faults.ensures at c.in_ok-task.ensures in
+    let task = c.in_ok-task.ensures in
     rw c.requires.work (fits batch c.open_block.new.parts opened.kept c.args.position may c.in_ok-task.task task)
 
 pub send-requires-clause-fresh : goal.send-requires-clause-fresh
@@ -29,7 +29,7 @@ send-requires-clause-fresh g c lifetimes within =
     let batch = batch_in c.args.plan.now in
     let opened = c.in_ok-open_block.ensures in
     let may = may-then batch c.args.parts.now c.open_block.new.parts opened.same c.args.position c.requires.may in
-    let task = rw c.as_slice-faults.ensures at c.in_ok-task.ensures in
+    let task = c.in_ok-task.ensures in
     let same = pair batch c.open_block.new.parts opened.kept c.args.position may c.in_ok-task.task task
     ∙ ap (λ view. (c.args.position, present (now view) c.args.position))
     (view-then batch c.args.parts.now c.open_block.new.parts opened.same) in
@@ -40,7 +40,7 @@ send-requires-clause-home g c lifetimes within =
     let batch = batch_in c.args.plan.now in
     let opened = c.in_ok-open_block.ensures in
     let may = may-then batch c.args.parts.now c.open_block.new.parts opened.same c.args.position c.requires.may in
-    let task = rw c.as_slice-faults.ensures at c.in_ok-task.ensures in
+    let task = c.in_ok-task.ensures in
     found-home batch c.open_block.new.parts opened.kept c.args.position may c.in_ok-task.task task
 
 pub send-requires-clause-rising : goal.send-requires-clause-rising
@@ -48,7 +48,7 @@ send-requires-clause-rising g c lifetimes within =
     let batch = batch_in c.args.plan.now in
     let opened = c.in_ok-open_block.ensures in
     let may = may-then batch c.args.parts.now c.open_block.new.parts opened.same c.args.position c.requires.may in
-    let task = rw c.as_slice-faults.ensures at c.in_ok-task.ensures in
+    let task = c.in_ok-task.ensures in
     found-rising batch c.open_block.new.parts opened.kept c.args.position may c.in_ok-task.task task
 
 pub set_out-requires : goal.set_out-requires
@@ -63,7 +63,7 @@ returns-clause-kept g c =
     let batch = batch_in c.args.plan.now in
     let opened = c.in_ok-open_block.ensures in
     let may = may-then batch c.args.parts.now c.open_block.new.parts opened.same c.args.position c.requires.may in
-    let task = rw c.as_slice-faults.ensures at c.in_ok-task.ensures in
+    let task = c.in_ok-task.ensures in
     kept-then batch c.open_block.new.parts opened.kept c.args.position may c.in_ok-task.task task
     c.reserve.new.self.items c.push.new.self.items c.reserve.ensures.items c.push.ensures.items
     (subst (λ entries. IsOpened batch.recovery entries c.args.position c.open_block.new.parts.backup)
@@ -75,7 +75,7 @@ returns-clause-did g c =
     let batch = batch_in c.args.plan.now in
     let opened = c.in_ok-open_block.ensures in
     let may = may-then batch c.args.parts.now c.open_block.new.parts opened.same c.args.position c.requires.may in
-    let task = rw c.as_slice-faults.ensures at c.in_ok-task.ensures in
+    let task = c.in_ok-task.ensures in
     subst (λ view. Did view (event.Post c.args.position (present (now view) c.args.position))
     (record { batch = batch; events = c.push.new.self.items; ended = c.open_block.new.parts.ended }))
     (view-then batch c.args.parts.now c.open_block.new.parts opened.same)
@@ -87,7 +87,7 @@ returns-clause-out g c =
     let batch = batch_in c.args.plan.now in
     let opened = c.in_ok-open_block.ensures in
     let may = may-then batch c.args.parts.now c.open_block.new.parts opened.same c.args.position c.requires.may in
-    let task = rw c.as_slice-faults.ensures at c.in_ok-task.ensures in (
+    let task = c.in_ok-task.ensures in (
       _,
       c.in_ok-send.ensures.out,
       pair batch c.open_block.new.parts opened.kept c.args.position may c.in_ok-task.task task
@@ -102,7 +102,7 @@ returns-clause-posted g c =
     let batch = batch_in c.args.plan.now in
     let opened = c.in_ok-open_block.ensures in
     let may = may-then batch c.args.parts.now c.open_block.new.parts opened.same c.args.position c.requires.may in
-    let task = rw c.as_slice-faults.ensures at c.in_ok-task.ensures in
+    let task = c.in_ok-task.ensures in
     let same = pair batch c.open_block.new.parts opened.kept c.args.position may c.in_ok-task.task task
     ∙ ap (λ view. (c.args.position, present (now view) c.args.position))
     (view-then batch c.args.parts.now c.open_block.new.parts opened.same) in

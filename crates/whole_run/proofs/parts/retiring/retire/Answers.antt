@@ -4,8 +4,12 @@ use Rattle.gp_base.specs.meaning.Sinks.{AppendsPrefix}
 use Rattle.restart_log.specs.meaning.Lines.{printed}
 use Rattle.whole_run.specs.inner.Backing.{DropsBefore}
 use Rattle.whole_run.specs.inner.Kept.{batch_in, view_of}
+use Rattle.whole_run.proofs.InOrder.{in-row}
 use Rattle.whole_run.proofs.Retired.{none-written, err-writes, not-now, lines-are, gives, made, kept-retired}
 use Rattle.whole_run.proofs.parts.retiring.retire.Goals as goal
+
+pub oldest_retires-requires-clause-row : goal.oldest_retires-requires-clause-row
+oldest_retires-requires-clause-row g c = in-row _ c.args.parts.now.rol.entries c.requires.kept.window.entries_are.row
 
 pub returns-then-not-oldest_retires-clause-gives : goal.returns-then-not-oldest_retires-clause-gives
 returns-then-not-oldest_retires-clause-gives g c = (
