@@ -19,7 +19,7 @@ use Rattle.task_ast.specs.meaning.Under.{under_lock, is_under}
 use Rattle.task_ast.proofs.Layouts.{length-numbers, get-numbers, laid_out, accepted_sizes}
 use Rattle.dependence.proofs.Keeping.{under-held}
 use Rattle.record_store.specs.declared.given.Bundle.{Bundle}
-use Rattle.subthread.specs.inner.Places.{IsPlaceIn}
+use Rattle.subthread.specs.Places.{IsPlaceIn}
 use Rattle.subthread.proofs.Grounds.{searchable}
 use Rattle.gp_resume.specs.meaning.Fitting.{StandsUnder}
 

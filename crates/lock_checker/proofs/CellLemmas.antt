@@ -5,7 +5,7 @@ use Rattle.task_ast.specs.meaning.Names.{is_name, named}
 use Rattle.task_ast.specs.Layout.{base_of}
 use Rattle.lock_checker.specs.declared.cells.Cells.{Cells}
 use Rattle.lock_checker.specs.Cells.{cells_of}
-use Rattle.lock_checker.specs.inner.Tables.{cells_from, cells_or_none}
+use Rattle.lock_checker.specs.Tables.{cells_from, cells_or_none}
 use Rattle.lock_checker.proofs.BaseLemmas.{option_map-add, option_map-zero}
 
 abbrev first_of : Option Cells → Option ℕ

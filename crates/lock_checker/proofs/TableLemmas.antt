@@ -12,7 +12,7 @@ use Rattle.std.proofs.lemmas.Map.Text.{is_eq-slice_cmp}
 use Rattle.std.proofs.lemmas.Slice.Eq.{bytes_eq-Decides}
 use Rattle.task_ast.specs.meaning.Tree.{Name}
 use Rattle.task_ast.specs.meaning.Names.{is_name}
-use Rattle.lock_checker.specs.inner.Tables.{or_else}
+use Rattle.lock_checker.specs.Tables.{or_else}
 
 pub is_name-itself : (x : Name) → is_name x x ≡ true
 is_name-itself x = (bytes_eq-Decides x x).1 refl

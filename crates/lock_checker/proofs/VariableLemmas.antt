@@ -9,7 +9,7 @@ use Rattle.task_ast.specs.meaning.Tree.{Name}
 use Rattle.task_ast.specs.meaning.Names.{is_name, is_among, ret, controls, datas, declared_in}
 use Rattle.lock_checker.specs.declared.variables.Variables.{Variables}
 use Rattle.lock_checker.specs.declared.symbol_table.SymbolTable.{SymbolTable}
-use Rattle.lock_checker.specs.inner.Tables.{found, or_else}
+use Rattle.lock_checker.specs.Tables.{found, or_else}
 use Rattle.lock_checker.specs.inner.TaskVariables.{AreVariables, Adds}
 use Rattle.lock_checker.proofs.NameLemmas.{among-controls, among-datas}
 use Rattle.lock_checker.proofs.TableLemmas.{is_some-put, or-false}

@@ -6,6 +6,5 @@ pub mod Pairs
 pub mod Positions
 pub mod Scopes
 pub mod Sought
-pub mod Tables
 pub mod TaskNames
 pub mod TaskVariables

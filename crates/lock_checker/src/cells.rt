@@ -4,7 +4,7 @@ ghost use Rattle.gp_base.specs.declared.limits.TheConstants.{MOST_CELLS};
 ghost use Rattle.task_ast.specs.meaning.Names.{is_name, natural, locks_of, records_of, cells_in};
 ghost use Rattle.task_ast.specs.meaning.Tree as plain;
 ghost use Rattle.lock_checker.specs.inner.Numberings.{IsNumbered};
-ghost use Rattle.lock_checker.specs.inner.Tables.{found, or_else, cells_or_none};
+ghost use Rattle.lock_checker.specs.Tables.{found, or_else, cells_or_none};
 
 use crate::symbol_table::SymbolTable;
 use gp_base::Name;

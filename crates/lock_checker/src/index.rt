@@ -3,7 +3,7 @@ ghost use Rattle.std.specs.Prelude.{◌≡◌, IfOk, is_some, option_map, ◌||�
 ghost use Rattle.task_ast.specs.meaning.Tree as plain;
 ghost use Rattle.task_ast.specs.meaning.Names.{is_among, named, locks_of, arrays_over, barriers_of, feeds_of, task_named};
 ghost use Rattle.task_ast.specs.View.{plain_task, plain_program};
-ghost use Rattle.lock_checker.specs.inner.Tables.{found};
+ghost use Rattle.lock_checker.specs.Tables.{found};
 ghost use Rattle.lock_checker.specs.inner.Indexes.{target, IsIndexOf};
 
 use crate::symbol_table::SymbolTable;

@@ -2,7 +2,7 @@
 ghost use Rattle.std.specs.Prelude.{◌≡◌, OnOk, Some, None, if◌then◌else◌};
 ghost use Rattle.task_ast.specs.meaning.Names.{is_name};
 ghost use Rattle.task_ast.specs.meaning.Tree as plain;
-ghost use Rattle.lock_checker.specs.inner.Tables.{found, or_else};
+ghost use Rattle.lock_checker.specs.Tables.{found, or_else};
 
 use gp_base::Name;
 use std::alloc::{AllocError, Global};

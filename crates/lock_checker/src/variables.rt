@@ -2,7 +2,7 @@
 ghost use Rattle.std.specs.Prelude.{◌≡◌, IfOk, List, [], ◌∷◌, ◌++◌, ◌||◌, is_some};
 ghost use Rattle.task_ast.specs.declared.tree.Param.{Param as PlainParam};
 ghost use Rattle.task_ast.specs.meaning.Names.{is_name, ret, declared_in};
-ghost use Rattle.lock_checker.specs.inner.Tables.{found};
+ghost use Rattle.lock_checker.specs.Tables.{found};
 ghost use Rattle.lock_checker.specs.inner.TaskVariables.{AreVariables, Adds};
 
 use crate::symbol_table::SymbolTable;

@@ -9,9 +9,9 @@ ghost use Rattle.task_ast.specs.meaning.Effect.{after};
 ghost use Rattle.task_ast.specs.History.{old_of};
 ghost use Rattle.task_ast.specs.meaning.Under.{under_lock};
 ghost use Rattle.record_store.specs.Stored.{state_of, Fits, FitsChild, SameShape, IsAtHome, IsAway, IsAllHome, CellsAtHome, without_threads, with_thread};
-ghost use Rattle.record_store.specs.Given.{joined_value, bundle_of, value_beside};
+ghost use Rattle.record_store.specs.Given.{joined_value, bundle_of, value_beside, value_over};
 ghost use Rattle.record_store.specs.Lent.{marked, lock_in, whole_effect, AreAsLent, MayComeHome, IsSharedOut};
-ghost use Rattle.record_store.specs.inner.Homing.{value_over, CanLend, HaveSizes};
+ghost use Rattle.record_store.specs.inner.Homing.{CanLend, HaveSizes};
 
 use crate::copies::{copy_lists, copy_shelves};
 use crate::exchange::{exchange_threads, value_at};

@@ -10,7 +10,8 @@ use Rattle.task_ast.specs.meaning.Under.{under_lock}
 use Rattle.record_store.specs.declared.given.Bundle.{Bundle}
 use Rattle.record_store.specs.Lent.{lock_in}
 use Rattle.record_store.proofs.Stocked.{contains-at, apart}
-use Rattle.subthread.specs.inner.Places.{IsPlaceIn, Lacks, AllLack, StandsAt, HasPlace, value_at, with_value}
+use Rattle.subthread.specs.Places.{IsPlaceIn}
+use Rattle.subthread.specs.inner.Places.{Lacks, AllLack, StandsAt, HasPlace, value_at, with_value}
 
 pub place_within : (bundles : List Bundle) (i k : ℕ) → HasPlace bundles i k → i < length bundles
 place_within [] i k has = absurd has

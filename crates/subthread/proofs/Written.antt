@@ -8,8 +8,7 @@ use Rattle.std.specs.FinMap.Entries.{find-put, is_sorted-put, same_entries}
 use Rattle.std.proofs.lemmas.Bool.{eqb-true, eqb-false, eq-eqb, ne_eqb, false≢true}
 use Rattle.std.proofs.lemmas.Cmp.{nat_cmp_total, ranked}
 use Rattle.record_store.specs.declared.given.Bundle.{Bundle}
-use Rattle.record_store.specs.Given.{value_in}
-use Rattle.record_store.specs.inner.Homing.{value_over}
+use Rattle.record_store.specs.Given.{value_in, value_over}
 use Rattle.record_store.specs.Lent.{put_back, new_write}
 use Rattle.record_store.proofs.Comings.{found_write, over_back, in_over}
 use Rattle.record_store.proofs.Fitting.{rising_same}

@@ -3,7 +3,8 @@ ghost use Rattle.std.specs.Prelude.{◌≡◌, map, slice_get};
 ghost use Rattle.std.specs.List.Sorted.{IsStrictlyIncreasing};
 ghost use Rattle.task_ast.specs.meaning.Under.{under_lock};
 ghost use Rattle.record_store.specs.Lent.{lock_in};
-ghost use Rattle.subthread.specs.inner.Places.{IsPlaceIn, AreSearchable, IsFoundAt};
+ghost use Rattle.subthread.specs.Places.{IsPlaceIn};
+ghost use Rattle.subthread.specs.inner.Places.{AreSearchable, IsFoundAt};
 
 use gp_base::{LockNo, RecNo, Seq};
 use record_store::Bundle;

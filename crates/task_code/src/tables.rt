@@ -1,7 +1,7 @@
 // What a program declares, by name.
 
 ghost use Rattle.std.specs.Prelude.{◌≡◌, map, position, IfOk};
-ghost use Rattle.lock_checker.specs.inner.Tables.{found};
+ghost use Rattle.lock_checker.specs.Tables.{found};
 ghost use Rattle.task_ast.specs.meaning.Names.{is_name, barriers_of, feeds_of, firsts};
 ghost use Rattle.task_ast.specs.meaning.Tree as plain;
 ghost use Rattle.task_ast.specs.View.{plain_task};

@@ -5,7 +5,7 @@ use Rattle.task_ast.specs.meaning.Tree.{Name}
 use Rattle.task_ast.specs.meaning.Names.{is_among, head_name, locks_of, records_of, cells_in}
 use Rattle.lock_checker.specs.declared.heads.Heads.{Heads}
 use Rattle.lock_checker.specs.declared.symbol_table.SymbolTable.{SymbolTable}
-use Rattle.lock_checker.specs.inner.Tables.{found}
+use Rattle.lock_checker.specs.Tables.{found}
 
 -- the table has these names and no other
 pub record HasNames (table : SymbolTable (Unit {0})) (names : List Name) : Type 0 where

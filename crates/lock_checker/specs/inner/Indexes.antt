@@ -6,7 +6,7 @@ use Rattle.task_ast.specs.meaning.Tree as plain
 use Rattle.task_ast.specs.meaning.Names.{is_among, named, locks_of, arrays_over, barriers_of, feeds_of, task_named}
 use Rattle.task_ast.specs.View.{plain_task, plain_program}
 use Rattle.lock_checker.specs.declared.index.Index.{Index}
-use Rattle.lock_checker.specs.inner.Tables.{found}
+use Rattle.lock_checker.specs.Tables.{found}
 
 -- what a reference to a name points to
 abbrev pub target : Bor plain.Name → plain.Name

@@ -3,7 +3,7 @@ use Rattle.std.specs.Prelude.{◌≡◌, ℕ, List}
 use Rattle.task_ast.specs.meaning.Tree as plain
 use Rattle.task_ast.specs.meaning.Names.{cells_in}
 use Rattle.lock_checker.specs.declared.cells.Numbering.{Numbering}
-use Rattle.lock_checker.specs.inner.Tables.{found, cells_from}
+use Rattle.lock_checker.specs.Tables.{found, cells_from}
 
 -- the cells of these arrays are found, and counted
 pub record IsNumbered (numbering : Numbering) (arrays : List (plain.Name × ℕ)) : Type 0 where

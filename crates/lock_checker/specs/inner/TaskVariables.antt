@@ -5,7 +5,7 @@ use Rattle.task_ast.specs.meaning.Tree.{Name}
 use Rattle.task_ast.specs.meaning.Names.{is_among, controls, datas}
 use Rattle.task_ast.specs.meaning.Declarations.{has_double}
 use Rattle.lock_checker.specs.declared.variables.Variables.{Variables}
-use Rattle.lock_checker.specs.inner.Tables.{found}
+use Rattle.lock_checker.specs.Tables.{found}
 
 -- the tables find the variables that were declared
 pub record AreVariables (v : Variables) (params : List Param) : Type 0 where

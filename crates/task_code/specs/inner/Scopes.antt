@@ -4,7 +4,7 @@ use Rattle.task_ast.specs.meaning.Tree as plain
 use Rattle.task_ast.specs.meaning.Names.{is_name, barriers_of, feeds_of, registers_of, is_task}
 use Rattle.task_ast.specs.View.{plain_program}
 use Rattle.lock_checker.specs.Accepted.{program_of}
-use Rattle.lock_checker.specs.inner.Tables.{found}
+use Rattle.lock_checker.specs.Tables.{found}
 use Rattle.task_code.specs.declared.scope.Index.{Index}
 use Rattle.task_code.specs.declared.scope.Scope as here
 use Rattle.task_code.specs.Lowering.{Scope}

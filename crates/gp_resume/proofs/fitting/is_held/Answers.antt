@@ -5,7 +5,7 @@ use Rattle.std.specs.List.Sorted.{IsStrictlyIncreasing}
 use Rattle.std.specs.Result.{result_ok}
 use Rattle.std.proofs.lemmas.List.{map-id}
 use Rattle.std.proofs.lemmas.List.Sorted.{answers_always}
-use Rattle.subthread.specs.inner.Places.{IsPlaceIn}
+use Rattle.subthread.specs.Places.{IsPlaceIn}
 use Rattle.subthread.proofs.Searched.{searched}
 use Rattle.gp_resume.proofs.UnderHeld.{placed-held}
 use Rattle.gp_resume.proofs.fitting.is_held.Goals as goal

@@ -1,7 +1,7 @@
 use Rattle.std.proofs.Common.{◌≡◌, ◌+◌, drop}
 use Rattle.task_ast.specs.meaning.Tree as plain
 use Rattle.task_ast.specs.meaning.Names.{locks_of, records_of, cells_in}
-use Rattle.lock_checker.specs.inner.Tables.{found, or_else, cells_from}
+use Rattle.lock_checker.specs.Tables.{found, or_else, cells_from}
 use Rattle.lock_checker.proofs.cells.number_cells.Given as goal
 
 abbrev pub invariant-loop-head : goal.invariant-loop-head

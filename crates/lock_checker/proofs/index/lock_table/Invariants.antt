@@ -1,7 +1,7 @@
 use Rattle.std.proofs.Common.{◌≡◌, drop}
 use Rattle.task_ast.specs.meaning.Tree as plain
 use Rattle.task_ast.specs.meaning.Names.{named, locks_of}
-use Rattle.lock_checker.specs.inner.Tables.{found, or_else}
+use Rattle.lock_checker.specs.Tables.{found, or_else}
 use Rattle.lock_checker.proofs.index.lock_table.Given as goal
 
 abbrev pub invariant-loop-head : goal.invariant-loop-head

@@ -3,7 +3,7 @@ use Rattle.std.specs.Prelude.{option_map, find}
 use Rattle.task_ast.specs.meaning.Tree as plain
 use Rattle.task_ast.specs.meaning.Names.{is_task, task_named}
 use Rattle.task_ast.specs.View.{plain_task, plain_program}
-use Rattle.lock_checker.specs.inner.Tables.{found, or_else}
+use Rattle.lock_checker.specs.Tables.{found, or_else}
 use Rattle.lock_checker.proofs.index.task_table.Given as goal
 
 abbrev pub invariant-loop-task : goal.invariant-loop-task

@@ -2,7 +2,7 @@ use Rattle.std.proofs.Common.{rules, map, subst, sym}
 use Rattle.std.specs.Result.{result_ok}
 use Rattle.std.proofs.lemmas.List.Sorted.{answers_always}
 use Rattle.record_store.specs.Lent.{lock_in}
-use Rattle.subthread.specs.inner.Places.{IsPlaceIn}
+use Rattle.subthread.specs.Places.{IsPlaceIn}
 use Rattle.subthread.proofs.Searched.{searched}
 use Rattle.subthread.proofs.places.bundle_of.Goals as goal
 

@@ -1,6 +1,7 @@
 use Rattle.std.proofs.Common.{Some, None, sym, subst}
 use Rattle.task_ast.specs.meaning.Under.{under_lock}
-use Rattle.subthread.specs.inner.Places.{IsPlaceIn, IsFoundAt}
+use Rattle.subthread.specs.Places.{IsPlaceIn}
+use Rattle.subthread.specs.inner.Places.{IsFoundAt}
 use Rattle.subthread.proofs.Placing.{none_over, none_bundled, none_placed, stands_so}
 use Rattle.subthread.proofs.places.find_cell.Goals as goal
 

@@ -1,7 +1,7 @@
 use Rattle.std.proofs.Common.{◌≡◌, ◌+◌, drop, option_map, position}
 use Rattle.task_ast.specs.meaning.Tree as plain
 use Rattle.task_ast.specs.meaning.Names.{is_name}
-use Rattle.lock_checker.specs.inner.Tables.{found, or_else}
+use Rattle.lock_checker.specs.Tables.{found, or_else}
 use Rattle.task_code.specs.inner.Tables.{targets}
 use Rattle.task_code.proofs.tables.places.Given as goal
 

@@ -1,7 +1,7 @@
 use Rattle.std.proofs.Common.{◌∙◌, ap, sym, ◌≡◌, rules}
 use Rattle.std.specs.Prelude.{if◌then◌else◌, Some, None}
 use Rattle.task_ast.specs.meaning.Names.{is_name}
-use Rattle.lock_checker.specs.inner.Tables.{found, or_else}
+use Rattle.lock_checker.specs.Tables.{found, or_else}
 use Rattle.lock_checker.proofs.TableLemmas.{put_found, updated}
 use Rattle.lock_checker.proofs.symbol_table.SymbolTable.put.Goals as goal
 

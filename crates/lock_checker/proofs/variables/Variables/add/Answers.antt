@@ -1,7 +1,7 @@
 use Rattle.std.proofs.Common.{◌≡◌, subst, sym, [], ◌∷◌, rules}
 use Rattle.std.specs.Prelude.{is_some}
 use Rattle.task_ast.specs.declared.tree.Param.{Param}
-use Rattle.lock_checker.specs.inner.Tables.{found}
+use Rattle.lock_checker.specs.Tables.{found}
 use Rattle.lock_checker.specs.inner.TaskVariables.{Adds}
 use Rattle.lock_checker.proofs.VariableLemmas.{adds_control, adds_data}
 use Rattle.lock_checker.proofs.variables.Variables.add.Goals as goal

@@ -11,7 +11,7 @@ use Rattle.record_store.specs.inner.Shelves.{seen, value_on}
 use Rattle.record_store.proofs.Fitting.{child_same}
 use Rattle.record_store.specs.Lent.{whole_effect, lock_in}
 use Rattle.record_store.specs.inner.Exchanged.{threads_after}
-use Rattle.record_store.specs.inner.Homing.{value_over}
+use Rattle.record_store.specs.Given.{value_over}
 use Rattle.record_store.proofs.Comings.{sizes_lent, cells_after, olds_are}
 use Rattle.record_store.proofs.Left.{state_after, length_after}
 use Rattle.record_store.proofs.Stocked.{in_places}
