@@ -8,13 +8,14 @@ ghost use Rattle.restart_log.specs.meaning.Trace.{trace_text};
 ghost use Rattle.command_line.specs.declared.asked.Command.TheVariants as command;
 ghost use Rattle.command_line.specs.declared.asked.Asked.{Asked};
 ghost use Rattle.call_cases.specs.meaning.Answers.{Change, change_of};
-ghost use Rattle.call_cases.specs.Answers.{LineEnds, unwritten};
+ghost use Rattle.call_cases.specs.Answers.{LineEnds, PutFor, unwritten};
 ghost use Rattle.call_cases.specs.Decided.{work_of};
 ghost use Rattle.call_cases.specs.meaning.PlainText.{plain_ran, restarts_in};
+ghost use Rattle.call_cases.specs.meaning.RunCommands.{end_status};
 ghost use Rattle.call_cases.specs.meaning.Texts.{run_text, run_soak};
 ghost use Rattle.call_cases.specs.meaning.Work.{ToDo, is_journalled};
 ghost use Rattle.batch_calls.specs.inner.Planned.{IsPlanOf, IsPlanned, Carries, work_begun, work_planned};
-ghost use Rattle.batch_calls.specs.inner.Ran.{RanFor, EndsFor, StopsWith, WritesLines, why_of, told_tail, told_soak};
+ghost use Rattle.batch_calls.specs.inner.Ran.{RanFor, EndsFor, StopsWith, WritesLines, why_of, fault_of, told_tail, told_soak};
 
 use crate::logged::{outcome_logged, put_logged};
 use crate::plain::{put_ok, put_one};
@@ -272,6 +273,49 @@ pub fn carry_by<R: Threads + Sync, C: Crew, O: Sink, E: Sink>(
     outcome
 }
 
+// The fault of the output at which a run stopped.
+fn fault_of(why: StopWhy) -> SinkFault
+    ensures { result ≡ fault_of why }
+{
+    match why {
+        StopWhy::WriteFault => SinkFault::Failed,
+        StopWhy::OutOfMemory => SinkFault::OutOfMemory,
+    }
+}
+
+/// Runs a plan with a crew to which nothing was posted, and writes the text of its run. The answer is the status; no
+/// journal is told.
+pub fn put_untold<R: Threads + Sync, C: Crew, O: Sink>(
+    rt: &R,
+    alloc: Global,
+    code: &Work,
+    plan: Plan,
+    crew: &mut C,
+    out: &mut O,
+) -> Result<u8, SinkFault>
+    requires planned { IsPlanOf code.now plan }
+    requires ready { C.ready crew.old }
+    requires work { C.work crew.old ≡ code.now }
+    requires none_out { C.out crew.old ≡ [] }
+    requires none_posted { C.posted crew.old ≡ [] }
+    requires lines { WritesLines plan.asked.command }
+    ensures { let work = work_planned plan in
+        PutFor (run_text (plain_ran work) (restarts_in work) (length work.faults)) (end_status (plain_ran work).end) (change_of O.written O.faults out.old out.new) result }
+{
+    let Plan {
+        asked,
+        checked,
+        begins,
+    } = plan;
+    let ran = put_run(rt, alloc, &asked, &checked, code, begins, crew, out);
+    drop(checked);
+    drop(asked);
+    match ran {
+        Ok(report) => Ok(end_status(report.end)),
+        Err(stop) => Err(fault_of(stop.why)),
+    }
+}
+
 /// How a run ended that did not begin, since memory was out.
 pub fn unbegun<E: Sink>(alloc: Global, err: &mut E) -> Outcome
     ensures { (asked : Asked) (work : ToDo) (written : Option (List ℕ)) (faults : ℕ) →
@@ -285,7 +329,7 @@ pub fn unbegun<E: Sink>(alloc: Global, err: &mut E) -> Outcome
 }
 
 /// Does what is requested that runs over no journal.
-pub fn carry_plain<O: Sink, E: Sink>(
+pub fn put_plain<O: Sink, E: Sink>(
     alloc: Global,
     request: &Request,
     out: &mut O,

@@ -22,7 +22,7 @@ use pipe_crew::PipeCrew;
 use std::alloc::Global;
 use std::sync::{Arc, Wait};
 use std::thread::Threads;
-use subthread::Work;
+use subthread::{Recheck, Work};
 
 // What the words ask for, as `read_request` reads it, where `pipe` is the word of a crew too.
 fn read_waiting<H: Shelf>(
@@ -92,7 +92,7 @@ fn carry_planned<
     requires run { is_journalled request.asked.command ≡ true }
     ensures { Carries request.asked (work_of request) (change_of O.written O.faults out.old out.new) (change_of E.written E.faults err.old err.new) result.status result.journal }
 {
-    let (work, plan) = match plan_of(alloc, request) {
+    let (work, plan) = match plan_of(alloc, request, &Recheck::once()) {
         Ok(made) => made,
         Err(_) => return unbegun(alloc, err),
     };
