@@ -1,12 +1,11 @@
--- The commands `run`, `one`, `check` and `soak`, as one value of the record of promises: for `gprs_run`, and for a call that may wait for
--- its workers.
-use Rattle.std.specs.Prelude.{◌≡◌, ◌⊎◌, ℕ, Bool, true, false, [], List, Some, codes, length, if◌then◌else◌}
+-- The commands of `gprs_run`: `run`, `one`, `check` and `soak`, as one value of the record of promises.
+use Rattle.std.specs.Prelude.{◌≡◌, ◌⊎◌, ℕ, Bool, true, [], List, Some, codes, length, if◌then◌else◌}
 use Rattle.gp_base.specs.declared.ending.End.{End}
 use Rattle.gp_base.specs.declared.ending.End.TheVariants.{Finished, Stuck, Spent}
 use Rattle.gp_base.specs.declared.journal.Journal.{Journal}
 use Rattle.task_ast.specs.meaning.Tree.{Name}
 use Rattle.restart_log.specs.meaning.Trace.{trace_text}
-use Rattle.command_line.specs.meaning.Words.{asked_among}
+use Rattle.command_line.specs.meaning.Words.{asked_by, asked_among}
 use Rattle.command_line.specs.declared.asked.Command.{Command}
 use Rattle.command_line.specs.declared.asked.Command.TheVariants.{Run, One, Check, Soak, Ckpt, Log}
 use Rattle.command_line.specs.declared.asked.Asked.{Asked}
@@ -52,15 +51,14 @@ pub data MayRead (asked : Asked) : Name → Type 0 where
   the_faults : {name : Name} → asked.faults ≡ Some name → MayRead asked name
   an_input : {name : Name} → runs asked.command ≡ true → MayRead asked name
 
--- what words ask for, by whether the call may wait, and what that comes to by the files
-abbrev pub asking_among : (waits : Bool) → Asking Asked ToDo
-asking_among waits =
-    record { reading = asked_among waits; program = λ asked. asked.program; files = files_for; supplied = supplied_by }
+-- what words ask for, and what that comes to by the files
+abbrev pub asking : Asking Asked ToDo
+asking = record { reading = asked_by; program = λ asked. asked.program; files = files_for; supplied = supplied_by }
 
--- the promises, by whether the call may wait
-abbrev pub commands_among : (waits : Bool) → Commands Asked ToDo
-commands_among waits = record {
-  asking = asking_among waits;
+-- the promises
+abbrev pub commands : Commands Asked ToDo
+commands = record {
+  asking = asking;
   may_read = MayRead;
   makes_files = λ asked. makes_files asked.command;
   is_journalled = λ asked. is_journalled asked.command;
@@ -75,9 +73,9 @@ commands_among waits = record {
   retired = TakesRetired;
 }
 
--- those of `gprs_run`, which does not wait
-abbrev pub asking : Asking Asked ToDo
-asking = asking_among false
+-- the same by whether the call may wait for its workers: those of `gprs_run`, which does not, and of `gprs_run_pipe`, which does
+abbrev pub asking_among : (waits : Bool) → Asking Asked ToDo
+asking_among waits = record asking { reading = asked_among waits }
 
-abbrev pub commands : Commands Asked ToDo
-commands = commands_among false
+abbrev pub commands_among : (waits : Bool) → Commands Asked ToDo
+commands_among waits = record commands { asking = asking_among waits }
