@@ -64,4 +64,5 @@ pub record Shows (judge : Judge) (view : View) : Type 0 where
   pub read_fault : view.status ≡ 7 → (name : Name) × FailsToRead judge view name × TakesAll view.err (read_fault_line name)
   pub write_fault : view.status ≡ 8 → Fails view.err ⊎ Fails view.out × TakesAll view.err write_fault_line
   pub stopped : IsStop view.status
-      → ForCase (asking judge) view.words view.files (λ case. (line : List ℕ) × IsLine (Grew view.failed view.failed') case line × TakesPart view.err line)
+      → ForCase (asking judge) view.words view.files
+      (λ case. (line : List ℕ) × IsLine (Grew view.failed view.failed') case line × TakesPart view.err line)
