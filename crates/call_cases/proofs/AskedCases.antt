@@ -26,15 +26,15 @@ pub restarts_alone : (waits : Bool) (words : List (List ℕ)) (files : Files) (n
 restarts_alone waits words files names work is =
     let found = for_asked waits words files names work is in
     let alone = named_command RestartsAlone tt tt tt (λ batch. tt) waits words in
-    subst RestartsAlone (sym found.2.1.command) (subst (λ asked. IfSome asked (λ a. RestartsAlone a.command)) found.2.0 alone)
+    subst RestartsAlone (sym found.2.command) (subst (λ asked. IfSome asked (λ a. RestartsAlone a.command)) found.1 alone)
 
 pub few_subthreads : (waits : Bool) (words : List (List ℕ)) (files : Files) (names : List Name) (work : ToDo)
     → IsCase (asking_among waits) words files (Go names work) → work.limits.subthreads ≤ MOST_SUBTHREADS
 few_subthreads waits words files names work is =
     let found = for_asked waits words files names work is in
-    let few = subst (λ asked. IfSome asked (λ a. a.limits.subthreads ≤ MOST_SUBTHREADS)) found.2.0 (few_among waits words) in
-    subst (λ (limits : Limits). limits.subthreads ≤ MOST_SUBTHREADS) (sym found.2.1.limits) few
+    let few = subst (λ asked. IfSome asked (λ a. a.limits.subthreads ≤ MOST_SUBTHREADS)) found.1 (few_among waits words) in
+    subst (λ (limits : Limits). limits.subthreads ≤ MOST_SUBTHREADS) (sym found.2.limits) few
 
 pub narrow_faults : (waits : Bool) (words : List (List ℕ)) (files : Files) (names : List Name) (work : ToDo)
     → IsCase (asking_among waits) words files (Go names work) → AreNarrow MOST_FAULTS work.faults
-narrow_faults waits words files names work is = (for_asked waits words files names work is).2.1.faults
+narrow_faults waits words files names work is = (for_asked waits words files names work is).2.faults

@@ -98,17 +98,19 @@ few_rows : (before rows : List Row) → first_broken fault_rule before rows ≡ 
     → length before + length rows ≤ MOST_FAULTS
 unfolding first_broken
 few_rows before [] whole few = omega (arith, few)
-few_rows before (row ∷ rows) whole few = go (fault_rule before row) refl whole
+few_rows before (row ∷ rows) whole few = go (few_rows (before ++ row ∷ []) rows) (fault_rule before row) refl whole
   where
-    go : (o : Option FileKind) → fault_rule before row ≡ o
+    go : (first_broken fault_rule (before ++ row ∷ []) rows ≡ None → length (before ++ row ∷ []) ≤ MOST_FAULTS
+        → length (before ++ row ∷ []) + length rows ≤ MOST_FAULTS)
+        → (o : Option FileKind) → fault_rule before row ≡ o
         → broken_or o (length before + 1) (first_broken fault_rule (before ++ row ∷ []) rows) ≡ None
         → length before + length (row ∷ rows) ≤ MOST_FAULTS
-    go (Some kind) same broken = cc broken
-    go None same later =
+    go later (Some kind) same broken = cc broken
+    go later None same rest =
         let room = few_before before (fault_of row) same in
         let more = length-append before (row ∷ []) in
-        let few = few_rows (before ++ row ∷ []) rows later (omega (arith, room, more)) in
-        omega (arith, few, more)
+        let all = later rest (omega (arith, room, more)) in
+        omega (arith, all, more)
 
 -- the faults of a file
 pub narrow_file : (rows : List Row) → IfOk (faults_by rows) (AreNarrow MOST_FAULTS)
