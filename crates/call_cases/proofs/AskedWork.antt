@@ -1,6 +1,6 @@
 -- What there is to be done for what is asked: the command that the words name, under limits in their range, with few faults, each with
 -- numbers in their ranges.
-use Rattle.std.proofs.Common.{◌≡◌, ◌≤◌, ◌&&◌, ℕ, Bool, true, false, List, [], ◌∷◌, ◌++◌, length, nat_lt, nat_le, if◌then◌else◌, refl, subst, arith}
+use Rattle.std.proofs.Common.{◌≡◌, ◌≤◌, ◌&&◌, ℕ, Bool, true, false, List, [], ◌∷◌, ◌++◌, length, nat_lt, nat_le, if◌then◌else◌, refl, arith}
 use Rattle.std.specs.Prelude.{IfSome, IfOk, ⊤, codes, option_and_then}
 use Rattle.std.specs.Str.Parse.{digits_value}
 use Rattle.std.specs.declared.option.Option.{Option}
@@ -30,7 +30,7 @@ use Rattle.command_line.specs.declared.asked.CrewKind.{CrewKind}
 use Rattle.command_line.specs.declared.asked.Verb.{Verb}
 use Rattle.call_cases.specs.meaning.Work.{Files, Supplied, Supplies, Lacks, Spoils, ToDo, work_for}
 use Rattle.call_cases.specs.meaning.InputFiles.{by_rows, by_file, fault_rows, load_faults, supplied_for, then_load, with_faults, supplied_by}
-use Rattle.call_cases.specs.meaning.Case.{Case, Usage, Missing, BadProgram, BadInput, Go, IsCaseOf, no_program, of_text, supplied_case, program_case, meant_case}
+use Rattle.call_cases.specs.meaning.Case.{Case, Go, IsCaseOf, no_program, of_text, supplied_case, program_case, meant_case}
 use Rattle.call_cases.specs.meaning.Lines.{input_line}
 use Rattle.call_cases.specs.meaning.RunCommands.{asking_among}
 use Rattle.call_cases.proofs.FaultRows.{IsNarrow, AreNarrow, narrow_file}
