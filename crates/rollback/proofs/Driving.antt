@@ -10,21 +10,20 @@ use Rattle.gp_base.specs.declared.journal.Event.{Event}
 use Rattle.gp_base.specs.declared.journal.Event.TheVariants as event
 use Rattle.dependence.specs.meaning.Dependents.{is_member}
 use Rattle.dependence.specs.meaning.Restarts.{Dependence, begun_of, struck_next, restart_of}
-use Rattle.dependence.specs.meaning.Journal.{Stage, initial_stage, happens, restarted, stage_from, stage}
+use Rattle.dependence.specs.meaning.Journal.{Stage, initial_stage, IsSafe, Allowed, LawfulFrom, Lawful, happens, restarted, stage_from, stage}
 use Rattle.dependence.specs.Standing.{NamesIssued}
 use Rattle.dependence.proofs.IssuedPositions.{initial-issued, issued-from}
 use Rattle.dependence.proofs.RestartEnds.{begun-push}
 use Rattle.rollback.specs.meaning.Cuts.{cut_at, back, rolling}
-use Rattle.rollback.specs.meaning.Journal.{IsSafe, AllowedByBlocks, LawfulByBlocksFrom, LawfulByBlocks}
 use Rattle.rollback.specs.Driving.{DrivingStands}
 use Rattle.rollback.proofs.Backs.{redone, unredone, rolls-conflicts}
-use Rattle.rollback.proofs.Standing.{allowed-narrower}
 
 pub initial-driving : (dependence : Dependence) → DrivingStands dependence initial_stage
 initial-driving dependence =
     record {
       names_issued = initial-issued;
       begun_rises = λ p q l issued. absurd (omega arith);
+      begun_above = λ p issued. absurd (omega arith);
       begun_low = λ p issued. absurd (omega arith);
       settled = λ p settles issued. absurd (omega arith);
     }
@@ -40,11 +39,18 @@ module _ (cuts : ℕ → Bool) (dependence : Dependence) (faults : List Fault) w
   abbrev rolled : Dependence
   rolled = rolling cuts dependence
 
-  issue-driving : (at : Stage) (p : ℕ) → DrivingStands dependence at → AllowedByBlocks cuts dependence faults at (event.Issue p)
+  issue-driving : (at : Stage) (p : ℕ) → DrivingStands dependence at → Allowed (rolling cuts dependence) faults at (event.Issue p)
       → NamesIssued (happens rolled faults at (event.Issue p)) → DrivingStands dependence (happens rolled faults at (event.Issue p))
   issue-driving at p driving may names =
-      record { names_issued = names; begun_rises = rises; begun_low = low; settled = settled }
+      record { names_issued = names; begun_rises = rises; begun_above = above; begun_low = low; settled = settled }
     where
+      above : (q : ℕ) → q < at.progress.front + 1 → q < begun_of at.progress.made q
+      above q issued =
+          elim (cases_lt q at.progress.front) [
+            | inl before ↦ driving.begun_above q before
+            | inr new ↦ (let begun = driving.names_issued.begun q new in omega arith)
+          ]
+
       low : (q : ℕ) → q < at.progress.front + 1 → begun_of at.progress.made q ≤ at.progress.front + 1
       low q issued =
           elim (cases_lt q at.progress.front) [
@@ -78,7 +84,7 @@ module _ (cuts : ℕ → Bool) (dependence : Dependence) (faults : List Fault) w
       → DrivingStands dependence (restarted rolled at o)
   restart-driving at None driving names = driving
   restart-driving at (Some struck) driving names =
-      record { names_issued = names; begun_rises = rises; begun_low = low; settled = driving.settled }
+      record { names_issued = names; begun_rises = rises; begun_above = above; begun_low = low; settled = driving.settled }
     where
       begun : ℕ → ℕ
       begun q = begun_of (restarted rolled at (Some struck)).progress.made q
@@ -94,6 +100,13 @@ module _ (cuts : ℕ → Bool) (dependence : Dependence) (faults : List Fault) w
 
       stays : (q : ℕ) → q < cut_at cuts struck → begun q ≡ begun_of at.progress.made q
       stays q before = begins q false (unredone cuts struck at.progress.front q before)
+
+      above : (q : ℕ) → q < at.progress.front → q < begun q
+      above q issued =
+          elim (cases_lt q (cut_at cuts struck)) [
+            | inl before ↦ (let same = stays q before in let was = driving.begun_above q issued in omega arith)
+            | inr from ↦ (let front = again q from issued in omega arith)
+          ]
 
       low : (q : ℕ) → q < at.progress.front → begun q ≤ at.progress.front
       low q issued =
@@ -114,22 +127,23 @@ module _ (cuts : ℕ → Bool) (dependence : Dependence) (faults : List Fault) w
           ]
 
   -- each event that is allowed keeps it
-  pub happens-driving : (at : Stage) (e : Event) → DrivingStands dependence at → AllowedByBlocks cuts dependence faults at e
+  pub happens-driving : (at : Stage) (e : Event) → DrivingStands dependence at → Allowed (rolling cuts dependence) faults at e
       → DrivingStands dependence (happens rolled faults at e)
   happens-driving at e driving may = go e may (names e may)
     where
-      names : (e : Event) → AllowedByBlocks cuts dependence faults at e → NamesIssued (happens rolled faults at e)
+      names : (e : Event) → Allowed (rolling cuts dependence) faults at e → NamesIssued (happens rolled faults at e)
       names e may =
-          issued-from rolled (rolls-conflicts cuts dependence) faults at (e ∷ []) (allowed-narrower cuts dependence faults at e may, tt)
+          issued-from rolled (rolls-conflicts cuts dependence) faults at (e ∷ []) (may, tt)
           driving.names_issued
 
-      go : (e : Event) → AllowedByBlocks cuts dependence faults at e → NamesIssued (happens rolled faults at e)
+      go : (e : Event) → Allowed (rolling cuts dependence) faults at e → NamesIssued (happens rolled faults at e)
           → DrivingStands dependence (happens rolled faults at e)
       go (event.Issue p) may issued = issue-driving at p driving may issued
       go (event.Post p attempt) may issued =
           record {
             names_issued = issued;
             begun_rises = driving.begun_rises;
+            begun_above = driving.begun_above;
             begun_low = driving.begun_low;
             settled = driving.settled;
           }
@@ -137,6 +151,7 @@ module _ (cuts : ℕ → Bool) (dependence : Dependence) (faults : List Fault) w
           record {
             names_issued = issued;
             begun_rises = driving.begun_rises;
+            begun_above = driving.begun_above;
             begun_low = driving.begun_low;
             settled = driving.settled;
           }
@@ -145,17 +160,18 @@ module _ (cuts : ℕ → Bool) (dependence : Dependence) (faults : List Fault) w
           record {
             names_issued = issued;
             begun_rises = driving.begun_rises;
+            begun_above = driving.begun_above;
             begun_low = driving.begun_low;
             settled = λ q settles l. (let was = driving.settled q settles l in let oldest = may.oldest in omega arith);
           }
 
-  driving-from : (at : Stage) (events : List Event) → DrivingStands dependence at → LawfulByBlocksFrom cuts dependence faults at events
+  driving-from : (at : Stage) (events : List Event) → DrivingStands dependence at → LawfulFrom (rolling cuts dependence) faults at events
       → DrivingStands dependence (stage_from rolled faults at events)
   driving-from at [] driving lawful = driving
   driving-from at (e ∷ rest) driving lawful =
       driving-from (happens rolled faults at e) rest (happens-driving at e driving lawful.0) lawful.1
 
   -- and so it holds after each journal that is lawful by blocks
-  pub driving-journal : (events : List Event) → LawfulByBlocks cuts dependence faults events
+  pub driving-journal : (events : List Event) → Lawful (rolling cuts dependence) faults events
       → DrivingStands dependence (stage rolled faults events)
   driving-journal events lawful = driving-from initial_stage events (initial-driving dependence) lawful
