@@ -3,7 +3,7 @@ ghost use Rattle.std.specs.Prelude.{◌≡◌, true, false, All, IfOk};
 ghost use Rattle.subthread.specs.Tasks.{Fits};
 ghost use Rattle.crew.specs.Out.{AreRuns};
 ghost use Rattle.steal_crew.specs.Batches.{AreCounted};
-ghost use Rattle.call_cases.specs.meaning.Answers.{change_of};
+ghost use Rattle.call_cases.specs.meaning.Answers.{IsEmpty, change_of};
 ghost use Rattle.call_cases.specs.Decided.{MayRun, work_of};
 ghost use Rattle.call_cases.specs.Answers.{PutFor};
 ghost use Rattle.call_cases.specs.meaning.RunCommands.{work_text, work_status};
@@ -13,7 +13,7 @@ ghost use Rattle.batch_calls.specs.inner.Planned.{IsPlanOf, Carries, work_planne
 
 use crate::plan::{Plan, plan_of};
 use crate::run::{carry_by, is_journalled, put_plain, put_untold, unbegun};
-use call_cases::{Outcome, Request, plain_outcome};
+use call_cases::{Outcome, Request, empty_journal, plain_outcome};
 use command_line::{Command, CrewKind};
 use crew::{BatchCrew, InlineCrew, MeanSteps, run_wave};
 use gp_base::{Faults, Gate, Seq, Sink, SinkFault};
@@ -174,6 +174,18 @@ fn put_one_rechecked<R: Threads + Sync, O: Sink, G: Gate>(
     put_untold(rt, alloc, &work, plan, &mut crew, out)
 }
 
+// How a run ended whose walks could not be agreed on, and which tells no journal. The line of that is left to the caller
+// of the top call, which has the recheck.
+fn stopped_untold(alloc: Global) -> Outcome
+    ensures status { result.status ≡ 1 }
+    ensures empty { IsEmpty result.journal }
+{
+    Outcome {
+        status: 1,
+        journal: empty_journal(alloc),
+    }
+}
+
 // Does what is requested that runs over no journal. The run of a program on one thread is one over a journal that is
 // not told, where its subthreads are to be walked twice.
 fn carry_plain<R: Threads + Sync, O: Sink, E: Sink, G: Gate>(
@@ -191,7 +203,10 @@ fn carry_plain<R: Threads + Sync, O: Sink, E: Sink, G: Gate>(
 {
     if request.asked.command == Command::One && recheck.is_on() {
         let put = put_one_rechecked(rt, alloc, request, recheck, out, gate);
-        return plain_outcome(alloc, put, err);
+        return match put {
+            Err(SinkFault::OutOfMemory) if recheck.disagreed().is_some() => stopped_untold(alloc),
+            put => plain_outcome(alloc, put, err),
+        };
     }
     let outcome = put_plain(alloc, &request, out, err);
     drop(request);

@@ -15,5 +15,5 @@ mod waiting;
 
 pub use ckpt::ckpt_run;
 pub use log::{log_rechecked, log_run};
-pub use top::{gprs_run, run_rechecked};
-pub use waiting::gprs_run_pipe;
+pub use top::gprs_run;
+pub use waiting::{gprs_run_pipe, run_rechecked};

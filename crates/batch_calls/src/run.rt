@@ -33,7 +33,7 @@ use lock_checker::Checked;
 use restart_log::{soak_text, tail_text, trace_text};
 use std::alloc::Global;
 use std::thread::Threads;
-use subthread::Work;
+use subthread::{Recheck, Work};
 
 fn why_of(fault: SinkFault) -> StopWhy
     ensures { result ≡ why_of fault }
@@ -53,12 +53,14 @@ pub fn stopped(fault: SinkFault, journal: Journal) -> EngineStop
     EngineStop { why, journal }
 }
 
-// Tells why a call stopped, and answers the status of that.
-fn stop_with<E: Sink>(err: &mut E, why: StopWhy) -> u8
+// Tells why a call stopped, and answers the status of that. Where walks could not be agreed on, the line of that is left to
+// the caller of the top call, which has the recheck.
+fn stop_with<E: Sink>(err: &mut E, why: StopWhy, recheck: &Recheck) -> u8
     ensures { StopsWith why (change_of E.written E.faults err.old err.new) result }
 {
     match why {
         StopWhy::WriteFault => end_with(err, WRITE_FAULT, 8),
+        StopWhy::OutOfMemory if recheck.disagreed().is_some() => 1,
         StopWhy::OutOfMemory => end_with(err, OUT_OF_MEMORY, 1),
     }
 }
@@ -180,6 +182,7 @@ fn put_trace<E: Sink>(alloc: Global, is_traced: bool, journal: &Journal, err: &m
 fn outcome_of<E: Sink>(
     alloc: Global,
     is_traced: bool,
+    recheck: &Recheck,
     ran: Result<Report, EngineStop>,
     err: &mut E,
 ) -> Outcome
@@ -196,7 +199,7 @@ fn outcome_of<E: Sink>(
             }
         }
         Err(stop) => {
-            let status = stop_with(err, stop.why);
+            let status = stop_with(err, stop.why, recheck);
             Outcome {
                 status,
                 journal: stop.journal,
@@ -228,11 +231,11 @@ fn carry_begun<R: Threads + Sync, C: Crew, O: Sink, E: Sink>(
     match asked.command {
         Command::Run | Command::Ckpt(_) => {
             let ran = put_run(rt, alloc, asked, checked, code, begins, crew, out);
-            outcome_of(alloc, asked.trace, ran, err)
+            outcome_of(alloc, asked.trace, &code.recheck, ran, err)
         }
         Command::Soak(soak) => {
             let ran = put_soak(rt, alloc, asked, checked, code, begins, soak, crew, out);
-            outcome_of(alloc, asked.trace, ran, err)
+            outcome_of(alloc, asked.trace, &code.recheck, ran, err)
         }
         Command::Log => {
             let ran = put_logged(rt, alloc, asked, checked, code, begins, crew, out, err);

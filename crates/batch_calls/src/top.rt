@@ -5,43 +5,10 @@ ghost use Rattle.call_cases.specs.meaning.RunCommands.{commands};
 ghost use Rattle.call_cases.specs.meaning.Answers.{change_of};
 ghost use Rattle.call_cases.specs.meaning.Headline.{Headline, ReadsNothing};
 
-use crate::crews::carry_rechecked;
+use crate::crews::carry_out;
 use call_cases::{Outcome, read_request, refused_outcome};
 use gp_base::{Gate, Shelf, Sink};
 use std::thread::Threads;
-use subthread::Recheck;
-
-/// Does what the words ask for, as `gprs_run` does, with each subthread walked as the recheck says, which keeps what is
-/// seen.
-pub fn run_rechecked<R: Threads + Sync + AllocGlobal, H: Shelf, O: Sink, E: Sink, G: Gate>(
-    rt: &R,
-    words: &[String],
-    shelf: &mut H,
-    recheck: &Recheck,
-    out: &mut O,
-    err: &mut E,
-    gate: &G,
-) -> Outcome
-    ensures headline { Headline commands (record {
-      words = texts words.now;
-      files = H.files shelf.old;
-      failed = H.failed shelf.old;
-      failed' = H.failed shelf.new;
-      out = change_of O.written O.faults out.old out.new;
-      err = change_of E.written E.faults err.old err.new;
-      status = result.status;
-      journal = result.journal;
-    }) }
-
-    // The shelf is not read for words of no command, nor for a batch that the program makes itself.
-    ensures unread { ReadsNothing commands (commands.asking.reading (texts words.now)) → shelf.new ≡ shelf.old }
-{
-    let alloc = rt.alloc();
-    match read_request(alloc, words, shelf) {
-        Ok(request) => carry_rechecked(rt, alloc, request, recheck, out, err, gate),
-        Err(refusal) => refused_outcome(alloc, refusal, err),
-    }
-}
 
 /// Does what the words ask for, over what is handed in. The words are those after the program's name.
 ///
@@ -75,5 +42,9 @@ pub fn gprs_run<R: Threads + Sync + AllocGlobal, H: Shelf, O: Sink, E: Sink, G: 
     // The shelf is not read for words of no command, nor for a batch that the program makes itself.
     ensures unread { ReadsNothing commands (commands.asking.reading (texts words.now)) → shelf.new ≡ shelf.old }
 {
-    run_rechecked(rt, words, shelf, &Recheck::once(), out, err, gate)
+    let alloc = rt.alloc();
+    match read_request(alloc, words, shelf) {
+        Ok(request) => carry_out(rt, alloc, request, out, err, gate),
+        Err(refusal) => refused_outcome(alloc, refusal, err),
+    }
 }
