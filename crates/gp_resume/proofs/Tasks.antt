@@ -52,7 +52,7 @@ use Rattle.gp_resume.proofs.Lendings.{each-home}
 use Rattle.gp_resume.proofs.TurnsTaken.{follows-code}
 
 -- a join that may begin names a thread that is there, and of these there are few
-joins-numbered : (table : Table) (op : SyncOp) → Reached table → MayBegin table op → IsNumbered op
+pub joins-numbered : (table : Table) (op : SyncOp) → Reached table → MayBegin table op → IsNumbered op
 joins-numbered table (sync.Join (pos h)) reached may =
     let most = most_threads_law table reached in let low = may.0 in omega arith
 joins-numbered table (sync.Join (negsuc h)) reached may = tt
@@ -67,7 +67,7 @@ joins-numbered table sync.BadIndex reached may = tt
 joins-numbered table sync.Spent reached may = tt
 
 -- a child is the next thread
-child-next : (op : SyncOp) (n c : ℕ) → child_of op n ≡ Some c → (c ≡ n) × (n < with_child (child_of op n) n)
+pub child-next : (op : SyncOp) (n c : ℕ) → child_of op n ≡ Some c → (c ≡ n) × (n < with_child (child_of op n) n)
 child-next (sync.Fork k es) n c is = let same : n ≡ c = cc is in (sym same, omega arith)
 child-next sync.Start n c is = absurd (cc is)
 child-next (sync.Lock l) n c is = absurd (cc is)
@@ -79,13 +79,13 @@ child-next sync.End n c is = absurd (cc is)
 child-next sync.BadIndex n c is = absurd (cc is)
 child-next sync.Spent n c is = absurd (cc is)
 
-child-fits : (n t : ℕ) (child : Option ℕ) (regs : List ℤ) → ((c : ℕ) → child ≡ Some c → (c < n) × (c ≢ t))
+pub child-fits : (n t : ℕ) (child : Option ℕ) (regs : List ℤ) → ((c : ℕ) → child ≡ Some c → (c < n) × (c ≢ t))
     → FitsChild n t (option_map (λ c. (c, regs)) child)
 child-fits n t None regs there = tt
 child-fits n t (Some c) regs there = there c refl
 
 -- a table with no fewer threads after a subthread
-no-fewer : (child : Option ℕ) (n : ℕ) → n ≤ with_child child n
+pub no-fewer : (child : Option ℕ) (n : ℕ) → n ≤ with_child child n
 no-fewer None n = omega arith
 no-fewer (Some c) n = omega arith
 

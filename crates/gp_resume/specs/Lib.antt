@@ -1,3 +1,4 @@
+pub mod FlightLaws
 pub mod Laws
 pub mod Resumed
 pub mod Resuming

@@ -16,9 +16,9 @@ mod numbers;
 mod reading;
 mod replay;
 mod row;
-mod running;
 mod stop;
 mod turning;
+mod waves;
 
 pub use drive::{put, resume_drive};
 pub use reading::ends_no_line;

@@ -125,7 +125,3 @@ module _ (plan : Plan) where
     pub subthread : Subthread
     pub after : Plain
     pub begins : Begins before subthread after begun course
-
-  -- the course stands where some run does
-  abbrev pub StandsSomewhere : Course → Type 0
-  StandsSomewhere course = (x : Plain) × Stands x course
