@@ -1,4 +1,3 @@
-pub mod FlightLaws
 pub mod Laws
 pub mod Resumed
 pub mod Resuming

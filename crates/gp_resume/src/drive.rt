@@ -20,7 +20,7 @@ use crate::beginning::begin;
 use crate::course::{Course, Plan, Step};
 use crate::log::{Logged, replay_log};
 use crate::stop::ResumeStop;
-use crate::waves::go_wave;
+use crate::waves::{Leader, go_wave};
 use crew::Crew;
 use gp_base::{End, Inputs, Journal, Limits, Nums, Seq, Sink, SinkFault, Text, put_all};
 use reorder_list::Report;
@@ -71,7 +71,10 @@ fn go_on<R: Threads + Sync, C: Crew, O: Sink>(
         let threads = course.spots.len();
         match course.next(alloc, plan)? {
             Step::Ends(end) => return Ok(end),
-            Step::Goes(first) => go_wave(rt, alloc, plan, course, crew, out, threads, first)?,
+            Step::Goes(begun) => {
+                let leader = Leader { threads, begun };
+                go_wave(rt, alloc, plan, course, crew, out, leader)?;
+            }
         }
     }
 }

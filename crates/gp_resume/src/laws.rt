@@ -1,6 +1,5 @@
 // The laws of what goes on from a log, each on a function with an empty body.
 
-ghost use Rattle.gp_resume.specs.FlightLaws.{FlightNoneLaw, FlightRestsLaw, FlightPastLaw, FlightIssuedLaw, FlightJoinedLaw, FlightTakenLaw, FlightHomeLaw};
 ghost use Rattle.gp_resume.specs.Laws.{ReplayLaw, RestLaw, BytesLaw, JoinedLaw, OwnLaw, OneAnswerLaw, SomeAnswerLaw, OwnRowsLaw};
 
 /// After the first rows of the plain run's own log the run stands where the plain run does, and goes on as it does:
@@ -29,15 +28,4 @@ pub fn log_laws()
     ensures one { OneAnswerLaw }
     ensures some { SomeAnswerLaw }
     ensures own_rows { OwnRowsLaw }
-{}
-
-/// Subthreads that go out beside one another (of the sketch).
-pub fn flight_laws()
-    ensures none { FlightNoneLaw }
-    ensures rests { FlightRestsLaw }
-    ensures past { FlightPastLaw }
-    ensures issued { FlightIssuedLaw }
-    ensures joined { FlightJoinedLaw }
-    ensures taken { FlightTakenLaw }
-    ensures home { FlightHomeLaw }
 {}

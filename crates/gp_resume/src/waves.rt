@@ -274,8 +274,16 @@ fn position_begun(begun: &Begun) -> Pos
     begun.pos
 }
 
-/// Has a crew run the subthread that begins, and those that can begin beside it, which are of the first so many
-/// threads, takes what they leave, and writes their lines, all in order.
+/// What a wave begins with: a subthread that begins, and how many threads there were before it.
+#[derive(Drop)]
+pub struct Leader {
+    pub threads: usize,
+    pub begun: Begun,
+}
+
+/// Has a crew run the subthread that begins, and those that can begin beside it, which are of the threads that were
+/// there before it, takes what they leave, and writes their lines, all in order. The error is that memory is out, or
+/// that the output took no more; a part of the lines is written then.
 pub fn go_wave<R: Threads + Sync, C: Crew, O: Sink>(
     rt: &R,
     alloc: Global,
@@ -283,25 +291,28 @@ pub fn go_wave<R: Threads + Sync, C: Crew, O: Sink>(
     course: &mut Course,
     crew: &mut C,
     out: &mut O,
-    threads: usize,
-    first: Begun,
+    leader: Leader,
 ) -> Result<(), ResumeStop>
     requires suits { IsSuited plan.now }
-    requires begins { BeginsFirst plan.now threads first course.old }
+    requires begins { BeginsFirst plan.now leader.threads leader.begun course.old }
     requires closed { course.old.ring.cleared ≡ false }
     requires ready { C.ready crew.old }
     requires work { C.work crew.old ≡ plan.now.work.now }
     requires none_out { C.out crew.old ≡ [] }
-    requires fresh { (p : ℕ) → first.pos ≤ p → ¬ Contains (C.posted crew.old) (p, 0) }
-    ensures went { OnOk result ((x : Plain) (f : Flown) → f.begun ≡ first → Joins plan.now threads x [] f course.old → WentBy plan.now x (O.written out.old) (O.written out.new) (C.posted crew.old) (C.posted crew.new) course.new) }
-    ensures partly { (x : Plain) (f : Flown) → f.begun ≡ first → Joins plan.now threads x [] f course.old → AppendsPrefix (O.written out.old) (O.written out.new) (printed (lines_of (rest plan.now x))) }
-    ensures some { (x : Plain) (f : Flown) → f.begun ≡ first → Joins plan.now threads x [] f course.old → (n : ℕ) × (n ≤ length (rest plan.now x)) × (C.posted crew.new ≡ C.posted crew.old ++ firsts_from x.table.issued n) }
+    requires fresh { (p : ℕ) → leader.begun.pos ≤ p → ¬ Contains (C.posted crew.old) (p, 0) }
+    ensures went { OnOk result ((x : Plain) (f : Flown) → f.begun ≡ leader.begun → Joins plan.now leader.threads x [] f course.old → WentBy plan.now x (O.written out.old) (O.written out.new) (C.posted crew.old) (C.posted crew.new) course.new) }
+    ensures partly { (x : Plain) (f : Flown) → f.begun ≡ leader.begun → Joins plan.now leader.threads x [] f course.old → AppendsPrefix (O.written out.old) (O.written out.new) (printed (lines_of (rest plan.now x))) }
+    ensures some { (x : Plain) (f : Flown) → f.begun ≡ leader.begun → Joins plan.now leader.threads x [] f course.old → (n : ℕ) × (n ≤ length (rest plan.now x)) × (C.posted crew.new ≡ C.posted crew.old ++ firsts_from x.table.issued n) }
     ensures ready { C.ready crew.new }
     ensures work { C.work crew.new ≡ C.work crew.old }
     ensures none_left { OnOk result (C.out crew.new ≡ []) }
     ensures cause { HasResumeCause (O.faults out.old) (O.faults out.new) result }
     ensures told { ¬ IsRefused result }
 {
+    let Leader {
+        threads,
+        begun: first,
+    } = leader;
     let position = position_begun(&first);
     let places = send_all(rt, alloc, plan, course, crew, threads, first)?;
     let runs = collect(rt, crew, position, places)?;

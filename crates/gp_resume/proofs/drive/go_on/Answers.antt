@@ -11,7 +11,7 @@ use Rattle.gp_resume.proofs.drive.go_on.Goals.{In-Goes, In-Ends}
 
 -- the first of a wave begins, wherever the run stood at first
 first : (g : _) (c : In-Goes g) (x : Plain) (stands : Stands c.args.plan.now x c.args.course.now)
-    → (f : Flown) × (f.begun ≡ c.in-Goes.first)
+    → (f : Flown) × (f.begun ≡ c.in-Goes.begun)
     × Joins c.args.plan.now c.len-threads.result (c.going.invariant.went x stands).now [] f c.next.new.self
 first g c x stands =
     let went = c.going.invariant.went x stands in
@@ -88,7 +88,7 @@ go_wave-requires-clause-fresh g c lifetimes within =
     let k = c.requires.stands in
     let next = first g at k.0 k.1 in
     unposted c.args.plan.now k.0 (g.O.Sink.written c.args.out.now) (g.O.Sink.written c.going.out) (g.C.Crew.posted c.going.crew)
-    c.going.course (c.going.invariant.went k.0 k.1) c.in-Goes.first.pos
+    c.going.course (c.going.invariant.went k.0 k.1) c.in-Goes.begun.pos
     (ap (λ (b : Begun). b.pos) (sym next.1) ∙ (next.2.flown.pos ∙ ap (λ (p : Plain). p.table.issued) (sym next.2.chain)))
 
 pub going-smaller : goal.going-smaller
