@@ -19,6 +19,7 @@ pub mod Moved
 pub mod Numerals
 pub mod Onward
 pub mod Openings
+pub mod OwnAnswers
 pub mod OwnLogs
 pub mod OwnRows
 pub mod Printed
