@@ -13,7 +13,7 @@ use Rattle.std.proofs.lemmas.Int.{to_z-of_z}
 use Rattle.std.proofs.lemmas.Str.{IsUtf8-from_ascii}
 use Rattle.gp_base.specs.Fronts.{begins_with_digit}
 use Rattle.gp_base.proofs.Digits.{cut_digits}
-use Rattle.gp_resume.specs.meaning.Reading.{IsWide}
+use Rattle.retirement_log.specs.meaning.Rows.{IsWide}
 use Rattle.gp_resume.specs.inner.Fronts.{IsOnlyFront, EndsNumber, is_numeral, goes_on}
 use Rattle.gp_resume.proofs.Printed.{printed-numeral, printed-some, same-printed}
 

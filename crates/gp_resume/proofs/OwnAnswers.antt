@@ -17,9 +17,9 @@ use Rattle.task_ast.specs.Shaped.{IsAccepted}
 use Rattle.task_ast.specs.meaning.Plain.{order}
 use Rattle.restart_log.specs.meaning.Lines.{spaced}
 use Rattle.crew.specs.meaning.Noted.{left_in_order}
-use Rattle.retirement_log.specs.meaning.Rows.{Retirement, group, cell_numbers, row_text, log_text}
+use Rattle.retirement_log.specs.meaning.Rows.{Retirement, group, cell_numbers, row_text, log_text, IsWideRow}
 use Rattle.retirement_log.specs.meaning.Log.{log_rows, log}
-use Rattle.gp_resume.specs.meaning.Reading.{IsWideRow, EndsNoLine, IsLogOf}
+use Rattle.gp_resume.specs.meaning.Reading.{EndsNoLine, IsLogOf}
 use Rattle.gp_resume.specs.inner.Fronts.{is_numeral}
 use Rattle.gp_resume.specs.Laws.{own_rows, OwnAnswerLaw}
 use Rattle.gp_resume.proofs.OwnRows.{own-fit}

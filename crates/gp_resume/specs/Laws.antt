@@ -11,10 +11,10 @@ use Rattle.task_ast.specs.meaning.Position.{before}
 use Rattle.restart_log.specs.meaning.Lines.{printed}
 use Rattle.restart_log.specs.meaning.Tail.{tail_text}
 use Rattle.crew.specs.meaning.Noted.{left_in_order}
-use Rattle.retirement_log.specs.meaning.Rows.{Retirement, log_text}
+use Rattle.retirement_log.specs.meaning.Rows.{Retirement, log_text, IsWideRow}
 use Rattle.retirement_log.specs.meaning.Log.{log_rows, log}
 use Rattle.gp_resume.specs.meaning.Fitting.{Fit, resumed_at}
-use Rattle.gp_resume.specs.meaning.Reading.{IsWideRow, LogAnswer, IsAnswer, IsLogOf}
+use Rattle.gp_resume.specs.meaning.Reading.{LogAnswer, IsAnswer, IsLogOf}
 use Rattle.gp_resume.specs.meaning.Resumed as resumed
 use Rattle.gp_resume.specs.meaning.Resumed.{lines_of}
 use Rattle.gp_resume.specs.Resumed.{bytes_before}
