@@ -359,7 +359,8 @@ module _ (batch : Batch) (table : Table) (places : List Place) (entries : List E
             position = refl;
             attempt = refl;
             begun = refl;
-            fresh = record { waits = refl; unknown = refl; no_history = refl; no_lines = refl };
+            unknown = refl;
+            fresh = record { waits = refl; no_history = refl; no_lines = refl };
           }
 
       placed : IsPlaced batch entry
