@@ -6,10 +6,9 @@ use Rattle.retirement_log.specs.meaning.Log.{numbered}
 use Rattle.retirement_log.proofs.rows.push_cells.Given as goal
 
 -- the cells so far were appended, and are of 64 bits
-pub record Appended (l : goal.At) : Type 0 where
-  pub text : l.text.items ≡ l.fn.text.items ++ group (flat_map cell_numbers
-      (map numbered (map (new_write l.under l.bundles) (take l.write-index l.old))))
-  pub wide : All IsWideCell (map numbered (map (new_write l.under l.bundles) (take l.write-index l.old)))
-
 abbrev pub invariant-loop-write : goal.invariant-loop-write
-invariant-loop-write l = Appended l
+invariant-loop-write l = record {
+  text : l.text.items ≡ l.fn.text.items ++ group (flat_map cell_numbers
+      (map numbered (map (new_write l.under l.bundles) (take l.write-index l.old))));
+  wide : All IsWideCell (map numbered (map (new_write l.under l.bundles) (take l.write-index l.old)));
+}
