@@ -1,5 +1,5 @@
 -- The trace of a run that ended is judged lawful.
-use Rattle.std.proofs.Common.{◌≡◌, inl, inr, ℕ, true, List, [], ◌∷◌, ◌++◌, refl, sym, ap, subst, ◌∙◌}
+use Rattle.std.proofs.Common.{◌≡◌, inl, inr, ℕ, Bool, true, List, [], ◌∷◌, ◌++◌, refl, sym, ap, subst, ◌∙◌}
 use Rattle.std.specs.declared.option.Option.TheVariants.{Some}
 use Rattle.std.specs.declared.result.Result.{Result}
 use Rattle.std.specs.declared.result.Result.TheVariants.{Ok}
@@ -7,8 +7,6 @@ use Rattle.gp_base.specs.meaning.Files.{bytes_of}
 use Rattle.task_ast.specs.meaning.Tree.{Name}
 use Rattle.task_ast.specs.meaning.Plain.{Subthread, order}
 use Rattle.dependence.specs.meaning.Restarts.{Dependence}
-use Rattle.gp_base.specs.declared.fault.Fault.{Fault}
-use Rattle.gp_base.specs.declared.journal.Event.{Event}
 use Rattle.dependence.specs.meaning.Restarts.{restarts}
 use Rattle.dependence.specs.meaning.Journal.{Complete}
 use Rattle.dependence.specs.meaning.Runs.{dependence_of, restarts_of}
@@ -18,14 +16,15 @@ use Rattle.gp_audit.specs.declared.verdict.Verdict.{Verdict}
 use Rattle.gp_audit.specs.declared.verdict.Verdict.TheVariants.{Lawful}
 use Rattle.gp_audit.specs.meaning.Answer.{verdict_text, verdict_status}
 use Rattle.gp_audit.specs.meaning.Verdicts.{IsVerdict}
-use Rattle.gp_traces.specs.Laws.{IsWholeRun, IsNarrowRun}
+use Rattle.gp_traces.specs.Laws.{IsWholeRun}
+use Rattle.audit_calls.proofs.NarrowRuns.{narrow_run}
 use Rattle.gp_audit.proofs.Orders.{order-is}
 use Rattle.gp_traces.proofs.WholeRuns.{audit-is-lawful}
 use Rattle.command_line.specs.declared.asked.Command.{Command}
 use Rattle.command_line.specs.declared.asked.Command.TheVariants as command
 use Rattle.call_cases.specs.meaning.Work.{Files, ToDo, is_journalled}
 use Rattle.call_cases.specs.meaning.PlainText.{restarts_in}
-use Rattle.call_cases.specs.meaning.Recovering.{recovering_by, CompleteBy}
+use Rattle.call_cases.specs.meaning.Recovering.{recovering_by}
 use Rattle.call_cases.specs.meaning.Journals.{run_of, dependence_for, IsJournalOf, IsCompleteOf}
 use Rattle.call_cases.specs.meaning.Case.{Go, IsCase, ForCase, ForRun, status_of, text_of}
 use Rattle.call_cases.specs.meaning.RunCommands as run
@@ -33,67 +32,59 @@ use Rattle.call_cases.specs.meaning.Headline.{Call, Headline}
 use Rattle.call_cases.proofs.OneCase.{one_case_of}
 use Rattle.audit_calls.specs.meaning.Tried.{Reads, Judge, tried_with}
 use Rattle.audit_calls.specs.meaning.AuditCommands.{asking, commands}
-use Rattle.audit_calls.specs.Laws.{IsSameRun, TraceLaw}
+use Rattle.audit_calls.specs.meaning.Laws.{IsSameRun, TraceLaw}
 use Rattle.audit_calls.specs.inner.Trials.{AnswersLines}
 use Rattle.command_line.proofs.RestartsAlone.{RestartsAlone}
-use Rattle.call_cases.proofs.NoCheckpoints.{restarts_alone}
+use Rattle.call_cases.proofs.AskedCases.{restarts_alone}
 use Rattle.audit_calls.proofs.Readings.{told, told_reads, told_lines, told_something, lines_told}
 use Rattle.audit_calls.proofs.TrialCases.{lines_case}
 
--- what is said of a run of a command that restarts alone, of restarts and of complete journals
-module _ (run : List Subthread) (faults : List Fault) where
-  alone_restarts : (c : Command) → RestartsAlone c → restarts (recovering_by c run) faults ≡ restarts_of run faults
-  alone_restarts command.Run alone = refl
-  alone_restarts command.One alone = refl
-  alone_restarts command.Check alone = refl
-  alone_restarts (command.Soak batch) alone = refl
-  alone_restarts (command.Ckpt every) alone = absurd alone
-  alone_restarts command.Log alone = refl
-
-  alone_complete : (c : Command) (events : List Event) → RestartsAlone c → CompleteBy c run faults events
-      → Complete (dependence_of run) faults events
-  alone_complete command.Run events alone is = is
-  alone_complete command.One events alone is = is
-  alone_complete command.Check events alone is = is
-  alone_complete (command.Soak batch) events alone is = is
-  alone_complete (command.Ckpt every) events alone is = absurd alone
-  alone_complete command.Log events alone is = is
+-- a command that restarts alone recovers by restarts
+alone_recovering : (run : List Subthread) (c : Command) → RestartsAlone c → recovering_by c run ≡ dependence_of run
+alone_recovering run command.Run alone = refl
+alone_recovering run command.One alone = refl
+alone_recovering run command.Check alone = refl
+alone_recovering run (command.Soak batch) alone = refl
+alone_recovering run (command.Ckpt every) alone = absurd alone
+alone_recovering run command.Log alone = refl
 
 alone_first : (work : ToDo) → RestartsAlone work.command → restarts_of (run_of work) work.faults ≡ restarts_in work
 unfolding run_of restarts_in
-alone_first work alone = sym (alone_restarts (run_of work) work.faults work.command alone)
+alone_first work alone = ap (λ d. restarts d work.faults) (sym (alone_recovering (run_of work) work.command alone))
 
 -- what a headline says of the journal of a run that ended
-module _ (call : Call) (files : Files) (names : List Name) (work : ToDo) (headline : Headline run.commands call)
+module _ (waits : Bool) (call : Call) (files : Files) (names : List Name) (work : ToDo) (headline : Headline (run.commands_among waits) call)
     (known : call.files ≡ Some files)
-    (is : IsCase run.asking call.words files (Go names work)) (runs : is_journalled work.command ≡ true) where
+    (is : IsCase (run.asking_among waits) call.words files (Go names work)) (runs : is_journalled work.command ≡ true) where
   journal_of : IsJournalOf work call.journal
   journal_of =
-      subst (λ told. ForCase run.asking call.words told (λ case. ForRun run.commands case (λ w. IsJournalOf w call.journal))) known
+      subst (λ told. ForCase (run.asking_among waits) call.words told
+      (λ case. ForRun (run.commands_among waits) case (λ w. IsJournalOf w call.journal))) known
       headline.lawful (Go names work) is runs
 
   alone : RestartsAlone work.command
-  alone = restarts_alone call.words files names work is
+  alone = restarts_alone waits call.words files names work is
 
   complete_of : run.IsWhole call.status → IsCompleteOf work call.journal
   complete_of whole =
-      subst (λ told. ForCase run.asking call.words told (λ case. ForRun run.commands case (λ w. IsCompleteOf w call.journal))) known
+      subst (λ told. ForCase (run.asking_among waits) call.words told
+      (λ case. ForRun (run.commands_among waits) case (λ w. IsCompleteOf w call.journal))) known
       (headline.complete whole) (Go names work) is runs
 
   whole_run : run.IsWhole call.status → IsWholeRun (run_of work) work.faults call.journal
   whole_run whole = record {
-    complete = alone_complete (run_of work) work.faults work.command call.journal.events alone (complete_of whole);
+    complete = subst (λ d. Complete d work.faults call.journal.events) (alone_recovering (run_of work) work.command alone) (complete_of whole);
     first = (journal_of.first.0, alone_first work alone ∙ journal_of.first.1);
     counted = journal_of.counted;
   }
 
   -- what a judge reads in its trace, and how these lines are judged
-  judged : (judge : Judge) → run.IsWhole call.status → IsNarrowRun (run_of work) work.faults
+  judged : (judge : Judge) → run.IsWhole call.status
       → (lines : List TraceLine) × (judge.lines_of (trace_text call.journal) ≡ Ok lines)
       × ((verdict : Verdict) → IsVerdict (dependence_for work) work.faults lines verdict → verdict ≡ Lawful)
   unfolding dependence_for
-  judged judge whole narrow =
-      elim (audit-is-lawful (run_of work) work.faults call.journal narrow (whole_run whole) (told read)
+  judged judge whole =
+      elim (audit-is-lawful (run_of work) work.faults call.journal (narrow_run waits call.words files names work is) (whole_run whole) (told read)
       (told_reads text read (judge.reads text))) [
         | inl out ↦ absurd (told_something read out)
         | inr found ↦ (
@@ -131,9 +122,9 @@ same_verdict judge work other lines same lawful =
     (sym (same_dependence work other same)) faults)
 
 pub trace_law : TraceLaw
-trace_law judge call files names work headline known is runs whole narrow within audited files' names' work' case is' same holds is_case =
+trace_law judge waits call files names work headline known is runs whole within audited files' names' work' case is' same holds is_case =
     let text = trace_text call.journal in
-    let found = judged call files names work headline known is runs judge whole narrow in
+    let found = judged waits call files names work headline known is runs judge whole in
     let answers : AnswersLines judge names' audited.trace work' (bytes_of files' audited.trace) (Ok found.0) =
     subst (λ bytes. AnswersLines judge names' audited.trace work' bytes (Ok found.0)) (sym holds)
     (lines_told judge names' audited.trace work' text found.0 within (subst (Reads text) found.1 (judge.reads text))) in
