@@ -178,7 +178,7 @@ own-answer program inputs limits logged accepted wide =
         rest = whole.rest;
         begins =
             record {
-              wide = wide found.0 whole.fewer;
+              wide = wide found.0 within whole.fewer;
               fit = own-fit program inputs limits accepted found.0;
               bytes_are = whole.bytes_are;
             };

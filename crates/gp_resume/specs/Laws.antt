@@ -97,6 +97,7 @@ OwnRowsLaw =
 abbrev pub OwnAnswerLaw : Type 0
 OwnAnswerLaw =
     (program : Program) (inputs : Inputs) (limits : Limits) (logged : ℕ) → IsAccepted program
-    → ((p : ℕ) → length (log_text (own_rows program inputs limits p)) ≤ logged → All IsWideRow (own_rows program inputs limits p))
+    → ((p : ℕ) → p ≤ length (plain.order program inputs limits) → length (log_text (own_rows program inputs limits p)) ≤ logged
+    → All IsWideRow (own_rows program inputs limits p))
     → (p : ℕ) × (p ≤ length (plain.order program inputs limits)) × (length (log_text (own_rows program inputs limits p)) ≤ logged)
     × IsLogOf program inputs limits (take logged (log program inputs limits)) (own_rows program inputs limits p)
