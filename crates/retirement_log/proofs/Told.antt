@@ -3,7 +3,7 @@
 -- comes one place nearer; and the log grows by that row.
 use Rattle.std.proofs.Common.{◌≡◌, ◌≢◌, ℕ, zero, suc, ◌+◌, ◌-◌, ◌<◌, ◌≤◌, ◌^◌, inl, inr, List, [], ◌∷◌, ◌++◌, length}
 use Rattle.std.proofs.Common.{take, refl, sym, ap, ◌∙◌, subst, arith, length-append, append-nil, cond, true, false, Bool}
-use Rattle.std.specs.Prelude.{pos, All, codes, sum_by, nat_eq, slice_get, Option, Some, None, MatchOption}
+use Rattle.std.specs.Prelude.{pos, All, codes, flat_map, sum_by, nat_eq, slice_get, Option, Some, None, MatchOption}
 use Rattle.std.proofs.lemmas.Option.{slice_get_within}
 use Rattle.std.proofs.lemmas.Bool.{eq-eqb, eqb-true, cases_lt}
 use Rattle.std.proofs.lemmas.List.{take_all, take-append-le}
@@ -14,12 +14,13 @@ use Rattle.std.proofs.Math.Seq.{take-append_seam, take-append-add}
 use Rattle.std.specs.Fmt.{signed_decimal}
 use Rattle.std.specs.Io.KnownBytes.{Appends}
 use Rattle.gp_base.specs.meaning.Sinks.{AppendsPrefix}
-use Rattle.gp_base.proofs.Written.{Appends-append, prefix_none}
+use Rattle.std.proofs.KnownBytes.{Appends-nil}
+use Rattle.gp_base.proofs.Written.{Appends-append}
 use Rattle.task_ast.specs.declared.effect.Effect.{Effect}
 use Rattle.crew.specs.Noted.{with_left, NotesResult, NotesNothing, NotesRetired, NotesPart}
 use Rattle.retirement_log.specs.declared.notes.Pending.{Pending}
 use Rattle.retirement_log.specs.declared.notes.LogNotes.{LogNotes}
-use Rattle.retirement_log.specs.meaning.Rows.{Retirement, IsWideRow, groups_text, row_text, log_text}
+use Rattle.retirement_log.specs.meaning.Rows.{Retirement, IsWideRow, group, cell_numbers, groups_text, row_text, log_text}
 use Rattle.retirement_log.specs.meaning.Log.{log_row, size_of, rows_from, log_rows, log_told}
 use Rattle.retirement_log.specs.meaning.Telling.{TellsPart}
 use Rattle.retirement_log.specs.Telling.{IsPending, KeepsRows, KeepsOthers, LacksFirst, Tells}
@@ -146,9 +147,9 @@ rows_more p b (f ∷ told) e =
 -- a row has bytes
 row_some : (row : Retirement) → 0 < length (row_text row)
 row_some row =
-    let rest = codes " " ++ signed_decimal row.bytes ++ groups_text row in
-    let parts = length-append (signed_decimal row.position) rest in
-    omega (arith, parts)
+    let parts = length-append (signed_decimal row.position ++ codes " " ++ signed_decimal row.bytes) (groups_text row) in
+    let groups = length-append (group row.regs ++ group row.child ++ group (flat_map cell_numbers row.cells)) (codes "\n") in
+    grind (arith, parts, groups)
 
 -- its row is the last of the log
 pub log_more : (told : List Effect) (e : Effect)
@@ -314,7 +315,7 @@ told_part before row rest p bytes written later is sum low few out start left to
 -- nothing was told of it
 pub told_nothing : (before : LogNotes) (p : ℕ) (written : Option (List ℕ)) → NotesPart (Tells before) TellsPart written written p
 told_nothing before p written start left told e tells at left_is =
-    part_out told e _ start written written (log_more told e) tells.log (prefix_none written _)
+    part_out told e _ start written written (log_more told e) tells.log (0, Appends-nil written)
     (λ n whole. none_whole told e tells.wide n (omega (arith, whole)))
 
 -- of a position of which nothing was noted anything is right

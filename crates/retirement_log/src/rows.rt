@@ -84,7 +84,8 @@ fn push_child(text: &mut Vec<u8>, child: &Option<(ThreadNo, Nums)>) -> Result<()
 
 // Appends a cell and its value, each behind a space.
 fn push_cell(text: &mut Vec<u8>, cell: RecNo, value: i64) -> Result<(), AllocError>
-    ensures { OnOk result (text.new.items ≡ text.old.items ++ spaced (cell_numbers (numbered (cell, value)))) }
+    ensures text { OnOk result (text.new.items ≡ text.old.items ++ spaced (cell_numbers (numbered (cell, value)))) }
+    ensures wide { IsWideCell (numbered (cell, value)) }
 {
     text.extend_from_slice(b" ")?;
     push_number(text, cell.0)?;

@@ -10,5 +10,5 @@ abbrev pub invariant-loop-write : goal.invariant-loop-write
 invariant-loop-write l = record {
   text : l.text.items ≡ l.fn.text.items ++ group (flat_map cell_numbers
       (map numbered (map (new_write l.under l.bundles) (take l.write-index l.old))));
-  wide : All IsWideCell (map numbered (map (new_write l.under l.bundles) (take l.write-index l.old)));
+  wide : All (λ write. IsWideCell (numbered (new_write l.under l.bundles write))) (take l.write-index l.old);
 }
