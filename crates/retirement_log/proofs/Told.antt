@@ -256,7 +256,7 @@ front_is told e =
     ap (λ n. take n (told ++ e ∷ [])) front ∙ take-append_seam told (e ∷ [])
 
 -- the rows of the first of these positions are the first of their rows
-rows_first : (p b n : ℕ) (told : List Effect) → rows_from p b (take n told) ≡ take n (rows_from p b told)
+pub rows_first : (p b n : ℕ) (told : List Effect) → rows_from p b (take n told) ≡ take n (rows_from p b told)
 rows_first p b zero told = refl
 rows_first p b (suc n) [] = refl
 rows_first p b (suc n) (e ∷ told) = ap (λ rows. log_row p (b + size_of e) e ∷ rows) (rows_first (suc p) (b + size_of e) n told)
