@@ -1,7 +1,7 @@
 // The store: the data of a run, what is lent of it and comes home, and what undoes that.
 
 ghost use Rattle.std.specs.Prelude.{◌≡◌, ◌<◌, ◌≤◌, ℕ, [], cond, nat_eq, true, false, not, unwrap_or, length, map, slice_get, slice_set, Some, All, IfOk, OnOk, OnErr};
-ghost use Rattle.std.specs.List.Sorted.{IsStrictlyIncreasing};
+ghost use Rattle.std.specs.List.{IsDistinct};
 ghost use Rattle.std.specs.Ordering.{nat_cmp};
 ghost use Rattle.std.specs.FinMap.{find};
 ghost use Rattle.task_ast.specs.meaning.State.{RegistersOf, number_at};
@@ -178,11 +178,11 @@ impl Store {
         is_home(&self.shelves[lock.0 as usize])
     }
 
-    /// Moves the cells under lock cells out, which rise and are at home; they are then away. The store stays as it was
+    /// Moves the cells under lock cells out, which differ and are at home; they are then away. The store stays as it was
     /// otherwise. Takes no memory.
     pub fn lend(&mut self, held: &Seq<LockNo>, into: &mut Room<Bundle>)
         requires home { All (IsAtHome self.old) held.now }
-        requires rising { IsStrictlyIncreasing held.now }
+        requires distinct { IsDistinct nat_eq held.now }
         requires empty { into.old.items ≡ [] }
         requires room { length held.now ≤ into.old.spare }
         ensures bundles { into.new.items ≡ map (bundle_of self.old.under (state_of self.old)) held.now }

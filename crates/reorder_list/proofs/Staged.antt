@@ -222,9 +222,9 @@ module _ (run : List Subthread) where
               );
               foot =
                   (let Q : Option Footprint → Type 0 = λ o. IfSome o (λ f. f ≡ foot_of first.subthread) in
-                  subst Q (sym first.fresh.unknown) tt);
+                  subst Q (sym first.unknown) tt);
               known = (
-                λ some. absurd (false≢true (sym (ap is_some first.fresh.unknown) ∙ some)),
+                λ some. absurd (false≢true (sym (ap is_some first.unknown) ∙ some)),
                 λ was. absurd (let l = names.taken p was.0 was.1 in let n = allowed.next in omega arith),
               );
             }

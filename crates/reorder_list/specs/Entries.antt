@@ -32,10 +32,9 @@ ComesNext [] p = ⊤
 ComesNext (e ∷ []) p = p ≡ e.pos + 1
 ComesNext (_ ∷ e ∷ entries) p = ComesNext (e ∷ entries) p
 
--- an entry whose first attempt was not posted, and of which it is not known what its subthread touches
+-- an entry whose first attempt was not posted
 pub record IsFresh (e : Entry) : Type 0 where
   pub waits : e.state ≡ Waiting
-  pub unknown : e.foot ≡ None
   pub no_history : e.hist ≡ None
   pub no_lines : e.prints ≡ []
 

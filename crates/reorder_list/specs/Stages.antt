@@ -61,6 +61,7 @@ pub record IsFirst (run : List Subthread) (p : ℕ) (e : Entry) : Type 0 where
   pub position : e.pos ≡ p
   pub attempt : e.attempt ≡ 0
   pub begun : e.begun ≡ p + 1
+  pub unknown : e.foot ≡ None
   pub fresh : IsFresh e
 
 -- each history fits the store

@@ -159,7 +159,7 @@ impl Rol {
         ensures spare { self.old.spare ≤ self.new.spare + 1 }
     {
         self.marks = self.marks.lowered(entry.pos);
-        self.unknown += 1;
+        self.unknown += usize::from(entry.foot.is_none());
         self.watches.push_back_reserved(new_watch(entry.pos));
         self.entries.push_back_reserved(entry);
     }

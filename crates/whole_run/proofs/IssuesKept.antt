@@ -113,6 +113,7 @@ backed_slot run faults start (Rollback every) at entries store backup backed =
       are = λ k d l. same (get_or backup.checkpoints.items k d) (backed.are k d l);
       rising = backed.rising;
       has = backed.has;
+      live = backed.live;
     }
   where
     same : (checkpoint : Checkpoint) → IsCheckpoint run faults start every at store checkpoint
@@ -359,7 +360,8 @@ module _ (batch : Batch) (table : Table) (places : List Place) (entries : List E
             position = refl;
             attempt = refl;
             begun = refl;
-            fresh = record { waits = refl; unknown = refl; no_history = refl; no_lines = refl };
+            unknown = refl;
+            fresh = record { waits = refl; no_history = refl; no_lines = refl };
           }
 
       placed : IsPlaced batch entry

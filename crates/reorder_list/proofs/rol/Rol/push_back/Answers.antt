@@ -1,10 +1,16 @@
-use Rattle.std.proofs.Common.{◌≡◌, ◌∙◌, true, ap, arith, sym, is_some}
+use Rattle.std.proofs.Common.{◌≡◌, ◌∙◌, Bool, true, false, not, refl, ap, arith, sym, is_some}
+use mir.Val.{bool_byte}
 use Rattle.std.proofs.lemmas.Bool.{false≢true}
 use Rattle.reorder_list.specs.Entries.{ComesNext, is_applied}
 use Rattle.reorder_list.proofs.Kept.{kept-push}
 use Rattle.reorder_list.proofs.Unknown.{one_where, one_in, unknown-push}
 use Rattle.reorder_list.proofs.Watching.{pushed-length, asleep-pushed, below-pushed}
 use Rattle.reorder_list.proofs.rol.Rol.push_back.Goals as goal
+
+-- one that is unknown counts one, and another nothing
+counts : (unknown : Bool) → one_where (not unknown) ≡ bool_byte unknown
+counts true = refl
+counts false = refl
 
 pub invariant_of-self : goal.invariant_of-self
 invariant_of-self c =
@@ -28,7 +34,7 @@ invariant_of-self c =
       };
       unknowns =
           (let push = unknown-push entries c.args.entry in
-          let one : one_in c.args.entry ≡ 1 = ap (λ o. one_where (is_some o)) fresh.unknown in
+          let one : one_in c.args.entry ≡ c.from.result = ap one_where c.is_none.ensures ∙ (counts c.is_none.result ∙ sym c.from.ensures) in
           let counted = c.self.invariant.unknowns in
           omega arith);
     })
