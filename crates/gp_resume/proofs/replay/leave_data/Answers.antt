@@ -8,6 +8,7 @@ use Rattle.record_store.specs.declared.given.Bundle.{Bundle}
 use Rattle.record_store.specs.Given.{bundle_of}
 use Rattle.record_store.specs.Lent.{marked, lock_in, put_back, new_write, whole_effect}
 use Rattle.record_store.specs.Stored.{Stored, state_of, IsAtHome}
+use Rattle.record_store.proofs.Homing.{distinct-rising}
 use Rattle.subthread.proofs.HeldLocks.{bundle_locks, bundle_sizes}
 use Rattle.subthread.proofs.Lendings.{came-locks, may-come, home-again}
 use Rattle.gp_resume.specs.meaning.Fitting.{StandsUnder}
@@ -55,6 +56,9 @@ module _ (store : Stored) (under : List (List ℕ)) (layout : store.under ≡ un
           child = effect.child;
           prints = effect.prints;
         }
+
+pub lend-requires-clause-distinct : goal.lend-requires-clause-distinct
+lend-requires-clause-distinct c = distinct-rising c.args.held.now c.requires.rising
 
 pub set_cells-requires-clause-locks : goal.set_cells-requires-clause-locks
 set_cells-requires-clause-locks c =
