@@ -13,8 +13,8 @@ use Rattle.gp_base.specs.declared.fault.Fault.{Fault}
 use Rattle.gp_base.specs.declared.journal.Event.{Event}
 use Rattle.gp_base.specs.declared.journal.Event.TheVariants as event
 use Rattle.dependence.specs.meaning.Restarts.{Dependence, Progress, drains, attempt_of, begun_of, is_live, is_due, least_struck, struck_next, IsFinal}
-use Rattle.dependence.specs.meaning.Journal.{Stage, initial_stage, Drained, MayFollow, Allowed, happens, LawfulFrom, Lawful, stage, Complete}
-use Rattle.dependence.specs.JournalTests.{same_attempt, all_below, is_drained, may_follow, is_allowed, is_lawful_from, is_lawful, is_final, is_complete}
+use Rattle.dependence.specs.meaning.Journal.{Stage, initial_stage, Drained, MayFollow, IsSafe, Allowed, happens, LawfulFrom, Lawful, stage, Complete}
+use Rattle.dependence.specs.JournalTests.{same_attempt, all_below, is_drained, may_follow, is_safe, rest_is_safe, is_allowed, is_lawful_from, is_lawful, is_final, is_complete}
 
 pub same_attempt-decides : (pair other : ℕ × ℕ) → Decides (same_attempt pair other) (pair ≡ other)
 same_attempt-decides pair other = (
@@ -46,6 +46,10 @@ implies-decides : {P : Type 0} (a b : Bool) → Decides b P → Decides (not a |
 implies-decides true b h = (λ e _. h.0 e, λ f. h.1 (f refl))
 implies-decides false b h = (λ _ e. absurd (false≢true e), λ _. refl)
 
+when-decides : {A B : Type 0} (a b : Bool) → Decides a A → Decides b B → Decides (not a || b) (A → B)
+when-decides true b premise conclusion = (λ e _. conclusion.0 e, λ f. conclusion.1 (f (premise.0 refl)))
+when-decides false b premise conclusion = (λ _ x. absurd (false≢true (premise.1 x)), λ _. refl)
+
 true-decides : (b : Bool) → Decides b (b ≡ true)
 true-decides b = (λ e. e, λ e. e)
 
@@ -63,6 +67,27 @@ follow-decides at (Some earlier) = (
 module _ (dependence : Dependence) (faults : List Fault) where
   drained-decides : (at : Progress) → Decides (is_drained dependence faults at) (Drained dependence faults at)
   drained-decides at = Decides-and _ _ (true-decides (drains dependence at.front)) (none-decides (least_struck (is_live at) faults))
+
+  safe-decides : (at : Stage) (q : ℕ) → Decides (is_safe at q) (IsSafe at q)
+  safe-decides at q =
+      Decides-like _
+      (λ h. record { applied = h.0; long = h.1 })
+      (λ safe. (safe.applied, safe.long))
+      (Decides-and _ _ (true-decides (at.applied q)) (le-decides (begun_of at.progress.made q + LONGEST_DELAY) at.progress.front))
+
+  rest-decides : (at : Stage) (p : ℕ) → Decides (rest_is_safe dependence at p)
+      ((q : ℕ) → p ≤ q → q < dependence.count → dependence.block q ≡ dependence.block p → IsSafe at q)
+  rest-decides at p =
+      Decides-like _
+      (λ h q low counted same. h q counted low same)
+      (λ h q counted low same. h q low counted same)
+      (Decides-below_and passes (λ q. p ≤ q → dependence.block q ≡ dependence.block p → IsSafe at q) (all_below passes)
+      (λ q. when-decides (nat_le p q) _ (le-decides p q)
+      (when-decides (nat_eq (dependence.block q) (dependence.block p)) _ (Decides-eqb (dependence.block q) (dependence.block p))
+      (safe-decides at q))) refl (λ _. refl) dependence.count)
+    where
+      passes : ℕ → Bool
+      passes q = not (nat_le p q) || (not (nat_eq (dependence.block q) (dependence.block p)) || is_safe at q)
 
   pub allowed-decides : (at : Stage) (event : Event) → Decides (is_allowed dependence faults at event) (Allowed dependence faults at event)
   allowed-decides at (event.Issue p) =
@@ -112,7 +137,7 @@ module _ (dependence : Dependence) (faults : List Fault) where
       (Decides-and _ _ (Decides-ltb p at.progress.front)
       (Decides-and _ _ (true-decides (at.applied p))
       (Decides-and _ _ (none-decides (least_struck (is_due at.progress) faults))
-      (Decides-or _ _ (le-decides (begun_of at.progress.made p + LONGEST_DELAY) at.progress.front) (drained-decides at.progress))))))
+      (Decides-or _ _ (rest-decides at p) (drained-decides at.progress))))))
 
   lawful_from-decides : (at : Stage) (events : List Event)
       → Decides (is_lawful_from dependence faults at events) (LawfulFrom dependence faults at events)

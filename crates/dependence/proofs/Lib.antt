@@ -17,6 +17,7 @@ pub mod Marking
 pub mod Measured
 pub mod Merging
 pub mod Naming
+pub mod RetiredPositions
 pub mod RestartEnds
 pub mod RestartRows
 pub mod RunBuffers

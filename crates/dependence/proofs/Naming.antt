@@ -1,29 +1,14 @@
 -- The record cells that actions name, and the locks over them. Naming only adds cells (Sub), so that what some actions
 -- name is named by all of them. Where each action names only cells that pass a test, so does what all of them name
 -- (Pass). Locations in footprints are maps of these lists, and a member of a map comes from a member.
-use Rattle.std.proofs.Common.{◌≡◌, ◌⊎◌, inl, inr, ℕ, zero, suc, Bool, true, false, cond, List, [], ◌∷◌, ◌++◌, map, Option, Some, None, refl, sym, ap, subst, ◌∙◌, nat_eq, nat_lt, ◌||◌, Contains, slice_get, get_or, length, ◌<◌, arith}
+use Rattle.std.proofs.Common.{◌≡◌, ◌⊎◌, inl, inr, ℕ, zero, suc, Bool, true, false, cond, List, [], ◌∷◌, map, refl, sym, ap, subst, ◌∙◌, nat_eq, nat_lt, ◌||◌, Contains, get_or, length, ◌<◌, arith}
 use Rattle.std.proofs.lemmas.Bool.{or_left, or_right, or_cases, eqb-true, eq-eqb, false≢true}
-use Rattle.std.proofs.lemmas.List.Elements.{Contains-append_left, Contains-append_right}
 use Rattle.gp_base.specs.declared.footprint.Loc.{Loc}
 use Rattle.gp_base.specs.declared.footprint.Loc.TheVariants as loc
-use Rattle.gp_base.specs.declared.footprint.Footprint.{Footprint}
-use Rattle.task_ast.specs.declared.sync.SyncOp.{SyncOp}
-use Rattle.task_ast.specs.declared.sync.SyncOp.TheVariants as sync
 use Rattle.task_ast.specs.meaning.Action.{Action, Set, Load, Store, Say, Choose, Child, Give, Bring, Arm, NoAction, OneAction}
-use Rattle.task_ast.specs.meaning.Footprint.{with_cell, Named, naming, arm_naming, all_naming, named_by, joined_registers, child_registers, footprint}
-use Rattle.task_ast.specs.Footprint.{lock_footprint}
+use Rattle.task_ast.specs.meaning.Footprint.{with_cell, Named, naming, arm_naming, all_naming, named_by}
 use Rattle.task_ast.specs.laws.Keeps.{NamesOnly, ArmNamesOnly, AllName, WritesOnly, ArmWritesOnly, AllWrite}
-use Rattle.task_ast.specs.meaning.Plain.{Subthread, foot_of}
-use Rattle.task_ast.specs.Plain.{lock_foot_of}
-use Rattle.task_ast.specs.meaning.Under.{under_lock, is_under}
-use Rattle.task_ast.specs.Under.{KeepsToLocks, NamesHeld}
-use Rattle.dependence.specs.meaning.Conflict.{idle_foot, foot_at}
-use Rattle.dependence.specs.Conflict.{Shared, Conflict, ClashIn}
 use Rattle.dependence.specs.meaning.Dependents.{is_member}
-use Rattle.dependence.specs.meaning.Runs.{feet_of}
-use Rattle.dependence.specs.Runs.{lock_feet_of}
-use Rattle.dependence.specs.Touching.{IsApart, LocksClashLaw}
-use Rattle.dependence.proofs.DependentSets.{is_member-is}
 use Rattle.dependence.proofs.Struck.{Contains-head, Contains-later}
 
 -- ---- one cell more

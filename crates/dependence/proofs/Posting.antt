@@ -2,7 +2,7 @@
 -- by locks too (IsWithin), a post that waits by locks has waited for all that it must. A run is so, since a record cell
 -- that two subthreads touch stands under one lock, which both hold, and registers stand in both footprints. With a
 -- subthread that holds no lock only registers are in common.
-use Rattle.std.proofs.Common.{◌≡◌, ◌⊎◌, inl, inr, ℕ, zero, suc, ◌<◌, Bool, true, false, cond, List, [], ◌∷◌, ◌++◌, length, get_or, map, Contains, Option, Some, None, refl, sym, ap, subst, ◌∙◌, arith, nat_eq, ◌&&◌, ◌||◌, slice_get, ◌+◌}
+use Rattle.std.proofs.Common.{◌≡◌, inl, inr, ℕ, zero, suc, ◌<◌, Bool, true, false, cond, List, [], ◌∷◌, length, get_or, map, Contains, Option, Some, None, refl, ap, subst, ◌∙◌, arith, nat_eq, ◌&&◌, slice_get, ◌+◌}
 use Rattle.std.proofs.lemmas.Bool.{both_ways, or_right}
 use Rattle.std.proofs.lemmas.List.Elements.{Contains-push_cases, Contains-append_left}
 use Rattle.gp_base.specs.declared.fault.Fault.{Fault}
@@ -14,16 +14,16 @@ use Rattle.gp_base.specs.declared.journal.Event.TheVariants as event
 use Rattle.task_ast.specs.meaning.Footprint.{named_by, joined_registers, child_registers}
 use Rattle.task_ast.specs.meaning.Plain.{Subthread, foot_of}
 use Rattle.task_ast.specs.Plain.{lock_foot_of}
-use Rattle.dependence.specs.meaning.Conflict.{idle_foot, foot_at, clash_in}
+use Rattle.dependence.specs.meaning.Conflict.{foot_at}
 use Rattle.dependence.specs.Conflict.{Shared, Conflict}
 use Rattle.dependence.specs.meaning.Dependents.{is_member}
 use Rattle.dependence.specs.meaning.Restarts.{Dependence, struck_next, restart_of}
-use Rattle.dependence.specs.meaning.Journal.{Stage, Allowed, happens, restarted, MayPost}
-use Rattle.dependence.specs.meaning.Runs.{feet_of, dependence_of}
+use Rattle.dependence.specs.meaning.Journal.{Stage, happens, restarted, MayPost}
+use Rattle.dependence.specs.meaning.Runs.{feet_of}
 use Rattle.dependence.specs.Runs.{lock_feet_of}
 use Rattle.dependence.specs.Standing.{present, RedoesConflicts, StageStands}
 use Rattle.dependence.specs.RunBuffer.{IsOut}
-use Rattle.dependence.specs.Posting.{IsWithin, by_locks, OutReady, KeepsReady, PostLaw, OutReadyLaw, RunWithinLaw, NoLocksLaw}
+use Rattle.dependence.specs.Posting.{by_locks, OutReady, KeepsReady, PostLaw, OutReadyLaw, RunWithinLaw, NoLocksLaw}
 use Rattle.dependence.proofs.Conflicting.{conflicting-is}
 use Rattle.dependence.proofs.DependentSets.{is_member-is}
 use Rattle.dependence.proofs.RestartEnds.{attempt-push}

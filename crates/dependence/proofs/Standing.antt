@@ -208,11 +208,14 @@ module _ (dependence : Dependence) (redoes_all : RedoesConflicts dependence) (fa
       clean : NamesAttempt faults p (present at p) → ⊥
       clean n =
           elim allowed.safe [
-            | inl long ↦ both_ways (is_due at.progress n.0) (none-among (is_due at.progress) faults n.0 allowed.none_due n.1)
+            | inl rest ↦ both_ways (is_due at.progress n.0) (none-among (is_due at.progress) faults n.0 allowed.none_due n.1)
                 (and_from (is_live at.progress n.0) (nat_le (begun_of at.progress.made (n.0).pos + (n.0).delay) at.progress.front)
                 (names-live faults at.progress p allowed.issued n)
                 (let s = All-contains (λ (fault : Fault). fault.delay ≤ LONGEST_DELAY) faults n.0 short n.1 in
-                let g = ap (begun_of at.progress.made) n.2 in le-leb _ _ (omega arith)))
+                let g = ap (begun_of at.progress.made) n.2 in
+                let issued = allowed.issued in
+                let counted = stands.front_low in
+                let long = (rest p (omega arith) (omega arith) refl).long in le-leb _ _ (omega arith)))
             | inr drained ↦
                 both_ways (is_live at.progress n.0) (none-among (is_live at.progress) faults n.0 drained.1 n.1)
                 (names-live faults at.progress p allowed.issued n)

@@ -1,5 +1,5 @@
 -- Lawful and complete journals in counts of their events.
-use Rattle.std.specs.Prelude.{◌≡◌, ◌↔◌, ℕ, suc, ◌≤◌, Bool, true, false, List, [], ◌∷◌, ◌++◌, length, take, count_by, Some, slice_get}
+use Rattle.std.specs.Prelude.{◌≡◌, ◌↔◌, ℕ, suc, ◌≤◌, Bool, true, false, List, [], ◌∷◌, ◌++◌, length, take, count_by, Contains, Some, slice_get}
 use Rattle.std.specs.List.{IsDistinct}
 use Rattle.gp_base.specs.declared.fault.Fault.{Fault}
 use Rattle.gp_base.specs.declared.journal.Event.{Event}
@@ -59,6 +59,14 @@ abbrev pub OnceLaw : Type 0
 OnceLaw =
     (dependence : Dependence) (faults : List Fault) (events : List Event) → Lawful dependence faults events
     → IsDistinct same_attempt (posts events) × IsDistinct same_attempt (takes events)
+
+-- what has retired was posted and taken at its present attempt
+abbrev pub RanLaw : Type 0
+RanLaw =
+    (dependence : Dependence) (faults : List Fault) (events : List Event) (p : ℕ) → KeepsClean dependence faults
+    → Lawful dependence faults events → Contains (retirements events) p
+    → let made = (stage dependence faults events).progress.made in
+    Contains (posts events) (p, attempt_of made p) × Contains (takes events) (p, attempt_of made p)
 
 -- an attempt after the first is posted only after a restart that redoes the position ended the attempt before
 abbrev pub RunsAgainLaw : Type 0

@@ -27,6 +27,14 @@ abbrev pub may_follow : Stage → Option ℕ → Bool
 may_follow at None = true
 may_follow at (Some earlier) = list_any (λ pair. nat_eq earlier pair.0) at.taken
 
+abbrev pub is_safe : Stage → ℕ → Bool
+is_safe at q = at.applied q && nat_le (begun_of at.progress.made q + LONGEST_DELAY) at.progress.front
+
+-- whether each position of the block of p, from p on, is safe
+abbrev pub rest_is_safe : Dependence → Stage → ℕ → Bool
+rest_is_safe dependence at p =
+    all_below (λ q. not (nat_le p q) || (not (nat_eq (dependence.block q) (dependence.block p)) || is_safe at q)) dependence.count
+
 -- `Allowed` as a test
 abbrev pub is_allowed : Dependence → List Fault → Stage → Event → Bool
 is_allowed dependence faults at (event.Issue p) =
@@ -43,7 +51,7 @@ is_allowed dependence faults at (event.Restart number) =
     nat_eq number (length at.progress.made) && not (is_none (struck_next dependence faults at.progress))
 is_allowed dependence faults at (event.Retire p) =
     nat_eq p at.retired && (nat_lt p at.progress.front && (at.applied p && (none_due faults at.progress
-    && (nat_le (begun_of at.progress.made p + LONGEST_DELAY) at.progress.front || is_drained dependence faults at.progress))))
+    && (rest_is_safe dependence at p || is_drained dependence faults at.progress))))
 
 abbrev pub is_lawful_from : Dependence → List Fault → Stage → List Event → Bool
 is_lawful_from dependence faults at [] = true

@@ -1,5 +1,5 @@
 -- The places that a footprint lets its subthread write and read, and the members of a fold that keep to them.
-use Rattle.std.specs.Prelude.{◌≡◌, ◌⊎◌, ℕ, ℤ, Bool, true, List, Contains, option_map, unwrap_or, position}
+use Rattle.std.specs.Prelude.{◌≡◌, ◌⊎◌, ℕ, ℤ, true, List, Contains, option_map, unwrap_or, position}
 use Rattle.std.specs.List.{list_all}
 use Rattle.gp_base.specs.declared.footprint.Loc.{Loc}
 use Rattle.gp_base.specs.declared.footprint.Loc.TheVariants as loc
@@ -10,7 +10,6 @@ use Rattle.task_ast.specs.meaning.State.{Location, RegistersOf, CellOf, State}
 use Rattle.task_ast.specs.meaning.Effect.{effect}
 use Rattle.task_ast.specs.Damage.{damaged}
 use Rattle.task_ast.specs.meaning.Footprint.{footprint}
-use Rattle.task_ast.specs.laws.Keeps.{AllName}
 use Rattle.task_ast.specs.meaning.Layout.{layout}
 use Rattle.task_ast.specs.Layout.{fits_array}
 use Rattle.task_ast.specs.Fold.{Member}

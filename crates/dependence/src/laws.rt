@@ -1,7 +1,7 @@
 // The laws of the definitions, each on a function with an empty body.
 
 ghost use Rattle.dependence.specs.Laws.{ConflictLaw, SwapLaw, DependentsLaw, LeastLaw, RisingLaw, NextLaw, ShiftLaw, MarksLaw, RunLaw, RaiseLaw, RestartsEndLaw, FewLaw, FrontLaw, GrowLaw, StageLaw, RestartsFirstLaw, RestartsNextLaw, RestartsAllLaw, LawfulTestLaw, CompleteTestLaw};
-ghost use Rattle.dependence.specs.Counts.{CompleteLaw, RetirementsLaw, OnceLaw, RunsAgainLaw, AttemptsLaw};
+ghost use Rattle.dependence.specs.Counts.{CompleteLaw, RetirementsLaw, OnceLaw, RanLaw, RunsAgainLaw, AttemptsLaw};
 ghost use Rattle.dependence.specs.Measure.{LessLaw, LengthLaw};
 ghost use Rattle.dependence.specs.Standing.{ShortLaw, InitialLaw, EventLaw, StandsLaw, RetiredLaw, NoneLiveLaw, PassesLaw, RunRedoesLaw, RunCleanLaw, RunStandsLaw, IssuedLaw};
 ghost use Rattle.dependence.specs.Posting.{PostLaw, OutReadyLaw, RunWithinLaw, NoLocksLaw};
@@ -58,12 +58,14 @@ pub fn journal_laws()
 {}
 
 /// A journal is complete exactly where it is lawful and has an issue and a retirement for each position and all
-/// restarts. Positions retire in order, no attempt is posted or taken twice, and one after the first follows the
-/// restart that ended the one before, of which there are no more than faults.
+/// restarts. Positions retire in order, what has retired was posted and taken at its present attempt, no attempt is
+/// posted or taken twice, and one after the first follows the restart that ended the one before, of which there are no
+/// more than faults.
 pub fn count_laws()
     ensures complete { CompleteLaw }
     ensures retirements { RetirementsLaw }
     ensures once { OnceLaw }
+    ensures ran { RanLaw }
     ensures runs_again { RunsAgainLaw }
     ensures attempts { AttemptsLaw }
 {}

@@ -52,4 +52,5 @@ order-is run =
       redo = dependents (clash_in (feet-are run i));
       before = λ p. before-is run p i;
       settles = λ p. settles-is run p i;
+      block = λ p. p;
     }

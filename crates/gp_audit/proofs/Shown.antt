@@ -15,7 +15,7 @@ use Rattle.gp_base.specs.declared.fault.Fault.{Fault}
 use Rattle.gp_base.specs.declared.journal.Restart.{Restart}
 use Rattle.dependence.specs.meaning.Conflict.{clash_in}
 use Rattle.dependence.specs.meaning.Restarts.{Dependence, drains, begun_of, is_live, is_due, least_struck, struck_next, restart_of, NoneDue, IsFinal}
-use Rattle.dependence.specs.meaning.Journal.{Stage, MayIssue, MayPost, MayTake, MayRetire, MayFollow, Drained}
+use Rattle.dependence.specs.meaning.Journal.{Stage, IsSafe, MayIssue, MayPost, MayTake, MayRetire, MayFollow, Drained}
 use Rattle.dependence.specs.JournalTests.{same_attempt}
 use Rattle.dependence.specs.Standing.{present, StageStands}
 use Rattle.dependence.proofs.Auditing.{contains-decides}
@@ -225,6 +225,25 @@ module _ (at : Stage) (a : Audited) (shows : Shows at a) where
         ↔ ((begun_of at.progress.made p + LONGEST_DELAY ≤ at.progress.front) ⊎ Drained dependence a.faults at.progress)) (sym same)
         (Decides-or _ _ (le-decides (begun_of at.progress.made p + LONGEST_DELAY) at.progress.front) drained-is)
 
+    -- each position is a block of its own
+    alone-safe : (p : ℕ) → p < at.progress.front → at.applied p ≡ true
+        → ((begun_of at.progress.made p + LONGEST_DELAY ≤ at.progress.front) ⊎ Drained dependence a.faults at.progress)
+        ↔ (((q : ℕ) → p ≤ q → q < dependence.count → dependence.block q ≡ dependence.block p → IsSafe at q)
+        ⊎ Drained dependence a.faults at.progress)
+    alone-safe p issued applied = (to, from)
+      where
+        to : (begun_of at.progress.made p + LONGEST_DELAY ≤ at.progress.front) ⊎ Drained dependence a.faults at.progress
+            → ((q : ℕ) → p ≤ q → q < dependence.count → dependence.block q ≡ dependence.block p → IsSafe at q)
+            ⊎ Drained dependence a.faults at.progress
+        to (inl long) = inl (λ q low counted same. subst (IsSafe at) (sym same) (record { applied = applied; long = long }))
+        to (inr drained) = inr drained
+
+        from : ((q : ℕ) → p ≤ q → q < dependence.count → dependence.block q ≡ dependence.block p → IsSafe at q)
+            ⊎ Drained dependence a.faults at.progress
+            → (begun_of at.progress.made p + LONGEST_DELAY ≤ at.progress.front) ⊎ Drained dependence a.faults at.progress
+        from (inl rest) = inl (rest p (omega arith) (let front = stands.front_low in omega arith) refl).long
+        from (inr drained) = inr drained
+
     pub retire-is : (p : ℕ) → (retires a p ≡ true) ↔ MayRetire dependence a.faults at p
     retire-is p = (to, from)
       where
@@ -243,7 +262,7 @@ module _ (at : Stage) (a : Audited) (shows : Shows at a) where
               issued = issued;
               applied = sym is.applied ∙ three.0;
               none_due = none-due.0 four.0;
-              safe = (safe-is p issued).0 four.1;
+              safe = (alone-safe p issued (sym is.applied ∙ three.0)).0 ((safe-is p issued).0 four.1);
             }
 
         from : MayRetire dependence a.faults at p → retires a p ≡ true
@@ -255,7 +274,7 @@ module _ (at : Stage) (a : Audited) (shows : Shows at a) where
             (and_from (nat_lt p (length a.seen)) _ (lt-ltb _ _ (omega arith))
             (and_from (seen_at a.seen p).applied _ (is.applied ∙ may.applied)
             (and_from (is_none (least_of a false)) _ (none-due.1 may.none_due)
-            ((safe-is p issued).1 may.safe))))
+            ((safe-is p issued).1 ((alone-safe p issued may.applied).1 may.safe)))))
 
     restart-same : (p : ℕ) → p < at.progress.front → restart_at a p ≡ restart_of dependence at.progress p
     restart-same p l = let is = seen-is p l in rw (shows.front, is.attempt) refl

@@ -38,4 +38,5 @@ dependence_by steps =
       redo = dependents (clash_in (feet_in steps));
       before = λ p. before_step steps p (slice_get steps p);
       settles = λ p. settles_step (slice_get steps p);
+      block = λ p. p;
     }

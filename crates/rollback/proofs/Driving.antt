@@ -10,15 +10,13 @@ use Rattle.gp_base.specs.declared.journal.Event.{Event}
 use Rattle.gp_base.specs.declared.journal.Event.TheVariants as event
 use Rattle.dependence.specs.meaning.Dependents.{is_member}
 use Rattle.dependence.specs.meaning.Restarts.{Dependence, begun_of, struck_next, restart_of}
-use Rattle.dependence.specs.meaning.Journal.{Stage, initial_stage, happens, restarted, stage_from, stage}
+use Rattle.dependence.specs.meaning.Journal.{Stage, initial_stage, IsSafe, Allowed, LawfulFrom, Lawful, happens, restarted, stage_from, stage}
 use Rattle.dependence.specs.Standing.{NamesIssued}
 use Rattle.dependence.proofs.IssuedPositions.{initial-issued, issued-from}
 use Rattle.dependence.proofs.RestartEnds.{begun-push}
 use Rattle.rollback.specs.meaning.Cuts.{cut_at, back, rolling}
-use Rattle.rollback.specs.meaning.Journal.{IsSafe, AllowedByBlocks, LawfulByBlocksFrom, LawfulByBlocks}
 use Rattle.rollback.specs.Driving.{DrivingStands}
 use Rattle.rollback.proofs.Backs.{redone, unredone, rolls-conflicts}
-use Rattle.rollback.proofs.Standing.{allowed-narrower}
 
 pub initial-driving : (dependence : Dependence) → DrivingStands dependence initial_stage
 initial-driving dependence =
@@ -40,7 +38,7 @@ module _ (cuts : ℕ → Bool) (dependence : Dependence) (faults : List Fault) w
   abbrev rolled : Dependence
   rolled = rolling cuts dependence
 
-  issue-driving : (at : Stage) (p : ℕ) → DrivingStands dependence at → AllowedByBlocks cuts dependence faults at (event.Issue p)
+  issue-driving : (at : Stage) (p : ℕ) → DrivingStands dependence at → Allowed (rolling cuts dependence) faults at (event.Issue p)
       → NamesIssued (happens rolled faults at (event.Issue p)) → DrivingStands dependence (happens rolled faults at (event.Issue p))
   issue-driving at p driving may names =
       record { names_issued = names; begun_rises = rises; begun_low = low; settled = settled }
@@ -114,16 +112,16 @@ module _ (cuts : ℕ → Bool) (dependence : Dependence) (faults : List Fault) w
           ]
 
   -- each event that is allowed keeps it
-  pub happens-driving : (at : Stage) (e : Event) → DrivingStands dependence at → AllowedByBlocks cuts dependence faults at e
+  pub happens-driving : (at : Stage) (e : Event) → DrivingStands dependence at → Allowed (rolling cuts dependence) faults at e
       → DrivingStands dependence (happens rolled faults at e)
   happens-driving at e driving may = go e may (names e may)
     where
-      names : (e : Event) → AllowedByBlocks cuts dependence faults at e → NamesIssued (happens rolled faults at e)
+      names : (e : Event) → Allowed (rolling cuts dependence) faults at e → NamesIssued (happens rolled faults at e)
       names e may =
-          issued-from rolled (rolls-conflicts cuts dependence) faults at (e ∷ []) (allowed-narrower cuts dependence faults at e may, tt)
+          issued-from rolled (rolls-conflicts cuts dependence) faults at (e ∷ []) (may, tt)
           driving.names_issued
 
-      go : (e : Event) → AllowedByBlocks cuts dependence faults at e → NamesIssued (happens rolled faults at e)
+      go : (e : Event) → Allowed (rolling cuts dependence) faults at e → NamesIssued (happens rolled faults at e)
           → DrivingStands dependence (happens rolled faults at e)
       go (event.Issue p) may issued = issue-driving at p driving may issued
       go (event.Post p attempt) may issued =
@@ -149,13 +147,13 @@ module _ (cuts : ℕ → Bool) (dependence : Dependence) (faults : List Fault) w
             settled = λ q settles l. (let was = driving.settled q settles l in let oldest = may.oldest in omega arith);
           }
 
-  driving-from : (at : Stage) (events : List Event) → DrivingStands dependence at → LawfulByBlocksFrom cuts dependence faults at events
+  driving-from : (at : Stage) (events : List Event) → DrivingStands dependence at → LawfulFrom (rolling cuts dependence) faults at events
       → DrivingStands dependence (stage_from rolled faults at events)
   driving-from at [] driving lawful = driving
   driving-from at (e ∷ rest) driving lawful =
       driving-from (happens rolled faults at e) rest (happens-driving at e driving lawful.0) lawful.1
 
   -- and so it holds after each journal that is lawful by blocks
-  pub driving-journal : (events : List Event) → LawfulByBlocks cuts dependence faults events
+  pub driving-journal : (events : List Event) → Lawful (rolling cuts dependence) faults events
       → DrivingStands dependence (stage rolled faults events)
   driving-journal events lawful = driving-from initial_stage events (initial-driving dependence) lawful

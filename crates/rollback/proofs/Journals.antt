@@ -7,7 +7,7 @@ use Rattle.gp_base.specs.declared.journal.Restart.{Restart}
 use Rattle.gp_base.specs.declared.journal.Event.{Event}
 use Rattle.gp_base.specs.declared.journal.Event.TheVariants as event
 use Rattle.dependence.specs.meaning.Restarts.{Dependence, IsFinal, Progress, struck_next, advance, advance_by, progress}
-use Rattle.dependence.specs.meaning.Journal.{Stage, initial_stage, Lawful, happens, restarted, stage_from, stage}
+use Rattle.dependence.specs.meaning.Journal.{Stage, initial_stage, Allowed, LawfulFrom, Lawful, Complete, happens, restarted, stage_from, stage}
 use Rattle.dependence.specs.Counts.{HasAll}
 use Rattle.dependence.specs.Standing.{AreShort}
 use Rattle.dependence.proofs.Counts.{counted}
@@ -15,10 +15,9 @@ use Rattle.dependence.proofs.Standing.{issue-passes}
 use Rattle.dependence.proofs.RestartEnds.{made-first, made-all, struck-is}
 use Rattle.rollback.specs.meaning.Cuts.{rolling}
 use Rattle.rollback.specs.Cuts.{SettlesCut, rollbacks}
-use Rattle.rollback.specs.meaning.Journal.{AllowedByBlocks, LawfulByBlocksFrom, LawfulByBlocks, CompleteByBlocks}
 use Rattle.rollback.specs.Standing.{BlocksStand}
 use Rattle.rollback.proofs.Backs.{rolls-struck}
-use Rattle.rollback.proofs.Standing.{initial-blocks, happens-blocks, lawful-narrower}
+use Rattle.rollback.proofs.Standing.{initial-blocks, happens-blocks}
 
 module _ (cuts : ℕ → Bool) (dependence : Dependence) (faults : List Fault) where
   abbrev rolled : Dependence
@@ -28,7 +27,7 @@ module _ (cuts : ℕ → Bool) (dependence : Dependence) (faults : List Fault) w
   abbrev Reached : Progress → Type 0
   Reached at = (k : ℕ) × (at ≡ progress rolled faults k)
 
-  reached-happens : (at : Stage) (e : Event) → BlocksStand cuts dependence faults at → AllowedByBlocks cuts dependence faults at e
+  reached-happens : (at : Stage) (e : Event) → BlocksStand cuts dependence faults at → Allowed (rolling cuts dependence) faults at e
       → Reached at.progress → Reached (happens rolled faults at e).progress
   reached-happens at (event.Issue p) blocks may reached = (suc reached.0, issued ∙ ap (advance rolled faults) reached.1)
     where
@@ -49,18 +48,18 @@ module _ (cuts : ℕ → Bool) (dependence : Dependence) (faults : List Fault) w
 
   module _ (settled : SettlesCut cuts dependence) (short : AreShort faults) where
     reached-from : (at : Stage) (events : List Event) → BlocksStand cuts dependence faults at
-        → LawfulByBlocksFrom cuts dependence faults at events → Reached at.progress → Reached (stage_from rolled faults at events).progress
+        → LawfulFrom (rolling cuts dependence) faults at events → Reached at.progress → Reached (stage_from rolled faults at events).progress
     reached-from at [] blocks lawful reached = reached
     reached-from at (e ∷ rest) blocks lawful reached =
         reached-from (happens rolled faults at e) rest
         (happens-blocks cuts dependence faults settled short at e blocks lawful.0) lawful.1
         (reached-happens at e blocks lawful.0 reached)
 
-    reached : (events : List Event) → LawfulByBlocks cuts dependence faults events → Reached (stage rolled faults events).progress
+    reached : (events : List Event) → Lawful (rolling cuts dependence) faults events → Reached (stage rolled faults events).progress
     reached events lawful = reached-from initial_stage events (initial-blocks cuts dependence faults) lawful (0, refl)
 
     -- the restarts of a lawful journal are the first of all rollbacks
-    pub rollbacks-first : (events : List Event) → LawfulByBlocks cuts dependence faults events
+    pub rollbacks-first : (events : List Event) → Lawful (rolling cuts dependence) faults events
         → (rest : List Restart) × (rollbacks cuts dependence faults ≡ (stage rolled faults events).progress.made ++ rest)
     rollbacks-first events lawful =
         let r = reached events lawful in
@@ -68,7 +67,7 @@ module _ (cuts : ℕ → Bool) (dependence : Dependence) (faults : List Fault) w
         (h.0, h.1 ∙ ap (λ at. at.made ++ h.0) (sym r.1))
 
     -- one may come next exactly where the next of all rollbacks has the present front
-    pub rollbacks-next : (events : List Event) → LawfulByBlocks cuts dependence faults events
+    pub rollbacks-next : (events : List Event) → Lawful (rolling cuts dependence) faults events
         → (struck_next rolled faults (stage rolled faults events).progress ≢ None)
         ↔ IsSomeAnd (slice_get (rollbacks cuts dependence faults) (length (stage rolled faults events).progress.made))
         (λ restart. restart.front ≡ (stage rolled faults events).progress.front)
@@ -80,7 +79,7 @@ module _ (cuts : ℕ → Bool) (dependence : Dependence) (faults : List Fault) w
         (sym r.1) (struck-is rolled (rolls-struck cuts dependence) faults r.0)
 
     -- a complete journal has all rollbacks
-    pub rollbacks-all : (events : List Event) → CompleteByBlocks cuts dependence faults events
+    pub rollbacks-all : (events : List Event) → Complete (rolling cuts dependence) faults events
         → (stage rolled faults events).progress.made ≡ rollbacks cuts dependence faults
     rollbacks-all events complete =
         let r = reached events complete.lawful in
@@ -88,26 +87,23 @@ module _ (cuts : ℕ → Bool) (dependence : Dependence) (faults : List Fault) w
         ∙ made-all rolled (rolls-struck cuts dependence) faults r.0 (subst (IsFinal rolled faults) r.1 complete.final)
 
     -- and an issue and a retirement for each position
-    pub complete-has_all : (events : List Event) → LawfulByBlocks cuts dependence faults events
-        → CompleteByBlocks cuts dependence faults events ↔ HasAll rolled faults events
+    pub complete-has_all : (events : List Event) → Lawful (rolling cuts dependence) faults events
+        → Complete (rolling cuts dependence) faults events ↔ HasAll rolled faults events
     complete-has_all events lawful = (forward, backward)
       where
         at : Stage
         at = stage rolled faults events
 
-        narrower : Lawful rolled faults events
-        narrower = lawful-narrower cuts dependence faults events lawful
-
-        forward : CompleteByBlocks cuts dependence faults events → HasAll rolled faults events
+        forward : Complete (rolling cuts dependence) faults events → HasAll rolled faults events
         forward complete =
-            let h = counted rolled faults initial_stage events narrower in
+            let h = counted rolled faults initial_stage events lawful in
             let f = h.front_is in
             let m = h.made_is in
             let r = h.retired_is in
             let passed = complete.final.passed in
             let retired = complete.retired in
             let made = ap length (rollbacks-all events complete) in
-            record { lawful = narrower; issues = omega arith; restarts = omega arith; retirements = omega arith }
+            record { lawful = lawful; issues = omega arith; restarts = omega arith; retirements = omega arith }
 
         none_left : length at.progress.made ≡ length (rollbacks cuts dependence faults) → (o : Option ℕ)
             → struck_next rolled faults at.progress ≡ o → o ≡ None
@@ -117,9 +113,9 @@ module _ (cuts : ℕ → Bool) (dependence : Dependence) (faults : List Fault) w
             (slice_get_past (rollbacks cuts dependence faults) (length at.progress.made) (omega arith))
             ((rollbacks-next events lawful).0 (λ none. cc (sym e ∙ none))))
 
-        backward : HasAll rolled faults events → CompleteByBlocks cuts dependence faults events
+        backward : HasAll rolled faults events → Complete (rolling cuts dependence) faults events
         backward has =
-            let h = counted rolled faults initial_stage events narrower in
+            let h = counted rolled faults initial_stage events lawful in
             let f = h.front_is in
             let m = h.made_is in
             let r = h.retired_is in

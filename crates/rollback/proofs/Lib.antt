@@ -1,6 +1,5 @@
 pub mod Backs
 pub mod BlockRows
-pub mod Deciding
 pub mod Driving
 pub mod Journals
 pub mod Multiples

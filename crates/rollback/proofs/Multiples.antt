@@ -4,11 +4,10 @@ use Rattle.std.proofs.lemmas.Bool.{false_from_ne_true, eqb-true, eq-eqb, or_left
 use Rattle.std.proofs.lemmas.Nat.{mod_below, mod-mul-add}
 use Rattle.std.proofs.Math.Nat.{div-add-mod, mul-mod_right, add-mod_right}
 use Rattle.dependence.specs.meaning.Restarts.{Dependence}
-use Rattle.dependence.specs.meaning.Journal.{Stage}
+use Rattle.dependence.specs.meaning.Journal.{Stage, IsSafe}
 use Rattle.rollback.specs.meaning.Cuts.{is_cut, cut_at}
-use Rattle.rollback.specs.meaning.Journal.{IsNextCut, IsSafe, RestIsSafe}
 use Rattle.rollback.specs.Driving.{DrivingStands, multiple_at}
-use Rattle.rollback.proofs.Backs.{settle-cuts, cut-above, cut-under}
+use Rattle.rollback.proofs.Backs.{settle-cuts, cut-low, cut-above, cut-under}
 
 module _ (every : ℕ) (some : 1 ≤ every) where
   -- ---- multiples
@@ -53,6 +52,20 @@ module _ (every : ℕ) (some : 1 ≤ every) where
     pub multiple-cut : (p : ℕ) → multiple_at every p ≤ cut_at cuts p
     multiple-cut p = cut-above cuts (multiple_at every p) p (is_cut-multiple (multiple_at every p) (multiple-divides p)) (multiple-low p)
 
+    -- a position of the same block lies below the next multiple
+    pub rest-is-safe : (at : Stage) (p : ℕ) → ((q : ℕ) → p ≤ q → q < multiple_at every p + every → IsSafe at q)
+        → (q : ℕ) → p ≤ q → cut_at cuts q ≡ cut_at cuts p → IsSafe at q
+    rest-is-safe at p safe q low same =
+        elim (cases_lt q (multiple_at every p + every)) [
+          | inl within ↦ safe q low within
+          | inr past ↦
+              absurd
+              (let next = cut-above cuts (multiple_at every p + every) q (is_cut-multiple (multiple_at every p + every) (next-divides p)) past in
+              let own = cut-low cuts p in
+              let above = multiple-above p in
+              omega arith)
+        ]
+
     module _ (at : Stage) (driving : DrivingStands dependence at) where
       -- past what has retired a position that was issued is no cut between two multiples
       between-uncut : (p q : ℕ) → multiple_at every p < q → q < multiple_at every p + every → at.retired < q → q < at.progress.front
@@ -93,24 +106,6 @@ module _ (every : ℕ) (some : 1 ≤ every) where
                     or_from (q % every == 0) (dependence.settles q) (between-divides p q (omega arith) (omega arith))
                     (subst (λ r. dependence.settles r ≡ false) same none))
               ]
-
-      pub next-cut : (p : ℕ) → at.retired ≤ p → multiple_at every p + every ≤ at.progress.front
-          → IsNextCut cuts p (multiple_at every p + every)
-      next-cut p unretired issued =
-          record {
-            above = multiple-above p;
-            cut = is_cut-multiple (multiple_at every p + every) (next-divides p);
-            none_between = λ q low high. (
-                let multiple = multiple-low p in
-                between-uncut p q (omega arith) high (omega arith) (omega arith)
-                );
-          }
-
-      -- so it ends the rest of the block
-      pub rest-is-safe : (p : ℕ) → at.retired ≤ p → multiple_at every p + every ≤ at.progress.front
-          → ((q : ℕ) → p ≤ q → q < multiple_at every p + every → IsSafe at q) → RestIsSafe cuts at p
-      rest-is-safe p unretired issued safe =
-          record { end = multiple_at every p + every; is_next = next-cut p unretired issued; issued = issued; safe = safe }
 
       -- all before the block is applied exactly where all before the multiple is
       pub whole-cut : ((q : ℕ) → q < at.retired → at.applied q ≡ true) → (p : ℕ) → p < at.progress.front

@@ -2,79 +2,27 @@
 -- block of which some has retired was issued, and no fault names its attempt; so it is not struck, and no rollback goes
 -- back before what has retired. Where the present attempt is posted all before its block is applied, so that what is
 -- out is of one block. Each event that is allowed by blocks keeps both.
-use Rattle.std.proofs.Common.{◌≡◌, inl, inr, ℕ, ◌+◌, ◌<◌, ◌≤◌, Bool, true, false, cond, nat_eq, ◌&&◌, List, [], ◌∷◌, ◌++◌, Contains, Option, Some, None, refl, sym, ap, subst, ◌∙◌, arith, nat_le}
-use Rattle.std.proofs.lemmas.Bool.{both_ways, false_from_ne_true, le-leb, and_from, or_cases, or_right, eqb-true, cases_lt}
-use Rattle.std.proofs.lemmas.List.Elements.{All-contains, Contains-push_cases}
+use Rattle.std.proofs.Common.{◌≡◌, inl, inr, ℕ, ◌+◌, ◌<◌, ◌≤◌, Bool, true, false, nat_eq, nat_lt, List, [], ◌∷◌, Contains, Option, Some, None, refl, sym, ap, subst, arith, nat_le}
+use Rattle.std.proofs.lemmas.Bool.{both_ways, false_from_ne_true, le-leb, and_from, or_cases, or_right, lt-ltb, eqb-true, cases_lt}
+use Rattle.std.proofs.lemmas.List.Elements.{All-contains}
 use Rattle.gp_base.specs.declared.limits.TheConstants.{LONGEST_DELAY}
 use Rattle.gp_base.specs.declared.fault.Fault.{Fault}
 use Rattle.gp_base.specs.declared.journal.Event.{Event}
 use Rattle.gp_base.specs.declared.journal.Event.TheVariants as event
 use Rattle.dependence.specs.meaning.Restarts.{Dependence, drains, begun_of, is_live, is_due, struck_next, NoneDue, NoneLive}
-use Rattle.dependence.specs.meaning.Journal.{Stage, initial_stage, Allowed, LawfulFrom, Lawful, Complete, happens, restarted, stage_from, stage}
+use Rattle.dependence.specs.meaning.Journal.{Stage, initial_stage, Drained, IsSafe, Allowed, LawfulFrom, happens, restarted, stage_from}
 use Rattle.dependence.specs.Standing.{present, NamesAttempt, AreShort, KeepsRetired}
 use Rattle.dependence.specs.RunBuffer.{IsOut}
 use Rattle.dependence.proofs.Standing.{happens-stands, initial-stands}
 use Rattle.dependence.proofs.Struck.{none-among, struck-live, names-live}
 use Rattle.rollback.specs.meaning.Cuts.{cut_at, rolling}
 use Rattle.rollback.specs.Cuts.{SettlesCut}
-use Rattle.rollback.specs.meaning.Journal.{AllowedByBlocks, LawfulByBlocksFrom, LawfulByBlocks, CompleteByBlocks}
 use Rattle.rollback.specs.Standing.{BlocksStand}
-use Rattle.rollback.proofs.Backs.{cut-low, cut-kept, cut-above, back-within, redone, unredone, attempt-raised, attempt-kept, rolls-conflicts}
+use Rattle.rollback.proofs.Backs.{cut-low, cut-kept, cut-rises, cut-above, back-within, redone, attempt-kept, rolls-conflicts}
 
 module _ (cuts : ℕ → Bool) (dependence : Dependence) (faults : List Fault) where
   abbrev rolled : Dependence
   rolled = rolling cuts dependence
-
-  -- ---- what is lawful by blocks is lawful
-
-  pub allowed-narrower : (at : Stage) (e : Event) → AllowedByBlocks cuts dependence faults at e → Allowed rolled faults at e
-  allowed-narrower at (event.Issue p) may = may
-  allowed-narrower at (event.Post p attempt) may = may.may
-  allowed-narrower at (event.Take p attempt applies) may = may
-  allowed-narrower at (event.Restart number) may = may
-  allowed-narrower at (event.Retire p) may =
-      elim may.cleared [
-        | inl rest ↦
-            (let low = rest.issued in
-            let high = rest.is_next.above in
-            let safe = rest.safe p (omega arith) high in
-            record { oldest = may.oldest; issued = omega arith; applied = safe.applied; none_due = may.none_due; safe = inl safe.long })
-        | inr all ↦
-            record { oldest = may.oldest; issued = all.issued; applied = all.applied; none_due = may.none_due; safe = inr all.drained }
-      ]
-
-  narrower-from : (at : Stage) (events : List Event) → LawfulByBlocksFrom cuts dependence faults at events
-      → LawfulFrom rolled faults at events
-  narrower-from at [] lawful = tt
-  narrower-from at (e ∷ rest) lawful = (allowed-narrower at e lawful.0, narrower-from (happens rolled faults at e) rest lawful.1)
-
-  pub lawful-narrower : (events : List Event) → LawfulByBlocks cuts dependence faults events → Lawful rolled faults events
-  lawful-narrower events lawful = narrower-from initial_stage events lawful
-
-  pub complete-narrower : (events : List Event) → CompleteByBlocks cuts dependence faults events → Complete rolled faults events
-  complete-narrower events complete =
-      record { lawful = lawful-narrower events complete.lawful; final = complete.final; retired = complete.retired }
-
-  -- ---- lists that are lawful by blocks
-
-  front-from : (at : Stage) (events rest : List Event) → LawfulByBlocksFrom cuts dependence faults at (events ++ rest)
-      → LawfulByBlocksFrom cuts dependence faults at events
-  front-from at [] rest lawful = tt
-  front-from at (e ∷ events) rest lawful = (lawful.0, front-from (happens rolled faults at e) events rest lawful.1)
-
-  pub lawful-front : (events rest : List Event) → LawfulByBlocks cuts dependence faults (events ++ rest)
-      → LawfulByBlocks cuts dependence faults events
-  lawful-front events rest lawful = front-from initial_stage events rest lawful
-
-  push-from : (at : Stage) (events : List Event) (e : Event) → LawfulByBlocksFrom cuts dependence faults at events
-      → AllowedByBlocks cuts dependence faults (stage_from rolled faults at events) e
-      → LawfulByBlocksFrom cuts dependence faults at (events ++ e ∷ [])
-  push-from at [] e lawful may = (may, tt)
-  push-from at (first ∷ events) e lawful may = (lawful.0, push-from (happens rolled faults at first) events e lawful.1 may)
-
-  pub lawful-push : (events : List Event) (e : Event) → LawfulByBlocks cuts dependence faults events
-      → AllowedByBlocks cuts dependence faults (stage rolled faults events) e → LawfulByBlocks cuts dependence faults (events ++ e ∷ [])
-  lawful-push events e lawful may = push-from initial_stage events e lawful may
 
   -- ---- what stands
 
@@ -84,8 +32,14 @@ module _ (cuts : ℕ → Bool) (dependence : Dependence) (faults : List Fault) w
         stands = initial-stands rolled faults;
         issued = λ p counted begun. absurd (omega arith);
         clean = λ p counted begun. absurd (omega arith);
-        ready = λ p q posted. absurd (let none = posted.1 in omega arith);
       }
+
+  -- before the block of a present attempt that is posted all is applied
+  block-ready : (at : Stage) → BlocksStand cuts dependence faults at → (p q : ℕ) → Contains at.posted (p, present at p)
+      → q < cut_at cuts p → at.applied q ≡ true
+  block-ready at blocks p q posted before =
+      blocks.stands.ready p q posted (let low = cut-low cuts p in omega arith)
+      (or_right (dependence.clash q p) (nat_lt q (cut_at cuts p)) (lt-ltb q (cut_at cuts p) before))
 
   -- a block of which some has retired is not struck
   unstruck : (at : Stage) → BlocksStand cuts dependence faults at → (struck : ℕ) → struck_next rolled faults at.progress ≡ Some struck
@@ -128,7 +82,7 @@ module _ (cuts : ℕ → Bool) (dependence : Dependence) (faults : List Fault) w
       posted = subst (λ a. Contains at.posted (p, a)) out_p.present out_p.posted
 
       applied : at.applied p ≡ true
-      applied = blocks.ready q p (subst (λ a. Contains at.posted (q, a)) out_q.present out_q.posted) before
+      applied = block-ready at blocks q p (subst (λ a. Contains at.posted (q, a)) out_q.present out_q.posted) before
 
   pub one-block : (at : Stage) (p attempt q other : ℕ) → BlocksStand cuts dependence faults at → IsOut at p attempt → IsOut at q other
       → cut_at cuts p ≡ cut_at cuts q
@@ -148,7 +102,7 @@ module _ (cuts : ℕ → Bool) (dependence : Dependence) (faults : List Fault) w
       → at.applied q ≡ false
   later-waits at p q blocks absent before =
       false_from_ne_true (at.applied q)
-      (λ e. both_ways (at.applied p) absent (blocks.ready q p (blocks.stands.applied_posted q unretired e) before))
+      (λ e. both_ways (at.applied p) absent (block-ready at blocks q p (blocks.stands.applied_posted q unretired e) before))
     where
       unretired : at.retired ≤ q
       unretired =
@@ -166,7 +120,7 @@ module _ (cuts : ℕ → Bool) (dependence : Dependence) (faults : List Fault) w
     none-posted q from posted =
         elim (cases_lt p (cut_at cuts q)) [
           | inl later ↦
-              unposted p refl (blocks.stands.applied_posted p (let low = cut-low cuts p in omega arith) (blocks.ready q p posted later))
+              unposted p refl (blocks.stands.applied_posted p (let low = cut-low cuts p in omega arith) (block-ready at blocks q p posted later))
           | inr within ↦
               unposted q
               (let least = cut-kept cuts p q from in
@@ -192,17 +146,14 @@ module _ (cuts : ℕ → Bool) (dependence : Dependence) (faults : List Fault) w
 
   pub first-posts : (at : Stage) (p : ℕ) → BlocksStand cuts dependence faults at → p < at.progress.front → at.applied p ≡ false
       → ((q : ℕ) → q < p → at.applied q ≡ true) → ¬ IsOut at p (present at p)
-      → AllowedByBlocks cuts dependence faults at (event.Post p (present at p))
+      → Allowed (rolling cuts dependence) faults at (event.Post p (present at p))
   first-posts at p blocks issued absent whole home =
       record {
-        may = record {
-          issued = issued;
-          unretired = unretired;
-          present = refl;
-          unposted = λ posted. home (record { posted = posted; untaken = untaken; present = refl });
-          ready = λ q l c. whole q l;
-        };
-        before_block = λ q l. whole q (let cut = cut-low cuts p in omega arith);
+        issued = issued;
+        unretired = unretired;
+        present = refl;
+        unposted = λ posted. home (record { posted = posted; untaken = untaken; present = refl });
+        ready = λ q l c. whole q l;
       }
     where
       unretired : at.retired ≤ p
@@ -253,33 +204,33 @@ module _ (cuts : ℕ → Bool) (dependence : Dependence) (faults : List Fault) w
               ]
         ]
 
-    retire-clear : (at : Stage) (p : ℕ) → BlocksStand cuts dependence faults at → AllowedByBlocks cuts dependence faults at (event.Retire p)
+    retire-clear : (at : Stage) (p : ℕ) → BlocksStand cuts dependence faults at → Allowed (rolling cuts dependence) faults at (event.Retire p)
         → AreClear (happens rolled faults at (event.Retire p))
     retire-clear at p blocks may q counted begun =
-        elim may.cleared [
-          | inl rest ↦
-              elim (cases_lt q p) [
-                | inl before ↦
-                    (let a = may.oldest in
-                    let b = blocks.stands.retired_low in
-                    (omega arith, blocks.stands.retired_clean q (omega arith)))
-                | inr later ↦
-                    elim (cases_lt q rest.end) [
-                      | inl within ↦
-                          (let b = rest.issued in
-                          (omega arith, safe-clean at q may.none_due (omega arith) (rest.safe q later within).long))
-                      | inr past ↦
-                          absurd
-                          (let c = cut-above cuts rest.end q rest.is_next.cut past in
-                          let d = rest.is_next.above in
-                          omega arith)
-                    ]
-              ]
-          | inr all ↦
-              (let issued = all.issued in
-              let below : q < at.progress.front = drained-below at p q counted begun issued all.drained.0 in
-              (below, live-clean at q all.drained.1 below))
+        elim (cases_lt q p) [
+          | inl before ↦
+              (let a = may.oldest in
+              let b = blocks.stands.retired_low in
+              (omega arith, blocks.stands.retired_clean q (omega arith)))
+          | inr later ↦ elim may.safe [ inl rest ↦ long later (rest q later counted (same later)) | inr drained ↦ left drained ]
         ]
+      where
+        same : p ≤ q → cut_at cuts q ≡ cut_at cuts p
+        same later =
+            let kept = cut-kept cuts q p (omega arith) in
+            let low = cut-rises cuts p q later in
+            omega arith
+
+        long : p ≤ q → IsSafe at q → (q < at.progress.front) × ¬ NamesAttempt faults q (present at q)
+        long later safe =
+            let oldest = may.oldest in
+            let issued = (blocks.stands.posted_low q (present at q) (blocks.stands.applied_posted q (omega arith) safe.applied)).0 in
+            (issued, safe-clean at q may.none_due issued safe.long)
+
+        left : Drained rolled faults at.progress → (q < at.progress.front) × ¬ NamesAttempt faults q (present at q)
+        left drained =
+            let below : q < at.progress.front = drained-below at p q counted begun may.issued drained.0 in
+            (below, live-clean at q drained.1 below)
 
     restart-clear : (at : Stage) (o : Option ℕ) → struck_next rolled faults at.progress ≡ o → BlocksStand cuts dependence faults at
         → AreClear (restarted rolled at o)
@@ -297,49 +248,7 @@ module _ (cuts : ℕ → Bool) (dependence : Dependence) (faults : List Fault) w
         kept : present (restarted rolled at (Some struck)) q ≡ present at q
         kept = attempt-kept cuts dependence at struck q before
 
-    -- before the block of a present attempt that is posted all is applied
-    abbrev AreReady : Stage → Type 0
-    AreReady at = (p q : ℕ) → Contains at.posted (p, present at p) → q < cut_at cuts p → at.applied q ≡ true
-
-    post-ready : (at : Stage) (p attempt : ℕ) → BlocksStand cuts dependence faults at
-        → AllowedByBlocks cuts dependence faults at (event.Post p attempt) → AreReady (happens rolled faults at (event.Post p attempt))
-    post-ready at p attempt blocks may r q posted l =
-        elim (Contains-push_cases at.posted (p, attempt) (r, present at r) posted) [
-          | inl old ↦ blocks.ready r q old l
-          | inr new ↦ (let same : p ≡ r = ap (λ x. x.0) new in may.before_block q (subst (λ x. q < cut_at cuts x) (sym same) l))
-        ]
-
-    -- what a rollback does not redo, and what is before its block, lies before the cut
-    restart-ready : (at : Stage) (o : Option ℕ) → struck_next rolled faults at.progress ≡ o → BlocksStand cuts dependence faults at
-        → AreReady (restarted rolled at o)
-    restart-ready at None e blocks p q posted l = blocks.ready p q posted l
-    restart-ready at (Some struck) e blocks p q posted l =
-        elim (cases_lt p (cut_at cuts struck)) [
-          | inl before ↦
-              (let cut = cut-low cuts p in
-              ap (λ b. cond b false (at.applied q)) (unredone cuts struck at.progress.front q (omega arith))
-              ∙ blocks.ready p q
-              (subst (λ attempt. Contains at.posted (p, attempt)) (attempt-kept cuts dependence at struck p before) posted)
-              l)
-          | inr from ↦
-              absurd
-              (let low = blocks.stands.posted_low p (present (restarted rolled at (Some struck)) p) posted in
-              let raised = attempt-raised cuts dependence at struck p from low.0 in
-              let most = low.1 in
-              omega arith)
-        ]
-
-    happens-ready : (at : Stage) (e : Event) → BlocksStand cuts dependence faults at → AllowedByBlocks cuts dependence faults at e
-        → AreReady (happens rolled faults at e)
-    happens-ready at (event.Issue p) blocks may r q posted l = blocks.ready r q posted l
-    happens-ready at (event.Post p attempt) blocks may r q posted l = post-ready at p attempt blocks may r q posted l
-    happens-ready at (event.Take p attempt applies) blocks may r q posted l =
-        or_right (applies && nat_eq q p) (at.applied q) (blocks.ready r q posted l)
-    happens-ready at (event.Restart number) blocks may r q posted l =
-        restart-ready at (struck_next rolled faults at.progress) refl blocks r q posted l
-    happens-ready at (event.Retire p) blocks may r q posted l = blocks.ready r q posted l
-
-    happens-clear : (at : Stage) (e : Event) → BlocksStand cuts dependence faults at → AllowedByBlocks cuts dependence faults at e
+    happens-clear : (at : Stage) (e : Event) → BlocksStand cuts dependence faults at → Allowed (rolling cuts dependence) faults at e
         → AreClear (happens rolled faults at e)
     happens-clear at (event.Issue p) blocks may q counted begun =
         let l = blocks.issued q counted begun in (omega arith, blocks.clean q counted begun)
@@ -349,20 +258,19 @@ module _ (cuts : ℕ → Bool) (dependence : Dependence) (faults : List Fault) w
         restart-clear at (struck_next rolled faults at.progress) refl blocks q counted begun
     happens-clear at (event.Retire p) blocks may q counted begun = retire-clear at p blocks may q counted begun
 
-    pub happens-blocks : (at : Stage) (e : Event) → BlocksStand cuts dependence faults at → AllowedByBlocks cuts dependence faults at e
+    pub happens-blocks : (at : Stage) (e : Event) → BlocksStand cuts dependence faults at → Allowed (rolling cuts dependence) faults at e
         → BlocksStand cuts dependence faults (happens rolled faults at e)
     happens-blocks at e blocks may =
         let after = happens-clear at e blocks may in
         record {
           stands =
               happens-stands rolled (rolls-conflicts cuts dependence) faults short at e (keeps-retired at blocks) blocks.stands
-              (allowed-narrower at e may);
+              may;
           issued = λ q counted begun. (after q counted begun).0;
           clean = λ q counted begun. (after q counted begun).1;
-          ready = happens-ready at e blocks may;
         }
 
     pub blocks-from : (at : Stage) (events : List Event) → BlocksStand cuts dependence faults at
-        → LawfulByBlocksFrom cuts dependence faults at events → BlocksStand cuts dependence faults (stage_from rolled faults at events)
+        → LawfulFrom (rolling cuts dependence) faults at events → BlocksStand cuts dependence faults (stage_from rolled faults at events)
     blocks-from at [] blocks lawful = blocks
     blocks-from at (e ∷ rest) blocks lawful = blocks-from (happens rolled faults at e) rest (happens-blocks at e blocks lawful.0) lawful.1

@@ -2,8 +2,8 @@
 -- plain run leaves. No histories are kept; with those that could have been kept what is held is a history buffer
 -- (as_buffer), so that each event but a rollback goes as there (RunBuffers). A rollback puts back the fold before the
 -- cut, and what is applied after it lies before the cut.
-use Rattle.std.proofs.Common.{◌≡◌, inl, inr, ℕ, zero, suc, ◌+◌, ◌<◌, ◌≤◌, Bool, true, false, cond, ◌&&◌, ◌||◌, List, [], ◌∷◌, Contains, Option, Some, None, nat_eq, refl, sym, ap, subst, ◌∙◌, arith, slice_get}
-use Rattle.std.proofs.lemmas.Bool.{false≢true, false_from_ne_true, both_ways, or_right, cases_lt}
+use Rattle.std.proofs.Common.{◌≡◌, inl, inr, ℕ, zero, suc, ◌+◌, ◌<◌, ◌≤◌, Bool, true, false, cond, ◌&&◌, ◌||◌, List, [], ◌∷◌, Contains, Option, Some, None, nat_eq, nat_lt, refl, sym, ap, subst, ◌∙◌, arith, slice_get}
+use Rattle.std.proofs.lemmas.Bool.{false≢true, false_from_ne_true, both_ways, or_left, or_right, cases_lt}
 use Rattle.gp_base.specs.declared.limits.Limits.{Limits}
 use Rattle.gp_base.specs.declared.feed.Inputs.{Inputs}
 use Rattle.gp_base.specs.declared.fault.Fault.{Fault}
@@ -16,12 +16,12 @@ use Rattle.task_ast.specs.Members.{member_of}
 use Rattle.task_ast.specs.meaning.Plain.{Subthread, tree_machine, order, opening, last_state}
 use Rattle.task_ast.specs.meaning.Position.{before}
 use Rattle.task_ast.proofs.Positions.{last_is}
-use Rattle.dependence.specs.meaning.Conflict.{foot_at}
+use Rattle.dependence.specs.meaning.Conflict.{foot_at, clash_in}
 use Rattle.dependence.specs.Conflict.{ClashIn}
 use Rattle.dependence.specs.meaning.Dependents.{is_member}
 use Rattle.dependence.specs.meaning.Restarts.{Dependence, struck_next}
 use Rattle.dependence.specs.Restarts.{mask_of, mask_now}
-use Rattle.dependence.specs.meaning.Journal.{Stage, initial_stage, MayRetire, happens, restarted, stage, stage_from}
+use Rattle.dependence.specs.meaning.Journal.{Stage, initial_stage, MayRetire, Allowed, LawfulFrom, Lawful, Complete, happens, restarted, stage, stage_from}
 use Rattle.dependence.specs.meaning.Runs.{feet_of, dependence_of}
 use Rattle.dependence.specs.Standing.{present, AreShort, StageStands}
 use Rattle.dependence.specs.Histories.{HasCells}
@@ -35,11 +35,10 @@ use Rattle.dependence.proofs.Keeping.{run-keeps, kept-feet}
 use Rattle.dependence.proofs.RunBuffers.{event-stands, out-finds, retired-lines, drained-state}
 use Rattle.rollback.specs.meaning.Cuts.{cut_at, back, rolling_of}
 use Rattle.rollback.specs.Cuts.{SettlesCut}
-use Rattle.rollback.specs.meaning.Journal.{AllowedByBlocks, MayRetireByBlocks, LawfulByBlocksFrom, LawfulByBlocks, CompleteByBlocks}
 use Rattle.rollback.specs.Standing.{BlocksStand}
 use Rattle.rollback.specs.States.{Held, initial_held, state_before, HeldStands, IsCopy, held_restarted, held_happens, held_from, held_after, StaysBehind}
 use Rattle.rollback.proofs.Backs.{cut-low, redone, unredone, attempt-raised, attempt-kept}
-use Rattle.rollback.proofs.Standing.{allowed-narrower, initial-blocks, happens-blocks, blocks-from}
+use Rattle.rollback.proofs.Standing.{initial-blocks, happens-blocks, blocks-from}
 
 -- ---- folds
 
@@ -74,14 +73,24 @@ module _ (run : List Subthread) (cuts : ℕ → Bool) (faults : List Fault) wher
         applied_posted = stands.applied_posted;
         applied_taken = stands.applied_taken;
         taken_applied = stands.taken_applied;
-        ready = stands.ready;
+        ready = λ p q posted l e. stands.ready p q posted l (or_left (clash_in (feet_of run) q p) (nat_lt q (cut_at cuts p)) e);
         retired_applied = stands.retired_applied;
         retired_clean = stands.retired_clean;
       }
 
   unrolled-retire : (at : Stage) (p : ℕ) → MayRetire (rolling_of cuts run) faults at p → MayRetire (dependence_of run) faults at p
   unrolled-retire at p may =
-      record { oldest = may.oldest; issued = may.issued; applied = may.applied; none_due = may.none_due; safe = may.safe }
+      record {
+        oldest = may.oldest;
+        issued = may.issued;
+        applied = may.applied;
+        none_due = may.none_due;
+        safe =
+            elim may.safe [
+              | inl rest ↦ inl (λ q low counted same. rest q low counted (ap (cut_at cuts) same))
+              | inr drained ↦ inr drained
+            ];
+      }
 
 module _ (run : List Subthread) (faults : List Fault) (start : State) where
   abbrev members : Stage → ℕ → Member
@@ -247,7 +256,7 @@ module _ (run : List Subthread) (faults : List Fault) (start : State) where
     -- ---- each event that is allowed
 
     pub happens-held : HasCells start → (at : Stage) (e : Event) (held : Held) → BlocksStand cuts (dependence_of run) faults at
-        → HeldStands run faults start at held → AllowedByBlocks cuts (dependence_of run) faults at e
+        → HeldStands run faults start at held → Allowed (rolling_of cuts run) faults at e
         → HeldStands run faults start (happens rolled faults at e) (held_happens run faults start cuts at e held)
     happens-held cells at (event.Issue p) held blocks stands may =
         record {
@@ -283,7 +292,7 @@ module _ (run : List Subthread) (faults : List Fault) (start : State) where
 
     pub held-finds : HasCells start → (at : Stage) (e : Event) (held : Held) (q attempt : ℕ)
         → BlocksStand cuts (dependence_of run) faults at
-        → HeldStands run faults start at held → AllowedByBlocks cuts (dependence_of run) faults at e → IsOut at q attempt
+        → HeldStands run faults start at held → Allowed (rolling_of cuts run) faults at e → IsOut at q attempt
         → IsOut (happens rolled faults at e) q attempt
         → Agree (MayTouch own_location (foot_at (feet_of run) q)) (held_happens run faults start cuts at e held).state held.state
     held-finds cells at (event.Issue p) held q attempt blocks stands may out still place t = refl
@@ -304,7 +313,7 @@ module _ (run : List Subthread) (faults : List Fault) (start : State) where
 
     module _ (cells : HasCells start) (settled : SettlesCut cuts (dependence_of run)) (short : AreShort faults) where
       from : (at : Stage) (events : List Event) (held : Held) → BlocksStand cuts (dependence_of run) faults at
-          → HeldStands run faults start at held → LawfulByBlocksFrom cuts (dependence_of run) faults at events
+          → HeldStands run faults start at held → LawfulFrom (rolling_of cuts run) faults at events
           → HeldStands run faults start (stage_from rolled faults at events) (held_from run faults start cuts at events held)
       from at [] held blocks stands lawful = stands
       from at (e ∷ rest) held blocks stands lawful =
@@ -312,7 +321,7 @@ module _ (run : List Subthread) (faults : List Fault) (start : State) where
           (happens-blocks cuts (dependence_of run) faults settled short at e blocks lawful.0)
           (happens-held cells at e held blocks stands lawful.0) lawful.1
 
-      pub journal-held : (events : List Event) → LawfulByBlocks cuts (dependence_of run) faults events
+      pub journal-held : (events : List Event) → Lawful (rolling_of cuts run) faults events
           → HeldStands run faults start (stage rolled faults events) (held_after run faults start cuts events)
       journal-held events lawful =
           from initial_stage events (initial_held start) (initial-blocks cuts (dependence_of run) faults) initial-held lawful
@@ -320,7 +329,7 @@ module _ (run : List Subthread) (faults : List Fault) (start : State) where
     -- ---- copies
 
     pub copy-keeps : (at : Stage) (e : Event) (c : ℕ) (copy : State) → BlocksStand cuts (dependence_of run) faults at
-        → AllowedByBlocks cuts (dependence_of run) faults at e → StaysBehind cuts run faults c at e → IsCopy run faults start at c copy
+        → Allowed (rolling_of cuts run) faults at e → StaysBehind cuts run faults c at e → IsCopy run faults start at c copy
         → IsCopy run faults start (happens rolled faults at e) c copy
     copy-keeps at (event.Issue p) c copy blocks may behind is = record { state_is = is.state_is; whole = is.whole }
     copy-keeps at (event.Post p attempt) c copy blocks may behind is = record { state_is = is.state_is; whole = is.whole }
@@ -390,15 +399,15 @@ module _ (program : Program) (inputs : Inputs) (limits : Limits) (faults : List 
 
   module _ (short : AreShort faults) where
     pub retired-held : (at : Stage) (held : Held) (p : ℕ) (s : Subthread) → BlocksStand cuts (dependence_of plain) faults at
-        → HeldStands plain faults opens at held → MayRetireByBlocks cuts (rolling_of cuts plain) faults at p → slice_get plain p ≡ Some s
+        → HeldStands plain faults opens at held → MayRetire (rolling_of cuts plain) faults at p → slice_get plain p ≡ Some s
         → held.lines p ≡ s.lines
     retired-held at held p s blocks stands may there =
         retired-lines program inputs limits faults short at (as_buffer plain faults opens at held) p s
         (unrolled-stands plain cuts faults at blocks.stands) (buffer-stands plain faults opens at held stands)
-        (unrolled-retire plain cuts faults at p (allowed-narrower cuts (dependence_of plain) faults at (event.Retire p) may)) there
+        (unrolled-retire plain cuts faults at p may) there
 
     pub final-held : SettlesCut cuts (dependence_of plain) → (events : List Event)
-        → CompleteByBlocks cuts (dependence_of plain) faults events
+        → Complete (rolling_of cuts plain) faults events
         → (held_after plain faults opens cuts events).state ≡ (last_state program inputs limits).state
     final-held settled events complete =
         drained-held at (held_after plain faults opens cuts events)

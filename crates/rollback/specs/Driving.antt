@@ -5,11 +5,10 @@ use Rattle.gp_base.specs.declared.fault.Fault.{Fault}
 use Rattle.gp_base.specs.declared.journal.Event.{Event}
 use Rattle.gp_base.specs.declared.journal.Event.TheVariants as event
 use Rattle.dependence.specs.meaning.Restarts.{Dependence, begun_of, struck_next}
-use Rattle.dependence.specs.meaning.Journal.{Stage, initial_stage, happens, stage}
+use Rattle.dependence.specs.meaning.Journal.{Stage, initial_stage, IsSafe, Allowed, Lawful, happens, stage}
 use Rattle.dependence.specs.Standing.{present, NamesIssued}
 use Rattle.dependence.specs.RunBuffer.{IsOut}
 use Rattle.rollback.specs.meaning.Cuts.{is_cut, cut_at, rolling}
-use Rattle.rollback.specs.meaning.Journal.{IsNextCut, IsSafe, RestIsSafe, AllowedByBlocks, LawfulByBlocks}
 use Rattle.rollback.specs.Standing.{BlocksStand}
 
 -- what holds between two events of where attempts began and of settles
@@ -43,13 +42,13 @@ InitialDrivingLaw = (dependence : Dependence) → DrivingStands dependence initi
 abbrev pub DrivingEventLaw : Type 0
 DrivingEventLaw =
     (cuts : ℕ → Bool) (dependence : Dependence) (faults : List Fault) (at : Stage) (e : Event) → DrivingStands dependence at
-    → AllowedByBlocks cuts dependence faults at e → DrivingStands dependence (happens (rolling cuts dependence) faults at e)
+    → Allowed (rolling cuts dependence) faults at e → DrivingStands dependence (happens (rolling cuts dependence) faults at e)
 
 -- and so it holds after each journal that is lawful by blocks
 abbrev pub DrivingJournalLaw : Type 0
 DrivingJournalLaw =
     (cuts : ℕ → Bool) (dependence : Dependence) (faults : List Fault) (events : List Event)
-    → LawfulByBlocks cuts dependence faults events → DrivingStands dependence (stage (rolling cuts dependence) faults events)
+    → Lawful (rolling cuts dependence) faults events → DrivingStands dependence (stage (rolling cuts dependence) faults events)
 
 -- the cut of a position that was issued and has not retired is the greatest multiple that is not above it, where that has not retired,
 -- or else the oldest position, where that begins with a settle, or else one that has retired
@@ -76,18 +75,12 @@ StruckLaw =
     (cuts : ℕ → Bool) (dependence : Dependence) (faults : List Fault) (at : Stage) (struck : ℕ) → BlocksStand cuts dependence faults at
     → struck_next (rolling cuts dependence) faults at.progress ≡ Some struck → at.retired ≤ cut_at cuts struck
 
--- the next cut above a position that has not retired is the next multiple, where all before that was issued
-abbrev pub NextCutLaw : Type 0
-NextCutLaw =
-    (every : ℕ) (dependence : Dependence) (at : Stage) (p : ℕ) → 1 ≤ every → DrivingStands dependence at → at.retired ≤ p
-    → multiple_at every p + every ≤ at.progress.front → IsNextCut (is_cut every dependence) p (multiple_at every p + every)
-
--- so the rest of its block is safe where all up to the next multiple is
+-- the rest of the block of a position is safe where all up to the next multiple is
 abbrev pub RestLaw : Type 0
 RestLaw =
-    (every : ℕ) (dependence : Dependence) (at : Stage) (p : ℕ) → 1 ≤ every → DrivingStands dependence at → at.retired ≤ p
-    → multiple_at every p + every ≤ at.progress.front → ((q : ℕ) → p ≤ q → q < multiple_at every p + every → IsSafe at q)
-    → RestIsSafe (is_cut every dependence) at p
+    (every : ℕ) (dependence : Dependence) (at : Stage) (p : ℕ) → 1 ≤ every
+    → ((q : ℕ) → p ≤ q → q < multiple_at every p + every → IsSafe at q)
+    → (q : ℕ) → p ≤ q → cut_at (is_cut every dependence) q ≡ cut_at (is_cut every dependence) p → IsSafe at q
 
 -- positions that are applied are safe where the last of them began long ago
 abbrev pub SafeLaw : Type 0

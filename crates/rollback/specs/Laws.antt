@@ -1,5 +1,5 @@
 -- Laws of rollbacks, and of journals by blocks.
-use Rattle.std.specs.Prelude.{◌≡◌, ◌≢◌, ◌↔◌, ℕ, ◌≤◌, ◌<◌, Bool, true, false, List, [], ◌∷◌, ◌++◌, length, slice_get, Contains, None}
+use Rattle.std.specs.Prelude.{◌≡◌, ◌≢◌, ◌↔◌, ℕ, ◌≤◌, ◌<◌, Bool, true, false, List, ◌++◌, length, slice_get, Contains, None}
 use Rattle.std.specs.Option.{IsSomeAnd}
 use Rattle.gp_base.specs.declared.fault.Fault.{Fault}
 use Rattle.gp_base.specs.declared.journal.Event.{Event}
@@ -8,14 +8,12 @@ use Rattle.gp_base.specs.declared.journal.Restart.{Restart}
 use Rattle.dependence.specs.meaning.Dependents.{dependents}
 use Rattle.dependence.specs.meaning.Restarts.{Dependence, struck_next}
 use Rattle.dependence.specs.Restarts.{RedoesStruck}
-use Rattle.dependence.specs.meaning.Journal.{Stage, initial_stage, happens, Lawful, Complete, stage}
+use Rattle.dependence.specs.meaning.Journal.{Stage, initial_stage, Allowed, happens, Lawful, Complete, stage}
 use Rattle.dependence.specs.Counts.{HasAll}
 use Rattle.dependence.specs.Standing.{present, AreShort, KeepsRetired, RedoesConflicts}
 use Rattle.dependence.specs.RunBuffer.{IsOut}
 use Rattle.rollback.specs.meaning.Cuts.{is_cut, cut_at, back, rolling}
 use Rattle.rollback.specs.Cuts.{SettlesCut, rollbacks}
-use Rattle.rollback.specs.meaning.Journal.{AllowedByBlocks, LawfulByBlocks, CompleteByBlocks}
-use Rattle.rollback.specs.JournalTests.{is_lawful_by_blocks, is_complete_by_blocks}
 use Rattle.rollback.specs.Standing.{BlocksStand}
 
 -- of the multiples of a number and the settles of a run each settle is one
@@ -44,27 +42,6 @@ LaterLaw = (cuts : ℕ → Bool) (struck front q : ℕ) → Contains (back cuts 
 abbrev pub RollsLaw : Type 0
 RollsLaw = (cuts : ℕ → Bool) (dependence : Dependence) → RedoesStruck (rolling cuts dependence) × RedoesConflicts (rolling cuts dependence)
 
--- a journal that is lawful by blocks is a lawful one of a run whose restarts roll back, and so is a complete one
-abbrev pub NarrowerLaw : Type 0
-NarrowerLaw =
-    (cuts : ℕ → Bool) (dependence : Dependence) (faults : List Fault) (events : List Event)
-    → (LawfulByBlocks cuts dependence faults events → Lawful (rolling cuts dependence) faults events)
-    × (CompleteByBlocks cuts dependence faults events → Complete (rolling cuts dependence) faults events)
-
--- a beginning of a list that is lawful by blocks is so
-abbrev pub FrontLaw : Type 0
-FrontLaw =
-    (cuts : ℕ → Bool) (dependence : Dependence) (faults : List Fault) (events rest : List Event)
-    → LawfulByBlocks cuts dependence faults (events ++ rest) → LawfulByBlocks cuts dependence faults events
-
--- an event that is allowed goes on such a list
-abbrev pub GrowLaw : Type 0
-GrowLaw =
-    (cuts : ℕ → Bool) (dependence : Dependence) (faults : List Fault) (events : List Event) (event : Event)
-    → LawfulByBlocks cuts dependence faults events
-    → AllowedByBlocks cuts dependence faults (stage (rolling cuts dependence) faults events) event
-    → LawfulByBlocks cuts dependence faults (events ++ event ∷ [])
-
 -- it stands before the first event
 abbrev pub InitialLaw : Type 0
 InitialLaw = (cuts : ℕ → Bool) (dependence : Dependence) (faults : List Fault) → BlocksStand cuts dependence faults initial_stage
@@ -79,14 +56,14 @@ KeepsLaw =
 abbrev pub EventLaw : Type 0
 EventLaw =
     (cuts : ℕ → Bool) (dependence : Dependence) (faults : List Fault) (at : Stage) (event : Event) → SettlesCut cuts dependence
-    → AreShort faults → BlocksStand cuts dependence faults at → AllowedByBlocks cuts dependence faults at event
+    → AreShort faults → BlocksStand cuts dependence faults at → Allowed (rolling cuts dependence) faults at event
     → BlocksStand cuts dependence faults (happens (rolling cuts dependence) faults at event)
 
 -- it stands after each journal that is lawful by blocks
 abbrev pub StandsLaw : Type 0
 StandsLaw =
     (cuts : ℕ → Bool) (dependence : Dependence) (faults : List Fault) (events : List Event) → SettlesCut cuts dependence → AreShort faults
-    → LawfulByBlocks cuts dependence faults events → BlocksStand cuts dependence faults (stage (rolling cuts dependence) faults events)
+    → Lawful (rolling cuts dependence) faults events → BlocksStand cuts dependence faults (stage (rolling cuts dependence) faults events)
 
 -- attempts that are out are of one block
 abbrev pub OneBlockLaw : Type 0
@@ -105,20 +82,20 @@ abbrev pub PostsLaw : Type 0
 PostsLaw =
     (cuts : ℕ → Bool) (dependence : Dependence) (faults : List Fault) (at : Stage) (p : ℕ) → BlocksStand cuts dependence faults at
     → p < at.progress.front → at.applied p ≡ false → ((q : ℕ) → q < p → at.applied q ≡ true) → ¬ IsOut at p (present at p)
-    → AllowedByBlocks cuts dependence faults at (event.Post p (present at p))
+    → Allowed (rolling cuts dependence) faults at (event.Post p (present at p))
 
 -- the restarts of such a journal are the first of all rollbacks
 abbrev pub FirstLaw : Type 0
 FirstLaw =
     (cuts : ℕ → Bool) (dependence : Dependence) (faults : List Fault) (events : List Event) → SettlesCut cuts dependence → AreShort faults
-    → LawfulByBlocks cuts dependence faults events
+    → Lawful (rolling cuts dependence) faults events
     → (rest : List Restart) × (rollbacks cuts dependence faults ≡ (stage (rolling cuts dependence) faults events).progress.made ++ rest)
 
 -- one may come next exactly where the next of all rollbacks has the present front
 abbrev pub NextLaw : Type 0
 NextLaw =
     (cuts : ℕ → Bool) (dependence : Dependence) (faults : List Fault) (events : List Event) → SettlesCut cuts dependence → AreShort faults
-    → LawfulByBlocks cuts dependence faults events
+    → Lawful (rolling cuts dependence) faults events
     → let at = (stage (rolling cuts dependence) faults events).progress in
     (struck_next (rolling cuts dependence) faults at ≢ None)
     ↔ IsSomeAnd (slice_get (rollbacks cuts dependence faults) (length at.made)) (λ restart. restart.front ≡ at.front)
@@ -127,23 +104,12 @@ NextLaw =
 abbrev pub AllLaw : Type 0
 AllLaw =
     (cuts : ℕ → Bool) (dependence : Dependence) (faults : List Fault) (events : List Event) → SettlesCut cuts dependence → AreShort faults
-    → CompleteByBlocks cuts dependence faults events
+    → Complete (rolling cuts dependence) faults events
     → (stage (rolling cuts dependence) faults events).progress.made ≡ rollbacks cuts dependence faults
 
 -- a journal that is lawful by blocks is complete exactly where it has an issue and a retirement for each position and all rollbacks
 abbrev pub CompleteLaw : Type 0
 CompleteLaw =
     (cuts : ℕ → Bool) (dependence : Dependence) (faults : List Fault) (events : List Event) → SettlesCut cuts dependence → AreShort faults
-    → LawfulByBlocks cuts dependence faults events
-    → CompleteByBlocks cuts dependence faults events ↔ HasAll (rolling cuts dependence) faults events
-
--- the tests say which journals are lawful, and which are complete
-abbrev pub LawfulTestLaw : Type 0
-LawfulTestLaw =
-    (cuts : ℕ → Bool) (dependence : Dependence) (faults : List Fault) (events : List Event)
-    → (is_lawful_by_blocks cuts dependence faults events ≡ true) ↔ LawfulByBlocks cuts dependence faults events
-
-abbrev pub CompleteTestLaw : Type 0
-CompleteTestLaw =
-    (cuts : ℕ → Bool) (dependence : Dependence) (faults : List Fault) (events : List Event)
-    → (is_complete_by_blocks cuts dependence faults events ≡ true) ↔ CompleteByBlocks cuts dependence faults events
+    → Lawful (rolling cuts dependence) faults events
+    → Complete (rolling cuts dependence) faults events ↔ HasAll (rolling cuts dependence) faults events

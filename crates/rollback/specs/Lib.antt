@@ -1,6 +1,5 @@
 pub mod Cuts
 pub mod Driving
-pub mod JournalTests
 pub mod Laws
 pub mod Standing
 pub mod States

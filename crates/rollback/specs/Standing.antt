@@ -1,5 +1,5 @@
 -- What stands after the events of a journal that is lawful by blocks.
-use Rattle.std.specs.Prelude.{◌≡◌, ℕ, ◌<◌, Bool, true, List, Contains}
+use Rattle.std.specs.Prelude.{ℕ, ◌<◌, Bool, List}
 use Rattle.gp_base.specs.declared.fault.Fault.{Fault}
 use Rattle.dependence.specs.meaning.Restarts.{Dependence}
 use Rattle.dependence.specs.meaning.Journal.{Stage}
@@ -12,5 +12,3 @@ pub record BlocksStand (cuts : ℕ → Bool) (dependence : Dependence) (faults :
   -- a position of a block of which some has retired was issued, and no fault names its attempt
   pub issued : (p : ℕ) → p < dependence.count → cut_at cuts p < at.retired → p < at.progress.front
   pub clean : (p : ℕ) → p < dependence.count → cut_at cuts p < at.retired → ¬ NamesAttempt faults p (present at p)
-  -- where the present attempt is posted, all before its block is applied
-  pub ready : (p q : ℕ) → Contains at.posted (p, present at p) → q < cut_at cuts p → at.applied q ≡ true

@@ -15,7 +15,7 @@ use Rattle.task_ast.specs.meaning.Position.{before}
 use Rattle.dependence.specs.meaning.Conflict.{foot_at}
 use Rattle.dependence.specs.Conflict.{ClashIn}
 use Rattle.dependence.specs.meaning.Restarts.{struck_next}
-use Rattle.dependence.specs.meaning.Journal.{Stage, initial_stage, happens, stage}
+use Rattle.dependence.specs.meaning.Journal.{Stage, initial_stage, MayRetire, Allowed, Lawful, Complete, happens, stage}
 use Rattle.dependence.specs.meaning.Runs.{feet_of, dependence_of}
 use Rattle.dependence.specs.Standing.{AreShort}
 use Rattle.dependence.specs.Histories.{HasCells}
@@ -26,7 +26,6 @@ use Rattle.dependence.specs.Buffer.{with_at}
 use Rattle.dependence.specs.RunBuffer.{members_at, IsOut}
 use Rattle.rollback.specs.meaning.Cuts.{cut_at, rolling_of}
 use Rattle.rollback.specs.Cuts.{SettlesCut}
-use Rattle.rollback.specs.meaning.Journal.{AllowedByBlocks, MayRetireByBlocks, LawfulByBlocks, CompleteByBlocks}
 use Rattle.rollback.specs.Standing.{BlocksStand}
 
 -- the data, and the lines of each position that is applied
@@ -95,14 +94,14 @@ abbrev pub HeldEventLaw : Type 0
 HeldEventLaw =
     (run : List Subthread) (faults : List Fault) (start : State) (cuts : ℕ → Bool) (at : Stage) (e : Event) (held : Held)
     → HasCells start → BlocksStand cuts (dependence_of run) faults at → HeldStands run faults start at held
-    → AllowedByBlocks cuts (dependence_of run) faults at e
+    → Allowed (rolling_of cuts run) faults at e
     → HeldStands run faults start (happens (rolling_of cuts run) faults at e) (held_happens run faults start cuts at e held)
 
 -- and so after a journal that is lawful by blocks
 abbrev pub HeldJournalLaw : Type 0
 HeldJournalLaw =
     (run : List Subthread) (faults : List Fault) (start : State) (cuts : ℕ → Bool) (events : List Event)
-    → HasCells start → SettlesCut cuts (dependence_of run) → AreShort faults → LawfulByBlocks cuts (dependence_of run) faults events
+    → HasCells start → SettlesCut cuts (dependence_of run) → AreShort faults → Lawful (rolling_of cuts run) faults events
     → HeldStands run faults start (stage (rolling_of cuts run) faults events) (held_after run faults start cuts events)
 
 -- what an attempt that is out finds stays as it is while it is out
@@ -110,7 +109,7 @@ abbrev pub OutLaw : Type 0
 OutLaw =
     (run : List Subthread) (faults : List Fault) (start : State) (cuts : ℕ → Bool) (at : Stage) (e : Event) (held : Held) (p attempt : ℕ)
     → HasCells start → BlocksStand cuts (dependence_of run) faults at → HeldStands run faults start at held
-    → AllowedByBlocks cuts (dependence_of run) faults at e → IsOut at p attempt
+    → Allowed (rolling_of cuts run) faults at e → IsOut at p attempt
     → IsOut (happens (rolling_of cuts run) faults at e) p attempt
     → Agree (MayTouch own_location (foot_at (feet_of run) p)) (held_happens run faults start cuts at e held).state held.state
 
@@ -125,7 +124,7 @@ CopyLaw =
 abbrev pub KeepsCopyLaw : Type 0
 KeepsCopyLaw =
     (run : List Subthread) (faults : List Fault) (start : State) (cuts : ℕ → Bool) (at : Stage) (e : Event) (cut : ℕ) (copy : State)
-    → BlocksStand cuts (dependence_of run) faults at → AllowedByBlocks cuts (dependence_of run) faults at e
+    → BlocksStand cuts (dependence_of run) faults at → Allowed (rolling_of cuts run) faults at e
     → StaysBehind cuts run faults cut at e → IsCopy run faults start at cut copy
     → IsCopy run faults start (happens (rolling_of cuts run) faults at e) cut copy
 
@@ -145,7 +144,7 @@ LinesLaw =
     (p : ℕ) (s : Subthread)
     → let run = order program inputs limits in
     AreShort faults → BlocksStand cuts (dependence_of run) faults at → HeldStands run faults (opening program inputs limits).state at held
-    → MayRetireByBlocks cuts (rolling_of cuts run) faults at p → slice_get run p ≡ Some s → held.lines p ≡ s.lines
+    → MayRetire (rolling_of cuts run) faults at p → slice_get run p ≡ Some s → held.lines p ≡ s.lines
 
 -- where all that was issued has retired, the data are those of the plain run before the front
 abbrev pub DrainedLaw : Type 0
@@ -160,5 +159,5 @@ abbrev pub FinalLaw : Type 0
 FinalLaw =
     (program : Program) (inputs : Inputs) (limits : Limits) (faults : List Fault) (cuts : ℕ → Bool) (events : List Event)
     → let run = order program inputs limits in
-    SettlesCut cuts (dependence_of run) → AreShort faults → CompleteByBlocks cuts (dependence_of run) faults events
+    SettlesCut cuts (dependence_of run) → AreShort faults → Complete (rolling_of cuts run) faults events
     → (held_after run faults (opening program inputs limits).state cuts events).state ≡ (last_state program inputs limits).state

@@ -1,6 +1,6 @@
 // The laws of what a run that rolls back reads off its stages, each on a function with an empty body.
 
-ghost use Rattle.rollback.specs.Driving.{InitialDrivingLaw, DrivingEventLaw, DrivingJournalLaw, SafeLaw, CutLaw, WholeLaw, NextCutLaw, RestLaw, StruckLaw, StillOutLaw, RolledLaw, UnbegunLaw};
+ghost use Rattle.rollback.specs.Driving.{InitialDrivingLaw, DrivingEventLaw, DrivingJournalLaw, SafeLaw, CutLaw, WholeLaw, RestLaw, StruckLaw, StillOutLaw, RolledLaw, UnbegunLaw};
 
 /// The later of two positions did not begin earlier, and all before a settle that was issued has retired: so it is
 /// before the first event, after each that is allowed, and so after each journal that is lawful by blocks. Of positions
@@ -17,7 +17,6 @@ pub fn stage_laws()
 pub fn multiple_laws()
     ensures cut { CutLaw }
     ensures whole { WholeLaw }
-    ensures next { NextCutLaw }
     ensures rest { RestLaw }
 {}
 

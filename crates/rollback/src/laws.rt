@@ -1,6 +1,6 @@
 // The laws of the definitions, each on a function with an empty body.
 
-ghost use Rattle.rollback.specs.Laws.{SettlesLaw, RisesLaw, AgainLaw, DependentsLaw, LaterLaw, RollsLaw, NarrowerLaw, FrontLaw, GrowLaw, InitialLaw, KeepsLaw, EventLaw, StandsLaw, OneBlockLaw, WaitsLaw, PostsLaw, FirstLaw, NextLaw, AllLaw, CompleteLaw, LawfulTestLaw, CompleteTestLaw};
+ghost use Rattle.rollback.specs.Laws.{SettlesLaw, RisesLaw, AgainLaw, DependentsLaw, LaterLaw, RollsLaw, InitialLaw, KeepsLaw, EventLaw, StandsLaw, OneBlockLaw, WaitsLaw, PostsLaw, FirstLaw, NextLaw, AllLaw, CompleteLaw};
 
 /// The multiples of a number and the settles of a run are cuts of it: each settle is one, so that what has retired
 /// before it is not rolled back. A later position has no earlier cut, and that of a cut is the cut itself.
@@ -16,14 +16,6 @@ pub fn rollback_laws()
     ensures dependents { DependentsLaw }
     ensures later { LaterLaw }
     ensures rolls { RollsLaw }
-{}
-
-/// A journal that is lawful by blocks is a lawful journal of a run whose restarts roll back, so that what holds of such
-/// journals holds of it. A beginning of it is lawful by blocks, and one more event that is allowed keeps it so.
-pub fn journal_laws()
-    ensures narrower { NarrowerLaw }
-    ensures front { FrontLaw }
-    ensures grow { GrowLaw }
 {}
 
 /// What holds between two events, where settles are cuts and delays are short: it holds before the first, and each
@@ -48,10 +40,4 @@ pub fn rollbacks_laws()
     ensures next { NextLaw }
     ensures all { AllLaw }
     ensures complete { CompleteLaw }
-{}
-
-/// The tests of journals say which are lawful by blocks, and which are complete.
-pub fn journal_tests_laws()
-    ensures lawful { LawfulTestLaw }
-    ensures complete { CompleteTestLaw }
 {}

@@ -64,13 +64,18 @@ pub record MayRestart (dependence : Dependence) (faults : List Fault) (at : Stag
   pub numbered : number ≡ length at.progress.made
   pub some_struck : struck_next dependence faults at.progress ≢ None
 
--- p may retire
+-- the position is applied, and no fault can strike it any more
+pub record IsSafe (at : Stage) (p : ℕ) : Type 0 where
+  pub applied : at.applied p ≡ true
+  pub long : begun_of at.progress.made p + LONGEST_DELAY ≤ at.progress.front
+
+-- p may retire: the rest of its block is safe, or no fault is left
 pub record MayRetire (dependence : Dependence) (faults : List Fault) (at : Stage) (p : ℕ) : Type 0 where
   pub oldest : p ≡ at.retired
   pub issued : p < at.progress.front
   pub applied : at.applied p ≡ true
   pub none_due : NoneDue faults at.progress
-  pub safe : (begun_of at.progress.made p + LONGEST_DELAY ≤ at.progress.front) ⊎ Drained dependence faults at.progress
+  pub safe : ((q : ℕ) → p ≤ q → q < dependence.count → dependence.block q ≡ dependence.block p → IsSafe at q) ⊎ Drained dependence faults at.progress
 
 -- the event may come next
 abbrev pub Allowed : Dependence → List Fault → Stage → Event → Type 0

@@ -9,7 +9,7 @@ use Rattle.dependence.specs.meaning.Dependents.{is_member}
 pub record Dependence : Type 0 where
   -- how many subthreads it has
   pub count : ℕ
-  -- whether a position is in conflict with a later one
+  -- whether a later position waits for a position, as one in conflict with it does
   pub clash : (position later : ℕ) → Bool
   -- what is redone with a position that is struck: its dependents below the front
   pub redo : (struck front : ℕ) → List ℕ
@@ -17,6 +17,8 @@ pub record Dependence : Type 0 where
   pub before : (position : ℕ) → Option ℕ
   -- whether a position begins with a settle
   pub settles : (position : ℕ) → Bool
+  -- the block of a position: what is of one block retires once no fault can strike any of it
+  pub block : (position : ℕ) → ℕ
 
 -- whether the front drains: the run is at its end, or a settle comes next, so that a fault is taken whatever its delay
 abbrev pub drains : Dependence → ℕ → Bool

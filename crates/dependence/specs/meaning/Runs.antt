@@ -33,6 +33,7 @@ dependence_of run =
       redo = dependents (clash_in (feet_of run));
       before = λ p. before_one run p (slice_get run p);
       settles = λ p. settles_one (slice_get run p);
+      block = λ p. p;
     }
 
 -- the restarts that a list of faults makes of a run

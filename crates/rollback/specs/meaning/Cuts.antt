@@ -1,5 +1,5 @@
 -- Rolling back to cuts: the state is copied at cuts, and all that began after a copy is done again (conventional checkpoint and recovery).
-use Rattle.std.specs.Prelude.{ℕ, zero, suc, ◌-◌, ◌%◌, ◌==◌, Bool, ◌||◌, cond, List}
+use Rattle.std.specs.Prelude.{ℕ, zero, suc, ◌-◌, ◌%◌, ◌==◌, Bool, ◌||◌, cond, nat_lt, List}
 use Rattle.task_ast.specs.meaning.Table.{numbers}
 use Rattle.task_ast.specs.meaning.Plain.{Subthread}
 use Rattle.dependence.specs.meaning.Restarts.{Dependence}
@@ -18,9 +18,14 @@ cut_at cuts (suc p) = cond (cuts (suc p)) (suc p) (cut_at cuts p)
 abbrev pub back : (cuts : ℕ → Bool) → (struck front : ℕ) → List ℕ
 back cuts struck front = numbers (cut_at cuts struck) (front - cut_at cuts struck)
 
--- what is read of a run whose restarts roll back to cuts
+-- what is read of a run whose restarts roll back to cuts: a position waits for all before its block too, and blocks go from cut to cut
 abbrev pub rolling : (cuts : ℕ → Bool) → Dependence → Dependence
-rolling cuts dependence = record dependence { redo = back cuts }
+rolling cuts dependence =
+    record dependence {
+      clash = λ p later. dependence.clash p later || nat_lt p (cut_at cuts later);
+      redo = back cuts;
+      block = cut_at cuts;
+    }
 
 -- what is read of a run that rolls back
 abbrev pub rolling_of : (cuts : ℕ → Bool) → List Subthread → Dependence
