@@ -38,7 +38,7 @@ use Rattle.reorder_list.proofs.Buffered.{pushed-holds, sent-holds, learnt-holds}
 use Rattle.whole_run.specs.declared.recovery.Recovery.TheVariants.{Rollback}
 use Rattle.whole_run.specs.declared.parts.backing.Backup.{Backup}
 use Rattle.whole_run.specs.declared.parts.backing.Checkpoint.{Checkpoint}
-use Rattle.whole_run.specs.inner.Backed.{held_of, HasCut, NoneBefore, IsOpened, IsWhole, HasShape, StandsBy, IsCheckpoint, HasCheckpoints, CopiesStand}
+use Rattle.whole_run.specs.inner.Backed.{held_of, HasCut, AreLive, IsOpened, IsWhole, HasShape, StandsBy, IsCheckpoint, HasCheckpoints, CopiesStand}
 use Rattle.whole_run.specs.inner.Backing.{IsAdvanced, DropsBefore}
 use Rattle.whole_run.proofs.OpenCuts.{open-cut-there}
 use Rattle.whole_run.proofs.CutRows.{rising-rest, cuts_in, cuts-append, all-part}
@@ -121,7 +121,7 @@ module _ (run : List Subthread) (faults : List Fault) (start : State) (cells : H
         copies-then : ((cut : ℕ) → StaysBehind cuts run faults cut at e) → (others : List Entry) (later : Stored) (backup' : Backup)
             → StaysShaped store later → HeldStands run faults start after_event (held_of later others) → IsWhole after_event backup'.whole
             → backup'.checkpoints ≡ backup.checkpoints → HasCheckpoints run faults start every after_event backup.checkpoints.items
-            → NoneBefore after_event.retired backup.checkpoints.items
+            → AreLive after_event.retired backup.checkpoints.items
             → Copies after_event others later backup'
         copies-then behind others later backup' stays held whole same has live =
             record {
@@ -132,7 +132,7 @@ module _ (run : List Subthread) (faults : List Fault) (start : State) (cells : H
                   (λ checkpoint. checkpoint-kept later stays checkpoint (behind checkpoint.cut)) backup.checkpoints.items copies.are);
               rising = subst (λ c. IsStrictlyIncreasing (cuts_in c.items)) (sym same) copies.rising;
               has = subst (λ c. HasCheckpoints run faults start every after_event c.items) (sym same) has;
-              live = subst (λ c. NoneBefore after_event.retired c.items) (sym same) live;
+              live = subst (λ c. AreLive after_event.retired c.items) (sym same) live;
             }
 
       pub copies-issue : (p : ℕ) (e : Entry) (later : Stored) → AllowedByBlocks cuts (dependence_of run) faults at (event.Issue p)

@@ -42,8 +42,8 @@ abbrev pub HasCut : List Checkpoint → (cut : ℕ) → Type 0
 HasCut checkpoints cut = (checkpoint : Checkpoint) × Contains checkpoints checkpoint × (checkpoint.cut ≡ cut)
 
 -- the first checkpoint, where there is one, lies not before the position
-abbrev pub NoneBefore : (position : ℕ) → List Checkpoint → Type 0
-NoneBefore p checkpoints = IfSome (slice_get checkpoints 0) (λ (checkpoint : Checkpoint). p ≤ checkpoint.cut)
+abbrev pub AreLive : (position : ℕ) → List Checkpoint → Type 0
+AreLive p checkpoints = IfSome (slice_get checkpoints 0) (λ (checkpoint : Checkpoint). p ≤ checkpoint.cut)
 
 -- the block of a position is open, by the number of positions that are applied before the first that is not
 abbrev pub is_open : Recovery → (whole position : ℕ) → Bool
@@ -101,7 +101,7 @@ module _ (run : List Subthread) (faults : List Fault) (start : State) where
     pub rising : IsStrictlyIncreasing (map (λ (checkpoint : Checkpoint). checkpoint.cut) backup.checkpoints.items)
     pub has : HasCheckpoints every at backup.checkpoints.items
     -- those to which no rollback goes back any more were given up
-    pub live : NoneBefore at.retired backup.checkpoints.items
+    pub live : AreLive at.retired backup.checkpoints.items
 
   -- what histories undo: the store and the entries hold what the history buffer of the run does
   pub record HistoriesStand (at : Stage) (entries : List Entry) (store : Stored) : Type 0 where

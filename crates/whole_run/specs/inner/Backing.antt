@@ -7,7 +7,7 @@ use Rattle.whole_run.specs.declared.recovery.Recovery.{Recovery}
 use Rattle.whole_run.specs.declared.recovery.Recovery.TheVariants.{Selective, Rollback}
 use Rattle.whole_run.specs.declared.parts.backing.Backup.{Backup}
 use Rattle.whole_run.specs.declared.parts.backing.Checkpoint.{Checkpoint}
-use Rattle.whole_run.specs.inner.Backed.{HasCut, NoneBefore}
+use Rattle.whole_run.specs.inner.Backed.{HasCut, AreLive}
 
 -- the number went on over entries that are applied, up to one that is not, or to the end of the list
 pub record IsAdvanced (entries : List Entry) (before after : Backup) : Type 0 where
@@ -55,4 +55,4 @@ pub record DropsBefore (position : ℕ) (before after : Backup) : Type 0 where
   pub front : List Checkpoint
   pub split : before.checkpoints.items ≡ front ++ after.checkpoints.items
   pub dropped : All (λ (checkpoint : Checkpoint). checkpoint.cut < position) front
-  pub stops : NoneBefore position after.checkpoints.items
+  pub stops : AreLive position after.checkpoints.items

@@ -1,7 +1,7 @@
 use Rattle.std.proofs.Common.{◌<◌, ◌++◌, refl, arith}
 use Rattle.std.specs.Option.{option_to_list}
 use Rattle.whole_run.specs.declared.parts.backing.Checkpoint.{Checkpoint}
-use Rattle.whole_run.proofs.CheckpointLists.{first-dropped, first-stops}
+use Rattle.whole_run.proofs.CheckpointLists.{first-dropped, live-from}
 use Rattle.whole_run.proofs.parts.backing.drop_before.Goals as goal
 
 pub returns-then-position-first : goal.returns-then-position-first
@@ -15,7 +15,7 @@ returns-then-position-first c =
       front = before.front;
       split = before.split;
       dropped = before.dropped;
-      stops = first-stops items.items c.in-Some.first.now c.args.position (omega arith) c.in-Some.ensures.lookup c.if-position-first.true;
+      stops = live-from items.items c.in-Some.first.now c.args.position (omega arith) c.in-Some.ensures.lookup c.if-position-first.true;
     }
 
 pub dropping-preserved-else-position-first : goal.dropping-preserved-else-position-first
