@@ -13,7 +13,7 @@ use Rattle.gp_base.specs.declared.fault.Fault.{Fault}
 use Rattle.gp_base.specs.declared.journal.Event.{Event}
 use Rattle.gp_base.specs.declared.journal.Event.TheVariants as event
 use Rattle.dependence.specs.meaning.Restarts.{Dependence, Progress, drains, attempt_of, begun_of, is_live, is_due, least_struck, struck_next, IsFinal}
-use Rattle.dependence.specs.meaning.Journal.{Stage, initial_stage, Drained, MayFollow, IsSafe, Allowed, happens, LawfulFrom, Lawful, stage, Complete}
+use Rattle.dependence.specs.meaning.Journal.{Stage, initial_stage, Drained, MayFollow, IsSafe, RestIsSafe, Allowed, happens, LawfulFrom, Lawful, stage, Complete}
 use Rattle.dependence.specs.JournalTests.{same_attempt, all_below, is_drained, may_follow, is_safe, rest_is_safe, is_allowed, is_lawful_from, is_lawful, is_final, is_complete}
 
 pub same_attempt-decides : (pair other : ℕ × ℕ) → Decides (same_attempt pair other) (pair ≡ other)
@@ -75,8 +75,7 @@ module _ (dependence : Dependence) (faults : List Fault) where
       (λ safe. (safe.applied, safe.long))
       (Decides-and _ _ (true-decides (at.applied q)) (le-decides (begun_of at.progress.made q + LONGEST_DELAY) at.progress.front))
 
-  rest-decides : (at : Stage) (p : ℕ) → Decides (rest_is_safe dependence at p)
-      ((q : ℕ) → p ≤ q → q < dependence.count → dependence.block q ≡ dependence.block p → IsSafe at q)
+  rest-decides : (at : Stage) (p : ℕ) → Decides (rest_is_safe dependence at p) (RestIsSafe dependence at p)
   rest-decides at p =
       Decides-like _
       (λ h q low counted same. h q counted low same)

@@ -93,6 +93,7 @@ module _ {J W R : Type 0} (fits : W → J → Type 0) (is_run : W → J → R �
 
   view_facts : (i : ℕ) (v : View J W) → IsView s i v → ViewFacts m s v
   view_facts i v at = record {
+    knows = (r.each_view i v at).knows;
     drawn = (none_twice fits is_run plan s r i v at, all_from_times (λ d. d < m) v.hand.drawn (λ d h. drawn_within i v at d h));
     held = λ k. ((λ c. held_is i v at k c), λ x. is_held i v at k x.0 x.1);
     seen = λ k c. (r.each_view i v at).seen k (times_from_Contains k v.book.seen c);

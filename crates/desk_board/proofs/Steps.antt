@@ -76,6 +76,7 @@ module _ {J W R : Type 0} (fits : W → J → Type 0) (is_run : W → J → R �
       → ViewOk (about_of plan) words' v
   view_stays words words' v up more ok = record {
     same = ok.same;
+    knows = ok.knows;
     idle = ok.idle;
     own = ok.own;
     ended = ended_stays v.hand.ticket (length jobs) (get_or words 0 0) (get_or words' 0 0) up ok.ended;
@@ -169,6 +170,7 @@ module _ {J W R : Type 0} (fits : W → J → Type 0) (is_run : W → J → R �
               ));
           each_view = views_after s r words' id w (omega arith) (λ k h. omega (arith, words_same k, h)) record {
             same = old.same;
+            knows = old.knows;
             idle = λ z. absurd (omega arith);
             own = λ k. (let z = old.own k in omega (arith, z, times_append k v.hand.held (n ∷ []), times_append k v.hand.drawn (n ∷ [])));
             ended = subst (λ (o : Option ℕ). IfSome o (λ t. (length jobs ≤ t) × (length jobs ≤ get_or words' 0 0))) (sym fresh) tt;
@@ -206,6 +208,7 @@ module _ {J W R : Type 0} (fits : W → J → Type 0) (is_run : W → J → R �
             (λ y e. absurd (let i = slice_get_within jobs (length jobs) y e in omega arith));
         each_view = views_after s r words' id w (omega arith) (λ k h. omega (arith, words_same k, h)) record {
           same = old.same;
+          knows = old.knows;
           idle = old.idle;
           own = old.own;
           ended = (past, omega arith);
@@ -303,6 +306,7 @@ module _ {J W R : Type 0} (fits : W → J → Type 0) (is_run : W → J → R �
               ));
           each_view = views_after s r words' id w (omega (arith, counter)) rises record {
             same = old.same;
+            knows = old.knows;
             idle = λ z. (let i = old.idle z in (i.0, ap (without k) i.1));
             own = λ j. (let z = old.own j in omega (arith, z, without_le j k v.hand.held));
             ended = ended_stays v.hand.ticket (length jobs) (get_or s.words 0 0) (get_or words' 0 0) (omega (arith, counter)) old.ended;
@@ -341,6 +345,7 @@ module _ {J W R : Type 0} (fits : W → J → Type 0) (is_run : W → J → R �
             (λ y e. absurd (let i = slice_get_within jobs (length jobs) y e in omega arith));
         each_view = views_after s r s.words id w (omega arith) (λ k h. h) record {
           same = old.same;
+          knows = λ none. (let was = old.knows none in (was.0, clerk ∙ was.1));
           idle = old.idle;
           own = old.own;
           ended = old.ended;
@@ -443,6 +448,7 @@ module _ {J W R : Type 0} (fits : W → J → Type 0) (is_run : W → J → R �
               ));
           each_view = views_after s r words' id w (omega (arith, counter)) rises record {
             same = old.same;
+            knows = old.knows;
             idle = old.idle;
             own = old.own;
             ended = ended_stays v.hand.ticket (length jobs) (get_or s.words 0 0) (get_or words' 0 0) (omega (arith, counter)) old.ended;

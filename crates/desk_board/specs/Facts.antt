@@ -1,5 +1,5 @@
 -- What the rule comes to, fact by fact, for each state that it allows.
-use Rattle.std.specs.Prelude.{◌≡◌, ◌≢◌, ◌↔◌, ℕ, ◌+◌, ◌<◌, ◌≤◌, length, slice_index, slice_get, sum_by, Some, IfSome, All, Contains}
+use Rattle.std.specs.Prelude.{◌≡◌, ◌≢◌, ◌↔◌, ℕ, ◌+◌, ◌<◌, ◌≤◌, length, slice_index, slice_get, sum_by, Some, None, IfSome, All, Contains}
 use mathlib.Core.Option.{some, none}
 use lib.ListN.{get_elem?}
 use Rattle.atomic_table.specs.Table.{State}
@@ -43,10 +43,12 @@ pub record DeskFacts {J W R : Type 0} (is_run : W → J → R → Type 0) (with 
   pub out : k < tickets s → word_of s k ≢ 1 → IsOut s k
 
 -- what holds of one view, of m desks
+--   knows: a pass with a share knows the jobs, and so does the clerk;
 --   drawn: it has drawn a desk at most once, and only one of the board's; held: of the desks that it has drawn it holds exactly those whose
 --   word is 0, and it holds no others; seen: a desk that it saw done is done or collected; ended: where its pass has ended every
 --   ticket below m was taken; gathered: where its hand is the whole share at its end, every desk is done or collected
 pub record ViewFacts {J W R : Type 0} (m : ℕ) (s : State (Slot J R) (View J W)) (v : View J W) : Type 0 where
+  pub knows : v.about ≡ None → (v.hand.share ≡ 0) × (v.book.clerk ≡ 0)
   pub drawn : NoneTwice v.hand.drawn × All (λ k. k < m) v.hand.drawn
   pub held : (k : ℕ) → Contains v.hand.held k ↔ (Contains v.hand.drawn k × (word_of s k ≡ 0))
   pub seen : (k : ℕ) → Contains v.book.seen k → 1 ≤ word_of s k

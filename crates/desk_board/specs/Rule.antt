@@ -84,11 +84,12 @@ module _ {J W R : Type 0} (is_run : W → J → R → Type 0) (with : W) where
     AtStage collected = (k < counter) × (word ≡ 2) × (home ≡ some none) × (drawns ≡ 1) × (helds ≡ 0) × (takens ≡ 1)
 
 -- what holds of one view
---   same: it has the jobs of the board; idle: without a share it has no desk; own: it holds only desks that it drew;
---   ended: its pass has ended only where the tickets passed the last desk; others: only the clerk takes;
---   seen: what was seen done is done or collected
+--   same: it has the jobs of the board; knows: a pass with a share has them, and so has the clerk; idle: without a share it has no
+--   desk; own: it holds only desks that it drew; ended: its pass has ended only where the tickets passed the last desk;
+--   others: only the clerk takes; seen: what was seen done is done or collected
 pub record ViewOk {J W : Type 0} (about : About J W) (words : List ℕ) (v : View J W) : Type 0 where
   pub same : IfSome v.about (λ a. a ≡ about)
+  pub knows : v.about ≡ None → (v.hand.share ≡ 0) × (v.book.clerk ≡ 0)
   pub idle : v.hand.share ≡ 0 → (v.hand.drawn ≡ []) × (v.hand.held ≡ [])
   pub own : (k : ℕ) → times k v.hand.held ≤ times k v.hand.drawn
   pub ended : IfSome v.hand.ticket (λ t. (length about.jobs ≤ t) × (length about.jobs ≤ slice_index words 0))

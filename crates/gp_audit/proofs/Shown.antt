@@ -15,7 +15,7 @@ use Rattle.gp_base.specs.declared.fault.Fault.{Fault}
 use Rattle.gp_base.specs.declared.journal.Restart.{Restart}
 use Rattle.dependence.specs.meaning.Conflict.{clash_in}
 use Rattle.dependence.specs.meaning.Restarts.{Dependence, drains, begun_of, is_live, is_due, least_struck, struck_next, restart_of, NoneDue, IsFinal}
-use Rattle.dependence.specs.meaning.Journal.{Stage, IsSafe, MayIssue, MayPost, MayTake, MayRetire, MayFollow, Drained}
+use Rattle.dependence.specs.meaning.Journal.{Stage, IsSafe, RestIsSafe, MayIssue, MayPost, MayTake, MayRetire, MayFollow, Drained}
 use Rattle.dependence.specs.JournalTests.{same_attempt}
 use Rattle.dependence.specs.Standing.{present, StageStands}
 use Rattle.dependence.proofs.Auditing.{contains-decides}
@@ -228,18 +228,15 @@ module _ (at : Stage) (a : Audited) (shows : Shows at a) where
     -- each position is a block of its own
     alone-safe : (p : ℕ) → p < at.progress.front → at.applied p ≡ true
         → ((begun_of at.progress.made p + LONGEST_DELAY ≤ at.progress.front) ⊎ Drained dependence a.faults at.progress)
-        ↔ (((q : ℕ) → p ≤ q → q < dependence.count → dependence.block q ≡ dependence.block p → IsSafe at q)
-        ⊎ Drained dependence a.faults at.progress)
+        ↔ (RestIsSafe dependence at p ⊎ Drained dependence a.faults at.progress)
     alone-safe p issued applied = (to, from)
       where
         to : (begun_of at.progress.made p + LONGEST_DELAY ≤ at.progress.front) ⊎ Drained dependence a.faults at.progress
-            → ((q : ℕ) → p ≤ q → q < dependence.count → dependence.block q ≡ dependence.block p → IsSafe at q)
-            ⊎ Drained dependence a.faults at.progress
+            → RestIsSafe dependence at p ⊎ Drained dependence a.faults at.progress
         to (inl long) = inl (λ q low counted same. subst (IsSafe at) (sym same) (record { applied = applied; long = long }))
         to (inr drained) = inr drained
 
-        from : ((q : ℕ) → p ≤ q → q < dependence.count → dependence.block q ≡ dependence.block p → IsSafe at q)
-            ⊎ Drained dependence a.faults at.progress
+        from : RestIsSafe dependence at p ⊎ Drained dependence a.faults at.progress
             → (begun_of at.progress.made p + LONGEST_DELAY ≤ at.progress.front) ⊎ Drained dependence a.faults at.progress
         from (inl rest) = inl (rest p (omega arith) (let front = stands.front_low in omega arith) refl).long
         from (inr drained) = inr drained

@@ -90,6 +90,7 @@ module _ {J W R : Type 0} (fits : W → J → Type 0) (is_run : W → J → R �
 
   view_facts : (i : ℕ) (v : View J W) → IsView s i v → ViewFacts m s v
   view_facts i v at = let ok = r.each_view i v at in record {
+    knows = ok.knows;
     claimed = (none_twice fits is_run plan s r i v at, all_from_times (λ d. d < m) v.hand.claimed (λ d h. claimed_within i v at d h));
     held = λ k. ((λ c. held_is i v at k c), λ x. is_held i v at k x.0 x.1);
     swept = (ok.within, ok.swept);
@@ -120,6 +121,7 @@ module _ {J W R : Type 0} (fits : W → J → Type 0) (is_run : W → J → R �
   pub facts_hold : BoardFacts fits is_run plan s
   facts_hold = record {
     jobs = (r.all_fit, λ i v at. (r.each_view i v at).same);
+    still = r.still;
     shares = r.shares;
     claimed_once =
         λ k i j v u at there c d. counted_once (λ (x : View J W). times k x.hand.claimed) s.views

@@ -3,7 +3,7 @@
 -- of cutting and joining it is enough that the new views are sound by themselves.
 use Rattle.std.proofs.Common.{◌≡◌, ◌≢◌, ℕ, zero, suc, ◌⊎◌, inl, inr, max, ◌+◌, ◌<◌, ◌≤◌, List, [], ◌∷◌, ◌++◌, map, length, replicate, get_or, set, sym, refl, ap, ap₂, ◌∙◌, subst, ⊎_elim, arith}
 use Rattle.std.specs.Prelude.{sum_by, All}
-use Rattle.std.proofs.lemmas.Option.{slice_get_within}
+use Rattle.std.proofs.lemmas.Option.{none-some, slice_get_within}
 use Rattle.std.proofs.lemmas.Bool.{cases_lt}
 use mathlib.Core.Option.{some, some-injective, some-ne-none}
 use lib.ListN.{get_elem?, length-map, length-replicate, get_or-replicate}
@@ -99,6 +99,7 @@ module _ {J W R : Type 0} (fits : W → J → Type 0) (is_run : W → J → R �
   blank_ok : (words : List ℕ) → ViewOk (about_of plan) words (blank {J = J} {W = W})
   blank_ok words = record {
     same = tt;
+    knows = λ _. (refl, refl);
     idle = λ _. (refl, refl);
     own = λ k. omega arith;
     within = omega arith;
@@ -141,6 +142,7 @@ module _ {J W R : Type 0} (fits : W → J → Type 0) (is_run : W → J → R �
   } (λ words ok. (
     record {
       same = ok.same;
+      knows = λ none. absurd (let was = (ok.knows none).0 in omega arith);
       idle = λ z. absurd (omega arith);
       own = ok.own;
       within = ok.within;
@@ -151,6 +153,7 @@ module _ {J W R : Type 0} (fits : W → J → Type 0) (is_run : W → J → R �
     },
     record {
       same = ok.same;
+      knows = λ none. absurd (let was = (ok.knows none).0 in omega arith);
       idle = λ z. absurd (omega arith);
       own = λ k. omega arith;
       within = omega arith;
@@ -172,6 +175,7 @@ module _ {J W R : Type 0} (fits : W → J → Type 0) (is_run : W → J → R �
   } (λ words ok. (
     record {
       same = ok.same;
+      knows = λ none. ((ok.knows none).0, refl);
       idle = ok.idle;
       own = ok.own;
       within = ok.within;
@@ -182,6 +186,7 @@ module _ {J W R : Type 0} (fits : W → J → Type 0) (is_run : W → J → R �
     },
     record {
       same = ok.same;
+      knows = λ none. (refl, (ok.knows none).1);
       idle = λ _. (refl, refl);
       own = λ k. omega arith;
       within = omega arith;
@@ -196,8 +201,8 @@ module _ {J W R : Type 0} (fits : W → J → Type 0) (is_run : W → J → R �
   lower : (k a b : ℕ) → k < max a b → (k < a) ⊎ (k < b)
   lower k a b l = elim (cases_lt k a) [ inl m ↦ inl m | inr m ↦ inr (omega arith) ]
 
-  pub joins : (id : ℕ) (v : V) (other : ℕ) (u : V) → u.book ≡ no_book → Joins Rule id v other u (passes_both hand_both v u) blank
-  joins id v other u plain = merges id v other u (passes_both hand_both v u) blank (λ s r at apart there. record {
+  pub joins : (id : ℕ) (v : V) (other : ℕ) (u : V) → 1 ≤ v.hand.share → u.book ≡ no_book → Joins Rule id v other u (passes_both hand_both v u) blank
+  joins id v other u part plain = merges id v other u (passes_both hand_both v u) blank (λ s r at apart there. record {
     share = omega arith;
     clerk = (let e = ap (λ (b : Book). b.clerk) plain in omega (arith, e));
     claims = λ k. omega (arith, times_append k v.hand.claimed u.hand.claimed);
@@ -206,6 +211,7 @@ module _ {J W R : Type 0} (fits : W → J → Type 0) (is_run : W → J → R �
   }) (λ s r at was. let ok = r.each_view id v at in let ok' = r.each_view other u was in (
     record {
       same = ok.same;
+      knows = λ none. absurd (let was = (ok.knows none).0 in omega arith);
       idle =
           λ z. (let a = ok.idle (omega arith) in let b = ok'.idle (omega arith) in
           (ap₂ (λ xs ys. xs ++ ys) a.0 b.0, ap₂ (λ xs ys. xs ++ ys) a.1 b.1));
@@ -221,9 +227,9 @@ module _ {J W R : Type 0} (fits : W → J → Type 0) (is_run : W → J → R �
     blank_ok s.words,
   ))
 
-  pub gathers : (id : ℕ) (v : V) (other : ℕ) (u : V) → u.book ≡ no_book → u.hand.share ≡ 64
+  pub gathers : (id : ℕ) (v : V) (other : ℕ) (u : V) → v.book.clerk ≡ 1 → u.book ≡ no_book → u.hand.share ≡ 64
       → Joins Rule id v other u (gathered_both v u) blank
-  gathers id v other u plain whole = merges id v other u (gathered_both v u) blank
+  gathers id v other u office plain whole = merges id v other u (gathered_both v u) blank
       (λ s r at apart there. let w : V = gathered_both v u in let vs : List V = set (set s.views id w) other blank in
       let mine : get_elem? vs id ≡ some w = set_else (set s.views id w) other id blank (λ e. apart (sym e)) ∙ found_set s.views id v w at in
       let p = tally_part (λ (x : V). x.hand.share) vs id w mine in
@@ -239,6 +245,7 @@ module _ {J W R : Type 0} (fits : W → J → Type 0) (is_run : W → J → R �
       (λ s r at was. let ok = r.each_view id v at in let ok' = r.each_view other u was in (
         record {
           same = ok.same;
+          knows = λ none. absurd (let was = (ok.knows none).1 in omega arith);
           idle = ok'.idle;
           own = ok'.own;
           within = ok'.within;
@@ -281,6 +288,7 @@ module _ {J W R : Type 0} (fits : W → J → Type 0) (is_run : W → J → R �
       first_ok : (words : List ℕ) (j : ℕ) (v : V) → get_elem? (first_view plan ∷ []) j ≡ some v → ViewOk (about_of plan) words v
       first_ok words zero v e = subst (ViewOk (about_of plan) words) (some-injective (first_view plan) v e) record {
         same = refl;
+        knows = λ none. absurd (none-some (about_of plan) (sym none));
         idle = λ z. absurd (omega arith);
         own = λ k. omega arith;
         within = omega arith;

@@ -78,6 +78,7 @@ module _ {J W R : Type 0} (fits : W → J → Type 0) (is_run : W → J → R �
   view_stays : (words words' : List ℕ) (v : V) → Up words words' → ViewOk (about_of plan) words v → ViewOk (about_of plan) words' v
   view_stays words words' v up ok = record {
     same = ok.same;
+    knows = ok.knows;
     idle = ok.idle;
     own = ok.own;
     within = ok.within;
@@ -160,6 +161,7 @@ module _ {J W R : Type 0} (fits : W → J → Type 0) (is_run : W → J → R �
               ));
           each_view = views_after s r words' id w up record {
             same = old.same;
+            knows = old.knows;
             idle = λ z. absurd (omega arith);
             own = λ j. (let z = old.own j in omega (arith, z, times_append j v.hand.held (k ∷ []), times_append j v.hand.claimed (k ∷ [])));
             within = swept_within k v.hand.swept (length jobs) inside old.within;
@@ -205,6 +207,7 @@ module _ {J W R : Type 0} (fits : W → J → Type 0) (is_run : W → J → R �
       let old = r.each_view id v at in
       reads s r (k + 1) id v (record v { hand = hand_tried k found v.hand }) at refl refl refl refl refl record {
         same = old.same;
+        knows = old.knows;
         idle = old.idle;
         own = old.own;
         within = swept_within k v.hand.swept (length jobs) inside old.within;
@@ -305,6 +308,7 @@ module _ {J W R : Type 0} (fits : W → J → Type 0) (is_run : W → J → R �
               ));
           each_view = views_after s r words' id w up record {
             same = old.same;
+            knows = old.knows;
             idle = λ z. (let i = old.idle z in (i.0, ap (without k) i.1));
             own = λ j. (let z = old.own j in omega (arith, z, without_le j k v.hand.held));
             within = old.within;
@@ -348,6 +352,7 @@ module _ {J W R : Type 0} (fits : W → J → Type 0) (is_run : W → J → R �
         tt,
         reads s r (k + 1) id v w at refl refl refl refl refl record {
           same = old.same;
+          knows = old.knows;
           idle = old.idle;
           own = old.own;
           within = old.within;
@@ -426,6 +431,7 @@ module _ {J W R : Type 0} (fits : W → J → Type 0) (is_run : W → J → R �
               ));
           each_view = views_after s r words' id w up record {
             same = old.same;
+            knows = old.knows;
             idle = old.idle;
             own = old.own;
             within = old.within;

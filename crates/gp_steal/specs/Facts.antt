@@ -1,5 +1,5 @@
 -- What the rule comes to, fact by fact, for each state that it allows.
-use Rattle.std.specs.Prelude.{◌≡◌, ◌≢◌, ◌↔◌, ℕ, ◌+◌, ◌<◌, ◌≤◌, length, slice_index, slice_get, sum_by, Some, IfSome, All, Contains}
+use Rattle.std.specs.Prelude.{◌≡◌, ◌≢◌, ◌↔◌, ℕ, ◌+◌, ◌<◌, ◌≤◌, length, slice_index, slice_get, sum_by, Some, None, IfSome, All, Contains}
 use mathlib.Core.Option.{some, none}
 use lib.ListN.{get_elem?}
 use Rattle.atomic_table.specs.Table.{State}
@@ -40,11 +40,13 @@ pub record DeskFacts {J W R : Type 0} (is_run : W → J → R → Type 0) (with 
   pub out : word_of s k ≢ 0 → word_of s k ≢ 2 → IsOut s k
 
 -- what holds of one view, of m desks
+--   knows: a pass with a share knows the jobs, and so does the clerk;
 --   claimed: it has claimed a desk at most once, and only one of the board's; held: of the desks that it has claimed it holds exactly
 --   those whose word is 1, and it holds no others; swept: each desk below its swept number was claimed, which is at most m; tried: so
 --   was the desk of its last try, where that found a number other than 0; seen: a desk that it saw done is done or collected;
 --   gathered: where its hand is the whole share that has swept all, every desk is done or collected
 pub record ViewFacts {J W R : Type 0} (m : ℕ) (s : State (Slot J R) (View J W)) (v : View J W) : Type 0 where
+  pub knows : v.about ≡ None → (v.hand.share ≡ 0) × (v.book.clerk ≡ 0)
   pub claimed : NoneTwice v.hand.claimed × All (λ k. k < m) v.hand.claimed
   pub held : (k : ℕ) → Contains v.hand.held k ↔ (Contains v.hand.claimed k × (word_of s k ≡ 1))
   pub swept : (v.hand.swept ≤ m) × ((k : ℕ) → k < v.hand.swept → 1 ≤ word_of s k)
@@ -54,12 +56,13 @@ pub record ViewFacts {J W R : Type 0} (m : ℕ) (s : State (Slot J R) (View J W)
 
 -- the facts of a board
 --   jobs: every view that still counts has the jobs and the With of the board, and each job fits;
---   shares: the shares add up to 64; claimed_once: no two views have claimed one desk;
+--   still: word 0 is 0; shares: the shares add up to 64; claimed_once: no two views have claimed one desk;
 --   taken: the clerk, and nobody else, has taken exactly the desks whose word is 3, each once
 pub record BoardFacts {J W R : Type 0} (fits : W → J → Type 0) (is_run : W → J → R → Type 0) (plan : Plan J W)
     (s : State (Slot J R) (View J W)) : Type 0 where
   pub jobs : All (fits plan.with.value) plan.jobs.value.items
       × ((i : ℕ) (v : View J W) → IsView s i v → IfSome v.about (λ a. a ≡ about_of plan))
+  pub still : slice_index s.words 0 ≡ 0
   pub shares : sum_by (λ v. v.hand.share) s.views ≡ 64
   pub claimed_once : (k i j : ℕ) (v u : View J W) → IsView s i v → IsView s j u → Contains v.hand.claimed k → Contains u.hand.claimed k
       → i ≡ j

@@ -63,11 +63,13 @@ module _ {J W R : Type 0} (is_run : W → J → R → Type 0) (with : W) where
     AtStage collected = (word ≡ 3) × (home ≡ some none) × (claims ≡ 1) × (helds ≡ 0) × (takens ≡ 1)
 
 -- what holds of one view
---   same: it has the jobs of the board; idle: without a share it has no desk; own: it holds only desks that it claimed;
+--   same: it has the jobs of the board; knows: a pass with a share has them, and so has the clerk; idle: without a share it has no
+--   desk; own: it holds only desks that it claimed;
 --   within, swept: its swept number is at most m, and each desk below it was claimed by somebody; tried: so was the desk of its last
 --   try, where that found a number other than 0; others: only the clerk takes; seen: what was seen done is done or collected
 pub record ViewOk {J W : Type 0} (about : About J W) (words : List ℕ) (v : View J W) : Type 0 where
   pub same : IfSome v.about (λ a. a ≡ about)
+  pub knows : v.about ≡ None → (v.hand.share ≡ 0) × (v.book.clerk ≡ 0)
   pub idle : v.hand.share ≡ 0 → (v.hand.claimed ≡ []) × (v.hand.held ≡ [])
   pub own : (k : ℕ) → times k v.hand.held ≤ times k v.hand.claimed
   pub within : v.hand.swept ≤ length about.jobs

@@ -23,6 +23,7 @@ initial-driving dependence =
     record {
       names_issued = initial-issued;
       begun_rises = λ p q l issued. absurd (omega arith);
+      begun_above = λ p issued. absurd (omega arith);
       begun_low = λ p issued. absurd (omega arith);
       settled = λ p settles issued. absurd (omega arith);
     }
@@ -41,8 +42,15 @@ module _ (cuts : ℕ → Bool) (dependence : Dependence) (faults : List Fault) w
   issue-driving : (at : Stage) (p : ℕ) → DrivingStands dependence at → Allowed (rolling cuts dependence) faults at (event.Issue p)
       → NamesIssued (happens rolled faults at (event.Issue p)) → DrivingStands dependence (happens rolled faults at (event.Issue p))
   issue-driving at p driving may names =
-      record { names_issued = names; begun_rises = rises; begun_low = low; settled = settled }
+      record { names_issued = names; begun_rises = rises; begun_above = above; begun_low = low; settled = settled }
     where
+      above : (q : ℕ) → q < at.progress.front + 1 → q < begun_of at.progress.made q
+      above q issued =
+          elim (cases_lt q at.progress.front) [
+            | inl before ↦ driving.begun_above q before
+            | inr new ↦ (let begun = driving.names_issued.begun q new in omega arith)
+          ]
+
       low : (q : ℕ) → q < at.progress.front + 1 → begun_of at.progress.made q ≤ at.progress.front + 1
       low q issued =
           elim (cases_lt q at.progress.front) [
@@ -76,7 +84,7 @@ module _ (cuts : ℕ → Bool) (dependence : Dependence) (faults : List Fault) w
       → DrivingStands dependence (restarted rolled at o)
   restart-driving at None driving names = driving
   restart-driving at (Some struck) driving names =
-      record { names_issued = names; begun_rises = rises; begun_low = low; settled = driving.settled }
+      record { names_issued = names; begun_rises = rises; begun_above = above; begun_low = low; settled = driving.settled }
     where
       begun : ℕ → ℕ
       begun q = begun_of (restarted rolled at (Some struck)).progress.made q
@@ -92,6 +100,13 @@ module _ (cuts : ℕ → Bool) (dependence : Dependence) (faults : List Fault) w
 
       stays : (q : ℕ) → q < cut_at cuts struck → begun q ≡ begun_of at.progress.made q
       stays q before = begins q false (unredone cuts struck at.progress.front q before)
+
+      above : (q : ℕ) → q < at.progress.front → q < begun q
+      above q issued =
+          elim (cases_lt q (cut_at cuts struck)) [
+            | inl before ↦ (let same = stays q before in let was = driving.begun_above q issued in omega arith)
+            | inr from ↦ (let front = again q from issued in omega arith)
+          ]
 
       low : (q : ℕ) → q < at.progress.front → begun q ≤ at.progress.front
       low q issued =
@@ -128,6 +143,7 @@ module _ (cuts : ℕ → Bool) (dependence : Dependence) (faults : List Fault) w
           record {
             names_issued = issued;
             begun_rises = driving.begun_rises;
+            begun_above = driving.begun_above;
             begun_low = driving.begun_low;
             settled = driving.settled;
           }
@@ -135,6 +151,7 @@ module _ (cuts : ℕ → Bool) (dependence : Dependence) (faults : List Fault) w
           record {
             names_issued = issued;
             begun_rises = driving.begun_rises;
+            begun_above = driving.begun_above;
             begun_low = driving.begun_low;
             settled = driving.settled;
           }
@@ -143,6 +160,7 @@ module _ (cuts : ℕ → Bool) (dependence : Dependence) (faults : List Fault) w
           record {
             names_issued = issued;
             begun_rises = driving.begun_rises;
+            begun_above = driving.begun_above;
             begun_low = driving.begun_low;
             settled = λ q settles l. (let was = driving.settled q settles l in let oldest = may.oldest in omega arith);
           }

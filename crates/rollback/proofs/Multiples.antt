@@ -1,11 +1,11 @@
 -- Where the multiples of a number and the settles are cuts, the multiples say what the cuts of positions are that have not retired.
-use Rattle.std.proofs.Common.{◌≡◌, ◌↔◌, inl, inr, ℕ, ◌+◌, ◌-◌, ◌*◌, ◌/◌, ◌%◌, ◌<◌, ◌≤◌, ◌==◌, max, Bool, true, false, ap, subst, ◌∙◌, arith}
+use Rattle.std.proofs.Common.{◌≡◌, ◌↔◌, inl, inr, ℕ, zero, suc, ◌+◌, ◌-◌, ◌*◌, ◌/◌, ◌%◌, ◌<◌, ◌≤◌, ◌==◌, max, Bool, true, false, ap, subst, ◌∙◌, arith}
 use Rattle.std.proofs.lemmas.Bool.{false_from_ne_true, eqb-true, eq-eqb, or_left, or_from, cases_lt}
 use Rattle.std.proofs.lemmas.Nat.{mod_below, mod-mul-add}
 use Rattle.std.proofs.Math.Nat.{div-add-mod, mul-mod_right, add-mod_right}
 use Rattle.dependence.specs.meaning.Restarts.{Dependence}
-use Rattle.dependence.specs.meaning.Journal.{Stage, IsSafe}
-use Rattle.rollback.specs.meaning.Cuts.{is_cut, cut_at}
+use Rattle.dependence.specs.meaning.Journal.{Stage, IsSafe, RestIsSafe}
+use Rattle.rollback.specs.meaning.Cuts.{is_cut, cut_at, rolling}
 use Rattle.rollback.specs.Driving.{DrivingStands, multiple_at}
 use Rattle.rollback.proofs.Backs.{settle-cuts, cut-low, cut-above, cut-under}
 
@@ -73,6 +73,37 @@ module _ (every : ℕ) (some : 1 ≤ every) where
       between-uncut p q low high unretired issued =
           or_from (q % every == 0) (dependence.settles q) (between-divides p q low high)
           (false_from_ne_true (dependence.settles q) (λ settles. (let behind = driving.settled q settles issued in omega arith)))
+
+      -- where the rest of a block is safe, each position up to the next multiple is of that block, and was issued
+      module _ (p : ℕ) (counted : at.progress.front ≤ dependence.count) (unretired : at.retired ≤ p) (issued : p < at.progress.front)
+          (rest : RestIsSafe (rolling cuts dependence) at p) where
+        -- one that is safe is followed by one that was issued
+        safe-issued : (q : ℕ) → p ≤ q → q < at.progress.front → cut_at cuts q ≡ cut_at cuts p → q + 1 < at.progress.front
+        safe-issued q low there same =
+            let long = (rest q low (omega arith) same).long in let above = driving.begun_above q there in omega arith
+
+        in-block : (q : ℕ) → p ≤ q → q < multiple_at every p + every → (cut_at cuts q ≡ cut_at cuts p) × (q < at.progress.front)
+        in-block zero low high = (let same : 0 ≡ p = omega arith in (ap (cut_at cuts) same, omega arith))
+        in-block (suc q) low high =
+            elim (cases_lt q p) [
+              | inl last ↦ (let same : suc q ≡ p = omega arith in (ap (cut_at cuts) same, omega arith))
+              | inr from ↦
+                  (let before = in-block q from (omega arith) in
+                  let next = safe-issued q from before.1 before.0 in
+                  let least = multiple-low p in
+                  let uncut = between-uncut p (suc q) (omega arith) high (omega arith) (omega arith) in
+                  (rw uncut before.0, omega arith))
+            ]
+
+        pub rest-safe-only : (multiple_at every p + every ≤ at.progress.front)
+            × ((q : ℕ) → p ≤ q → q < multiple_at every p + every → IsSafe at q)
+        rest-safe-only = (
+          let above = multiple-above p in
+              let last = in-block (multiple_at every p + every - 1) (omega arith) (omega arith) in
+              let next = safe-issued (multiple_at every p + every - 1) (omega arith) last.1 last.0 in
+              omega arith,
+          λ q low high. let there = in-block q low high in let front = there.1 in rest q low (omega arith) there.0,
+        )
 
       -- the cut is the multiple, or else not past the oldest position
       cut-most : (p : ℕ) → p < at.progress.front → cut_at cuts p ≤ max (multiple_at every p) at.retired

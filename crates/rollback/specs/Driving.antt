@@ -5,7 +5,7 @@ use Rattle.gp_base.specs.declared.fault.Fault.{Fault}
 use Rattle.gp_base.specs.declared.journal.Event.{Event}
 use Rattle.gp_base.specs.declared.journal.Event.TheVariants as event
 use Rattle.dependence.specs.meaning.Restarts.{Dependence, begun_of, struck_next}
-use Rattle.dependence.specs.meaning.Journal.{Stage, initial_stage, IsSafe, Allowed, Lawful, happens, stage}
+use Rattle.dependence.specs.meaning.Journal.{Stage, initial_stage, IsSafe, RestIsSafe, Allowed, Lawful, happens, stage}
 use Rattle.dependence.specs.Standing.{present, NamesIssued}
 use Rattle.dependence.specs.RunBuffer.{IsOut}
 use Rattle.rollback.specs.meaning.Cuts.{is_cut, cut_at, rolling}
@@ -14,8 +14,9 @@ use Rattle.rollback.specs.Standing.{BlocksStand}
 -- what holds between two events of where attempts began and of settles
 pub record DrivingStands (dependence : Dependence) (at : Stage) : Type 0 where
   pub names_issued : NamesIssued at
-  -- of two positions that were issued the later one did not begin earlier, and neither began past the front
+  -- of two positions that were issued the later one did not begin earlier, and each began past itself and not past the front
   pub begun_rises : (p q : ℕ) → p ≤ q → q < at.progress.front → begun_of at.progress.made p ≤ begun_of at.progress.made q
+  pub begun_above : (p : ℕ) → p < at.progress.front → p < begun_of at.progress.made p
   pub begun_low : (p : ℕ) → p < at.progress.front → begun_of at.progress.made p ≤ at.progress.front
   -- all before a settle that was issued has retired
   pub settled : (p : ℕ) → dependence.settles p ≡ true → p < at.progress.front → p ≤ at.retired
@@ -81,6 +82,15 @@ RestLaw =
     (every : ℕ) (dependence : Dependence) (at : Stage) (p : ℕ) → 1 ≤ every
     → ((q : ℕ) → p ≤ q → q < multiple_at every p + every → IsSafe at q)
     → (q : ℕ) → p ≤ q → cut_at (is_cut every dependence) q ≡ cut_at (is_cut every dependence) p → IsSafe at q
+
+-- and only there, where the position was issued and has not retired: below the next multiple its block ends at no settle, since one that
+-- was issued waited until all before it had retired, and not with the run, since the last attempts of a run began less long ago
+abbrev pub RestOnlyLaw : Type 0
+RestOnlyLaw =
+    (every : ℕ) (dependence : Dependence) (at : Stage) (p : ℕ) → 1 ≤ every → DrivingStands dependence at
+    → at.progress.front ≤ dependence.count → at.retired ≤ p → p < at.progress.front
+    → RestIsSafe (rolling (is_cut every dependence) dependence) at p
+    → (multiple_at every p + every ≤ at.progress.front) × ((q : ℕ) → p ≤ q → q < multiple_at every p + every → IsSafe at q)
 
 -- positions that are applied are safe where the last of them began long ago
 abbrev pub SafeLaw : Type 0

@@ -1,6 +1,6 @@
 // The laws of what a run that rolls back reads off its stages, each on a function with an empty body.
 
-ghost use Rattle.rollback.specs.Driving.{InitialDrivingLaw, DrivingEventLaw, DrivingJournalLaw, SafeLaw, CutLaw, WholeLaw, RestLaw, StruckLaw, StillOutLaw, RolledLaw, UnbegunLaw};
+ghost use Rattle.rollback.specs.Driving.{InitialDrivingLaw, DrivingEventLaw, DrivingJournalLaw, SafeLaw, CutLaw, WholeLaw, RestLaw, RestOnlyLaw, StruckLaw, StillOutLaw, RolledLaw, UnbegunLaw};
 
 /// The later of two positions did not begin earlier, and all before a settle that was issued has retired: so it is
 /// before the first event, after each that is allowed, and so after each journal that is lawful by blocks. Of positions
@@ -13,11 +13,12 @@ pub fn stage_laws()
 {}
 
 /// Where the multiples of a number and the settles are cuts, the cut of a position that has not retired is found with
-/// no look at a settle but the oldest position, and the next one above it with none.
+/// no look at a settle but the oldest position, and whether the rest of its block is safe with none.
 pub fn multiple_laws()
     ensures cut { CutLaw }
     ensures whole { WholeLaw }
     ensures rest { RestLaw }
+    ensures rest_only { RestOnlyLaw }
 {}
 
 /// No rollback goes back to before what has retired. After it nothing is out that was not out before it, from its cut

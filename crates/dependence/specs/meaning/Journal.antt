@@ -69,13 +69,17 @@ pub record IsSafe (at : Stage) (p : ℕ) : Type 0 where
   pub applied : at.applied p ≡ true
   pub long : begun_of at.progress.made p + LONGEST_DELAY ≤ at.progress.front
 
+-- the rest of its block, from p on, is safe
+abbrev pub RestIsSafe : Dependence → Stage → ℕ → Type 0
+RestIsSafe dependence at p = (q : ℕ) → p ≤ q → q < dependence.count → dependence.block q ≡ dependence.block p → IsSafe at q
+
 -- p may retire: the rest of its block is safe, or no fault is left
 pub record MayRetire (dependence : Dependence) (faults : List Fault) (at : Stage) (p : ℕ) : Type 0 where
   pub oldest : p ≡ at.retired
   pub issued : p < at.progress.front
   pub applied : at.applied p ≡ true
   pub none_due : NoneDue faults at.progress
-  pub safe : ((q : ℕ) → p ≤ q → q < dependence.count → dependence.block q ≡ dependence.block p → IsSafe at q) ⊎ Drained dependence faults at.progress
+  pub safe : RestIsSafe dependence at p ⊎ Drained dependence faults at.progress
 
 -- the event may come next
 abbrev pub Allowed : Dependence → List Fault → Stage → Event → Type 0

@@ -1,4 +1,4 @@
-use Rattle.rollback.proofs.Multiples.{cut-multiple, cut-oldest, cut-retired, whole-cut, rest-is-safe}
+use Rattle.rollback.proofs.Multiples.{cut-multiple, cut-oldest, cut-retired, whole-cut, rest-is-safe, rest-safe-only}
 use Rattle.rollback.proofs.driving_laws.multiple_laws.Goals as goal
 
 pub returns : goal.returns
@@ -11,4 +11,6 @@ returns c = record {
   whole = λ every dependence faults at p some blocks driving.
       whole-cut every some dependence at driving blocks.stands.retired_applied p;
   rest = λ every dependence at p some. rest-is-safe every some dependence at p;
+  rest_only = λ every dependence at p some driving counted unretired issued.
+      rest-safe-only every some dependence at driving p counted unretired issued;
 }

@@ -8,5 +8,5 @@ join_seat-requires g c = (
   c.requires.of.1.0.0,
   c.args.pass.bare,
   omega arith,
-  gathers g.J.Job.fits g.J.Job.is_run _ _ _ _ _ c.args.pass.plain c.requires.whole.0,
+  gathers g.J.Job.fits g.J.Job.is_run _ _ _ _ _ c.args.clerk.now.office c.args.pass.plain c.requires.whole.0,
 )

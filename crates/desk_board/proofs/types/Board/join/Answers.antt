@@ -8,5 +8,5 @@ join_seat-requires g c = (
   c.requires.of.1.0.0,
   c.args.other.bare,
   omega arith,
-  joins g.J.Job.fits g.J.Job.is_run _ _ _ _ _ c.args.other.plain,
+  joins g.J.Job.fits g.J.Job.is_run _ _ _ _ _ c.args.into.now.part c.args.other.plain,
 )
