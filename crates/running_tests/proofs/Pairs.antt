@@ -1,7 +1,7 @@
 -- What two cells keep of what is asked of stores.
 use Rattle.std.proofs.Common.{◌≡◌, ℕ, zero, suc, ◌<◌, Bool, true, false, List, [], ◌∷◌, length, map, get_or, Some, None, cond, nat_eq, refl, sym, ap, ◌∙◌, subst, arith}
 use Rattle.std.specs.Prelude.{ℤ, pos, All, slice_get, unwrap_or, option_map, Option}
-use Rattle.std.specs.List.{Contains}
+use Rattle.std.specs.List.{Contains, IsDistinct}
 use Rattle.std.specs.List.Sorted.{IsStrictlyIncreasing}
 use Rattle.std.specs.Ordering.{nat_cmp}
 use Rattle.std.specs.Cmp.{unsigned_tied}
@@ -16,7 +16,13 @@ use Rattle.record_store.specs.declared.given.Bundle.{Bundle}
 use Rattle.record_store.specs.Given.{value_in}
 use Rattle.record_store.specs.Stored.{Stored, state_of, SameShape, IsAway, IsAtHome, CellsAtHome}
 use Rattle.record_store.specs.Lent.{marked, lock_in, whole_effect, MayComeHome, IsSharedOut}
+use Rattle.record_store.proofs.Homing.{distinct-rising}
 use Rattle.running_tests.specs.Pairs.{each_alone, IsPair}
+
+-- a lock alone is distinct
+pub one_distinct : (locks : List ℕ) (lock : ℕ) → locks ≡ lock ∷ [] → IsDistinct nat_eq locks
+one_distinct locks lock is =
+    subst (IsDistinct nat_eq) (sym is) (distinct-rising (lock ∷ []) (λ k less. absurd (omega arith)))
 
 -- ---- what is shared out
 

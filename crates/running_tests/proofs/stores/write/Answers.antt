@@ -3,8 +3,11 @@ use Rattle.task_ast.specs.meaning.State.{number_at}
 use Rattle.record_store.specs.declared.effect.Effect.{Effect}
 use Rattle.record_store.specs.Stored.{Stored}
 use Rattle.running_tests.specs.Pairs.{each_alone}
-use Rattle.running_tests.proofs.Pairs.{one_bundle, written}
+use Rattle.running_tests.proofs.Pairs.{one_bundle, one_distinct, written}
 use Rattle.running_tests.proofs.stores.write.Goals as goal
+
+pub lend-requires-clause-distinct : goal.lend-requires-clause-distinct
+lend-requires-clause-distinct c = one_distinct c.in_ok-held.held c.args.cell c.in_ok-held.ensures
 
 pub returns-clause-cells : goal.returns-clause-cells
 returns-clause-cells c =
