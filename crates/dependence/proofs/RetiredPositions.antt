@@ -84,22 +84,23 @@ module _ (dependence : Dependence) (faults : List Fault) where
           let posted = stands.applied_posted p low allowed.applied in
           (posted, stands.applied_taken p allowed.applied posted)
 
-  module _ (clean : KeepsClean dependence faults) where
-    ran-from : (at : Stage) (events : List Event) → StageStands dependence faults at → LawfulFrom dependence faults at events → Ran at
+  -- where what holds between two events says that no restart redoes what has retired
+  module _ (Holds : Stage → Type 0) (initial : Holds initial_stage) (stands : (at : Stage) → Holds at → StageStands dependence faults at)
+      (keeps : (at : Stage) → Holds at → KeepsRetired dependence faults at)
+      (then : (at : Stage) (e : Event) → Holds at → Allowed dependence faults at e → Holds (happens dependence faults at e)) where
+    ran-from : (at : Stage) (events : List Event) → Holds at → LawfulFrom dependence faults at events → Ran at
         → Ran (stage_from dependence faults at events)
-    ran-from at [] stands lawful ran = ran
-    ran-from at (e ∷ rest) stands lawful ran =
-        let keeps = clean.retired at stands in
-        ran-from (happens dependence faults at e) rest
-        (happens-stands dependence clean.conflicts faults clean.short at e keeps stands lawful.0) lawful.1
-        (ran-happens at e keeps stands lawful.0 ran)
+    ran-from at [] holds lawful ran = ran
+    ran-from at (e ∷ rest) holds lawful ran =
+        ran-from (happens dependence faults at e) rest (then at e holds lawful.0) lawful.1
+        (ran-happens at e (keeps at holds) (stands at holds) lawful.0 ran)
 
-    pub ran : (events : List Event) (p : ℕ) → Lawful dependence faults events → Contains (retirements events) p
+    pub ran-where : (events : List Event) (p : ℕ) → Lawful dependence faults events → Contains (retirements events) p
         → Contains (posts events) (p, attempt_of (stage dependence faults events).progress.made p)
         × Contains (takes events) (p, attempt_of (stage dependence faults events).progress.made p)
-    ran events p lawful retired =
+    ran-where events p lawful retired =
         let at = stage dependence faults events in
-        let held = ran-from initial_stage events (initial-stands dependence faults) lawful (λ q l. absurd (omega arith)) p below in (
+        let held = ran-from initial_stage events initial lawful (λ q l. absurd (omega arith)) p below in (
           subst (λ pairs. Contains pairs (p, present at p)) (all-posted initial_stage events) held.0,
           subst (λ pairs. Contains pairs (p, present at p)) (all-taken initial_stage events) held.1,
         )
@@ -118,3 +119,11 @@ module _ (dependence : Dependence) (faults : List Fault) where
             let same = get-numbers 0 count listed.0 p low in
             let h = (counted dependence faults initial_stage events lawful).retired_is in
             let k = listed.2 in omega arith
+
+  pub ran : KeepsClean dependence faults → (events : List Event) (p : ℕ) → Lawful dependence faults events
+      → Contains (retirements events) p
+      → Contains (posts events) (p, attempt_of (stage dependence faults events).progress.made p)
+      × Contains (takes events) (p, attempt_of (stage dependence faults events).progress.made p)
+  ran clean =
+      ran-where (StageStands dependence faults) (initial-stands dependence faults) (λ at stands. stands) clean.retired
+      (λ at e stands. happens-stands dependence clean.conflicts faults clean.short at e (clean.retired at stands) stands)

@@ -6,10 +6,10 @@ use Rattle.gp_base.specs.declared.journal.Event.{Event}
 use Rattle.gp_base.specs.declared.journal.Event.TheVariants as event
 use Rattle.gp_base.specs.declared.journal.Restart.{Restart}
 use Rattle.dependence.specs.meaning.Dependents.{dependents}
-use Rattle.dependence.specs.meaning.Restarts.{Dependence, struck_next}
+use Rattle.dependence.specs.meaning.Restarts.{Dependence, attempt_of, struck_next}
 use Rattle.dependence.specs.Restarts.{RedoesStruck}
 use Rattle.dependence.specs.meaning.Journal.{Stage, initial_stage, Allowed, happens, Lawful, Complete, stage}
-use Rattle.dependence.specs.Counts.{HasAll}
+use Rattle.dependence.specs.Counts.{retirements, posts, takes, HasAll}
 use Rattle.dependence.specs.Standing.{present, AreShort, KeepsRetired, RedoesConflicts}
 use Rattle.dependence.specs.RunBuffer.{IsOut}
 use Rattle.rollback.specs.meaning.Cuts.{is_cut, cut_at, back, rolling}
@@ -106,6 +106,14 @@ AllLaw =
     (cuts : ℕ → Bool) (dependence : Dependence) (faults : List Fault) (events : List Event) → SettlesCut cuts dependence → AreShort faults
     → Complete (rolling cuts dependence) faults events
     → (stage (rolling cuts dependence) faults events).progress.made ≡ rollbacks cuts dependence faults
+
+-- what has retired was posted and taken at its present attempt
+abbrev pub RanLaw : Type 0
+RanLaw =
+    (cuts : ℕ → Bool) (dependence : Dependence) (faults : List Fault) (events : List Event) (p : ℕ) → SettlesCut cuts dependence
+    → AreShort faults → Lawful (rolling cuts dependence) faults events → Contains (retirements events) p
+    → let made = (stage (rolling cuts dependence) faults events).progress.made in
+    Contains (posts events) (p, attempt_of made p) × Contains (takes events) (p, attempt_of made p)
 
 -- a journal that is lawful by blocks is complete exactly where it has an issue and a retirement for each position and all rollbacks
 abbrev pub CompleteLaw : Type 0

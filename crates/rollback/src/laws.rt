@@ -1,6 +1,6 @@
 // The laws of the definitions, each on a function with an empty body.
 
-ghost use Rattle.rollback.specs.Laws.{SettlesLaw, RisesLaw, AgainLaw, DependentsLaw, LaterLaw, RollsLaw, InitialLaw, KeepsLaw, EventLaw, StandsLaw, OneBlockLaw, WaitsLaw, PostsLaw, FirstLaw, NextLaw, AllLaw, CompleteLaw};
+ghost use Rattle.rollback.specs.Laws.{SettlesLaw, RisesLaw, AgainLaw, DependentsLaw, LaterLaw, RollsLaw, InitialLaw, KeepsLaw, EventLaw, StandsLaw, OneBlockLaw, WaitsLaw, PostsLaw, FirstLaw, NextLaw, AllLaw, RanLaw, CompleteLaw};
 
 /// The multiples of a number and the settles of a run are cuts of it: each settle is one, so that what has retired
 /// before it is not rolled back. A later position has no earlier cut, and that of a cut is the cut itself.
@@ -33,11 +33,13 @@ pub fn standing_laws()
 {}
 
 /// The restarts of a journal that is lawful by blocks are the first of all rollbacks, one may come next exactly where
-/// the next of all has the present front, and a complete journal has them all. It is complete exactly where it has an
-/// issue and a retirement for each position and all rollbacks.
+/// the next of all has the present front, and a complete journal has them all. What has retired was posted and taken at
+/// its present attempt. It is complete exactly where it has an issue and a retirement for each position and all
+/// rollbacks.
 pub fn rollbacks_laws()
     ensures first { FirstLaw }
     ensures next { NextLaw }
     ensures all { AllLaw }
+    ensures ran { RanLaw }
     ensures complete { CompleteLaw }
 {}
