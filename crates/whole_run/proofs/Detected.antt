@@ -37,7 +37,7 @@ use Rattle.whole_run.specs.declared.parts.Parts.{Parts}
 use Rattle.whole_run.specs.declared.parts.backing.Backup.{Backup}
 use Rattle.whole_run.specs.declared.parts.backing.Checkpoint.{Checkpoint}
 use Rattle.whole_run.specs.declared.calls.Halt.{Halt}
-use Rattle.whole_run.specs.Recovering.{redo_by, HasCuts, AllowedBy}
+use Rattle.whole_run.specs.Recovering.{recovered, HasCuts, AllowedBy}
 use Rattle.whole_run.specs.View.{Batch, run_in, dependence_in, start_in}
 use Rattle.whole_run.specs.Gives.{IsBackBy, IsBack, IsScoutedBy, IsScouted, NoneHolds, NoneOut, struck_now}
 use Rattle.whole_run.specs.inner.Backed.{StandsBy, open_cut, BackedBy, HistoriesStand, CopiesStand}
@@ -209,7 +209,7 @@ module _ (batch : Batch) (parts : Parts) (kept : Kept batch parts) (p : ℕ) (is
       redo-is =
           ap (redone parts.rol.entries p) kept.journal.issued_are
           ∙ (same-redo (run_in batch) at parts.rol.entries p kept.window.entries_are all-known young
-          ∙ ap (λ recovery. redo_by recovery (run_in batch) p at.progress.front) (sym selective))
+          ∙ ap (λ recovery. (recovered recovery (run_in batch)).redo p at.progress.front) (sym selective))
 
       -- all is kept
       pub kept-restarted : IsBack (view_of batch parts) → (entries : List Entry) (store : Stored) (events : List Event)

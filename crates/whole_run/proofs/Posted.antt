@@ -2,8 +2,9 @@
 -- are at home and rise. The task that is made of it has the place of its thread, and is given what the store holds;
 -- that makes it a task that stands. After the post the locks are away and the entry is out, and what a block keeps was
 -- opened before.
-use Rattle.std.proofs.Common.{◌≡◌, ℕ, true, List, [], ◌∷◌, ◌++◌, refl, sym, ap, ◌∙◌, subst, arith}
+use Rattle.std.proofs.Common.{◌≡◌, inl, inr, ℕ, true, nat_lt, List, [], ◌∷◌, ◌++◌, refl, sym, ap, ◌∙◌, subst, arith}
 use Rattle.std.specs.Prelude.{All, Contains, get_or, pos, negsuc}
+use Rattle.std.proofs.lemmas.Bool.{or_cases, ltb-true}
 use Rattle.std.specs.List.Sorted.{IsStrictlyIncreasing}
 use Rattle.std.specs.Option.{IsSomeAnd}
 use Rattle.std.proofs.lemmas.List.Elements.{Contains-push, Contains-get_or}
@@ -24,13 +25,13 @@ use Rattle.task_code.specs.Relation.{Rests}
 use Rattle.gp_base.specs.declared.fault.Fault.{Fault}
 use Rattle.dependence.specs.meaning.Journal.{Stage, MayPost, happens}
 use Rattle.dependence.specs.Posting.{IsWithin, posting_of}
-use Rattle.dependence.specs.meaning.Runs.{dependence_of}
+use Rattle.dependence.specs.meaning.Runs.{feet_of, dependence_of}
 use Rattle.dependence.specs.Runs.{lock_feet_of}
 use Rattle.dependence.specs.meaning.Conflict.{clash_in}
 use Rattle.dependence.specs.Standing.{present, StageStands}
 use Rattle.dependence.specs.RunBuffer.{members_at}
 use Rattle.dependence.proofs.Posting.{post-by-locks, run-within}
-use Rattle.rollback.specs.meaning.Cuts.{cuts_of, rolling_of}
+use Rattle.rollback.specs.meaning.Cuts.{cut_at, cuts_of, rolling_of}
 use Rattle.task_ast.specs.SyncOps.{joined_by}
 use Rattle.record_store.specs.Given.{given_of}
 use Rattle.record_store.specs.Lent.{marked}
@@ -73,9 +74,15 @@ post-allowed Selective run faults at p attempt within may whole =
     post-by-locks (dependence_of run) (clash_in (lock_feet_of run)) at p attempt within may
 post-allowed (Rollback every) run faults at p attempt within may whole =
     record {
-      may = post-by-locks (rolling_of (cuts_of every run) run) (clash_in (lock_feet_of run)) at p attempt within
-          (record { issued = may.issued; unretired = may.unretired; present = may.present; unposted = may.unposted; ready = may.ready });
-      before_block = whole;
+      issued = may.issued;
+      unretired = may.unretired;
+      present = may.present;
+      unposted = may.unposted;
+      ready = λ q l waits.
+          elim (or_cases (clash_in (feet_of run) q p) (nat_lt q (cut_at (cuts_of every run) p)) waits) [
+            | inl clash ↦ (post-by-locks (dependence_of run) (clash_in (lock_feet_of run)) at p attempt within may).ready q l clash
+            | inr before ↦ whole q (ltb-true q (cut_at (cuts_of every run) p) before)
+          ];
     }
 
 -- what contracts see is the same, where a block was opened

@@ -39,46 +39,36 @@ module _ (run : List Subthread) where
     -- what is lawful by blocks is lawful
     pub allowed-plain : (recovery : Recovery) (at : Stage) (e : Event) → AllowedBy run faults recovery at e
         → Allowed (recovering recovery run) faults at e
-    allowed-plain Selective at e allowed = allowed
-    allowed-plain (Rollback every) at e allowed = blocks.allowed-narrower (cuts_of every run) (dependence_of run) faults at e allowed
+    allowed-plain recovery at e allowed = allowed
 
     -- an issue, a take and a restart are allowed as they are without blocks
     pub issue-allowed : (recovery : Recovery) (at : Stage) (p : ℕ) → MayIssue (recovering recovery run) faults at p
         → AllowedBy run faults recovery at (event.Issue p)
-    issue-allowed Selective at p may = may
-    issue-allowed (Rollback every) at p may = may
+    issue-allowed recovery at p may = may
 
     pub take-allowed : (recovery : Recovery) (at : Stage) (p attempt : ℕ) (applies : Bool) → MayTake at p attempt applies
         → AllowedBy run faults recovery at (event.Take p attempt applies)
-    take-allowed Selective at p attempt applies may = may
-    take-allowed (Rollback every) at p attempt applies may = may
+    take-allowed recovery at p attempt applies may = may
 
     pub restart-allowed : (recovery : Recovery) (at : Stage) (number : ℕ) → MayRestart (recovering recovery run) faults at number
         → AllowedBy run faults recovery at (event.Restart number)
-    restart-allowed Selective at number may = may
-    restart-allowed (Rollback every) at number may = may
+    restart-allowed recovery at number may = may
 
     pub lawful-plain : (recovery : Recovery) (events : List Event) → LawfulBy run faults recovery events
         → Lawful (recovering recovery run) faults events
-    lawful-plain Selective events lawful = lawful
-    lawful-plain (Rollback every) events lawful = blocks.lawful-narrower (cuts_of every run) (dependence_of run) faults events lawful
+    lawful-plain recovery events lawful = lawful
 
     pub complete-plain : (recovery : Recovery) (events : List Event) → CompleteBy run faults recovery events
         → Complete (recovering recovery run) faults events
-    complete-plain Selective events complete = complete
-    complete-plain (Rollback every) events complete =
-        blocks.complete-narrower (cuts_of every run) (dependence_of run) faults events complete
+    complete-plain recovery events complete = complete
 
     pub no-events : (recovery : Recovery) → LawfulBy run faults recovery []
-    no-events Selective = tt
-    no-events (Rollback every) = tt
+    no-events recovery = tt
 
     pub lawful-push : (recovery : Recovery) (events : List Event) (e : Event) → LawfulBy run faults recovery events
         → AllowedBy run faults recovery (stage (recovering recovery run) faults events) e → LawfulBy run faults recovery (events ++ e ∷ [])
-    lawful-push Selective events e lawful allowed =
-        selective_journals.LawfulFrom-push (dependence_of run) faults initial_stage events e lawful allowed
-    lawful-push (Rollback every) events e lawful allowed =
-        blocks.lawful-push (cuts_of every run) (dependence_of run) faults events e lawful allowed
+    lawful-push recovery events e lawful allowed =
+        selective_journals.LawfulFrom-push (recovering recovery run) faults initial_stage events e lawful allowed
 
     -- what stands after a lawful journal
     pub names-after : (recovery : Recovery) (events : List Event) → LawfulBy run faults recovery events
