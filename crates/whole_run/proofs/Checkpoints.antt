@@ -16,7 +16,7 @@ use Rattle.task_ast.specs.meaning.State.{State}
 use Rattle.task_ast.specs.meaning.Effect.{after}
 use Rattle.task_ast.specs.meaning.Plain.{Subthread}
 use Rattle.dependence.specs.meaning.Restarts.{Dependence}
-use Rattle.dependence.specs.meaning.Journal.{Stage, MayTake, happens}
+use Rattle.dependence.specs.meaning.Journal.{Stage, MayTake, happens, Allowed}
 use Rattle.dependence.specs.Standing.{present}
 use Rattle.dependence.specs.meaning.Runs.{dependence_of}
 use Rattle.dependence.specs.Histories.{HasCells}
@@ -24,7 +24,6 @@ use Rattle.dependence.specs.Touching.{done_by}
 use Rattle.dependence.specs.Buffer.{with_at}
 use Rattle.dependence.specs.RunBuffer.{members_at}
 use Rattle.rollback.specs.meaning.Cuts.{cut_at, cuts_of, rolling_of}
-use Rattle.dependence.specs.meaning.Journal.{Allowed}
 use Rattle.rollback.specs.States.{Held, HeldStands, StaysBehind}
 use Rattle.rollback.proofs.States.{happens-held, copy-keeps}
 use Rattle.record_store.specs.Stored.{Stored, state_of}

@@ -10,7 +10,7 @@ use Rattle.gp_base.specs.declared.journal.Event.{Event}
 use Rattle.gp_base.specs.declared.journal.Event.TheVariants as event
 use Rattle.gp_base.specs.meaning.Sinks.{AppendsPrefix}
 use Rattle.dependence.specs.meaning.Restarts.{is_due, is_live, least_struck, NoneLive}
-use Rattle.dependence.specs.meaning.Journal.{Stage, Drained, happens}
+use Rattle.dependence.specs.meaning.Journal.{Stage, Drained, happens, Allowed}
 use Rattle.dependence.specs.Standing.{StageStands}
 use Rattle.reorder_list.specs.declared.entry.Entry.{Entry}
 use Rattle.reorder_list.specs.declared.entry.State.{State}
@@ -20,7 +20,6 @@ use Rattle.reorder_list.specs.Stages.{EntriesStand}
 use Rattle.whole_run.specs.declared.parts.Parts.{Parts}
 use Rattle.whole_run.specs.declared.parts.backing.Backup.{Backup}
 use Rattle.whole_run.specs.declared.calls.Halt.{Halt}
-use Rattle.whole_run.specs.Recovering.{AllowedBy}
 use Rattle.whole_run.specs.View.{Batch, View, grown, now, program_in, run_in, dependence_in, start_in, lines_of, lines_at}
 use Rattle.reorder_list.specs.declared.report.StopWhy.{StopWhy}
 use Rattle.restart_log.specs.meaning.Lines.{printed}
@@ -125,7 +124,7 @@ module _ (batch : Batch) (parts : Parts) (kept : Kept batch parts) where
   not-now false_is may = false≢true (sym false_is ∙ retires-now may)
 
   module _ (true_is : retires ≡ true) where
-    pub allowed : AllowedBy (run_in batch) batch.faults batch.recovery at (event.Retire at.retired)
+    pub allowed : Allowed (dependence_in batch) batch.faults at (event.Retire at.retired)
     allowed =
         let may = may-now true_is in
         record {

@@ -14,13 +14,12 @@ use Rattle.task_ast.specs.meaning.Table.{numbers}
 use Rattle.task_ast.specs.meaning.Plain.{Subthread}
 use Rattle.dependence.specs.meaning.Dependents.{is_member}
 use Rattle.dependence.specs.meaning.Restarts.{Dependence, struck_next}
-use Rattle.dependence.specs.meaning.Journal.{Stage, happens, restarted}
+use Rattle.dependence.specs.meaning.Journal.{Stage, happens, restarted, Allowed}
 use Rattle.dependence.specs.Standing.{present}
 use Rattle.dependence.specs.meaning.Runs.{dependence_of}
 use Rattle.dependence.specs.Histories.{HasCells}
 use Rattle.dependence.proofs.Struck.{struck-live}
 use Rattle.rollback.specs.meaning.Cuts.{cut_at, cuts_of, back, rolling_of}
-use Rattle.dependence.specs.meaning.Journal.{Allowed}
 use Rattle.rollback.specs.States.{HeldStands, IsCopy, held_restarted}
 use Rattle.rollback.specs.Driving.{RollsBack}
 use Rattle.rollback.proofs.Backs.{cut-low, unredone}

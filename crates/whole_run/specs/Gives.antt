@@ -18,7 +18,7 @@ use Rattle.task_ast.specs.meaning.Turn as turns
 use Rattle.task_ast.specs.laws.Standing.{Stands as StandsAt}
 use Rattle.task_ast.specs.meaning.Position.{last_below}
 use Rattle.dependence.specs.meaning.Restarts.{is_live, is_due, least_struck, NoneDue, NoneLive}
-use Rattle.dependence.specs.meaning.Journal.{Stage, WasTaken, MayPost, RestIsSafe}
+use Rattle.dependence.specs.meaning.Journal.{Stage, WasTaken, MayPost, RestIsSafe, Allowed}
 use Rattle.dependence.specs.Posting.{posting_of}
 use Rattle.dependence.specs.Standing.{present}
 use Rattle.dependence.specs.RunBuffer.{IsOut}
@@ -30,7 +30,6 @@ use Rattle.reorder_list.specs.declared.report.StopWhy.TheVariants.{WriteFault}
 use Rattle.restart_log.specs.meaning.Lines.{printed}
 use Rattle.whole_run.specs.declared.recovery.Recovery.{Recovery}
 use Rattle.whole_run.specs.declared.recovery.Recovery.TheVariants.{Selective, Rollback}
-use Rattle.whole_run.specs.Recovering.{AllowedBy}
 use Rattle.whole_run.specs.inner.RingStands.{IsLearnt}
 use Rattle.whole_run.specs.declared.parts.closing.TheConstants.{WINDOW}
 use Rattle.whole_run.specs.declared.calls.Issued.{Issued}
@@ -67,7 +66,7 @@ HasWaited recovery run at _ = ⊤
 
 -- the event was allowed, had waited, and was made
 pub record Did (before : View) (event : Event) (after : View) : Type 0 where
-  pub allowed : AllowedBy (run_in before.batch) before.batch.faults before.batch.recovery (now before) event
+  pub allowed : Allowed (dependence_in before.batch) before.batch.faults (now before) event
   pub waited : HasWaited before.batch.recovery (run_in before.batch) (now before) event
   pub grown : after ≡ grown before event
 

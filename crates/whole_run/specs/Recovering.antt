@@ -1,10 +1,7 @@
--- What is read of a run, and which of its journals are lawful, by the way in which it recovers.
+-- What is read of a run, by the way in which it recovers.
 use Rattle.std.specs.Prelude.{ℕ, ◌≤◌, ⊤, List}
-use Rattle.gp_base.specs.declared.fault.Fault.{Fault}
-use Rattle.gp_base.specs.declared.journal.Event.{Event}
 use Rattle.task_ast.specs.meaning.Plain.{Subthread}
 use Rattle.dependence.specs.meaning.Restarts.{Dependence}
-use Rattle.dependence.specs.meaning.Journal.{Stage, Allowed, Lawful, Complete}
 use Rattle.dependence.specs.meaning.Runs.{dependence_of}
 use Rattle.rollback.specs.meaning.Cuts.{cuts_of, rolling_of}
 use Rattle.whole_run.specs.declared.recovery.Recovery.{Recovery}
@@ -15,7 +12,7 @@ abbrev pub recovered : Recovery → List Subthread → Dependence
 recovered Selective run = dependence_of run
 recovered (Rollback every) run = rolling_of (cuts_of every run) run
 
--- and the same, in which what does not depend on how it recovers is told without it
+-- and the same, where what is so in both ways can be read without asking which it is
 abbrev pub recovering : Recovery → List Subthread → Dependence
 recovering recovery run =
     record (dependence_of run) {
@@ -28,16 +25,3 @@ recovering recovery run =
 abbrev pub HasCuts : Recovery → Type 0
 HasCuts Selective = ⊤
 HasCuts (Rollback every) = 1 ≤ every
-
-module _ (run : List Subthread) (faults : List Fault) where
-  -- the event may come next
-  abbrev pub AllowedBy : Recovery → Stage → Event → Type 0
-  AllowedBy recovery at event = Allowed (recovering recovery run) faults at event
-
-  -- each event is allowed after those before it
-  abbrev pub LawfulBy : Recovery → List Event → Type 0
-  LawfulBy recovery events = Lawful (recovering recovery run) faults events
-
-  -- and the journal is that of a whole run
-  abbrev pub CompleteBy : Recovery → List Event → Type 0
-  CompleteBy recovery events = Complete (recovering recovery run) faults events
