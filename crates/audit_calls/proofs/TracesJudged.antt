@@ -7,8 +7,6 @@ use Rattle.gp_base.specs.meaning.Files.{bytes_of}
 use Rattle.task_ast.specs.meaning.Tree.{Name}
 use Rattle.task_ast.specs.meaning.Plain.{Subthread, order}
 use Rattle.dependence.specs.meaning.Restarts.{Dependence}
-use Rattle.gp_base.specs.declared.fault.Fault.{Fault}
-use Rattle.gp_base.specs.declared.journal.Event.{Event}
 use Rattle.dependence.specs.meaning.Restarts.{restarts}
 use Rattle.dependence.specs.meaning.Journal.{Complete}
 use Rattle.dependence.specs.meaning.Runs.{dependence_of, restarts_of}
@@ -25,7 +23,7 @@ use Rattle.command_line.specs.declared.asked.Command.{Command}
 use Rattle.command_line.specs.declared.asked.Command.TheVariants as command
 use Rattle.call_cases.specs.meaning.Work.{Files, ToDo, is_journalled}
 use Rattle.call_cases.specs.meaning.PlainText.{restarts_in}
-use Rattle.call_cases.specs.meaning.Recovering.{recovering_by, CompleteBy}
+use Rattle.call_cases.specs.meaning.Recovering.{recovering_by}
 use Rattle.call_cases.specs.meaning.Journals.{run_of, dependence_for, IsJournalOf, IsCompleteOf}
 use Rattle.call_cases.specs.meaning.Case.{Go, IsCase, ForCase, ForRun, status_of, text_of}
 use Rattle.call_cases.specs.meaning.RunCommands as run
@@ -40,28 +38,18 @@ use Rattle.call_cases.proofs.NoCheckpoints.{restarts_alone}
 use Rattle.audit_calls.proofs.Readings.{told, told_reads, told_lines, told_something, lines_told}
 use Rattle.audit_calls.proofs.TrialCases.{lines_case}
 
--- what is said of a run of a command that restarts alone, of restarts and of complete journals
-module _ (run : List Subthread) (faults : List Fault) where
-  alone_restarts : (c : Command) → RestartsAlone c → restarts (recovering_by c run) faults ≡ restarts_of run faults
-  alone_restarts command.Run alone = refl
-  alone_restarts command.One alone = refl
-  alone_restarts command.Check alone = refl
-  alone_restarts (command.Soak batch) alone = refl
-  alone_restarts (command.Ckpt every) alone = absurd alone
-  alone_restarts command.Log alone = refl
-
-  alone_complete : (c : Command) (events : List Event) → RestartsAlone c → CompleteBy c run faults events
-      → Complete (dependence_of run) faults events
-  alone_complete command.Run events alone is = is
-  alone_complete command.One events alone is = is
-  alone_complete command.Check events alone is = is
-  alone_complete (command.Soak batch) events alone is = is
-  alone_complete (command.Ckpt every) events alone is = absurd alone
-  alone_complete command.Log events alone is = is
+-- a command that restarts alone recovers by restarts
+alone_recovering : (run : List Subthread) (c : Command) → RestartsAlone c → recovering_by c run ≡ dependence_of run
+alone_recovering run command.Run alone = refl
+alone_recovering run command.One alone = refl
+alone_recovering run command.Check alone = refl
+alone_recovering run (command.Soak batch) alone = refl
+alone_recovering run (command.Ckpt every) alone = absurd alone
+alone_recovering run command.Log alone = refl
 
 alone_first : (work : ToDo) → RestartsAlone work.command → restarts_of (run_of work) work.faults ≡ restarts_in work
 unfolding run_of restarts_in
-alone_first work alone = sym (alone_restarts (run_of work) work.faults work.command alone)
+alone_first work alone = ap (λ d. restarts d work.faults) (sym (alone_recovering (run_of work) work.command alone))
 
 -- what a headline says of the journal of a run that ended
 module _ (call : Call) (files : Files) (names : List Name) (work : ToDo) (headline : Headline run.commands call)
@@ -82,7 +70,7 @@ module _ (call : Call) (files : Files) (names : List Name) (work : ToDo) (headli
 
   whole_run : run.IsWhole call.status → IsWholeRun (run_of work) work.faults call.journal
   whole_run whole = record {
-    complete = alone_complete (run_of work) work.faults work.command call.journal.events alone (complete_of whole);
+    complete = subst (λ d. Complete d work.faults call.journal.events) (alone_recovering (run_of work) work.command alone) (complete_of whole);
     first = (journal_of.first.0, alone_first work alone ∙ journal_of.first.1);
     counted = journal_of.counted;
   }

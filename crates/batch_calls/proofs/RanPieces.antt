@@ -15,7 +15,7 @@ use Rattle.gp_base.proofs.Written.{Appends-append, prefix_first, prefix_second, 
 use Rattle.task_ast.specs.meaning.Plain.{Subthread, order, end, final_records}
 use Rattle.gp_base.specs.declared.journal.Event.{Event}
 use Rattle.dependence.specs.meaning.Restarts.{restarts}
-use Rattle.dependence.specs.meaning.Journal.{stage}
+use Rattle.dependence.specs.meaning.Journal.{Lawful, Complete, stage}
 use Rattle.task_ast.specs.meaning.Names.{records_of}
 use Rattle.task_ast.specs.meaning.Layout.{cut}
 use Rattle.restart_log.specs.meaning.Lines.{printed}
@@ -35,7 +35,7 @@ use Rattle.command_line.specs.declared.asked.Command.TheVariants as command
 use Rattle.command_line.specs.declared.asked.Soak.{Soak}
 use Rattle.call_cases.specs.meaning.Work.{ToDo}
 use Rattle.call_cases.specs.meaning.PlainText.{plain_ran, restarts_in}
-use Rattle.call_cases.specs.meaning.Recovering.{recovering_by, LawfulBy, CompleteBy}
+use Rattle.call_cases.specs.meaning.Recovering.{recovering_by}
 use Rattle.call_cases.specs.meaning.Journals.{run_of, recovering_for, retired_in, lines_before, HoldsRetired, IsJournalOf, IsCompleteOf, TakesRetiredFor}
 use Rattle.call_cases.specs.meaning.Answers.{Change, IsEmpty, TakesAll, TakesPart, Fails}
 use Rattle.call_cases.proofs.RunSound.{empty_journal_of, none_retired}
@@ -43,7 +43,7 @@ use Rattle.batch_calls.specs.inner.Planned.{recovery_of}
 use Rattle.batch_calls.specs.inner.Ran.{WritesLines, Stops, why_of, RunsBatch, bytes_below, bytes_at, IsReportOf, RunsIf, RunsWork, RanIf, RanFor, told_tail, told_soak}
 use Rattle.call_cases.specs.meaning.Texts.{run_tail, run_text, run_soak}
 
--- a run that recovers as a command does redoes what is said of the command, and its journals are lawful and complete as is said of it
+-- a run that recovers as a command does is that of which is said what is said of the command
 pub same_recovering : (c : Command) (run : List Subthread) → whole.recovering (recovery_of c) run ≡ recovering_by c run
 same_recovering command.Run run = refl
 same_recovering command.One run = refl
@@ -52,31 +52,10 @@ same_recovering (command.Soak batch) run = refl
 same_recovering (command.Ckpt every) run = refl
 same_recovering command.Log run = refl
 
-module _ (run : List Subthread) (faults : List Fault) (events : List Event) where
-  same_lawful : (c : Command) → whole.LawfulBy run faults (recovery_of c) events → LawfulBy c run faults events
-  same_lawful command.Run is = is
-  same_lawful command.One is = is
-  same_lawful command.Check is = is
-  same_lawful (command.Soak batch) is = is
-  same_lawful (command.Ckpt every) is = is
-  same_lawful command.Log is = is
-
-  same_complete : (c : Command) → whole.CompleteBy run faults (recovery_of c) events → CompleteBy c run faults events
-  same_complete command.Run is = is
-  same_complete command.One is = is
-  same_complete command.Check is = is
-  same_complete (command.Soak batch) is = is
-  same_complete (command.Ckpt every) is = is
-  same_complete command.Log is = is
-
-  -- all have retired where a journal is complete
-  retired_by : (c : Command) → CompleteBy c run faults events → (stage (recovering_by c run) faults events).retired ≡ length run
-  retired_by command.Run complete = complete.retired
-  retired_by command.One complete = complete.retired
-  retired_by command.Check complete = complete.retired
-  retired_by (command.Soak batch) complete = complete.retired
-  retired_by (command.Ckpt every) complete = complete.retired
-  retired_by command.Log complete = complete.retired
+-- all have retired where a journal is complete
+retired_by : (run : List Subthread) (faults : List Fault) (events : List Event) (c : Command)
+    → Complete (recovering_by c run) faults events → (stage (recovering_by c run) faults events).retired ≡ length run
+retired_by run faults events c complete = complete.retired ∙ ap (λ d. d.count) (sym (same_recovering c run))
 
 -- a batch that is the run of a work
 module _ (batch : Batch) (work : ToDo) (program : program_in batch ≡ work.program) (inputs : batch.inputs ≡ work.inputs)
@@ -104,8 +83,8 @@ module _ (batch : Batch) (work : ToDo) (program : program_in batch ≡ work.prog
   journal_of : (journal : Journal) → JournalStands batch journal → IsJournalOf work journal
   journal_of journal stands = record {
     lawful =
-        same_lawful (run_of work) work.faults journal.events work.command
-        (crossed (λ r run f. whole.LawfulBy run f r journal.events) stands.lawful);
+        subst (λ d. Lawful d work.faults journal.events) (same_recovering work.command (run_of work))
+        (crossed (λ r run f. Lawful (whole.recovering r run) f journal.events) stands.lawful);
     first = (stands.first.0, sym restarts_same ∙ stands.first.1);
     counted = stands.counted;
   }
@@ -116,8 +95,8 @@ module _ (batch : Batch) (work : ToDo) (program : program_in batch ≡ work.prog
       let restarts = reports.restarts ∙ restarts_same in
       record {
         complete =
-            same_complete (run_of work) work.faults report.journal.events work.command
-            (crossed (λ r run f. whole.CompleteBy run f r report.journal.events) reports.complete);
+            subst (λ d. Complete d work.faults report.journal.events) (same_recovering work.command (run_of work))
+            (crossed (λ r run f. Complete (whole.recovering r run) f report.journal.events) reports.complete);
         restarts = restarts;
         end =
             reports.end ∙ ap (λ p. end p batch.inputs batch.limits) program ∙ ap (λ i. end work.program i batch.limits) inputs

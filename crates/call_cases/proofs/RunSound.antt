@@ -13,7 +13,6 @@ use Rattle.call_cases.specs.meaning.Work.{ToDo, runs}
 use Rattle.call_cases.specs.meaning.Answers.{IsEmpty}
 use Rattle.call_cases.specs.Answers.{unwritten}
 use Rattle.call_cases.specs.meaning.PlainText.{plain_ran}
-use Rattle.call_cases.specs.meaning.Recovering.{LawfulBy}
 use Rattle.call_cases.specs.meaning.Journals.{run_of, IsJournalOf, TakesRetired, TakesRetiredFor, retired_in, lines_before}
 use Rattle.call_cases.specs.meaning.Commands.{Asking, Commands, MayLog}
 use Rattle.call_cases.specs.Commands.{IsApart, AreSound}
@@ -47,15 +46,7 @@ empty_by journal empty = ap (λ e. journal_by e journal.restarts) empty.0 ∙ ap
 pub empty_journal_of : (work : ToDo) (journal : Journal) → IsEmpty journal → IsJournalOf work journal
 empty_journal_of work journal empty =
     subst (IsJournalOf work) (sym (empty_by journal empty))
-    (record { lawful = none_lawful work.command; first = (_, refl); counted = refl })
-  where
-    none_lawful : (c : Command) → LawfulBy c (run_of work) work.faults []
-    none_lawful command.Run = tt
-    none_lawful command.One = tt
-    none_lawful command.Check = tt
-    none_lawful (command.Soak batch) = tt
-    none_lawful (command.Ckpt every) = tt
-    none_lawful command.Log = tt
+    (record { lawful = tt; first = (_, refl); counted = refl })
 
 pub none_retired : (work : ToDo) (journal : Journal) → IsEmpty journal → retired_in work journal ≡ 0
 none_retired work journal empty = ap (λ j. retired_in work j) (empty_by journal empty)

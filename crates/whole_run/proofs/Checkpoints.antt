@@ -16,7 +16,7 @@ use Rattle.task_ast.specs.meaning.State.{State}
 use Rattle.task_ast.specs.meaning.Effect.{after}
 use Rattle.task_ast.specs.meaning.Plain.{Subthread}
 use Rattle.dependence.specs.meaning.Restarts.{Dependence}
-use Rattle.dependence.specs.meaning.Journal.{Stage, MayTake, happens}
+use Rattle.dependence.specs.meaning.Journal.{Stage, MayTake, happens, Allowed}
 use Rattle.dependence.specs.Standing.{present}
 use Rattle.dependence.specs.meaning.Runs.{dependence_of}
 use Rattle.dependence.specs.Histories.{HasCells}
@@ -24,7 +24,6 @@ use Rattle.dependence.specs.Touching.{done_by}
 use Rattle.dependence.specs.Buffer.{with_at}
 use Rattle.dependence.specs.RunBuffer.{members_at}
 use Rattle.rollback.specs.meaning.Cuts.{cut_at, cuts_of, rolling_of}
-use Rattle.rollback.specs.meaning.Journal.{AllowedByBlocks}
 use Rattle.rollback.specs.States.{Held, HeldStands, StaysBehind}
 use Rattle.rollback.proofs.States.{happens-held, copy-keeps}
 use Rattle.record_store.specs.Stored.{Stored, state_of}
@@ -104,7 +103,7 @@ module _ (run : List Subthread) (faults : List Fault) (start : State) (cells : H
       -- ---- events but rollbacks and retirements
 
       -- after an event that is no rollback to before a checkpoint
-      module _ (e : Event) (allowed : AllowedByBlocks cuts (dependence_of run) faults at e) where
+      module _ (e : Event) (allowed : Allowed rolled faults at e) where
         abbrev after_event : Stage
         after_event = happens rolled faults at e
 
@@ -135,7 +134,7 @@ module _ (run : List Subthread) (faults : List Fault) (start : State) (cells : H
               live = subst (λ c. AreLive after_event.retired c.items) (sym same) live;
             }
 
-      pub copies-issue : (p : ℕ) (e : Entry) (later : Stored) → AllowedByBlocks cuts (dependence_of run) faults at (event.Issue p)
+      pub copies-issue : (p : ℕ) (e : Entry) (later : Stored) → Allowed rolled faults at (event.Issue p)
           → IsFresh e
           → state_of later ≡ state_of store → StaysShaped store later
           → Copies (happens rolled faults at (event.Issue p)) (entries ++ e ∷ []) later backup
@@ -147,7 +146,7 @@ module _ (run : List Subthread) (faults : List Fault) (start : State) (cells : H
           (record { below = copies.whole.below; issued = let most = copies.whole.issued in omega arith; next = copies.whole.next })
           refl copies.has copies.live
 
-      pub copies-post : (p attempt : ℕ) (later : Stored) → AllowedByBlocks cuts (dependence_of run) faults at (event.Post p attempt)
+      pub copies-post : (p attempt : ℕ) (later : Stored) → Allowed rolled faults at (event.Post p attempt)
           → EntriesStand run at entries → IsOpened (Rollback every) entries p backup → state_of later ≡ state_of store
           → StaysShaped store later
           → Copies (happens rolled faults at (event.Post p attempt)) (with_change_at p out_entry entries) later backup
@@ -171,11 +170,11 @@ module _ (run : List Subthread) (faults : List Fault) (start : State) (cells : H
               this q same low =
                   subst (λ r. HasCut backup.checkpoints.items (cut_at cuts r)) same
                   (opened (cut_at cuts p)
-                  (open-cut-there run at entries entries_are stands.1 every stands.2 p allowed.may.unretired allowed.may.issued
+                  (open-cut-there run at entries entries_are stands.1 every stands.2 p allowed.unretired allowed.issued
                   (subst (λ r. at.retired ≤ cut_at cuts r) (sym same) low)))
 
       pub copies-stale : (p attempt : ℕ) (foot : Footprint)
-          → AllowedByBlocks cuts (dependence_of run) faults at (event.Take p attempt false)
+          → Allowed rolled faults at (event.Take p attempt false)
           → Copies (happens rolled faults at (event.Take p attempt false)) (with_change_at p (known_entry foot) entries) store backup
       copies-stale p attempt foot allowed =
           copies-then (event.Take p attempt false) allowed (λ cut. tt) (with_change_at p (known_entry foot) entries) store backup

@@ -14,13 +14,12 @@ use Rattle.task_ast.specs.meaning.Table.{numbers}
 use Rattle.task_ast.specs.meaning.Plain.{Subthread}
 use Rattle.dependence.specs.meaning.Dependents.{is_member}
 use Rattle.dependence.specs.meaning.Restarts.{Dependence, struck_next}
-use Rattle.dependence.specs.meaning.Journal.{Stage, happens, restarted}
+use Rattle.dependence.specs.meaning.Journal.{Stage, happens, restarted, Allowed}
 use Rattle.dependence.specs.Standing.{present}
 use Rattle.dependence.specs.meaning.Runs.{dependence_of}
 use Rattle.dependence.specs.Histories.{HasCells}
 use Rattle.dependence.proofs.Struck.{struck-live}
 use Rattle.rollback.specs.meaning.Cuts.{cut_at, cuts_of, back, rolling_of}
-use Rattle.rollback.specs.meaning.Journal.{AllowedByBlocks}
 use Rattle.rollback.specs.States.{HeldStands, IsCopy, held_restarted}
 use Rattle.rollback.specs.Driving.{RollsBack}
 use Rattle.rollback.proofs.Backs.{cut-low, unredone}
@@ -51,7 +50,7 @@ module _ (run : List Subthread) (faults : List Fault) (start : State) (cells : H
   rolled = rolling_of cuts run
 
   module _ (number struck cut : ℕ)
-      (allowed : AllowedByBlocks cuts (dependence_of run) faults at (event.Restart number))
+      (allowed : Allowed rolled faults at (event.Restart number))
       (next : struck_next rolled faults at.progress ≡ Some struck) (opens : open_cut every entries struck ≡ Some cut) where
     abbrev behind : Stage
     behind = happens rolled faults at (event.Restart number)

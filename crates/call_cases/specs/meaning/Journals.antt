@@ -4,13 +4,13 @@ use Rattle.gp_base.specs.declared.journal.Journal.{Journal}
 use Rattle.gp_base.specs.declared.journal.Restart.{Restart}
 use Rattle.task_ast.specs.meaning.Plain.{Subthread, order}
 use Rattle.dependence.specs.meaning.Restarts.{Dependence}
-use Rattle.dependence.specs.meaning.Journal.{stage}
+use Rattle.dependence.specs.meaning.Journal.{stage, Lawful, Complete}
 use Rattle.dependence.specs.meaning.Runs.{dependence_of}
 use Rattle.dependence.specs.meaning.Counts.{is_restart}
 use Rattle.command_line.specs.declared.asked.Command.{Command}
 use Rattle.command_line.specs.declared.asked.Command.TheVariants as command
 use Rattle.call_cases.specs.meaning.Work.{ToDo}
-use Rattle.call_cases.specs.meaning.Recovering.{recovering_by, LawfulBy, CompleteBy}
+use Rattle.call_cases.specs.meaning.Recovering.{recovering_by}
 use Rattle.call_cases.specs.meaning.PlainText.{restarts_in}
 use Rattle.restart_log.specs.meaning.Lines.{printed}
 use Rattle.call_cases.specs.meaning.Answers.{Change, TakesAll, TakesPart, TakesNothing}
@@ -28,13 +28,13 @@ recovering_for work = recovering_by work.command (run_of work)
 
 -- The journal is lawful for the run and the faults. Its restarts are the first of all restarts, as many as its events make.
 pub record IsJournalOf (work : ToDo) (journal : Journal) : Type 0 where
-  pub lawful : LawfulBy work.command (run_of work) work.faults journal.events
+  pub lawful : Lawful (recovering_by work.command (run_of work)) work.faults journal.events
   pub first : (rest : List Restart) × (restarts_in work ≡ journal.restarts ++ rest)
   pub counted : length journal.restarts ≡ count_by is_restart journal.events
 
 -- every subthread was issued and has retired, and all restarts were made
 abbrev pub IsCompleteOf : ToDo → Journal → Type 0
-IsCompleteOf work journal = CompleteBy work.command (run_of work) work.faults journal.events
+IsCompleteOf work journal = Complete (recovering_by work.command (run_of work)) work.faults journal.events
 
 -- how many subthreads have retired
 abbrev pub retired_in : ToDo → Journal → ℕ
