@@ -28,7 +28,7 @@ View J W = SeatView J W Hand
 
 -- nothing in hand: no pass
 abbrev pub no_hand : Hand
-no_hand = record { share = 0; drawn = []; held = []; ticket = None }
+no_hand = record { share = 0; passes = 0; drawn = []; held = []; ticket = None }
 
 -- nothing on the books: no clerk
 abbrev pub no_book : Book
@@ -43,7 +43,7 @@ pub data Stage : Type 0 where
 
 -- the first pass has the whole share and no desk
 abbrev pub first_hand : Hand
-first_hand = record { share = 64; drawn = []; held = []; ticket = None }
+first_hand = record { share = 64; passes = 1; drawn = []; held = []; ticket = None }
 
 -- the clerk of a new board has seen and taken nothing
 abbrev pub first_book : Book

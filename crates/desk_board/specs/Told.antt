@@ -91,14 +91,20 @@ ticket_either a b = elim a [ None ↦ b | Some t ↦ Some t ]
 -- what two passes have together
 abbrev pub hand_both : Hand → Hand → Hand
 hand_both h g =
-    record { share = h.share + g.share; drawn = h.drawn ++ g.drawn; held = h.held ++ g.held; ticket = ticket_either h.ticket g.ticket }
+    record {
+      share = h.share + g.share;
+      passes = h.passes + g.passes;
+      drawn = h.drawn ++ g.drawn;
+      held = h.held ++ g.held;
+      ticket = ticket_either h.ticket g.ticket;
+    }
 
 -- a part of 1 goes to a new pass, which ended where this one did
 abbrev pub hand_kept : Hand → Hand
 hand_kept h = record h { share = h.share - 1 }
 
 abbrev pub hand_given : Hand → Hand
-hand_given h = record { share = 1; drawn = []; held = []; ticket = h.ticket }
+hand_given h = record { share = 1; passes = 1; drawn = []; held = []; ticket = h.ticket }
 
 module _ {J W : Type 0} where
   -- it is the job of desk k, and fits

@@ -89,8 +89,8 @@ impl<J: Job> Board<J> {
         }
     }
 
-    /// Adds the share and the drawn desks of another pass, which holds no desk. The pass has ended where either had.
-    /// Takes no memory.
+    /// Adds the share, the passes and the drawn desks of another pass, which holds no desk. The pass has ended where
+    /// either had. Takes no memory.
     pub fn join(&self, into: &mut Pass<J>, other: Pass<J>)
         requires of { IsPassOf self.now into.old × IsPassOf self.now other }
         requires idle { (hand other).held ≡ [] }

@@ -22,6 +22,8 @@ pub struct About<J, W> {
 pub struct Hand {
     /// Its part of the 64 parts of the right to draw.
     pub share: u64,
+    /// How many passes it is made of: itself, and those that were joined into it.
+    pub passes: u64,
     /// The desks that it has drawn, and those that passes joined into it had drawn.
     pub drawn: LinkedList<u64>,
     /// Those of them whose run isn't back yet.
