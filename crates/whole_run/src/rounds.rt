@@ -3,7 +3,7 @@ ghost use Rattle.std.specs.Prelude.{◌≡◌, ◌<◌, None, OnOk, OnErr, IfOk,
 ghost use Rattle.reorder_list.specs.declared.report.StopWhy.TheVariants as stop;
 ghost use Rattle.crew.specs.Noted.{NotesRetired, NotesPart};
 ghost use Rattle.dependence.specs.meaning.Journal.{Complete};
-ghost use Rattle.whole_run.specs.View.{run_in, end_in, now};
+ghost use Rattle.whole_run.specs.View.{dependence_in, end_in, now};
 ghost use Rattle.whole_run.specs.Gives.{struck_now, IsBack, IsScouted, HasStopCause, HasStopCauses, NoneToPost};
 ghost use Rattle.whole_run.specs.Notes.{KeepsLeftBy, KeepsNotes, KeepsAllNotes, StopsNotes};
 ghost use Rattle.whole_run.specs.Takes.{CrewStands};
