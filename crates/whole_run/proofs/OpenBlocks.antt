@@ -25,7 +25,7 @@ use Rattle.whole_run.specs.declared.parts.backing.Checkpoint.{Checkpoint}
 use Rattle.whole_run.specs.Gives.{NoneOut}
 use Rattle.whole_run.specs.inner.Backed.{held_of, open_cut, HasCut, AreLive, IsWhole, StandsBy, IsCheckpoint, CopiesStand}
 use Rattle.whole_run.proofs.OpenCuts.{open-cut-is}
-use Rattle.whole_run.proofs.CutRows.{rising-push, cuts_in, cuts-append}
+use Rattle.whole_run.proofs.CutRows.{rising-push, cuts_in, cuts-append, live-push}
 
 module _ (run : List Subthread) (faults : List Fault) (start : State) (cells : HasCells start) (every : ℕ) (at : Stage)
     (stands : StandsBy run faults (Rollback every) at) (entries : List Entry) (store : Stored) (backup : Backup)

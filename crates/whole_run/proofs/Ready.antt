@@ -8,7 +8,6 @@ use Rattle.dependence.specs.meaning.Conflict.{clash_in}
 use Rattle.dependence.specs.meaning.Journal.{Stage, happens, Allowed}
 use Rattle.dependence.specs.Posting.{KeepsReady, OutReady}
 use Rattle.dependence.specs.RunBuffer.{IsOut}
-use Rattle.dependence.specs.meaning.Runs.{feet_of}
 use Rattle.dependence.specs.Runs.{lock_feet_of}
 use Rattle.dependence.specs.Standing.{present, StageStands}
 use Rattle.dependence.proofs.Posting.{out-ready, no-locks-clash}
@@ -36,7 +35,8 @@ module _ (run : List Subthread) where
 
   -- where a restart has waited, what is out is in conflict by locks only where it is so in the run: it holds no lock, or there is none
   clear-of-locks : (recovery : Recovery) (at : Stage) → ((p attempt : ℕ) → Contains at.posted (p, attempt) → p < length run)
-      → IsBackBy recovery run at → (p attempt q : ℕ) → IsOut at p attempt → q < p → locks q p ≡ true → clash_in (feet_of run) q p ≡ true
+      → IsBackBy recovery run at → (p attempt q : ℕ) → IsOut at p attempt → q < p → locks q p ≡ true
+      → (recovering recovery run).clash q p ≡ true
   clear-of-locks Selective at within none p attempt q out less clash =
       let there = slice_get_inside run p (within p attempt out.posted) in
       no-locks-clash run p q there.0 there.1

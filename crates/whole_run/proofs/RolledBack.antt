@@ -35,7 +35,7 @@ use Rattle.whole_run.specs.declared.parts.backing.Backup.{Backup}
 use Rattle.whole_run.specs.declared.parts.backing.Checkpoint.{Checkpoint}
 use Rattle.whole_run.specs.inner.Backed.{held_of, open_cut, HasCut, AreLive, IsWhole, StandsBy, IsCheckpoint, HasCheckpoints, CopiesStand}
 use Rattle.whole_run.specs.inner.Backing.{IsRestored, DropsAfter}
-use Rattle.whole_run.proofs.CutRows.{rising-front, cuts_in, cuts-append}
+use Rattle.whole_run.proofs.CutRows.{rising-front, cuts_in, cuts-append, live-front}
 use Rattle.whole_run.proofs.EntryLines.{lines-kept}
 use Rattle.whole_run.proofs.Checkpoints.{StaysShaped, held-as, checkpoint-kept}
 use Rattle.whole_run.proofs.OpenBlocks.{cut-is, none-applied}
