@@ -1,3 +1,4 @@
+pub mod NarrowRuns
 pub mod Readings
 pub mod SomeJudge
 pub mod Sound

@@ -1,5 +1,5 @@
 -- The trace of a run that ended is judged lawful.
-use Rattle.std.proofs.Common.{◌≡◌, inl, inr, ℕ, true, List, [], ◌∷◌, ◌++◌, refl, sym, ap, subst, ◌∙◌}
+use Rattle.std.proofs.Common.{◌≡◌, inl, inr, ℕ, Bool, true, List, [], ◌∷◌, ◌++◌, refl, sym, ap, subst, ◌∙◌}
 use Rattle.std.specs.declared.option.Option.TheVariants.{Some}
 use Rattle.std.specs.declared.result.Result.{Result}
 use Rattle.std.specs.declared.result.Result.TheVariants.{Ok}
@@ -16,7 +16,8 @@ use Rattle.gp_audit.specs.declared.verdict.Verdict.{Verdict}
 use Rattle.gp_audit.specs.declared.verdict.Verdict.TheVariants.{Lawful}
 use Rattle.gp_audit.specs.meaning.Answer.{verdict_text, verdict_status}
 use Rattle.gp_audit.specs.meaning.Verdicts.{IsVerdict}
-use Rattle.gp_traces.specs.Laws.{IsWholeRun, IsNarrowRun}
+use Rattle.gp_traces.specs.Laws.{IsWholeRun}
+use Rattle.audit_calls.proofs.NarrowRuns.{narrow_run}
 use Rattle.gp_audit.proofs.Orders.{order-is}
 use Rattle.gp_traces.proofs.WholeRuns.{audit-is-lawful}
 use Rattle.command_line.specs.declared.asked.Command.{Command}
@@ -31,10 +32,10 @@ use Rattle.call_cases.specs.meaning.Headline.{Call, Headline}
 use Rattle.call_cases.proofs.OneCase.{one_case_of}
 use Rattle.audit_calls.specs.meaning.Tried.{Reads, Judge, tried_with}
 use Rattle.audit_calls.specs.meaning.AuditCommands.{asking, commands}
-use Rattle.audit_calls.specs.Laws.{IsSameRun, TraceLaw}
+use Rattle.audit_calls.specs.meaning.Laws.{IsSameRun, TraceLaw}
 use Rattle.audit_calls.specs.inner.Trials.{AnswersLines}
 use Rattle.command_line.proofs.RestartsAlone.{RestartsAlone}
-use Rattle.call_cases.proofs.NoCheckpoints.{restarts_alone}
+use Rattle.call_cases.proofs.AskedCases.{restarts_alone}
 use Rattle.audit_calls.proofs.Readings.{told, told_reads, told_lines, told_something, lines_told}
 use Rattle.audit_calls.proofs.TrialCases.{lines_case}
 
@@ -52,20 +53,22 @@ unfolding run_of restarts_in
 alone_first work alone = ap (λ d. restarts d work.faults) (sym (alone_recovering (run_of work) work.command alone))
 
 -- what a headline says of the journal of a run that ended
-module _ (call : Call) (files : Files) (names : List Name) (work : ToDo) (headline : Headline run.commands call)
+module _ (waits : Bool) (call : Call) (files : Files) (names : List Name) (work : ToDo) (headline : Headline (run.commands_among waits) call)
     (known : call.files ≡ Some files)
-    (is : IsCase run.asking call.words files (Go names work)) (runs : is_journalled work.command ≡ true) where
+    (is : IsCase (run.asking_among waits) call.words files (Go names work)) (runs : is_journalled work.command ≡ true) where
   journal_of : IsJournalOf work call.journal
   journal_of =
-      subst (λ told. ForCase run.asking call.words told (λ case. ForRun run.commands case (λ w. IsJournalOf w call.journal))) known
+      subst (λ told. ForCase (run.asking_among waits) call.words told
+      (λ case. ForRun (run.commands_among waits) case (λ w. IsJournalOf w call.journal))) known
       headline.lawful (Go names work) is runs
 
   alone : RestartsAlone work.command
-  alone = restarts_alone call.words files names work is
+  alone = restarts_alone waits call.words files names work is
 
   complete_of : run.IsWhole call.status → IsCompleteOf work call.journal
   complete_of whole =
-      subst (λ told. ForCase run.asking call.words told (λ case. ForRun run.commands case (λ w. IsCompleteOf w call.journal))) known
+      subst (λ told. ForCase (run.asking_among waits) call.words told
+      (λ case. ForRun (run.commands_among waits) case (λ w. IsCompleteOf w call.journal))) known
       (headline.complete whole) (Go names work) is runs
 
   whole_run : run.IsWhole call.status → IsWholeRun (run_of work) work.faults call.journal
@@ -76,12 +79,12 @@ module _ (call : Call) (files : Files) (names : List Name) (work : ToDo) (headli
   }
 
   -- what a judge reads in its trace, and how these lines are judged
-  judged : (judge : Judge) → run.IsWhole call.status → IsNarrowRun (run_of work) work.faults
+  judged : (judge : Judge) → run.IsWhole call.status
       → (lines : List TraceLine) × (judge.lines_of (trace_text call.journal) ≡ Ok lines)
       × ((verdict : Verdict) → IsVerdict (dependence_for work) work.faults lines verdict → verdict ≡ Lawful)
   unfolding dependence_for
-  judged judge whole narrow =
-      elim (audit-is-lawful (run_of work) work.faults call.journal narrow (whole_run whole) (told read)
+  judged judge whole =
+      elim (audit-is-lawful (run_of work) work.faults call.journal (narrow_run waits call.words files names work is) (whole_run whole) (told read)
       (told_reads text read (judge.reads text))) [
         | inl out ↦ absurd (told_something read out)
         | inr found ↦ (
@@ -119,9 +122,9 @@ same_verdict judge work other lines same lawful =
     (sym (same_dependence work other same)) faults)
 
 pub trace_law : TraceLaw
-trace_law judge call files names work headline known is runs whole narrow within audited files' names' work' case is' same holds is_case =
+trace_law judge waits call files names work headline known is runs whole within audited files' names' work' case is' same holds is_case =
     let text = trace_text call.journal in
-    let found = judged call files names work headline known is runs judge whole narrow in
+    let found = judged waits call files names work headline known is runs judge whole in
     let answers : AnswersLines judge names' audited.trace work' (bytes_of files' audited.trace) (Ok found.0) =
     subst (λ bytes. AnswersLines judge names' audited.trace work' bytes (Ok found.0)) (sym holds)
     (lines_told judge names' audited.trace work' text found.0 within (subst (Reads text) found.1 (judge.reads text))) in

@@ -25,7 +25,7 @@ use Rattle.gp_audit.proofs.Orders.{order-is}
 use Rattle.call_cases.specs.meaning.Work.{ToDo}
 use Rattle.call_cases.specs.meaning.Journals.{run_of, dependence_for}
 use Rattle.call_cases.specs.Answers.{PutFor, unwritten}
-use Rattle.audit_calls.specs.Laws.{OneJudge}
+use Rattle.audit_calls.specs.meaning.Laws.{OneJudge}
 use Rattle.audit_calls.specs.meaning.Tried.{Judge, tried_with}
 use Rattle.audit_calls.proofs.Readings.{one_reading}
 

@@ -112,4 +112,4 @@ unbegun_ends c asked work written faults err status journal empty ends = go c
     go command.Check = ran command.Check
     go (command.Soak batch) = ran (command.Soak batch)
     go (command.Ckpt every) = ran (command.Ckpt every)
-    go command.Log = log_unbegun (prefix_none written (work_text command.Log work)) empty ends
+    go command.Log = log_unbegun (record { written = refl; faults = refl }) empty ends

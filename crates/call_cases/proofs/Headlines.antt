@@ -10,6 +10,7 @@ use Rattle.std.specs.declared.option.Option.TheVariants.{None, Some}
 use Rattle.std.specs.declared.result.Result.{Result}
 use Rattle.std.specs.declared.result.Result.TheVariants.{Ok, Err}
 use Rattle.std.specs.Io.KnownBytes.{Appends}
+use Rattle.gp_base.specs.meaning.Sinks.{AppendsPrefix}
 use Rattle.gp_base.specs.declared.sink.SinkFault.{SinkFault}
 use Rattle.gp_base.specs.declared.sink.SinkFault.TheVariants as sink
 use Rattle.gp_base.specs.declared.sink.SinkFault.TheVariants.{Failed}
@@ -24,7 +25,7 @@ use Rattle.call_cases.specs.Commands.{AreSound, IsApart}
 use Rattle.call_cases.specs.meaning.Case.{Case, Usage, Missing, BadProgram, BadInput, Go, IsCase, ForCase, ForRun, HasWork, IsMissing, names_read, status_of, text_of, line_of}
 use Rattle.call_cases.specs.meaning.Lines.{out_of_memory_line, write_fault_line}
 use Rattle.call_cases.specs.Refusals.{RefusesCase, RefusesWords, RefusesShelf, TakesRefusal, RefusalEnds, usage_told, program_told, input_told, read_told, refusal_no_memory, refusal_failed}
-use Rattle.call_cases.specs.meaning.Answers.{Change, TakesAll, TakesPart, Fails, Grew, IsEmpty, IsStopLine, TakesStop, Yields, due_status, no_memory, read_fault, write_fault}
+use Rattle.call_cases.specs.meaning.Answers.{Change, TakesAll, TakesPart, IsUntouched, Fails, Grew, IsEmpty, IsStopLine, TakesStop, Yields, due_status, no_memory, read_fault, write_fault}
 use Rattle.call_cases.specs.Answers.{unwritten, LineEnds, whole, line_failed, line_no_memory, RunEnds, finished, run_no_memory, output_failed, error_failed, LogEnds, log_finished, log_no_memory, log_write_failed, log_unbegun, PutFor, StopsBy}
 use Rattle.call_cases.specs.meaning.Headline.{Call, IsQuiet, TellsWrite, TellsStop, TellsCase, IsRefusal, HasCaseLine, error_for, RunsNothing, TellsReadFault, TellsWriteFault, IsStop, IsDue, TakesStopLines, ReadsNothing, Headline}
 use Rattle.call_cases.proofs.OneCase.{for_known, for_each, for_map, none_some}
@@ -120,6 +121,12 @@ module _ (text trace : List ℕ) (due : ℕ) (out err : Change) where
   run_whole status (output_failed part fails told) is = absurd (grind (arith, is))
   run_whole status (error_failed part fails stop) is = absurd (grind (arith, is))
 
+  run_among : (status : ℕ) → RunEnds text trace due out err status → (status ≡ due) ⊎ IsStop status
+  run_among status (finished all traced) = inl refl
+  run_among status (run_no_memory part stop) = inr (inl refl)
+  run_among status (output_failed part fails told) = inr (inr refl)
+  run_among status (error_failed part fails stop) = inr (inr refl)
+
   run_part : (status : ℕ) → RunEnds text trace due out err status → TakesPart out text
   run_part status (finished all traced) = prefix_whole out.written out.written' text all
   run_part status (run_no_memory part stop) = part
@@ -166,19 +173,28 @@ module _ (text rows : List ℕ) (taken : Change → Type 0) (due : ℕ) (out err
   log_whole status (log_unbegun part empty (line_failed line fails)) apart = absurd (grind (arith, apart))
   log_whole status (log_unbegun part empty (line_no_memory line)) apart = absurd (grind (arith, apart))
 
+  log_among : (status : ℕ) → LogEnds text rows taken due out err journal status → (status ≡ due) ⊎ IsStop status
+  log_among status (log_finished all logged) = inl refl
+  log_among status (log_no_memory part is) = inr (inl refl)
+  log_among status (log_write_failed part fails is) = inr (inr refl)
+  log_among status (log_unbegun untouched empty (whole all)) = inr (inl refl)
+  log_among status (log_unbegun untouched empty (line_failed line fails)) = inr (inr refl)
+  log_among status (log_unbegun untouched empty (line_no_memory line)) = inr (inl refl)
+
   log_part : (status : ℕ) → LogEnds text rows taken due out err journal status → TakesPart out text
   log_part status (log_finished all logged) = prefix_whole out.written out.written' text all
   log_part status (log_no_memory part is) = part
   log_part status (log_write_failed part fails is) = part
-  log_part status (log_unbegun part empty line) = part
+  log_part status (log_unbegun untouched empty line) =
+      subst (λ w. AppendsPrefix out.written w text) (sym untouched.written) (prefix_none out.written text)
 
   log_fault : (status : ℕ) → IsApart due → LogEnds text rows taken due out err journal status → status ≡ 8
-      → (IsEmpty journal × TellsWriteFault out err) ⊎ Fails out ⊎ Fails err
+      → Fails out ⊎ Fails err
   log_fault status apart (log_finished all logged) is = absurd (grind (arith, apart, is))
   log_fault status apart (log_no_memory part held) is = absurd (omega (arith, is))
-  log_fault status apart (log_write_failed part fails held) is = inr fails
+  log_fault status apart (log_write_failed part fails held) is = fails
   log_fault status apart (log_unbegun part empty (whole all)) is = absurd (omega (arith, is))
-  log_fault status apart (log_unbegun part empty (line_failed line fails)) is = inl (empty, inl fails)
+  log_fault status apart (log_unbegun part empty (line_failed line fails)) is = inr fails
   log_fault status apart (log_unbegun part empty (line_no_memory line)) is = absurd (omega (arith, is))
 
   log_not_refused : (status : ℕ) → IsApart due → LogEnds text rows taken due out err journal status → IsRefusal status → ⊥
@@ -197,18 +213,19 @@ module _ (text rows : List ℕ) (taken : Change → Type 0) (due : ℕ) (out err
   -- the log, or the line that tells that memory ran out before the run
   log_stopped : (is_due : List ℕ → Type 0) (line : List ℕ) → is_due line → (status : ℕ) → IsApart due
       → LogEnds text rows taken due out err journal status → IsStop status
-      → (IsEmpty journal × TakesStopLines is_due err) ⊎ taken err
+      → (IsUntouched out × IsEmpty journal × TakesStopLines is_due err) ⊎ taken err
   log_stopped is_due line for_case status apart (log_finished all logged) is = absurd (grind (arith, apart, is))
   log_stopped is_due line for_case status apart (log_no_memory part held) is = inr held
   log_stopped is_due line for_case status apart (log_write_failed part fails held) is = inr held
-  log_stopped is_due line for_case status apart (log_unbegun part empty told) is =
-      inl (empty, stop_lines is_due err line out_of_memory_line for_case (inl refl) (line_part status told))
+  log_stopped is_due line for_case status apart (log_unbegun untouched empty told) is =
+      inl (untouched, empty, stop_lines is_due err line out_of_memory_line for_case (inl refl) (line_part status told))
 
 -- How what was begun to be done ended: what its status says of what the streams took, whether a log is kept or not.
 record Ended {A T : Type 0} (commands : Commands A T) (call : Call) (work : T) : Type 0 where
   yields : Yields (commands.status work) (Grew call.failed call.failed') (Fails call.out ⊎ Fails call.err) call.status
   all : IsApart call.status → TakesAll call.out (commands.text work) × (commands.status work ≡ call.status)
   part : TakesPart call.out (commands.text work)
+  among : (call.status ≡ commands.status work) ⊎ IsStop call.status
   not_refused : IsRefusal call.status → ⊥
   quiet : commands.whole call.status → IsQuiet commands call commands.log
   write_fault : call.status ≡ 8 → TellsWrite commands call commands.log
@@ -243,6 +260,10 @@ begun_headline {A} {T} commands sound call names work asked some known same empt
       told = λ tells. elim tells [
         | inl is ↦ told_work commands words files names work call.status known (ended.all (sound.apart call.status is)).1
         | inr is ↦ absurd (ended.not_refused (inl is))
+      ];
+      among = elim ended.among [
+        | inl is ↦ inl (subst commands.whole (sym is) (sound.ends work))
+        | inr is ↦ inr (inr is)
       ];
       usage = λ is. absurd (ended.not_refused (inl (inl is)));
       no_command = λ none. absurd (none_some (commands.asking.reading words) asked none some);
@@ -319,18 +340,21 @@ run_headline {A} {T} commands sound words files failed failed' out err status jo
       yields = run_status text error due out err (Grew failed failed') status ends;
       all = λ is. let found = run_whole text error due out err status ends is in (found.0, found.2);
       part = run_part text error due out err status ends;
+      among = run_among text error due out err status ends;
       not_refused = run_not_refused text error due out err status apart ends;
       quiet = λ is. subst (IsQuiet commands call) (sym unlogged) (run_whole text error due out err status ends (sound.apart status is)).1;
       write_fault = λ is. subst (TellsWrite commands call) (sym unlogged) (run_fault text error due out err status apart ends is);
       stopped = λ is. for_known commands.asking words files (Go names work) (TellsStop commands call commands.log) known
           (subst (λ log. TellsStop commands call log (Go names work)) (sym unlogged)
-          (run_stopped text error due out err (IsDue {T = T} (Go names work) error) [] (inl refl)
+          (run_stopped text error due out err (IsDue {T = T} (Grew failed failed') (Go names work) error) [] (inl refl)
           (inr (inl (tt, refl))) status apart ends is));
     })
 
 -- what a stop tells of the case where this log is kept
 log_told : {A T : Type 0} (commands : Commands A T) (call : Call) (log : Log T) (names : List Name) (work : T)
-    → (IsEmpty call.journal × TakesStopLines (IsDue {T = T} (Go names work) []) call.err) ⊎ log.taken work call.journal call.err
+    → (IsUntouched call.out × IsEmpty call.journal
+    × TakesStopLines (IsDue {T = T} (Grew call.failed call.failed') (Go names work) []) call.err)
+    ⊎ log.taken work call.journal call.err
     → TellsStop commands call (Logged log) (Go names work)
 log_told commands call log names work (inl unbegun) = inl unbegun
 log_told commands call log names work (inr is) = inr (tt, λ _. is)
@@ -378,6 +402,7 @@ log_headline {A} {T} commands sound log words files failed failed' out err statu
       yields = log_status text rows taken due out err journal (Grew failed failed') status ends;
       all = λ is. let found = log_whole text rows taken due out err journal status ends is in (found.0, found.2);
       part = log_part text rows taken due out err journal status ends;
+      among = log_among text rows taken due out err journal status ends;
       not_refused = log_not_refused text rows taken due out err journal status apart ends;
       quiet = λ is. subst (IsQuiet commands call) (sym logged)
           (for_known commands.asking words files (Go names work) (λ case. ForRun commands case (λ w. TakesAll err (log.whole w))) known
@@ -386,7 +411,8 @@ log_headline {A} {T} commands sound log words files failed failed' out err statu
           λ is. subst (TellsWrite commands call) (sym logged) (log_fault text rows taken due out err journal status apart ends is);
       stopped = λ is. for_known commands.asking words files (Go names work) (TellsStop commands call commands.log) known
           (subst (λ kept. TellsStop commands call kept (Go names work)) (sym logged)
-          (log_told commands call log names work (log_stopped text rows taken due out err journal (IsDue {T = T} (Go names work) []) []
+          (log_told commands call log names work
+          (log_stopped text rows taken due out err journal (IsDue {T = T} (Grew failed failed') (Go names work) []) []
           (inl refl) status apart ends is)));
     })
 
@@ -485,40 +511,54 @@ module _ {A T : Type 0} (commands : Commands A T) (words : List (List ℕ)) (fil
       (λ case missing. inr (inr fails))
 
   -- a refusal whose line was not written whole
+  abbrev Due : Case T → List ℕ → Type 0
+  Due case due = IsDue (Grew before now) case error due
+
   refused_stop : (refusal : Refusal) → IfSome files (λ told. RefusesCase (IsCase commands.asking words told) refusal)
-      → TakesRefusal refusal err → ForCase commands.asking words files (λ case. TakesStopLines (IsDue case error) err)
-  refused_stop refusal known (line, inr for_stop, part) =
-      for_each commands.asking words files (λ case. TakesStopLines (IsDue case error) err)
-      (λ case. stop_lines (IsDue case error) err (line_of case) line (inl refl) for_stop part)
-  refused_stop RefusedUsage known (line, inl tells, part) =
-      for_known commands.asking words files Usage (λ case. TakesStopLines (IsDue case error) err) known
-      (due_lines (IsDue {T = T} Usage error) err line (inl tells) part)
-  refused_stop (RefusedProgram told) known (line, inl tells, part) =
-      for_some commands words files Name (λ name. BadProgram name told) (λ case. TakesStopLines (IsDue case error) err) known
-      (λ name. due_lines (IsDue {T = T} (BadProgram name told) error) err line (inl tells) part)
-  refused_stop (RefusedInput told) known (line, inl tells, part) =
-      for_some commands words files (List Name) (λ names. BadInput names told) (λ case. TakesStopLines (IsDue case error) err) known
-      (λ names. due_lines (IsDue {T = T} (BadInput names told) error) err line (inl tells) part)
-  refused_stop (ReadFault name) known (line, inl tells, part) = for_read files known
+      → RefusesShelf commands.may_read (commands.asking.reading words) before now refusal
+      → TakesRefusal refusal err → ForCase commands.asking words files (λ case. TakesStopLines (Due case) err)
+  refused_stop refusal known shelf (line, inr for_stop, part) =
+      for_each commands.asking words files (λ case. TakesStopLines (Due case) err)
+      (λ case. stop_lines (Due case) err (line_of case) line (inl refl) for_stop part)
+  refused_stop RefusedUsage known shelf (line, inl tells, part) =
+      for_known commands.asking words files Usage (λ case. TakesStopLines (Due case) err) known
+      (due_lines (Due Usage) err line (inl tells) part)
+  refused_stop (RefusedProgram told) known shelf (line, inl tells, part) =
+      for_some commands words files Name (λ name. BadProgram name told) (λ case. TakesStopLines (Due case) err) known
+      (λ name. due_lines (Due (BadProgram name told)) err line (inl tells) part)
+  refused_stop (RefusedInput told) known shelf (line, inl tells, part) =
+      for_some commands words files (List Name) (λ names. BadInput names told) (λ case. TakesStopLines (Due case) err) known
+      (λ names. due_lines (Due (BadInput names told)) err line (inl tells) part)
+  refused_stop (ReadFault name) known shelf (line, inl tells, part) = for_read files known
     where
       for_read : (files : Option Files)
           → IfSome files (λ told. (case : Case T) × IsCase commands.asking words told case × Contains (names_read case) name)
-          → ForCase commands.asking words files (λ case. TakesStopLines (IsDue case error) err)
+          → ForCase commands.asking words files (λ case. TakesStopLines (Due case) err)
       for_read None is = tt
       for_read (Some files) (case, is, reads) =
-          for_known commands.asking words (Some files) case (λ c. TakesStopLines (IsDue c error) err) is
-          (due_lines (IsDue case error) err line (inr (inr (name, reads, tells))) part)
-  refused_stop OutOfMemory known (line, inl tells, part) = absurd tells
+          for_known commands.asking words (Some files) case (λ c. TakesStopLines (Due c) err) is
+          (due_lines (Due case) err line (inr (inr (shelf.1, name, reads, tells))) part)
+  refused_stop OutOfMemory known shelf (line, inl tells, part) = absurd tells
 
   refused_stopped : (refusal : Refusal) (status : ℕ) → IfSome files (λ told. RefusesCase (IsCase commands.asking words told) refusal)
+      → RefusesShelf commands.may_read (commands.asking.reading words) before now refusal
       → RefusalEnds err refusal status → IsStop status
-      → ForCase commands.asking words files (λ case. TakesStopLines (IsDue case error) err)
-  refused_stopped refusal status known (usage_told all) is = absurd (grind (arith, is))
-  refused_stopped refusal status known (program_told all) is = absurd (grind (arith, is))
-  refused_stopped refusal status known (input_told all) is = absurd (grind (arith, is))
-  refused_stopped refusal status known (read_told all) is = absurd (grind (arith, is))
-  refused_stopped refusal status known (refusal_no_memory taken) is = refused_stop refusal known taken
-  refused_stopped refusal status known (refusal_failed fails taken) is = refused_stop refusal known taken
+      → ForCase commands.asking words files (λ case. TakesStopLines (Due case) err)
+  refused_stopped refusal status known shelf (usage_told all) is = absurd (grind (arith, is))
+  refused_stopped refusal status known shelf (program_told all) is = absurd (grind (arith, is))
+  refused_stopped refusal status known shelf (input_told all) is = absurd (grind (arith, is))
+  refused_stopped refusal status known shelf (read_told all) is = absurd (grind (arith, is))
+  refused_stopped refusal status known shelf (refusal_no_memory taken) is = refused_stop refusal known shelf taken
+  refused_stopped refusal status known shelf (refusal_failed fails taken) is = refused_stop refusal known shelf taken
+
+-- a refusal has a status of its own, or that of a stop
+refused_among : (err : Change) (refusal : Refusal) (status : ℕ) → RefusalEnds err refusal status → IsRefusal status ⊎ IsStop status
+refused_among err refusal status (usage_told line) = inl (inl (inl refl))
+refused_among err refusal status (program_told all) = inl (inl (inr (inl refl)))
+refused_among err refusal status (input_told all) = inl (inl (inr (inr refl)))
+refused_among err refusal status (read_told all) = inl (inr refl)
+refused_among err refusal status (refusal_no_memory taken) = inr (inl refl)
+refused_among err refusal status (refusal_failed fails taken) = inr (inr refl)
 
 refused_not_apart : (err : Change) (refusal : Refusal) (status : ℕ) → RefusalEnds err refusal status → IsApart status → ⊥
 refused_not_apart err refusal status (usage_told line) is = grind (arith, is)
@@ -622,17 +662,19 @@ module _ {A T : Type 0} (commands : Commands A T) where
   empty_retired sound (Go names work) journal written faults empty = λ is. sound.unbegun work journal written faults empty
 
   -- where a log is kept, a refusal tells what it tells where none is, with nothing else due
-  refused_write : (log : MayLog T) (call : Call) → IsEmpty call.journal → TellsWriteFault call.out call.err → TellsWrite commands call log
-  refused_write Unlogged call empty tells = tells
-  refused_write (Logged log) call empty tells = inl (empty, tells)
+  refused_write : (log : MayLog T) (call : Call) → TellsWriteFault call.out call.err → TellsWrite commands call log
+  refused_write Unlogged call tells = tells
+  refused_write (Logged log) call (inl fails) = inr fails
+  refused_write (Logged log) call (inr (fails, told)) = inl fails
 
-  refused_tells : (log : MayLog T) (call : Call) → IsEmpty call.journal
-      → ((error : List ℕ) → ForCase commands.asking call.words call.files (λ case. TakesStopLines (IsDue case error) call.err))
+  refused_tells : (log : MayLog T) (call : Call) → IsUntouched call.out → IsEmpty call.journal
+      → ((error : List ℕ) → ForCase commands.asking call.words call.files
+      (λ case. TakesStopLines (IsDue (Grew call.failed call.failed') case error) call.err))
       → ForCase commands.asking call.words call.files (TellsStop commands call log)
-  refused_tells Unlogged call empty tells = tells (error_for commands (commands.asking.reading call.words) call.journal)
-  refused_tells (Logged log) call empty tells =
-      for_map commands.asking call.words call.files (λ case. TakesStopLines (IsDue case []) call.err) (TellsStop commands call (Logged log))
-      (λ case stops. inl (empty, stops)) (tells [])
+  refused_tells Unlogged call untouched empty tells = tells (error_for commands (commands.asking.reading call.words) call.journal)
+  refused_tells (Logged log) call untouched empty tells =
+      for_map commands.asking call.words call.files (λ case. TakesStopLines (IsDue (Grew call.failed call.failed') case []) call.err)
+      (TellsStop commands call (Logged log)) (λ case stops. inl (untouched, empty, stops)) (tells [])
 
 -- a refusal meets the promise
 pub refused_headline : {A T : Type 0} (commands : Commands A T) (sound : AreSound commands) (words : List (List ℕ)) (files : Option Files)
@@ -673,6 +715,7 @@ refused_headline commands sound words files failed failed' written faults err st
       told =
           λ tells. refused_told commands words files failed failed' out err [] refusal status known ends
           (tells_apart commands sound status tells);
+      among = inr (refused_among err refusal status ends);
       usage = refused_usage commands.may_read (commands.asking.reading words) failed failed' err refusal status shelf ends;
       no_command = λ none. refused_words err refusal status (no_command none) ends;
       text =
@@ -685,10 +728,10 @@ refused_headline commands sound words files failed failed' written faults err st
       quiet = λ is. absurd (not_whole is);
       line = refused_line commands words files failed failed' out err [] refusal status known ends;
       read_fault = refused_read commands words files failed failed' out err refusal status journal known shelf ends;
-      write_fault = λ is. refused_write commands commands.log call empty (refused_fault out err refusal status ends is);
+      write_fault = λ is. refused_write commands commands.log call (refused_fault out err refusal status ends is);
       stopped =
-          λ is. refused_tells commands commands.log call empty
-          (λ error. refused_stopped commands words files failed failed' out err error refusal status known ends is);
+          λ is. refused_tells commands commands.log call (record { written = refl; faults = refl }) empty
+          (λ error. refused_stopped commands words files failed failed' out err error refusal status known shelf ends is);
       untouched =
           λ tells. refused_untouched commands.may_read (commands.asking.reading words) failed failed' err refusal status shelf ends
           (tells_apart commands sound status tells);

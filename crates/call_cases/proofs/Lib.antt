@@ -1,8 +1,10 @@
 pub mod Answering
+pub mod AskedCases
+pub mod AskedWork
+pub mod FaultRows
 pub mod Further
 pub mod Headlines
 pub mod Loads
-pub mod NoCheckpoints
 pub mod OneCase
 pub mod Readable
 pub mod ReadsProgram

@@ -8,7 +8,7 @@ use Rattle.task_parser.proofs.OneSpelling.{one_meaning, some_meaning}
 use Rattle.call_cases.specs.meaning.Work.{Files}
 use Rattle.call_cases.specs.meaning.Commands.{Asking}
 use Rattle.call_cases.specs.meaning.Case.{Case, Missing, IsCaseOf, no_program, of_text, IsCase, no_command, asks, ForCase, meant_case}
-use Rattle.call_cases.specs.Case.{OneCase, SomeCase}
+use Rattle.call_cases.specs.meaning.Laws.{OneCase, SomeCase}
 
 value_of : {A : Type 0} → A → Option A → A
 value_of d None = d

@@ -13,7 +13,7 @@ use Rattle.call_cases.specs.meaning.Work.{ToDo, runs}
 use Rattle.call_cases.specs.meaning.Answers.{IsEmpty}
 use Rattle.call_cases.specs.Answers.{unwritten}
 use Rattle.call_cases.specs.meaning.PlainText.{plain_ran}
-use Rattle.call_cases.specs.meaning.Journals.{run_of, IsJournalOf, TakesRetired, TakesRetiredFor, retired_in, lines_before}
+use Rattle.call_cases.specs.meaning.Journals.{IsJournalOf, TakesRetired, TakesRetiredFor, retired_in, lines_before}
 use Rattle.call_cases.specs.meaning.Commands.{Asking, Commands, MayLog}
 use Rattle.call_cases.specs.Commands.{IsApart, AreSound}
 use Rattle.call_cases.specs.meaning.RunCommands.{IsWhole, end_status, work_status, commands}

@@ -5,7 +5,7 @@ use Rattle.gp_base.specs.declared.sink.SinkFault.TheVariants.{Failed}
 use Rattle.gp_base.specs.declared.sink.SinkFault.TheVariants as sink
 use Rattle.gp_base.specs.declared.journal.Journal.{Journal}
 use Rattle.call_cases.specs.meaning.Lines.{out_of_memory_line, write_fault_line}
-use Rattle.call_cases.specs.meaning.Answers.{Change, Fails, IsEmpty, TakesAll, TakesPart, TakesStop}
+use Rattle.call_cases.specs.meaning.Answers.{Change, Fails, IsEmpty, IsUntouched, TakesAll, TakesPart, TakesStop}
 
 -- nothing was done to a sink with these bytes and this count
 abbrev pub unwritten : Option (List ℕ) → ℕ → Change
@@ -33,7 +33,7 @@ pub data LogEnds (text log : List ℕ) (taken : Change → Type 0) (due : ℕ) (
   log_finished : TakesAll out text → TakesAll err log → LogEnds text log taken due out err journal due
   log_no_memory : TakesPart out text → taken err → LogEnds text log taken due out err journal 1
   log_write_failed : TakesPart out text → Fails out ⊎ Fails err → taken err → LogEnds text log taken due out err journal 8
-  log_unbegun : {status : ℕ} → TakesPart out text → IsEmpty journal → LineEnds 1 out_of_memory_line err status
+  log_unbegun : {status : ℕ} → IsUntouched out → IsEmpty journal → LineEnds 1 out_of_memory_line err status
       → LogEnds text log taken due out err journal status
 
 -- how a text was written that is all there is to write, and its status

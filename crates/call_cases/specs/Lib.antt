@@ -1,5 +1,4 @@
 pub mod Answers
-pub mod Case
 pub mod Commands
 pub mod Decided
 pub mod InputFiles

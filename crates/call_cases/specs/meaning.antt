@@ -5,6 +5,7 @@ pub mod Commands
 pub mod Headline
 pub mod InputFiles
 pub mod Journals
+pub mod Laws
 pub mod Lines
 pub mod PlainText
 pub mod Recovering

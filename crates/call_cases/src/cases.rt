@@ -1,5 +1,5 @@
 // Laws of the case of a call.
-ghost use Rattle.call_cases.specs.Case.{OneCase, SomeCase};
+ghost use Rattle.call_cases.specs.meaning.Laws.{OneCase, SomeCase};
 
 /// A law: a call has one case at most, whatever its words may ask for (`A`), and whatever there may be to do (`T`).
 pub fn one_case<A, T>()

@@ -1,4 +1,5 @@
-//! Reads the trace of one run and says whether the run was lawful. It shares no code with the engine.
+//! Reads the trace of one run and says whether the run was lawful. How a run is made it does not share with the engine;
+//! both ask `dependence` whether two footprints are in conflict.
 #![tactic(auto)]
 
 mod allowed;

@@ -16,8 +16,7 @@ use Rattle.retirement_log.specs.meaning.Log.{log_rows, log}
 use Rattle.gp_resume.specs.meaning.Fitting.{Fit, resumed_at}
 use Rattle.gp_resume.specs.meaning.Reading.{LogAnswer, IsAnswer, IsLogOf}
 use Rattle.gp_resume.specs.meaning.Resumed as resumed
-use Rattle.gp_resume.specs.meaning.Resumed.{lines_of}
-use Rattle.gp_resume.specs.Resumed.{bytes_before}
+use Rattle.gp_resume.specs.meaning.Resumed.{lines_of, bytes_before}
 
 module _ (program : Program) (inputs : Inputs) (limits : Limits) where
   -- the first rows of the plain run's own log

@@ -11,8 +11,7 @@ use Rattle.retirement_log.specs.meaning.Rows.{Retirement}
 use Rattle.gp_resume.specs.declared.stop.ResumeStop.{ResumeStop}
 use Rattle.gp_resume.specs.declared.stop.ResumeStop.TheVariants.{LogLine, LogFit, WriteFault, OutOfMemory}
 use Rattle.gp_resume.specs.meaning.Reading.{LogAnswer, Rows, Broken, Unfit, IsAnswer, IsLogOf}
-use Rattle.gp_resume.specs.meaning.Resumed.{end, final_records, count}
-use Rattle.gp_resume.specs.Resumed.{bytes_before}
+use Rattle.gp_resume.specs.meaning.Resumed.{end, final_records, count, bytes_before}
 
 -- The log is refused at its first row that is none or doesn't fit, and only such a row; else it has rows, unless memory is out.
 abbrev pub AnswersLog : {T : Type 0} → Program → Inputs → Limits → (bytes : List ℕ) → Result T ResumeStop → Type 0

@@ -9,7 +9,6 @@ use Rattle.gp_base.specs.declared.fault.Fault.{Fault}
 use Rattle.gp_base.specs.declared.journal.Restart.{Restart}
 use Rattle.gp_base.specs.declared.journal.Event.{Event}
 use Rattle.gp_base.specs.declared.journal.Event.TheVariants as event
-use Rattle.gp_base.specs.Faults.{IsInRange}
 use Rattle.dependence.specs.meaning.Restarts.{Dependence, Progress, attempt_of, struck_next, restart_of, advance_by, progress, restarts}
 use Rattle.dependence.specs.meaning.Journal.{Stage, initial_stage, Allowed, happens, LawfulFrom, Lawful, stage_from, stage}
 use Rattle.dependence.specs.Standing.{KeepsClean, StageStands}
@@ -19,6 +18,7 @@ use Rattle.dependence.proofs.Standing.{initial-stands, stands-from}
 use Rattle.dependence.proofs.Struck.{struck-live}
 use Rattle.gp_audit.specs.declared.line.TraceLine.TheVariants as line
 use Rattle.gp_audit.specs.meaning.Lines.{IsNarrow, IsNarrowRestart, IsNarrowLine}
+use Rattle.gp_traces.specs.Laws.{IsNarrowFault}
 use Rattle.gp_traces.specs.Told.{restart_line, line_of}
 
 allowed-at : (dependence : Dependence) (faults : List Fault) (at : Stage) (done : List Event) (e : Event) (more : List Event)
@@ -31,7 +31,7 @@ member-there : (restarts : List Restart) (number : ℕ) (r : Restart) → slice_
 member-there restarts number r e = (number, slice_get_within restarts number r e, get_or_from_slice_get restarts number r r e)
 
 module _ (dependence : Dependence) (faults : List Fault) (clean : KeepsClean dependence faults) (wide : dependence.count < 2 ^ 32)
-    (few : length faults ≤ MOST_FAULTS) (in_range : All IsInRange faults) where
+    (few : length faults ≤ MOST_FAULTS) (fit : All IsNarrowFault faults) where
   -- how far the restarts have come: the front is within the run, and each restart so far has numbers of 32 bits
   record Narrow (at : Progress) : Type 0 where
     front : at.front ≤ dependence.count
@@ -43,7 +43,7 @@ module _ (dependence : Dependence) (faults : List Fault) (clean : KeepsClean dep
       let live = struck-live dependence faults at p e in
       let named = live.1 in
       let below = live.0 in
-      let attempt = (All-contains IsInRange faults named.0 in_range named.1).attempt in
+      let attempt = (All-contains IsNarrowFault faults named.0 fit named.1).attempt in
       let same = named.3 in
       record {
         front = omega arith;

@@ -5,7 +5,6 @@ use Rattle.std.proofs.lemmas.List.Elements.{All-contains, All-contains_itself, C
 use Rattle.gp_base.specs.declared.fault.Fault.{Fault}
 use Rattle.gp_base.specs.declared.journal.Restart.{Restart}
 use Rattle.gp_base.specs.declared.journal.Journal.{Journal}
-use Rattle.gp_base.specs.Faults.{IsInRange}
 use Rattle.task_ast.specs.meaning.Plain.{Subthread}
 use Rattle.one_thread.specs.PlainRuns.{shown}
 use Rattle.dependence.specs.meaning.Restarts.{Dependence}
@@ -40,7 +39,7 @@ front-narrow restarts rest all k d l =
 module _ (run : List Subthread) (faults : List Fault) (journal : Journal) (narrow : IsNarrowRun run faults)
     (whole : IsWholeRun run faults journal) where
   short : AreShort faults
-  short k d l = (narrow.in_range k d l).delay
+  short k d l = (narrow.narrow k d l).delay
 
   clean : KeepsClean (dependence_of run) faults
   clean = run-clean run faults short
@@ -49,11 +48,11 @@ module _ (run : List Subthread) (faults : List Fault) (journal : Journal) (narro
   told-narrow =
       front-narrow journal.restarts whole.first.0
       (subst (All IsNarrowRestart) whole.first.1
-      (restarts-narrow (dependence_of run) faults clean narrow.subthreads narrow.few narrow.in_range))
+      (restarts-narrow (dependence_of run) faults clean narrow.subthreads narrow.few narrow.narrow))
 
   all-lines-narrow : All IsNarrowLine (lines_of journal)
   all-lines-narrow =
-      lines-narrow (dependence_of run) faults clean narrow.subthreads narrow.few narrow.in_range journal.restarts told-narrow
+      lines-narrow (dependence_of run) faults clean narrow.subthreads narrow.few narrow.narrow journal.restarts told-narrow
       [] journal.events whole.complete.lawful
 
   whole-verdict : IsVerdict (dependence_by (map shown run)) faults (lines_of journal) IsLawful

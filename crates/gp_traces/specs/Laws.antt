@@ -1,10 +1,9 @@
 -- What an audit says of the trace of a journal.
 use Rattle.std.specs.Prelude.{◌≡◌, ◌⊎◌, ◌<◌, ◌≤◌, ◌^◌, List, ◌++◌, length, map, count_by, All, Result, Ok, Err}
-use Rattle.gp_base.specs.declared.limits.TheConstants.{MOST_FAULTS}
+use Rattle.gp_base.specs.declared.limits.TheConstants.{LONGEST_DELAY, MOST_FAULTS}
 use Rattle.gp_base.specs.declared.fault.Fault.{Fault}
 use Rattle.gp_base.specs.declared.journal.Restart.{Restart}
 use Rattle.gp_base.specs.declared.journal.Journal.{Journal}
-use Rattle.gp_base.specs.Faults.{IsInRange}
 use Rattle.task_ast.specs.meaning.Plain.{Subthread}
 use Rattle.one_thread.specs.PlainRuns.{shown}
 use Rattle.dependence.specs.meaning.Restarts.{Dependence, restarts}
@@ -45,11 +44,16 @@ pub record IsWholeRun (run : List Subthread) (faults : List Fault) (journal : Jo
   pub first : (rest : List Restart) × (restarts_of run faults ≡ journal.restarts ++ rest)
   pub counted : length journal.restarts ≡ count_by is_restart journal.events
 
+-- an attempt of 32 bits, and a delay that is not too long
+pub record IsNarrowFault (fault : Fault) : Type 0 where
+  pub attempt : fault.attempt < 2 ^ 32
+  pub delay : fault.delay ≤ LONGEST_DELAY
+
 -- a run and its faults have numbers of 32 bits
 pub record IsNarrowRun (run : List Subthread) (faults : List Fault) : Type 0 where
   pub subthreads : length run < 2 ^ 32
   pub few : length faults ≤ MOST_FAULTS
-  pub in_range : All IsInRange faults
+  pub narrow : All IsNarrowFault faults
 
 -- the trace of a whole run is read, unless memory is out, and an audit of its lines by the plain run answers that they are lawful
 abbrev pub AuditLaw : Type 0

@@ -1,4 +1,4 @@
-//! What an audit says of the trace that a run writes. The writer and the audit share no code and no definition of the
+//! What an audit says of the trace that a run writes. The writer and the audit share no definition of the
 //! text; these laws join the two.
 #![tactic(auto)]
 

@@ -1,5 +1,5 @@
 // A crew of lasting threads.
-ghost use Rattle.std.specs.Prelude.{◌≡◌, ◌++◌, ◌<◌, ◌≤◌, ◌↔◌, [], ◌∷◌, length, true, None, All, IsNone, IfOk, OnOk, OnErr, IfSome, IfNone};
+ghost use Rattle.std.specs.Prelude.{◌≡◌, ◌++◌, ◌<◌, ◌≤◌, ◌↔◌, [], ◌∷◌, length, false, true, None, All, IsNone, IfOk, OnOk, OnErr, IfSome, IfNone};
 ghost use Rattle.std.specs.List.{flat_map};
 ghost use Rattle.std.specs.Arc.{arc_value};
 ghost use Rattle.desk_board.specs.Held.{about};
@@ -100,6 +100,7 @@ impl<
         ensures work { IfOk result (λ c. ⟦<PipeCrew<'a, H, G> as Crew>⟧.work c ≡ arc_value work.now) }
         ensures out { IfOk result (λ c. ⟦<PipeCrew<'a, H, G> as Crew>⟧.out c ≡ []) }
         ensures posted { IfOk result (λ c. ⟦<PipeCrew<'a, H, G> as Crew>⟧.posted c ≡ []) }
+        ensures failed { IfOk result (λ c. ⟦<PipeCrew<'a, H, G> as Crew>⟧.failed c ≡ false) }
     {
         let (to, from) = crossbeam_channel::unbounded(alloc)?;
         let mean_steps = Arc::new(alloc, MeanSteps::new(alloc, work))?;
@@ -271,6 +272,7 @@ impl<'a, H: Wait, G: Enter> PipeCrew<'a, H, G> {
         ensures posts { KeepsPosts self.old.inbox self.new.inbox }
         ensures taken { IfOk result (λ run. left_in flight ++ (flat_map left_in self.old.behind.items ++ self.old.inbox.out) ≡ task_of self.old.inbox.work run ∷ (left_all self.new.first self.new.behind.items ++ self.new.inbox.out)) }
         ensures run { IfOk result (IsRun self.old.inbox.work) }
+        ensures open { OnOk result (self.new.inbox.failed ≡ self.old.inbox.failed) }
         ensures fails { OnErr result (self.new.inbox.failed ≡ true) }
     {
         let mut flight = flight;

@@ -7,7 +7,7 @@ use Rattle.task_ast.specs.meaning.Tree.{Program}
 use Rattle.task_ast.specs.meaning.Plain.{order}
 use Rattle.retirement_log.specs.meaning.Rows.{Retirement}
 use Rattle.gp_resume.specs.Laws.{own_rows, text_before, text_of_one}
-use Rattle.gp_resume.specs.Resumed.{bytes_before}
+use Rattle.gp_resume.specs.meaning.Resumed.{bytes_before}
 use Rattle.gp_resume.specs.meaning.Resumed as rest
 use Rattle.gp_resume.proofs.OwnLogs.{first-own}
 use Rattle.gp_resume.proofs.Texts.{bytes-known, joined}
@@ -15,7 +15,7 @@ use Rattle.command_line.specs.declared.asked.Command.TheVariants.{One}
 use Rattle.call_cases.specs.meaning.Work.{ToDo}
 use Rattle.call_cases.specs.meaning.PlainText.{plain_ran}
 use Rattle.call_cases.specs.meaning.RunCommands.{work_text}
-use Rattle.resume_calls.specs.Laws.{JoinedTextLaw}
+use Rattle.resume_calls.specs.meaning.Laws.{JoinedTextLaw}
 
 -- the first bytes and those after them are all
 cut_joined : (before text all : List ℕ) → before ++ text ≡ all → take (length before) all ++ text ≡ all

@@ -1,7 +1,7 @@
 -- There is one reader of logs.
 use Rattle.gp_resume.specs.Laws.{OneAnswerLaw, SomeAnswerLaw}
 use Rattle.resume_calls.specs.meaning.Resumption.{Reader}
-use Rattle.resume_calls.specs.Laws.{OneReader}
+use Rattle.resume_calls.specs.meaning.Laws.{OneReader}
 
 pub one_reader : OneAnswerLaw → OneReader
 one_reader one reader other program inputs limits bytes =

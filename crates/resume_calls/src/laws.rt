@@ -1,5 +1,5 @@
 // Laws of runs that go on, each on a function with an empty body.
-ghost use Rattle.resume_calls.specs.Laws.{OneReader, JoinedTextLaw};
+ghost use Rattle.resume_calls.specs.meaning.Laws.{OneReader, JoinedTextLaw};
 ghost use Rattle.resume_calls.specs.meaning.Resumption.{Reader};
 
 /// A law: no two readers of logs differ, so that what is promised for each of them is promised once.

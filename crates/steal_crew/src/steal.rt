@@ -23,13 +23,15 @@ pub struct StealCrew<'a, F> {
 }
 
 impl<'a, F: Fn(Seq<Task>) -> Result<(Seq<Done>, (u64, u64, u64)), AllocError>> StealCrew<'a, F> {
-    /// A crew to which nothing was posted, with the function that runs its tasks. Takes no memory.
+    /// A crew to which nothing was posted, and which has not run out of memory, with the function that runs its tasks.
+    /// Takes no memory.
     pub fn new(alloc: Global, work: &'a Work, run_all: F) -> StealCrew<'a, F>
         requires { RunsAll work.now (F.pre run_all) (F.post run_all) }
         ensures ready { ⟦<StealCrew<'a, F> as Crew>⟧.ready result }
         ensures work { ⟦<StealCrew<'a, F> as Crew>⟧.work result ≡ work.now }
         ensures out { ⟦<StealCrew<'a, F> as Crew>⟧.out result ≡ [] }
         ensures posted { ⟦<StealCrew<'a, F> as Crew>⟧.posted result ≡ [] }
+        ensures failed { ⟦<StealCrew<'a, F> as Crew>⟧.failed result ≡ false }
     {
         StealCrew {
             inbox: Inbox::new(alloc, work),
@@ -57,6 +59,7 @@ impl<'a, F: Fn(Seq<Task>) -> Result<(Seq<Done>, (u64, u64, u64)), AllocError>> S
         ensures posted { self.new.inbox.posted ≡ self.old.inbox.posted }
         ensures out { OnOk result (map (task_of self.new.inbox.work) self.new.runs.items ++ self.new.inbox.out ≡ map (task_of self.old.inbox.work) self.old.runs.items ++ self.old.inbox.out) }
         ensures all { OnOk result (self.new.runs.items ≡ [] → self.new.inbox.out ≡ []) }
+        ensures open { OnOk result (self.new.inbox.failed ≡ self.old.inbox.failed) }
         ensures fails { OnErr result (self.new.inbox.failed ≡ true) }
     {
         if !self.runs.is_empty() {

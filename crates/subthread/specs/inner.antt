@@ -1,4 +1,5 @@
 -- What describes parts of the crate alone.
+pub mod Attempts
 pub mod Hand
 pub mod Leaving
 pub mod Moving

@@ -7,7 +7,7 @@ ghost use Rattle.record_store.specs.Given.{value_in};
 ghost use Rattle.task_ast.specs.meaning.Under.{is_under};
 ghost use Rattle.record_store.specs.Lent.{lock_in, put_back, new_write};
 ghost use Rattle.subthread.specs.inner.Places.{AreSearchable, AreHandy, HasPlace, with_value, value_at};
-ghost use Rattle.subthread.specs.inner.Hand.{with_old, damaged_write, turned_write};
+ghost use Rattle.subthread.specs.inner.Hand.{with_old, damaged_write, turned_write, written_to};
 
 use crate::numbers::is_zero;
 use crate::places::find_cell;
@@ -50,6 +50,43 @@ fn value_there(bundles: &[Bundle], at: usize, place: usize) -> i64
         Some(value) => *value,
         None => 0,
     }
+}
+
+/// A cell that was written: its lock, its place under that, the value that it came with, and its last one.
+#[derive(Clone, Copy, PartialEq, Eq)]
+pub struct Change {
+    pub cell: u32,
+    pub lock: LockNo,
+    pub place: usize,
+    pub old: i64,
+    pub new: i64,
+}
+
+// An odd number with its bits spread, by which values are mixed.
+const SPREAD: i64 = 0x1E37_79B9_7F4A_7C15;
+
+// What a value at a place adds to the sum of bundles.
+fn mixed(lock: LockNo, place: usize, value: i64) -> i64 {
+    let place = match u32::try_from(place) {
+        Ok(place) => i64::from(place),
+        Err(_) => 0,
+    };
+    let key = i64::from(lock.0)
+        .wrapping_mul(SPREAD)
+        .wrapping_add(place)
+        .wrapping_mul(SPREAD);
+    (value ^ key).wrapping_mul(SPREAD)
+}
+
+/// A sum over all values of bundles, which tells whether one of them changed.
+pub fn sum_of(bundles: &[Bundle]) -> i64 {
+    let mut sum = 0i64;
+    for bundle in bundles {
+        for (place, value) in bundle.cells.as_slice().iter().enumerate() {
+            sum = sum.wrapping_add(mixed(bundle.lock, place, *value));
+        }
+    }
+    sum
 }
 
 // Puts a value into a place.
@@ -97,6 +134,43 @@ fn old_values(alloc: Global, olds: &BTreeMap<u32, i64>) -> Result<Vec<(RecNo, i6
     olds.iter()
         .map(|(cell, value)| (RecNo(*cell), *value))
         .collect(alloc)
+}
+
+// The cell at a place, with this old value, as it now is.
+fn change_there(bundles: &[Bundle], at: usize, place: usize, cell: u32, old: i64) -> Change
+    requires bundle { at < length bundles.now }
+    requires place { HasPlace bundles.now at place }
+    ensures { written_to result ≡ (cell, value_at bundles.now at place) }
+{
+    Change {
+        cell,
+        lock: bundles[at].lock,
+        place,
+        old,
+        new: value_there(bundles, at, place),
+    }
+}
+
+// The cells with these old values, in their order, as they now are.
+fn changes_of(
+    alloc: Global,
+    under: &[Seq<RecNo>],
+    over: &[LockNo],
+    bundles: &[Bundle],
+    olds: &[(RecNo, i64)],
+) -> Result<Vec<Change>, AllocError>
+    requires { AreHandy under.now over.now bundles.now olds.now }
+    ensures { IfOk result (λ changes. map written_to changes.items ≡ map (new_write under.now bundles.now) olds.now) }
+{
+    let mut changes = Vec::new(alloc);
+    'noting: for at in 0..olds.len() {
+        let cell = olds[at].0;
+        let Some((bundle, place)) = find_cell(under, over, bundles, cell.0) else {
+            unreachable!()
+        };
+        changes.push(change_there(bundles, bundle, place, cell.0, olds[at].1))?;
+    }
+    Ok(changes)
 }
 
 // The value with the bits of a mask turned round.
@@ -218,6 +292,26 @@ impl<'a> Cells<'a> {
         let mut bundles = bundles;
         damage(under, over, &mut bundles, &olds, mask);
         Ok((Seq::from_vec(bundles), Seq::from_vec(olds)))
+    }
+
+    /// The cells that were written, in rising order, each with the value that it came with and its last one.
+    /// The error is that memory is out.
+    pub fn changes(&self, alloc: Global) -> Result<Vec<Change>, AllocError>
+        ensures { IfOk result (λ changes. map written_to changes.items ≡ self.now.written) }
+    {
+        let olds = old_values(alloc, &self.olds)?;
+        changes_of(alloc, self.under, self.over, &self.bundles, &olds)
+    }
+
+    /// Whether the values at hand are those that came, of which this is the sum, with these changes and no others.
+    pub fn is_kept(&self, sum: i64, changes: &[Change]) -> bool {
+        let mut then = sum;
+        for change in changes {
+            then = then
+                .wrapping_sub(mixed(change.lock, change.place, change.old))
+                .wrapping_add(mixed(change.lock, change.place, change.new));
+        }
+        then == sum_of(&self.bundles)
     }
 
     /// The bundles as they came. Takes no memory.

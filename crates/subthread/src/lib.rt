@@ -1,6 +1,7 @@
 //! Runs of the tasks of a batch on flat code: what a subthread does on what it is given.
 #![tactic(auto)]
 
+mod attempts;
 mod begins;
 mod cells;
 mod control;
@@ -15,6 +16,7 @@ mod names;
 mod notes;
 mod numbers;
 mod places;
+mod recheck;
 mod run;
 mod setting;
 mod task;
@@ -24,6 +26,7 @@ mod walk;
 pub use control::control_of;
 pub use footprints::lock_footprint;
 pub use lending::{lend, room_for};
+pub use recheck::{Disturbance, Recheck};
 pub use run::{run_counted, run_task};
 pub use setting::set_cells;
 pub use task::{Done, Task, Work};

@@ -12,6 +12,7 @@ ghost use Rattle.subthread.specs.Tasks.{with_bundles, under_of, task_of, Fits, I
 ghost use Rattle.subthread.specs.inner.Running.{doing_of, Holds, IsTask, AreAtHand};
 ghost use Rattle.subthread.specs.inner.Leaving.{IsGroundOf, Walked, actions_at, effect_in, EndsAs};
 
+use crate::attempts::{Walk, attempts};
 use crate::begins::begin;
 use crate::cells::Cells;
 use crate::damage::damage;
@@ -58,9 +59,9 @@ pub fn cells_of<'a>(alloc: Global, work: &'a Work, bundles: Seq<Bundle>) -> Cell
     Cells::new(alloc, under, over, bundles)
 }
 
-// Walks from where a task stands to its next synchronisation; the task's bundles are with the cells at hand. Gives
-// that, and what the subthread reads and writes.
-fn walk(
+/// Walks from where a task stands to its next synchronisation; the task's bundles are with the cells at hand. Gives
+/// that, and what the subthread reads and writes.
+pub fn walk(
     alloc: Global,
     work: &Work,
     task: &Task,
@@ -175,8 +176,15 @@ pub fn run_task(alloc: Global, work: &Work, task: Task) -> Result<Done, AllocFai
     run_counted(alloc, work, task, &mut steps)
 }
 
-/// Runs a task, as `run_task` does, and leaves in `steps` how many control steps the run made: how long it took, by a
-/// measure that does not hang on the machine. No clause speaks of that number.
+/// Runs a task, as `run_task` does, and leaves in `steps` how many control steps its walks made together: how long it
+/// took, by a measure that does not hang on the machine. No clause speaks of that number.
+///
+/// Where the work says so, the task is walked twice and the two walks are compared before anything is handed on; where
+/// they differ, a third decides. That is redundant execution, in time and on one processor: Oh, Shirvani and McCluskey,
+/// 'Error detection by duplicated instructions in super-scalar processors' (EDDI, 2002), and Reis, Chang, Vachharajani,
+/// Rangan and August, 'SWIFT: software implemented fault tolerance' (2005) repeat each instruction; Reinhardt and
+/// Mukherjee, 'Transient fault detection via simultaneous multithreading' (RMT, 2000) compare two threads at what leaves
+/// them, as is done here at what leaves a subthread.
 pub fn run_counted(
     alloc: Global,
     work: &Work,
@@ -188,33 +196,22 @@ pub fn run_counted(
     ensures run { IfOk result (λ done. IsRun work.now done) }
     ensures back { IfErr result (λ failed. failed.value ≡ task) }
 {
-    let Ok(ctl) = task.ctl.copied(alloc) else {
-        return Err(AllocFailed { value: task });
-    };
-    let Ok(regs) = task.given.regs.copied(alloc) else {
-        return Err(AllocFailed { value: task });
-    };
     let ground = ground_of(work, &task);
     let mut task = task;
     let bundles = mem::replace(&mut task.given.bundles, Seq::new(alloc));
-    let mut stand = Stand {
-        pc: task.at.pc as usize,
-        ctl,
-    };
-    let mut doing = Doing {
-        regs,
-        child: Seq::new(alloc),
-        cells: cells_of(alloc, work, bundles),
-        lines: Seq::new(alloc),
-        steps: 0,
-    };
-    match walk(alloc, work, &task, &ground, &mut stand, &mut doing) {
-        Ok((next, foot)) => {
-            *steps = doing.steps;
+    *steps = 0;
+    match attempts(alloc, work, &task, &ground, bundles, steps) {
+        Ok(walk) => {
+            let Walk {
+                stand,
+                doing,
+                next,
+                foot,
+            } = walk;
             ended(alloc, task, stand, next, foot, doing)
         }
-        Err(_) => {
-            task.given.bundles = doing.cells.take_back();
+        Err(bundles) => {
+            task.given.bundles = bundles;
             Err(AllocFailed { value: task })
         }
     }

@@ -15,7 +15,7 @@ use Rattle.call_cases.specs.Commands.{IsApart, AreSound}
 use Rattle.call_cases.specs.meaning.Lines as gprs_lines
 use Rattle.call_cases.specs.meaning.Case.{Case, Usage, BadProgram, BadInput, Go, IsCase, ForCase, names_read}
 use Rattle.call_cases.specs.Refusals.{RefusesCase, RefusesWords, RefusesShelf, RefusalEnds, usage_told, program_told, input_told, read_told, refusal_no_memory, refusal_failed}
-use Rattle.call_cases.specs.meaning.Answers.{Change, TakesAll, TakesPart, Fails}
+use Rattle.call_cases.specs.meaning.Answers.{Change, TakesAll, TakesPart, Fails, Grew}
 use Rattle.call_cases.specs.Answers.{unwritten, LineEnds, whole, line_failed, line_no_memory, RunEnds, finished}
 use Rattle.call_cases.specs.meaning.Headline.{IsStop, ReadsNothing}
 use Rattle.call_cases.proofs.OneCase.{for_known, for_each}
@@ -108,38 +108,40 @@ module _ (judge : Judge) where
           for_each (asking judge) words files (λ case. HasOwnLine 1 → TakesAll err (own_line case)) (λ case is. absurd (grind (arith, is)))
 
       -- a part of the line of a refusal is a part of a line of the case
-      refusal_part : (refusal : Refusal) → IfSome files (λ told. RefusesCase (IsCase (asking judge) words told) refusal)
-          → TakesPart err (refusal_line refusal)
-          → ForCase (asking judge) words files (λ case. (line : List ℕ) × IsLine case line × TakesPart err line)
-      refusal_part RefusedUsage known part =
-          for_known (asking judge) words files Usage (λ case. (line : List ℕ) × IsLine case line × TakesPart err line) known
-          (usage_line, inl refl, part)
-      refusal_part (RefusedProgram told) known part =
-          for_some (commands judge) words files Name (λ name. BadProgram name told)
-          (λ case. (line : List ℕ) × IsLine case line × TakesPart err line) known (λ name. (under_own_name told, inl refl, part))
-      refusal_part (RefusedInput told) known part =
-          for_some (commands judge) words files (List Name) (λ names. BadInput names told)
-          (λ case. (line : List ℕ) × IsLine case line × TakesPart err line) known (λ names. (under_own_name told, inl refl, part))
-      refusal_part (ReadFault name) known part = for_read files known
-        where
-          for_read : (files : Option Files)
-              → IfSome files (λ told. (case : Case Sight) × IsCase (asking judge) words told case × Contains (names_read case) name)
-              → ForCase (asking judge) words files (λ case. (line : List ℕ) × IsLine case line × TakesPart err line)
-          for_read None is = tt
-          for_read (Some files) (case, is, reads) =
-              for_known (asking judge) words (Some files) case (λ c. (line : List ℕ) × IsLine c line × TakesPart err line) is
-              (read_fault_line name, inr (inr (inr (name, reads, refl))), part)
-      refusal_part OutOfMemory known part =
-          for_each (asking judge) words files (λ case. (line : List ℕ) × IsLine case line × TakesPart err line)
-          (λ case. (out_of_memory_line, inr (inl refl), part))
+      module _ (reading : Option Viewed) (failed failed' : List Name) where
+        abbrev TakesLine : Case Sight → Type 0
+        TakesLine case = (line : List ℕ) × IsLine (Grew failed failed') case line × TakesPart err line
 
-      refusal_stopped : (refusal : Refusal) (status : ℕ) → IfSome files (λ told. RefusesCase (IsCase (asking judge) words told) refusal)
-          → LineEnds (refusal_status refusal) (refusal_line refusal) err status
-          → IsStop status → ForCase (asking judge) words files (λ case. (line : List ℕ) × IsLine case line × TakesPart err line)
-      refusal_stopped refusal status known (line_failed part fails) is = refusal_part refusal known part
-      refusal_stopped refusal status known (line_no_memory part) is = refusal_part refusal known part
-      refusal_stopped refusal status known (whole all) is =
-          refusal_part refusal known (prefix_whole err.written err.written' (refusal_line refusal) all)
+        refusal_part : (refusal : Refusal) → IfSome files (λ told. RefusesCase (IsCase (asking judge) words told) refusal)
+            → RefusesShelf MayRead reading failed failed' refusal → TakesPart err (refusal_line refusal)
+            → ForCase (asking judge) words files TakesLine
+        refusal_part RefusedUsage known shelf part =
+            for_known (asking judge) words files Usage TakesLine known (usage_line, inl refl, part)
+        refusal_part (RefusedProgram told) known shelf part =
+            for_some (commands judge) words files Name (λ name. BadProgram name told) TakesLine known
+            (λ name. (under_own_name told, inl refl, part))
+        refusal_part (RefusedInput told) known shelf part =
+            for_some (commands judge) words files (List Name) (λ names. BadInput names told) TakesLine known
+            (λ names. (under_own_name told, inl refl, part))
+        refusal_part (ReadFault name) known shelf part = for_read files known
+          where
+            for_read : (files : Option Files)
+                → IfSome files (λ told. (case : Case Sight) × IsCase (asking judge) words told case × Contains (names_read case) name)
+                → ForCase (asking judge) words files TakesLine
+            for_read None is = tt
+            for_read (Some files) (case, is, reads) =
+                for_known (asking judge) words (Some files) case TakesLine is
+                (read_fault_line name, inr (inr (inr (shelf.1, name, reads, refl))), part)
+        refusal_part OutOfMemory known shelf part =
+            for_each (asking judge) words files TakesLine (λ case. (out_of_memory_line, inr (inl refl), part))
+
+        refusal_stopped : (refusal : Refusal) (status : ℕ) → IfSome files (λ told. RefusesCase (IsCase (asking judge) words told) refusal)
+            → RefusesShelf MayRead reading failed failed' refusal → LineEnds (refusal_status refusal) (refusal_line refusal) err status
+            → IsStop status → ForCase (asking judge) words files TakesLine
+        refusal_stopped refusal status known shelf (line_failed part fails) is = refusal_part refusal known shelf part
+        refusal_stopped refusal status known shelf (line_no_memory part) is = refusal_part refusal known shelf part
+        refusal_stopped refusal status known shelf (whole all) is =
+            refusal_part refusal known shelf (prefix_whole err.written err.written' (refusal_line refusal) all)
 
       refusal_read : (failed failed' : List Name) (out : Change) (reading : Option Viewed) (refusal : Refusal) (status : ℕ)
           → IfSome files (λ told. RefusesCase (IsCase (asking judge) words told) refusal)
@@ -186,7 +188,7 @@ module _ (judge : Judge) where
         line = refusal_told err words files refusal status known ends;
         read_fault = refusal_read err words files failed failed' out ((asking judge).reading words) refusal status known shelf ends;
         write_fault = refusal_fault err out refusal status ends;
-        stopped = refusal_stopped err words files refusal status known ends;
+        stopped = refusal_stopped err words files ((asking judge).reading words) failed failed' refusal status known shelf ends;
       }
 
   -- a run was shown, or it was not
@@ -220,9 +222,9 @@ module _ (judge : Judge) where
     stop_part fault status (line_no_memory part) = part
     stop_part fault status (whole all) = prefix_whole err.written err.written' (fault_line fault) all
 
-    stop_line : (fault : SinkFault) (case : Case Sight) → IsLine case (fault_line fault)
-    stop_line Failed case = inr (inr (inl refl))
-    stop_line sink.OutOfMemory case = inr (inl refl)
+    stop_line : (grew : Type 0) (fault : SinkFault) (case : Case Sight) → IsLine grew case (fault_line fault)
+    stop_line grew Failed case = inr (inr (inl refl))
+    stop_line grew sink.OutOfMemory case = inr (inl refl)
 
     -- the status of what was shown, of a position that there is not, or of a stop
     absent_status : (position status : ℕ) → LineEnds 5 (absent_line (Some position)) err status → (status ≡ 5) ⊎ IsStop status
@@ -268,13 +270,13 @@ module _ (judge : Judge) where
         → TakesPart err (absent_line (absent_of sight))
     absent_part position status there ends = subst (λ a. TakesPart err (absent_line a)) (sym there) (absent_taken position status ends)
 
-    show_stopped : (names : List Name) (status : ℕ) → ShowEnds sight out err status → IsStop status
-        → (line : List ℕ) × IsLine (Go names sight) line × TakesPart err line
-    show_stopped names status (shown none all kept) is = absurd (grind (arith, is))
-    show_stopped names status (absent {position = position} there all ends) is =
+    show_stopped : (grew : Type 0) (names : List Name) (status : ℕ) → ShowEnds sight out err status → IsStop status
+        → (line : List ℕ) × IsLine grew (Go names sight) line × TakesPart err line
+    show_stopped grew names status (shown none all kept) is = absurd (grind (arith, is))
+    show_stopped grew names status (absent {position = position} there all ends) is =
         (absent_line (absent_of sight), inl refl, absent_part position status there ends)
-    show_stopped names status (unshown fault part fails ends) is =
-        (fault_line fault, stop_line fault (Go names sight), stop_part fault status ends)
+    show_stopped grew names status (unshown fault part fails ends) is =
+        (fault_line fault, stop_line grew fault (Go names sight), stop_part fault status ends)
 
   -- what is asked to be shown meets the promise
   pub run_shows : (words : List (List ℕ)) (files : Option Files) (failed failed' : List Name) (out err : Change) (status : ℕ)
@@ -294,5 +296,6 @@ module _ (judge : Judge) where
         read_fault = λ is. absurd (grind (arith, is, is_status));
         write_fault = show_fault sight out err status ends;
         stopped = λ is. for_known (asking judge) words files (Go names sight)
-            (λ case. (line : List ℕ) × IsLine case line × TakesPart err line) known (show_stopped sight out err names status ends is);
+            (λ case. (line : List ℕ) × IsLine (Grew failed failed') case line × TakesPart err line) known
+            (show_stopped sight out err (Grew failed failed') names status ends is);
       }

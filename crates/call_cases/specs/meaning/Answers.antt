@@ -26,6 +26,11 @@ TakesPart change bytes = AppendsPrefix change.written change.written' bytes
 abbrev pub TakesNothing : Change → Type 0
 TakesNothing change = Keeps change.written change.written'
 
+-- nothing was done to it
+pub record IsUntouched (change : Change) : Type 0 where
+  pub written : change.written' ≡ change.written
+  pub faults : change.faults' ≡ change.faults
+
 -- its count rose
 abbrev pub Fails : Change → Type 0
 Fails change = Rose change.faults change.faults'

@@ -7,7 +7,7 @@ use Rattle.call_cases.specs.meaning.Work.{Files}
 use Rattle.call_cases.specs.meaning.Commands.{Commands, MayLog, Unlogged, Logged}
 use Rattle.call_cases.specs.meaning.Case.{Case, IsCase, ForCase, ForRun, HasWork, IsMissing, status_of, text_of, line_of, names_read}
 use Rattle.call_cases.specs.meaning.Lines.{read_fault_line, write_fault_line}
-use Rattle.call_cases.specs.meaning.Answers.{Change, TakesAll, TakesPart, TakesNothing, Fails, Grew, Yields, TakesStop, IsEmpty}
+use Rattle.call_cases.specs.meaning.Answers.{Change, TakesAll, TakesPart, TakesNothing, IsUntouched, Fails, Grew, Yields, TakesStop, IsEmpty}
 
 -- a call: what it was given, and what it left
 pub record Call : Type 0 where
@@ -32,11 +32,12 @@ IsRefusal status = HasCaseLine status ⊎ (status ≡ 7)
 abbrev pub IsStop : ℕ → Type 0
 IsStop status = (status ≡ 1) ⊎ (status ≡ 8)
 
--- what the error stream is to take for the case: the line of the case, or of a file that it reads, or, where there is
--- something to be done, what it takes at the end of that
-abbrev pub IsDue : {T : Type 0} → Case T → (error : List ℕ) → List ℕ → Type 0
-IsDue case error due =
-    (due ≡ line_of case) ⊎ HasWork case × (due ≡ error) ⊎ (name : Name) × Contains (names_read case) name × (due ≡ read_fault_line name)
+-- what the error stream is to take for the case: the line of the case, or, where a read failed, of a file that it reads, or, where there
+-- is something to be done, what it takes at the end of that
+abbrev pub IsDue : {T : Type 0} → (grew : Type 0) → Case T → (error : List ℕ) → List ℕ → Type 0
+IsDue grew case error due =
+    (due ≡ line_of case) ⊎ HasWork case × (due ≡ error)
+    ⊎ grew × (name : Name) × Contains (names_read case) name × (due ≡ read_fault_line name)
 
 -- the error stream took a prefix of what is due, and then a prefix of the line that tells the stop
 abbrev pub TakesStopLines : (is_due : List ℕ → Type 0) → Change → Type 0
@@ -73,17 +74,20 @@ module _ {A T : Type 0} (commands : Commands A T) (call : Call) where
   IsQuiet (Logged log) =
       ForCase commands.asking call.words call.files (λ case. ForRun commands case (λ work. TakesAll call.err (log.whole work)))
 
-  -- a write failed, of which a line tells; where a log is kept, only before the run
+  -- a write failed, of which a line tells, but where a log is kept
   abbrev pub TellsWrite : MayLog T → Type 0
   TellsWrite Unlogged = TellsWriteFault call.out call.err
-  TellsWrite (Logged log) = (IsEmpty call.journal × TellsWriteFault call.out call.err) ⊎ Fails call.out ⊎ Fails call.err
+  TellsWrite (Logged log) = Fails call.out ⊎ Fails call.err
 
-  -- the call stopped, of which a line tells; where a log is kept, only before the run, and else the error stream has that log
+  -- The call stopped, of which a line tells. Where a log is kept, one does only before anything was done to the output, and else the error
+  -- stream has that log.
   abbrev pub TellsStop : MayLog T → Case T → Type 0
-  TellsStop Unlogged case = TakesStopLines (IsDue case (error_for commands (commands.asking.reading call.words) call.journal)) call.err
+  TellsStop Unlogged case =
+      TakesStopLines (IsDue (Grew call.failed call.failed') case
+      (error_for commands (commands.asking.reading call.words) call.journal)) call.err
   TellsStop (Logged log) case =
-      (IsEmpty call.journal × TakesStopLines (IsDue case []) call.err) ⊎ HasWork case
-      × ForRun commands case (λ work. log.taken work call.journal call.err)
+      (IsUntouched call.out × IsEmpty call.journal × TakesStopLines (IsDue (Grew call.failed call.failed') case []) call.err)
+      ⊎ HasWork case × ForRun commands case (λ work. log.taken work call.journal call.err)
 
 -- A file could not be read: its reads alone failed, and the line names it. It is one that the case reads, and one that the words ask for.
 pub record TellsReadFault {A T : Type 0} (commands : Commands A T) (call : Call) : Type 0 where
@@ -103,7 +107,8 @@ pub record Headline {A T : Type 0} (commands : Commands A T) (call : Call) : Typ
   pub told : TellsCase commands call.status
       → IfSome call.files (λ files. (case : Case T) × IsCase commands.asking call.words files case
       × (status_of commands case ≡ call.status))
-  -- These two hold of a shelf that does not tell its files, too.
+  -- These three hold of a shelf that does not tell its files, too: which statuses there are, and when one is that of no command.
+  pub among : commands.whole call.status ⊎ IsRefusal call.status ⊎ IsStop call.status
   pub usage : call.status ≡ 2 → commands.asking.reading call.words ≡ None
   pub no_command : commands.asking.reading call.words ≡ None → Yields 2 ⊥ (Fails call.err) call.status
   -- The output grew by the text of the case where it is whole, and at each status by a prefix of it.

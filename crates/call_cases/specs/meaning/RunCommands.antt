@@ -1,11 +1,11 @@
 -- The commands of `gprs_run`: `run`, `one`, `check` and `soak`, as one value of the record of promises.
-use Rattle.std.specs.Prelude.{◌≡◌, ◌⊎◌, ℕ, true, [], List, Some, codes, length, if◌then◌else◌}
+use Rattle.std.specs.Prelude.{◌≡◌, ◌⊎◌, ℕ, Bool, true, [], List, Some, codes, length, if◌then◌else◌}
 use Rattle.gp_base.specs.declared.ending.End.{End}
 use Rattle.gp_base.specs.declared.ending.End.TheVariants.{Finished, Stuck, Spent}
 use Rattle.gp_base.specs.declared.journal.Journal.{Journal}
 use Rattle.task_ast.specs.meaning.Tree.{Name}
 use Rattle.restart_log.specs.meaning.Trace.{trace_text}
-use Rattle.command_line.specs.meaning.Words.{asked_by}
+use Rattle.command_line.specs.meaning.Words.{asked_by, asked_among}
 use Rattle.command_line.specs.declared.asked.Command.{Command}
 use Rattle.command_line.specs.declared.asked.Command.TheVariants.{Run, One, Check, Soak, Ckpt, Log}
 use Rattle.command_line.specs.declared.asked.Asked.{Asked}
@@ -72,3 +72,10 @@ commands = record {
   complete = IsCompleteOf;
   retired = TakesRetired;
 }
+
+-- the same by whether the call may wait for its workers: those of `gprs_run`, which does not, and of `gprs_run_pipe`, which does
+abbrev pub asking_among : (waits : Bool) → Asking Asked ToDo
+asking_among waits = record asking { reading = asked_among waits }
+
+abbrev pub commands_among : (waits : Bool) → Commands Asked ToDo
+commands_among waits = record commands { asking = asking_among waits }

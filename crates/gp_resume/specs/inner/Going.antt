@@ -15,8 +15,7 @@ use Rattle.gp_resume.specs.declared.log.Logged.{Logged}
 use Rattle.gp_resume.specs.inner.Course.{IsHome, Stands}
 use Rattle.gp_resume.specs.meaning.Fitting.{resumed_at}
 use Rattle.gp_resume.specs.meaning.Reading.{BeginsWith, IsLogOf}
-use Rattle.gp_resume.specs.meaning.Resumed.{lines_of}
-use Rattle.gp_resume.specs.Resumed.{bytes_before}
+use Rattle.gp_resume.specs.meaning.Resumed.{lines_of, bytes_before}
 
 module _ (plan : Plan) where
   -- how many steps a run makes at most from here; one more than its limit leaves finds the end

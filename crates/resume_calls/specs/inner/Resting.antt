@@ -19,7 +19,7 @@ use Rattle.gp_resume.specs.meaning.Reading.{EndsNoLine, IsLogOf}
 use Rattle.gp_resume.specs.meaning.Resumed as rest
 use Rattle.gp_resume.specs.Resuming.{AnswersLog, IsRefused, ReportsRest, HasResumeCause}
 use Rattle.call_cases.specs.declared.reading.Refusal.{Refusal}
-use Rattle.call_cases.specs.meaning.Answers.{Change, TakesAll, TakesPart, Fails}
+use Rattle.call_cases.specs.meaning.Answers.{Change, TakesAll, TakesPart, IsUntouched, Fails}
 use Rattle.call_cases.specs.Answers.{LineEnds}
 use Rattle.call_cases.specs.meaning.Lines.{input_line, out_of_memory_line, write_fault_line}
 use Rattle.call_cases.specs.Refusals.{IsInputRefused, RefusalEnds}
@@ -32,11 +32,6 @@ use Rattle.resume_calls.specs.declared.plan.Plan.{Plan}
 pub record IsPlanOf (code : Work) (plan : Plan) : Type 0 where
   pub suits : Suits code plan.layout plan.inputs plan.limits
   pub program_is : program_in code ≡ plain_program (program_of plan.checked)
-
--- nothing was done to the stream
-pub record IsUntouched (out : Change) : Type 0 where
-  pub written : out.written' ≡ out.written
-  pub faults : out.faults' ≡ out.faults
 
 -- Writes the first line, where no line ends in a log with these bytes; else nothing.
 pub record PutsFirst {T : Type 0} (bytes : List ℕ) (out : Change) (result : Result T ResumeStop) : Type 0 where

@@ -44,11 +44,11 @@ pub record FailsToRead (judge : Judge) (view : View) (name : Name) : Type 0 wher
   pub alone : GrowsByOnly name view.failed view.failed'
   pub grew : Grew view.failed view.failed'
 
--- a line that the error stream may take: that of the case, of a file that it reads, or of a stop
-abbrev pub IsLine : Case Sight → List ℕ → Type 0
-IsLine case line =
-    (line ≡ own_line case) ⊎ (line ≡ out_of_memory_line) ⊎ (line ≡ write_fault_line) ⊎ (name : Name) × Contains (names_read case) name
-    × (line ≡ read_fault_line name)
+-- a line that the error stream may take: that of the case, of a stop, or, where a read failed, of a file that it reads
+abbrev pub IsLine : (grew : Type 0) → Case Sight → List ℕ → Type 0
+IsLine grew case line =
+    (line ≡ own_line case) ⊎ (line ≡ out_of_memory_line) ⊎ (line ≡ write_fault_line)
+    ⊎ grew × (name : Name) × Contains (names_read case) name × (line ≡ read_fault_line name)
 
 -- ended with the line of the case
 abbrev pub HasOwnLine : ℕ → Type 0
@@ -64,4 +64,5 @@ pub record Shows (judge : Judge) (view : View) : Type 0 where
   pub read_fault : view.status ≡ 7 → (name : Name) × FailsToRead judge view name × TakesAll view.err (read_fault_line name)
   pub write_fault : view.status ≡ 8 → Fails view.err ⊎ Fails view.out × TakesAll view.err write_fault_line
   pub stopped : IsStop view.status
-      → ForCase (asking judge) view.words view.files (λ case. (line : List ℕ) × IsLine case line × TakesPart view.err line)
+      → ForCase (asking judge) view.words view.files
+      (λ case. (line : List ℕ) × IsLine (Grew view.failed view.failed') case line × TakesPart view.err line)

@@ -6,7 +6,6 @@ use Rattle.std.specs.Prelude.{ℤ}
 use Rattle.std.specs.Ordering.{nat_cmp}
 use Rattle.std.specs.FinMap.{is_sorted, find}
 use Rattle.std.specs.FinMap.Entries.{below_all}
-use Rattle.record_store.specs.Lent.{put_back}
 use Rattle.record_store.proofs.Homing.{drop_next, drop_none}
 use Rattle.subthread.specs.inner.Places.{StandsAt, value_at, with_value}
 use Rattle.subthread.proofs.Placing.{place_within}

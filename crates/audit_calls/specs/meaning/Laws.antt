@@ -1,5 +1,5 @@
 -- Laws of audits.
-use Rattle.std.specs.Prelude.{◌≡◌, ◌≤◌, ℕ, true, List, Some, length, codes}
+use Rattle.std.specs.Prelude.{◌≡◌, ◌≤◌, ℕ, Bool, true, List, Some, length, codes}
 use Rattle.gp_base.specs.meaning.Files.{bytes_of}
 use Rattle.gp_base.specs.declared.fault.Fault.{Fault}
 use Rattle.gp_base.specs.declared.limits.TheConstants.{MOST_FILE_BYTES}
@@ -7,10 +7,8 @@ use Rattle.task_ast.specs.meaning.Tree.{Name}
 use Rattle.dependence.specs.meaning.Restarts.{Dependence}
 use Rattle.restart_log.specs.meaning.Trace.{trace_text}
 use Rattle.gp_audit.specs.declared.line.TraceLine.{TraceLine}
-use Rattle.gp_traces.specs.Laws.{IsNarrowRun}
 use Rattle.command_line.specs.declared.audit_words.Audited.{Audited}
 use Rattle.call_cases.specs.meaning.Work.{Files, ToDo, is_journalled}
-use Rattle.call_cases.specs.meaning.Journals.{run_of}
 use Rattle.call_cases.specs.meaning.Case.{Case, Go, IsCaseOf, IsCase, status_of, text_of}
 use Rattle.call_cases.specs.meaning.RunCommands as run
 use Rattle.call_cases.specs.meaning.Headline.{Call, Headline}
@@ -31,13 +29,14 @@ pub record IsSameRun (work other : ToDo) : Type 0 where
   pub faults : work.faults ≡ other.faults
   pub limits : work.limits ≡ other.limits
 
--- A call of `gprs_run`, over these files, whose run ended at 0, 5 or 6, left a journal. Where the trace of that journal
--- stands in a file, an audit of that file as the trace of the same run comes to the status 0 and the text `lawful`.
+-- A call of `gprs_run`, or of `gprs_run_pipe`, which waits, over these files, whose run ended at 0, 5 or 6, left a journal. Where the trace
+-- of that journal stands in a file, an audit of that file as the trace of the same run comes to the status 0 and the text `lawful`.
 abbrev pub TraceLaw : Type 0
 TraceLaw =
-    (judge : Judge) (call : Call) (files : Files) (names : List Name) (work : ToDo) → Headline run.commands call → call.files ≡ Some files
-    → IsCase run.asking call.words files (Go names work)
-    → is_journalled work.command ≡ true → run.IsWhole call.status → IsNarrowRun (run_of work) work.faults
+    (judge : Judge) (waits : Bool) (call : Call) (files : Files) (names : List Name) (work : ToDo)
+    → Headline (run.commands_among waits) call → call.files ≡ Some files
+    → IsCase (run.asking_among waits) call.words files (Go names work)
+    → is_journalled work.command ≡ true → run.IsWhole call.status
     → length (trace_text call.journal) ≤ MOST_FILE_BYTES
     → (audited : Audited) (files' : Files) (names' : List Name) (work' : ToDo) (case : Case Tried)
     → IsCaseOf run.asking audited.run files' (Go names' work') → IsSameRun work work'

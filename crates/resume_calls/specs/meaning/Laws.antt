@@ -5,7 +5,7 @@ use Rattle.gp_base.specs.declared.limits.Limits.{Limits}
 use Rattle.task_ast.specs.meaning.Tree.{Program}
 use Rattle.retirement_log.specs.meaning.Log.{log}
 use Rattle.gp_resume.specs.meaning.Reading.{IsLogOf}
-use Rattle.gp_resume.specs.Resumed.{bytes_before}
+use Rattle.gp_resume.specs.meaning.Resumed.{bytes_before}
 use Rattle.command_line.specs.declared.asked.Command.TheVariants.{One}
 use Rattle.call_cases.specs.meaning.RunCommands.{work_text}
 use Rattle.resume_calls.specs.meaning.Resumption.{Reader, Resumption}

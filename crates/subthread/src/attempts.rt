@@ -1,0 +1,369 @@
+// A task that is walked twice, and the two walks compared.
+ghost use Rattle.std.specs.Prelude.{◌≡◌, length, map, All, IsTrue, IfOk, IfErr};
+ghost use Rattle.std.specs.List.Sorted.{IsStrictlyIncreasing};
+ghost use Rattle.task_ast.specs.meaning.Under.{under_lock};
+ghost use Rattle.record_store.specs.Lent.{lock_in};
+ghost use Rattle.record_store.specs.declared.given.Bundle.{Bundle as BundleThere};
+ghost use Rattle.task_ast.specs.SyncOps.{IsNumbered};
+ghost use Rattle.subthread.specs.Tasks.{with_bundles, under_of};
+ghost use Rattle.subthread.specs.inner.Running.{IsTask, AreAtHand};
+ghost use Rattle.subthread.specs.inner.Leaving.{IsGroundOf, actions_at};
+ghost use Rattle.subthread.specs.inner.Attempts.{stand_at, IsWalk, IsSame, IsSameControl, IsSameData};
+
+use crate::cells::{Change, sum_of};
+use crate::ground::{Doing, Ground, Stand};
+use crate::run::{cells_of, walk};
+use crate::{Disturbance, Recheck, Task, Work};
+use gp_base::{Footprint, Lines, Loc, Nums, Seq};
+use record_store::Bundle;
+use std::alloc::{AllocError, Global};
+use task_ast::{Next, SyncOp};
+
+/// A walk that came to its next synchronisation: where it then stands, what it did, what comes next, and what it reads
+/// and writes.
+#[derive(Drop)]
+pub struct Walk<'a> {
+    pub stand: Stand,
+    pub doing: Doing<'a>,
+    pub next: Next,
+    pub foot: Footprint,
+}
+
+/// What is kept of a walk whose cells were put back.
+#[derive(Drop)]
+pub struct Left {
+    pub stand: Stand,
+    pub regs: Nums,
+    pub child: Nums,
+    pub lines: Lines,
+    pub steps: u64,
+    pub changes: Vec<Change>,
+    pub next: Next,
+    pub foot: Footprint,
+}
+
+fn same_numbers(a: &[i64], b: &[i64]) -> bool
+    ensures { IsTrue result → a.now ≡ b.now }
+{
+    a == b
+}
+
+fn same_lines(a: &[Nums], b: &[Nums]) -> bool
+    ensures { IsTrue result → a.now ≡ b.now }
+{
+    if a.len() != b.len() {
+        return false;
+    }
+    'comparing: for at in 0..a.len() {
+        if !same_numbers(a[at].as_slice(), b[at].as_slice()) {
+            return false;
+        }
+    }
+    true
+}
+
+fn same_locs(a: &[Loc], b: &[Loc]) -> bool
+    ensures { IsTrue result → a.now ≡ b.now }
+{
+    a == b
+}
+
+fn same_changes(a: &[Change], b: &[Change]) -> bool
+    ensures { IsTrue result → a.now ≡ b.now }
+{
+    a == b
+}
+
+fn same_sync(a: &SyncOp, b: &SyncOp) -> bool
+    ensures { IsTrue result → a.now ≡ b.now }
+{
+    match (a, b) {
+        (SyncOp::Start, SyncOp::Start) => true,
+        (SyncOp::Lock(l), SyncOp::Lock(m)) => l.0 == m.0,
+        (SyncOp::Unlock(l), SyncOp::Unlock(m)) => l.0 == m.0,
+        (
+            SyncOp::Fork { task, args },
+            SyncOp::Fork {
+                task: other,
+                args: more,
+            },
+        ) => { *task == *other && same_numbers(args.as_slice(), more.as_slice()) }
+        (SyncOp::Join(t), SyncOp::Join(u)) => *t == *u,
+        (SyncOp::Barrier(x), SyncOp::Barrier(y)) => *x == *y,
+        (SyncOp::Settle { reg, ctl }, SyncOp::Settle { reg: r, ctl: c }) => *reg == *r
+            && *ctl == *c,
+        (SyncOp::End, SyncOp::End) => true,
+        (SyncOp::BadIndex, SyncOp::BadIndex) => true,
+        (SyncOp::Spent, SyncOp::Spent) => true,
+        _ => false,
+    }
+}
+
+fn same_stand(a: &Stand, b: &Stand) -> bool
+    ensures { IsTrue result → a.now ≡ b.now }
+{
+    a.pc == b.pc && same_numbers(a.ctl.as_slice(), b.ctl.as_slice())
+}
+
+fn same_next(a: &Next, b: &Next) -> bool
+    ensures { IsTrue result → a.now ≡ b.now }
+{
+    a.line == b.line && same_sync(&a.sync, &b.sync)
+}
+
+fn same_foot(a: &Footprint, b: &Footprint) -> bool
+    ensures { IsTrue result → a.now ≡ b.now }
+{
+    same_locs(a.reads.as_slice(), b.reads.as_slice())
+        && same_locs(a.writes.as_slice(), b.writes.as_slice())
+}
+
+// Whether a walk came to where another one did, in as many steps, by the same locations.
+fn same_control<'a>(walk: &Walk<'a>, left: &Left) -> bool
+    ensures { IsTrue result → IsSameControl walk.now left.now }
+{
+    walk.doing.steps == left.steps
+        && same_stand(&walk.stand, &left.stand)
+        && same_next(&walk.next, &left.next)
+        && same_foot(&walk.foot, &left.foot)
+}
+
+// Whether a walk left the same registers and lines as another one.
+fn same_data<'a>(doing: &Doing<'a>, left: &Left) -> bool
+    ensures { IsTrue result → IsSameData doing.now left.now }
+{
+    same_numbers(doing.regs.as_slice(), left.regs.as_slice())
+        && same_numbers(doing.child.as_slice(), left.child.as_slice())
+        && same_lines(doing.lines.as_slice(), left.lines.as_slice())
+}
+
+// One walk of a task from its beginning; its bundles are handed over, and its steps are added. The error is that memory is
+// out, and has the bundles as they came.
+fn attempt<'a>(
+    alloc: Global,
+    work: &'a Work,
+    task: &Task,
+    ground: &Ground,
+    bundles: Seq<Bundle>,
+    steps: &mut u64,
+) -> Result<Walk<'a>, Seq<Bundle>>
+    requires numbered { IsNumbered task.now.begins.sync }
+    requires is { IsGroundOf work.now (with_bundles ground.now.bundles.value task.now) ground.now }
+    requires task { IsTask ground.now }
+    requires came { bundles ≡ ground.now.bundles.value }
+    requires rising { IsStrictlyIncreasing (map lock_in ground.now.bundles.value) }
+    requires sizes { All (λ (b : BundleThere). length b.cells ≡ length (under_lock (under_of work.now) b.lock)) ground.now.bundles.value }
+    requires named { AreAtHand ground.now (actions_at work.now (with_bundles ground.now.bundles.value task.now) (stand_at task.now)) }
+    ensures walk { IfOk result (IsWalk work.now (with_bundles ground.now.bundles.value task.now) ground.now) }
+    ensures back { IfErr result (λ back. back ≡ ground.now.bundles.value) }
+{
+    let Ok(ctl) = task.ctl.copied(alloc) else {
+        return Err(bundles);
+    };
+    let Ok(regs) = task.given.regs.copied(alloc) else {
+        return Err(bundles);
+    };
+    let mut stand = Stand {
+        pc: task.at.pc as usize,
+        ctl,
+    };
+    let mut doing = Doing {
+        regs,
+        child: Seq::new(alloc),
+        cells: cells_of(alloc, work, bundles),
+        lines: Seq::new(alloc),
+        steps: 0,
+    };
+    match walk(alloc, work, task, ground, &mut stand, &mut doing) {
+        Ok((next, foot)) => {
+            *steps = steps.saturating_add(doing.steps);
+            Ok(Walk {
+                stand,
+                doing,
+                next,
+                foot,
+            })
+        }
+        Err(_) => Err(doing.cells.take_back()),
+    }
+}
+
+// The bundles with which a walk began, as they came.
+fn given_back<'a>(walk: Walk<'a>) -> Seq<Bundle>
+    ensures { result ≡ walk.entry.doing.cells.came }
+{
+    let Walk { doing, .. } = walk;
+    let Doing { cells, .. } = doing;
+    cells.take_back()
+}
+
+// The summary of a walk with a bit turned, where a test says so.
+fn disturbed(recheck: &Recheck, steps: u64, changes: &mut [Change]) -> u64 {
+    if let Some(change) = changes.first_mut() {
+        if recheck.disturbs(Disturbance::OldValue) {
+            change.old ^= 1;
+        }
+    }
+    if recheck.disturbs(Disturbance::Steps) {
+        steps ^ 1
+    } else {
+        steps
+    }
+}
+
+// What a walk of a task left, and the bundles as they came. The error is that memory is out, or that the cells are not
+// those that came and that the walk wrote, which is noted; it has the bundles.
+fn part<'a>(
+    alloc: Global,
+    work: &Work,
+    task: &Task,
+    sum: i64,
+    walk: Walk<'a>,
+) -> Result<(Seq<Bundle>, Left), Seq<Bundle>>
+    ensures came { IfOk result (λ parts. parts.0 ≡ walk.entry.doing.cells.came) }
+    ensures back { IfErr result (λ bundles. bundles ≡ walk.entry.doing.cells.came) }
+{
+    let Walk {
+        stand,
+        doing,
+        next,
+        foot,
+    } = walk;
+    let Doing {
+        regs,
+        child,
+        cells,
+        lines,
+        steps,
+    } = doing;
+    let Ok(mut changes) = cells.changes(alloc) else {
+        return Err(cells.take_back());
+    };
+    let steps = disturbed(&work.recheck, steps, &mut changes);
+    let kept = cells.is_kept(sum, &changes);
+    let bundles = cells.take_back();
+    if !kept {
+        work.recheck.note(task.pos);
+        work.recheck.note_disagreed(task.pos);
+        return Err(bundles);
+    }
+    let left = Left {
+        stand,
+        regs,
+        child,
+        lines,
+        steps,
+        changes,
+        next,
+        foot,
+    };
+    Ok((bundles, left))
+}
+
+// Whether a walk left what another one did, and no other cells. The error is that memory is out.
+fn is_like<'a>(alloc: Global, sum: i64, walk: &Walk<'a>, left: &Left) -> Result<bool, AllocError>
+    ensures { IfOk result (λ same. IsTrue same → IsSame walk.now left.now) }
+{
+    let changes = walk.doing.cells.changes(alloc)?;
+    Ok(
+        same_control(walk, left)
+            && same_data(&walk.doing, left)
+            && same_changes(&changes, &left.changes)
+            && walk.doing.cells.is_kept(sum, &changes),
+    )
+}
+
+// Whether a walk left what one of these two did. The error is that memory is out.
+fn is_like_either<'a>(
+    alloc: Global,
+    sum: i64,
+    walk: &Walk<'a>,
+    one: &Left,
+    two: &Left,
+) -> Result<bool, AllocError> {
+    Ok(is_like(alloc, sum, walk, one)? || is_like(alloc, sum, walk, two)?)
+}
+
+// The third walk of a task, whose first two left these two and were not alike: it must be like one of them. The error is
+// that memory is out, or that it is like neither, which is noted; it has the bundles as they came.
+fn agreed<'a>(
+    alloc: Global,
+    work: &Work,
+    task: &Task,
+    sum: i64,
+    third: Walk<'a>,
+    one: &Left,
+    two: &Left,
+) -> Result<Walk<'a>, Seq<Bundle>>
+    ensures walk { IfOk result (λ walk. walk ≡ third.entry) }
+    ensures back { IfErr result (λ bundles. bundles ≡ third.entry.doing.cells.came) }
+{
+    match is_like_either(alloc, sum, &third, one, two) {
+        Ok(true) => return Ok(third),
+        Ok(false) => work.recheck.note_disagreed(task.pos),
+        Err(_) => {}
+    }
+    Err(given_back(third))
+}
+
+// A walk of a task, as `attempt`, made twice: where the two differ, a third must be like one of them. The error is that
+// memory is out, or that it is like neither, or that the cells that came could not be had back; it has the bundles.
+fn compared<'a>(
+    alloc: Global,
+    work: &'a Work,
+    task: &Task,
+    ground: &Ground,
+    bundles: Seq<Bundle>,
+    steps: &mut u64,
+) -> Result<Walk<'a>, Seq<Bundle>>
+    requires numbered { IsNumbered task.now.begins.sync }
+    requires is { IsGroundOf work.now (with_bundles ground.now.bundles.value task.now) ground.now }
+    requires task { IsTask ground.now }
+    requires came { bundles ≡ ground.now.bundles.value }
+    requires rising { IsStrictlyIncreasing (map lock_in ground.now.bundles.value) }
+    requires sizes { All (λ (b : BundleThere). length b.cells ≡ length (under_lock (under_of work.now) b.lock)) ground.now.bundles.value }
+    requires named { AreAtHand ground.now (actions_at work.now (with_bundles ground.now.bundles.value task.now) (stand_at task.now)) }
+    ensures walk { IfOk result (IsWalk work.now (with_bundles ground.now.bundles.value task.now) ground.now) }
+    ensures back { IfErr result (λ back. back ≡ ground.now.bundles.value) }
+{
+    let sum = sum_of(bundles.as_slice());
+    let first = attempt(alloc, work, task, ground, bundles, steps)?;
+    let (bundles, one) = part(alloc, work, task, sum, first)?;
+    let second = attempt(alloc, work, task, ground, bundles, steps)?;
+    match is_like(alloc, sum, &second, &one) {
+        Ok(true) => return Ok(second),
+        Ok(false) => work.recheck.note(task.pos),
+        Err(_) => return Err(given_back(second)),
+    }
+    let (bundles, two) = part(alloc, work, task, sum, second)?;
+    let third = attempt(alloc, work, task, ground, bundles, steps)?;
+    agreed(alloc, work, task, sum, third, &one, &two)
+}
+
+/// A walk of a task from its beginning, made once, or twice and compared, as the work's recheck says; its bundles are
+/// handed over, and the steps of all walks are added. The error is that memory is out, or that walks could not be agreed
+/// on, which the recheck keeps; it has the bundles as they came.
+pub fn attempts<'a>(
+    alloc: Global,
+    work: &'a Work,
+    task: &Task,
+    ground: &Ground,
+    bundles: Seq<Bundle>,
+    steps: &mut u64,
+) -> Result<Walk<'a>, Seq<Bundle>>
+    requires numbered { IsNumbered task.now.begins.sync }
+    requires is { IsGroundOf work.now (with_bundles ground.now.bundles.value task.now) ground.now }
+    requires task { IsTask ground.now }
+    requires came { bundles ≡ ground.now.bundles.value }
+    requires rising { IsStrictlyIncreasing (map lock_in ground.now.bundles.value) }
+    requires sizes { All (λ (b : BundleThere). length b.cells ≡ length (under_lock (under_of work.now) b.lock)) ground.now.bundles.value }
+    requires named { AreAtHand ground.now (actions_at work.now (with_bundles ground.now.bundles.value task.now) (stand_at task.now)) }
+    ensures walk { IfOk result (IsWalk work.now (with_bundles ground.now.bundles.value task.now) ground.now) }
+    ensures back { IfErr result (λ back. back ≡ ground.now.bundles.value) }
+{
+    if work.recheck.is_on() {
+        compared(alloc, work, task, ground, bundles, steps)
+    } else {
+        attempt(alloc, work, task, ground, bundles, steps)
+    }
+}
