@@ -39,11 +39,11 @@ use Rattle.whole_run.specs.declared.parts.backing.Checkpoint.{Checkpoint}
 use Rattle.whole_run.specs.declared.calls.Halt.{Halt}
 use Rattle.whole_run.specs.Recovering.{recovered, HasCuts}
 use Rattle.whole_run.specs.View.{Batch, run_in, dependence_in, start_in}
-use Rattle.whole_run.specs.Gives.{IsBackBy, IsBack, IsScoutedBy, IsScouted, NoneHolds, NoneOut, struck_now}
+use Rattle.whole_run.specs.Gives.{Did, IsBackBy, IsBack, IsScoutedBy, IsScouted, NoneHolds, NoneOut, struck_now}
 use Rattle.whole_run.specs.inner.Backed.{StandsBy, open_cut, BackedBy, HistoriesStand, CopiesStand}
 use Rattle.whole_run.specs.inner.Backing.{IsRestored, DropsAfter}
 use Rattle.whole_run.specs.inner.Kept.{view_of, stage_of, IsPlaceIn, IsEnd, WindowStands, Keeps, Kept}
-use Rattle.whole_run.specs.inner.Detected.{RaisesFrom, attempt_in, DidRestart}
+use Rattle.whole_run.specs.inner.Detected.{RaisesFrom, attempt_in}
 use Rattle.whole_run.proofs.Recoverings.{redoes-struck}
 use Rattle.whole_run.proofs.AllHome.{all-home}
 use Rattle.whole_run.proofs.OpenCuts.{open-cut-is, open-cut-there}
@@ -80,13 +80,20 @@ module _ (batch : Batch) (parts : Parts) (kept : Kept batch parts) (p : ℕ) (is
   pub allowed : Allowed (dependence_in batch) batch.faults at (event.Restart (length at.progress.made))
   allowed = record { numbered = refl; some_struck = λ none. absurd (cc (none, next)) }
 
-  -- so the restart is made where all is back that it waits for
+  -- it was made, where it was noted
   pub did-restart : IsBack (view_of batch parts) → (events : List Event)
       → events ≡ parts.events.items ++ event.Restart (length parts.restarts.items) ∷ []
-      → DidRestart (view_of batch parts) (record { batch = batch; events = events; ended = parts.ended })
-  did-restart back events events_are =
-      let noted = events_are ∙ ap (λ n. parts.events.items ++ event.Restart n ∷ []) (ap length kept.journal.restarts_are) in
-      record { allowed = allowed; waited = back; grown = λ i. record { batch = batch; events = noted i; ended = parts.ended } }
+      → Did (view_of batch parts) (event.Restart (length at.progress.made)) (record { batch = batch; events = events; ended = parts.ended })
+  did-restart back events noted =
+      record {
+        allowed = allowed;
+        waited = back;
+        grown = λ i. record {
+          batch = batch;
+          events = (noted ∙ ap (λ made. parts.events.items ++ event.Restart (length made) ∷ []) kept.journal.restarts_are) i;
+          ended = parts.ended;
+        };
+      }
 
   below : p < at.progress.front
   below = (struck-live (dependence_in batch) batch.faults at.progress p next).0

@@ -33,7 +33,7 @@ module _ (run : List Subthread) where
   abbrev locks : ℕ → ℕ → Bool
   locks = clash_in (lock_feet_of run)
 
-  -- where a restart has waited, what is out is in conflict by locks only where it is so in the run: it holds no lock, or there is none
+  -- where a restart has waited, what is out waits for what is in conflict with it by locks: it holds no lock, or there is none
   clear-of-locks : (recovery : Recovery) (at : Stage) → ((p attempt : ℕ) → Contains at.posted (p, attempt) → p < length run)
       → IsBackBy recovery run at → (p attempt q : ℕ) → IsOut at p attempt → q < p → locks q p ≡ true
       → (recovering recovery run).clash q p ≡ true
@@ -63,5 +63,4 @@ module _ (run : List Subthread) where
     pub stays-ready : (e : Event) → Allowed (recovering recovery run) faults at e → HasWaited recovery run at e → OutReady locks at
         → OutReady locks (happens (recovering recovery run) faults at e)
     stays-ready e allowed waited ready =
-        out-ready (recovering recovery run) locks faults at e (redoes-conflicts run recovery) stands
-        allowed (keeps-ready e waited) ready
+        out-ready (recovering recovery run) locks faults at e (redoes-conflicts run recovery) stands allowed (keeps-ready e waited) ready
