@@ -45,5 +45,5 @@ LoggedLaw =
     → (resumed : Resumed) (files' : Files) (names' : List Name) (work' : ToDo) (case : Case Resumption)
     → IsCaseOf run.asking resumed.run files' (Go names' work') → IsSameBatch work work'
     → bytes_of files' resumed.log ≡ Some logged → IsCaseOf (resume.asking reader) resumed files' case
-    → HasWork case × (count : ℕ) × (take count (run.work_text One work) ++ text_of (resume.commands reader) case ≡ run.work_text One work)
-    × ((written : List ℕ) → Wrote call.out written → BeginsText count (run.work_text One work) written)
+    → HasWork case × (count : ℕ) × (take count (run.work_text One work') ++ text_of (resume.commands reader) case ≡ run.work_text One work')
+    × ((written : List ℕ) → Wrote call.out written → BeginsText count (run.work_text One work') written)
