@@ -126,7 +126,10 @@ const ADDERS: Case<'static> = Case {
     ..RUN
 };
 
-static PAIRS: [Case<'static>; 5] = [
+// The rows of the first two positions of the log of `ADD`.
+const FIRST_TWO: &str = "0 7 ; 0 ; ;\n1 7 ; 0 ; 0 0 ;\n";
+
+static PAIRS: [Case<'static>; 6] = [
     Case {
         words: "run p.gp --crew wave --workers 2",
         ..ADDERS
@@ -149,9 +152,20 @@ static PAIRS: [Case<'static>; 5] = [
         words: "log p.gp --crew wave --workers 2",
         ..ADDERS
     },
+    Case {
+        call: Call::Resume,
+        words: "resume p.gp t.txt",
+        trace: FIRST_TWO,
+        ..ADDERS
+    },
 ];
 
-static ALONE: [Case<'static>; 4] = [
+// The only thread takes a lock twice, so no position can run beside another.
+const ONE_THREAD: &str = "lock door[1];
+task main() { lock door[0]; unlock door[0]; lock door[0]; unlock door[0]; }
+";
+
+static ALONE: [Case<'static>; 5] = [
     Case {
         words: "run p.gp --crew one",
         ..ADDERS
@@ -167,6 +181,13 @@ static ALONE: [Case<'static>; 4] = [
     Case {
         words: "run p.gp --crew steal --workers 1",
         ..ADDERS
+    },
+    Case {
+        call: Call::Resume,
+        words: "resume p.gp t.txt",
+        program: ONE_THREAD,
+        trace: "",
+        ..RUN
     },
 ];
 
