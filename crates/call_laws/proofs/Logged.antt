@@ -172,18 +172,17 @@ module _ (work other : ToDo) (same : IsSameBatch work other) where
 -- ---- the law
 
 pub logged_law : LoggedLaw
-logged_law reader call files names work logged headline known is command begun wrote short resumed files' names' other case is' same holds is_case =
-    (
-      subst HasWork one tt,
-      length (text_before other.program other.inputs other.limits p),
-      subst (λ c. take (length (text_before other.program other.inputs other.limits p)) (run.work_text One other) ++ text_of (resume.commands reader) c
-          ≡ run.work_text One other) one
-          (cut_joined (text_before other.program other.inputs other.limits p)
-          (rest.text other.program other.inputs other.limits rows) (run.work_text One other)
-          (joined other.program other.inputs other.limits p found.1 ∙ same_text other)),
-      λ written out. begins_text work other same call.journal call.out written p found.2 found.1
-          (held call files names work headline known is command) out,
-    )
+logged_law reader call files names work logged headline known is command begun wrote short resumed files' names' other case is' same holds is_case = (
+  subst HasWork one tt,
+  length (text_before other.program other.inputs other.limits p),
+  subst (λ c. take (length (text_before other.program other.inputs other.limits p)) (run.work_text One other) ++ text_of (resume.commands reader) c
+      ≡ run.work_text One other) one
+      (cut_joined (text_before other.program other.inputs other.limits p)
+      (rest.text other.program other.inputs other.limits rows) (run.work_text One other)
+      (joined other.program other.inputs other.limits p found.1 ∙ same_text other)),
+  λ written out. begins_text work other same call.journal call.out written p found.2 found.1
+      (held call files names work headline known is command) out,
+)
   where
     k : ℕ
     k = retired_in work call.journal

@@ -101,12 +101,14 @@ filling-more work first tasks out places placed filling done after takes run =
         → Contains after task
         ⊎ ((d : Done) × (slice_get (slice_set places (done.task.pos - first) (Some done)) k ≡ Some (Some d)) × (task_of work d ≡ task) × IsRun work d)
     go k task e (inl same) was =
-        inr (done,
-        ap (slice_get (slice_set places (done.task.pos - first) (Some done))) same
-        ∙ get_set_here places (done.task.pos - first) (Some done) at.1,
-        (let both = sym here.1 ∙ (ap (slice_get tasks) (here-is ∙ sym same) ∙ e) in
-        ap (λ o. unwrap_or o (task_of work done)) both),
-        run)
+        inr (
+          done,
+          ap (slice_get (slice_set places (done.task.pos - first) (Some done))) same
+              ∙ get_set_here places (done.task.pos - first) (Some done) at.1,
+          (let both = sym here.1 ∙ (ap (slice_get tasks) (here-is ∙ sym same) ∙ e) in
+              ap (λ o. unwrap_or o (task_of work done)) both),
+          run,
+        )
     go k task e (inr other) (inl has) =
         elim (left-in takes.earlier takes.later (task_of work done) task (subst (λ out. Contains out task) takes.before_is has)) [
           | inl is ↦

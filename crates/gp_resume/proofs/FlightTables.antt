@@ -351,15 +351,17 @@ module _ (plan : Plan) (suits : IsSuited plan) where
         others-out : (gs : List Flown) → Each (λ g. IsFree f.subthread g.subthread) gs → Each (IsOut plan threads y table) gs
             → Each (IsOut plan threads y (learning table f.subthread.thread known-next)) gs
         others-out [] free out = tt
-        others-out (g ∷ gs) free out =
-            (record {
-              there = let k = learnt_length table f.subthread.thread known-next in let l = out.0.there in omega arith;
-              unknown = learnt_other table f.subthread.thread g.subthread.thread known-next free.0.thread ∙ out.0.unknown;
-              next = out.0.next;
-              point = out.0.point;
-              owns = out.0.owns;
-              child = out.0.child;
-            }, others-out gs free.1 out.1)
+        others-out (g ∷ gs) free out = (
+          record {
+            there = let k = learnt_length table f.subthread.thread known-next in let l = out.0.there in omega arith;
+            unknown = learnt_other table f.subthread.thread g.subthread.thread known-next free.0.thread ∙ out.0.unknown;
+            next = out.0.next;
+            point = out.0.point;
+            owns = out.0.owns;
+            child = out.0.child;
+          },
+          others-out gs free.1 out.1,
+        )
 
     -- once its place rests where its body leads, each that is known rests
     pub rests-learnt : (places : List Place) (place : Place) → length places ≡ length table.seats → RestsAlike plan y table places
@@ -470,9 +472,11 @@ module _ (plan : Plan) (suits : IsSuited plan) where
             child = λ c is.
                 let fork = forking s.begins.sync (length y.table.seats) c (sym step.child ∙ is) in
                 let same : c ≡ length y.table.seats = fork.1.1.1 in
-                let k = step.threads ∙ ap (λ child. with_child child (length y.table.seats)) is in
-                (omega arith, omega arith,
-                ap (next_of z.table) same ∙ (step.forked fork.0 fork.1.0 fork.1.1.0).0);
+                let k = step.threads ∙ ap (λ child. with_child child (length y.table.seats)) is in (
+                  omega arith,
+                  omega arith,
+                  ap (next_of z.table) same ∙ (step.forked fork.0 fork.1.0 fork.1.1.0).0,
+                );
           }
 
       pub knows-issued : threads ≤ length y.table.seats → KnowsBut plan threads z (fs ++ flown ∷ []) after
@@ -504,10 +508,10 @@ module _ (plan : Plan) (suits : IsSuited plan) where
             thread = λ same. other e out (sym same);
             child = λ c is same. let low = (out.child c is).0 in omega arith;
             joined = λ h is. (
-                (λ same. false≢true (sym (ap is_known_end (ap (next_of table) same ∙ out.unknown))
-                ∙ joins-ended table begins.sync h is has-begun.may)),
-                (λ c born same. false≢true (sym (ap is_known_end (sym (ap (next_of y.table) same) ∙ (out.child c born).2))
-                ∙ joins-ended y.table begins.sync h is step.may))
+              (λ same. false≢true (sym (ap is_known_end (ap (next_of table) same ∙ out.unknown))
+                  ∙ joins-ended table begins.sync h is has-begun.may)),
+              (λ c born same. false≢true (sym (ap is_known_end (sym (ap (next_of y.table) same) ∙ (out.child c born).2))
+                  ∙ joins-ended y.table begins.sync h is step.may)),
             );
             locks = λ l holds also.
                 other e out (some-same (sym ((still-out e out).owns l holds)

@@ -194,10 +194,12 @@ module _ (plan : Plan) where
         → (n : ℕ) × (n ≤ length (rest plan x)) × (posts ≡ firsts_from x.table.issued n)
     stops-some posts some =
         let many = ap length went.rest_is ∙ length-append went.done (rest plan went.now) in
-        let few = some.1 in
-        (length went.done + some.0, omega arith,
-        some.2 ∙ ((λ i. went.posts i ++ firsts_from (went.issued i) some.0)
-        ∙ sym (firsts-both x.table.issued (length went.done) some.0)))
+        let few = some.1 in (
+          length went.done + some.0,
+          omega arith,
+          some.2 ∙ ((λ i. went.posts i ++ firsts_from (went.issued i) some.0)
+              ∙ sym (firsts-both x.table.issued (length went.done) some.0)),
+        )
 
     -- it has ended
     module _ (end : End) (there : Course) (ended : Ended plan went.now end there) where

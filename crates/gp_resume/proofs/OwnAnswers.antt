@@ -74,31 +74,28 @@ group-clear : (values : List ℤ) → IsClear (group values)
 group-clear values = both-clear (codes " ;") (spaced values) marks-clear (spaced-clear values)
 
 -- a row but for its line end
-abbrev groups-front : Retirement → List ℕ
-groups-front r = group r.regs ++ (group r.child ++ group (flat_map cell_numbers r.cells))
+abbrev row-head : Retirement → List ℕ
+row-head r = signed_decimal r.position ++ codes " " ++ signed_decimal r.bytes
+
+abbrev row-groups : Retirement → List ℕ
+row-groups r = group r.regs ++ group r.child ++ group (flat_map cell_numbers r.cells)
 
 abbrev row-front : Retirement → List ℕ
-row-front r = signed_decimal r.position ++ (codes " " ++ (signed_decimal r.bytes ++ groups-front r))
+row-front r = row-head r ++ row-groups r
 
-front-clear : (r : Retirement) → IsClear (row-front r)
-front-clear r =
-    both-clear (signed_decimal r.position) _ (number-clear r.position)
-    (both-clear (codes " ") _ space-clear
-    (both-clear (signed_decimal r.bytes) _ (number-clear r.bytes)
-    (both-clear (group r.regs) _ (group-clear r.regs)
-    (both-clear (group r.child) _ (group-clear r.child) (group-clear (flat_map cell_numbers r.cells))))))
+head-clear : (r : Retirement) → IsClear (row-head r)
+head-clear r =
+    both-clear (signed_decimal r.position ++ codes " ") (signed_decimal r.bytes)
+    (both-clear (signed_decimal r.position) (codes " ") (number-clear r.position) space-clear) (number-clear r.bytes)
+
+groups-clear : (r : Retirement) → IsClear (row-groups r)
+groups-clear r =
+    let cells = flat_map cell_numbers r.cells in
+    both-clear (group r.regs ++ group r.child) (group cells)
+    (both-clear (group r.regs) (group r.child) (group-clear r.regs) (group-clear r.child)) (group-clear cells)
 
 front-is : (r : Retirement) → row_text r ≡ row-front r ++ codes "\n"
-front-is r =
-    let regs = group r.regs in
-    let child = group r.child in
-    let cells = group (flat_map cell_numbers r.cells) in
-    let groups : regs ++ (child ++ (cells ++ codes "\n")) ≡ groups-front r ++ codes "\n" =
-    ap (λ t. regs ++ t) (sym (append_assoc child cells (codes "\n"))) ∙ sym (append_assoc regs (child ++ cells) (codes "\n")) in
-    ap (λ t. signed_decimal r.position ++ (codes " " ++ (signed_decimal r.bytes ++ t))) groups
-    ∙ (ap (λ t. signed_decimal r.position ++ (codes " " ++ t)) (sym (append_assoc (signed_decimal r.bytes) (groups-front r) (codes "\n")))
-    ∙ (ap (λ t. signed_decimal r.position ++ t) (sym (append_assoc (codes " ") (signed_decimal r.bytes ++ groups-front r) (codes "\n")))
-    ∙ sym (append_assoc (signed_decimal r.position) (codes " " ++ (signed_decimal r.bytes ++ groups-front r)) (codes "\n"))))
+front-is r = sym (append_assoc (row-head r) (row-groups r) (codes "\n"))
 
 -- a part of a row, not the whole, ends no line
 part-clear : (r : Retirement) (n : ℕ) (later : List ℕ) → n < length (row_text r) → EndsNoLine (take n (row_text r ++ later))
@@ -108,7 +105,8 @@ part-clear r n later less =
     let cut : take n (row_text r ++ later) ≡ take n (row-front r) =
     take-append-le n (row_text r) later (omega (arith, less))
     ∙ (ap (take n) (front-is r) ∙ take-append-le n (row-front r) (codes "\n") within) in
-    subst EndsNoLine (sym cut) (no-line (take n (row-front r)) (All-take (λ b. b ≢ 10) n (row-front r) (front-clear r)))
+    subst EndsNoLine (sym cut) (no-line (take n (row-front r)) (All-take (λ b. b ≢ 10) n (row-front r)
+    (both-clear (row-head r) (row-groups r) (head-clear r) (groups-clear r))))
 
 -- ---- the rows that stand whole in the first bytes
 
@@ -142,8 +140,7 @@ whole-rows (r ∷ rows) n =
           let left = n - length (row_text r) in
           let parted : n ≡ length (row_text r) + left = omega (arith, more) in
           let others = whole-rows rows left in
-          let whole = others.1 in
-          (
+          let whole = others.1 in (
             suc others.0,
             record {
               within = (let few = whole.within in omega (arith, few));
@@ -169,8 +166,7 @@ own-answer program inputs limits logged accepted wide =
     let found = whole-rows (log_rows told) logged in
     let whole = found.1 in
     let count = length-rows 0 (length (codes "output\n")) told ∙ length-left program inputs limits 0 (order program inputs limits) in
-    let within : found.0 ≤ length (order program inputs limits) = (let few = whole.within in omega (arith, few, count)) in
-    (
+    let within : found.0 ≤ length (order program inputs limits) = (let few = whole.within in omega (arith, few, count)) in (
       found.0,
       within,
       whole.fewer,

@@ -16,10 +16,12 @@ first : (g : _) (c : In-Goes g) (x : Plain) (stands : Stands c.args.plan.now x c
 first g c x stands =
     let went = c.going.invariant.went x stands in
     let gives = subst (λ step. GivesFirst c.args.plan.now went.now step c.next.new.self) c.in-Goes.is
-    (c.in_ok-end.ensures.first went.now went.stands) in
-    (gives.0, gives.1,
-    subst (λ n. Joins c.args.plan.now n went.now [] gives.0 c.next.new.self)
-    (sym (c.len-threads.ensures ∙ (c.going.course.spots.ok.0 ∙ past-threads c.args.plan.now went.now c.going.course went.stands))) gives.2)
+    (c.in_ok-end.ensures.first went.now went.stands) in (
+      gives.0,
+      gives.1,
+      subst (λ n. Joins c.args.plan.now n went.now [] gives.0 c.next.new.self)
+          (sym (c.len-threads.ensures ∙ (c.going.course.spots.ok.0 ∙ past-threads c.args.plan.now went.now c.going.course went.stands))) gives.2,
+    )
 
 -- or it has ended
 ended : (g : _) (c : In-Ends g) (x : Plain) (stands : Stands c.args.plan.now x c.args.course.now)

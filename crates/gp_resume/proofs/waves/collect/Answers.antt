@@ -29,14 +29,18 @@ collecting-init g c =
 pub place-at-requires : goal.place-at-requires
 place-at-requires g c =
     let at = (goal.at.place-at-requires g c).In-Some in
-    record { behind = rw c.position_of-position.ensures (filling-at (g.C.Crew.work c.args.crew.now) c.args.first (g.C.Crew.out c.args.crew.now) (g.C.Crew.out c.collecting.crew)
-    c.collecting.runs.items c.requires.placed c.collecting.invariant.filling c.in-Some.done (g.C.Crew.out c.next.new.self) (takes g at)).0 }
+    record {
+      behind = rw c.position_of-position.ensures (filling-at (g.C.Crew.work c.args.crew.now) c.args.first (g.C.Crew.out c.args.crew.now) (g.C.Crew.out c.collecting.crew)
+          c.collecting.runs.items c.requires.placed c.collecting.invariant.filling c.in-Some.done (g.C.Crew.out c.next.new.self) (takes g at)).0;
+    }
 
 pub keep-runs-requires : goal.keep-runs-requires
 keep-runs-requires g c =
     let at = (goal.at.keep-runs-requires g c).In-Some in
-    record { inside = rw (c.place-at.ensures ∙ ap (λ (p : ℕ). p - c.args.first) c.position_of-position.ensures) (filling-at (g.C.Crew.work c.args.crew.now) c.args.first (g.C.Crew.out c.args.crew.now) (g.C.Crew.out c.collecting.crew)
-    c.collecting.runs.items c.requires.placed c.collecting.invariant.filling c.in-Some.done (g.C.Crew.out c.next.new.self) (takes g at)).1 }
+    record {
+      inside = rw (c.place-at.ensures ∙ ap (λ (p : ℕ). p - c.args.first) c.position_of-position.ensures) (filling-at (g.C.Crew.work c.args.crew.now) c.args.first (g.C.Crew.out c.args.crew.now) (g.C.Crew.out c.collecting.crew)
+          c.collecting.runs.items c.requires.placed c.collecting.invariant.filling c.in-Some.done (g.C.Crew.out c.next.new.self) (takes g at)).1;
+    }
 
 pub collecting-preserved : goal.collecting-preserved
 collecting-preserved g c =

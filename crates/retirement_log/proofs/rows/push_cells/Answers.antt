@@ -32,5 +32,8 @@ returns-clause-wide c =
     let all : All (λ write. IsWideCell (numbered (new_write c.args.under.now c.args.bundles.now write))) c.args.old.now =
     subst (All (λ write. IsWideCell (numbered (new_write c.args.under.now c.args.bundles.now write))))
     (take_all c.loop-write.write-index c.args.old.now (omega arith)) c.loop-write.invariant.wide in
-    search (rules, All-map IsWideCell numbered (map (new_write c.args.under.now c.args.bundles.now) c.args.old.now)
-    (All-map (λ write. IsWideCell (numbered write)) (new_write c.args.under.now c.args.bundles.now) c.args.old.now all))
+    search (
+      rules,
+      All-map IsWideCell numbered (map (new_write c.args.under.now c.args.bundles.now) c.args.old.now)
+          (All-map (λ write. IsWideCell (numbered write)) (new_write c.args.under.now c.args.bundles.now) c.args.old.now all),
+    )
