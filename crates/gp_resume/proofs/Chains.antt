@@ -1,9 +1,9 @@
 -- Subthreads with which a run goes on, one after another.
-use Rattle.std.proofs.Common.{◌≡◌, ℕ, zero, suc, ◌+◌, ◌-◌, ◌<◌, ◌≤◌, List, [], ◌∷◌, ◌++◌, length, map, refl, sym, ap, ◌∙◌, subst, arith, length-append}
+use Rattle.std.proofs.Common.{◌≡◌, ◌+◌, ◌≤◌, List, [], ◌∷◌, ◌++◌, length, map, sym, ap, ◌∙◌, arith, length-append}
 use Rattle.std.proofs.lemmas.List.{length-map}
 use Rattle.task_ast.specs.meaning.Plain.{Subthread, Plain}
 use Rattle.gp_resume.specs.declared.course.Plan.{Plan}
-use Rattle.gp_resume.specs.inner.Flights.{Flown, IsFlown, Chain}
+use Rattle.gp_resume.specs.inner.Flights.{Flown, Chain}
 use Rattle.gp_resume.specs.inner.Going.{rest, last}
 use Rattle.gp_resume.proofs.Onward.{issued-next, rest-goes, last-goes}
 

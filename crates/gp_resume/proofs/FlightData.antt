@@ -1,8 +1,8 @@
 -- The data while subthreads are out. A subthread leaves alone the registers of all threads but its own and its child's, and all cells but
 -- those under its locks. So what a later one is given, which is free of it, is the same before it and after it. A lock is away exactly where
 -- one of those that are out holds it.
-use Rattle.std.proofs.Common.{◌≡◌, inl, inr, ℕ, zero, suc, ◌<◌, ◌||◌, Bool, true, false, cond, List, [], ◌∷◌, ◌++◌, length, map, Contains, Option, Some, None, nat_eq, unwrap_or, refl, sym, ap, ◌∙◌, subst, arith, get_or}
-use Rattle.std.specs.Prelude.{ℤ, All, slice_get, option_map}
+use Rattle.std.proofs.Common.{◌≡◌, ℕ, ◌<◌, ◌||◌, Bool, true, false, cond, List, [], ◌∷◌, ◌++◌, length, map, Contains, Option, Some, None, nat_eq, unwrap_or, refl, sym, ap, ◌∙◌, subst, arith}
+use Rattle.std.specs.Prelude.{ℤ, slice_get, option_map}
 use Rattle.std.specs.Ordering.{nat_cmp}
 use Rattle.std.specs.FinMap.{find}
 use Rattle.std.proofs.lemmas.Bool.{eqb-true, false_from_ne_true, false≢true}
@@ -10,7 +10,6 @@ use Rattle.task_ast.specs.declared.effect.Effect.{Effect}
 use Rattle.task_ast.specs.meaning.Control.{Point}
 use Rattle.task_ast.specs.meaning.State.{State, RegistersOf, CellOf, cell_value, number_at}
 use Rattle.task_ast.specs.meaning.Effect.{effect, after, left_to, one_number}
-use Rattle.task_ast.specs.meaning.Layout.{layout}
 use Rattle.task_ast.specs.meaning.Tree.{Program}
 use Rattle.task_ast.specs.meaning.Under.{under_lock, is_under}
 use Rattle.task_ast.specs.SyncOps.{joined_by}
@@ -30,7 +29,7 @@ use Rattle.record_store.proofs.Marks.{marked-in, marked-out, length-marked}
 use Rattle.subthread.specs.Tasks.{program_in, under_of}
 use Rattle.gp_resume.specs.declared.course.Plan.{Plan}
 use Rattle.gp_resume.specs.inner.Course.{IsSuited}
-use Rattle.gp_resume.specs.inner.Flights.{Flown, Each, IsFree, AllFree, IsFlown, Chain, is_lent, task_from}
+use Rattle.gp_resume.specs.inner.Flights.{Flown, Each, IsFree, IsFlown, Chain, is_lent, task_from}
 
 -- ---- an effect
 

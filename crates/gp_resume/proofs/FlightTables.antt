@@ -12,9 +12,8 @@ use Rattle.task_ast.specs.declared.sync.Next.{Next}
 use Rattle.task_ast.specs.meaning.Control.{Point}
 use Rattle.task_ast.specs.meaning.Tree.{Program}
 use Rattle.gp_base.specs.declared.feed.Inputs.{Inputs}
-use Rattle.task_ast.specs.meaning.Body.{Stop}
 use Rattle.task_ast.specs.meaning.Repeat.{Again, More, Done, Goes}
-use Rattle.task_ast.specs.meaning.Table.{Seat, Table, next_of, learning, owned, owned_from}
+use Rattle.task_ast.specs.meaning.Table.{Seat, Table, next_of, learning, owned_from}
 use Rattle.task_ast.specs.meaning.Turn.{Turn, Issue, child_of, owner_in, owners_after, turn}
 use Rattle.task_ast.specs.SyncOps.{joined_by}
 use Rattle.task_ast.specs.Table.{is_known_end}
@@ -23,8 +22,8 @@ use Rattle.task_ast.specs.meaning.Layout.{layout}
 use Rattle.task_ast.specs.Reached.{by_pass, by_issue, by_learning}
 use Rattle.task_ast.specs.laws.Following.{Follows}
 use Rattle.task_ast.specs.laws.Less.{IsUnknown, SeatLess, SeatsLess, KnowsLess, Alike, passes, issues, needs, ends}
-use Rattle.task_ast.specs.laws.Standing.{PassesTo, at_once, by_turn}
-use Rattle.task_ast.specs.laws.Threads.{SameThreads, MayBegin, HasBegun, with_child}
+use Rattle.task_ast.specs.laws.Standing.{at_once, by_turn}
+use Rattle.task_ast.specs.laws.Threads.{MayBegin, HasBegun, with_child}
 use Rattle.task_ast.specs.meaning.Plain.{Subthread, Plain, Machine, tree_machine, points_with, point_by, move}
 use Rattle.task_ast.specs.Plain.{setting}
 use Rattle.task_ast.specs.Position.{body_by, point_in, IsStep}
@@ -44,7 +43,7 @@ use Rattle.subthread.specs.Tasks.{machine_of, program_in}
 use Rattle.gp_resume.specs.declared.course.Plan.{Plan}
 use Rattle.gp_resume.specs.declared.course.Begun.{Begun}
 use Rattle.gp_resume.specs.inner.Course.{IsSuited, IsSound}
-use Rattle.gp_resume.specs.inner.Flights.{Flown, Each, HasThread, IsFree, start_next, tree, IsOut, KnowsBut, RestsAlike}
+use Rattle.gp_resume.specs.inner.Flights.{Flown, Each, HasThread, IsFree, IsOut, KnowsBut, RestsAlike}
 use Rattle.gp_resume.proofs.Moved.{Issues, issues as issues-past, subthread, later, goes, keeps-locks, tables-after, same-limit, grown-count, new-rests}
 use Rattle.gp_resume.proofs.TurnsTaken.{follows-code}
 

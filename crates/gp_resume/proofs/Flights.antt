@@ -3,8 +3,8 @@
 -- A course at rest has none out. A turn that passes keeps those that are out, and one that issues joins one more to them, which is lent its
 -- cells. Once the first of them comes home with its run, the course has the data of the run after it. Where none is out any more, it is at
 -- rest where the run has come to.
-use Rattle.std.proofs.Common.{◌≡◌, ◌⊎◌, inl, inr, ℕ, zero, suc, ◌+◌, ◌<◌, ◌≤◌, Bool, true, false, List, [], ◌∷◌, ◌++◌, length, map, get_or, Contains, Option, Some, None, unwrap_or, option_map, refl, sym, ap, ◌∙◌, subst, arith}
-use Rattle.std.specs.Prelude.{⊤, ◌||◌, All, slice_get, slice_set}
+use Rattle.std.proofs.Common.{◌≡◌, ℕ, ◌+◌, ◌<◌, ◌≤◌, Bool, true, false, List, [], ◌∷◌, ◌++◌, length, map, get_or, Contains, Option, Some, None, unwrap_or, refl, sym, ap, ◌∙◌, subst, arith}
+use Rattle.std.specs.Prelude.{◌||◌, All, slice_get, slice_set}
 use Rattle.std.specs.List.Sorted.{IsStrictlyIncreasing}
 use Rattle.std.proofs.lemmas.Bool.{false≢true}
 use Rattle.std.proofs.lemmas.List.{length-map, map-set}
@@ -15,10 +15,9 @@ use Rattle.task_ast.specs.declared.sync.SyncOp.TheVariants as sync
 use Rattle.task_ast.specs.declared.sync.Next.{Next}
 use Rattle.task_ast.specs.meaning.Control.{Point}
 use Rattle.task_ast.specs.meaning.Effect.{effect, after}
-use Rattle.task_ast.specs.meaning.Layout.{layout}
 use Rattle.task_ast.specs.meaning.Repeat.{More, Done as TurnDone}
-use Rattle.task_ast.specs.meaning.State.{State, RegistersOf}
-use Rattle.task_ast.specs.meaning.Table.{Table, learning, next_of, owned, owned_from, is_settle}
+use Rattle.task_ast.specs.meaning.State.{State}
+use Rattle.task_ast.specs.meaning.Table.{Table, learning, owned_from, is_settle}
 use Rattle.task_ast.specs.meaning.Turn.{Issue, turn}
 use Rattle.task_ast.specs.meaning.Tree.{Program}
 use Rattle.task_ast.specs.meaning.Under.{is_under}
@@ -29,34 +28,33 @@ use Rattle.task_ast.specs.SyncOps.{IsNumbered, joined_by}
 use Rattle.record_store.specs.Given.{given_of, bundle_of}
 use Rattle.dependence.proofs.DependentSets.{is_member-is}
 use Rattle.task_ast.specs.laws.Standing.{PassesTo, at_once, by_turn}
-use Rattle.task_ast.specs.meaning.Plain.{Subthread, Plain, Machine, tree_machine, points_with, point_by, settled_by}
+use Rattle.task_ast.specs.meaning.Plain.{Plain, Machine, tree_machine, points_with, point_by, settled_by}
 use Rattle.task_ast.specs.Position.{body_by, from_in}
 use Rattle.task_ast.proofs.LessSeats.{seats_same}
-use Rattle.task_ast.proofs.LessTurns.{turn_alike, inside_of}
+use Rattle.task_ast.proofs.LessTurns.{turn_alike}
 use Rattle.task_ast.proofs.Standings.{passed_same}
 use Rattle.task_ast.proofs.TurnLaws.{pass_law}
 use Rattle.task_ast.proofs.IssuedTables.{learnt_length, length_set}
 use Rattle.task_code.specs.Reading.{Place}
 use Rattle.task_code.specs.Relation.{Rests}
 use Rattle.record_store.specs.Lent.{marked, lock_in, put_back, whole_effect, MayComeHome}
-use Rattle.record_store.specs.Stored.{Stored, state_of, IsAtHome, IsAway}
+use Rattle.record_store.specs.Stored.{state_of, IsAtHome, IsAway}
 use Rattle.record_store.proofs.Marks.{length-marked}
 use Rattle.token_order.specs.View.{Roomy}
-use Rattle.subthread.specs.declared.task.Task.{Task}
 use Rattle.subthread.specs.declared.task.Done.{Done}
 use Rattle.subthread.specs.Tasks.{program_in, machine_of, under_of, task_of, place_left, IsRun, Fits}
-use Rattle.subthread.proofs.HeldLocks.{owned_below, bundle_locks}
+use Rattle.subthread.proofs.HeldLocks.{owned_below}
 use Rattle.subthread.proofs.Lendings.{all-locks, as-lent}
 use Rattle.subthread.proofs.Among.{same_locks_back}
 use Rattle.gp_resume.specs.declared.course.Plan.{Plan}
 use Rattle.gp_resume.specs.declared.course.Spot.{Spot}
 use Rattle.gp_resume.specs.declared.course.Course.{Course}
 use Rattle.gp_resume.specs.declared.course.Begun.{Begun}
-use Rattle.gp_resume.specs.inner.Course.{spot_place, run_in, IsSuited, IsSameRun, AreNumbered, IsHome, IsSound, Stands}
-use Rattle.gp_resume.specs.inner.Turning.{settled_place, threads_with, IsIssued, KeepsTurning}
+use Rattle.gp_resume.specs.inner.Course.{spot_place, IsSuited, AreNumbered}
+use Rattle.gp_resume.specs.inner.Turning.{settled_place, IsIssued}
 use Rattle.gp_resume.specs.inner.Handed.{task_begun, IsLeft}
-use Rattle.gp_resume.specs.inner.Flights.{Flown, Each, HasThread, is_lent, IsFree, AllFree, IsFlown, Chain, KnowsBut, RestsAlike, IsLending, Flight, Joins, StandsPast, task_from}
-use Rattle.gp_resume.proofs.FlightTables.{issued, grown, each-push, table-known, issue-alike, same-threads, knows-past, knows-learnt, rests-learnt, s, z, moves, step, sound-after, keeps, has-begun, flown, knows-issued, free-all, rests-issued, places-count}
+use Rattle.gp_resume.specs.inner.Flights.{Flown, Each, is_lent, IsFree, AllFree, IsFlown, Chain, KnowsBut, RestsAlike, IsLending, Flight, Joins, StandsPast, task_from}
+use Rattle.gp_resume.proofs.FlightTables.{issued, grown, each-push, table-known, issue-alike, same-threads, knows-past, knows-learnt, rests-learnt, moves, step, sound-after, keeps, has-begun, flown, knows-issued, free-all, rests-issued, places-count}
 use Rattle.gp_resume.proofs.FlightData.{flown-step, task-same, free-lock, away-push, away-pop}
 use Rattle.gp_resume.proofs.FlownTasks.{numbered as flown-numbered, rising as flown-rising, fits as flown-fits, thread-is, effect-is, next-is, rests as run-rests, came, locks-came}
 use Rattle.gp_resume.proofs.Moved.{one-more, settled-rests}

@@ -1,6 +1,5 @@
 -- The task of a subthread that is out: it fits, and its run leaves what the subthread leaves.
-use Rattle.std.proofs.Common.{◌≡◌, ◌≢◌, ℕ, ◌+◌, ◌<◌, ◌≤◌, List, ◌++◌, length, map, option_map, Contains, Option, Some, None, refl, sym, ap, ◌∙◌, subst, arith}
-use Rattle.std.specs.Prelude.{ℤ, pos, All}
+use Rattle.std.proofs.Common.{◌≡◌, ℕ, ◌<◌, ◌≤◌, List, ◌++◌, length, map, sym, ap, ◌∙◌, subst, arith}
 use Rattle.std.specs.List.Sorted.{IsStrictlyIncreasing}
 use Rattle.task_ast.specs.declared.effect.Effect.{Effect}
 use Rattle.task_ast.specs.declared.sync.Next.{Next}
@@ -9,7 +8,7 @@ use Rattle.task_ast.specs.meaning.Body.{Body}
 use Rattle.task_ast.specs.meaning.Control.{Point}
 use Rattle.task_ast.specs.meaning.Effect.{effect, effect_on}
 use Rattle.task_ast.specs.Damage.{damaged}
-use Rattle.task_ast.specs.meaning.Under.{under_lock, is_under}
+use Rattle.task_ast.specs.meaning.Under.{is_under}
 use Rattle.task_ast.specs.laws.Following.{Agrees, Follows}
 use Rattle.task_ast.specs.laws.Keeps.{AllName}
 use Rattle.task_ast.specs.laws.Threads.{with_child}
@@ -19,10 +18,9 @@ use Rattle.task_ast.proofs.PlainSteps.{begins_of, begins_inside}
 use Rattle.task_ast.proofs.WholeFolds.{undamaged}
 use Rattle.task_code.specs.Reading.{Place}
 use Rattle.task_code.specs.Relation.{Rests}
-use Rattle.record_store.specs.declared.given.Bundle.{Bundle}
 use Rattle.task_ast.specs.SyncOps.{joined_by, IsNumbered}
 use Rattle.record_store.specs.Given.{given_of, found_of}
-use Rattle.record_store.specs.Lent.{lock_in, put_back, whole_effect}
+use Rattle.record_store.specs.Lent.{lock_in, put_back}
 use Rattle.record_store.specs.Stored.{FitsChild}
 use Rattle.record_store.proofs.Givens.{given_law}
 use Rattle.subthread.specs.declared.task.Task.{Task}

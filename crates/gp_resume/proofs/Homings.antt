@@ -1,10 +1,10 @@
 -- The runs of those that are out come home, one after another in order.
-use Rattle.std.proofs.Common.{◌≡◌, ℕ, ◌<◌, ◌≤◌, arith, List, [], ◌∷◌, ◌++◌, length, map, Option, Some, None, refl, sym, ap, ◌∙◌, subst, append_assoc, append-nil}
+use Rattle.std.proofs.Common.{◌≡◌, ℕ, ◌<◌, ◌≤◌, arith, List, [], ◌∷◌, ◌++◌, length, Option, Some, None, refl, sym, ap, ◌∙◌, subst, append_assoc, append-nil}
 use Rattle.std.specs.Io.KnownBytes.{Appends}
 use Rattle.std.proofs.KnownBytes.{Appends-nil}
 use Rattle.gp_base.specs.meaning.Sinks.{AppendsPrefix}
 use Rattle.gp_base.proofs.Written.{Appends-append, prefix_first, prefix_second, prefix_all}
-use Rattle.task_ast.specs.meaning.Plain.{Subthread, Plain}
+use Rattle.task_ast.specs.meaning.Plain.{Plain}
 use Rattle.restart_log.specs.meaning.Lines.{printed}
 use Rattle.task_ast.specs.laws.Threads.{with_child}
 use Rattle.record_store.specs.Lent.{MayComeHome}

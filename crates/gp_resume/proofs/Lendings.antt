@@ -1,11 +1,9 @@
 -- Cells that are lent to a task and come home with its run.
-use Rattle.std.proofs.Common.{◌≡◌, ℕ, ◌<◌, false, List, [], ◌∷◌, ◌++◌, length, get_or, Contains, Some, sym, ap, ◌∙◌}
+use Rattle.std.proofs.Common.{ℕ, ◌<◌, false, List, length, get_or, Contains, Some, ap, ◌∙◌}
 use Rattle.std.specs.Prelude.{All}
 use Rattle.std.proofs.lemmas.List.Elements.{Contains-get_or}
 use Rattle.std.proofs.lemmas.Option.{slice_get-get_or}
 use Rattle.record_store.specs.Stored.{Stored, IsAtHome, IsAllHome}
-use Rattle.subthread.specs.declared.task.Task.{Task}
-use Rattle.crew.specs.Out.{TakesOut}
 
 -- where all are at home, those that are there are
 pub each-home : (store : Stored) (held : List ℕ) → IsAllHome store → ((l : ℕ) → Contains held l → l < length store.away)

@@ -1,5 +1,5 @@
 -- Numbers at the front of bytes.
-use Rattle.std.proofs.Common.{◌≡◌, ◌≢◌, ◌<◌, ◌+◌, ◌^◌, ◌||◌, ◌==◌, ℕ, ℤ, pos, negsuc, true, false, List, [], ◌∷◌, ◌++◌, length, refl, sym, ap, ◌∙◌, subst, arith, w64, to_z, of_z}
+use Rattle.std.proofs.Common.{◌≡◌, ◌≢◌, ◌<◌, ◌^◌, ◌||◌, ◌==◌, ℕ, ℤ, pos, negsuc, true, false, List, [], ◌∷◌, ◌++◌, length, refl, sym, ap, ◌∙◌, subst, arith, w64, to_z, of_z}
 use Rattle.std.specs.Prelude.{Some, None, Result, IsUtf8, FitsSigned}
 use Rattle.std.specs.Result.{result_ok}
 use Rattle.std.specs.Fmt.{signed_decimal}

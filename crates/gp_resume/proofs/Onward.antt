@@ -1,21 +1,20 @@
 -- How a run goes on, one subthread after another.
-use Rattle.std.proofs.Common.{◌≡◌, ◌⊎◌, inl, inr, ℕ, zero, suc, ◌+◌, ◌-◌, ◌<◌, ◌≤◌, List, [], ◌∷◌, ◌++◌, length, length-append, Contains, Option, refl, sym, ap, ◌∙◌, subst, append_assoc, append-nil, arith}
+use Rattle.std.proofs.Common.{◌≡◌, ℕ, zero, suc, ◌+◌, ◌-◌, ◌<◌, ◌≤◌, List, [], ◌∷◌, ◌++◌, length, length-append, Contains, Option, refl, sym, ap, ◌∙◌, subst, append_assoc, append-nil, arith}
 use Rattle.std.specs.Io.KnownBytes.{Appends}
 use Rattle.std.proofs.KnownBytes.{Appends-nil}
 use Rattle.std.proofs.lemmas.Grind.{flat_map-append}
 use Rattle.gp_base.specs.meaning.Sinks.{AppendsPrefix}
 use Rattle.gp_base.specs.declared.ending.End.{End}
-use Rattle.gp_base.proofs.Written.{Appends-append, prefix_first, prefix_second, prefix_all}
+use Rattle.gp_base.proofs.Written.{Appends-append, prefix_second, prefix_all}
 use Rattle.task_ast.specs.meaning.Repeat.{Goes, Ends, steps, steps_from, state_after, state_from}
 use Rattle.task_ast.specs.meaning.Plain.{Subthread, Plain, tree_machine, ending_of, move}
 use Rattle.task_ast.proofs.PlainSteps.{begins_of}
 use Rattle.restart_log.specs.meaning.Lines.{printed, printed_line}
 use Rattle.subthread.specs.Tasks.{program_in}
 use Rattle.gp_resume.specs.declared.course.Plan.{Plan}
-use Rattle.gp_resume.specs.declared.course.Begun.{Begun}
 use Rattle.gp_resume.specs.declared.course.Course.{Course}
 use Rattle.gp_resume.specs.meaning.Resumed.{lines_of}
-use Rattle.gp_resume.specs.inner.Course.{IsSound, IsHome, Stands, Begins, Ended}
+use Rattle.gp_resume.specs.inner.Course.{IsSound, IsHome, Stands, Ended}
 use Rattle.task_ast.specs.laws.Standing.{at_once}
 use Rattle.gp_resume.specs.inner.Waves.{WentBy}
 use Rattle.gp_resume.specs.inner.Going.{left, rest, last, firsts_from, Went, WentOn}

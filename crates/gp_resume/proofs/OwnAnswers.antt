@@ -1,7 +1,7 @@
 -- The first bytes of a run's own log are answered by rows: those that stand whole in them.
 --
 -- A line ends a row and stands nowhere else in it. So what is left after the whole rows, a part of the next row, ends no line.
-use Rattle.std.proofs.Common.{◌≡◌, ◌≢◌, ◌⊎◌, inl, inr, ◌+◌, ◌-◌, ◌<◌, ◌≤◌, ℕ, ℤ, zero, suc, pos, negsuc, true, List, [], ◌∷◌, ◌++◌, length, length-append, take, Contains, refl, sym, ap, subst, ◌∙◌, arith, append_assoc}
+use Rattle.std.proofs.Common.{◌≡◌, ◌≢◌, inl, inr, ◌+◌, ◌-◌, ◌<◌, ◌≤◌, ℕ, ℤ, suc, true, List, [], ◌∷◌, ◌++◌, length, length-append, take, refl, sym, ap, subst, ◌∙◌, arith, append_assoc}
 use Rattle.std.specs.Prelude.{All, codes, flat_map, ◌||◌, ◌==◌}
 use Rattle.std.specs.Char.{is_ascii_digit}
 use Rattle.std.specs.Str.{all_ascii_digits}
@@ -10,18 +10,14 @@ use Rattle.std.proofs.lemmas.Bool.{and_parts, cases_lt}
 use Rattle.std.proofs.lemmas.List.{take_all, take-append-le}
 use Rattle.std.proofs.lemmas.List.Elements.{All-nil, All-cons, All-append, All-take, All-contains}
 use Rattle.std.proofs.Math.Seq.{take-append-add}
-use Rattle.gp_base.specs.declared.limits.Limits.{Limits}
-use Rattle.gp_base.specs.declared.feed.Inputs.{Inputs}
-use Rattle.task_ast.specs.meaning.Tree.{Program}
-use Rattle.task_ast.specs.Shaped.{IsAccepted}
 use Rattle.task_ast.specs.meaning.Plain.{order}
 use Rattle.restart_log.specs.meaning.Lines.{spaced}
 use Rattle.crew.specs.meaning.Noted.{left_in_order}
-use Rattle.retirement_log.specs.meaning.Rows.{Retirement, group, cell_numbers, row_text, log_text, IsWideRow}
-use Rattle.retirement_log.specs.meaning.Log.{log_rows, log}
-use Rattle.gp_resume.specs.meaning.Reading.{EndsNoLine, IsLogOf}
+use Rattle.retirement_log.specs.meaning.Rows.{Retirement, group, cell_numbers, row_text, log_text}
+use Rattle.retirement_log.specs.meaning.Log.{log_rows}
+use Rattle.gp_resume.specs.meaning.Reading.{EndsNoLine}
 use Rattle.gp_resume.specs.inner.Fronts.{is_numeral}
-use Rattle.gp_resume.specs.Laws.{own_rows, OwnAnswerLaw}
+use Rattle.gp_resume.specs.Laws.{OwnAnswerLaw}
 use Rattle.gp_resume.proofs.OwnRows.{own-fit}
 use Rattle.gp_resume.proofs.Printed.{printed-numeral}
 use Rattle.gp_resume.proofs.Replaying.{length-left, length-rows}

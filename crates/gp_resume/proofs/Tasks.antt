@@ -1,24 +1,18 @@
 -- The task of a subthread that begins: it fits, and its run leaves what the subthread leaves.
-use Rattle.std.proofs.Common.{◌≡◌, ◌≢◌, inl, inr, ℕ, ◌+◌, ◌<◌, ◌≤◌, true, false, List, ◌++◌, length, map, option_map, Contains, Option, Some, None, refl, sym, ap, ◌∙◌, subst, arith}
+use Rattle.std.proofs.Common.{◌≡◌, ◌≢◌, inl, inr, ℕ, ◌+◌, ◌<◌, ◌≤◌, List, length, option_map, Contains, Option, Some, None, refl, sym, ap, ◌∙◌, subst, arith}
 use Rattle.std.specs.Prelude.{ℤ, pos, negsuc, All, slice_get, slice_set}
 use Rattle.std.specs.List.Sorted.{IsStrictlyIncreasing}
 use Rattle.std.proofs.lemmas.Bool.{cases_eq}
-use Rattle.std.proofs.lemmas.List.{map-set}
 use Rattle.std.proofs.lemmas.List.Elements.{All-contains}
-use Rattle.task_ast.specs.declared.effect.Effect.{Effect}
 use Rattle.task_ast.specs.declared.sync.Next.{Next}
 use Rattle.task_ast.specs.declared.sync.SyncOp.{SyncOp}
 use Rattle.task_ast.specs.declared.sync.SyncOp.TheVariants as sync
 use Rattle.task_ast.specs.meaning.Tree.{Program}
 use Rattle.task_ast.specs.meaning.Body.{Body}
 use Rattle.task_ast.specs.meaning.Control.{Point}
-use Rattle.task_ast.specs.meaning.Effect.{effect, effect_on, after}
-use Rattle.task_ast.specs.Damage.{damaged}
-use Rattle.task_ast.specs.meaning.Table.{Table, owned_from, learning}
+use Rattle.task_ast.specs.meaning.Table.{Table, owned_from}
 use Rattle.task_ast.specs.meaning.Turn.{child_of}
-use Rattle.task_ast.specs.meaning.Under.{under_lock, is_under}
 use Rattle.task_ast.specs.laws.Following.{Agrees, Follows}
-use Rattle.task_ast.specs.laws.Keeps.{AllName}
 use Rattle.task_ast.specs.laws.Threads.{MayBegin, with_child}
 use Rattle.task_ast.specs.meaning.Plain.{Subthread, Plain, Machine, tree_machine}
 use Rattle.task_ast.specs.Position.{body_by, from_in, IsStep}
@@ -26,28 +20,19 @@ use Rattle.task_ast.specs.Reached.{Reached}
 use Rattle.task_ast.proofs.IssuedTables.{get_set_here, get_set_other}
 use Rattle.task_ast.proofs.PlainSteps.{begins_of, begins_inside, is_step}
 use Rattle.task_ast.proofs.SeatLimits.{most_threads_law}
-use Rattle.task_ast.proofs.WholeFolds.{undamaged}
 use Rattle.task_code.specs.Reading.{Place}
 use Rattle.task_code.specs.Relation.{Rests}
-use Rattle.record_store.specs.declared.given.Bundle.{Bundle}
-use Rattle.task_ast.specs.SyncOps.{joined_by}
-use Rattle.record_store.specs.Given.{given_of, found_of, bundle_of}
-use Rattle.record_store.specs.Lent.{marked, lock_in, put_back, whole_effect, MayComeHome}
-use Rattle.record_store.specs.Stored.{Stored, state_of, FitsChild, IsAtHome}
-use Rattle.record_store.proofs.Givens.{given_law}
+use Rattle.record_store.specs.Stored.{Stored, FitsChild, IsAtHome}
 use Rattle.subthread.specs.declared.task.Task.{Task}
-use Rattle.subthread.specs.declared.task.Done.{Done}
 use Rattle.task_ast.specs.SyncOps.{IsNumbered}
-use Rattle.subthread.specs.Tasks.{program_in, machine_of, under_of, task_of, effect_of, place_of, place_left, body_from, actions_from, IsRun, Fits}
-use Rattle.subthread.proofs.Among.{same_locks_back}
-use Rattle.subthread.proofs.HeldLocks.{owned_below, owned_increasing, bundle_locks, bundle_sizes}
-use Rattle.subthread.proofs.Lendings.{lent-away, lent-as, home-again}
+use Rattle.subthread.specs.Tasks.{program_in, machine_of, place_of, body_from}
+use Rattle.subthread.proofs.HeldLocks.{owned_below, owned_increasing}
 use Rattle.gp_resume.specs.declared.course.Plan.{Plan}
 use Rattle.gp_resume.specs.declared.course.Spot.{Spot}
 use Rattle.gp_resume.specs.declared.course.Begun.{Begun}
 use Rattle.gp_resume.specs.declared.course.Course.{Course}
-use Rattle.gp_resume.specs.inner.Course.{IsSuited, IsHome, AreNumbered, Begins, IsSameRun, Stands, spot_place, run_in}
-use Rattle.gp_resume.specs.inner.Handed.{task_begun, IsLeft}
+use Rattle.gp_resume.specs.inner.Course.{IsSuited, AreNumbered, Begins}
+use Rattle.gp_resume.specs.inner.Handed.{task_begun}
 use Rattle.gp_resume.proofs.Lendings.{each-home}
 use Rattle.gp_resume.proofs.TurnsTaken.{follows-code}
 

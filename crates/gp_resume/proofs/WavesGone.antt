@@ -1,5 +1,5 @@
 -- A wave: what went out has come home.
-use Rattle.std.proofs.Common.{◌≡◌, ℕ, ◌+◌, ◌<◌, ◌≤◌, arith, List, [], ◌∷◌, ◌++◌, length, map, Option, refl, sym, ap, ◌∙◌, subst}
+use Rattle.std.proofs.Common.{◌≡◌, ℕ, ◌+◌, arith, List, [], ◌∷◌, ◌++◌, Option, sym, ap, ◌∙◌, subst}
 use Rattle.std.specs.Io.KnownBytes.{Appends}
 use Rattle.std.proofs.lemmas.List.{length-map}
 use Rattle.gp_base.specs.meaning.Sinks.{AppendsPrefix}
@@ -13,7 +13,7 @@ use Rattle.gp_resume.specs.declared.course.Plan.{Plan}
 use Rattle.gp_resume.specs.declared.course.Begun.{Begun}
 use Rattle.gp_resume.specs.declared.course.Course.{Course}
 use Rattle.gp_resume.specs.meaning.Resumed.{lines_of}
-use Rattle.gp_resume.specs.inner.Flights.{Flown, Chain, Flight, Joins, StandsPast}
+use Rattle.gp_resume.specs.inner.Flights.{Flown, Chain, Flight, StandsPast}
 use Rattle.gp_resume.specs.inner.Going.{rest, firsts_from}
 use Rattle.gp_resume.specs.inner.Waves.{tasks_of, subthreads, ArePlaced, AreRunsOf, Sent, IsComing, WentBy}
 use Rattle.gp_resume.proofs.Chains.{chain-rest, chain-last, chain-issued}

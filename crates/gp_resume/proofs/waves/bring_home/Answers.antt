@@ -1,8 +1,8 @@
-use Rattle.std.proofs.Common.{◌≡◌, ◌≤◌, ℕ, List, [], ◌∷◌, length, Some, None, Option, refl, sym, ap, ◌∙◌, subst, arith}
+use Rattle.std.proofs.Common.{◌≡◌, ℕ, List, [], ◌∷◌, length, None, refl, sym, ap, ◌∙◌, subst, arith}
 use Rattle.task_ast.specs.meaning.Plain.{Plain}
 use Rattle.gp_resume.specs.inner.Flights.{Flown, Flight}
 use Rattle.gp_resume.specs.inner.Waves.{tasks_of, AreRunsOf, Homing}
-use Rattle.gp_resume.proofs.Homings.{homing-first, homing-last, homing-part, homing-next, Coming, coming, coming-comes, coming-seat, coming-spot, coming-thread, coming-child, coming-then, coming-stops}
+use Rattle.gp_resume.proofs.Homings.{homing-last, homing-part, homing-next, Coming, coming, coming-comes, coming-seat, coming-spot, coming-thread, coming-child, coming-then, coming-stops}
 use Rattle.gp_resume.proofs.waves.bring_home.Goals as goal
 use Rattle.gp_resume.proofs.waves.bring_home.Goals.{In-Some-run}
 

@@ -1,4 +1,4 @@
-use Rattle.std.proofs.Common.{◌≡◌, ◌≤◌, ℕ, List}
+use Rattle.std.proofs.Common.{◌≤◌, ℕ, List}
 use Rattle.task_ast.specs.meaning.Plain.{Plain}
 use Rattle.gp_resume.specs.inner.Flights.{Flown, Flight}
 use Rattle.gp_resume.specs.inner.Waves.{tasks_of, AreRunsOf, Homing}

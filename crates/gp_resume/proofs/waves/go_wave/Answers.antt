@@ -1,8 +1,5 @@
-use Rattle.std.proofs.Common.{◌≡◌, ℕ, sym, ap, ◌∙◌, subst}
-use Rattle.task_ast.specs.meaning.Plain.{Plain}
-use Rattle.gp_resume.specs.inner.Flights.{Flown, Joins}
+use Rattle.std.proofs.Common.{sym, ◌∙◌, subst}
 use Rattle.gp_resume.specs.inner.Waves.{ArePlaced}
-use Rattle.gp_resume.proofs.Sendings.{sent-some}
 use Rattle.gp_resume.proofs.WavesGone.{wave-placed, wave-coming, wave-partly, wave-went}
 use Rattle.gp_resume.proofs.waves.go_wave.Goals as goal
 

@@ -1,4 +1,4 @@
-use Rattle.std.proofs.Common.{◌≡◌, ◌++◌, ◌∷◌, [], sym, ap, ◌∙◌, subst}
+use Rattle.std.proofs.Common.{◌++◌, ◌∷◌, [], ap, ◌∙◌}
 use Rattle.gp_resume.proofs.Sendings.{send-numbered, send-rising, send-home, send-task, send-fits, send-flight}
 use Rattle.gp_resume.proofs.waves.send.Goals as goal
 

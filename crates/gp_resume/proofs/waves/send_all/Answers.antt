@@ -1,9 +1,9 @@
-use Rattle.std.proofs.Common.{◌≡◌, ◌≤◌, None, Option, Some, List, [], sym, ap, ◌∙◌, subst}
+use Rattle.std.proofs.Common.{◌≡◌, ◌≤◌, [], sym, ap, ◌∙◌, subst}
 use Rattle.task_ast.specs.meaning.Plain.{Plain}
 use Rattle.token_order.specs.View.{Roomy}
 use Rattle.gp_resume.specs.declared.course.Begun.{Begun}
 use Rattle.gp_resume.specs.inner.Flights.{Flown, Joins}
-use Rattle.gp_resume.specs.inner.Waves.{Sent, GivesBeside}
+use Rattle.gp_resume.specs.inner.Waves.{GivesBeside}
 use Rattle.gp_resume.proofs.Fillings.{empty-more, empty-none}
 use Rattle.gp_resume.proofs.Sendings.{sent-first, sent-more, sent-some, sent-fresh, sent-falls}
 use Rattle.gp_resume.proofs.waves.send_all.Goals as goal

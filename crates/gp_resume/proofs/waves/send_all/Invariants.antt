@@ -1,4 +1,4 @@
-use Rattle.std.proofs.Common.{◌≡◌, ◌-◌, false, List, []}
+use Rattle.std.proofs.Common.{◌≡◌, ◌-◌, false, []}
 use Rattle.task_ast.specs.meaning.Plain.{Plain}
 use Rattle.gp_resume.specs.inner.Flights.{Flown, Joins}
 use Rattle.gp_resume.specs.inner.Waves.{Sent, AreEmpty}

@@ -1,15 +1,12 @@
-use Rattle.std.proofs.Common.{get_or, map, take, arith, rules, subst, sym, ap, ◌≡◌, ◌∙◌, ◌<◌, ◌^◌, ◌++◌, append_assoc, ℕ, Fits, SFits, w32, w64}
-use Rattle.std.specs.Prelude.{ℤ, pos, All, flat_map}
-use Rattle.std.proofs.lemmas.Int.{to_z-of_z}
+use Rattle.std.proofs.Common.{get_or, map, arith, rules, subst, ◌≡◌, SFits, w64}
+use Rattle.std.specs.Prelude.{pos, All}
 use Rattle.std.proofs.lemmas.Grind.{common_steps}
 use Rattle.std.proofs.lemmas.List.{take_all}
 use Rattle.std.proofs.lemmas.List.Elements.{All-map}
-use Rattle.record_store.specs.Given.{value_in}
 use Rattle.record_store.specs.Lent.{new_write}
-use Rattle.restart_log.specs.meaning.Lines.{spaced}
-use Rattle.retirement_log.specs.meaning.Rows.{IsWide, IsWideCell, group, cell_numbers}
+use Rattle.retirement_log.specs.meaning.Rows.{IsWide, IsWideCell}
 use Rattle.retirement_log.specs.meaning.Log.{numbered}
-use Rattle.retirement_log.proofs.WideNumbers.{wide_of, one_more, cells_more}
+use Rattle.retirement_log.proofs.WideNumbers.{wide_of, one_more}
 use Rattle.retirement_log.proofs.rows.push_cells.Goals as goal
 
 pub loop-write-preserved : goal.loop-write-preserved

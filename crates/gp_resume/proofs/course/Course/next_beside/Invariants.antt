@@ -1,4 +1,4 @@
-use Rattle.std.proofs.Common.{◌≡◌, ℕ, false, List}
+use Rattle.std.proofs.Common.{◌≡◌, false, List}
 use Rattle.task_ast.specs.meaning.Plain.{Plain}
 use Rattle.task_ast.specs.meaning.Turn.{turns_left}
 use Rattle.gp_resume.specs.inner.Flights.{Flown, Flight}
