@@ -36,7 +36,7 @@ use Rattle.reorder_list.proofs.Buffered.{pushed-holds, sent-holds, learnt-holds}
 use Rattle.whole_run.specs.declared.recovery.Recovery.TheVariants.{Rollback}
 use Rattle.whole_run.specs.declared.parts.backing.Backup.{Backup}
 use Rattle.whole_run.specs.declared.parts.backing.Checkpoint.{Checkpoint}
-use Rattle.whole_run.specs.inner.Backed.{held_of, HasCut, IsOpened, IsWhole, HasShape, StandsBy, IsCheckpoint, HasCheckpoints, CopiesStand}
+use Rattle.whole_run.specs.inner.Backed.{held_of, HasCut, AreLive, IsOpened, IsWhole, HasShape, StandsBy, IsCheckpoint, HasCheckpoints, CopiesStand}
 use Rattle.whole_run.specs.inner.Backing.{IsAdvanced, DropsBefore}
 use Rattle.whole_run.proofs.OpenCuts.{open-cut-there}
 use Rattle.whole_run.proofs.CutRows.{rising-rest, cuts_in, cuts-append, all-part}
@@ -119,8 +119,9 @@ module _ (run : List Subthread) (faults : List Fault) (start : State) (cells : H
         copies-then : ((cut : ℕ) → StaysBehind cuts run faults cut at e) → (others : List Entry) (later : Stored) (backup' : Backup)
             → StaysShaped store later → HeldStands run faults start after_event (held_of later others) → IsWhole after_event backup'.whole
             → backup'.checkpoints ≡ backup.checkpoints → HasCheckpoints run faults start every after_event backup.checkpoints.items
+            → AreLive after_event.retired backup.checkpoints.items
             → Copies after_event others later backup'
-        copies-then behind others later backup' stays held whole same has =
+        copies-then behind others later backup' stays held whole same has live =
             record {
               held = held;
               whole = whole;
@@ -129,6 +130,7 @@ module _ (run : List Subthread) (faults : List Fault) (start : State) (cells : H
                   (λ checkpoint. checkpoint-kept later stays checkpoint (behind checkpoint.cut)) backup.checkpoints.items copies.are);
               rising = subst (λ c. IsStrictlyIncreasing (cuts_in c.items)) (sym same) copies.rising;
               has = subst (λ c. HasCheckpoints run faults start every after_event c.items) (sym same) has;
+              live = subst (λ c. AreLive after_event.retired c.items) (sym same) live;
             }
 
       pub copies-issue : (p : ℕ) (e : Entry) (later : Stored) → Allowed rolled faults at (event.Issue p)
@@ -141,7 +143,7 @@ module _ (run : List Subthread) (faults : List Fault) (start : State) (cells : H
           (λ q low is. ap (λ b. b.lines q) (pushed-holds store entries e fresh))
           (happens-held run faults start cuts cells at (event.Issue p) (held_of store entries) stands.0 copies.held allowed))
           (record { below = copies.whole.below; issued = let most = copies.whole.issued in omega arith; next = copies.whole.next })
-          refl copies.has
+          refl copies.has copies.live
 
       pub copies-post : (p attempt : ℕ) (later : Stored) → Allowed rolled faults at (event.Post p attempt)
           → EntriesStand run at entries → IsOpened (Rollback every) entries p backup → state_of later ≡ state_of store
@@ -154,7 +156,7 @@ module _ (run : List Subthread) (faults : List Fault) (start : State) (cells : H
           (λ q low is. ap (λ b. b.lines q) (sent-holds store entries p))
           (happens-held run faults start cuts cells at (event.Post p attempt) (held_of store entries) stands.0 copies.held allowed))
           (record { below = copies.whole.below; issued = copies.whole.issued; next = copies.whole.next })
-          refl has
+          refl has copies.live
         where
           has : HasCheckpoints run faults start every (happens rolled faults at (event.Post p attempt)) backup.checkpoints.items
           has q low posted =
@@ -181,7 +183,7 @@ module _ (run : List Subthread) (faults : List Fault) (start : State) (cells : H
           (λ q low is. ap (λ b. b.lines q) (learnt-holds store entries p foot))
           (happens-held run faults start cuts cells at (event.Take p attempt false) (held_of store entries) stands.0 copies.held allowed))
           (record { below = copies.whole.below; issued = copies.whole.issued; next = copies.whole.next })
-          refl copies.has
+          refl copies.has copies.live
 
       -- after a result that was applied, where all that has one is passed
       module _ (p attempt : ℕ) (e : Entry) (foot : Footprint) (done : Effect) (later : Stored) (backup' : Backup)
@@ -218,7 +220,7 @@ module _ (run : List Subthread) (faults : List Fault) (start : State) (cells : H
         pub copies-take : EntriesStand run taken others → IsAdvanced others backup backup' → Copies taken others later backup'
         copies-take entries_are advanced =
             copies-then (event.Take p attempt true) allowed (λ cut. tt) others later backup' stays held-taken
-            (record { below = below; issued = issued; next = next }) advanced.checkpoints copies.has
+            (record { below = below; issued = issued; next = next }) advanced.checkpoints copies.has copies.live
           where
             below : (q : ℕ) → q < backup'.whole → taken.applied q ≡ true
             below q less =
@@ -302,4 +304,5 @@ module _ (run : List Subthread) (faults : List Fault) (start : State) (cells : H
                       omega arith)
                   | inr kept ↦ (old.0, kept, old.2)
                 ]);
+            live = dropped.stops;
           }

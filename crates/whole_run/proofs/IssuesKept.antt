@@ -110,6 +110,7 @@ backed_slot run faults start (Rollback every) at entries store backup backed =
       are = λ k d l. same (get_or backup.checkpoints.items k d) (backed.are k d l);
       rising = backed.rising;
       has = backed.has;
+      live = backed.live;
     }
   where
     same : (checkpoint : Checkpoint) → IsCheckpoint run faults start every at store checkpoint

@@ -79,6 +79,7 @@ module _ (run : List Subthread) (faults : List Fault) (start : State) where
         are = rw none (λ k d l. absurd (omega arith));
         rising = rw none (λ k l. absurd (omega arith));
         has = λ p unretired posted. absurd (let l = posted.1 in omega arith);
+        live = rw none tt;
       }
     where
       opens : initial_held start ≡ held_of store []

@@ -33,9 +33,9 @@ use Rattle.reorder_list.specs.Stages.{EntriesStand}
 use Rattle.whole_run.specs.declared.recovery.Recovery.TheVariants.{Rollback}
 use Rattle.whole_run.specs.declared.parts.backing.Backup.{Backup}
 use Rattle.whole_run.specs.declared.parts.backing.Checkpoint.{Checkpoint}
-use Rattle.whole_run.specs.inner.Backed.{held_of, open_cut, HasCut, IsWhole, StandsBy, IsCheckpoint, HasCheckpoints, CopiesStand}
+use Rattle.whole_run.specs.inner.Backed.{held_of, open_cut, HasCut, AreLive, IsWhole, StandsBy, IsCheckpoint, HasCheckpoints, CopiesStand}
 use Rattle.whole_run.specs.inner.Backing.{IsRestored, DropsAfter}
-use Rattle.whole_run.proofs.CutRows.{rising-front, cuts_in, cuts-append}
+use Rattle.whole_run.proofs.CutRows.{rising-front, cuts_in, cuts-append, live-front}
 use Rattle.whole_run.proofs.EntryLines.{lines-kept}
 use Rattle.whole_run.proofs.Checkpoints.{StaysShaped, held-as, checkpoint-kept}
 use Rattle.whole_run.proofs.OpenBlocks.{cut-is, none-applied}
@@ -170,6 +170,10 @@ module _ (run : List Subthread) (faults : List Fault) (start : State) (cells : H
                   (rising-front (cuts_in mid.checkpoints.items) (cuts_in drops.rest)
                   (subst IsStrictlyIncreasing (ap cuts_in drops.split ∙ cuts-append mid.checkpoints.items drops.rest) copies.rising));
               has = subst (λ (b : Backup). HasCheckpoints run faults start every behind b.checkpoints.items) (sym backup_is) has;
+              live = subst (λ (b : Backup). AreLive behind.retired b.checkpoints.items) (sym backup_is)
+                  (subst (λ r. AreLive r mid.checkpoints.items) (sym same-retired)
+                  (live-front at.retired mid.checkpoints.items drops.rest
+                  (subst (AreLive at.retired) drops.split copies.live)));
             }
           where
             whole : IsWhole behind (min backup.whole cut)
