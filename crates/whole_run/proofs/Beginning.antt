@@ -7,7 +7,7 @@ use Rattle.gp_base.specs.declared.journal.Restart.{Restart}
 use Rattle.task_ast.specs.declared.effect.Effect.{Effect}
 use Rattle.crew.specs.Noted.{Telling}
 use Rattle.reorder_list.specs.declared.report.StopWhy.{StopWhy}
-use Rattle.whole_run.specs.View.{Batch, run_in, begun}
+use Rattle.whole_run.specs.View.{Batch, begun}
 use Rattle.whole_run.specs.Notes.{NotesRun}
 use Rattle.whole_run.specs.Drive.{restarts_in, JournalStands, WritesRetired}
 use Rattle.whole_run.proofs.Noting.{keeps-stops, notes-stopped}

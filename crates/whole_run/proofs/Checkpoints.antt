@@ -18,7 +18,6 @@ use Rattle.task_ast.specs.meaning.Plain.{Subthread}
 use Rattle.dependence.specs.meaning.Restarts.{Dependence}
 use Rattle.dependence.specs.meaning.Journal.{Stage, MayTake, happens, Allowed}
 use Rattle.dependence.specs.Standing.{present}
-use Rattle.dependence.specs.meaning.Runs.{dependence_of}
 use Rattle.dependence.specs.Histories.{HasCells}
 use Rattle.dependence.specs.Touching.{done_by}
 use Rattle.dependence.specs.Buffer.{with_at}

@@ -2,7 +2,7 @@
 -- selective restarts, and a history buffer stands beside them, so that LeftAt tells of what is applied that it left the same. Notes go
 -- along: a result that applies is noted with what its attempt left, all else applies nothing, and what retires is the next of what the
 -- plain run leaves.
-use Rattle.std.proofs.Common.{◌≡◌, inl, inr, ℕ, suc, ◌+◌, ◌≤◌, Bool, true, false, cond, List, [], ◌∷◌, ◌++◌, length, Option, Some, refl, sym, ap, subst, ◌∙◌, arith, add-one, slice_get}
+use Rattle.std.proofs.Common.{◌≡◌, inl, inr, ℕ, suc, ◌≤◌, Bool, true, false, cond, List, [], ◌∷◌, ◌++◌, length, Option, Some, refl, sym, ap, subst, ◌∙◌, arith, add-one, slice_get}
 use Rattle.std.specs.Prelude.{Ok, Err}
 use Rattle.std.proofs.lemmas.Bool.{false≢true, cases_eq, eq-eqb, ne_eqb}
 use Rattle.gp_base.specs.declared.journal.Event.{Event}

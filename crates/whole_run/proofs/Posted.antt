@@ -31,7 +31,7 @@ use Rattle.dependence.specs.meaning.Conflict.{clash_in}
 use Rattle.dependence.specs.Standing.{present, StageStands}
 use Rattle.dependence.specs.RunBuffer.{members_at}
 use Rattle.dependence.proofs.Posting.{post-by-locks, run-within}
-use Rattle.rollback.specs.meaning.Cuts.{cut_at, cuts_of, rolling_of}
+use Rattle.rollback.specs.meaning.Cuts.{cut_at, cuts_of}
 use Rattle.task_ast.specs.SyncOps.{joined_by, IsNumbered}
 use Rattle.record_store.specs.Given.{given_of}
 use Rattle.record_store.specs.Lent.{marked}

@@ -1,15 +1,14 @@
 -- What holds of a run's order, journals and stages, whichever way it recovers.
-use Rattle.std.proofs.Common.{◌≡◌, ℕ, Bool, List, [], ◌∷◌, ◌++◌}
+use Rattle.std.proofs.Common.{◌≡◌, List, [], ◌∷◌, ◌++◌}
 use Rattle.gp_base.specs.declared.fault.Fault.{Fault}
 use Rattle.gp_base.specs.declared.journal.Event.{Event}
-use Rattle.gp_base.specs.declared.journal.Event.TheVariants as event
 use Rattle.gp_base.specs.declared.journal.Restart.{Restart}
 use Rattle.task_ast.specs.meaning.Plain.{Subthread}
 use Rattle.dependence.specs.meaning.Conflict.{clash_in}
 use Rattle.dependence.specs.Dependents.{itself}
 use Rattle.dependence.specs.meaning.Restarts.{restarts}
 use Rattle.dependence.specs.Restarts.{RedoesStruck}
-use Rattle.dependence.specs.meaning.Journal.{Stage, initial_stage, MayIssue, MayTake, MayRestart, Allowed, Lawful, Complete, happens, stage}
+use Rattle.dependence.specs.meaning.Journal.{Stage, initial_stage, Allowed, Lawful, Complete, happens, stage}
 use Rattle.dependence.specs.Standing.{AreShort, RedoesConflicts, StageStands, KeepsRetired, NamesIssued}
 use Rattle.dependence.specs.meaning.Runs.{feet_of, dependence_of}
 use Rattle.dependence.proofs.DependentSets.{dependents-are}

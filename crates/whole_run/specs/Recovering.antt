@@ -1,5 +1,5 @@
 -- What is read of a run, by the way in which it recovers.
-use Rattle.std.specs.Prelude.{ℕ, ◌≤◌, ⊤, List}
+use Rattle.std.specs.Prelude.{◌≤◌, ⊤, List}
 use Rattle.task_ast.specs.meaning.Plain.{Subthread}
 use Rattle.dependence.specs.meaning.Restarts.{Dependence}
 use Rattle.dependence.specs.meaning.Runs.{dependence_of}

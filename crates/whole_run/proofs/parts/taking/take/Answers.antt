@@ -2,7 +2,7 @@ use Rattle.std.proofs.Common.{rules, refl, subst, sym}
 use Rattle.std.proofs.lemmas.List.{with_items_is}
 use Rattle.gp_base.specs.declared.journal.Event.TheVariants as event
 use Rattle.dependence.specs.meaning.Journal.{Allowed}
-use Rattle.whole_run.specs.View.{run_in, dependence_in}
+use Rattle.whole_run.specs.View.{dependence_in}
 use Rattle.whole_run.specs.inner.Kept.{batch_in, stage_of}
 use Rattle.whole_run.proofs.Taken.{allowed, comes, fits, numbered, out, kept-taken}
 use Rattle.whole_run.proofs.parts.taking.take.Goals as goal
