@@ -72,7 +72,8 @@ module _ (run : List Subthread) (faults : List Fault) (start : State) (cells : H
   -- after a post, before which there is a checkpoint of its block
   pub backed-post : (recovery : Recovery) → StandsBy run faults recovery at → (entries : List Entry) (store : Stored) (backup : Backup)
       → BackedBy run faults start recovery at entries store backup → (p attempt : ℕ) (later : Stored)
-      → Allowed (recovering recovery run) faults at (event.Post p attempt) → EntriesStand run at entries → IsOpened recovery entries p backup
+      → Allowed (recovering recovery run) faults at (event.Post p attempt) → EntriesStand run at entries
+      → IsOpened recovery entries p backup
       → state_of later ≡ state_of store → StaysShaped store later
       → BackedBy run faults start recovery (happens (recovering recovery run) faults at (event.Post p attempt))
       (with_change_at p out_entry entries) later backup
@@ -172,7 +173,8 @@ module _ (run : List Subthread) (faults : List Fault) (start : State) (cells : H
     -- it may be made, and this is struck
     abbrev Strikes : Recovery → Type 0
     Strikes recovery =
-        Allowed (recovering recovery run) faults at (event.Restart number) × (struck_next (recovering recovery run) faults at.progress ≡ Some struck)
+        Allowed (recovering recovery run) faults at (event.Restart number)
+        × (struck_next (recovering recovery run) faults at.progress ≡ Some struck)
 
     -- it redoes all from the open cut on
     pub redoes-rolled : (recovery : Recovery) → recovery ≡ Rollback every → Before recovery → Strikes recovery

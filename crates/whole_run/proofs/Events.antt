@@ -28,7 +28,8 @@ pub redoes-struck : (batch : Batch) → RedoesStruck (dependence_in batch)
 redoes-struck batch = recoverings.redoes-struck (run_in batch) batch.recovery
 
 stands-by : (run : List Subthread) (faults : List Fault) → AreShort faults → (recovery : Recovery) (events : List Event)
-    → Lawful (recovering recovery run) faults events → StageStands (recovering recovery run) faults (stage (recovering recovery run) faults events)
+    → Lawful (recovering recovery run) faults events
+    → StageStands (recovering recovery run) faults (stage (recovering recovery run) faults events)
 stands-by run faults short Selective events lawful = run-stands run faults events short lawful
 stands-by run faults short (Rollback every) events lawful = (blocks-after run faults short every events lawful).stands
 

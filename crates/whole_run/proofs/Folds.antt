@@ -30,7 +30,8 @@ module _ (run : List Subthread) (faults : List Fault) where
   abbrev pub folded : State → Stage → State
   folded start at = fold (members_at run faults at) start at.applied at.progress.front
 
-  module _ (short : AreShort faults) (every : ℕ) (events : List Event) (lawful : Lawful (recovering (Rollback every) run) faults events) where
+  module _ (short : AreShort faults) (every : ℕ) (events : List Event)
+      (lawful : Lawful (recovering (Rollback every) run) faults events) where
     -- where all is rolled back, the blocks stand
     pub blocks-after : BlocksStand (cuts_of every run) (dependence_of run) faults (stage (rolling_of (cuts_of every run) run) faults events)
     blocks-after =

@@ -36,7 +36,8 @@ module _ (run : List Subthread) where
 
   module _ (faults : List Fault) where
     pub lawful-push : (recovery : Recovery) (events : List Event) (e : Event) → Lawful (recovering recovery run) faults events
-        → Allowed (recovering recovery run) faults (stage (recovering recovery run) faults events) e → Lawful (recovering recovery run) faults (events ++ e ∷ [])
+        → Allowed (recovering recovery run) faults (stage (recovering recovery run) faults events) e
+        → Lawful (recovering recovery run) faults (events ++ e ∷ [])
     lawful-push recovery events e lawful allowed =
         selective_journals.LawfulFrom-push (recovering recovery run) faults initial_stage events e lawful allowed
 
