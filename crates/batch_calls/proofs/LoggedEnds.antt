@@ -38,7 +38,7 @@ module _ (work : ToDo) (text : List ℕ) (out log : Change) where
       record {
         ends =
             subst (λ s. LogEnds text (log_for work) (TakesLog work report.journal)
-            (end_status (plain_ran work).end) out log report.journal s) due (log_finished here.all there.whole);
+            (end_status (plain_ran work).end) out log report.journal s) due (log_finished here.all there.whole there.taken);
         journalled = record { lawful = here.journal; complete = λ is. here.report.complete; retired = here.retired };
       }
 

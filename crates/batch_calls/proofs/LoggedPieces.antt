@@ -4,7 +4,9 @@ use Rattle.std.specs.declared.option.Option.{Option}
 use Rattle.std.specs.declared.option.Option.TheVariants.{None}
 use Rattle.std.specs.Io.KnownBytes.{Appends}
 use Rattle.std.proofs.lemmas.Bool.{false≢true}
+use Rattle.std.specs.Prelude.{All}
 use Rattle.std.proofs.lemmas.List.{take_all}
+use Rattle.std.proofs.lemmas.List.Elements.{All-nil}
 use Rattle.std.proofs.Math.Nat.{le_refl}
 use Rattle.gp_base.specs.declared.limits.Limits.{Limits}
 use Rattle.gp_base.specs.declared.feed.Inputs.{Inputs}
@@ -22,11 +24,12 @@ use Rattle.whole_run.specs.View.{Batch, program_in}
 use Rattle.whole_run.specs.Drive.{stage_in}
 use Rattle.whole_run.specs.Notes.{left_below, NotesRun}
 use Rattle.whole_run.specs.declared.recovery.Recovery.TheVariants.{Selective}
-use Rattle.retirement_log.specs.meaning.Rows.{row_text, log_text}
-use Rattle.retirement_log.specs.meaning.Log.{log_row, size_of, rows_from, log_told}
+use Rattle.retirement_log.specs.meaning.Rows.{IsWideRow, row_text, log_text}
+use Rattle.retirement_log.specs.meaning.Log.{log_row, size_of, rows_from, log_rows, log_told}
 use Rattle.retirement_log.specs.meaning.Telling.{TellsPart}
 use Rattle.retirement_log.specs.Telling.{Tells}
 use Rattle.retirement_log.specs.declared.notes.LogNotes.{LogNotes}
+use Rattle.retirement_log.proofs.Told.{wide_first}
 use Rattle.call_cases.specs.meaning.Work.{ToDo}
 use Rattle.call_cases.specs.meaning.Journals.{run_of, recovering_for, retired_in, IsCompleteOf}
 use Rattle.call_cases.specs.meaning.Answers.{Change, IsEmpty}
@@ -53,12 +56,14 @@ rows_within p bytes (suc n) (e ∷ told) =
     )
 
 -- a whole log is a part that lacks nothing
-whole_part : (start written : Option (List ℕ)) (told : List Effect) → Appends start written (log_told told) → TellsPart start written told
-whole_part start written told all = (
-  length (log_told told),
-  rows_within 0 (length (codes "output\n")) (length told - 1) told,
-  subst (Appends start written) (sym (take_all (length (log_told told)) (log_told told) (le_refl (length (log_told told))))) all,
-)
+whole_part : (start written : Option (List ℕ)) (told : List Effect) → Appends start written (log_told told) → All IsWideRow (log_rows told)
+    → TellsPart start written told
+whole_part start written told all wide = record {
+  part = length (log_told told);
+  most = rows_within 0 (length (codes "output\n")) (length told - 1) told;
+  taken = subst (Appends start written) (sym (take_all (length (log_told told)) (log_told told) (le_refl (length (log_told told))))) all;
+  wide = λ rows whole. wide_first rows told wide;
+}
 
 -- each position left something
 module _ (program : Program) (inputs : Inputs) (limits : Limits) where
@@ -85,7 +90,8 @@ pub unlogged : (work : ToDo) (journal : Journal) (written : Option (List ℕ)) (
     → TakesLog work journal (record { written = written; written' = written; faults = faults; faults' = faults })
 unlogged work journal written faults empty =
     let none = none_retired work journal empty in
-    subst (λ r. TellsPart written written (left_for work r)) (sym none) (whole_part written written [] (Appends-nil written))
+    subst (λ r. TellsPart written written (left_for work r)) (sym none)
+    (whole_part written written [] (Appends-nil written) (All-nil IsWideRow))
 
 -- a run that stopped before it began
 pub logs_nothing : (work : ToDo) (written : Option (List ℕ)) (faults : ℕ) (stop : EngineStop) → IsEmpty stop.journal
@@ -133,9 +139,10 @@ module _ (batch : Batch) (work : ToDo) (program : program_in batch ≡ work.prog
       | inl told ↦
           let taken : Appends log.written log.written' (log_told (left_for work (retired_in work report.journal))) =
           subst (λ l. Appends log.written log.written' (log_told l)) (told_same report.journal) told.1.log in
+          let wide = subst (λ l. All IsWideRow (log_rows l)) (told_same report.journal) told.1.wide in
           record {
             whole = subst (λ l. Appends log.written log.written' (log_told l)) (left_all work report.journal reports.complete) taken;
-            taken = whole_part log.written log.written' (left_for work (retired_in work report.journal)) taken;
+            taken = whole_part log.written log.written' (left_for work (retired_in work report.journal)) taken wide;
           }
       | inr stopped ↦ absurd (false≢true stopped.0)
     ]
@@ -144,6 +151,7 @@ module _ (batch : Batch) (work : ToDo) (program : program_in batch ≡ work.prog
       taken = elim (run selective log.written (λ p. None) begun) [
         | inl told ↦ whole_part log.written log.written' (left_for work (retired_in work stop.journal))
             (subst (λ l. Appends log.written log.written' (log_told l)) (told_same stop.journal) told.1.log)
+            (subst (λ l. All IsWideRow (log_rows l)) (told_same stop.journal) told.1.wide)
         | inr stopped ↦ subst (TellsPart log.written log.written') (told_same stop.journal) stopped.1
       ];
     }

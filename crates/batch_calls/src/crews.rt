@@ -84,7 +84,10 @@ fn carry_boards<R: Threads + Sync, O: Sink, E: Sink, G: Gate>(
     let run_all = |tasks: Seq<Task>| -> Result<Seq<Done>, AllocError>
         requires { All (Fits work.now) tasks }
         ensures { IfOk result (AreRuns work.entry.now tasks) }
-    { run_board(rt, alloc, work, gate, &mean_steps, workers, tasks) };
+    {
+        let (runs, _passes) = run_board(rt, alloc, work, gate, &mean_steps, workers, tasks)?;
+        Ok(runs)
+    };
     let mut crew = BatchCrew::new(alloc, work, run_all);
     carry_by(rt, alloc, work, plan, &mut crew, out, err)
 }

@@ -156,7 +156,9 @@ pub fn run_rechecked<R: Threads + Sync + AllocGlobal, H: Shelf, O: Sink, E: Sink
 }
 
 /// Does what the words ask for, as `gprs_run` does, where `pipe` is the word of a crew too: its workers last as long as
-/// the run, and the call waits for them. So it is promised to do the same where it returns.
+/// the run, and the call waits for their runs. So it is promised to do the same where it returns. It does not wait for
+/// the workers to end: after it has returned, threads may still finish boards that are in flight, and enter the gate
+/// for that. What they come to is written nowhere.
 pub fn gprs_run_pipe<
     R: Threads + Wait + Clone + Send + Sync + Drop + AllocGlobal + 'static,
     H: Shelf,

@@ -157,7 +157,7 @@ module _ (text trace : List ℕ) (due : ℕ) (out err : Change) where
 module _ (text rows : List ℕ) (taken : Change → Type 0) (due : ℕ) (out err : Change) (journal : Journal) where
   log_status : (grew : Type 0) (status : ℕ) → LogEnds text rows taken due out err journal status
       → Yields due grew (Fails out ⊎ Fails err) status
-  log_status grew status (log_finished all logged) = due_status
+  log_status grew status (log_finished all logged held) = due_status
   log_status grew status (log_no_memory part is) = no_memory
   log_status grew status (log_write_failed part fails is) = write_fault fails
   log_status grew status (log_unbegun part empty (whole all)) = no_memory
@@ -165,8 +165,8 @@ module _ (text rows : List ℕ) (taken : Change → Type 0) (due : ℕ) (out err
   log_status grew status (log_unbegun part empty (line_no_memory line)) = no_memory
 
   log_whole : (status : ℕ) → LogEnds text rows taken due out err journal status → IsApart status
-      → TakesAll out text × TakesAll err rows × (due ≡ status)
-  log_whole status (log_finished all logged) apart = (all, logged, refl)
+      → TakesAll out text × (TakesAll err rows × taken err) × (due ≡ status)
+  log_whole status (log_finished all logged held) apart = (all, (logged, held), refl)
   log_whole status (log_no_memory part is) apart = absurd (grind (arith, apart))
   log_whole status (log_write_failed part fails is) apart = absurd (grind (arith, apart))
   log_whole status (log_unbegun part empty (whole all)) apart = absurd (grind (arith, apart))
@@ -174,7 +174,7 @@ module _ (text rows : List ℕ) (taken : Change → Type 0) (due : ℕ) (out err
   log_whole status (log_unbegun part empty (line_no_memory line)) apart = absurd (grind (arith, apart))
 
   log_among : (status : ℕ) → LogEnds text rows taken due out err journal status → (status ≡ due) ⊎ IsStop status
-  log_among status (log_finished all logged) = inl refl
+  log_among status (log_finished all logged held) = inl refl
   log_among status (log_no_memory part is) = inr (inl refl)
   log_among status (log_write_failed part fails is) = inr (inr refl)
   log_among status (log_unbegun untouched empty (whole all)) = inr (inl refl)
@@ -182,7 +182,7 @@ module _ (text rows : List ℕ) (taken : Change → Type 0) (due : ℕ) (out err
   log_among status (log_unbegun untouched empty (line_no_memory line)) = inr (inl refl)
 
   log_part : (status : ℕ) → LogEnds text rows taken due out err journal status → TakesPart out text
-  log_part status (log_finished all logged) = prefix_whole out.written out.written' text all
+  log_part status (log_finished all logged held) = prefix_whole out.written out.written' text all
   log_part status (log_no_memory part is) = part
   log_part status (log_write_failed part fails is) = part
   log_part status (log_unbegun untouched empty line) =
@@ -190,7 +190,7 @@ module _ (text rows : List ℕ) (taken : Change → Type 0) (due : ℕ) (out err
 
   log_fault : (status : ℕ) → IsApart due → LogEnds text rows taken due out err journal status → status ≡ 8
       → Fails out ⊎ Fails err
-  log_fault status apart (log_finished all logged) is = absurd (grind (arith, apart, is))
+  log_fault status apart (log_finished all logged held) is = absurd (grind (arith, apart, is))
   log_fault status apart (log_no_memory part held) is = absurd (omega (arith, is))
   log_fault status apart (log_write_failed part fails held) is = fails
   log_fault status apart (log_unbegun part empty (whole all)) is = absurd (omega (arith, is))
@@ -198,7 +198,7 @@ module _ (text rows : List ℕ) (taken : Change → Type 0) (due : ℕ) (out err
   log_fault status apart (log_unbegun part empty (line_no_memory line)) is = absurd (omega (arith, is))
 
   log_not_refused : (status : ℕ) → IsApart due → LogEnds text rows taken due out err journal status → IsRefusal status → ⊥
-  log_not_refused status apart (log_finished all logged) is = grind (arith, apart, is)
+  log_not_refused status apart (log_finished all logged held) is = grind (arith, apart, is)
   log_not_refused status apart (log_no_memory part held) is = grind (arith, is)
   log_not_refused status apart (log_write_failed part fails held) is = grind (arith, is)
   log_not_refused status apart (log_unbegun part empty (whole all)) is = grind (arith, is)
@@ -214,7 +214,7 @@ module _ (text rows : List ℕ) (taken : Change → Type 0) (due : ℕ) (out err
   log_stopped : (is_due : List ℕ → Type 0) (line : List ℕ) → is_due line → (status : ℕ) → IsApart due
       → LogEnds text rows taken due out err journal status → IsStop status
       → (IsUntouched out × IsEmpty journal × TakesStopLines is_due err) ⊎ taken err
-  log_stopped is_due line for_case status apart (log_finished all logged) is = absurd (grind (arith, apart, is))
+  log_stopped is_due line for_case status apart (log_finished all logged held) is = absurd (grind (arith, apart, is))
   log_stopped is_due line for_case status apart (log_no_memory part held) is = inr held
   log_stopped is_due line for_case status apart (log_write_failed part fails held) is = inr held
   log_stopped is_due line for_case status apart (log_unbegun untouched empty told) is =
@@ -405,7 +405,7 @@ log_headline {A} {T} commands sound log words files failed failed' out err statu
       among = log_among text rows taken due out err journal status ends;
       not_refused = log_not_refused text rows taken due out err journal status apart ends;
       quiet = λ is. subst (IsQuiet commands call) (sym logged)
-          (for_known commands.asking words files (Go names work) (λ case. ForRun commands case (λ w. TakesAll err (log.whole w))) known
+          (for_known commands.asking words files (Go names work) (λ case. ForRun commands case (λ w. TakesAll err (log.whole w) × log.taken w journal err)) known
           (λ _. (log_whole text rows taken due out err journal status ends (sound.apart status is)).1));
       write_fault =
           λ is. subst (TellsWrite commands call) (sym logged) (log_fault text rows taken due out err journal status apart ends is);

@@ -27,10 +27,10 @@ pub data RunEnds (text trace : List ℕ) (due : ℕ) (out err : Change) : ℕ �
   error_failed : TakesPart out text → Fails err → TakesStop trace err → RunEnds text trace due out err 8
 
 -- How a work ends whose text and status are these, and of which this log is kept on the error stream; `taken` says what
--- of the log that took where the work stopped on the way. Where memory ran out before a run began, the line of that
--- stands in place of the log.
+-- of the log that took, also where the work stopped on the way. Where memory ran out before a run began, the line of
+-- that stands in place of the log.
 pub data LogEnds (text log : List ℕ) (taken : Change → Type 0) (due : ℕ) (out err : Change) (journal : Journal) : ℕ → Type 0 where
-  log_finished : TakesAll out text → TakesAll err log → LogEnds text log taken due out err journal due
+  log_finished : TakesAll out text → TakesAll err log → taken err → LogEnds text log taken due out err journal due
   log_no_memory : TakesPart out text → taken err → LogEnds text log taken due out err journal 1
   log_write_failed : TakesPart out text → Fails out ⊎ Fails err → taken err → LogEnds text log taken due out err journal 8
   log_unbegun : {status : ℕ} → IsUntouched out → IsEmpty journal → LineEnds 1 out_of_memory_line err status

@@ -13,6 +13,8 @@ mod cases;
 #[cfg(test)]
 mod ckpt;
 #[cfg(test)]
+mod gates;
+#[cfg(test)]
 mod hostile;
 #[cfg(test)]
 mod log;

@@ -296,59 +296,6 @@ fn a_batch_of_transfers_keeps_its_sum(rt: HostRuntime) -> Result<(), Fail> {
     Ok(())
 }
 
-// A gate that holds the first task of positions 2 and 3 until the second has entered, or until it has looked often
-// enough.
-#[derive(Drop)]
-struct Meeting {
-    entered: AtomicU64,
-    met: AtomicU64,
-}
-
-impl Gate for Meeting {
-    fn enter(&self, pos: Pos) {
-        if pos.0 != 2 && pos.0 != 3 {
-            return;
-        }
-        let _ = self.entered.fetch_add(1, Ordering::SeqCst);
-        for _ in 0..100_000_000u32 {
-            if self.entered.load(Ordering::SeqCst) > 1 {
-                self.met.store(1, Ordering::SeqCst);
-                return;
-            }
-        }
-    }
-}
-
-// Two tasks of a run by these words are at the gate at the same time.
-fn meets<R: Threads + Sync + AllocGlobal>(rt: &R, words: &str) -> Result<bool, AllocError> {
-    let gate = Meeting {
-        entered: AtomicU64::new(0),
-        met: AtomicU64::new(0),
-    };
-    let case = Case {
-        words,
-        program: ADD,
-        ..PLAIN
-    };
-    let answer = answer_through(rt, &case, &gate)?;
-    Ok(answer.status == 0 && gate.met.load(Ordering::SeqCst) == 1)
-}
-
-// Two tasks meet by each crew of two workers.
-fn meet<R: Threads + Sync + AllocGlobal>(rt: &R) -> Result<bool, AllocError> {
-    Ok(
-        meets(rt, "run p.gp --crew wave --workers 2")?
-            && meets(rt, "run p.gp --crew board --workers 2")?
-            && meets(rt, "run p.gp --crew steal --workers 2")?,
-    )
-}
-
-#[test]
-fn two_tasks_meet(rt: HostRuntime) -> Result<(), Fail> {
-    assert!(rt; meet(&rt)?);
-    Ok(())
-}
-
 /// A gate that lets all tasks pass, and counts those of each position.
 #[derive(Drop)]
 pub struct Counting {

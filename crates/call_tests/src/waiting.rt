@@ -3,6 +3,7 @@
 use crate::answers::{Answer, answered, tells};
 use crate::calls::{ADD, EMPTY};
 use crate::cases::{Case, PLAIN, RUN, files_of, words_of};
+use crate::gates::{Crowd, Meeting, THREE};
 use crate::rows::ADDED;
 use crate::struck::{gate_over, is_entered_as_posted};
 use batch_calls::gprs_run_pipe;
@@ -125,5 +126,51 @@ fn tasks_enter_the_gate_as_they_are_posted(rt: HostRuntime) -> Result<(), Fail> 
             && enters_as_posted(&rt, "run p.gp --faults f.csv --crew pipe --workers 2", 11)?
             && enters_as_posted(&rt, "soak 2000 1 --crew pipe --workers 2", 8025)?
     );
+    Ok(())
+}
+
+// Whether the run of the two threads by these words ends well, and two of its tasks meet, or do not.
+fn meets<R: Threads + Wait + Clone + Send + Sync + Drop + AllocGlobal + 'static>(
+    rt: &R,
+    words: &str,
+    are_to: bool,
+) -> Result<bool, AllocError> {
+    let gate = Arc::new(rt.alloc(), Meeting::new())?;
+    let case = Case {
+        words,
+        program: ADD,
+        ..PLAIN
+    };
+    let answer = answer_through(rt, &case, &gate)?;
+    Ok(answer.status == 0 && gate.has_met() == are_to)
+}
+
+#[test]
+fn two_tasks_meet_where_two_workers_run_them(rt: HostRuntime) -> Result<(), Fail> {
+    assert!(rt; meets(&rt, "run p.gp --crew pipe --workers 2", true)?);
+    assert!(rt; meets(&rt, "run p.gp --crew pipe --workers 1", false)?);
+    Ok(())
+}
+
+// Whether the run by these words ends well, and three of its tasks are in at once, or are not.
+fn crowds<R: Threads + Wait + Clone + Send + Sync + Drop + AllocGlobal + 'static>(
+    rt: &R,
+    words: &str,
+    are_to: bool,
+) -> Result<bool, AllocError> {
+    let gate = Arc::new(rt.alloc(), Crowd::new())?;
+    let case = Case {
+        words,
+        program: THREE,
+        ..PLAIN
+    };
+    let answer = answer_through(rt, &case, &gate)?;
+    Ok(answer.status == 0 && gate.is_told() == are_to)
+}
+
+#[test]
+fn no_more_tasks_run_at_once_than_there_are_workers(rt: HostRuntime) -> Result<(), Fail> {
+    assert!(rt; crowds(&rt, "run p.gp --crew pipe --workers 64", true)?);
+    assert!(rt; crowds(&rt, "run p.gp --crew pipe --workers 2", false)?);
     Ok(())
 }

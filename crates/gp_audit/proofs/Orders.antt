@@ -1,5 +1,5 @@
 -- The steps of a plain run against its subthreads.
-use Rattle.std.proofs.Common.{◌≡◌, ℕ, zero, suc, List, [], ◌∷◌, length, map, Option, Some, None, refl, ap, ◌∙◌}
+use Rattle.std.proofs.Common.{◌≡◌, ℕ, zero, suc, List, [], ◌∷◌, map, Option, Some, None, refl, ap, ◌∙◌}
 use Rattle.std.specs.Prelude.{slice_get}
 use Rattle.std.specs.Option.{option_map}
 use Rattle.std.proofs.lemmas.List.{length-map}
@@ -8,7 +8,6 @@ use Rattle.task_ast.specs.meaning.Position.{is_of, last_below}
 use Rattle.one_thread.specs.PlainRuns.{shown}
 use Rattle.dependence.specs.meaning.Conflict.{clash_in}
 use Rattle.dependence.specs.meaning.Dependents.{dependents}
-use Rattle.dependence.specs.meaning.Restarts.{Dependence}
 use Rattle.dependence.specs.meaning.Runs.{feet_of, before_one, settles_one, dependence_of}
 use Rattle.gp_audit.specs.Steps.{feet_in, is_step_of, last_step, before_step, settles_step, dependence_by}
 

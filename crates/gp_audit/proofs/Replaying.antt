@@ -1,9 +1,9 @@
 -- What is kept goes on as the restarts of the faults do. What is kept replays some restarts where it has, of each
 -- position, the attempt and the beginning that they give it (Replays). The next front, and the restart of the position
 -- that is struck, are each one step of the restarts by definition (Advances).
-use Rattle.std.proofs.Common.{◌≡◌, ◌≢◌, inl, inr, ℕ, suc, ◌+◌, ◌<◌, ◌≤◌, min, Bool, true, false, cond, nat_eq, List, [], ◌∷◌, ◌++◌, length, length-append, count_by, Option, Some, None, refl, sym, ap, subst, ◌∙◌, arith}
+use Rattle.std.proofs.Common.{◌≡◌, inl, inr, ℕ, ◌+◌, ◌<◌, ◌≤◌, min, Bool, true, false, cond, List, [], ◌∷◌, ◌++◌, length, length-append, Some, None, refl, sym, ap, subst, ◌∙◌, arith}
 use Rattle.std.specs.Prelude.{slice_get}
-use Rattle.std.proofs.lemmas.Option.{slice_get-get_or, slice_get_within}
+use Rattle.std.proofs.lemmas.Option.{slice_get-get_or}
 use Rattle.std.proofs.lemmas.List.{get_or_past}
 use Rattle.std.proofs.lemmas.List.Sums.{count_by-le-length}
 use Rattle.std.proofs.lemmas.Bool.{false≢true, false_from_ne_true, eqb-true, eq-eqb, cases_lt}
@@ -11,7 +11,7 @@ use Rattle.gp_base.specs.declared.fault.Fault.{Fault}
 use Rattle.gp_base.specs.declared.journal.Restart.{Restart}
 use Rattle.one_thread.specs.declared.run.Step.{Step}
 use Rattle.dependence.specs.meaning.Dependents.{is_member}
-use Rattle.dependence.specs.meaning.Restarts.{Dependence, Progress, redoes, attempt_of, begun_of, struck_next, restart_of, advance_by, advance, progress, restarts}
+use Rattle.dependence.specs.meaning.Restarts.{Dependence, Progress, redoes, attempt_of, begun_of, struck_next, restart_of, advance_by, progress}
 use Rattle.dependence.proofs.DependentSets.{is_member-is, dependents_rise}
 use Rattle.dependence.proofs.RestartEnds.{attempt-push, begun-push, made-first, few-restarts}
 use Rattle.dependence.proofs.Struck.{struck-live}

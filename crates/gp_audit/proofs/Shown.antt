@@ -1,30 +1,27 @@
 -- What is kept tells what may come next. Each test on what is kept is shown to answer what the rules ask of the stage:
 -- which faults are due or live, what is struck, whether the front drains, whether a thread may go on. From these come
 -- the tests of the five kinds of lines, and then that of any line.
-use Rattle.std.proofs.Common.{◌≡◌, ◌⊎◌, ◌↔◌, inl, inr, ℕ, zero, suc, ◌+◌, ◌<◌, ◌≤◌, Bool, true, false, not, cond, nat_eq, nat_lt, nat_le, ◌&&◌, ◌||◌, length, Contains, Option, Some, None, refl, sym, ap, ◌∙◌, subst, arith}
+use Rattle.std.proofs.Common.{◌≡◌, ◌⊎◌, ◌↔◌, inl, inr, ℕ, zero, suc, ◌+◌, ◌<◌, ◌≤◌, Bool, true, false, not, cond, nat_eq, nat_lt, nat_le, ◌||◌, length, Contains, Option, Some, None, refl, sym, ap, ◌∙◌, subst, arith}
 use Rattle.std.specs.Prelude.{is_none, slice_get}
 use Rattle.std.specs.Bool.{Decides}
 use Rattle.std.specs.Cmp.{booleans_Decides}
 use Rattle.std.specs.List.{list_any}
-use Rattle.std.proofs.lemmas.Option.{slice_get_within, slice_get-get_or}
-use Rattle.std.proofs.lemmas.Bool.{false≢true, false_from_ne_true, eqb-true, eq-eqb, ltb-true, lt-ltb, le-ltb, leb-true, le-leb, and_parts, and_from, cases_lt}
+use Rattle.std.proofs.lemmas.Option.{slice_get-get_or}
+use Rattle.std.proofs.lemmas.Bool.{false≢true, false_from_ne_true, eqb-true, eq-eqb, ltb-true, lt-ltb, leb-true, le-leb, and_parts, and_from}
 use Rattle.std.proofs.lemmas.List.Folds.{Any-from_list_any, list_any-from_Any}
 use Rattle.std.proofs.lemmas.Bool.Decides.{Decides-like, Decides-not, Decides-and, Decides-or}
 use Rattle.gp_base.specs.declared.limits.TheConstants.{LONGEST_DELAY}
-use Rattle.gp_base.specs.declared.fault.Fault.{Fault}
 use Rattle.gp_base.specs.declared.journal.Restart.{Restart}
-use Rattle.dependence.specs.meaning.Conflict.{clash_in}
 use Rattle.dependence.specs.meaning.Restarts.{Dependence, drains, begun_of, is_live, is_due, least_struck, struck_next, restart_of, NoneDue, IsFinal}
 use Rattle.dependence.specs.meaning.Journal.{Stage, IsSafe, RestIsSafe, MayIssue, MayPost, MayTake, MayRetire, MayFollow, Drained}
 use Rattle.dependence.specs.JournalTests.{same_attempt}
 use Rattle.dependence.specs.Standing.{present, StageStands}
 use Rattle.dependence.proofs.Auditing.{contains-decides}
 use Rattle.dependence.proofs.Struck.{struck-live}
-use Rattle.gp_audit.specs.declared.state.Seen.{Seen}
 use Rattle.gp_audit.specs.declared.line.TraceLine.{TraceLine}
 use Rattle.gp_audit.specs.declared.line.TraceLine.TheVariants as line
-use Rattle.gp_audit.specs.Steps.{feet_in, before_step, last_step, is_step_of, dependence_by}
-use Rattle.gp_audit.specs.inner.Audited.{Audited, seen_at, first_seen, strikes_one, strikes, least_of, is_last, drains_now, struck_in, follows, issues, holds_up, is_held_up, posts, takes, is_drained, retires, restart_at, IsRestart, Takes, is_whole, IsSeen, Shows}
+use Rattle.gp_audit.specs.Steps.{before_step, last_step, is_step_of, dependence_by}
+use Rattle.gp_audit.specs.inner.Audited.{Audited, seen_at, first_seen, least_of, is_last, drains_now, struck_in, follows, issues, holds_up, is_held_up, posts, takes, is_drained, retires, restart_at, IsRestart, Takes, is_whole, IsSeen, Shows}
 use Rattle.gp_audit.specs.inner.Replayed.{Reaches}
 use Rattle.gp_audit.proofs.Reaching as reaching
 use Rattle.gp_audit.proofs.ToldEvents.{LineAllowed}

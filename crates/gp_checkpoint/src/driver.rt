@@ -15,12 +15,11 @@ use subthread::Work;
 use task_ast::Layout;
 use whole_run::{Recovery, drive_by};
 
-/// Runs a batch as `engine::drive` does, but by checkpoints: the data are copied at the cuts, which are the multiples
-/// of
-/// `every` and the subthreads that begin with a settle, and a fault rolls all from its cut on back to the copy there. The
-/// positions of a block, from one cut to the next, run once all before it is applied, and retire once no fault can strike any of
-/// it. The printed lines, the end and the records are those of the plain run all the same; the journal's restarts are the
-/// rollbacks.
+/// Runs a batch as `engine::drive` does, but by checkpoints: the data are copied at the cuts, which are the multiples of
+/// `every` and the subthreads that begin with a settle, and a fault rolls all from its cut on back to the copy there.
+/// The positions of a block, from one cut to the next, run once all before it is applied, and retire once no fault can
+/// strike any of it. The printed lines, the end and the records are those of the plain run all the same; the journal's
+/// restarts are the rollbacks.
 pub fn ckpt_drive<R: Threads + Sync, C: Crew, O: Sink>(
     rt: &R,
     alloc: Global,

@@ -3,9 +3,8 @@ use Rattle.std.proofs.Common.{◌≡◌, ◌⊎◌, inl, inr, ◌<◌, ◌≤◌
 use Rattle.std.specs.Prelude.{All, codes, flat_map}
 use Rattle.std.specs.Fmt.{signed_decimal}
 use Rattle.restart_log.specs.meaning.Lines.{spaced}
-use Rattle.retirement_log.specs.meaning.Rows.{group, row_text}
+use Rattle.retirement_log.specs.meaning.Rows.{group, row_text, IsWide, IsWideRow}
 use Rattle.gp_base.specs.Fronts.{begins_with_digit}
-use Rattle.gp_resume.specs.meaning.Reading.{IsWide, IsWideRow}
 use Rattle.gp_resume.specs.inner.Fronts.{IsOnlyFront, EndsMany, ReadsMany, EndsNumber, EndsNumbers, EndsCells, IsWideCell, Anything, spaced_number, cell_text, cells_end, head_text}
 use Rattle.gp_resume.proofs.Choices.{Choice, is-false, begins, below}
 use Rattle.gp_resume.proofs.Fronts.{NoFront, cancel, word-then, no-word, word-then-none, both, both_fit, then-some, then-none, first-none, many-start, many-more, many-end}

@@ -1,8 +1,16 @@
+pub mod Besides
+pub mod Chains
 pub mod Choices
+pub mod Fillings
 pub mod FitChoices
 pub mod FitRows
+pub mod FlightData
+pub mod FlightTables
+pub mod Flights
+pub mod FlownTasks
 pub mod FoundRows
 pub mod Fronts
+pub mod Homings
 pub mod Lefts
 pub mod Lendings
 pub mod LogAnswers
@@ -11,6 +19,7 @@ pub mod Moved
 pub mod Numerals
 pub mod Onward
 pub mod Openings
+pub mod OwnAnswers
 pub mod OwnLogs
 pub mod OwnRows
 pub mod Printed
@@ -21,7 +30,9 @@ pub mod Rising
 pub mod RowFronts
 pub mod RowsOnce
 pub mod RowsReplayed
+pub mod Sendings
 pub mod Tasks
 pub mod Texts
 pub mod TurnsTaken
 pub mod UnderHeld
+pub mod WavesGone

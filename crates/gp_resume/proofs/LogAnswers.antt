@@ -8,9 +8,9 @@ use Rattle.std.proofs.lemmas.List.Elements.{All-head, All-tail}
 use Rattle.gp_base.specs.declared.limits.Limits.{Limits}
 use Rattle.gp_base.specs.declared.feed.Inputs.{Inputs}
 use Rattle.task_ast.specs.meaning.Tree.{Program}
-use Rattle.retirement_log.specs.meaning.Rows.{Retirement, row_text, log_text}
+use Rattle.retirement_log.specs.meaning.Rows.{Retirement, row_text, log_text, IsWideRow}
 use Rattle.gp_resume.specs.meaning.Fitting.{Fit}
-use Rattle.gp_resume.specs.meaning.Reading.{IsWideRow, EndsNoLine, BeginsWithRow, BeginsWith, LogAnswer, Rows, Broken, Unfit, IsAnswer}
+use Rattle.gp_resume.specs.meaning.Reading.{EndsNoLine, BeginsWithRow, BeginsWith, LogAnswer, Rows, Broken, Unfit, IsAnswer}
 use Rattle.gp_resume.proofs.Choices.{Choice, contains}
 use Rattle.gp_resume.proofs.FitChoices.{one-more, fit-upto}
 use Rattle.gp_resume.proofs.FoundRows.{row-found}

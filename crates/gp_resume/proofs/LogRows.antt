@@ -6,9 +6,9 @@ use Rattle.std.proofs.lemmas.List.Elements.{All-nil, All-push, All-head, All-tai
 use Rattle.gp_base.specs.declared.limits.Limits.{Limits}
 use Rattle.gp_base.specs.declared.feed.Inputs.{Inputs}
 use Rattle.task_ast.specs.meaning.Tree.{Program}
-use Rattle.retirement_log.specs.meaning.Rows.{Retirement, group, cell_numbers, groups_text, row_text, log_text}
+use Rattle.retirement_log.specs.meaning.Rows.{Retirement, group, cell_numbers, groups_text, row_text, log_text, IsWideRow}
 use Rattle.gp_resume.specs.meaning.Fitting.{Fit}
-use Rattle.gp_resume.specs.meaning.Reading.{IsWideRow, EndsNoLine, BeginsWith}
+use Rattle.gp_resume.specs.meaning.Reading.{EndsNoLine, BeginsWith}
 use Rattle.gp_resume.proofs.RowsOnce.{row-once}
 
 -- ---- rows

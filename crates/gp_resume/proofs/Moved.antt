@@ -139,7 +139,7 @@ module _ {P Q : Type 0} (Rests : SyncOp → P → Q → Type 0) (m : Machine P) 
   settled-rests sync.Spent t left right p q e rests = rests
 
   -- a new thread starts at rest
-  new-rests : (op : SyncOp) (ps : List P) (qs : List Q) (k u : ℕ) (p : P) (q : Q) → length ps ≡ k → length qs ≡ k → k ≤ u
+  pub new-rests : (op : SyncOp) (ps : List P) (qs : List Q) (k u : ℕ) (p : P) (q : Q) → length ps ≡ k → length qs ≡ k → k ≤ u
       → u < with_child (child_of op k) k
       → Rests sync.Start (unwrap_or (slice_get (points_with m op (length ps) ps) u) p)
       (unwrap_or (slice_get (points_with n op (length qs) qs) u) q)

@@ -1,5 +1,5 @@
 -- Numbers at the front of bytes.
-use Rattle.std.proofs.Common.{◌≡◌, ◌≢◌, ◌<◌, ◌+◌, ◌^◌, ◌||◌, ◌==◌, ℕ, ℤ, pos, negsuc, true, false, List, [], ◌∷◌, ◌++◌, length, refl, sym, ap, ◌∙◌, subst, arith, w64, to_z, of_z}
+use Rattle.std.proofs.Common.{◌≡◌, ◌≢◌, ◌<◌, ◌^◌, ◌||◌, ◌==◌, ℕ, ℤ, pos, negsuc, true, false, List, [], ◌∷◌, ◌++◌, length, refl, sym, ap, ◌∙◌, subst, arith, w64, to_z, of_z}
 use Rattle.std.specs.Prelude.{Some, None, Result, IsUtf8, FitsSigned}
 use Rattle.std.specs.Result.{result_ok}
 use Rattle.std.specs.Fmt.{signed_decimal}
@@ -13,7 +13,7 @@ use Rattle.std.proofs.lemmas.Int.{to_z-of_z}
 use Rattle.std.proofs.lemmas.Str.{IsUtf8-from_ascii}
 use Rattle.gp_base.specs.Fronts.{begins_with_digit}
 use Rattle.gp_base.proofs.Digits.{cut_digits}
-use Rattle.gp_resume.specs.meaning.Reading.{IsWide}
+use Rattle.retirement_log.specs.meaning.Rows.{IsWide}
 use Rattle.gp_resume.specs.inner.Fronts.{IsOnlyFront, EndsNumber, is_numeral, goes_on}
 use Rattle.gp_resume.proofs.Printed.{printed-numeral, printed-some, same-printed}
 

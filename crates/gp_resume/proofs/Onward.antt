@@ -1,21 +1,22 @@
 -- How a run goes on, one subthread after another.
-use Rattle.std.proofs.Common.{◌≡◌, ◌⊎◌, inl, inr, ℕ, zero, suc, ◌+◌, ◌-◌, ◌<◌, ◌≤◌, List, [], ◌∷◌, ◌++◌, length, length-append, Contains, Option, refl, sym, ap, ◌∙◌, subst, append_assoc, append-nil, arith}
+use Rattle.std.proofs.Common.{◌≡◌, ℕ, zero, suc, ◌+◌, ◌-◌, ◌<◌, ◌≤◌, List, [], ◌∷◌, ◌++◌, length, length-append, Contains, Option, refl, sym, ap, ◌∙◌, subst, append_assoc, append-nil, arith}
 use Rattle.std.specs.Io.KnownBytes.{Appends}
 use Rattle.std.proofs.KnownBytes.{Appends-nil}
 use Rattle.std.proofs.lemmas.Grind.{flat_map-append}
 use Rattle.gp_base.specs.meaning.Sinks.{AppendsPrefix}
 use Rattle.gp_base.specs.declared.ending.End.{End}
-use Rattle.gp_base.proofs.Written.{Appends-append, prefix_first, prefix_second, prefix_all}
+use Rattle.gp_base.proofs.Written.{Appends-append, prefix_second, prefix_all}
 use Rattle.task_ast.specs.meaning.Repeat.{Goes, Ends, steps, steps_from, state_after, state_from}
 use Rattle.task_ast.specs.meaning.Plain.{Subthread, Plain, tree_machine, ending_of, move}
 use Rattle.task_ast.proofs.PlainSteps.{begins_of}
 use Rattle.restart_log.specs.meaning.Lines.{printed, printed_line}
 use Rattle.subthread.specs.Tasks.{program_in}
 use Rattle.gp_resume.specs.declared.course.Plan.{Plan}
-use Rattle.gp_resume.specs.declared.course.Begun.{Begun}
 use Rattle.gp_resume.specs.declared.course.Course.{Course}
 use Rattle.gp_resume.specs.meaning.Resumed.{lines_of}
-use Rattle.gp_resume.specs.inner.Course.{IsSound, IsHome, Stands, Begins, Ended}
+use Rattle.gp_resume.specs.inner.Course.{IsSound, IsHome, Stands, Ended}
+use Rattle.task_ast.specs.laws.Standing.{at_once}
+use Rattle.gp_resume.specs.inner.Waves.{WentBy}
 use Rattle.gp_resume.specs.inner.Going.{left, rest, last, firsts_from, Went, WentOn}
 
 -- the printed lines of subthreads that come after others
@@ -25,18 +26,29 @@ printed-lines first second =
     ap printed (flat_map-append (λ (s : Subthread). s.lines) first second)
     ∙ flat_map-append printed_line (lines_of first) (lines_of second)
 
-printed-one : (s : Subthread) → printed (lines_of (s ∷ [])) ≡ printed s.lines
+pub printed-one : (s : Subthread) → printed (lines_of (s ∷ [])) ≡ printed s.lines
 printed-one s = ap printed (append-nil s.lines)
 
 -- one position more
-firsts-push : (p n : ℕ) → firsts_from p (suc n) ≡ firsts_from p n ++ (p + n, 0) ∷ []
+pub firsts-push : (p n : ℕ) → firsts_from p (suc n) ≡ firsts_from p n ++ (p + n, 0) ∷ []
 firsts-push p zero = ap (λ q. (q, 0) ∷ []) (let same : p ≡ p + 0 = omega arith in same)
 firsts-push p (suc n) =
     ap (λ pairs. (p, 0) ∷ pairs)
     (firsts-push (suc p) n ∙ ap (λ q. firsts_from (suc p) n ++ (q, 0) ∷ []) (let same : suc p + n ≡ p + suc n = omega arith in same))
 
+pub firsts-both : (p n m : ℕ) → firsts_from p (n + m) ≡ firsts_from p n ++ firsts_from (p + n) m
+firsts-both p zero m =
+    let less : 0 + m ≡ m = omega arith in
+    let same : p ≡ p + 0 = omega arith in
+    λ i. firsts_from (same i) (less i)
+firsts-both p (suc n) m =
+    let more : suc n + m ≡ suc (n + m) = omega arith in
+    ap (firsts_from p) more
+    ∙ ap (λ pairs. (p, 0) ∷ pairs)
+    (firsts-both (suc p) n m ∙ ap (λ q. firsts_from (suc p) n ++ firsts_from q m) (let same : suc p + n ≡ p + suc n = omega arith in same))
+
 -- a position past them is none of them
-firsts-past : (p n q : ℕ) → p + n ≤ q → ¬ Contains (firsts_from p n) (q, 0)
+pub firsts-past : (p n q : ℕ) → p + n ≤ q → ¬ Contains (firsts_from p n) (q, 0)
 firsts-past p zero q past (k, less, is) = absurd (omega arith)
 firsts-past p (suc n) q past (zero, less, is) = absurd (let same = ap (λ pair. pair.0) is in omega arith)
 firsts-past p (suc n) q past (suc k, less, is) = firsts-past (suc p) n q (omega arith) (k, omega arith, is)
@@ -103,7 +115,7 @@ module _ (plan : Plan) where
       record {
         now = x;
         done = [];
-        stands = stands;
+        stands = record { before = course; stands = stands; kept = record { passed = at_once; spots = refl; store = refl; issued = refl } };
         rest_is = refl;
         last_is = refl;
         issued = omega arith;
@@ -125,78 +137,68 @@ module _ (plan : Plan) where
         let many = ap length went.rest_is ∙ length-append went.done (rest plan went.now) in
         (length went.done, omega arith, went.posts)
 
-    -- a subthread begins
-    module _ (s : Subthread) (y : Plain) (begun : Begun) (there : Course) (begins : Begins plan went.now s y begun there) where
-      pub unposted : ¬ Contains posted (begun.pos, 0)
-      unposted holds =
-          firsts-past x.table.issued (length went.done) begun.pos
-          (let issued = went.issued in let pos = begins.pos in omega arith)
-          (subst (λ pairs. Contains pairs (begun.pos, 0)) went.posts holds)
+    -- no position from here on was posted
+    pub unposted : (n : ℕ) → n ≡ went.now.table.issued → (p : ℕ) → n ≤ p → ¬ Contains posted (p, 0)
+    unposted n at p later holds =
+        firsts-past x.table.issued (length went.done) p (let issued = went.issued in omega arith)
+        (subst (λ pairs. Contains pairs (p, 0)) went.posts holds)
 
-      rest-there : rest plan x ≡ (went.done ++ s ∷ []) ++ rest plan y
-      rest-there =
-          went.rest_is ∙ ap (λ run. went.done ++ run) (rest-goes went.now s y begins.moves begins.before)
-          ∙ sym (append_assoc went.done (s ∷ []) (rest plan y))
+    -- it goes on by a wave
+    module _ (later : Option (List ℕ)) (posts : List (ℕ × ℕ)) (course' : Course)
+        (wave : WentBy plan went.now written later posted posts course') where
+      lines-there : printed (lines_of (went.done ++ wave.done)) ≡ printed (lines_of went.done) ++ printed (lines_of wave.done)
+      lines-there = printed-lines went.done wave.done
 
-      lines-there : printed (lines_of (went.done ++ s ∷ [])) ≡ printed (lines_of went.done) ++ printed s.lines
-      lines-there = printed-lines went.done (s ∷ []) ∙ ap (λ text. printed (lines_of went.done) ++ text) (printed-one s)
-
-      length-there : length (went.done ++ s ∷ []) ≡ suc (length went.done)
-      length-there = let parts = length-append went.done (s ∷ []) in omega arith
-
-      posted-there : posted ++ (begun.pos, 0) ∷ [] ≡ firsts_from x.table.issued (length (went.done ++ s ∷ []))
-      posted-there =
-          (λ i. went.posts i ++ ((begins.pos ∙ went.issued) i, 0) ∷ [])
-          ∙ sym (firsts-push x.table.issued (length went.done))
-          ∙ ap (firsts_from x.table.issued) (sym length-there)
-
-      -- it was run, and its lines were written
-      pub went-then : (later : Option (List ℕ)) (posts : List (ℕ × ℕ)) (course' : Course) → Stands plan y course'
-          → Appends written later (printed s.lines) → posts ≡ posted ++ (begun.pos, 0) ∷ [] → Went plan x before later posts course'
-      went-then later posts course' stands wrote posts_are =
+      pub went-then : Went plan x before later posts course'
+      went-then =
           record {
-            now = y;
-            done = went.done ++ s ∷ [];
-            stands = stands;
-            rest_is = rest-there;
-            last_is = went.last_is ∙ last-goes went.now s y begins.moves begins.before;
+            now = wave.later;
+            done = went.done ++ wave.done;
+            stands = wave.stands;
+            rest_is = went.rest_is ∙ (ap (λ run. went.done ++ run) wave.rest_is ∙ sym (append_assoc went.done wave.done (rest plan wave.later)));
+            last_is = went.last_is ∙ wave.last_is;
             issued =
-                let next = (issued-next went.now s y begins.moves begins.before).0 in
-                let issued = went.issued in
-                let many = length-there in
+                let parts = length-append went.done wave.done in
+                let first = went.issued in
+                let then = wave.issued in
                 omega arith;
             wrote = subst (Appends before later) (sym lines-there)
-                (Appends-append before written later (printed (lines_of went.done)) (printed s.lines) went.wrote wrote);
-            posts = posts_are ∙ posted-there;
+                (Appends-append before written later (printed (lines_of went.done)) (printed (lines_of wave.done)) went.wrote wave.wrote);
+            posts = wave.posts ∙ ((λ i. went.posts i ++ firsts_from (went.issued i) (length wave.done))
+                ∙ (sym (firsts-both x.table.issued (length went.done) (length wave.done))
+                ∙ ap (firsts_from x.table.issued) (sym (length-append went.done wave.done))));
           }
 
-      -- it stopped, and some of its lines were written
-      pub stops-part : (later : Option (List ℕ)) → AppendsPrefix written later (printed s.lines)
-          → AppendsPrefix before later (printed (lines_of (rest plan x)))
-      stops-part later part =
-          subst (λ run. AppendsPrefix before later (printed (lines_of run))) (sym rest-there)
-          (subst (AppendsPrefix before later) (sym (printed-lines (went.done ++ s ∷ []) (rest plan y)))
-          (prefix_first before later (printed (lines_of (went.done ++ s ∷ []))) (printed (lines_of (rest plan y)))
-          (subst (AppendsPrefix before later) (sym lines-there)
-          (prefix_second before written later (printed (lines_of went.done)) (printed s.lines) went.wrote part))))
-
-      pub stops-some : (posts : List (ℕ × ℕ)) → (posts ≡ posted) ⊎ (posts ≡ posted ++ (begun.pos, 0) ∷ [])
-          → (n : ℕ) × (n ≤ length (rest plan x)) × (posts ≡ firsts_from x.table.issued n)
-      stops-some posts (inl same) = let some = went-some in (some.0, some.1, same ∙ some.2)
-      stops-some posts (inr more) =
-          let many = ap length rest-there ∙ length-append (went.done ++ s ∷ []) (rest plan y) in
-          (length (went.done ++ s ∷ []), omega arith, more ∙ posted-there)
-
       -- what is left falls
-      pub left-falls : (course' : Course) → Stands plan y course'
-          → plan.limits.subthreads - course'.issued < plan.limits.subthreads - course.issued
-      left-falls course' stands =
-          let next = issued-next went.now s y begins.moves begins.before in
-          let one = next.0 in
-          let below = next.1 in
-          let was = went.stands.issued in
-          let is = stands.issued in
+      pub left-falls : plan.limits.subthreads - course'.issued < plan.limits.subthreads - course.issued
+      left-falls =
+          let is = wave.stands.kept.issued ∙ wave.stands.stands.issued in
+          let was = went.stands.kept.issued ∙ went.stands.stands.issued in
+          let within = wave.stands.stands.sound.whole.within in
+          let limit = wave.stands.stands.sound.limit in
+          let some = wave.some in
+          let more = wave.issued in
           omega arith
+
+    -- a wave stopped, and some of what is to come was written
+    pub stops-part : (later : Option (List ℕ)) → AppendsPrefix written later (printed (lines_of (rest plan went.now)))
+        → AppendsPrefix before later (printed (lines_of (rest plan x)))
+    stops-part later part =
+        subst (λ run. AppendsPrefix before later (printed (lines_of run))) (sym went.rest_is)
+        (subst (AppendsPrefix before later) (sym (printed-lines went.done (rest plan went.now)))
+        (prefix_second before written later (printed (lines_of went.done)) (printed (lines_of (rest plan went.now))) went.wrote part))
+
+    pub stops-some : (posts : List (ℕ × ℕ))
+        → (n : ℕ) × (n ≤ length (rest plan went.now)) × (posts ≡ posted ++ firsts_from went.now.table.issued n)
+        → (n : ℕ) × (n ≤ length (rest plan x)) × (posts ≡ firsts_from x.table.issued n)
+    stops-some posts some =
+        let many = ap length went.rest_is ∙ length-append went.done (rest plan went.now) in
+        let few = some.1 in (
+          length went.done + some.0,
+          omega arith,
+          some.2 ∙ ((λ i. went.posts i ++ firsts_from (went.issued i) some.0)
+              ∙ sym (firsts-both x.table.issued (length went.done) some.0)),
+        )
 
     -- it has ended
     module _ (end : End) (there : Course) (ended : Ended plan went.now end there) where

@@ -12,7 +12,7 @@ use Rattle.std.proofs.Math.Nat.{pow-zero, pow-suc}
 use Rattle.std.proofs.lemmas.Bool.{and_parts, ne_eqb, lt-ltb, cases_lt}
 use Rattle.std.proofs.lemmas.Fmt.{decimal_is_IsNumeral, decimal_is_IsNumeral_wide, length-decimal-le}
 use Rattle.std.proofs.lemmas.Str.Parse.{tells_all_ascii_digits}
-use Rattle.gp_resume.specs.meaning.Reading.{IsWide}
+use Rattle.retirement_log.specs.meaning.Rows.{IsWide}
 use Rattle.gp_resume.specs.inner.Fronts.{is_numeral}
 
 -- the last digits of a number, 64 at most

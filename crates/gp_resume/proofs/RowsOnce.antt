@@ -4,8 +4,7 @@ use Rattle.std.specs.Prelude.{All, codes, flat_map}
 use Rattle.std.specs.Fmt.{signed_decimal}
 use Rattle.std.proofs.lemmas.List.Elements.{All-nil, All-cons, All-head, All-tail}
 use Rattle.restart_log.specs.meaning.Lines.{spaced}
-use Rattle.retirement_log.specs.meaning.Rows.{Retirement, group, cell_numbers, row_text}
-use Rattle.gp_resume.specs.meaning.Reading.{IsWide, IsWideRow}
+use Rattle.retirement_log.specs.meaning.Rows.{Retirement, group, cell_numbers, row_text, IsWide, IsWideRow}
 use Rattle.gp_resume.specs.inner.Fronts.{EndsNumber, IsWideCell, spaced_number}
 use Rattle.gp_resume.proofs.Fronts.{cancel}
 use Rattle.gp_resume.proofs.Numerals.{number-once}

@@ -9,13 +9,13 @@ use Rattle.gp_base.specs.declared.ending.End.{End}
 use Rattle.task_ast.specs.meaning.Tree.{Program}
 use Rattle.task_ast.specs.meaning.Repeat.{Move, Goes, Ends}
 use Rattle.task_ast.specs.meaning.Plain.{Subthread, Plain, opening, move}
-use Rattle.retirement_log.specs.meaning.Rows.{Retirement, row_text}
+use Rattle.retirement_log.specs.meaning.Rows.{Retirement, row_text, IsWideRow}
 use Rattle.subthread.specs.Tasks.{program_in}
 use Rattle.gp_resume.specs.declared.course.Plan.{Plan}
 use Rattle.gp_resume.specs.declared.course.Course.{Course}
 use Rattle.gp_resume.specs.declared.log.Logged.{Logged}
 use Rattle.gp_resume.specs.meaning.Fitting.{least_bytes, FitsMove, replayed, run_after, FitFrom, Fit, resumed_at}
-use Rattle.gp_resume.specs.meaning.Reading.{IsWideRow, BeginsWith, IsUnfitAt}
+use Rattle.gp_resume.specs.meaning.Reading.{BeginsWith, IsUnfitAt}
 use Rattle.gp_resume.specs.meaning.Resumed.{bytes_from, bytes_before}
 use Rattle.gp_resume.specs.inner.Course.{Stands}
 use Rattle.gp_resume.specs.inner.Going.{HasReplayed}

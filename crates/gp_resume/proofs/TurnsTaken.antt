@@ -146,18 +146,18 @@ module _ (work : Work) (before : Course) (t : ℕ) (begins : Next) (child : Opti
       }
 
 -- a child's registers, of which there are none yet, change no data
-child-state : (op : SyncOp) (store : Stored) → state_of (record store { threads = threads_with op store.threads }) ≡ state_of store
+pub child-state : (op : SyncOp) (store : Stored) → state_of (record store { threads = threads_with op store.threads }) ≡ state_of store
 child-state (sync.Fork task arguments) store = slot_law store
 child-state _ store = refl
 
-child-threads : (op : SyncOp) (k : ℕ) (threads : List (List ℤ)) → k ≤ length threads
+pub child-threads : (op : SyncOp) (k : ℕ) (threads : List (List ℤ)) → k ≤ length threads
     → with_child (child_of op k) k ≤ length (threads_with op threads)
 child-threads (sync.Fork task arguments) k threads l = let n = length_push threads [] in omega arith
 child-threads _ k threads l = l
 
 -- ---- spots
 
-get-map : (spots : List Spot) (t : ℕ) (spot : Spot) → slice_get spots t ≡ Some spot
+pub get-map : (spots : List Spot) (t : ℕ) (spot : Spot) → slice_get spots t ≡ Some spot
     → slice_get (map spot_place spots) t ≡ Some (spot_place spot)
 get-map [] t spot e = absurd (cc e)
 get-map (x ∷ spots) zero spot e = ap (option_map spot_place) e
@@ -169,7 +169,7 @@ got-map [] t place e = absurd (cc e)
 got-map (x ∷ spots) zero place e = (x, refl, ap (λ o. unwrap_or o (spot_place x)) e)
 got-map (x ∷ spots) (suc t) place e = got-map spots t place e
 
-spot-there : (spots : List Spot) (t : ℕ) → t < length spots → (spot : Spot) × (slice_get spots t ≡ Some spot)
+pub spot-there : (spots : List Spot) (t : ℕ) → t < length spots → (spot : Spot) × (slice_get spots t ≡ Some spot)
 spot-there [] t l = absurd (omega arith)
 spot-there (x ∷ spots) zero l = (x, refl)
 spot-there (x ∷ spots) (suc t) l = spot-there spots t (omega arith)
@@ -217,11 +217,11 @@ module _ (plan : Plan) where
       ]
 
 -- a settle changes no number
-settled-me : (op : SyncOp) (t : ℕ) (state : State) (place : Place) → (settled_place op t state place).me ≡ place.me
+pub settled-me : (op : SyncOp) (t : ℕ) (state : State) (place : Place) → (settled_place op t state place).me ≡ place.me
 settled-me (sync.Settle register control) t state place = refl
 settled-me _ t state place = refl
 
-settled-is : (work : Work) (op : SyncOp) (t : ℕ) (state : State) (place : Place)
+pub settled-is : (work : Work) (op : SyncOp) (t : ℕ) (state : State) (place : Place)
     → settled_by (machine_of work) op t state place ≡ settled_place op t state place
 settled-is work (sync.Settle register control) t state place = refl
 settled-is work _ t state place = refl

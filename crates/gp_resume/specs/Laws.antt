@@ -1,5 +1,5 @@
 -- From the first rows of the plain run's own log the plain run goes on; and the bytes of a log come to one thing.
-use Rattle.std.specs.Prelude.{◌≡◌, ℕ, zero, suc, ◌≤◌, pos, List, [], ◌++◌, length, take, drop, codes}
+use Rattle.std.specs.Prelude.{◌≡◌, ℕ, zero, suc, ◌≤◌, pos, List, [], ◌++◌, length, take, drop, codes, All}
 use Rattle.gp_base.specs.declared.limits.Limits.{Limits}
 use Rattle.gp_base.specs.declared.feed.Inputs.{Inputs}
 use Rattle.task_ast.specs.meaning.Tree.{Program}
@@ -11,7 +11,7 @@ use Rattle.task_ast.specs.meaning.Position.{before}
 use Rattle.restart_log.specs.meaning.Lines.{printed}
 use Rattle.restart_log.specs.meaning.Tail.{tail_text}
 use Rattle.crew.specs.meaning.Noted.{left_in_order}
-use Rattle.retirement_log.specs.meaning.Rows.{Retirement}
+use Rattle.retirement_log.specs.meaning.Rows.{Retirement, log_text, IsWideRow}
 use Rattle.retirement_log.specs.meaning.Log.{log_rows, log}
 use Rattle.gp_resume.specs.meaning.Fitting.{Fit, resumed_at}
 use Rattle.gp_resume.specs.meaning.Reading.{LogAnswer, IsAnswer, IsLogOf}
@@ -92,3 +92,12 @@ OwnRowsLaw =
     (program : Program) (inputs : Inputs) (limits : Limits) (logged : ℕ) (rows : List Retirement)
     → IsLogOf program inputs limits (take logged (log program inputs limits)) rows
     → (p : ℕ) × (p ≤ length (plain.order program inputs limits)) × (rows ≡ own_rows program inputs limits p)
+
+-- The first bytes of a run's own log come to the first of its own rows, those that stand whole in them, if the numbers of these are of 64 bits
+abbrev pub OwnAnswerLaw : Type 0
+OwnAnswerLaw =
+    (program : Program) (inputs : Inputs) (limits : Limits) (logged : ℕ) → IsAccepted program
+    → ((p : ℕ) → p ≤ length (plain.order program inputs limits) → length (log_text (own_rows program inputs limits p)) ≤ logged
+    → All IsWideRow (own_rows program inputs limits p))
+    → (p : ℕ) × (p ≤ length (plain.order program inputs limits)) × (length (log_text (own_rows program inputs limits p)) ≤ logged)
+    × IsLogOf program inputs limits (take logged (log program inputs limits)) (own_rows program inputs limits p)

@@ -1,5 +1,5 @@
 -- What a call leaves that goes on from a log.
-use Rattle.std.specs.Prelude.{◌≡◌, ◌≢◌, ◌↔◌, ℕ, pos, ◌≤◌, ◌<◌, ⊤, List, [], Option, Result, Ok, Err, Contains}
+use Rattle.std.specs.Prelude.{◌≡◌, ◌↔◌, ℕ, pos, ◌≤◌, ◌<◌, ⊤, List, [], Result, Ok, Err, Contains}
 use Rattle.std.specs.List.{IsDistinct}
 use Rattle.gp_base.specs.meaning.Sinks.{Rose}
 use Rattle.gp_base.specs.declared.limits.Limits.{Limits}
@@ -10,7 +10,7 @@ use Rattle.reorder_list.specs.declared.report.Report.{Report}
 use Rattle.retirement_log.specs.meaning.Rows.{Retirement}
 use Rattle.gp_resume.specs.declared.stop.ResumeStop.{ResumeStop}
 use Rattle.gp_resume.specs.declared.stop.ResumeStop.TheVariants.{LogLine, LogFit, WriteFault, OutOfMemory}
-use Rattle.gp_resume.specs.meaning.Reading.{LogAnswer, Rows, Broken, Unfit, IsAnswer, IsLogOf}
+use Rattle.gp_resume.specs.meaning.Reading.{Broken, Unfit, IsAnswer, IsLogOf}
 use Rattle.gp_resume.specs.meaning.Resumed.{end, final_records, count, bytes_before}
 
 -- The log is refused at its first row that is none or doesn't fit, and only such a row; else it has rows, unless memory is out.

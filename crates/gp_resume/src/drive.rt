@@ -13,18 +13,17 @@ ghost use Rattle.retirement_log.specs.meaning.Rows.{Retirement};
 ghost use Rattle.gp_resume.specs.meaning.Reading.{IsLogOf};
 ghost use Rattle.gp_resume.specs.meaning.Resumed.{lines_of, lines, count};
 ghost use Rattle.gp_resume.specs.Resuming.{AnswersLog, IsRefused, ReportsRest, IsEachOnce, AreSomeOnce, HasResumeCause};
-ghost use Rattle.gp_resume.specs.inner.Course.{IsSuited, IsBegun, Stands, StandsSomewhere, Begins};
+ghost use Rattle.gp_resume.specs.inner.Course.{IsSuited, IsBegun, Stands, Begins};
 ghost use Rattle.gp_resume.specs.inner.Going.{rest, WentOn, firsts_from, Replays};
 
 use crate::beginning::begin;
-use crate::course::{Begun, Course, Plan, Step};
+use crate::course::{Course, Plan, Step};
 use crate::log::{Logged, replay_log};
-use crate::running::run;
 use crate::stop::ResumeStop;
+use crate::waves::{Leader, go_wave};
 use crew::Crew;
 use gp_base::{End, Inputs, Journal, Limits, Nums, Seq, Sink, SinkFault, Text, put_all};
 use reorder_list::Report;
-use restart_log::printed;
 use std::alloc::Global;
 use std::snapshot::Snapshot;
 use std::thread::Threads;
@@ -45,39 +44,7 @@ pub fn put<O: Sink>(out: &mut O, bytes: &[u8]) -> Result<(), ResumeStop>
     }
 }
 
-// Has a crew run the subthread that begins, and writes its lines.
-fn go_one<R: Threads + Sync, C: Crew, O: Sink>(
-    rt: &R,
-    alloc: Global,
-    plan: &Plan,
-    course: &mut Course,
-    crew: &mut C,
-    out: &mut O,
-    begun: Begun,
-) -> Result<(), ResumeStop>
-    requires suits { IsSuited plan.now }
-    requires begun { IsBegun plan.now begun course.old }
-    requires ready { C.ready crew.old }
-    requires work { C.work crew.old ≡ plan.now.work.now }
-    requires none_out { C.out crew.old ≡ [] }
-    requires fresh { ¬ Contains (C.posted crew.old) (begun.pos, 0) }
-    ensures stands { OnOk result ((x : Plain) (s : Subthread) (y : Plain) → Begins plan.now x s y begun course.old → Stands plan.now y course.new) }
-    ensures lines { OnOk result ((x : Plain) (s : Subthread) (y : Plain) → Begins plan.now x s y begun course.old → Appends (O.written out.old) (O.written out.new) (printed s.lines)) }
-    ensures partly { (x : Plain) (s : Subthread) (y : Plain) → Begins plan.now x s y begun course.old → AppendsPrefix (O.written out.old) (O.written out.new) (printed s.lines) }
-    ensures ready { C.ready crew.new }
-    ensures work { C.work crew.new ≡ C.work crew.old }
-    ensures none_left { OnOk result (C.out crew.new ≡ []) }
-    ensures posted { OnOk result (C.posted crew.new ≡ C.posted crew.old ++ (begun.pos, 0) ∷ []) }
-    ensures perhaps { (C.posted crew.new ≡ C.posted crew.old) ⊎ (C.posted crew.new ≡ C.posted crew.old ++ (begun.pos, 0) ∷ []) }
-    ensures cause { HasResumeCause (O.faults out.old) (O.faults out.new) result }
-    ensures told { ¬ IsRefused result }
-{
-    let lines = run(rt, alloc, plan, course, crew, begun)?;
-    let text = printed(alloc, &lines)?;
-    put(out, &text)
-}
-
-// Goes on to the end, one subthread after another.
+// Goes on to the end, one wave of subthreads after another.
 fn go_on<R: Threads + Sync, C: Crew, O: Sink>(
     rt: &R,
     alloc: Global,
@@ -87,7 +54,7 @@ fn go_on<R: Threads + Sync, C: Crew, O: Sink>(
     out: &mut O,
 ) -> Result<End, ResumeStop>
     requires suits { IsSuited plan.now }
-    requires stands { StandsSomewhere plan.now course.old }
+    requires stands { (x : Plain) × Stands plan.now x course.old }
     requires ready { C.ready crew.old }
     requires work { C.work crew.old ≡ plan.now.work.now }
     requires none_out { C.out crew.old ≡ [] }
@@ -101,9 +68,13 @@ fn go_on<R: Threads + Sync, C: Crew, O: Sink>(
     ensures told { ¬ IsRefused result }
 {
     'going: loop {
+        let threads = course.spots.len();
         match course.next(alloc, plan)? {
             Step::Ends(end) => return Ok(end),
-            Step::Goes(begun) => go_one(rt, alloc, plan, course, crew, out, begun)?,
+            Step::Goes(begun) => {
+                let leader = Leader { threads, begun };
+                go_wave(rt, alloc, plan, course, crew, out, leader)?;
+            }
         }
     }
 }

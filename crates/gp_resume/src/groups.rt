@@ -2,7 +2,7 @@
 
 ghost use Rattle.std.specs.Prelude.{flat_map, All, IfOk, option_map};
 ghost use Rattle.restart_log.specs.meaning.Lines.{spaced};
-ghost use Rattle.gp_resume.specs.meaning.Reading.{IsWide};
+ghost use Rattle.retirement_log.specs.meaning.Rows.{IsWide};
 ghost use Rattle.gp_resume.specs.inner.Fronts.{IsFront, IsOnlyFront, EndsNumber, EndsNumbers, EndsCells, IsWideCell, spaced_number, cell_text};
 
 use crate::numbers::number_at;

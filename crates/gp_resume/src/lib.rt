@@ -2,7 +2,8 @@
 //!
 //! The rows of the log are read one after another. Each has to fit the run that the rows before it leave: the next
 //! subthread of that run takes its turn, its control is walked without its data, and the data are those of the row.
-//! Behind the last row the run goes on by a crew, one subthread after another.
+//! After the last row the run goes on by a crew, in waves: the next subthread, with each that follows it in the order
+//! and can begin before any of them was run.
 #![tactic(auto)]
 
 mod beginning;
@@ -16,9 +17,9 @@ mod numbers;
 mod reading;
 mod replay;
 mod row;
-mod running;
 mod stop;
 mod turning;
+mod waves;
 
 pub use drive::{put, resume_drive};
 pub use reading::ends_no_line;

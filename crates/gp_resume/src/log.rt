@@ -6,7 +6,7 @@ ghost use Rattle.gp_base.specs.declared.limits.TheConstants.{MOST_FILE_BYTES};
 ghost use Rattle.task_ast.specs.meaning.Plain.{Plain, opening, move};
 ghost use Rattle.subthread.specs.Tasks.{program_in};
 ghost use Rattle.retirement_log.specs.meaning.Rows.{Retirement};
-ghost use Rattle.gp_resume.specs.inner.Course.{IsSuited, Stands, StandsSomewhere};
+ghost use Rattle.gp_resume.specs.inner.Course.{IsSuited, Stands};
 ghost use Rattle.gp_resume.specs.meaning.Fitting.{least_bytes, FitsMove, replayed};
 ghost use Rattle.gp_resume.specs.inner.Going.{Replays};
 ghost use Rattle.gp_resume.specs.inner.RowsRead.{row_in};
@@ -42,7 +42,7 @@ fn replay_row(
     row: LogRow,
 ) -> Result<bool, AllocError>
     requires suits { IsSuited plan.now }
-    requires stands { StandsSomewhere plan.now course.old }
+    requires stands { (x : Plain) × Stands plan.now x course.old }
     ensures fits { IfOk result (λ fits. (x : Plain) (before : Option Retirement) → Stands plan.now x course.old → least ≡ least_bytes before
         → Decides fits (FitsMove (program_in plan.now.work.now) x (move (program_in plan.now.work.now) plan.now.inputs.value plan.now.limits x) before (row_in row))) }
     ensures stands { IfOk result (λ fits. IsTrue fits → (x : Plain) → Stands plan.now x course.old

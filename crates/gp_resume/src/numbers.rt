@@ -2,7 +2,7 @@
 
 ghost use Rattle.std.specs.Prelude.{◌≡◌, ◌≤◌, true, false, length, take, drop, option_map};
 ghost use Rattle.std.specs.Fmt.{signed_decimal};
-ghost use Rattle.gp_resume.specs.meaning.Reading.{IsWide};
+ghost use Rattle.retirement_log.specs.meaning.Rows.{IsWide};
 ghost use Rattle.gp_resume.specs.inner.Fronts.{IsNumber, IsFront, EndsNumber, is_numeral, goes_on};
 
 use gp_base::{after, count_digits};

@@ -2,8 +2,8 @@
 
 ghost use Rattle.std.specs.Prelude.{All, IfOk, option_map};
 ghost use Rattle.std.specs.Bool.{Decides};
-ghost use Rattle.retirement_log.specs.meaning.Rows.{group};
-ghost use Rattle.gp_resume.specs.meaning.Reading.{IsWide, EndsNoLine};
+ghost use Rattle.retirement_log.specs.meaning.Rows.{group, IsWide};
+ghost use Rattle.gp_resume.specs.meaning.Reading.{EndsNoLine};
 ghost use Rattle.gp_resume.specs.inner.Fronts.{IsFront, EndsNumber, EndsNumbers, IsWideCell, Anything, head_text, cells_end};
 ghost use Rattle.gp_resume.specs.inner.RowsRead.{row_in, IsRowRead};
 

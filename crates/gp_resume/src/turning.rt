@@ -1,11 +1,13 @@
 // The next turn of a run.
 
-ghost use Rattle.std.specs.Prelude.{◌≡◌, ◌<◌, ◌≤◌, ◌+◌, ◌^◌, length, option_map, IfOk};
+ghost use Rattle.std.specs.Prelude.{◌≡◌, ◌<◌, ◌≤◌, ◌+◌, ◌^◌, false, List, length, option_map, IfOk, OnOk};
 ghost use Rattle.gp_base.specs.declared.limits.TheConstants.{MOST_THREADS};
 ghost use Rattle.task_ast.specs.meaning.Plain.{Plain};
 ghost use Rattle.record_store.specs.Stored.{state_of};
 ghost use Rattle.subthread.specs.Tasks.{machine_of};
-ghost use Rattle.gp_resume.specs.inner.Course.{spot_place, IsSuited, Stands, StandsSomewhere, Gives};
+ghost use Rattle.gp_resume.specs.inner.Course.{spot_place, IsSuited, Gives};
+ghost use Rattle.gp_resume.specs.inner.Flights.{Flown, Flight, StandsPast};
+ghost use Rattle.gp_resume.specs.inner.Waves.{StandsSomewhere, IsFlying, GivesFirst, GivesBeside, IsClosed};
 ghost use Rattle.gp_resume.specs.inner.Turning.{start_with, settled_place, IsIssued};
 
 use crate::course::{Begun, Course, Plan, Spot, Step};
@@ -101,7 +103,9 @@ impl Course {
     pub fn next(&mut self, alloc: Global, plan: &Plan) -> Result<Step, AllocError>
         requires suits { IsSuited plan.now }
         requires stands { StandsSomewhere plan.now self.old }
-        ensures { IfOk result (λ step. (x : Plain) → Stands plan.now x self.old → Gives plan.now x step self.new) }
+        ensures gives { IfOk result (λ step. (x : Plain) → StandsPast plan.now x self.old → Gives plan.now x step self.new) }
+        ensures first { IfOk result (λ step. (x : Plain) → StandsPast plan.now x self.old → GivesFirst plan.now x step self.new) }
+        ensures closed { IfOk result (λ step. IsClosed step self.new) }
     {
         'turning: loop {
             self.ring.reserve()?;
@@ -120,6 +124,49 @@ impl Course {
                     prove!(below);
                     let begun = self.issue(alloc, plan, thread, begins, child)?;
                     return Ok(Step::Goes(begun));
+                }
+            }
+        }
+    }
+
+    /// The next subthread, which begins beside those that are out, where it is known which that is and its thread is
+    /// one of the first so many. Any other waits until those that are out have come home: a settle needs what they
+    /// leave, and so does a thread that one of them forked. The error is that memory is out; nothing is said then of
+    /// the course.
+    pub fn next_beside(
+        &mut self,
+        alloc: Global,
+        plan: &Plan,
+        threads: usize,
+    ) -> Result<Option<Begun>, AllocError>
+        requires suits { IsSuited plan.now }
+        requires flying { IsFlying plan.now threads self.old }
+        requires closed { self.old.ring.cleared ≡ false }
+        ensures gives { IfOk result (λ next. (x : Plain) (y : Plain) (fs : List Flown) → Flight plan.now threads x y fs self.old → GivesBeside plan.now threads x y fs next self.new) }
+        ensures closed { OnOk result (self.new.ring.cleared ≡ false) }
+    {
+        'turning: loop {
+            self.ring.reserve()?;
+            let Some(ahead) = self.ring.ahead() else {
+                return Ok(None);
+            };
+            if ahead.0 as usize >= threads {
+                return Ok(None);
+            }
+            match self.ring.turn() {
+                Turn::Pass => {}
+                Turn::Settles(_) => return Ok(None),
+                Turn::Needs(_) => return Ok(None),
+                Turn::Ended(_) => return Ok(None),
+                Turn::Issue {
+                    thread,
+                    begins,
+                    child,
+                } => {
+                    let below = self.issued < plan.limits.subthreads;
+                    prove!(below);
+                    let begun = self.issue(alloc, plan, thread, begins, child)?;
+                    return Ok(Some(begun));
                 }
             }
         }

@@ -1,6 +1,7 @@
 -- Runs that come off a board in the order of its desks.
-use Rattle.std.proofs.Common.{◌≡◌, ℕ, zero, suc, ◌+◌, List, [], ◌∷◌, ◌++◌, take, drop, not, cond, refl, ap, ◌∙◌, eq-eqb}
+use Rattle.std.proofs.Common.{◌≡◌, ℕ, zero, suc, ◌+◌, ◌≤◌, max, List, [], ◌∷◌, ◌++◌, take, drop, not, cond, refl, ap, ◌∙◌, eq-eqb, rules, arith}
 use Rattle.std.specs.Prelude.{Some, slice_get}
+use Rattle.std.specs.Ordering.{ord_max, nat_cmp}
 use Rattle.std.proofs.Math.Numerals.{add-one}
 use Rattle.desk_board.specs.declared.view.Hand.{Hand}
 use Rattle.desk_board.specs.Told.{without, hand_drew, hand_finished}
@@ -34,3 +35,12 @@ idle_again k before drew after draws finishes idle =
 pub share_kept : (k : ℕ) (before drew after : Hand) → drew ≡ hand_drew k before → after ≡ hand_finished k drew
     → after.share ≡ before.share
 share_kept k before drew after draws finishes = ap (λ (h : Hand). h.share) finishes ∙ ap (λ (h : Hand). h.share) draws
+
+-- and so are the passes that it is made of
+pub passes_kept : (k : ℕ) (before drew after : Hand) → drew ≡ hand_drew k before → after ≡ hand_finished k drew
+    → after.passes ≡ before.passes
+passes_kept k before drew after draws finishes = ap (λ (h : Hand). h.passes) finishes ∙ ap (λ (h : Hand). h.passes) draws
+
+-- the greater of two numbers is at most as large as what both are
+pub greater_within : (a b r most : ℕ) → r ≡ ord_max nat_cmp a b → a ≤ most → b ≤ most → r ≤ most
+greater_within a b r most is low low' = let same : ord_max nat_cmp a b ≡ max a b = search rules in omega arith

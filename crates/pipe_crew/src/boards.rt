@@ -1,5 +1,5 @@
 // Tasks that are run over boards, by threads that are started for each board and joined again.
-ghost use Rattle.std.specs.Prelude.{◌≡◌, ◌≤◌, [], length, All, IfOk};
+ghost use Rattle.std.specs.Prelude.{◌≡◌, ◌≤◌, [], length, max, All, IfOk};
 ghost use Rattle.desk_board.specs.Held.{about, book, gathered, IsClerkOf};
 ghost use Rattle.desk_board.specs.Told.{IsWhole};
 ghost use Rattle.subthread.specs.Tasks.{Fits};
@@ -43,7 +43,7 @@ fn collect(
     Ok(runs)
 }
 
-// Runs tasks over one board.
+// Runs tasks over one board. It answers the runs, and by how many passes of the board they were made.
 fn share_out<G: Gate, R: Threads + Sync>(
     rt: &R,
     alloc: Global,
@@ -52,23 +52,25 @@ fn share_out<G: Gate, R: Threads + Sync>(
     mean_steps: &MeanSteps,
     workers: u32,
     tasks: Seq<Task>,
-) -> Result<Vec<Done>, AllocError>
+) -> Result<(Vec<Done>, u32), AllocError>
     requires workers { (1 ≤ workers) × (workers ≤ 64) }
     requires few { length tasks ≤ 65536 }
     requires fits { All (Fits work.now) tasks }
-    ensures { IfOk result (λ runs. AreRuns work.now tasks runs.items) }
+    ensures runs { IfOk result (λ ran. AreRuns work.now tasks ran.0.items) }
+    ensures passes { IfOk result (λ ran. ran.1 ≤ workers) }
 {
     let (board, pass, mut clerk) = match Board::new(alloc, work, tasks) {
         Ok(made) => made,
         Err((refused, _tasks)) => return Err(refused),
     };
-    let pass = work_board(rt, alloc, &board, work, gate, mean_steps, pass, workers);
+    let (pass, passes) = work_board(rt, alloc, &board, work, gate, mean_steps, pass, workers);
     board.gather(&mut clerk, pass);
-    collect(alloc, &board, &mut clerk)
+    let runs = collect(alloc, &board, &mut clerk)?;
+    Ok((runs, passes))
 }
 
 // Runs tasks over one board, in as many threads as they are worth, at most so many; in the calling thread without a
-// board where they are worth one.
+// board where they are worth one. It answers the runs, and by how many passes or in how many threads they were made.
 fn run_some<G: Gate, R: Threads + Sync>(
     rt: &R,
     alloc: Global,
@@ -77,23 +79,25 @@ fn run_some<G: Gate, R: Threads + Sync>(
     mean_steps: &MeanSteps,
     workers: u32,
     tasks: Seq<Task>,
-) -> Result<Vec<Done>, AllocError>
+) -> Result<(Vec<Done>, u32), AllocError>
     requires few { length tasks ≤ 65536 }
     requires fits { All (Fits work.now) tasks }
-    ensures { IfOk result (λ runs. AreRuns work.now tasks runs.items) }
+    ensures runs { IfOk result (λ ran. AreRuns work.now tasks ran.0.items) }
+    ensures passes { IfOk result (λ ran. ran.1 ≤ max 1 workers) }
 {
     let worth = mean_steps.workers(tasks.as_slice(), workers.min(MOST_WORKERS));
     if worth == 1 {
         let runs = run_wave(rt, alloc, work, gate, mean_steps, 1, tasks)?;
-        return Ok(runs.into_vec());
+        return Ok((runs.into_vec(), 1));
     }
     share_out(rt, alloc, work, gate, mean_steps, worth, tasks)
 }
 
 /// Runs tasks over boards of at most 65,536 of them, the oldest first, each in at most so many threads at once (1 where
-/// that is 0, and 64 where it is more), of which each enters the gate before each of its runs, and answers the runs in
-/// the order of the tasks. A board has no more threads than its tasks are worth by the steps of the last runs: tasks
-/// that are known to be light stay in the calling thread. The error is that memory is out.
+/// that is 0, and 64 where it is more), of which each enters the gate before each of its runs. It answers the runs in
+/// the order of the tasks, and how many passes the board had that had the most: one for each of its threads, so 1 where
+/// all stayed in the calling thread. A board has no more threads than its tasks are worth by the steps of the last runs:
+/// tasks that are known to be light stay in the calling thread. The error is that memory is out.
 pub fn run_board<G: Gate, R: Threads + Sync>(
     rt: &R,
     alloc: Global,
@@ -102,21 +106,24 @@ pub fn run_board<G: Gate, R: Threads + Sync>(
     mean_steps: &MeanSteps,
     workers: u32,
     tasks: Seq<Task>,
-) -> Result<Seq<Done>, AllocError>
+) -> Result<(Seq<Done>, u32), AllocError>
     requires { All (Fits work.now) tasks }
-    ensures { IfOk result (AreRuns work.now tasks) }
+    ensures runs { IfOk result (λ ran. AreRuns work.now tasks ran.0) }
+    ensures passes { IfOk result (λ ran. ran.1 ≤ max 1 workers) }
 {
     let mut runs = Vec::new(alloc);
+    let mut most = 1;
     let mut rest = tasks.into_vec();
     while rest.len() > MOST_TASKS {
         let later = rest.split_off(MOST_TASKS)?;
         let first = Seq::from_vec(rest);
-        let mut more = run_some(rt, alloc, work, gate, mean_steps, workers, first)?;
+        let (mut more, passes) = run_some(rt, alloc, work, gate, mean_steps, workers, first)?;
         runs.append(&mut more)?;
+        most = most.max(passes);
         rest = later;
     }
     let last = Seq::from_vec(rest);
-    let mut more = run_some(rt, alloc, work, gate, mean_steps, workers, last)?;
+    let (mut more, passes) = run_some(rt, alloc, work, gate, mean_steps, workers, last)?;
     runs.append(&mut more)?;
-    Ok(Seq::from_vec(runs))
+    Ok((Seq::from_vec(runs), most.max(passes)))
 }

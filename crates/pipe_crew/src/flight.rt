@@ -1,7 +1,7 @@
 // A board whose runs come back one after another.
-ghost use Rattle.std.specs.Prelude.{◌≡◌, ◌↔◌, ◌<◌, ◌≤◌, IsTrue, true, length, All, IfOk};
+ghost use Rattle.std.specs.Prelude.{◌≡◌, ◌↔◌, ◌+◌, ◌<◌, ◌≤◌, IsTrue, true, length, All, IfOk};
 ghost use Rattle.std.specs.Arc.{arc_value};
-ghost use Rattle.desk_board.specs.Held.{about};
+ghost use Rattle.desk_board.specs.Held.{about, hand};
 ghost use Rattle.subthread.specs.Tasks.{Fits};
 ghost use Rattle.pipe_crew.specs.inner.Flights.{Stands, IsFlight, IsBack, left_in, GivesOldest};
 
@@ -39,7 +39,7 @@ pub fn launch<H: Wait>(
     requires few { length tasks ≤ 65536 }
     requires some { 0 < length tasks }
     requires fits { All (Fits (arc_value work.now)) tasks }
-    ensures flight { IfOk result (IsFlight (arc_value work.now)) }
+    ensures flight { IfOk result (IsFlight (arc_value work.now) (threads + 1)) }
     ensures left { IfOk result (λ flight. left_in flight ≡ tasks) }
 {
     let (board, mut pass, clerk) = match Board::new(alloc, &**work, tasks) {
@@ -66,6 +66,7 @@ impl Flight {
         requires some { self.old.taken < length (about (arc_value self.old.board)).jobs }
         ensures stands { Stands self.new }
         ensures board { self.new.board ≡ self.old.board }
+        ensures share { (hand self.new.pass).share ≡ (hand self.old.pass).share }
         ensures taken { self.new.taken ≡ self.old.taken }
         ensures back { result ≡ true → IsBack self.new }
     {
@@ -88,6 +89,7 @@ impl Flight {
         requires with { (about (arc_value self.old.board)).with ≡ work.now }
         ensures stands { Stands self.new }
         ensures board { self.new.board ≡ self.old.board }
+        ensures share { (hand self.new.pass).share ≡ (hand self.old.pass).share }
         ensures taken { self.new.taken ≡ self.old.taken }
         ensures back { IsBack self.new }
     {
@@ -114,6 +116,7 @@ impl Flight {
         requires with { (about (arc_value self.old.board)).with ≡ work.now }
         ensures stands { Stands self.new }
         ensures board { self.new.board ≡ self.old.board }
+        ensures share { (hand self.new.pass).share ≡ (hand self.old.pass).share }
         ensures taken { self.new.taken ≡ self.old.taken }
     {
         let Some((desk, task)) = self.board.draw(&mut self.pass) else {
@@ -132,6 +135,7 @@ impl Flight {
         requires back { IsBack self.old }
         ensures stands { Stands self.new }
         ensures board { self.new.board ≡ self.old.board }
+        ensures share { (hand self.new.pass).share ≡ (hand self.old.pass).share }
         ensures gives { GivesOldest (about (arc_value self.old.board)).with (left_in self.old) (left_in self.new) result }
     {
         if self.taken >= self.board.count() {

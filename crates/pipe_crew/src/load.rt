@@ -1,6 +1,7 @@
 // How much work waits with a crew.
 
-use crew::worth;
+use crew::{MeanSteps, worth};
+use subthread::Task;
 
 /// How many steps the tasks that wait were reckoned to make together when they were posted, and the longest of them. No
 /// clause rests on it: it says how many threads they are worth.
@@ -26,6 +27,18 @@ impl Load {
     pub fn take(&mut self, steps: u64) {
         self.sum = self.sum.saturating_sub(steps);
         self.longest = self.longest.min(self.sum);
+    }
+
+    /// What is left where these tasks wait no longer, and so many still do.
+    pub fn without(self, mean_steps: &MeanSteps, gone: &[Task], waiting: usize) -> Load {
+        if waiting == 0 {
+            return Load::none();
+        }
+        let mut left = self;
+        for task in gone {
+            left.take(mean_steps.reckoned(task));
+        }
+        left
     }
 
     /// How many threads the tasks are worth beside one that takes the longest.

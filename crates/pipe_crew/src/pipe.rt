@@ -1,11 +1,11 @@
 // A crew of lasting threads.
-ghost use Rattle.std.specs.Prelude.{◌≡◌, ◌++◌, ◌<◌, ◌≤◌, ◌↔◌, [], ◌∷◌, length, false, true, None, All, IsNone, IfOk, OnOk, OnErr, IfSome, IfNone};
+ghost use Rattle.std.specs.Prelude.{◌≡◌, ◌+◌, ◌++◌, ◌<◌, ◌≤◌, ◌↔◌, [], ◌∷◌, length, max, false, true, None, All, IsNone, IfOk, OnOk, OnErr, IfSome, IfNone};
 ghost use Rattle.std.specs.List.{flat_map};
 ghost use Rattle.std.specs.Arc.{arc_value};
-ghost use Rattle.desk_board.specs.Held.{about};
+ghost use Rattle.desk_board.specs.Held.{about, hand};
 ghost use Rattle.subthread.specs.Tasks.{Fits, IsRun, task_of};
 ghost use Rattle.crew.specs.Out.{TakesOut};
-ghost use Rattle.pipe_crew.specs.inner.Flights.{Stands, IsFlight, IsBack, left_in};
+ghost use Rattle.pipe_crew.specs.inner.Flights.{Stands, IsFlight, IsBack, left_in, passes_of};
 ghost use Rattle.pipe_crew.specs.inner.Flying.{AreFlying, left_all, KeepsPosts};
 
 use crate::crossing::{sent, shared};
@@ -46,7 +46,7 @@ pub struct PipeCrew<'a, H, G> {
     ghost same: { inbox.work ≡ arc_value work.now },
     load: Load,
     to: Sender<Message<Task>>,
-    // how many were started
+    // how many were started: a board has at most so many passes beside that of the calling thread
     threads: usize,
     // the board whose runs are handed back, and those that were launched after it, oldest first
     first: Option<Flight>,
@@ -87,8 +87,9 @@ impl<
     H: Threads + Wait + Clone + Send + Sync + Drop + 'static,
     G: Gate + Send + Drop + 'static,
 > PipeCrew<'a, H, G> {
-    /// A crew to which nothing was posted, with one lasting thread less than workers (64 where that is more). A thread
-    /// that can't be started is missed by nobody: the others do its work. The error is that memory is out.
+    /// A crew to which nothing was posted, with one lasting thread less than workers (64 where that is more), so a board
+    /// of it has at most as many passes as workers, that of the calling thread among them. A thread that can't be
+    /// started is missed by nobody: the others do its work. The error is that memory is out.
     pub fn new(
         alloc: Global,
         rt: H,
@@ -101,11 +102,12 @@ impl<
         ensures out { IfOk result (λ c. ⟦<PipeCrew<'a, H, G> as Crew>⟧.out c ≡ []) }
         ensures posted { IfOk result (λ c. ⟦<PipeCrew<'a, H, G> as Crew>⟧.posted c ≡ []) }
         ensures failed { IfOk result (λ c. ⟦<PipeCrew<'a, H, G> as Crew>⟧.failed c ≡ false) }
+        ensures passes { IfOk result (λ c. c.threads + 1 ≤ max 1 workers) }
     {
         let (to, from) = crossbeam_channel::unbounded(alloc)?;
         let mean_steps = Arc::new(alloc, MeanSteps::new(alloc, work))?;
         let mut threads = 0usize;
-        for _ in 1..workers.min(MOST_WORKERS) {
+        for _started in 1..workers.min(MOST_WORKERS) {
             if start(&rt, alloc, gate, &mean_steps, &from)? {
                 threads = threads.saturating_add(1);
             }
@@ -132,6 +134,7 @@ impl<'a, H: Wait, G: Enter> PipeCrew<'a, H, G> {
     fn helpers(&self, worth: u64, most: usize) -> u32
         ensures few { result ≤ 63 }
         ensures most { result ≤ most }
+        ensures threads { result ≤ self.now.threads }
     {
         let idle = self.threads.saturating_sub(self.to.len());
         let most = most.min(idle).min(MOST_WORKERS as usize - 1);
@@ -140,17 +143,20 @@ impl<'a, H: Wait, G: Enter> PipeCrew<'a, H, G> {
 
     // Puts the oldest tasks that wait on a board, which so many threads work beside this one.
     fn launch(&mut self, helpers: u32) -> Result<Flight, AllocError>
-        requires helpers { helpers ≤ 63 }
+        requires helpers { (helpers ≤ 63) × (helpers ≤ self.old.threads) }
         requires some { 0 < length self.old.inbox.out }
-        ensures flight { IfOk result (IsFlight self.old.inbox.work) }
+        ensures flight { IfOk result (IsFlight self.old.inbox.work (self.old.threads + 1)) }
         ensures out { IfOk result (λ flight. self.old.inbox.out ≡ left_in flight ++ self.new.inbox.out) }
         ensures boards { (self.new.first ≡ self.old.first) × (self.new.behind ≡ self.old.behind) }
         ensures posts { KeepsPosts self.old.inbox self.new.inbox }
+        ensures threads { self.new.threads ≡ self.old.threads }
         ensures open { OnOk result (self.new.inbox.failed ≡ self.old.inbox.failed) }
         ensures fails { OnErr result (self.new.inbox.failed ≡ true) }
     {
         let tasks = self.inbox.oldest(MOST_TASKS)?;
-        self.load = Load::none();
+        self.load = self
+            .load
+            .without(&self.mean_steps, tasks.as_slice(), self.inbox.len());
         match launch(&self.rt, self.alloc, &self.to, self.work, helpers, tasks) {
             Ok(flight) => Ok(flight),
             Err(_) => {
@@ -162,11 +168,12 @@ impl<'a, H: Wait, G: Enter> PipeCrew<'a, H, G> {
 
     // Puts the tasks that wait on a board behind the others, where they are worth it.
     fn follow(&mut self) -> Result<(), AllocError>
-        requires fly { All (IsFlight self.old.inbox.work) self.old.behind.items }
-        ensures fly { All (IsFlight self.new.inbox.work) self.new.behind.items }
+        requires fly { All (IsFlight self.old.inbox.work (self.old.threads + 1)) self.old.behind.items }
+        ensures fly { All (IsFlight self.new.inbox.work (self.new.threads + 1)) self.new.behind.items }
         ensures out { OnOk result (flat_map left_in self.new.behind.items ++ self.new.inbox.out ≡ flat_map left_in self.old.behind.items ++ self.old.inbox.out) }
         ensures first { self.new.first ≡ self.old.first }
         ensures posts { KeepsPosts self.old.inbox self.new.inbox }
+        ensures threads { self.new.threads ≡ self.old.threads }
         ensures open { OnOk result (self.new.inbox.failed ≡ self.old.inbox.failed) }
         ensures fails { OnErr result (self.new.inbox.failed ≡ true) }
     {
@@ -189,6 +196,7 @@ impl<'a, H: Wait, G: Enter> PipeCrew<'a, H, G> {
         ensures run { IfOk result (IsRun self.old.inbox.work) }
         ensures boards { (self.new.first ≡ self.old.first) × (self.new.behind ≡ self.old.behind) }
         ensures inbox { OnOk result (self.new.inbox ≡ self.old.inbox) }
+        ensures threads { self.new.threads ≡ self.old.threads }
         ensures fails { OnErr result (self.new.inbox ≡ record self.old.inbox { failed = true }) }
     {
         match run_noted(self.alloc, self.work, &self.mean_steps, task) {
@@ -205,6 +213,7 @@ impl<'a, H: Wait, G: Enter> PipeCrew<'a, H, G> {
     fn run_oldest(&mut self) -> Result<Option<Done>, AllocError>
         ensures boards { (self.new.first ≡ self.old.first) × (self.new.behind ≡ self.old.behind) }
         ensures posts { KeepsPosts self.old.inbox self.new.inbox }
+        ensures threads { self.new.threads ≡ self.old.threads }
         ensures idle { IfOk result (λ done. IsNone done ↔ (self.old.inbox.out ≡ [])) }
         ensures empty { IfOk result (λ done. IfNone done (self.new.inbox.out ≡ [])) }
         ensures taken { IfOk result (λ done. IfSome done (λ run. TakesOut self.old.inbox.out (task_of self.old.inbox.work run) self.new.inbox.out)) }
@@ -224,16 +233,18 @@ impl<'a, H: Wait, G: Enter> PipeCrew<'a, H, G> {
 
     // Waits until the oldest run of a board is back, and works meanwhile.
     fn bring_back(&mut self, flight: &mut Flight) -> Result<(), AllocError>
-        requires flight { IsFlight self.old.inbox.work flight.old }
-        requires fly { All (IsFlight self.old.inbox.work) self.old.behind.items }
+        requires flight { IsFlight self.old.inbox.work (self.old.threads + 1) flight.old }
+        requires fly { All (IsFlight self.old.inbox.work (self.old.threads + 1)) self.old.behind.items }
         ensures stands { Stands flight.new }
         ensures board { flight.new.board ≡ flight.old.board }
+        ensures share { (hand flight.new.pass).share ≡ (hand flight.old.pass).share }
         ensures taken { flight.new.taken ≡ flight.old.taken }
         ensures back { OnOk result (IsBack flight.new) }
         ensures first { self.new.first ≡ self.old.first }
-        ensures fly { All (IsFlight self.new.inbox.work) self.new.behind.items }
+        ensures fly { All (IsFlight self.new.inbox.work (self.new.threads + 1)) self.new.behind.items }
         ensures out { OnOk result (flat_map left_in self.new.behind.items ++ self.new.inbox.out ≡ flat_map left_in self.old.behind.items ++ self.old.inbox.out) }
         ensures posts { KeepsPosts self.old.inbox self.new.inbox }
+        ensures threads { self.new.threads ≡ self.old.threads }
         ensures open { OnOk result (self.new.inbox.failed ≡ self.old.inbox.failed) }
         ensures fails { OnErr result (self.new.inbox.failed ≡ true) }
     {
@@ -250,9 +261,11 @@ impl<'a, H: Wait, G: Enter> PipeCrew<'a, H, G> {
     fn put_first(&mut self, flight: Flight)
         requires stands { Stands flight }
         requires with { (about (arc_value flight.board)).with ≡ self.old.inbox.work }
-        requires fly { All (IsFlight self.old.inbox.work) self.old.behind.items }
-        ensures fly { AreFlying self.new.inbox.work self.new.inbox.failed self.new.first self.new.behind.items }
+        requires few { passes_of flight ≤ self.old.threads + 1 }
+        requires fly { All (IsFlight self.old.inbox.work (self.old.threads + 1)) self.old.behind.items }
+        ensures fly { AreFlying self.new.inbox.work (self.new.threads + 1) self.new.inbox.failed self.new.first self.new.behind.items }
         ensures inbox { self.new.inbox ≡ self.old.inbox }
+        ensures threads { self.new.threads ≡ self.old.threads }
         ensures out { left_all self.new.first self.new.behind.items ≡ left_in flight ++ flat_map left_in self.old.behind.items }
     {
         if flight.is_used_up() {
@@ -265,11 +278,12 @@ impl<'a, H: Wait, G: Enter> PipeCrew<'a, H, G> {
 
     // Takes the oldest run off the first board.
     fn land(&mut self, flight: Flight) -> Result<Done, AllocError>
-        requires flight { IsFlight self.old.inbox.work flight }
-        requires fly { All (IsFlight self.old.inbox.work) self.old.behind.items }
+        requires flight { IsFlight self.old.inbox.work (self.old.threads + 1) flight }
+        requires fly { All (IsFlight self.old.inbox.work (self.old.threads + 1)) self.old.behind.items }
         requires none { self.old.first ≡ None }
-        ensures fly { AreFlying self.new.inbox.work self.new.inbox.failed self.new.first self.new.behind.items }
+        ensures fly { AreFlying self.new.inbox.work (self.new.threads + 1) self.new.inbox.failed self.new.first self.new.behind.items }
         ensures posts { KeepsPosts self.old.inbox self.new.inbox }
+        ensures threads { self.new.threads ≡ self.old.threads }
         ensures taken { IfOk result (λ run. left_in flight ++ (flat_map left_in self.old.behind.items ++ self.old.inbox.out) ≡ task_of self.old.inbox.work run ∷ (left_all self.new.first self.new.behind.items ++ self.new.inbox.out)) }
         ensures run { IfOk result (IsRun self.old.inbox.work) }
         ensures open { OnOk result (self.new.inbox.failed ≡ self.old.inbox.failed) }
@@ -299,7 +313,7 @@ impl<'a, H: Wait, G: Enter> Crew for PipeCrew<'a, H, G> {
 
     ghost failed = { λ c. c.inbox.failed };
 
-    ghost ready = { λ c. AreFlying c.inbox.work c.inbox.failed c.first c.behind.items };
+    ghost ready = { λ c. AreFlying c.inbox.work (c.threads + 1) c.inbox.failed c.first c.behind.items };
 
     fn post<R: Threads + Sync>(&mut self, _rt: &R, task: Task) -> Result<(), AllocFailed<Task>> {
         let steps = self.mean_steps.reckoned(&task);

@@ -10,6 +10,7 @@ use Rattle.std.proofs.lemmas.List.Elements.{Contains-append_left, Contains-appen
 use Rattle.gp_base.specs.meaning.Files.{bytes_of}
 use Rattle.gp_base.specs.declared.limits.TheConstants.{MOST_FILE_BYTES}
 use Rattle.task_ast.specs.meaning.Tree.{Name, Program}
+use Rattle.retirement_log.specs.meaning.Rows.{Retirement}
 use Rattle.gp_resume.specs.meaning.Reading.{LogAnswer, Rows, Broken, Unfit}
 use Rattle.command_line.specs.meaning.ResumeWords.{resumed_by}
 use Rattle.command_line.specs.declared.resume_words.Resumed.{Resumed}
@@ -128,6 +129,13 @@ module _ (reader : Reader) (resumed : Resumed) where
         (within_file text told.1)
         (subst (λ bytes. IsCaseOf (asking reader) resumed files (logged_case (by_log reader names resumed.log work bytes))) told.0
         (case_after names work is))
+
+    -- and where that comes to rows, they are what there is to go on from
+    pub rows_case : (names : List Name) (work : ToDo) (text : List ℕ) (rows : List Retirement) → IsCaseOf run.asking resumed.run files (Go names work)
+        → AnswersFile resumed.log (bytes_of files resumed.log) (Ok text) → answer_for reader work text ≡ Rows rows
+        → IsCaseOf (asking reader) resumed files (Go (names ++ resumed.log ∷ []) (record { work = work; rows = rows }))
+    rows_case names work text rows is told answer =
+        subst (λ a. IsCaseOf (asking reader) resumed files (logged_case (by_answer names resumed.log work a))) answer (text_case names work text is told)
 
     long_case : (names : List Name) (work : ToDo) (bytes : Option (List ℕ))
         → IsCaseOf (asking reader) resumed files (logged_case (by_log reader names resumed.log work bytes))

@@ -18,12 +18,12 @@ use Rattle.call_cases.specs.meaning.RunCommands.{work_text}
 use Rattle.resume_calls.specs.meaning.Laws.{JoinedTextLaw}
 
 -- the first bytes and those after them are all
-cut_joined : (before text all : List ℕ) → before ++ text ≡ all → take (length before) all ++ text ≡ all
+pub cut_joined : (before text all : List ℕ) → before ++ text ≡ all → take (length before) all ++ text ≡ all
 cut_joined before text all same =
     ap (λ t. take (length before) t ++ text) (sym same) ∙ ap (λ t. t ++ text) (take-append_seam before text) ∙ same
 
 -- the text of the run of one thread
-same_text : (work : ToDo) → text_of_one work.program work.inputs work.limits ≡ work_text One work
+pub same_text : (work : ToDo) → text_of_one work.program work.inputs work.limits ≡ work_text One work
 unfolding plain_ran
 same_text work = refl
 

@@ -2,3 +2,4 @@ pub mod Cells
 pub mod LogRows
 pub mod Placed
 pub mod Told
+pub mod WideNumbers

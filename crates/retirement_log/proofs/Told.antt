@@ -1,24 +1,27 @@
 -- What notes tell as results are noted and positions retire. A position has its row at its distance from the next one;
 -- a result puts one row there and leaves the others; the next position takes the first row out, so that each other
 -- comes one place nearer; and the log grows by that row.
-use Rattle.std.proofs.Common.{◌≡◌, ◌≢◌, ℕ, zero, suc, ◌+◌, ◌-◌, ◌<◌, ◌≤◌, List, [], ◌∷◌, ◌++◌, length}
+use Rattle.std.proofs.Common.{◌≡◌, ◌≢◌, ℕ, zero, suc, ◌+◌, ◌-◌, ◌<◌, ◌≤◌, ◌^◌, inl, inr, List, [], ◌∷◌, ◌++◌, length}
 use Rattle.std.proofs.Common.{take, refl, sym, ap, ◌∙◌, subst, arith, length-append, append-nil, cond, true, false, Bool}
-use Rattle.std.specs.Prelude.{pos, codes, sum_by, nat_eq, slice_get, Option, Some, None, MatchOption}
+use Rattle.std.specs.Prelude.{pos, All, codes, flat_map, sum_by, nat_eq, slice_get, Option, Some, None, MatchOption}
 use Rattle.std.proofs.lemmas.Option.{slice_get_within}
-use Rattle.std.proofs.lemmas.Bool.{eq-eqb, eqb-true}
+use Rattle.std.proofs.lemmas.Bool.{eq-eqb, eqb-true, cases_lt}
+use Rattle.std.proofs.lemmas.List.{take_all, take-append-le}
+use Rattle.std.proofs.lemmas.List.Elements.{All-push, All-take}
 use Rattle.std.proofs.lemmas.List.Sums.{sum_by_push, sum_by-cons}
 use Rattle.std.proofs.lemmas.Grind.{flat_map-append}
 use Rattle.std.proofs.Math.Seq.{take-append_seam, take-append-add}
 use Rattle.std.specs.Fmt.{signed_decimal}
 use Rattle.std.specs.Io.KnownBytes.{Appends}
 use Rattle.gp_base.specs.meaning.Sinks.{AppendsPrefix}
-use Rattle.gp_base.proofs.Written.{Appends-append, prefix_none}
+use Rattle.std.proofs.KnownBytes.{Appends-nil}
+use Rattle.gp_base.proofs.Written.{Appends-append}
 use Rattle.task_ast.specs.declared.effect.Effect.{Effect}
 use Rattle.crew.specs.Noted.{with_left, NotesResult, NotesNothing, NotesRetired, NotesPart}
 use Rattle.retirement_log.specs.declared.notes.Pending.{Pending}
 use Rattle.retirement_log.specs.declared.notes.LogNotes.{LogNotes}
-use Rattle.retirement_log.specs.meaning.Rows.{row_text, log_text}
-use Rattle.retirement_log.specs.meaning.Log.{log_row, size_of, rows_from, log_told}
+use Rattle.retirement_log.specs.meaning.Rows.{Retirement, IsWideRow, group, cell_numbers, groups_text, row_text, log_text}
+use Rattle.retirement_log.specs.meaning.Log.{log_row, size_of, rows_from, log_rows, log_told}
 use Rattle.retirement_log.specs.meaning.Telling.{TellsPart}
 use Rattle.retirement_log.specs.Telling.{IsPending, KeepsRows, KeepsOthers, LacksFirst, Tells}
 
@@ -71,6 +74,7 @@ pub kept_all : (before after : LogNotes) → after.next ≡ before.next → afte
     → NotesNothing (Tells before) (Tells after)
 kept_all before after next bytes kept start written left told tells = record {
   log = tells.log;
+  wide = tells.wide;
   bytes = bytes ∙ tells.bytes;
   next = next ∙ tells.next;
   rows = λ q f behind is.
@@ -83,6 +87,7 @@ kept_all before after next bytes kept start written left told tells = record {
 pub noted_late : (notes : LogNotes) (p : ℕ) (e : Effect) → p < notes.next → NotesResult (Tells notes) (Tells notes) p e
 noted_late notes p e late start written left told tells = record {
   log = tells.log;
+  wide = tells.wide;
   bytes = tells.bytes;
   next = tells.next;
   rows = λ q f behind is.
@@ -98,6 +103,7 @@ pub noted : (before after : LogNotes) (p : ℕ) (e : Effect) (row : Pending) →
     → NotesResult (Tells before) (Tells after) p e
 noted before after p e row ahead next bytes pending put kept start written left told tells = record {
   log = tells.log;
+  wide = tells.wide;
   bytes = bytes ∙ tells.bytes;
   next = next ∙ tells.next;
   rows =
@@ -137,6 +143,13 @@ rows_more p b (f ∷ told) e =
     ap (λ rows. log_row p (b + size_of f) f ∷ rows)
     (rows_more (suc p) (b + size_of f) told e
     ∙ (λ i. rows_from (suc p) (b + size_of f) told ++ log_row (at i) (sum i) e ∷ []))
+
+-- a row has bytes
+row_some : (row : Retirement) → 0 < length (row_text row)
+row_some row =
+    let parts = length-append (signed_decimal row.position ++ codes " " ++ signed_decimal row.bytes) (groups_text row) in
+    let groups = length-append (group row.regs ++ group row.child ++ group (flat_map cell_numbers row.cells)) (codes "\n") in
+    grind (arith, parts, groups)
 
 -- its row is the last of the log
 pub log_more : (told : List Effect) (e : Effect)
@@ -187,23 +200,43 @@ log_grows : (told : List Effect) (e : Effect) (row : Pending) (p before bytes : 
     → bytes ≡ before + row.size → IsPending (Some (Some row)) e
     → log_told (told ++ e ∷ []) ≡ log_told told ++ parts_text p bytes row.groups.items
 log_grows told e row p before bytes at so_far sum pending =
-    let size : row.size ≡ size_of e = pending.1 in
+    let size = pending.size in
     let all : length (codes "output\n") + sum_by size_of told + size_of e ≡ bytes = omega arith in
-    log_more told e ∙ (λ i. log_told told ++ parts_text (sym at i) (all i) (sym pending.0 i))
+    log_more told e ∙ (λ i. log_told told ++ parts_text (sym at i) (all i) (sym pending.groups i))
+
+-- the numbers of the log are of 64 bits still
+wide_grows : (told : List Effect) (e : Effect) (row : Pending) (p before bytes : ℕ) → p ≡ length told
+    → before ≡ length (codes "output\n") + sum_by size_of told
+    → bytes ≡ before + row.size → p < 2 ^ 63 → bytes < 2 ^ 63 → IsPending (Some (Some row)) e → All IsWideRow (log_rows told)
+    → All IsWideRow (log_rows (told ++ e ∷ []))
+wide_grows told e row p before bytes at so_far sum low few pending wide =
+    let size = pending.size in
+    let last = log_row (0 + length told) (length (codes "output\n") + sum_by size_of told + size_of e) e in
+    let own : IsWideRow last =
+    record {
+      position = omega (arith, at, low);
+      bytes = omega (arith, so_far, sum, size, few);
+      regs = pending.wide.regs;
+      child = pending.wide.child;
+      cells = pending.wide.cells;
+    }
+    in
+    subst (All IsWideRow) (sym (rows_more 0 (length (codes "output\n")) told e)) (All-push IsWideRow (log_rows told) last wide own)
 
 -- a position was told
 pub told_one : (before after : LogNotes) (row : Pending) (p : ℕ) (written later : Option (List ℕ))
     → before.rows.items ≡ Some row ∷ after.rows.items
-    → after.next ≡ before.next + 1 → after.bytes ≡ before.bytes + row.size
+    → after.next ≡ before.next + 1 → after.bytes ≡ before.bytes + row.size → p < 2 ^ 63 → after.bytes < 2 ^ 63
     → Appends written later (parts_text p after.bytes row.groups.items)
     → NotesRetired (Tells before) (Tells after) written later p
-told_one before after row p written later is next bytes out start left told e tells at left_is =
+told_one before after row p written later is next bytes low few out start left told e tells at left_is =
     let pending = first_pending before (Some row) after.rows.items p e is tells at left_is in
     record {
       log = subst (Appends start later) (sym (log_grows told e row p before.bytes after.bytes at tells.bytes bytes pending))
           (Appends-append start written later (log_told told) (parts_text p after.bytes row.groups.items) tells.log out);
+      wide = wide_grows told e row p before.bytes after.bytes at tells.bytes bytes low few pending tells.wide;
       bytes =
-          (let all = sum_by_push size_of told e in let so_far = tells.bytes in let size : row.size ≡ size_of e = pending.1 in omega arith);
+          (let all = sum_by_push size_of told e in let so_far = tells.bytes in let size = pending.size in omega arith);
       next = (let count = length-append told (e ∷ []) in let so_far = tells.next in omega arith);
       rows = λ q f behind there.
           let ahead : before.next ≤ q = omega arith in
@@ -222,32 +255,68 @@ front_is told e =
     let front : length (told ++ e ∷ []) - 1 ≡ length told = omega arith in
     ap (λ n. take n (told ++ e ∷ [])) front ∙ take-append_seam told (e ∷ [])
 
+-- the rows of the first of these positions are the first of their rows
+pub rows_first : (p b n : ℕ) (told : List Effect) → rows_from p b (take n told) ≡ take n (rows_from p b told)
+rows_first p b zero told = refl
+rows_first p b (suc n) [] = refl
+rows_first p b (suc n) (e ∷ told) = ap (λ rows. log_row p (b + size_of e) e ∷ rows) (rows_first (suc p) (b + size_of e) n told)
+
+-- and so their numbers are of 64 bits where all are
+pub wide_first : (n : ℕ) (told : List Effect) → All IsWideRow (log_rows told) → All IsWideRow (log_rows (take n told))
+wide_first n told wide =
+    subst (All IsWideRow) (sym (rows_first 0 (length (codes "output\n")) n told)) (All-take IsWideRow n (log_rows told) wide)
+
 -- a part of the text by which the log grows
 part_out : (told : List Effect) (e : Effect) (text : List ℕ) (start written later : Option (List ℕ))
     → log_told (told ++ e ∷ []) ≡ log_told told ++ text
-    → Appends start written (log_told told) → AppendsPrefix written later text → TellsPart start later (told ++ e ∷ [])
-part_out told e text start written later grows all (n, taken) =
-    let front = ap (λ effects. length (log_told effects)) (front_is told e) in (
-      length (log_told told) + n,
-      omega arith,
-      subst (Appends start later) (sym (ap (take (length (log_told told) + n)) grows ∙ take-append-add (log_told told) text n))
-          (Appends-append start written later (log_told told) (take n text) all taken),
-    )
+    → Appends start written (log_told told) → (out : AppendsPrefix written later text)
+    → ((n : ℕ) → length (log_told (take n (told ++ e ∷ []))) ≤ length (log_told told) + out.0
+    → All IsWideRow (log_rows (take n (told ++ e ∷ []))))
+    → TellsPart start later (told ++ e ∷ [])
+part_out told e text start written later grows all (n, taken) wide =
+    let front = ap (λ effects. length (log_told effects)) (front_is told e) in
+    record {
+      part = length (log_told told) + n;
+      most = omega arith;
+      taken =
+          subst (Appends start later) (sym (ap (take (length (log_told told) + n)) grows ∙ take-append-add (log_told told) text n))
+          (Appends-append start written later (log_told told) (take n text) all taken);
+      wide = wide;
+    }
+
+-- fewer bytes than all of its row were told of a position, so it is none of those that were told whole
+none_whole : (told : List Effect) (e : Effect) → All IsWideRow (log_rows told) → (n : ℕ)
+    → length (log_told (take n (told ++ e ∷ []))) ≤ length (log_told told) → All IsWideRow (log_rows (take n (told ++ e ∷ [])))
+none_whole told e wide n few =
+    elim (cases_lt (length told) n) [
+      | inl more ↦
+          let count = length-append told (e ∷ []) in
+          let whole = ap (λ effects. length (log_told effects)) (take_all n (told ++ e ∷ []) (omega (arith, count, more))) in
+          let grown = ap length (log_more told e) in
+          let last = row_text (log_row (length told) (length (codes "output\n") + sum_by size_of told + size_of e) e) in
+          let parts = length-append (log_told told) last in
+          let some = row_some (log_row (length told) (length (codes "output\n") + sum_by size_of told + size_of e) e) in
+          absurd (omega (arith, few, whole, grown, parts, some))
+      | inr within ↦
+          subst (λ effects. All IsWideRow (log_rows effects)) (sym (take-append-le n told (e ∷ []) within)) (wide_first n told wide)
+    ]
 
 -- a position was told in part
 pub told_part : (before : LogNotes) (row : Pending) (rest : List (Option Pending)) (p bytes : ℕ) (written later : Option (List ℕ))
     → before.rows.items ≡ Some row ∷ rest
-    → bytes ≡ before.bytes + row.size → AppendsPrefix written later (parts_text p bytes row.groups.items)
+    → bytes ≡ before.bytes + row.size → p < 2 ^ 63 → bytes < 2 ^ 63 → AppendsPrefix written later (parts_text p bytes row.groups.items)
     → NotesPart (Tells before) TellsPart written later p
-told_part before row rest p bytes written later is sum out start left told e tells at left_is =
+told_part before row rest p bytes written later is sum low few out start left told e tells at left_is =
+    let pending = first_pending before (Some row) rest p e is tells at left_is in
+    let wide = wide_grows told e row p before.bytes bytes at tells.bytes sum low few pending tells.wide in
     part_out told e (parts_text p bytes row.groups.items) start written later
-    (log_grows told e row p before.bytes bytes at tells.bytes sum (first_pending before (Some row) rest p e is tells at left_is)) tells.log
-    out
+    (log_grows told e row p before.bytes bytes at tells.bytes sum pending) tells.log out (λ n whole. wide_first n (told ++ e ∷ []) wide)
 
 -- nothing was told of it
 pub told_nothing : (before : LogNotes) (p : ℕ) (written : Option (List ℕ)) → NotesPart (Tells before) TellsPart written written p
 told_nothing before p written start left told e tells at left_is =
-    part_out told e _ start written written (log_more told e) tells.log (prefix_none written _)
+    part_out told e _ start written written (log_more told e) tells.log (0, Appends-nil written)
+    (λ n whole. none_whole told e tells.wide n (omega (arith, whole)))
 
 -- of a position of which nothing was noted anything is right
 pub told_unnoted : (before after : LogNotes) (p : ℕ) (written later : Option (List ℕ)) → LacksFirst before.rows.items

@@ -1,8 +1,8 @@
 // Notes that keep a log.
-ghost use Rattle.std.specs.Prelude.{◌≡◌, ◌≢◌, ◌≤◌, ◌<◌, ℕ, List, [], ◌∷◌, length, slice_get, Option, Some, None, IfOk, OnOk, MatchOption};
+ghost use Rattle.std.specs.Prelude.{◌≡◌, ◌≢◌, ◌≤◌, ◌<◌, ◌+◌, ◌^◌, ℕ, List, [], ◌∷◌, length, slice_get, Option, Some, None, IfOk, IfSome, OnOk, MatchOption};
 ghost use Rattle.subthread.specs.Tasks.{effect_of};
 ghost use Rattle.retirement_log.specs.meaning.Telling.{TellsPart};
-ghost use Rattle.retirement_log.specs.Telling.{IsPending, Tells, KeepsRows, KeepsOthers, LacksFirst};
+ghost use Rattle.retirement_log.specs.Telling.{IsRowOf, Tells, KeepsRows, KeepsOthers, LacksFirst};
 
 use crate::rows::{groups_of, row_with};
 use crew::Notes;
@@ -61,7 +61,7 @@ fn take_first(rows: &mut VecDeque<Option<Pending>>) -> Option<Pending>
 
 // The row of a run. The error is that memory is out.
 fn pending_of(alloc: Global, work: &Work, done: &Done) -> Result<Pending, AllocError>
-    ensures { IfOk result (λ row. IsPending (Some (Some row)) (effect_of work.now done.now)) }
+    ensures { IfOk result (λ row. IsRowOf row (effect_of work.now done.now)) }
 {
     let groups = groups_of(alloc, work, done)?;
     let lines = printed(alloc, &done.effect.prints)?;
@@ -69,6 +69,18 @@ fn pending_of(alloc: Global, work: &Work, done: &Done) -> Result<Pending, AllocE
         groups,
         size: lines.len() as u64,
     })
+}
+
+// How many bytes two parts of a text have together, where a row can say so.
+fn together(first: u64, second: u64) -> Option<u64>
+    ensures sum { IfSome result (λ sum. sum ≡ first + second) }
+    ensures wide { IfSome result (λ sum. sum < 2 ^ 63) }
+{
+    let sum = first.checked_add(second)?;
+    if sum > i64::MAX as u64 {
+        return None;
+    }
+    Some(sum)
 }
 
 impl LogNotes {
@@ -105,7 +117,7 @@ impl Notes for LogNotes {
         let Some(row) = take_first(&mut self.rows) else {
             return Ok(());
         };
-        let (Some(next), Some(bytes)) = (self.next.checked_add(1), self.bytes.checked_add(row.size))
+        let (Some(next), Some(bytes)) = (self.next.checked_add(1), together(self.bytes, row.size))
         else {
             return Err(SinkFault::OutOfMemory);
         };

@@ -1,12 +1,12 @@
 // The rows of a log, as bytes.
-ghost use Rattle.std.specs.Prelude.{◌≡◌, ℤ, pos, ◌++◌, codes, map, flat_map, unwrap_or, IfOk, OnOk};
+ghost use Rattle.std.specs.Prelude.{◌≡◌, ℤ, pos, ◌++◌, All, codes, map, flat_map, unwrap_or, IfOk, OnOk};
 ghost use Rattle.std.specs.Fmt.{signed_decimal};
 ghost use Rattle.task_ast.specs.meaning.Under.{under_lock};
 ghost use Rattle.record_store.specs.Given.{value_beside, value_in};
 ghost use Rattle.record_store.specs.Lent.{new_write};
 ghost use Rattle.subthread.specs.Tasks.{effect_of};
 ghost use Rattle.restart_log.specs.meaning.Lines.{spaced};
-ghost use Rattle.retirement_log.specs.meaning.Rows.{group, cell_numbers, groups_text};
+ghost use Rattle.retirement_log.specs.meaning.Rows.{IsWide, IsWideCell, IsWideRow, group, cell_numbers, groups_text};
 ghost use Rattle.retirement_log.specs.meaning.Log.{child_left, numbered, log_row};
 
 use gp_base::{LockNo, Nums, RecNo, Seq, ThreadNo};
@@ -52,17 +52,29 @@ fn value_in(under: &[Seq<RecNo>], bundles: &[Bundle], cell: RecNo) -> i64
     0
 }
 
+// Each of these numbers is of 64 bits, as its type has it: a fact for contracts, which takes no time.
+fn are_wide(values: &[i64])
+    ensures { All IsWide values.now }
+{
+    for value in values {
+        let _value = *value;
+    }
+}
+
 // Appends a group of numbers.
 fn push_group(text: &mut Vec<u8>, values: &[i64]) -> Result<(), AllocError>
-    ensures { OnOk result (text.new.items ≡ text.old.items ++ group values.now) }
+    ensures text { OnOk result (text.new.items ≡ text.old.items ++ group values.now) }
+    ensures wide { All IsWide values.now }
 {
+    are_wide(values);
     text.extend_from_slice(b" ;")?;
     push_spaced(text, values)
 }
 
 // Appends the group of the registers of a child, which is empty where there is no child.
 fn push_child(text: &mut Vec<u8>, child: &Option<(ThreadNo, Nums)>) -> Result<(), AllocError>
-    ensures { OnOk result (text.new.items ≡ text.old.items ++ group (child_left child.now)) }
+    ensures text { OnOk result (text.new.items ≡ text.old.items ++ group (child_left child.now)) }
+    ensures wide { All IsWide (child_left child.now) }
 {
     match child {
         Some(forked) => push_group(text, forked.1.as_slice()),
@@ -72,7 +84,8 @@ fn push_child(text: &mut Vec<u8>, child: &Option<(ThreadNo, Nums)>) -> Result<()
 
 // Appends a cell and its value, each behind a space.
 fn push_cell(text: &mut Vec<u8>, cell: RecNo, value: i64) -> Result<(), AllocError>
-    ensures { OnOk result (text.new.items ≡ text.old.items ++ spaced (cell_numbers (numbered (cell, value)))) }
+    ensures text { OnOk result (text.new.items ≡ text.old.items ++ spaced (cell_numbers (numbered (cell, value)))) }
+    ensures wide { IsWideCell (numbered (cell, value)) }
 {
     text.extend_from_slice(b" ")?;
     push_number(text, cell.0)?;
@@ -87,7 +100,8 @@ fn push_cells(
     bundles: &[Bundle],
     old: &[(RecNo, i64)],
 ) -> Result<(), AllocError>
-    ensures { OnOk result (text.new.items ≡ text.old.items ++ group (flat_map cell_numbers (map numbered (map (new_write under.now bundles.now) old.now)))) }
+    ensures text { OnOk result (text.new.items ≡ text.old.items ++ group (flat_map cell_numbers (map numbered (map (new_write under.now bundles.now) old.now)))) }
+    ensures wide { OnOk result (All IsWideCell (map numbered (map (new_write under.now bundles.now) old.now))) }
 {
     text.extend_from_slice(b" ;")?;
     for write in old {
@@ -99,7 +113,8 @@ fn push_cells(
 /// The three groups of the row of a run: the registers of its thread, those of its child, and each cell that was
 /// written with its value. The error is that memory is out.
 pub fn groups_of(alloc: Global, work: &Work, done: &Done) -> Result<Vec<u8>, AllocError>
-    ensures { IfOk result (λ text. text.items ≡ groups_text (log_row 0 0 (effect_of work.now done.now))) }
+    ensures text { IfOk result (λ text. text.items ≡ groups_text (log_row 0 0 (effect_of work.now done.now))) }
+    ensures wide { OnOk result (IsWideRow (log_row 0 0 (effect_of work.now done.now))) }
 {
     let under = work.code.layout().under.as_slice();
     let bundles = done.task.given.bundles.as_slice();

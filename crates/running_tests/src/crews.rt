@@ -152,12 +152,13 @@ fn run_four<C: Crew, R: Threads + Sync>(
     Ok(())
 }
 
-// How four tasks are claimed by two workers that steal from one another.
+// How four tasks are claimed by so many workers that steal from one another.
 fn claims_of_four<G: Gate, R: Threads + Sync>(
     rt: &R,
     alloc: Global,
     work: &Work,
     gate: &G,
+    workers: u32,
 ) -> Result<(u64, u64, u64), AllocError> {
     if !names_below(work, 1, 0) {
         return Ok((0, 0, 0));
@@ -166,7 +167,7 @@ fn claims_of_four<G: Gate, R: Threads + Sync>(
     let run_all = |tasks: Seq<Task>| -> Result<(Seq<Done>, (u64, u64, u64)), AllocError>
         requires { All (Fits work.now) tasks }
         ensures { IfOk result (AreCounted work.entry.now tasks) }
-    { run_steal(rt, alloc, work, gate, &mean_steps, 2, tasks) };
+    { run_steal(rt, alloc, work, gate, &mean_steps, workers, tasks) };
     let mut crew = StealCrew::new(alloc, work, run_all);
     let ran = run_four(rt, alloc, &mut crew);
     ran.and(Ok(crew.counts()))
@@ -276,10 +277,19 @@ fn a_task_is_stolen_from_a_worker_that_is_held(rt: HostRuntime) -> Result<(), Fa
     let alloc = rt.alloc();
     let work = adding(alloc)?;
     let gate = Meeting::of(4);
-    let claims = claims_of_four(&rt, alloc, &work, &gate);
+    let claims = claims_of_four(&rt, alloc, &work, &gate, 2);
     drop(work);
     let (_own, stolen, _swept) = claims?;
     passes(Ok(gate.has_met() && stolen > 0))
+}
+
+#[test]
+fn one_worker_claims_all_tasks_by_its_own_hints(rt: HostRuntime) -> Result<(), Fail> {
+    let alloc = rt.alloc();
+    let work = adding(alloc)?;
+    let claims = claims_of_four(&rt, alloc, &work, &FreeGate, 1);
+    drop(work);
+    passes(Ok(claims? == (4, 0, 0)))
 }
 
 // So many attempts of the program's first subthread.

@@ -56,7 +56,10 @@ fn is_traced(alloc: Global, words: &[String]) -> Result<bool, AllocError>
 fn seen_told(alloc: Global, recheck: &Recheck, words: &[String]) -> Result<Vec<u8>, AllocError>
     ensures { IfOk result (λ line. MayTellDiffered (traces (asked_waiting (texts words.now))) line.items) }
 {
-    if recheck.differed() == 0 || is_traced(alloc, words)? {
+    if recheck.differed() == 0 {
+        return Ok(Vec::new(alloc));
+    }
+    if is_traced(alloc, words)? {
         return Ok(Vec::new(alloc));
     }
     differed_line(alloc, recheck.differed(), recheck.last())

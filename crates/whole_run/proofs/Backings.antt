@@ -20,7 +20,7 @@ use Rattle.task_ast.specs.meaning.Plain.{Subthread, order, opening}
 use Rattle.task_ast.specs.meaning.Position.{before}
 use Rattle.dependence.specs.meaning.Dependents.{is_member}
 use Rattle.dependence.specs.meaning.Restarts.{struck_next}
-use Rattle.dependence.specs.meaning.Journal.{Stage, happens}
+use Rattle.dependence.specs.meaning.Journal.{Stage, happens, Allowed}
 use Rattle.dependence.specs.Histories.{HasCells}
 use Rattle.dependence.specs.Touching.{done_by}
 use Rattle.dependence.specs.Removal.{undone_part}
@@ -36,7 +36,7 @@ use Rattle.reorder_list.specs.Stages.{EntriesStand, buffer_of}
 use Rattle.whole_run.specs.declared.recovery.Recovery.{Recovery}
 use Rattle.whole_run.specs.declared.recovery.Recovery.TheVariants.{Selective, Rollback}
 use Rattle.whole_run.specs.declared.parts.backing.Backup.{Backup}
-use Rattle.whole_run.specs.Recovering.{recovering, AllowedBy}
+use Rattle.whole_run.specs.Recovering.{recovering}
 use Rattle.whole_run.specs.Gives.{NoneOut, BlockIsOpen}
 use Rattle.whole_run.specs.inner.Backed.{held_of, open_cut, HasCut, IsOpened, BackedBy, StandsBy}
 use Rattle.whole_run.specs.inner.Backing.{AdvancesBy, IsRestored, DropsAfter, DropsBefore}
@@ -62,7 +62,7 @@ module _ (run : List Subthread) (faults : List Fault) (start : State) (cells : H
   -- after an issue, where the store may have one thread more
   pub backed-issue : (recovery : Recovery) → StandsBy run faults recovery at → (entries : List Entry) (store : Stored) (backup : Backup)
       → BackedBy run faults start recovery at entries store backup → (p : ℕ) (e : Entry) (later : Stored)
-      → AllowedBy run faults recovery at (event.Issue p) → IsFresh e → state_of later ≡ state_of store → StaysShaped store later
+      → Allowed (recovering recovery run) faults at (event.Issue p) → IsFresh e → state_of later ≡ state_of store → StaysShaped store later
       → BackedBy run faults start recovery (happens (recovering recovery run) faults at (event.Issue p)) (entries ++ e ∷ []) later backup
   backed-issue Selective stands entries store backup backed p e later allowed fresh state stays =
       histories-issue run faults start cells at stands entries store backed p e later allowed fresh state (wider store later stays)
@@ -72,7 +72,8 @@ module _ (run : List Subthread) (faults : List Fault) (start : State) (cells : H
   -- after a post, before which there is a checkpoint of its block
   pub backed-post : (recovery : Recovery) → StandsBy run faults recovery at → (entries : List Entry) (store : Stored) (backup : Backup)
       → BackedBy run faults start recovery at entries store backup → (p attempt : ℕ) (later : Stored)
-      → AllowedBy run faults recovery at (event.Post p attempt) → EntriesStand run at entries → IsOpened recovery entries p backup
+      → Allowed (recovering recovery run) faults at (event.Post p attempt) → EntriesStand run at entries
+      → IsOpened recovery entries p backup
       → state_of later ≡ state_of store → StaysShaped store later
       → BackedBy run faults start recovery (happens (recovering recovery run) faults at (event.Post p attempt))
       (with_change_at p out_entry entries) later backup
@@ -84,7 +85,7 @@ module _ (run : List Subthread) (faults : List Fault) (start : State) (cells : H
   -- after a result of another attempt
   pub backed-stale : (recovery : Recovery) → StandsBy run faults recovery at → (entries : List Entry) (store : Stored) (backup : Backup)
       → BackedBy run faults start recovery at entries store backup → (p attempt : ℕ) (foot : Footprint)
-      → AllowedBy run faults recovery at (event.Take p attempt false)
+      → Allowed (recovering recovery run) faults at (event.Take p attempt false)
       → BackedBy run faults start recovery (happens (recovering recovery run) faults at (event.Take p attempt false))
       (with_change_at p (known_entry foot) entries) store backup
   backed-stale Selective stands entries store backup backed p attempt foot allowed =
@@ -96,7 +97,7 @@ module _ (run : List Subthread) (faults : List Fault) (start : State) (cells : H
   pub backed-take : (recovery : Recovery) → StandsBy run faults recovery at → (entries : List Entry) (store : Stored) (backup : Backup)
       → BackedBy run faults start recovery at entries store backup
       → (p attempt : ℕ) (e : Entry) (foot : Footprint) (done : Effect) (later : Stored)
-      (backup' : Backup) → AllowedBy run faults recovery at (event.Take p attempt true) → entry_at entries p ≡ Some e
+      (backup' : Backup) → Allowed (recovering recovery run) faults at (event.Take p attempt true) → entry_at entries p ≡ Some e
       → done ≡ done_by (members_at run faults at p) (state_of store) → state_of later ≡ after done (state_of store)
       → StaysShaped store later
       → Fits later (old_of done (state_of store))
@@ -117,7 +118,7 @@ module _ (run : List Subthread) (faults : List Fault) (start : State) (cells : H
   -- after a restart of dependents, which undid them
   pub backed-restart : (recovery : Recovery) → recovery ≡ Selective → StandsBy run faults recovery at
       → (entries : List Entry) (store : Stored) (backup : Backup) → BackedBy run faults start recovery at entries store backup
-      → (number struck : ℕ) (later : Stored) → AllowedBy run faults recovery at (event.Restart number)
+      → (number struck : ℕ) (later : Stored) → Allowed (recovering recovery run) faults at (event.Restart number)
       → struck_next (recovering recovery run) faults at.progress ≡ Some struck → StaysShaped store later
       → let part : ℕ → Bool = λ q. is_member q ((recovering recovery run).redo struck at.progress.front) in
       state_of later ≡ undone_part (histories_of entries) part at.progress.front (state_of store)
@@ -172,7 +173,8 @@ module _ (run : List Subthread) (faults : List Fault) (start : State) (cells : H
     -- it may be made, and this is struck
     abbrev Strikes : Recovery → Type 0
     Strikes recovery =
-        AllowedBy run faults recovery at (event.Restart number) × (struck_next (recovering recovery run) faults at.progress ≡ Some struck)
+        Allowed (recovering recovery run) faults at (event.Restart number)
+        × (struck_next (recovering recovery run) faults at.progress ≡ Some struck)
 
     -- it redoes all from the open cut on
     pub redoes-rolled : (recovery : Recovery) → recovery ≡ Rollback every → Before recovery → Strikes recovery
@@ -227,7 +229,7 @@ module _ (program : Program) (inputs : Inputs) (limits : Limits) (faults : List 
   -- the lines of a position that may retire are those of the plain run
   pub backed-lines : (recovery : Recovery) (at : Stage) (entries : List Entry) (store : Stored) (backup : Backup) (p : ℕ) (s : Subthread)
       → AreShort faults → StandsBy plain faults recovery at → BackedBy plain faults opens recovery at entries store backup
-      → AllowedBy plain faults recovery at (event.Retire p) → slice_get plain p ≡ Some s → lines_of entries p ≡ s.lines
+      → Allowed (recovering recovery plain) faults at (event.Retire p) → slice_get plain p ≡ Some s → lines_of entries p ≡ s.lines
   backed-lines Selective at entries store backup p s short stands backed allowed there =
       retired-lines program inputs limits faults short at (buffer_of store entries) p s stands backed.buffer_is allowed there
   backed-lines (Rollback every) at entries store backup p s short stands backed allowed there =

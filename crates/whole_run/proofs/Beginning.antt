@@ -7,18 +7,17 @@ use Rattle.gp_base.specs.declared.journal.Restart.{Restart}
 use Rattle.task_ast.specs.declared.effect.Effect.{Effect}
 use Rattle.crew.specs.Noted.{Telling}
 use Rattle.reorder_list.specs.declared.report.StopWhy.{StopWhy}
-use Rattle.whole_run.specs.View.{Batch, run_in, begun}
+use Rattle.whole_run.specs.View.{Batch, begun}
 use Rattle.whole_run.specs.Notes.{NotesRun}
 use Rattle.whole_run.specs.Drive.{restarts_in, JournalStands, WritesRetired}
 use Rattle.whole_run.proofs.Noting.{keeps-stops, notes-stopped}
-use Rattle.whole_run.proofs.Recoverings.{no-events}
 
 pub no-journal : (batch : Batch) (events : List Event) (restarts : List Restart) → events ≡ [] → restarts ≡ []
     → JournalStands batch (record { events = events; restarts = restarts })
 no-journal batch events restarts e r =
     subst (λ es. JournalStands batch (record { events = es; restarts = restarts })) (sym e)
     (subst (λ rs. JournalStands batch (record { events = []; restarts = rs })) (sym r)
-    (record { lawful = no-events (run_in batch) batch.faults batch.recovery; first = (restarts_in batch, refl); counted = refl }))
+    (record { lawful = tt; first = (restarts_in batch, refl); counted = refl }))
 
 pub no-lines : (batch : Batch) (before : Option (List ℕ)) (events : List Event) (restarts : List Restart) → events ≡ []
     → WritesRetired batch before before (record { events = events; restarts = restarts })

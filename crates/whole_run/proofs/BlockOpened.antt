@@ -15,7 +15,7 @@ use Rattle.whole_run.specs.declared.recovery.Recovery.{Recovery}
 use Rattle.whole_run.specs.declared.recovery.Recovery.TheVariants.{Selective, Rollback}
 use Rattle.whole_run.specs.View.{Batch, run_in, start_in}
 use Rattle.whole_run.specs.Gives.{MayPostNow}
-use Rattle.whole_run.specs.inner.Backed.{open_cut, HasCut, IsOpened, IsWhole, IsCheckpoint, HasCheckpoints, BackedBy}
+use Rattle.whole_run.specs.inner.Backed.{open_cut, HasCut, AreLive, IsOpened, IsWhole, IsCheckpoint, HasCheckpoints, BackedBy}
 use Rattle.whole_run.specs.inner.Kept.{view_of, stage_of, Keeps, Kept, WindowStands}
 use Rattle.whole_run.proofs.Kepts.{stands_by, stage_stands}
 use Rattle.whole_run.proofs.Options.{some_same}
@@ -33,6 +33,7 @@ backed-same run faults start (Rollback every) at entries store backup later whol
       are = subst (All (IsCheckpoint run faults start every at store)) (sym same) backed.are;
       rising = subst (λ xs. IsStrictlyIncreasing (map (λ (x : Checkpoint). x.cut) xs)) (sym same) backed.rising;
       has = subst (HasCheckpoints run faults start every at) (sym same) backed.has;
+      live = subst (AreLive at.retired) (sym same) backed.live;
     }
 
 module _ (batch : Batch) (parts : Parts) (kept : Kept batch parts) where

@@ -13,6 +13,7 @@ use Rattle.reorder_list.specs.Entries.{entry_at, is_applied}
 use Rattle.reorder_list.proofs.Changes.{position-of, all-there}
 use Rattle.subthread.proofs.Searched.{far}
 use Rattle.whole_run.specs.declared.parts.backing.Checkpoint.{Checkpoint}
+use Rattle.whole_run.specs.inner.Backed.{AreLive}
 use Rattle.whole_run.specs.inner.Backing.{SlotsOnly}
 
 -- an entry whose number is not the last of 32 bits has one after it
@@ -44,6 +45,16 @@ slots-more before store later slots grown =
       under = slots.under;
       away = slots.away;
     })
+
+-- none lies before a position where the first does not, and where there is none
+pub live-from : (items : List Checkpoint) (first : Checkpoint) (p : ℕ) → 0 < length items → first ≡ get_or items 0 first → p ≤ first.cut
+    → AreLive p items
+live-from [] first p some is low = absurd (omega arith)
+live-from (x ∷ items) first p some is low = subst (λ (c : Checkpoint). p ≤ c.cut) is low
+
+pub live-none : (items : List Checkpoint) (p : ℕ) → length items ≡ 0 → AreLive p items
+live-none [] p none = tt
+live-none (x ∷ items) p none = absurd (omega arith)
 
 -- of checkpoints at rising cuts none is above the last
 pub not-above : (items rest : List Checkpoint) (at : ℕ) (last : Checkpoint) (cut : ℕ)

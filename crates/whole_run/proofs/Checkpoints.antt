@@ -16,15 +16,13 @@ use Rattle.task_ast.specs.meaning.State.{State}
 use Rattle.task_ast.specs.meaning.Effect.{after}
 use Rattle.task_ast.specs.meaning.Plain.{Subthread}
 use Rattle.dependence.specs.meaning.Restarts.{Dependence}
-use Rattle.dependence.specs.meaning.Journal.{Stage, MayTake, happens}
+use Rattle.dependence.specs.meaning.Journal.{Stage, MayTake, happens, Allowed}
 use Rattle.dependence.specs.Standing.{present}
-use Rattle.dependence.specs.meaning.Runs.{dependence_of}
 use Rattle.dependence.specs.Histories.{HasCells}
 use Rattle.dependence.specs.Touching.{done_by}
 use Rattle.dependence.specs.Buffer.{with_at}
 use Rattle.dependence.specs.RunBuffer.{members_at}
 use Rattle.rollback.specs.meaning.Cuts.{cut_at, cuts_of, rolling_of}
-use Rattle.rollback.specs.meaning.Journal.{AllowedByBlocks}
 use Rattle.rollback.specs.States.{Held, HeldStands, StaysBehind}
 use Rattle.rollback.proofs.States.{happens-held, copy-keeps}
 use Rattle.record_store.specs.Stored.{Stored, state_of}
@@ -38,7 +36,7 @@ use Rattle.reorder_list.proofs.Buffered.{pushed-holds, sent-holds, learnt-holds}
 use Rattle.whole_run.specs.declared.recovery.Recovery.TheVariants.{Rollback}
 use Rattle.whole_run.specs.declared.parts.backing.Backup.{Backup}
 use Rattle.whole_run.specs.declared.parts.backing.Checkpoint.{Checkpoint}
-use Rattle.whole_run.specs.inner.Backed.{held_of, HasCut, IsOpened, IsWhole, HasShape, StandsBy, IsCheckpoint, HasCheckpoints, CopiesStand}
+use Rattle.whole_run.specs.inner.Backed.{held_of, HasCut, AreLive, IsOpened, IsWhole, HasShape, StandsBy, IsCheckpoint, HasCheckpoints, CopiesStand}
 use Rattle.whole_run.specs.inner.Backing.{IsAdvanced, DropsBefore}
 use Rattle.whole_run.proofs.OpenCuts.{open-cut-there}
 use Rattle.whole_run.proofs.CutRows.{rising-rest, cuts_in, cuts-append, all-part}
@@ -104,7 +102,7 @@ module _ (run : List Subthread) (faults : List Fault) (start : State) (cells : H
       -- ---- events but rollbacks and retirements
 
       -- after an event that is no rollback to before a checkpoint
-      module _ (e : Event) (allowed : AllowedByBlocks cuts (dependence_of run) faults at e) where
+      module _ (e : Event) (allowed : Allowed rolled faults at e) where
         abbrev after_event : Stage
         after_event = happens rolled faults at e
 
@@ -121,8 +119,9 @@ module _ (run : List Subthread) (faults : List Fault) (start : State) (cells : H
         copies-then : ((cut : ℕ) → StaysBehind cuts run faults cut at e) → (others : List Entry) (later : Stored) (backup' : Backup)
             → StaysShaped store later → HeldStands run faults start after_event (held_of later others) → IsWhole after_event backup'.whole
             → backup'.checkpoints ≡ backup.checkpoints → HasCheckpoints run faults start every after_event backup.checkpoints.items
+            → AreLive after_event.retired backup.checkpoints.items
             → Copies after_event others later backup'
-        copies-then behind others later backup' stays held whole same has =
+        copies-then behind others later backup' stays held whole same has live =
             record {
               held = held;
               whole = whole;
@@ -131,9 +130,10 @@ module _ (run : List Subthread) (faults : List Fault) (start : State) (cells : H
                   (λ checkpoint. checkpoint-kept later stays checkpoint (behind checkpoint.cut)) backup.checkpoints.items copies.are);
               rising = subst (λ c. IsStrictlyIncreasing (cuts_in c.items)) (sym same) copies.rising;
               has = subst (λ c. HasCheckpoints run faults start every after_event c.items) (sym same) has;
+              live = subst (λ c. AreLive after_event.retired c.items) (sym same) live;
             }
 
-      pub copies-issue : (p : ℕ) (e : Entry) (later : Stored) → AllowedByBlocks cuts (dependence_of run) faults at (event.Issue p)
+      pub copies-issue : (p : ℕ) (e : Entry) (later : Stored) → Allowed rolled faults at (event.Issue p)
           → IsFresh e
           → state_of later ≡ state_of store → StaysShaped store later
           → Copies (happens rolled faults at (event.Issue p)) (entries ++ e ∷ []) later backup
@@ -143,9 +143,9 @@ module _ (run : List Subthread) (faults : List Fault) (start : State) (cells : H
           (λ q low is. ap (λ b. b.lines q) (pushed-holds store entries e fresh))
           (happens-held run faults start cuts cells at (event.Issue p) (held_of store entries) stands.0 copies.held allowed))
           (record { below = copies.whole.below; issued = let most = copies.whole.issued in omega arith; next = copies.whole.next })
-          refl copies.has
+          refl copies.has copies.live
 
-      pub copies-post : (p attempt : ℕ) (later : Stored) → AllowedByBlocks cuts (dependence_of run) faults at (event.Post p attempt)
+      pub copies-post : (p attempt : ℕ) (later : Stored) → Allowed rolled faults at (event.Post p attempt)
           → EntriesStand run at entries → IsOpened (Rollback every) entries p backup → state_of later ≡ state_of store
           → StaysShaped store later
           → Copies (happens rolled faults at (event.Post p attempt)) (with_change_at p out_entry entries) later backup
@@ -156,7 +156,7 @@ module _ (run : List Subthread) (faults : List Fault) (start : State) (cells : H
           (λ q low is. ap (λ b. b.lines q) (sent-holds store entries p))
           (happens-held run faults start cuts cells at (event.Post p attempt) (held_of store entries) stands.0 copies.held allowed))
           (record { below = copies.whole.below; issued = copies.whole.issued; next = copies.whole.next })
-          refl has
+          refl has copies.live
         where
           has : HasCheckpoints run faults start every (happens rolled faults at (event.Post p attempt)) backup.checkpoints.items
           has q low posted =
@@ -169,11 +169,11 @@ module _ (run : List Subthread) (faults : List Fault) (start : State) (cells : H
               this q same low =
                   subst (λ r. HasCut backup.checkpoints.items (cut_at cuts r)) same
                   (opened (cut_at cuts p)
-                  (open-cut-there run at entries entries_are stands.1 every stands.2 p allowed.may.unretired allowed.may.issued
+                  (open-cut-there run at entries entries_are stands.1 every stands.2 p allowed.unretired allowed.issued
                   (subst (λ r. at.retired ≤ cut_at cuts r) (sym same) low)))
 
       pub copies-stale : (p attempt : ℕ) (foot : Footprint)
-          → AllowedByBlocks cuts (dependence_of run) faults at (event.Take p attempt false)
+          → Allowed rolled faults at (event.Take p attempt false)
           → Copies (happens rolled faults at (event.Take p attempt false)) (with_change_at p (known_entry foot) entries) store backup
       copies-stale p attempt foot allowed =
           copies-then (event.Take p attempt false) allowed (λ cut. tt) (with_change_at p (known_entry foot) entries) store backup
@@ -183,7 +183,7 @@ module _ (run : List Subthread) (faults : List Fault) (start : State) (cells : H
           (λ q low is. ap (λ b. b.lines q) (learnt-holds store entries p foot))
           (happens-held run faults start cuts cells at (event.Take p attempt false) (held_of store entries) stands.0 copies.held allowed))
           (record { below = copies.whole.below; issued = copies.whole.issued; next = copies.whole.next })
-          refl copies.has
+          refl copies.has copies.live
 
       -- after a result that was applied, where all that has one is passed
       module _ (p attempt : ℕ) (e : Entry) (foot : Footprint) (done : Effect) (later : Stored) (backup' : Backup)
@@ -220,7 +220,7 @@ module _ (run : List Subthread) (faults : List Fault) (start : State) (cells : H
         pub copies-take : EntriesStand run taken others → IsAdvanced others backup backup' → Copies taken others later backup'
         copies-take entries_are advanced =
             copies-then (event.Take p attempt true) allowed (λ cut. tt) others later backup' stays held-taken
-            (record { below = below; issued = issued; next = next }) advanced.checkpoints copies.has
+            (record { below = below; issued = issued; next = next }) advanced.checkpoints copies.has copies.live
           where
             below : (q : ℕ) → q < backup'.whole → taken.applied q ≡ true
             below q less =
@@ -304,4 +304,5 @@ module _ (run : List Subthread) (faults : List Fault) (start : State) (cells : H
                       omega arith)
                   | inr kept ↦ (old.0, kept, old.2)
                 ]);
+            live = dropped.stops;
           }

@@ -24,7 +24,6 @@ use Rattle.whole_run.proofs.Backings.{backed-state}
 use Rattle.whole_run.proofs.Events.{redoes-struck}
 use Rattle.whole_run.proofs.Kepts.{stands_by, stage_stands}
 use Rattle.whole_run.proofs.BlockCounts.{open-is, open-earlier, near-within}
-use Rattle.whole_run.proofs.Recoverings.{lawful-plain}
 
 module _ (batch : Batch) (parts : Parts) (kept : Kept batch parts) where
   abbrev at : Stage
@@ -110,7 +109,6 @@ module _ (batch : Batch) (parts : Parts) (kept : Kept batch parts) where
   -- there are no more restarts than faults
   pub restarts-within : length parts.restarts.items ≤ length batch.faults
   restarts-within =
-      let lawful = lawful-plain (run_in batch) batch.faults batch.recovery parts.events.items kept.journal.lawful in
-      let h = (few-attempts (dependence_in batch) batch.faults (redoes-struck batch) parts.events.items lawful).0 in
+      let h = (few-attempts (dependence_in batch) batch.faults (redoes-struck batch) parts.events.items kept.journal.lawful).0 in
       let same = ap length kept.journal.restarts_are in
       omega arith

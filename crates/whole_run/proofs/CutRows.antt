@@ -1,10 +1,11 @@
 -- Checkpoints at rising cuts, when some are given up or one more comes.
-use Rattle.std.proofs.Common.{◌≡◌, inl, inr, ℕ, suc, ◌+◌, ◌<◌, List, [], ◌∷◌, ◌++◌, length, map, get_or, All, Contains, subst, arith}
+use Rattle.std.proofs.Common.{◌≡◌, inl, inr, ℕ, suc, ◌+◌, ◌<◌, ◌≤◌, List, [], ◌∷◌, ◌++◌, length, map, get_or, All, Contains, subst, arith}
 use Rattle.std.specs.List.Sorted.{IsStrictlyIncreasing}
 use Rattle.std.proofs.lemmas.Bool.{cases_lt}
 use Rattle.std.proofs.lemmas.List.{length_push, length-append, get_or_append_left, get_or_push, map-append}
 use Rattle.std.proofs.lemmas.List.Elements.{All-weaker, All-contains, All-contains_itself}
 use Rattle.whole_run.specs.declared.parts.backing.Checkpoint.{Checkpoint}
+use Rattle.whole_run.specs.inner.Backed.{AreLive}
 
 -- ---- numbers that rise
 
@@ -47,6 +48,16 @@ cuts_in checkpoints = map (λ (checkpoint : Checkpoint). checkpoint.cut) checkpo
 
 pub cuts-append : (some rest : List Checkpoint) → cuts_in (some ++ rest) ≡ cuts_in some ++ cuts_in rest
 cuts-append some rest = map-append (λ (checkpoint : Checkpoint). checkpoint.cut) some rest
+
+-- no checkpoint of a part at the front lies before a position, and none of some and one more
+pub live-front : (p : ℕ) (front rest : List Checkpoint) → AreLive p (front ++ rest) → AreLive p front
+live-front p [] rest none = tt
+live-front p (x ∷ front) rest none = none
+
+pub live-push : (p : ℕ) (some : List Checkpoint) (last : Checkpoint) → AreLive p some → p ≤ last.cut
+    → AreLive p (some ++ last ∷ [])
+live-push p [] last none low = low
+live-push p (x ∷ some) last none low = none
 
 -- what all of a list meet, all of a part meet
 pub all-part : (P : Checkpoint → Type 0) (part whole : List Checkpoint) → ((x : Checkpoint) → Contains part x → Contains whole x)

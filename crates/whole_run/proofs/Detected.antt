@@ -14,7 +14,7 @@ use Rattle.gp_base.specs.declared.limits.TheConstants.{MOST_FAULTS}
 use Rattle.task_ast.specs.meaning.Table.{numbers}
 use Rattle.dependence.specs.meaning.Dependents.{is_member}
 use Rattle.dependence.specs.meaning.Restarts.{drains, is_live, is_due, least_struck, struck_next, restart_of, attempt_of}
-use Rattle.dependence.specs.meaning.Journal.{Stage, happens, restarted}
+use Rattle.dependence.specs.meaning.Journal.{Stage, happens, restarted, Allowed}
 use Rattle.dependence.specs.meaning.Runs.{dependence_of}
 use Rattle.dependence.specs.Standing.{StageStands}
 use Rattle.dependence.specs.Removal.{undone_part}
@@ -37,14 +37,14 @@ use Rattle.whole_run.specs.declared.parts.Parts.{Parts}
 use Rattle.whole_run.specs.declared.parts.backing.Backup.{Backup}
 use Rattle.whole_run.specs.declared.parts.backing.Checkpoint.{Checkpoint}
 use Rattle.whole_run.specs.declared.calls.Halt.{Halt}
-use Rattle.whole_run.specs.Recovering.{redo_by, HasCuts, AllowedBy}
+use Rattle.whole_run.specs.Recovering.{recovered, HasCuts}
 use Rattle.whole_run.specs.View.{Batch, run_in, dependence_in, start_in}
-use Rattle.whole_run.specs.Gives.{IsBackBy, IsBack, IsScoutedBy, IsScouted, NoneHolds, NoneOut, struck_now}
+use Rattle.whole_run.specs.Gives.{Did, IsBackBy, IsBack, IsScoutedBy, IsScouted, NoneHolds, NoneOut, struck_now}
 use Rattle.whole_run.specs.inner.Backed.{StandsBy, open_cut, BackedBy, HistoriesStand, CopiesStand}
 use Rattle.whole_run.specs.inner.Backing.{IsRestored, DropsAfter}
 use Rattle.whole_run.specs.inner.Kept.{view_of, stage_of, IsPlaceIn, IsEnd, WindowStands, Keeps, Kept}
 use Rattle.whole_run.specs.inner.Detected.{RaisesFrom, attempt_in}
-use Rattle.whole_run.proofs.Recoverings.{redoes-struck, restart-allowed, lawful-plain}
+use Rattle.whole_run.proofs.Recoverings.{redoes-struck}
 use Rattle.whole_run.proofs.AllHome.{all-home}
 use Rattle.whole_run.proofs.OpenCuts.{open-cut-is, open-cut-there}
 use Rattle.whole_run.proofs.Progress.{halts-drain}
@@ -77,10 +77,23 @@ module _ (batch : Batch) (parts : Parts) (kept : Kept batch parts) (p : ℕ) (is
       go None None end f = absurd (cc f)
       go None (Some halts) end f = rw (halts-drain batch at.progress.front halts end) f
 
-  pub allowed : AllowedBy (run_in batch) batch.faults batch.recovery at (event.Restart (length at.progress.made))
-  allowed =
-      restart-allowed (run_in batch) batch.faults batch.recovery at (length at.progress.made)
-      (record { numbered = refl; some_struck = λ none. absurd (cc (none, next)) })
+  pub allowed : Allowed (dependence_in batch) batch.faults at (event.Restart (length at.progress.made))
+  allowed = record { numbered = refl; some_struck = λ none. absurd (cc (none, next)) }
+
+  -- it was made, where it was noted
+  pub did-restart : IsBack (view_of batch parts) → (events : List Event)
+      → events ≡ parts.events.items ++ event.Restart (length parts.restarts.items) ∷ []
+      → Did (view_of batch parts) (event.Restart (length at.progress.made)) (record { batch = batch; events = events; ended = parts.ended })
+  did-restart back events noted =
+      record {
+        allowed = allowed;
+        waited = back;
+        grown = λ i. record {
+          batch = batch;
+          events = (noted ∙ ap (λ made. parts.events.items ++ event.Restart (length made) ∷ []) kept.journal.restarts_are) i;
+          ended = parts.ended;
+        };
+      }
 
   below : p < at.progress.front
   below = (struck-live (dependence_in batch) batch.faults at.progress p next).0
@@ -117,8 +130,8 @@ module _ (batch : Batch) (parts : Parts) (kept : Kept batch parts) (p : ℕ) (is
   few : length batch.faults ≤ MOST_FAULTS
       → (length at.progress.made ≤ MOST_FAULTS) × ((q : ℕ) → attempt_of at.progress.made q ≤ MOST_FAULTS)
   few most =
-      let lawful = lawful-plain (run_in batch) batch.faults batch.recovery parts.events.items kept.journal.lawful in
-      let h = few-attempts (dependence_in batch) batch.faults (redoes-struck (run_in batch) batch.recovery) parts.events.items lawful in
+      let h = few-attempts (dependence_in batch) batch.faults (redoes-struck (run_in batch) batch.recovery) parts.events.items
+      kept.journal.lawful in
       (let l = h.0 in omega arith, λ q. let l = h.1 q in omega arith)
 
   pub attempts-few : length batch.faults ≤ MOST_FAULTS → All (λ (e : Entry). e.attempt < 4294967295) parts.rol.entries
@@ -209,7 +222,7 @@ module _ (batch : Batch) (parts : Parts) (kept : Kept batch parts) (p : ℕ) (is
       redo-is =
           ap (redone parts.rol.entries p) kept.journal.issued_are
           ∙ (same-redo (run_in batch) at parts.rol.entries p kept.window.entries_are all-known young
-          ∙ ap (λ recovery. redo_by recovery (run_in batch) p at.progress.front) (sym selective))
+          ∙ ap (λ recovery. (recovered recovery (run_in batch)).redo p at.progress.front) (sym selective))
 
       -- all is kept
       pub kept-restarted : IsBack (view_of batch parts) → (entries : List Entry) (store : Stored) (events : List Event)

@@ -7,7 +7,7 @@ use Rattle.gp_base.specs.declared.journal.Event.TheVariants as event
 use Rattle.task_ast.specs.meaning.Plain.{Subthread}
 use Rattle.dependence.specs.meaning.Restarts.{struck_next}
 use Rattle.dependence.specs.Restarts.{RedoesStruck}
-use Rattle.dependence.specs.meaning.Journal.{Stage, initial_stage, happens, restarted, stage}
+use Rattle.dependence.specs.meaning.Journal.{Stage, initial_stage, happens, restarted, stage, Allowed, Lawful}
 use Rattle.dependence.specs.Posting.{OutReady}
 use Rattle.dependence.specs.Standing.{AreShort, StageStands}
 use Rattle.dependence.proofs.Journals.{stage_from-push}
@@ -15,20 +15,21 @@ use Rattle.dependence.proofs.Measured.{leaves-less}
 use Rattle.dependence.proofs.Standing.{run-stands}
 use Rattle.whole_run.specs.declared.recovery.Recovery.{Recovery}
 use Rattle.whole_run.specs.declared.recovery.Recovery.TheVariants.{Selective, Rollback}
-use Rattle.whole_run.specs.Recovering.{recovering, AllowedBy, LawfulBy}
+use Rattle.whole_run.specs.Recovering.{recovering}
 use Rattle.whole_run.specs.View.{Batch, View, run_in, dependence_in, locks_in, now, ended_after, grown, learnt, IsHalt, Stands}
 use Rattle.whole_run.specs.Gives.{HasWaited, Did}
 use Rattle.whole_run.specs.inner.Rounds.{left, Onward}
 use Rattle.whole_run.proofs.Folds.{blocks-after}
 use Rattle.whole_run.proofs.Ready.{stays-ready}
-use Rattle.whole_run.proofs.Recoverings.{allowed-plain, lawful-push}
+use Rattle.whole_run.proofs.Recoverings.{lawful-push}
 use Rattle.whole_run.proofs.Recoverings as recoverings
 
 pub redoes-struck : (batch : Batch) → RedoesStruck (dependence_in batch)
 redoes-struck batch = recoverings.redoes-struck (run_in batch) batch.recovery
 
 stands-by : (run : List Subthread) (faults : List Fault) → AreShort faults → (recovery : Recovery) (events : List Event)
-    → LawfulBy run faults recovery events → StageStands (recovering recovery run) faults (stage (recovering recovery run) faults events)
+    → Lawful (recovering recovery run) faults events
+    → StageStands (recovering recovery run) faults (stage (recovering recovery run) faults events)
 stands-by run faults short Selective events lawful = run-stands run faults events short lawful
 stands-by run faults short (Rollback every) events lawful = (blocks-after run faults short every events lawful).stands
 
@@ -56,7 +57,7 @@ still-drains view stands (event.Restart number) = go (struck_next (dependence_in
 still-drains view stands (event.Retire p) = stands.ended
 
 module _ (view : View) (e : Event) (stands : Stands view)
-    (allowed : AllowedBy (run_in view.batch) view.batch.faults view.batch.recovery (now view) e) where
+    (allowed : Allowed (dependence_in view.batch) view.batch.faults (now view) e) where
   grown-stands : HasWaited view.batch.recovery (run_in view.batch) (now view) e → Stands (grown view e)
   grown-stands waited =
       record {
@@ -73,7 +74,7 @@ module _ (view : View) (e : Event) (stands : Stands view)
   grown-leaves =
       rw (now-grown view e)
       (leaves-less (dependence_in view.batch) (redoes-struck view.batch) view.batch.faults (now view) e (stage-stands view stands).front_low
-      (allowed-plain (run_in view.batch) view.batch.faults view.batch.recovery (now view) e allowed))
+      allowed)
 
 pub did-stands : (before after : View) (e : Event) → Stands before → Did before e after → Stands after
 did-stands before after e stands did = subst Stands (sym did.grown) (grown-stands before e stands did.allowed did.waited)

@@ -9,7 +9,7 @@ use Rattle.task_ast.specs.meaning.State.{State}
 use Rattle.task_ast.specs.Fold.{fold}
 use Rattle.task_ast.specs.meaning.Plain.{Subthread, order, opening, last_state}
 use Rattle.task_ast.specs.meaning.Position.{before}
-use Rattle.dependence.specs.meaning.Journal.{Stage, initial_stage, stage}
+use Rattle.dependence.specs.meaning.Journal.{Stage, initial_stage, stage, Lawful, Complete}
 use Rattle.dependence.specs.meaning.Runs.{dependence_of}
 use Rattle.dependence.specs.Standing.{AreShort}
 use Rattle.dependence.specs.Histories.{HasCells}
@@ -23,14 +23,15 @@ use Rattle.rollback.proofs.Standing.{initial-blocks, blocks-from}
 use Rattle.rollback.proofs.States.{journal-held, drained-held, final-held}
 use Rattle.whole_run.specs.declared.recovery.Recovery.{Recovery}
 use Rattle.whole_run.specs.declared.recovery.Recovery.TheVariants.{Selective, Rollback}
-use Rattle.whole_run.specs.Recovering.{recovering, LawfulBy, CompleteBy}
+use Rattle.whole_run.specs.Recovering.{recovering}
 
 module _ (run : List Subthread) (faults : List Fault) where
   -- the fold of what is applied at a stage
   abbrev pub folded : State → Stage → State
   folded start at = fold (members_at run faults at) start at.applied at.progress.front
 
-  module _ (short : AreShort faults) (every : ℕ) (events : List Event) (lawful : LawfulBy run faults (Rollback every) events) where
+  module _ (short : AreShort faults) (every : ℕ) (events : List Event)
+      (lawful : Lawful (recovering (Rollback every) run) faults events) where
     -- where all is rolled back, the blocks stand
     pub blocks-after : BlocksStand (cuts_of every run) (dependence_of run) faults (stage (rolling_of (cuts_of every run) run) faults events)
     blocks-after =
@@ -52,7 +53,7 @@ module _ (program : Program) (inputs : Inputs) (limits : Limits) (faults : List 
   start = (opening program inputs limits).state
 
   -- where all that was issued has retired, it is the state of the plain run before the front
-  pub drained-fold : (recovery : Recovery) (events : List Event) → LawfulBy run faults recovery events
+  pub drained-fold : (recovery : Recovery) (events : List Event) → Lawful (recovering recovery run) faults events
       → let at = stage (recovering recovery run) faults events in
       at.retired ≡ at.progress.front → folded run faults start at ≡ (before program inputs limits at.progress.front).state
   drained-fold Selective events lawful all =
@@ -67,7 +68,7 @@ module _ (program : Program) (inputs : Inputs) (limits : Limits) (faults : List 
       (held_after run faults start (cuts_of every run) events) (blocks-after run faults short every events lawful) stands all
 
   -- after a complete journal it is the last state of the plain run
-  pub last-fold : (recovery : Recovery) (events : List Event) → CompleteBy run faults recovery events
+  pub last-fold : (recovery : Recovery) (events : List Event) → Complete (recovering recovery run) faults events
       → folded run faults start (stage (recovering recovery run) faults events) ≡ (last_state program inputs limits).state
   last-fold Selective events complete =
       sym (after-events run faults start (λ c. refl) short events complete.lawful).1.state_is

@@ -6,7 +6,7 @@ use Rattle.std.proofs.Common.{◌≡◌, inl, inr, ℕ, suc, ◌+◌, ◌<◌, �
 use Rattle.std.specs.Prelude.{IsSome, slice_get, is_none, pos, negsuc, ℤ}
 use Rattle.std.specs.Option.{option_and_then}
 use Rattle.std.proofs.lemmas.Option.{slice_get_within}
-use Rattle.std.proofs.lemmas.Bool.{eqb-true, eq-eqb, lt-ltb, ltb-true, false≢true}
+use Rattle.std.proofs.lemmas.Bool.{eqb-true, eq-eqb, false≢true}
 use Rattle.gp_base.specs.declared.ending.End.{End}
 use Rattle.gp_base.specs.declared.fault.Fault.{Fault}
 use Rattle.gp_base.specs.declared.journal.Event.{Event}
@@ -18,7 +18,7 @@ use Rattle.task_ast.specs.declared.sync.Next.{Next}
 use Rattle.task_ast.specs.Footprint.{lock_footprint}
 use Rattle.task_ast.specs.meaning.Repeat.{Again, More, Done}
 use Rattle.task_ast.specs.meaning.Table.{Seat, Table, next_of, owned_from, is_settle}
-use Rattle.token_order.specs.Turned.{settling_in}
+use Rattle.token_order.specs.Turned.{settling_in, is_let}
 use Rattle.task_ast.specs.meaning.Turn.{Turn, Issue, Needs, Ended, child_of, turn}
 use Rattle.dependence.specs.meaning.Runs.{settles_one}
 use Rattle.task_ast.specs.laws.Threads.{MayBegin, HasBegun, with_child, ahead}
@@ -32,7 +32,7 @@ use Rattle.task_ast.proofs.SeatLimits.{most_threads_law}
 use Rattle.task_ast.proofs.PlainRuns.{count_law}
 use Rattle.task_ast.proofs.IssuedTables.{length_push}
 use Rattle.dependence.specs.meaning.Restarts.{NoneDue}
-use Rattle.dependence.specs.meaning.Journal.{Stage}
+use Rattle.dependence.specs.meaning.Journal.{Stage, Allowed}
 use Rattle.record_store.specs.Stored.{Stored, with_thread, state_of}
 use Rattle.record_store.proofs.States.{slot_law}
 use Rattle.record_store.proofs.Fitting.{wider_law}
@@ -45,7 +45,6 @@ use Rattle.gp_base.specs.Reserved.{Reserved}
 use Rattle.token_order.specs.View.{Roomy}
 use Rattle.task_ast.specs.SyncOps.{IsNumbered}
 use Rattle.task_ast.specs.Table.{is_known_end}
-use Rattle.token_order.specs.Turned.{is_let}
 use Rattle.whole_run.specs.declared.parts.Parts.{Parts}
 use Rattle.whole_run.specs.declared.parts.Place.{Place}
 use Rattle.whole_run.specs.declared.calls.Halt.{Halt}
@@ -55,7 +54,6 @@ use Rattle.whole_run.specs.declared.parts.backing.Backup.{Backup}
 use Rattle.whole_run.specs.declared.parts.backing.Checkpoint.{Checkpoint}
 use Rattle.whole_run.specs.declared.recovery.Recovery.{Recovery}
 use Rattle.whole_run.specs.declared.recovery.Recovery.TheVariants.{Selective, Rollback}
-use Rattle.whole_run.specs.Recovering.{AllowedBy}
 use Rattle.whole_run.specs.inner.Backed.{held_of, IsCheckpoint, BackedBy}
 use Rattle.whole_run.specs.View.{Batch, program_in, run_in, dependence_in, start_in, end_in}
 use Rattle.whole_run.specs.Gives.{Did, IsAwaited, TurnsTo, TurnsToSettle}
@@ -68,7 +66,6 @@ use Rattle.whole_run.proofs.RingIssues.{same_run, ring_passed, ring_needs, ring_
 use Rattle.whole_run.proofs.Histories.{histories-fit}
 use Rattle.whole_run.proofs.Windows.{window-issue}
 use Rattle.whole_run.proofs.Backings.{backed-drained}
-use Rattle.whole_run.proofs.Recoverings.{issue-allowed}
 use Rattle.whole_run.proofs.Kepts.{stage_stands, stands_by, names_issued, keeps_then, kept_as}
 
 -- another table with as many threads, at most
@@ -113,6 +110,7 @@ backed_slot run faults start (Rollback every) at entries store backup backed =
       are = λ k d l. same (get_or backup.checkpoints.items k d) (backed.are k d l);
       rising = backed.rising;
       has = backed.has;
+      live = backed.live;
     }
   where
     same : (checkpoint : Checkpoint) → IsCheckpoint run faults start every at store checkpoint
@@ -322,11 +320,10 @@ module _ (batch : Batch) (table : Table) (places : List Place) (entries : List E
       abbrev entry : Entry
       entry = new_entry issued t next child ready
 
-      allowed : AllowedBy (run_in batch) batch.faults batch.recovery at (event.Issue issued)
+      allowed : Allowed (dependence_in batch) batch.faults at (event.Issue issued)
       allowed =
-          subst (λ p. AllowedBy (run_in batch) batch.faults batch.recovery at (event.Issue p)) (sym keeps.journal.issued_are)
-          (issue-allowed (run_in batch) batch.faults batch.recovery at at.progress.front
-          (may_issue batch (IsPlaceIn batch) at table places keeps.ring t next child after is none_due (settles_alone alone none lets)))
+          subst (λ p. Allowed (dependence_in batch) batch.faults at (event.Issue p)) (sym keeps.journal.issued_are)
+          (may_issue batch (IsPlaceIn batch) at table places keeps.ring t next child after is none_due (settles_alone alone none lets))
 
       issued_is : IsIssuedBy (tree_machine (program_in batch) batch.inputs batch.limits)
           (program_in batch) batch.inputs batch.limits at.progress.front table t next child after
@@ -464,14 +461,12 @@ module _ (batch : Batch) (parts : Parts) (kept : Kept batch parts) (t : ℕ) (ne
       → Did (view_of batch parts) (event.Issue p) (view_of batch later)
   did_issue alone none lets none_due prepared ring later p p_is pushed =
       record {
-        allowed = subst (λ q. AllowedBy (run_in batch) batch.faults batch.recovery (stage_of batch parts.events.items) (event.Issue q))
+        allowed = subst (λ q. Allowed (dependence_in batch) batch.faults (stage_of batch parts.events.items) (event.Issue q))
             (sym (p_is ∙ kept.journal.issued_are))
-            (issue-allowed (run_in batch) batch.faults batch.recovery (stage_of batch parts.events.items)
-            (stage_of batch parts.events.items).progress.front
             (may_issue batch (IsPlaceIn batch) (stage_of batch parts.events.items) parts.ring.table parts.places.items kept.ring t next
             child after is none_due
             (settles_alone batch parts.ring.table parts.places.items parts.rol.entries parts.store parts.backup parts.events.items
-            parts.restarts.items parts.issued parts.ended kept t next child after is alone none lets)));
+            parts.restarts.items parts.issued parts.ended kept t next child after is alone none lets));
         waited = tt;
         grown = λ i. record {
           batch = batch;

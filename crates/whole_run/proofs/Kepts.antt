@@ -3,7 +3,7 @@ use Rattle.std.proofs.Common.{◌≡◌, ℕ, List, [], ◌∷◌, ◌++◌, Opt
 use Rattle.gp_base.specs.declared.journal.Event.{Event}
 use Rattle.gp_base.specs.declared.journal.Restart.{Restart}
 use Rattle.task_ast.specs.meaning.Table.{Table}
-use Rattle.dependence.specs.meaning.Journal.{Stage, initial_stage, happens}
+use Rattle.dependence.specs.meaning.Journal.{Stage, initial_stage, happens, Allowed}
 use Rattle.dependence.specs.Standing.{StageStands, NamesIssued}
 use Rattle.dependence.proofs.Journals.{stage_from-push}
 use Rattle.record_store.specs.Stored.{Stored}
@@ -12,7 +12,6 @@ use Rattle.whole_run.specs.declared.parts.Parts.{Parts}
 use Rattle.whole_run.specs.declared.parts.Place.{Place}
 use Rattle.whole_run.specs.declared.parts.backing.Backup.{Backup}
 use Rattle.whole_run.specs.declared.calls.Halt.{Halt}
-use Rattle.whole_run.specs.Recovering.{AllowedBy}
 use Rattle.whole_run.specs.View.{Batch, run_in, dependence_in}
 use Rattle.whole_run.specs.inner.Backed.{StandsBy}
 use Rattle.whole_run.specs.inner.RingStands.{RingStands}
@@ -37,7 +36,7 @@ module _ (batch : Batch) (events : List Event) where
     names_issued = recoverings.names-after (run_in batch) batch.faults batch.recovery events journal.lawful
 
     -- after an event that was allowed all is kept, where each part is
-    pub keeps_then : (e : Event) → AllowedBy (run_in batch) batch.faults batch.recovery (stage_of batch events) e
+    pub keeps_then : (e : Event) → Allowed (dependence_in batch) batch.faults (stage_of batch events) e
         → (table : Table) (places : List Place) (entries : List Entry) (store : Stored) (backup : Backup) (made : List Restart) (front : ℕ)
         (known : Option Halt)
         → RingStands batch (IsPlaceIn batch) (happens (dependence_in batch) batch.faults (stage_of batch events) e) table places

@@ -2,7 +2,7 @@
 -- selective restarts, and a history buffer stands beside them, so that LeftAt tells of what is applied that it left the same. Notes go
 -- along: a result that applies is noted with what its attempt left, all else applies nothing, and what retires is the next of what the
 -- plain run leaves.
-use Rattle.std.proofs.Common.{◌≡◌, inl, inr, ℕ, suc, ◌+◌, ◌≤◌, Bool, true, false, cond, List, [], ◌∷◌, ◌++◌, length, Option, Some, refl, sym, ap, subst, ◌∙◌, arith, add-one, slice_get}
+use Rattle.std.proofs.Common.{◌≡◌, inl, inr, ℕ, suc, ◌≤◌, Bool, true, false, cond, List, [], ◌∷◌, ◌++◌, length, Option, Some, refl, sym, ap, subst, ◌∙◌, arith, add-one, slice_get}
 use Rattle.std.specs.Prelude.{Ok, Err}
 use Rattle.std.proofs.lemmas.Bool.{false≢true, cases_eq, eq-eqb, ne_eqb}
 use Rattle.gp_base.specs.declared.journal.Event.{Event}
@@ -17,7 +17,7 @@ use Rattle.task_ast.specs.meaning.Layout.{layout}
 use Rattle.task_ast.specs.Members.{member_of}
 use Rattle.task_ast.specs.meaning.Plain.{Subthread}
 use Rattle.dependence.specs.Restarts.{mask_of}
-use Rattle.dependence.specs.meaning.Journal.{Stage, Allowed, MayRetire, happens, stage}
+use Rattle.dependence.specs.meaning.Journal.{Stage, Allowed, MayRetire, happens, stage, Lawful}
 use Rattle.dependence.specs.meaning.Runs.{dependence_of}
 use Rattle.dependence.specs.Standing.{present, StageStands}
 use Rattle.dependence.specs.Touching.{done_by}
@@ -37,7 +37,7 @@ use Rattle.whole_run.specs.declared.calls.Halt.TheVariants as halt
 use Rattle.whole_run.specs.declared.calls.Issued.{Issued}
 use Rattle.whole_run.specs.declared.calls.Issued.TheVariants.{One, Needs, Settles, Ended}
 use Rattle.whole_run.specs.declared.recovery.Recovery.TheVariants.{Selective}
-use Rattle.whole_run.specs.Recovering.{recovering, AllowedBy, LawfulBy}
+use Rattle.whole_run.specs.Recovering.{recovering}
 use Rattle.whole_run.specs.View.{Batch, View, program_in, run_in, dependence_in, start_in, now, state_in, begun, grown, learnt, Stands}
 use Rattle.whole_run.specs.Drive.{stage_in}
 use Rattle.whole_run.specs.Gives.{Did, IssueGives, DetectGives, IsJournalOf}
@@ -91,14 +91,14 @@ module _ (view : View) (stands : Stands view) (selective : view.batch.recovery �
       subst (λ (at : Stage). RunStands the_run the_faults the_start at (buffer_after the_run the_faults the_start view.events))
       (sym (ap (λ recovery. stage (recovering recovery the_run) the_faults view.events) selective))
       (after-events the_run the_faults the_start (λ c. refl) stands.short view.events
-      (subst (λ recovery. LawfulBy the_run the_faults recovery view.events) selective stands.lawful)).1
+      (subst (λ recovery. Lawful (recovering recovery the_run) the_faults view.events) selective stands.lawful)).1
 
   now-after : (e : Event) → now (grown view e) ≡ happens (dependence_of the_run) the_faults (now view) e
   now-after e = now-grown view e ∙ ap (λ recovery. happens (recovering recovery the_run) the_faults (now view) e) selective
 
-  allowed-plain : (e : Event) → AllowedBy the_run the_faults view.batch.recovery (now view) e
+  allowed-plain : (e : Event) → Allowed (recovering view.batch.recovery the_run) the_faults (now view) e
       → Allowed (dependence_of the_run) the_faults (now view) e
-  allowed-plain e allowed = subst (λ recovery. AllowedBy the_run the_faults recovery (now view) e) selective allowed
+  allowed-plain e allowed = subst (λ recovery. Allowed (recovering recovery the_run) the_faults (now view) e) selective allowed
 
   -- what the stage after an event keeps, the run keeps
   keeps-after : (e : Event) → KeepsAt the_run the_faults the_start (now view) (happens (dependence_of the_run) the_faults (now view) e)
@@ -202,7 +202,7 @@ module _ (before : View) (done : Done) (stands : Stands before) (task : TaskStan
       ∙ ap (λ o. done_by (member_of (mask_of before.batch.faults p (present (now before) p)) o) (state_in before))
       (sym task.is_task.is_of.position))
 
-  module _ (allowed : AllowedBy (run_in before.batch) before.batch.faults before.batch.recovery (now before) e)
+  module _ (allowed : Allowed (dependence_in before.batch) before.batch.faults (now before) e)
       (selective : before.batch.recovery ≡ Selective) where
     may : Allowed (dependence_of (run_in before.batch)) before.batch.faults (now before) e
     may = allowed-plain before stands selective e allowed

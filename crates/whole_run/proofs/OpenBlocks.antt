@@ -23,9 +23,9 @@ use Rattle.whole_run.specs.declared.recovery.Recovery.TheVariants.{Rollback}
 use Rattle.whole_run.specs.declared.parts.backing.Backup.{Backup}
 use Rattle.whole_run.specs.declared.parts.backing.Checkpoint.{Checkpoint}
 use Rattle.whole_run.specs.Gives.{NoneOut}
-use Rattle.whole_run.specs.inner.Backed.{held_of, open_cut, HasCut, IsWhole, StandsBy, IsCheckpoint, CopiesStand}
+use Rattle.whole_run.specs.inner.Backed.{held_of, open_cut, HasCut, AreLive, IsWhole, StandsBy, IsCheckpoint, CopiesStand}
 use Rattle.whole_run.proofs.OpenCuts.{open-cut-is}
-use Rattle.whole_run.proofs.CutRows.{rising-push, cuts_in, cuts-append}
+use Rattle.whole_run.proofs.CutRows.{rising-push, cuts_in, cuts-append, live-push}
 
 module _ (run : List Subthread) (faults : List Fault) (start : State) (cells : HasCells start) (every : ℕ) (at : Stage)
     (stands : StandsBy run faults (Rollback every) at) (entries : List Entry) (store : Stored) (backup : Backup)
@@ -103,6 +103,7 @@ module _ (run : List Subthread) (faults : List Fault) (start : State) (cells : H
                 (let old = copies.has q under posted in
                 subst (λ items. HasCut items (cut_at cuts q)) (sym same)
                 (old.0, Contains-append_left backup.checkpoints.items (this ∷ []) old.0 old.1, old.2));
+            live = subst (AreLive at.retired) (sym same) (live-push at.retired backup.checkpoints.items this copies.live low);
           }
         where
           this-is : IsCheckpoint run faults start every at store this

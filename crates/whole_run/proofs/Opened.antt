@@ -47,7 +47,6 @@ use Rattle.whole_run.proofs.Options.{none_some}
 use Rattle.whole_run.proofs.RingOpens.{ring_opens}
 use Rattle.whole_run.proofs.Windows.{start-cells}
 use Rattle.whole_run.proofs.Kepts.{keeps_as}
-use Rattle.whole_run.proofs.Recoverings.{no-events}
 
 -- where thread 0 starts
 pub place_opens : (batch : Batch) (task : ℕ) (arguments ctl : List ℤ) → task ≡ main_number (program_in batch) → arguments ≡ []
@@ -80,6 +79,7 @@ module _ (run : List Subthread) (faults : List Fault) (start : State) where
         are = rw none (λ k d l. absurd (omega arith));
         rising = rw none (λ k l. absurd (omega arith));
         has = λ p unretired posted. absurd (let l = posted.1 in omega arith);
+        live = rw none tt;
       }
     where
       opens : initial_held start ≡ held_of store []
@@ -162,7 +162,7 @@ module _ (batch : Batch) (cells : Layout) (suits : Suits batch.work cells batch.
           record {
             fit = suited;
             journal = record {
-              lawful = no-events (run_in batch) batch.faults batch.recovery;
+              lawful = tt;
               restarts_are = refl;
               issued_are = refl;
               ended_is = tt;

@@ -18,7 +18,6 @@ use Rattle.subthread.specs.declared.task.Task.{Task}
 use Rattle.crew.specs.Standing.{untaken}
 use Rattle.reorder_list.specs.declared.report.Report.{Report}
 use Rattle.restart_log.specs.meaning.Lines.{printed}
-use Rattle.whole_run.specs.Recovering.{CompleteBy}
 use Rattle.whole_run.specs.View.{View, program_in, run_in, dependence_in, end_in, now, begun, Stands}
 use Rattle.whole_run.specs.Gives.{NoneLent, IsJournalOf, IsReportOf}
 use Rattle.whole_run.specs.Takes.{CrewStands}
@@ -26,7 +25,7 @@ use Rattle.whole_run.specs.Drive.{JournalStands, ReportsRun, all_lines, WritesRe
 use Rattle.whole_run.specs.inner.Rounds.{Wrote, WrotePart}
 use Rattle.whole_run.proofs.Events.{stage-stands}
 use Rattle.whole_run.proofs.Folds.{last-fold}
-use Rattle.whole_run.proofs.Recoverings.{lawful-plain, complete-plain, restarts-first, restarts-all}
+use Rattle.whole_run.proofs.Recoverings.{restarts-first, restarts-all}
 use Rattle.whole_run.proofs.Crews.{posts-are, takes-are}
 
 -- a journal of a run that stands
@@ -38,22 +37,19 @@ journal-stands view journal stands of =
       first = restarts-first (run_in view.batch) view.batch.faults stands.short view.batch.recovery view.events stands.lawful;
       counted =
           let made = (counted (dependence_in view.batch) view.batch.faults initial_stage view.events
-          (lawful-plain (run_in view.batch) view.batch.faults view.batch.recovery view.events stands.lawful)).made_is in omega arith;
+          stands.lawful).made_is in omega arith;
     })
 
 -- a complete journal of a run
 abbrev IsComplete : View → Type 0
-IsComplete view = CompleteBy (run_in view.batch) view.batch.faults view.batch.recovery view.events
-
-plain : (view : View) → IsComplete view → Complete (dependence_in view.batch) view.batch.faults view.events
-plain view complete = complete-plain (run_in view.batch) view.batch.faults view.batch.recovery view.events complete
+IsComplete view = Complete (dependence_in view.batch) view.batch.faults view.events
 
 -- where all have retired nothing is out, so each lock is at home
 pub complete-home : (view : View) → Stands view → IsComplete view → NoneLent view
 complete-home view stands complete p s there posted out =
     let stood = stage-stands view stands in
     let below : p < (now view).retired =
-    subst (λ n. p < n) (sym (plain view complete).retired) (slice_get_within (run_in view.batch) p s there) in
+    subst (λ n. p < n) (sym complete.retired) (slice_get_within (run_in view.batch) p s there) in
     absurd (out (stood.applied_taken p (stood.retired_applied p below) posted))
 
 -- the report of a complete run
@@ -69,7 +65,7 @@ run-reported view ending report stands complete ended of =
           ∙ ap (λ (state : State). map (cell_value state) (numbers 0 (cells_in (records_of (program_in view.batch).heads))))
           (last-fold (program_in view.batch) view.batch.inputs view.batch.limits view.batch.faults stands.short view.batch.recovery
           view.events complete);
-      subthreads = of.subthreads ∙ (plain view complete).final.passed;
+      subthreads = of.subthreads ∙ complete.final.passed;
       unused = of.unused ∙ ap (λ restarts. length view.batch.faults - length restarts) (sym of.journal.restarts);
     }
 
@@ -88,7 +84,7 @@ pub all-written : (view : View) (start written : Option (List ℕ)) → IsComple
     → Appends start written (printed (all_lines view.batch))
 all-written view start written complete wrote =
     subst (λ n. Appends start written (printed (flat_map (λ (s : Subthread). s.lines) n)))
-    (ap (λ n. take n (run_in view.batch)) (plain view complete).retired ∙ take-length (run_in view.batch)) wrote
+    (ap (λ n. take n (run_in view.batch)) complete.retired ∙ take-length (run_in view.batch)) wrote
 
 -- the posts, and what is out
 pub posts-told : (view : View) (journal : Journal) (posted : List (ℕ × ℕ)) → IsJournalOf view journal → posted ≡ (now view).posted

@@ -2,8 +2,9 @@
 -- are at home and rise. The task that is made of it has the place of its thread, and is given what the store holds;
 -- that makes it a task that stands. After the post the locks are away and the entry is out, and what a block keeps was
 -- opened before.
-use Rattle.std.proofs.Common.{◌≡◌, ℕ, true, List, [], ◌∷◌, ◌++◌, refl, sym, ap, ◌∙◌, subst, arith}
+use Rattle.std.proofs.Common.{◌≡◌, inl, inr, ℕ, true, nat_lt, List, [], ◌∷◌, ◌++◌, refl, sym, ap, ◌∙◌, subst, arith}
 use Rattle.std.specs.Prelude.{All, Contains, get_or, pos, negsuc}
+use Rattle.std.proofs.lemmas.Bool.{or_cases, ltb-true}
 use Rattle.std.specs.List.Sorted.{IsStrictlyIncreasing}
 use Rattle.std.specs.Option.{IsSomeAnd}
 use Rattle.std.proofs.lemmas.List.Elements.{Contains-push, Contains-get_or}
@@ -22,16 +23,16 @@ use Rattle.task_ast.proofs.SeatLimits.{most_threads_law}
 use Rattle.task_ast.proofs.Standings.{agrees}
 use Rattle.task_code.specs.Relation.{Rests}
 use Rattle.gp_base.specs.declared.fault.Fault.{Fault}
-use Rattle.dependence.specs.meaning.Journal.{Stage, MayPost, happens}
+use Rattle.dependence.specs.meaning.Journal.{Stage, MayPost, happens, Allowed}
 use Rattle.dependence.specs.Posting.{IsWithin, posting_of}
-use Rattle.dependence.specs.meaning.Runs.{dependence_of}
+use Rattle.dependence.specs.meaning.Runs.{feet_of, dependence_of}
 use Rattle.dependence.specs.Runs.{lock_feet_of}
 use Rattle.dependence.specs.meaning.Conflict.{clash_in}
 use Rattle.dependence.specs.Standing.{present, StageStands}
 use Rattle.dependence.specs.RunBuffer.{members_at}
 use Rattle.dependence.proofs.Posting.{post-by-locks, run-within}
-use Rattle.rollback.specs.meaning.Cuts.{cuts_of, rolling_of}
-use Rattle.task_ast.specs.SyncOps.{joined_by}
+use Rattle.rollback.specs.meaning.Cuts.{cut_at, cuts_of}
+use Rattle.task_ast.specs.SyncOps.{joined_by, IsNumbered}
 use Rattle.record_store.specs.Given.{given_of}
 use Rattle.record_store.specs.Lent.{marked}
 use Rattle.record_store.specs.Stored.{Stored, state_of, IsAtHome}
@@ -43,15 +44,14 @@ use Rattle.reorder_list.proofs.Changes.{all-there, position-of}
 use Rattle.reorder_list.proofs.Staged.{is-runnable}
 use Rattle.subthread.specs.Lending.{lent_by}
 use Rattle.subthread.specs.declared.task.Task.{Task}
-use Rattle.task_ast.specs.SyncOps.{IsNumbered}
 use Rattle.subthread.specs.Tasks.{Fits, place_of}
 use Rattle.subthread.specs.Joining.{IsTaskOf, IsGiven}
 use Rattle.subthread.proofs.Fitted.{fits_law}
 use Rattle.crew.specs.Out.{pair_of}
+use Rattle.whole_run.specs.Recovering.{recovering}
 use Rattle.whole_run.specs.declared.parts.Parts.{Parts}
 use Rattle.whole_run.specs.declared.recovery.Recovery.{Recovery}
 use Rattle.whole_run.specs.declared.recovery.Recovery.TheVariants.{Selective, Rollback}
-use Rattle.whole_run.specs.Recovering.{AllowedBy}
 use Rattle.whole_run.specs.View.{Batch, program_in, run_in, dependence_in, under_in, start_in, grown}
 use Rattle.whole_run.specs.Gives.{BlockIsOpen, MayPostNow, Did}
 use Rattle.whole_run.specs.Takes.{TaskStands}
@@ -68,14 +68,20 @@ use Rattle.whole_run.proofs.Windows.{threads-below, apart, names-held, window-po
 -- what may be posted by locks, in a block that is open, is allowed
 pub post-allowed : (recovery : Recovery) (run : List Subthread) (faults : List Fault) (at : Stage) (p attempt : ℕ)
     → IsWithin (clash_in (lock_feet_of run)) (dependence_of run) → MayPost (posting_of run) at p attempt → BlockIsOpen recovery run at p
-    → AllowedBy run faults recovery at (event.Post p attempt)
+    → Allowed (recovering recovery run) faults at (event.Post p attempt)
 post-allowed Selective run faults at p attempt within may whole =
     post-by-locks (dependence_of run) (clash_in (lock_feet_of run)) at p attempt within may
 post-allowed (Rollback every) run faults at p attempt within may whole =
     record {
-      may = post-by-locks (rolling_of (cuts_of every run) run) (clash_in (lock_feet_of run)) at p attempt within
-          (record { issued = may.issued; unretired = may.unretired; present = may.present; unposted = may.unposted; ready = may.ready });
-      before_block = whole;
+      issued = may.issued;
+      unretired = may.unretired;
+      present = may.present;
+      unposted = may.unposted;
+      ready = λ q l waits.
+          elim (or_cases (clash_in (feet_of run) q p) (nat_lt q (cut_at (cuts_of every run) p)) waits) [
+            | inl clash ↦ (post-by-locks (dependence_of run) (clash_in (lock_feet_of run)) at p attempt within may).ready q l clash
+            | inr before ↦ whole q (ltb-true q (cut_at (cuts_of every run) p) before)
+          ];
     }
 
 -- what contracts see is the same, where a block was opened
@@ -194,7 +200,7 @@ module _ (batch : Batch) (parts : Parts) (kept : Kept batch parts) (p : ℕ) (ma
   abbrev post : Event
   post = event.Post p (present at p)
 
-  allowed : AllowedBy (run_in batch) batch.faults batch.recovery at post
+  allowed : Allowed (dependence_in batch) batch.faults at post
   allowed =
       post-allowed batch.recovery (run_in batch) batch.faults at p (present at p)
       (run-within (under_in batch) (run_in batch) (apart batch kept.fit) (names-held batch kept.fit)) may.by_locks may.is_open

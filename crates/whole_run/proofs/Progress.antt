@@ -2,7 +2,7 @@
 -- Where nothing is out and nothing may be posted, each position below the front is applied, since the first that is not
 -- might be posted. Then no thread waits for a result; so the oldest position would retire, the next one be issued, or
 -- the run has ended (stuck). So a round without a result has some other event, or makes the end known.
-use Rattle.std.proofs.Common.{◌≡◌, ◌⊎◌, inl, inr, ℕ, zero, suc, ◌<◌, ◌≤◌, Bool, true, false, cond, ◌&&◌, nat_eq, List, [], ◌∷◌, length, Contains, Option, Some, None, is_some, IfSome, refl, sym, ap, subst, ◌∙◌, arith, slice_get}
+use Rattle.std.proofs.Common.{◌≡◌, ◌⊎◌, inl, inr, ℕ, zero, suc, ◌<◌, ◌≤◌, Bool, true, false, cond, ◌&&◌, nat_eq, List, [], ◌∷◌, Contains, Option, Some, None, is_some, IfSome, refl, sym, ap, subst, ◌∙◌, arith, slice_get}
 use Rattle.std.specs.Bool.{Decides}
 use Rattle.std.specs.List.{list_any}
 use Rattle.std.specs.Option.{option_or}
@@ -15,8 +15,8 @@ use Rattle.gp_base.specs.declared.journal.Event.{Event}
 use Rattle.gp_base.specs.declared.journal.Event.TheVariants as event
 use Rattle.task_ast.specs.meaning.Plain.{Subthread}
 use Rattle.dependence.specs.meaning.Dependents.{is_member}
-use Rattle.dependence.specs.meaning.Restarts.{Dependence, drains, is_live, is_due, least_struck, NoneDue, NoneLive, IsFinal, struck_next, restart_of}
-use Rattle.dependence.specs.meaning.Journal.{Stage, initial_stage, WasTaken, happens, restarted, stage_from, stage}
+use Rattle.dependence.specs.meaning.Restarts.{Dependence, drains, is_live, is_due, least_struck, NoneDue, NoneLive, struck_next, restart_of}
+use Rattle.dependence.specs.meaning.Journal.{Stage, initial_stage, WasTaken, happens, restarted, stage_from, Complete}
 use Rattle.dependence.specs.JournalTests.{same_attempt}
 use Rattle.dependence.specs.Standing.{present}
 use Rattle.dependence.proofs.Auditing.{contains-decides}
@@ -25,7 +25,6 @@ use Rattle.rollback.specs.meaning.Cuts.{cuts_of}
 use Rattle.rollback.proofs.Backs.{cut-low}
 use Rattle.whole_run.specs.declared.recovery.Recovery.{Recovery}
 use Rattle.whole_run.specs.declared.recovery.Recovery.TheVariants.{Selective, Rollback}
-use Rattle.whole_run.specs.Recovering.{recovering, LawfulBy, CompleteBy}
 use Rattle.whole_run.specs.declared.calls.Halt.{Halt}
 use Rattle.whole_run.specs.declared.calls.Halt.TheVariants as halt
 use Rattle.whole_run.specs.View.{Batch, View, run_in, dependence_in, end_in, now, is_known, IsHalt, Stands}
@@ -164,20 +163,15 @@ known-halt view halts stands is = subst (λ o. IfSome o (IsHalt view.batch (now 
 pub ends-so : (view : View) (ending : End) → Stands view → HasFinished view ending → ending ≡ end_in view.batch
 ends-so view ending stands done = (known-halt view (halt.Ended ending) stands done.ended).1
 
--- a lawful journal with all issued, no fault left and all retired is complete
-complete-by : (run : List Subthread) (faults : List Fault) (recovery : Recovery) (events : List Event) → LawfulBy run faults recovery events
-    → let at = stage (recovering recovery run) faults events in
-    IsFinal (recovering recovery run) faults at.progress → at.retired ≡ length run → CompleteBy run faults recovery events
-complete-by run faults Selective events lawful final retired = record { lawful = lawful; final = final; retired = retired }
-complete-by run faults (Rollback every) events lawful final retired = record { lawful = lawful; final = final; retired = retired }
-
--- and so is one that has finished, where no position is struck
+-- a journal that has finished, where no position is struck, is complete
 pub completed : (view : View) (ending : End) → Stands view → struck_now view ≡ None → HasFinished view ending
-    → CompleteBy (run_in view.batch) view.batch.faults view.batch.recovery view.events
+    → Complete (dependence_in view.batch) view.batch.faults view.events
 completed view ending stands none done =
-    complete-by (run_in view.batch) view.batch.faults view.batch.recovery view.events stands.lawful
-    (record { passed = passed; none_left = rw (none-due view none, known-ends view stands known, none-live view known none) refl })
-    (done.retired ∙ passed)
+    record {
+      lawful = stands.lawful;
+      final = record { passed = passed; none_left = rw (none-due view none, known-ends view stands known, none-live view known none) refl };
+      retired = done.retired ∙ passed;
+    }
   where
     known : is_known view ≡ true
     known = ap is_some done.ended

@@ -5,18 +5,17 @@ use Rattle.gp_base.specs.declared.journal.Event.{Event}
 use Rattle.gp_base.specs.declared.journal.Event.TheVariants as event
 use Rattle.task_ast.specs.meaning.Plain.{Subthread}
 use Rattle.dependence.specs.meaning.Conflict.{clash_in}
-use Rattle.dependence.specs.meaning.Journal.{Stage, happens}
+use Rattle.dependence.specs.meaning.Journal.{Stage, happens, Allowed}
 use Rattle.dependence.specs.Posting.{KeepsReady, OutReady}
 use Rattle.dependence.specs.RunBuffer.{IsOut}
-use Rattle.dependence.specs.meaning.Runs.{feet_of}
 use Rattle.dependence.specs.Runs.{lock_feet_of}
 use Rattle.dependence.specs.Standing.{present, StageStands}
 use Rattle.dependence.proofs.Posting.{out-ready, no-locks-clash}
 use Rattle.whole_run.specs.declared.recovery.Recovery.{Recovery}
 use Rattle.whole_run.specs.declared.recovery.Recovery.TheVariants.{Selective, Rollback}
-use Rattle.whole_run.specs.Recovering.{recovering, AllowedBy}
+use Rattle.whole_run.specs.Recovering.{recovering}
 use Rattle.whole_run.specs.Gives.{IsBackBy, HasWaited}
-use Rattle.whole_run.proofs.Recoverings.{redoes-conflicts, allowed-plain}
+use Rattle.whole_run.proofs.Recoverings.{redoes-conflicts}
 
 pub slice_get_inside : {X : Type 0} (xs : List X) (k : ℕ) → k < length xs → (x : X) × (slice_get xs k ≡ Some x)
 slice_get_inside [] k l = absurd (omega arith)
@@ -34,9 +33,10 @@ module _ (run : List Subthread) where
   abbrev locks : ℕ → ℕ → Bool
   locks = clash_in (lock_feet_of run)
 
-  -- where a restart has waited, what is out is in conflict by locks only where it is so in the run: it holds no lock, or there is none
+  -- where a restart has waited, what is out waits for what is in conflict with it by locks: it holds no lock, or there is none
   clear-of-locks : (recovery : Recovery) (at : Stage) → ((p attempt : ℕ) → Contains at.posted (p, attempt) → p < length run)
-      → IsBackBy recovery run at → (p attempt q : ℕ) → IsOut at p attempt → q < p → locks q p ≡ true → clash_in (feet_of run) q p ≡ true
+      → IsBackBy recovery run at → (p attempt q : ℕ) → IsOut at p attempt → q < p → locks q p ≡ true
+      → (recovering recovery run).clash q p ≡ true
   clear-of-locks Selective at within none p attempt q out less clash =
       let there = slice_get_inside run p (within p attempt out.posted) in
       no-locks-clash run p q there.0 there.1
@@ -60,8 +60,7 @@ module _ (run : List Subthread) where
         (λ p attempt there. let low = (stands.posted_low p attempt there).0 in let most = stands.front_low in omega arith) waited
     keeps-ready (event.Retire p) waited = tt
 
-    pub stays-ready : (e : Event) → AllowedBy run faults recovery at e → HasWaited recovery run at e → OutReady locks at
+    pub stays-ready : (e : Event) → Allowed (recovering recovery run) faults at e → HasWaited recovery run at e → OutReady locks at
         → OutReady locks (happens (recovering recovery run) faults at e)
     stays-ready e allowed waited ready =
-        out-ready (recovering recovery run) locks faults at e (redoes-conflicts run recovery) stands
-        (allowed-plain run faults recovery at e allowed) (keeps-ready e waited) ready
+        out-ready (recovering recovery run) locks faults at e (redoes-conflicts run recovery) stands allowed (keeps-ready e waited) ready

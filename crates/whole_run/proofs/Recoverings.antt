@@ -1,15 +1,14 @@
 -- What holds of a run's order, journals and stages, whichever way it recovers.
-use Rattle.std.proofs.Common.{◌≡◌, ℕ, Bool, List, [], ◌∷◌, ◌++◌}
+use Rattle.std.proofs.Common.{◌≡◌, List, [], ◌∷◌, ◌++◌}
 use Rattle.gp_base.specs.declared.fault.Fault.{Fault}
 use Rattle.gp_base.specs.declared.journal.Event.{Event}
-use Rattle.gp_base.specs.declared.journal.Event.TheVariants as event
 use Rattle.gp_base.specs.declared.journal.Restart.{Restart}
 use Rattle.task_ast.specs.meaning.Plain.{Subthread}
 use Rattle.dependence.specs.meaning.Conflict.{clash_in}
 use Rattle.dependence.specs.Dependents.{itself}
 use Rattle.dependence.specs.meaning.Restarts.{restarts}
 use Rattle.dependence.specs.Restarts.{RedoesStruck}
-use Rattle.dependence.specs.meaning.Journal.{Stage, initial_stage, MayIssue, MayTake, MayRestart, Allowed, Lawful, Complete, happens, stage}
+use Rattle.dependence.specs.meaning.Journal.{Stage, initial_stage, Allowed, Lawful, Complete, happens, stage}
 use Rattle.dependence.specs.Standing.{AreShort, RedoesConflicts, StageStands, KeepsRetired, NamesIssued}
 use Rattle.dependence.specs.meaning.Runs.{feet_of, dependence_of}
 use Rattle.dependence.proofs.DependentSets.{dependents-are}
@@ -23,7 +22,7 @@ use Rattle.rollback.proofs.Journals as blocks_journals
 use Rattle.rollback.proofs.Driving.{happens-driving, driving-journal}
 use Rattle.whole_run.specs.declared.recovery.Recovery.{Recovery}
 use Rattle.whole_run.specs.declared.recovery.Recovery.TheVariants.{Selective, Rollback}
-use Rattle.whole_run.specs.Recovering.{recovering, HasCuts, AllowedBy, LawfulBy, CompleteBy}
+use Rattle.whole_run.specs.Recovering.{recovering, HasCuts}
 use Rattle.whole_run.specs.inner.Backed.{StandsBy}
 
 module _ (run : List Subthread) where
@@ -36,59 +35,20 @@ module _ (run : List Subthread) where
   redoes-conflicts (Rollback every) = rolls-conflicts (cuts_of every run) (dependence_of run)
 
   module _ (faults : List Fault) where
-    -- what is lawful by blocks is lawful
-    pub allowed-plain : (recovery : Recovery) (at : Stage) (e : Event) → AllowedBy run faults recovery at e
-        → Allowed (recovering recovery run) faults at e
-    allowed-plain Selective at e allowed = allowed
-    allowed-plain (Rollback every) at e allowed = blocks.allowed-narrower (cuts_of every run) (dependence_of run) faults at e allowed
-
-    -- an issue, a take and a restart are allowed as they are without blocks
-    pub issue-allowed : (recovery : Recovery) (at : Stage) (p : ℕ) → MayIssue (recovering recovery run) faults at p
-        → AllowedBy run faults recovery at (event.Issue p)
-    issue-allowed Selective at p may = may
-    issue-allowed (Rollback every) at p may = may
-
-    pub take-allowed : (recovery : Recovery) (at : Stage) (p attempt : ℕ) (applies : Bool) → MayTake at p attempt applies
-        → AllowedBy run faults recovery at (event.Take p attempt applies)
-    take-allowed Selective at p attempt applies may = may
-    take-allowed (Rollback every) at p attempt applies may = may
-
-    pub restart-allowed : (recovery : Recovery) (at : Stage) (number : ℕ) → MayRestart (recovering recovery run) faults at number
-        → AllowedBy run faults recovery at (event.Restart number)
-    restart-allowed Selective at number may = may
-    restart-allowed (Rollback every) at number may = may
-
-    pub lawful-plain : (recovery : Recovery) (events : List Event) → LawfulBy run faults recovery events
-        → Lawful (recovering recovery run) faults events
-    lawful-plain Selective events lawful = lawful
-    lawful-plain (Rollback every) events lawful = blocks.lawful-narrower (cuts_of every run) (dependence_of run) faults events lawful
-
-    pub complete-plain : (recovery : Recovery) (events : List Event) → CompleteBy run faults recovery events
-        → Complete (recovering recovery run) faults events
-    complete-plain Selective events complete = complete
-    complete-plain (Rollback every) events complete =
-        blocks.complete-narrower (cuts_of every run) (dependence_of run) faults events complete
-
-    pub no-events : (recovery : Recovery) → LawfulBy run faults recovery []
-    no-events Selective = tt
-    no-events (Rollback every) = tt
-
-    pub lawful-push : (recovery : Recovery) (events : List Event) (e : Event) → LawfulBy run faults recovery events
-        → AllowedBy run faults recovery (stage (recovering recovery run) faults events) e → LawfulBy run faults recovery (events ++ e ∷ [])
-    lawful-push Selective events e lawful allowed =
-        selective_journals.LawfulFrom-push (dependence_of run) faults initial_stage events e lawful allowed
-    lawful-push (Rollback every) events e lawful allowed =
-        blocks.lawful-push (cuts_of every run) (dependence_of run) faults events e lawful allowed
+    pub lawful-push : (recovery : Recovery) (events : List Event) (e : Event) → Lawful (recovering recovery run) faults events
+        → Allowed (recovering recovery run) faults (stage (recovering recovery run) faults events) e
+        → Lawful (recovering recovery run) faults (events ++ e ∷ [])
+    lawful-push recovery events e lawful allowed =
+        selective_journals.LawfulFrom-push (recovering recovery run) faults initial_stage events e lawful allowed
 
     -- what stands after a lawful journal
-    pub names-after : (recovery : Recovery) (events : List Event) → LawfulBy run faults recovery events
+    pub names-after : (recovery : Recovery) (events : List Event) → Lawful (recovering recovery run) faults events
         → NamesIssued (stage (recovering recovery run) faults events)
     names-after recovery events lawful =
-        issued-from (recovering recovery run) (redoes-conflicts recovery) faults initial_stage events (lawful-plain recovery events lawful)
-        initial-issued
+        issued-from (recovering recovery run) (redoes-conflicts recovery) faults initial_stage events lawful initial-issued
 
     module _ (short : AreShort faults) where
-      pub stands-after : (recovery : Recovery) (events : List Event) → HasCuts recovery → LawfulBy run faults recovery events
+      pub stands-after : (recovery : Recovery) (events : List Event) → HasCuts recovery → Lawful (recovering recovery run) faults events
           → StandsBy run faults recovery (stage (recovering recovery run) faults events)
       stands-after Selective events cuts lawful = selective.run-stands run faults events short lawful
       stands-after (Rollback every) events cuts lawful = (
@@ -100,7 +60,7 @@ module _ (run : List Subthread) where
 
       -- an event that is allowed keeps it
       pub stands-then : (recovery : Recovery) (at : Stage) (e : Event) → StandsBy run faults recovery at
-          → AllowedBy run faults recovery at e → StandsBy run faults recovery (happens (recovering recovery run) faults at e)
+          → Allowed (recovering recovery run) faults at e → StandsBy run faults recovery (happens (recovering recovery run) faults at e)
       stands-then Selective at e stands allowed =
           selective.happens-stands (dependence_of run) (selective.run-redoes run) faults short at e
           (selective.keeps-retired (dependence_of run) faults at (selective.run-later run) stands) stands allowed
@@ -112,7 +72,7 @@ module _ (run : List Subthread) where
       )
 
       -- the restarts of a journal are the first of all, and those of a complete one are all
-      pub restarts-first : (recovery : Recovery) (events : List Event) → LawfulBy run faults recovery events
+      pub restarts-first : (recovery : Recovery) (events : List Event) → Lawful (recovering recovery run) faults events
           → (rest : List Restart)
           × (restarts (recovering recovery run) faults ≡ (stage (recovering recovery run) faults events).progress.made ++ rest)
       restarts-first Selective events lawful =
@@ -122,7 +82,7 @@ module _ (run : List Subthread) where
           (settle-cuts every (dependence_of run)) short events
           lawful
 
-      pub restarts-all : (recovery : Recovery) (events : List Event) → CompleteBy run faults recovery events
+      pub restarts-all : (recovery : Recovery) (events : List Event) → Complete (recovering recovery run) faults events
           → (stage (recovering recovery run) faults events).progress.made ≡ restarts (recovering recovery run) faults
       restarts-all Selective events complete =
           selective_journals.restarts-all (dependence_of run) faults (selective.run-clean run faults short) events complete

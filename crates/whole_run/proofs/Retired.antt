@@ -10,7 +10,7 @@ use Rattle.gp_base.specs.declared.journal.Event.{Event}
 use Rattle.gp_base.specs.declared.journal.Event.TheVariants as event
 use Rattle.gp_base.specs.meaning.Sinks.{AppendsPrefix}
 use Rattle.dependence.specs.meaning.Restarts.{is_due, is_live, least_struck, NoneLive}
-use Rattle.dependence.specs.meaning.Journal.{Stage, Drained, happens}
+use Rattle.dependence.specs.meaning.Journal.{Stage, Drained, happens, Allowed}
 use Rattle.dependence.specs.Standing.{StageStands}
 use Rattle.reorder_list.specs.declared.entry.Entry.{Entry}
 use Rattle.reorder_list.specs.declared.entry.State.{State}
@@ -20,7 +20,6 @@ use Rattle.reorder_list.specs.Stages.{EntriesStand}
 use Rattle.whole_run.specs.declared.parts.Parts.{Parts}
 use Rattle.whole_run.specs.declared.parts.backing.Backup.{Backup}
 use Rattle.whole_run.specs.declared.calls.Halt.{Halt}
-use Rattle.whole_run.specs.Recovering.{AllowedBy}
 use Rattle.whole_run.specs.View.{Batch, View, grown, now, program_in, run_in, dependence_in, start_in, lines_of, lines_at}
 use Rattle.reorder_list.specs.declared.report.StopWhy.{StopWhy}
 use Rattle.restart_log.specs.meaning.Lines.{printed}
@@ -33,7 +32,7 @@ use Rattle.whole_run.proofs.Backings.{backed-lines}
 use Rattle.whole_run.proofs.Progress.{halts-drain}
 use Rattle.whole_run.proofs.Kepts.{stage_stands, stands_by, keeps_then}
 use Rattle.whole_run.proofs.RingTakes.{ring_same}
-use Rattle.whole_run.proofs.Safe.{oldest-is, oldest-there, safe-is, is-safe, retire-allowed}
+use Rattle.whole_run.proofs.Safe.{oldest-is, oldest-there, safe-is, is-safe}
 use Rattle.whole_run.proofs.Struck.{due-is, live-is}
 use Rattle.whole_run.proofs.Windows.{window-retire}
 
@@ -97,7 +96,7 @@ module _ (batch : Batch) (parts : Parts) (kept : Kept batch parts) where
             none_due = none-is _ (sym due-none ∙ second.0);
             safe = elim (or_cases _ _ second.1) [
               | inl late ↦ inl (safe-is (run_in batch) at batch.faults (start_in batch) parts.rol.entries kept.window.entries_are e
-                  is.0 is.3 parts.store parts.backup batch.recovery stands kept.window.backed
+                  is.0 is.3 parts.store parts.backup batch.recovery stands kept.window.backed (is.0.applied.0 (applied-is e.state first.0))
                   (subst (λ front. is_safe batch.recovery parts.rol.entries parts.backup.whole e front ≡ true)
                   kept.journal.issued_are late))
               | inr end ↦ inr (let parts_are = and_parts _ _ end in (parts_are.0, none-is _ (sym live-none ∙ parts_are.1)))
@@ -113,7 +112,7 @@ module _ (batch : Batch) (parts : Parts) (kept : Kept batch parts) where
         | inl late ↦ or_left _ _
             (subst (λ front. is_safe batch.recovery parts.rol.entries parts.backup.whole there.0 front ≡ true) (sym kept.journal.issued_are)
             (is-safe (run_in batch) at batch.faults (start_in batch) parts.rol.entries kept.window.entries_are there.0 is.0 is.3
-            parts.store parts.backup batch.recovery stands kept.window.backed late))
+            parts.store parts.backup batch.recovery stands kept.window.backed may.issued late))
         | inr end ↦ or_right _ _ (and_from _ _ end.0 (live-none ∙ is-none _ end.1))
       ] in
       subst
@@ -125,13 +124,19 @@ module _ (batch : Batch) (parts : Parts) (kept : Kept batch parts) where
   not-now false_is may = false≢true (sym false_is ∙ retires-now may)
 
   module _ (true_is : retires ≡ true) where
-    pub allowed : AllowedBy (run_in batch) batch.faults batch.recovery at (event.Retire at.retired)
+    pub allowed : Allowed (dependence_in batch) batch.faults at (event.Retire at.retired)
     allowed =
         let may = may-now true_is in
-        retire-allowed (run_in batch) at batch.faults batch.recovery stands may.issued may.applied may.none_due (elim may.safe [
-          | inl late ↦ inl late
-          | inr end ↦ inr (drained parts.ended kept.journal.ended_is end.0 end.1)
-        ])
+        record {
+          oldest = refl;
+          issued = may.issued;
+          applied = may.applied;
+          none_due = may.none_due;
+          safe = elim may.safe [
+            | inl rest ↦ inl rest
+            | inr end ↦ inr (drained parts.ended kept.journal.ended_is end.0 end.1)
+          ];
+        }
       where
         drained : (ended : Option Halt) → IsEnd batch at.progress.front ended → is_some ended ≡ true → NoneLive batch.faults at.progress
             → Drained (dependence_in batch) batch.faults at.progress

@@ -14,13 +14,12 @@ use Rattle.task_ast.specs.meaning.Table.{numbers}
 use Rattle.task_ast.specs.meaning.Plain.{Subthread}
 use Rattle.dependence.specs.meaning.Dependents.{is_member}
 use Rattle.dependence.specs.meaning.Restarts.{Dependence, struck_next}
-use Rattle.dependence.specs.meaning.Journal.{Stage, happens, restarted}
+use Rattle.dependence.specs.meaning.Journal.{Stage, happens, restarted, Allowed}
 use Rattle.dependence.specs.Standing.{present}
 use Rattle.dependence.specs.meaning.Runs.{dependence_of}
 use Rattle.dependence.specs.Histories.{HasCells}
 use Rattle.dependence.proofs.Struck.{struck-live}
 use Rattle.rollback.specs.meaning.Cuts.{cut_at, cuts_of, back, rolling_of}
-use Rattle.rollback.specs.meaning.Journal.{AllowedByBlocks}
 use Rattle.rollback.specs.States.{HeldStands, IsCopy, held_restarted}
 use Rattle.rollback.specs.Driving.{RollsBack}
 use Rattle.rollback.proofs.Backs.{cut-low, unredone}
@@ -34,9 +33,9 @@ use Rattle.reorder_list.specs.Stages.{EntriesStand}
 use Rattle.whole_run.specs.declared.recovery.Recovery.TheVariants.{Rollback}
 use Rattle.whole_run.specs.declared.parts.backing.Backup.{Backup}
 use Rattle.whole_run.specs.declared.parts.backing.Checkpoint.{Checkpoint}
-use Rattle.whole_run.specs.inner.Backed.{held_of, open_cut, HasCut, IsWhole, StandsBy, IsCheckpoint, HasCheckpoints, CopiesStand}
+use Rattle.whole_run.specs.inner.Backed.{held_of, open_cut, HasCut, AreLive, IsWhole, StandsBy, IsCheckpoint, HasCheckpoints, CopiesStand}
 use Rattle.whole_run.specs.inner.Backing.{IsRestored, DropsAfter}
-use Rattle.whole_run.proofs.CutRows.{rising-front, cuts_in, cuts-append}
+use Rattle.whole_run.proofs.CutRows.{rising-front, cuts_in, cuts-append, live-front}
 use Rattle.whole_run.proofs.EntryLines.{lines-kept}
 use Rattle.whole_run.proofs.Checkpoints.{StaysShaped, held-as, checkpoint-kept}
 use Rattle.whole_run.proofs.OpenBlocks.{cut-is, none-applied}
@@ -51,7 +50,7 @@ module _ (run : List Subthread) (faults : List Fault) (start : State) (cells : H
   rolled = rolling_of cuts run
 
   module _ (number struck cut : ℕ)
-      (allowed : AllowedByBlocks cuts (dependence_of run) faults at (event.Restart number))
+      (allowed : Allowed rolled faults at (event.Restart number))
       (next : struck_next rolled faults at.progress ≡ Some struck) (opens : open_cut every entries struck ≡ Some cut) where
     abbrev behind : Stage
     behind = happens rolled faults at (event.Restart number)
@@ -171,6 +170,10 @@ module _ (run : List Subthread) (faults : List Fault) (start : State) (cells : H
                   (rising-front (cuts_in mid.checkpoints.items) (cuts_in drops.rest)
                   (subst IsStrictlyIncreasing (ap cuts_in drops.split ∙ cuts-append mid.checkpoints.items drops.rest) copies.rising));
               has = subst (λ (b : Backup). HasCheckpoints run faults start every behind b.checkpoints.items) (sym backup_is) has;
+              live = subst (λ (b : Backup). AreLive behind.retired b.checkpoints.items) (sym backup_is)
+                  (subst (λ r. AreLive r mid.checkpoints.items) (sym same-retired)
+                  (live-front at.retired mid.checkpoints.items drops.rest
+                  (subst (AreLive at.retired) drops.split copies.live)));
             }
           where
             whole : IsWhole behind (min backup.whole cut)

@@ -1,13 +1,12 @@
 -- Whether the oldest position may retire, as the entries tell it and as the stage does, whichever way the run recovers.
-use Rattle.std.proofs.Common.{◌≡◌, ◌⊎◌, inl, inr, ℕ, ◌+◌, ◌-◌, ◌<◌, ◌≤◌, true, nat_le, List, [], ◌∷◌, Some, refl, sym, subst, ◌∙◌, arith, slice_get}
+use Rattle.std.proofs.Common.{◌≡◌, inl, inr, ℕ, ◌+◌, ◌-◌, ◌<◌, ◌≤◌, true, nat_le, List, [], ◌∷◌, Some, refl, sym, subst, ◌∙◌, arith, slice_get}
 use Rattle.std.proofs.lemmas.Bool.{eq-eqb, false≢true, and_parts, and_from, leb-true, le-leb, cases_lt}
 use Rattle.gp_base.specs.declared.limits.TheConstants.{LONGEST_DELAY}
 use Rattle.gp_base.specs.declared.fault.Fault.{Fault}
-use Rattle.gp_base.specs.declared.journal.Event.TheVariants as event
 use Rattle.task_ast.specs.meaning.State.{State}
 use Rattle.task_ast.specs.meaning.Plain.{Subthread}
-use Rattle.dependence.specs.meaning.Restarts.{begun_of, NoneDue}
-use Rattle.dependence.specs.meaning.Journal.{Stage, Drained}
+use Rattle.dependence.specs.meaning.Restarts.{begun_of}
+use Rattle.dependence.specs.meaning.Journal.{Stage, IsSafe, RestIsSafe}
 use Rattle.dependence.specs.meaning.Runs.{dependence_of}
 use Rattle.record_store.specs.Stored.{Stored}
 use Rattle.reorder_list.specs.declared.entry.Entry.{Entry}
@@ -16,14 +15,13 @@ use Rattle.reorder_list.specs.Stages.{IsEntry, EntriesStand}
 use Rattle.reorder_list.proofs.Changes.{is-there}
 use Rattle.rollback.specs.Driving.{DrivingStands}
 use Rattle.rollback.proofs.Driving.{rest-safe}
-use Rattle.rollback.proofs.Multiples.{multiple-above, rest-is-safe}
+use Rattle.rollback.proofs.Multiples.{multiple-above, rest-is-safe, rest-safe-only}
 use Rattle.whole_run.specs.declared.parts.backing.Backup.{Backup}
 use Rattle.whole_run.specs.declared.recovery.Recovery.{Recovery}
 use Rattle.whole_run.specs.declared.recovery.Recovery.TheVariants.{Selective, Rollback}
-use Rattle.whole_run.specs.Recovering.{recovering, AllowedBy}
-use Rattle.whole_run.specs.Gives.{next_multiple, BlockIsSafe, IsSafeBy}
+use Rattle.whole_run.specs.Recovering.{recovering}
 use Rattle.whole_run.specs.inner.Backed.{IsWhole, StandsBy, BackedBy}
-use Rattle.whole_run.specs.inner.Retiring.{is_old, entry_is_old, block_is_safe, is_safe}
+use Rattle.whole_run.specs.inner.Retiring.{is_old, entry_is_old, next_multiple, block_is_safe, is_safe}
 
 module _ (run : List Subthread) (at : Stage) where
   -- the oldest entry is that of the position that retires next
@@ -66,8 +64,9 @@ module _ (run : List Subthread) (at : Stage) where
         let front = stand.front in
         is-there at.retired entries (next - 1) stand.row (omega arith) (omega arith)
 
-    block-is : block_is_safe every entries whole at.retired at.progress.front ≡ true → BlockIsSafe every at
-    block-is safe =
+    block-is : block_is_safe every entries whole at.retired at.progress.front ≡ true
+        → (q : ℕ) → at.retired ≤ q → q < next → IsSafe at q
+    block-is safe q from below =
         let both = and_parts (nat_le next whole) (entry_is_old at.progress.front (entry_at entries (next - 1))) safe in
         let within = leb-true next whole both.0 in
         let issued = is_whole.issued in
@@ -75,23 +74,20 @@ module _ (run : List Subthread) (at : Stage) where
         let last = last-there (omega arith) in
         let old = old-is (next - 1) last.0 (stand.each (next - 1) last.0 last.1)
         (subst (λ o. entry_is_old at.progress.front o ≡ true) last.1 both.1) in
-        record {
-          issued = omega arith;
-          safe = λ q from below.
-              rest-safe (dependence_of run) at at.retired (next - 1) driving (omega arith)
-              (λ r low high. is_whole.below r (omega arith)) old q from (omega arith);
-        }
+        rest-safe (dependence_of run) at at.retired (next - 1) driving (omega arith)
+        (λ r low high. is_whole.below r (omega arith)) old q from (omega arith)
 
-    is-block : ((q : ℕ) → q < at.retired → at.applied q ≡ true) → BlockIsSafe every at
+    is-block : ((q : ℕ) → q < at.retired → at.applied q ≡ true) → next ≤ at.progress.front
+        → ((q : ℕ) → at.retired ≤ q → q < next → IsSafe at q)
         → block_is_safe every entries whole at.retired at.progress.front ≡ true
-    is-block retired block =
+    is-block retired issued safe =
         and_from (nat_le next whole) (entry_is_old at.progress.front (entry_at entries (next - 1))) (le-leb next whole within) old
       where
         applied-below : (q : ℕ) → q < next → at.applied q ≡ true
         applied-below q below =
             elim (cases_lt q at.retired) [
               | inl before ↦ retired q before
-              | inr from ↦ (block.safe q from below).applied
+              | inr from ↦ (safe q from below).applied
             ]
 
         within : next ≤ whole
@@ -104,40 +100,31 @@ module _ (run : List Subthread) (at : Stage) where
         old : entry_is_old at.progress.front (entry_at entries (next - 1)) ≡ true
         old =
             let above = multiple-above every some at.retired in
-            let last = last-there block.issued in
+            let last = last-there issued in
             subst (λ o. entry_is_old at.progress.front o ≡ true) (sym last.1)
-            (is-old (next - 1) last.0 (stand.each (next - 1) last.0 last.1) (block.safe (next - 1) (omega arith) (omega arith)).long)
+            (is-old (next - 1) last.0 (stand.each (next - 1) last.0 last.1) (safe (next - 1) (omega arith) (omega arith)).long)
 
-  -- the oldest entry tells whether a fault can still strike its position, or, where all is rolled back, any of its block
+  -- the oldest entry tells whether the rest of its block is safe: of its position alone, or, where all is rolled back, up to the next
+  -- multiple
   module _ (faults : List Fault) (start : State) (entries : List Entry) (stand : EntriesStand run at entries) (e : Entry)
       (is : IsEntry run at at.retired e) (first : e.pos ≡ at.retired) (store : Stored) (backup : Backup) where
     pub safe-is : (recovery : Recovery) → StandsBy run faults recovery at → BackedBy run faults start recovery at entries store backup
-        → is_safe recovery entries backup.whole e at.progress.front ≡ true → IsSafeBy recovery at
-    safe-is Selective stands backed safe = old-is at.retired e is safe
-    safe-is (Rollback every) stands backed safe =
-        block-is entries stand every stands.2 stands.1 backup.whole backed.whole
-        (subst (λ p. block_is_safe every entries backup.whole p at.progress.front ≡ true) first safe)
+        → at.applied at.retired ≡ true
+        → is_safe recovery entries backup.whole e at.progress.front ≡ true → RestIsSafe (recovering recovery run) at at.retired
+    safe-is Selective stands backed applied safe =
+        λ q low counted same. subst (IsSafe at) (sym same) (record { applied = applied; long = old-is at.retired e is safe })
+    safe-is (Rollback every) stands backed applied safe =
+        λ q low counted same. rest-is-safe every stands.2 (dependence_of run) at at.retired
+        (block-is entries stand every stands.2 stands.1 backup.whole backed.whole
+        (subst (λ p. block_is_safe every entries backup.whole p at.progress.front ≡ true) first safe)) q low same
 
     pub is-safe : (recovery : Recovery) → StandsBy run faults recovery at → BackedBy run faults start recovery at entries store backup
-        → IsSafeBy recovery at → is_safe recovery entries backup.whole e at.progress.front ≡ true
-    is-safe Selective stands backed safe = is-old at.retired e is safe
-    is-safe (Rollback every) stands backed safe =
+        → at.retired < at.progress.front
+        → RestIsSafe (recovering recovery run) at at.retired → is_safe recovery entries backup.whole e at.progress.front ≡ true
+    is-safe Selective stands backed issued rest =
+        is-old at.retired e is (let front = stands.front_low in rest at.retired (omega arith) (omega arith) refl).long
+    is-safe (Rollback every) stands backed issued rest =
+        let only = rest-safe-only every stands.2 (dependence_of run) at stands.1 at.retired stands.0.stands.front_low (omega arith) issued
+        rest in
         subst (λ p. block_is_safe every entries backup.whole p at.progress.front ≡ true) (sym first)
-        (is-block entries stand every stands.2 stands.1 backup.whole backed.whole stands.0.stands.retired_applied safe)
-
-  -- so it may retire
-  pub retire-allowed : (faults : List Fault) (recovery : Recovery) → StandsBy run faults recovery at → at.retired < at.progress.front
-      → at.applied at.retired ≡ true → NoneDue faults at.progress
-      → IsSafeBy recovery at ⊎ Drained (recovering recovery run) faults at.progress
-      → AllowedBy run faults recovery at (event.Retire at.retired)
-  retire-allowed faults Selective stands issued applied none_due safe =
-      record { oldest = refl; issued = issued; applied = applied; none_due = none_due; safe = safe }
-  retire-allowed faults (Rollback every) stands issued applied none_due safe =
-      record {
-        oldest = refl;
-        none_due = none_due;
-        cleared = elim safe [
-          | inl block ↦ inl (rest-is-safe every stands.2 (dependence_of run) at stands.1 at.retired (omega arith) block.issued block.safe)
-          | inr drained ↦ inr (record { issued = issued; applied = applied; drained = drained })
-        ];
-      }
+        (is-block entries stand every stands.2 stands.1 backup.whole backed.whole stands.0.stands.retired_applied only.0 only.1)

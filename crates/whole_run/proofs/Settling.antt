@@ -5,22 +5,18 @@ use Rattle.task_ast.specs.meaning.State.{State, RegistersOf, number_at}
 use Rattle.task_ast.specs.meaning.Table.{is_settle}
 use Rattle.task_ast.specs.meaning.Plain.{Subthread}
 use Rattle.task_ast.specs.meaning.Position.{before}
-use Rattle.dependence.specs.meaning.Journal.{MayIssue}
+use Rattle.dependence.specs.meaning.Journal.{Allowed}
 use Rattle.dependence.specs.meaning.Runs.{settles_one}
-use Rattle.whole_run.specs.Recovering.{AllowedBy}
 use Rattle.whole_run.specs.View.{View, program_in, run_in, dependence_in, now, state_in, Stands}
 use Rattle.whole_run.specs.Laws.{SettledNumberLaw}
 use Rattle.whole_run.proofs.Folds.{drained-fold}
-use Rattle.whole_run.proofs.Recoverings.{allowed-plain}
 
 -- where a settle may be issued, the state is that of the plain run
 settled-state : (view : View) (p : ℕ) (s : Subthread) → Stands view
-    → AllowedBy (run_in view.batch) view.batch.faults view.batch.recovery (now view) (event.Issue p)
+    → Allowed (dependence_in view.batch) view.batch.faults (now view) (event.Issue p)
     → slice_get (run_in view.batch) p ≡ Some s → is_settle s.begins.sync ≡ true
     → state_in view ≡ (before (program_in view.batch) view.batch.inputs view.batch.limits p).state
-settled-state view p s stands allowed at settles =
-    let may : MayIssue (dependence_in view.batch) view.batch.faults (now view) p =
-    allowed-plain (run_in view.batch) view.batch.faults view.batch.recovery (now view) (event.Issue p) allowed in
+settled-state view p s stands may at settles =
     drained-fold (program_in view.batch) view.batch.inputs view.batch.limits view.batch.faults stands.short view.batch.recovery view.events
     stands.lawful (may.settled (ap settles_one at ∙ settles) ∙ may.next)
     ∙ ap (λ q. (before (program_in view.batch) view.batch.inputs view.batch.limits q).state) (sym may.next)

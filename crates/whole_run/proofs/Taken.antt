@@ -14,7 +14,7 @@ use Rattle.task_ast.proofs.IssuedTables.{learnt_length}
 use Rattle.task_ast.proofs.PlainRuns.{count_law}
 use Rattle.task_code.specs.Relation.{Rests}
 use Rattle.dependence.specs.Restarts.{mask_of}
-use Rattle.dependence.specs.meaning.Journal.{Stage, happens}
+use Rattle.dependence.specs.meaning.Journal.{Stage, happens, Allowed}
 use Rattle.dependence.specs.Standing.{present, StageStands}
 use Rattle.dependence.specs.Touching.{done_by}
 use Rattle.dependence.specs.RunBuffer.{members_at}
@@ -42,7 +42,6 @@ use Rattle.task_ast.specs.meaning.Layout.{layout}
 use Rattle.whole_run.specs.declared.parts.Parts.{Parts}
 use Rattle.whole_run.specs.declared.parts.Place.{Place}
 use Rattle.whole_run.specs.declared.parts.backing.Backup.{Backup}
-use Rattle.whole_run.specs.Recovering.{AllowedBy}
 use Rattle.whole_run.specs.View.{Batch, program_in, run_in, dependence_in, under_in, start_in}
 use Rattle.whole_run.specs.Takes.{TaskStands}
 use Rattle.whole_run.specs.inner.RingStands.{RingStands}
@@ -54,7 +53,6 @@ use Rattle.whole_run.proofs.Backings.{backed-state}
 use Rattle.whole_run.proofs.Kepts.{stage_stands, stands_by, keeps_then}
 use Rattle.whole_run.proofs.Locks.{away-there}
 use Rattle.record_store.proofs.Marks.{length-marked}
-use Rattle.whole_run.proofs.Recoverings.{take-allowed}
 use Rattle.whole_run.proofs.RingTakes.{ring_stale, ring_learnt}
 use Rattle.whole_run.proofs.Windows.{window-stale, window-take, effect-fits, effect-fresh}
 
@@ -146,10 +144,8 @@ module _ (batch : Batch) (parts : Parts) (kept : Kept batch parts) (done : Done)
   is-present : fresh ≡ true → attempt ≡ present at p
   is-present e = eqb-true attempt (present at p) (sym fresh-is ∙ e)
 
-  pub allowed : AllowedBy (run_in batch) batch.faults batch.recovery at (event.Take p attempt fresh)
-  allowed =
-      take-allowed (run_in batch) batch.faults batch.recovery at p attempt fresh
-      (record { posted = task.posted; untaken = task.untaken; decided = fresh-is })
+  pub allowed : Allowed (dependence_in batch) batch.faults at (event.Take p attempt fresh)
+  allowed = record { posted = task.posted; untaken = task.untaken; decided = fresh-is }
 
   fits-it : Fits parts.store (effect_of batch.work done)
   fits-it =
@@ -318,7 +314,7 @@ module _ (batch : Batch) (parts : Parts) (kept : Kept batch parts) (done : Done)
     stage-then applies = happens (dependence_in batch) batch.faults at (event.Take p attempt applies)
 
     window-then : (store : Stored) (entries : List Entry) (backup : Backup) (applies : Bool)
-        → AllowedBy (run_in batch) batch.faults batch.recovery at (event.Take p attempt applies) → (applies ≡ true → fresh ≡ true)
+        → Allowed (dependence_in batch) batch.faults at (event.Take p attempt applies) → (applies ≡ true → fresh ≡ true)
         → IsAppliedWhere applies batch.recovery p locks (effect_of batch.work done) parts.store store known entries parts.backup backup
         → WindowStands batch (stage-then applies) table-then entries store backup
     window-then store entries backup false may is applied =

@@ -16,7 +16,7 @@ use Rattle.task_ast.proofs.Layouts.{accepted_sizes}
 use Rattle.lock_checker.proofs.LocksHeld.{sound}
 use Rattle.dependence.specs.meaning.Conflict.{clash_in, foot_at}
 use Rattle.dependence.specs.meaning.Restarts.{Dependence, struck_next, restart_of}
-use Rattle.dependence.specs.meaning.Journal.{Stage, happens, restarted, stage}
+use Rattle.dependence.specs.meaning.Journal.{Stage, happens, restarted, stage, Allowed, Lawful}
 use Rattle.dependence.specs.meaning.Runs.{feet_of, dependence_of}
 use Rattle.dependence.specs.Runs.{lock_feet_of}
 use Rattle.dependence.specs.Standing.{present, AreShort}
@@ -37,7 +37,7 @@ use Rattle.record_store.proofs.Givens.{joined_is}
 use Rattle.subthread.specs.declared.task.Task.{Task}
 use Rattle.whole_run.specs.declared.recovery.Recovery.{Recovery}
 use Rattle.whole_run.specs.declared.recovery.Recovery.TheVariants.{Selective, Rollback}
-use Rattle.whole_run.specs.Recovering.{recovering, AllowedBy, LawfulBy}
+use Rattle.whole_run.specs.Recovering.{recovering}
 use Rattle.whole_run.specs.View.{View, program_in, run_in, dependence_in, under_in, start_in, now, state_in, grown, Stands}
 use Rattle.whole_run.specs.Gives.{HasWaited}
 use Rattle.whole_run.specs.Takes.{TaskStands}
@@ -75,9 +75,9 @@ module _ (dependence : Dependence) (faults : List Fault) (at : Stage) where
 module _ (run : List Subthread) (faults : List Fault) (start : State) (cells : HasCells start) (short : AreShort faults) where
   module _ (p attempt : ℕ) where
     -- it finds at the places that it may touch what it found before the event
-    pub finds-same : (recovery : Recovery) (events : List Event) (e : Event) → LawfulBy run faults recovery events
+    pub finds-same : (recovery : Recovery) (events : List Event) (e : Event) → Lawful (recovering recovery run) faults events
         → let at = stage (recovering recovery run) faults events in let later = happens (recovering recovery run) faults at e in
-        AllowedBy run faults recovery at e → IsOut at p attempt → IsOut later p attempt
+        Allowed (recovering recovery run) faults at e → IsOut at p attempt → IsOut later p attempt
         → Agree (MayTouch own_location (foot_at (feet_of run) p)) (folded run faults start later) (folded run faults start at)
     finds-same Selective events e lawful allowed out still place touched =
         let both = after-events run faults start cells short events lawful in
@@ -101,10 +101,10 @@ module _ (run : List Subthread) (faults : List Fault) (start : State) (cells : H
     -- and what stands under the locks that it holds
     module _ (under : List (List ℕ)) (once : IsApart under) (names : NamesHeld under run) (s : Subthread) (there : slice_get run p ≡ Some s)
         (l c : ℕ) (holds : Contains s.held l) (over : Contains (under_lock under l) c) where
-      pub locked-same : (recovery : Recovery) (events : List Event) (e : Event) → LawfulBy run faults recovery events
+      pub locked-same : (recovery : Recovery) (events : List Event) (e : Event) → Lawful (recovering recovery run) faults events
           → let at = stage (recovering recovery run) faults events in let later = happens (recovering recovery run) faults at e in
           OutReady (clash_in (lock_feet_of run)) at
-          → AllowedBy run faults recovery at e → HasWaited recovery run at e → IsOut at p attempt → IsOut later p attempt
+          → Allowed (recovering recovery run) faults at e → HasWaited recovery run at e → IsOut at p attempt → IsOut later p attempt
           → folded run faults start later (CellOf c) ≡ folded run faults start at (CellOf c)
       locked-same Selective events e lawful ready allowed waited out still =
           let both = after-events run faults start cells short events lawful in
@@ -166,7 +166,7 @@ same-given under s left right registers cells = λ i. record { regs = regs i; jo
     bundles = map-same (bundle_of under left) (bundle_of under right) s.held bundle
 
 module _ (view : View) (stands : Stands view) (e : Event)
-    (allowed : AllowedBy (run_in view.batch) view.batch.faults view.batch.recovery (now view) e)
+    (allowed : Allowed (dependence_in view.batch) view.batch.faults (now view) e)
     (waited : HasWaited view.batch.recovery (run_in view.batch) (now view) e) where
   abbrev later : Stage
   later = happens (dependence_in view.batch) view.batch.faults (now view) e

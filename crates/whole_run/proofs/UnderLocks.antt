@@ -35,7 +35,6 @@ use Rattle.dependence.proofs.Keeping.{Contains-map, run-keeps, under-held}
 use Rattle.dependence.proofs.LockClashes.{split-append, one_register, child_are}
 use Rattle.dependence.proofs.Naming.{from-map, named-passes}
 use Rattle.rollback.specs.meaning.Cuts.{cuts_of, rolling_of}
-use Rattle.rollback.specs.meaning.Journal.{AllowedByBlocks}
 use Rattle.rollback.specs.Standing.{BlocksStand}
 use Rattle.rollback.specs.States.{Held, held_happens}
 use Rattle.whole_run.specs.declared.recovery.Recovery.TheVariants.{Selective, Rollback}
@@ -168,7 +167,7 @@ module _ (run : List Subthread) (faults : List Fault) (at : Stage) (ready : OutR
 
   -- and where all is rolled back
   pub held-locked : (start : State) (every : ℕ) → BlocksStand (cuts_of every run) (dependence_of run) faults at → (held : Held) (e : Event)
-      → AllowedByBlocks (cuts_of every run) (dependence_of run) faults at e → HasWaited (Rollback every) run at e
+      → Allowed (rolling_of (cuts_of every run) run) faults at e → HasWaited (Rollback every) run at e
       → IsOut (happens (rolling_of (cuts_of every run) run) faults at e) p attempt
       → (held_happens run faults start (cuts_of every run) at e held).state (CellOf c) ≡ held.state (CellOf c)
   held-locked start every blocks held (event.Issue q) allowed waited still = refl

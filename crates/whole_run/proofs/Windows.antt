@@ -58,14 +58,12 @@ use Rattle.subthread.specs.Joining.{IsTaskOf, Runs}
 use Rattle.whole_run.specs.View.{Batch, program_in, run_in, dependence_in, locks_in, under_in, start_in}
 use Rattle.whole_run.specs.declared.recovery.Recovery.TheVariants.{Selective, Rollback}
 use Rattle.whole_run.specs.declared.parts.backing.Backup.{Backup}
-use Rattle.whole_run.specs.Recovering.{AllowedBy}
 use Rattle.whole_run.specs.Gives.{NoneHolds, NoneOut, IsBackBy, BlockIsOpen, HasWaited}
 use Rattle.whole_run.specs.inner.Backed.{StandsBy, open_cut, HasCut, IsOpened}
 use Rattle.whole_run.specs.inner.Backing.{AdvancesBy, IsRestored, DropsAfter, DropsBefore}
 use Rattle.whole_run.specs.inner.Taken.{history_by}
 use Rattle.whole_run.specs.inner.Kept.{IsPlaced, IsFit, IsHome, WindowStands}
 use Rattle.whole_run.specs.inner.Locks.{IsLent, LocksStand, HasLocks}
-use Rattle.whole_run.proofs.Recoverings.{allowed-plain}
 use Rattle.whole_run.proofs.Checkpoints.{StaysShaped}
 use Rattle.whole_run.proofs.Backings.{backed-issue, backed-post, backed-stale, backed-take, backed-restart, backed-retire, unbegun-out, backed-opened, redoes-rolled, shaped-rolled, backed-rolled}
 use Rattle.whole_run.proofs.Locks.{out-is, locks-kept, locks-sent, locks-home, locks-raised, locks-retired, locks-pushed}
@@ -142,10 +140,7 @@ module _ (batch : Batch) (fit : IsFit batch) where
       after_event e = happens (dependence_in batch) batch.faults at e
 
       abbrev AllowedNow : Event → Type 0
-      AllowedNow e = AllowedBy (run_in batch) batch.faults batch.recovery at e
-
-      plain : (e : Event) → AllowedNow e → Allowed (dependence_in batch) batch.faults at e
-      plain e allowed = allowed-plain (run_in batch) batch.faults batch.recovery at e allowed
+      AllowedNow e = Allowed (dependence_in batch) batch.faults at e
 
       -- before what is out all that is in conflict by locks stays applied
       event-ready : (e : Event) → AllowedNow e → HasWaited batch.recovery (run_in batch) at e → OutReady (locks_in batch) (after_event e)
@@ -175,7 +170,7 @@ module _ (batch : Batch) (fit : IsFit batch) where
         window-issue =
             record {
               entries_are = issue-stand (run_in batch) at entries window.entries_are (dependence_in batch) batch.faults p e names
-                  (plain (event.Issue p) allowed) first;
+                  allowed first;
               backed = backed-issue (run_in batch) batch.faults (start_in batch) start-cells at batch.recovery stands entries store backup
                   window.backed p e later allowed first.fresh state
                   (record {
@@ -229,7 +224,7 @@ module _ (batch : Batch) (fit : IsFit batch) where
         window-post =
             record {
               entries_are = post-stand (run_in batch) at entries window.entries_are (dependence_in batch) batch.faults p attempt
-                  (plain (event.Post p attempt) allowed);
+                  allowed;
               backed = backed-post (run_in batch) batch.faults (start_in batch) start-cells at batch.recovery stands entries store backup
                   window.backed p attempt (record store { away = marked e.held true store.away }) allowed window.entries_are opened refl
                   (record { threads = omega arith; cells = refl; under = refl; away = length-marked e.held true store.away });
@@ -353,7 +348,7 @@ module _ (batch : Batch) (fit : IsFit batch) where
                 (with_change_at p taken (with_change_at p (known_entry foot) entries))
             entries_are =
                 take-stand (run_in batch) at entries window.entries_are (dependence_in batch) batch.faults p attempt s foot position foot_is
-                history done.prints (plain (event.Take p attempt true) allowed)
+                history done.prints allowed
 
       -- after a restart, which finds each lock at home
       pub window-restart : batch.recovery ≡ Selective → (number struck : ℕ) → AllowedNow (event.Restart number)

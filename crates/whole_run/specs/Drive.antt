@@ -9,7 +9,7 @@ use Rattle.gp_base.specs.declared.journal.Journal.{Journal}
 use Rattle.gp_base.specs.meaning.Sinks.{Rose}
 use Rattle.task_ast.specs.meaning.Plain.{Subthread, final_records}
 use Rattle.dependence.specs.meaning.Restarts.{restarts}
-use Rattle.dependence.specs.meaning.Journal.{Stage, stage}
+use Rattle.dependence.specs.meaning.Journal.{Stage, stage, Lawful, Complete}
 use Rattle.dependence.specs.meaning.Counts.{is_restart}
 use Rattle.dependence.specs.Counts.{posts, takes}
 use Rattle.subthread.specs.declared.task.Work.{Work}
@@ -21,7 +21,6 @@ use Rattle.reorder_list.specs.declared.report.EngineStop.{EngineStop}
 use Rattle.reorder_list.specs.declared.report.Report.{Report}
 use Rattle.restart_log.specs.meaning.Lines.{printed}
 use Rattle.whole_run.specs.declared.recovery.Recovery.{Recovery}
-use Rattle.whole_run.specs.Recovering.{LawfulBy, CompleteBy}
 use Rattle.whole_run.specs.View.{Batch, program_in, run_in, dependence_in, end_in, lines_at, lines_below}
 
 -- what a call of `drive_by` is asked to run
@@ -43,13 +42,13 @@ stage_in batch journal = stage (dependence_in batch) batch.faults journal.events
 
 -- a journal of the batch: it is lawful, and its restarts are the first of all restarts, as many as its events make
 pub record JournalStands (batch : Batch) (journal : Journal) : Type 0 where
-  pub lawful : LawfulBy (run_in batch) batch.faults batch.recovery journal.events
+  pub lawful : Lawful (dependence_in batch) batch.faults journal.events
   pub first : (rest : List Restart) × (restarts_in batch ≡ journal.restarts ++ rest)
   pub counted : length journal.restarts ≡ count_by is_restart journal.events
 
 -- a run that came to its end: a complete journal with all restarts, and the end, the records and the number of subthreads of the plain run
 pub record ReportsRun (batch : Batch) (report : Report) : Type 0 where
-  pub complete : CompleteBy (run_in batch) batch.faults batch.recovery report.journal.events
+  pub complete : Complete (dependence_in batch) batch.faults report.journal.events
   pub restarts : report.journal.restarts ≡ restarts_in batch
   pub end : report.end ≡ end_in batch
   pub records : report.records ≡ final_records (program_in batch) batch.inputs batch.limits

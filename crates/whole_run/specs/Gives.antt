@@ -1,8 +1,7 @@
 -- What the calls of an engine answer.
-use Rattle.std.specs.Prelude.{◌≡◌, ◌≢◌, ◌⊎◌, ℕ, map, ◌-◌, ◌+◌, ◌%◌, ◌≤◌, ◌<◌, ⊤, Bool, true, false, cond, List, [], length, Contains, Option, Some, None, Result, Ok, Err, IsErrOf, slice_get}
+use Rattle.std.specs.Prelude.{◌≡◌, ◌≢◌, ◌⊎◌, ℕ, map, ◌-◌, ◌+◌, ◌≤◌, ◌<◌, ⊤, Bool, true, false, cond, List, [], length, Contains, Option, Some, None, Result, Ok, Err, IsErrOf, slice_get}
 use Rattle.std.specs.Option.{option_or}
 use Rattle.std.specs.Io.KnownBytes.{Appends}
-use Rattle.gp_base.specs.declared.limits.TheConstants.{LONGEST_DELAY}
 use Rattle.gp_base.specs.declared.ending.End.{End}
 use Rattle.gp_base.specs.declared.journal.Event.{Event}
 use Rattle.gp_base.specs.declared.journal.Journal.{Journal}
@@ -18,13 +17,12 @@ use Rattle.task_ast.specs.meaning.Turn.{Turn, turn}
 use Rattle.task_ast.specs.meaning.Turn as turns
 use Rattle.task_ast.specs.laws.Standing.{Stands as StandsAt}
 use Rattle.task_ast.specs.meaning.Position.{last_below}
-use Rattle.dependence.specs.meaning.Restarts.{begun_of, is_live, is_due, least_struck, NoneDue, NoneLive}
-use Rattle.dependence.specs.meaning.Journal.{Stage, WasTaken, MayPost}
+use Rattle.dependence.specs.meaning.Restarts.{is_live, is_due, least_struck, NoneDue, NoneLive}
+use Rattle.dependence.specs.meaning.Journal.{Stage, WasTaken, MayPost, RestIsSafe, Allowed}
 use Rattle.dependence.specs.Posting.{posting_of}
 use Rattle.dependence.specs.Standing.{present}
 use Rattle.dependence.specs.RunBuffer.{IsOut}
 use Rattle.rollback.specs.meaning.Cuts.{cuts_of, cut_at}
-use Rattle.rollback.specs.meaning.Journal.{IsSafe}
 use Rattle.reorder_list.specs.Stages.{AllTaken}
 use Rattle.reorder_list.specs.declared.report.Report.{Report}
 use Rattle.reorder_list.specs.declared.report.StopWhy.{StopWhy}
@@ -32,7 +30,6 @@ use Rattle.reorder_list.specs.declared.report.StopWhy.TheVariants.{WriteFault}
 use Rattle.restart_log.specs.meaning.Lines.{printed}
 use Rattle.whole_run.specs.declared.recovery.Recovery.{Recovery}
 use Rattle.whole_run.specs.declared.recovery.Recovery.TheVariants.{Selective, Rollback}
-use Rattle.whole_run.specs.Recovering.{AllowedBy}
 use Rattle.whole_run.specs.inner.RingStands.{IsLearnt}
 use Rattle.whole_run.specs.declared.parts.closing.TheConstants.{WINDOW}
 use Rattle.whole_run.specs.declared.calls.Issued.{Issued}
@@ -69,7 +66,7 @@ HasWaited recovery run at _ = ⊤
 
 -- the event was allowed, had waited, and was made
 pub record Did (before : View) (event : Event) (after : View) : Type 0 where
-  pub allowed : AllowedBy (run_in before.batch) before.batch.faults before.batch.recovery (now before) event
+  pub allowed : Allowed (dependence_in before.batch) before.batch.faults (now before) event
   pub waited : HasWaited before.batch.recovery (run_in before.batch) (now before) event
   pub grown : after ≡ grown before event
 
@@ -135,26 +132,13 @@ abbrev pub DetectGives : (before after : View) → Bool → Type 0
 DetectGives before after true = Did before (event.Restart (length (now before).progress.made)) after × (struck_now before ≢ None)
 DetectGives before after false = (after ≡ before) × (struck_now before ≡ None)
 
--- the multiple of a number that comes next above a position
-abbrev pub next_multiple : (every position : ℕ) → ℕ
-next_multiple every p = p - p % every + every
-
--- the rest of the oldest position's block was issued, and is applied, and no fault can strike it any more
-pub record BlockIsSafe (every : ℕ) (at : Stage) : Type 0 where
-  pub issued : next_multiple every at.retired ≤ at.progress.front
-  pub safe : (q : ℕ) → at.retired ≤ q → q < next_multiple every at.retired → IsSafe at q
-
--- no fault can strike the oldest position any more, or, where all is rolled back, any of its block
-abbrev pub IsSafeBy : Recovery → Stage → Type 0
-IsSafeBy Selective at = begun_of at.progress.made at.retired + LONGEST_DELAY ≤ at.progress.front
-IsSafeBy (Rollback every) at = BlockIsSafe every at
-
--- the oldest position may retire, as far as the end is known
+-- the oldest position may retire, as far as the end is known: the rest of its block is safe, or no fault is left
 pub record MayRetireNow (view : View) : Type 0 where
   pub issued : (now view).retired < (now view).progress.front
   pub applied : (now view).applied (now view).retired ≡ true
   pub none_due : NoneDue view.batch.faults (now view).progress
-  pub safe : IsSafeBy view.batch.recovery (now view) ⊎ ((is_known view ≡ true) × NoneLive view.batch.faults (now view).progress)
+  pub safe : RestIsSafe (dependence_in view.batch) (now view) (now view).retired
+      ⊎ ((is_known view ≡ true) × NoneLive view.batch.faults (now view).progress)
 
 -- the oldest position retired, or may not retire
 abbrev pub RetireGives : (before after : View) → Option ℕ → Type 0

@@ -6,9 +6,9 @@ use Rattle.task_ast.specs.declared.sync.SyncOp.TheVariants as sync
 use Rattle.task_ast.specs.meaning.State.{RegistersOf, number_at}
 use Rattle.task_ast.specs.meaning.Plain.{Subthread}
 use Rattle.task_ast.specs.meaning.Position.{before}
-use Rattle.whole_run.specs.Recovering.{AllowedBy}
 use Rattle.subthread.specs.declared.task.Task.{Task}
-use Rattle.whole_run.specs.View.{View, program_in, run_in, now, state_in, Stands}
+use Rattle.dependence.specs.meaning.Journal.{Allowed}
+use Rattle.whole_run.specs.View.{View, program_in, run_in, now, state_in, Stands, dependence_in}
 use Rattle.whole_run.specs.Gives.{Did}
 use Rattle.whole_run.specs.Takes.{TaskStands}
 
@@ -23,7 +23,7 @@ TaskKeptLaw =
 abbrev pub SettledNumberLaw : Type 0
 SettledNumberLaw =
     (view : View) (p register control : ℕ) (s : Subthread) → Stands view
-    → AllowedBy (run_in view.batch) view.batch.faults view.batch.recovery (now view) (event.Issue p)
+    → Allowed (dependence_in view.batch) view.batch.faults (now view) (event.Issue p)
     → slice_get (run_in view.batch) p ≡ Some s → s.begins.sync ≡ sync.Settle register control
     → number_at (state_in view (RegistersOf s.thread)) register
     ≡ number_at ((before (program_in view.batch) view.batch.inputs view.batch.limits p).state (RegistersOf s.thread)) register

@@ -13,14 +13,14 @@ use Rattle.task_ast.specs.Fold.{fold}
 use Rattle.task_ast.specs.meaning.Plain.{Subthread, order, opening, end}
 use Rattle.dependence.specs.meaning.Conflict.{clash_in}
 use Rattle.dependence.specs.meaning.Restarts.{Dependence}
-use Rattle.dependence.specs.meaning.Journal.{Stage, stage}
+use Rattle.dependence.specs.meaning.Journal.{Stage, stage, Lawful}
 use Rattle.dependence.specs.Runs.{lock_feet_of}
 use Rattle.dependence.specs.Posting.{OutReady}
 use Rattle.dependence.specs.Standing.{AreShort}
 use Rattle.dependence.specs.RunBuffer.{members_at}
 use Rattle.subthread.specs.declared.task.Work.{Work}
 use Rattle.whole_run.specs.declared.recovery.Recovery.{Recovery}
-use Rattle.whole_run.specs.Recovering.{recovering, LawfulBy}
+use Rattle.whole_run.specs.Recovering.{recovering}
 use Rattle.whole_run.specs.declared.calls.Halt.{Halt}
 use Rattle.whole_run.specs.declared.calls.Halt.TheVariants as halt
 use Rattle.subthread.specs.Tasks.{program_in as program_of, under_of, Suits}
@@ -119,6 +119,6 @@ begun batch = record { batch = batch; events = []; ended = None }
 pub record Stands (view : View) : Type 0 where
   pub suits : Suits view.batch.work (layout (program_in view.batch).heads) view.batch.inputs view.batch.limits
   pub short : AreShort view.batch.faults
-  pub lawful : LawfulBy (run_in view.batch) view.batch.faults view.batch.recovery view.events
+  pub lawful : Lawful (dependence_in view.batch) view.batch.faults view.events
   pub ready : OutReady (locks_in view.batch) (now view)
   pub ended : IfSome view.ended (IsHalt view.batch (now view).progress.front)

@@ -1,5 +1,5 @@
 // The calls of an engine that its loop makes.
-ghost use Rattle.std.specs.Prelude.{◌≡◌, ◌↔◌, ◌<◌, ℕ, List, [], ◌∷◌, ◌++◌, OnOk, OnErr, IfOk, IfSome, IfNone, IsSome, IsTrue, is_some};
+ghost use Rattle.std.specs.Prelude.{◌≡◌, ◌↔◌, ◌<◌, ℕ, List, [], ◌∷◌, ◌++◌, All, Contains, OnOk, OnErr, IfOk, IfSome, IfNone, IsSome, IsTrue, is_some};
 ghost use Rattle.std.specs.Thread.{IsSync};
 ghost use Rattle.gp_base.specs.declared.ending.End.{End as EndThere};
 ghost use Rattle.gp_base.specs.declared.journal.Event.TheVariants as event;
@@ -97,7 +97,8 @@ pub trait Calls {
         ensures found { IfSome result (IsNextToPost (view self.old) from) }
         ensures none { IfNone result (NoneToPost (view self.old) from) };
 
-    /// Posts the present attempt of a position to a crew of this engine's work; the cells of its locks go out with it.
+    /// Posts the present attempt of a position to a crew of this engine's work, to which nothing else was posted than
+    /// what this engine posted; the cells of its locks go out with it.
     /// The error is that memory is out; nothing was posted then, and each cell is where it was.
     fn post<R: Threads + Sync, C: Crew>(
         &mut self,
@@ -109,7 +110,7 @@ pub trait Calls {
         requires may { MayPostNow (view self.old) position }
         requires ready { C.ready crew.old }
         requires work { C.work crew.old ≡ (view self.old).batch.work }
-        requires posted { C.posted crew.old ≡ (now (view self.old)).posted }
+        requires posted { All (Contains (now (view self.old)).posted) (C.posted crew.old) }
         ensures did { OnOk result (Did (view self.old) (event.Post position (present (now (view self.old)) position)) (view self.new)) }
         ensures err { OnErr result (view self.new ≡ view self.old) }
         ensures ready { C.ready crew.new }

@@ -2,8 +2,8 @@
 ghost use Rattle.std.specs.Prelude.{◌≡◌, ◌<◌, None, OnOk, OnErr, IfOk, IsErrOf};
 ghost use Rattle.reorder_list.specs.declared.report.StopWhy.TheVariants as stop;
 ghost use Rattle.crew.specs.Noted.{NotesRetired, NotesPart};
-ghost use Rattle.whole_run.specs.Recovering.{CompleteBy};
-ghost use Rattle.whole_run.specs.View.{run_in, end_in, now};
+ghost use Rattle.dependence.specs.meaning.Journal.{Complete};
+ghost use Rattle.whole_run.specs.View.{dependence_in, end_in, now};
 ghost use Rattle.whole_run.specs.Gives.{struck_now, IsBack, IsScouted, HasStopCause, HasStopCauses, NoneToPost};
 ghost use Rattle.whole_run.specs.Notes.{KeepsLeftBy, KeepsNotes, KeepsAllNotes, StopsNotes};
 ghost use Rattle.whole_run.specs.Takes.{CrewStands};
@@ -231,7 +231,7 @@ pub fn run_rounds<R: Threads + Sync, E: Calls, C: Crew, O: Sink, N: Notes, L: Si
     requires agrees { Agrees (E.view engine.old) (C.ready crew.old) (C.work crew.old) (C.posted crew.old) (C.out crew.old) }
     ensures leaves { Leaves (E.view engine.old) (E.view engine.new) (C.ready crew.new) (C.work crew.new) (C.posted crew.new) }
     ensures crew { ¬ IsErrOf result stop.OutOfMemory → CrewStands (E.view engine.new) (C.posted crew.new) (C.out crew.new) }
-    ensures complete { OnOk result (CompleteBy (run_in (E.view engine.new).batch) (E.view engine.new).batch.faults (E.view engine.new).batch.recovery (E.view engine.new).events) }
+    ensures complete { OnOk result (Complete (dependence_in (E.view engine.new).batch) (E.view engine.new).batch.faults (E.view engine.new).events) }
     ensures end { IfOk result (λ end. end ≡ end_in (E.view engine.new).batch) }
     ensures written { OnOk result (KeepsWritten (E.view engine.old) (E.view engine.new) (O.written out.old) (O.written out.new)) }
     ensures partly { OnErr result (KeepsPart (E.view engine.old) (E.view engine.new) (O.written out.old) (O.written out.new)) }

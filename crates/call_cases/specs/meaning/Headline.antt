@@ -72,7 +72,8 @@ module _ {A T : Type 0} (commands : Commands A T) (call : Call) where
   abbrev pub IsQuiet : MayLog T → Type 0
   IsQuiet Unlogged = TakesAll call.err (error_for commands (commands.asking.reading call.words) call.journal)
   IsQuiet (Logged log) =
-      ForCase commands.asking call.words call.files (λ case. ForRun commands case (λ work. TakesAll call.err (log.whole work)))
+      ForCase commands.asking call.words call.files
+      (λ case. ForRun commands case (λ work. TakesAll call.err (log.whole work) × log.taken work call.journal call.err))
 
   -- a write failed, of which a line tells, but where a log is kept
   abbrev pub TellsWrite : MayLog T → Type 0

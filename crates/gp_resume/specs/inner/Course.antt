@@ -1,7 +1,5 @@
 -- How a course stands to the plain run that goes on from rows.
-use Rattle.std.specs.Prelude.{◌≡◌, ℕ, ◌≤◌, ◌<◌, List, length, map, Some, slice_get, slice_set, All}
-use Rattle.gp_base.specs.declared.feed.Inputs.{Inputs}
-use Rattle.gp_base.specs.declared.limits.Limits.{Limits}
+use Rattle.std.specs.Prelude.{◌≡◌, ℕ, ◌≤◌, ◌<◌, List, length, map, Some, slice_get, slice_set}
 use Rattle.gp_base.specs.declared.ending.End.{End}
 use Rattle.task_ast.specs.meaning.Names.{records_of, locks_of, cells_in}
 use Rattle.task_ast.specs.meaning.State.{State}
@@ -125,7 +123,3 @@ module _ (plan : Plan) where
     pub subthread : Subthread
     pub after : Plain
     pub begins : Begins before subthread after begun course
-
-  -- the course stands where some run does
-  abbrev pub StandsSomewhere : Course → Type 0
-  StandsSomewhere course = (x : Plain) × Stands x course

@@ -4,7 +4,7 @@ use Rattle.std.specs.Char.{is_ascii_digit}
 use Rattle.std.specs.Str.{all_ascii_digits}
 use Rattle.std.specs.Fmt.{signed_decimal}
 use Rattle.gp_base.specs.Fronts.{begins_with_digit}
-use Rattle.gp_resume.specs.meaning.Reading.{IsWide}
+use Rattle.retirement_log.specs.meaning.Rows.{IsWide}
 
 -- The text of a value that fits stands at the front of the bytes, and the rest after it. Where what comes after may end such a text, it
 -- is the only one.

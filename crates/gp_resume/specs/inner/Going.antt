@@ -13,6 +13,7 @@ use Rattle.gp_resume.specs.declared.course.Plan.{Plan}
 use Rattle.gp_resume.specs.declared.course.Course.{Course}
 use Rattle.gp_resume.specs.declared.log.Logged.{Logged}
 use Rattle.gp_resume.specs.inner.Course.{IsHome, Stands}
+use Rattle.gp_resume.specs.inner.Flights.{StandsPast}
 use Rattle.gp_resume.specs.meaning.Fitting.{resumed_at}
 use Rattle.gp_resume.specs.meaning.Reading.{BeginsWith, IsLogOf}
 use Rattle.gp_resume.specs.meaning.Resumed.{lines_of, bytes_before}
@@ -45,7 +46,7 @@ firsts_from p n = map (λ (q : ℕ). (q, 0)) (numbers p n)
 pub record Went (plan : Plan) (x : Plain) (before written : Option (List ℕ)) (posted : List (ℕ × ℕ)) (course : Course) : Type 0 where
   pub now : Plain
   pub done : List Subthread
-  pub stands : Stands plan now course
+  pub stands : StandsPast plan now course
   pub rest_is : rest plan x ≡ done ++ rest plan now
   pub last_is : last plan x ≡ last plan now
   pub issued : now.table.issued ≡ x.table.issued + length done

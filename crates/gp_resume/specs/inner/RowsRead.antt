@@ -3,9 +3,9 @@ use Rattle.std.specs.Prelude.{◌≡◌, List, ◌++◌, map, ℕ, ℤ, Option, 
 use Rattle.task_ast.specs.declared.effect.Effect.{Effect}
 use Rattle.task_ast.specs.meaning.Names.{natural}
 use Rattle.record_store.specs.declared.effect.Effect as left
-use Rattle.retirement_log.specs.meaning.Rows.{Retirement, row_text}
+use Rattle.retirement_log.specs.meaning.Rows.{Retirement, row_text, IsWideRow}
 use Rattle.gp_resume.specs.declared.row.LogRow.{LogRow}
-use Rattle.gp_resume.specs.meaning.Reading.{IsWideRow, BeginsWithRow}
+use Rattle.gp_resume.specs.meaning.Reading.{BeginsWithRow}
 
 -- the row that this is
 abbrev pub row_in : LogRow → Retirement

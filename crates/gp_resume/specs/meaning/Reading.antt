@@ -1,23 +1,10 @@
 -- What the bytes of a log come to: its rows, or the first of them that is refused.
-use Rattle.std.specs.Prelude.{◌≡◌, ◌<◌, ◌+◌, ◌^◌, ℕ, ℤ, pos, negsuc, List, [], ◌∷◌, ◌++◌, length, All, Contains}
+use Rattle.std.specs.Prelude.{◌≡◌, ◌+◌, ℕ, List, [], ◌∷◌, ◌++◌, length, All, Contains}
 use Rattle.gp_base.specs.declared.limits.Limits.{Limits}
 use Rattle.gp_base.specs.declared.feed.Inputs.{Inputs}
 use Rattle.task_ast.specs.meaning.Tree.{Program}
-use Rattle.retirement_log.specs.meaning.Rows.{Retirement, row_text, log_text}
+use Rattle.retirement_log.specs.meaning.Rows.{Retirement, IsWideRow, row_text, log_text}
 use Rattle.gp_resume.specs.meaning.Fitting.{Fit}
-
--- a number of 64 bits, with a sign
-abbrev pub IsWide : ℤ → Type 0
-IsWide (pos n) = n < 2 ^ 63
-IsWide (negsuc n) = n < 2 ^ 63
-
--- each number of the row is one
-pub record IsWideRow (row : Retirement) : Type 0 where
-  pub position : IsWide row.position
-  pub bytes : IsWide row.bytes
-  pub regs : All IsWide row.regs
-  pub child : All IsWide row.child
-  pub cells : All (λ (cell : ℤ × ℤ). IsWide cell.0 × IsWide cell.1) row.cells
 
 -- no line ends in these bytes
 abbrev pub EndsNoLine : List ℕ → Type 0

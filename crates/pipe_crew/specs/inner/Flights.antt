@@ -1,5 +1,5 @@
 -- Boards in flight: what the calling thread keeps of a board that is worked.
-use Rattle.std.specs.Prelude.{◌≡◌, ◌<◌, ◌≤◌, List, [], ◌∷◌, drop, length, All, Contains, Result}
+use Rattle.std.specs.Prelude.{◌≡◌, ℕ, ◌-◌, ◌<◌, ◌≤◌, List, [], ◌∷◌, drop, length, All, Contains, Result}
 use Rattle.std.specs.Arc.{arc_value}
 use Rattle.std.specs.declared.alloc.AllocFailed.{AllocFailed}
 use Rattle.desk_board.specs.Held.{about, hand, book, IsPassOf, IsClerkOf}
@@ -21,10 +21,15 @@ pub record Stands (flight : Flight) : Type 0 where
   pub taken : All (λ desk. desk < flight.taken) (book flight.clerk).taken
   pub within : flight.taken ≤ length (about (arc_value flight.board)).jobs
 
--- a board in flight, under this work, of which some run was not taken
-pub record IsFlight (work : Work) (flight : Flight) : Type 0 where
+-- how many passes a board in flight has: each that went to a thread took one of the 64 shares, and the calling thread's has the rest
+abbrev pub passes_of : Flight → ℕ
+passes_of flight = 65 - (hand flight.pass).share
+
+-- a board in flight, under this work, with at most so many passes, of which some run was not taken
+pub record IsFlight (work : Work) (most : ℕ) (flight : Flight) : Type 0 where
   pub stands : Stands flight
   pub with : (about (arc_value flight.board)).with ≡ work
+  pub few : passes_of flight ≤ most
   pub some : flight.taken < length (about (arc_value flight.board)).jobs
 
 -- the oldest run that was not taken is back

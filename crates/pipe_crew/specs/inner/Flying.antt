@@ -1,5 +1,5 @@
 -- The boards of a crew of lasting threads.
-use Rattle.std.specs.Prelude.{◌≡◌, ◌++◌, Bool, false, List, [], Option, None, Some, IfSome, All}
+use Rattle.std.specs.Prelude.{◌≡◌, ℕ, ◌++◌, Bool, false, List, [], Option, None, Some, IfSome, All}
 use Rattle.std.specs.List.{flat_map}
 use Rattle.subthread.specs.declared.task.Work.{Work}
 use Rattle.subthread.specs.declared.task.Task.{Task}
@@ -16,10 +16,10 @@ left_first (Some flight) = left_in flight
 abbrev pub left_all : Option Flight → List Flight → List Task
 left_all first behind = left_first first ++ flat_map left_in behind
 
--- all boards are in flight, and none is behind where none is first, unless memory ran out
-pub record AreFlying (work : Work) (failed : Bool) (first : Option Flight) (behind : List Flight) : Type 0 where
-  pub first_flies : IfSome first (IsFlight work)
-  pub behind_fly : All (IsFlight work) behind
+-- all boards are in flight, each with at most so many passes, and none is behind where none is first, unless memory ran out
+pub record AreFlying (work : Work) (most : ℕ) (failed : Bool) (first : Option Flight) (behind : List Flight) : Type 0 where
+  pub first_flies : IfSome first (IsFlight work most)
+  pub behind_fly : All (IsFlight work most) behind
   pub none : failed ≡ false → first ≡ None → behind ≡ []
 
 -- the work and the list of posts stay

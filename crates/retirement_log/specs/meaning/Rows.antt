@@ -1,5 +1,5 @@
 -- The rows of a log of retirements, as bytes.
-use Rattle.std.specs.Prelude.{ℕ, ℤ, List, [], ◌∷◌, ◌++◌, codes, flat_map}
+use Rattle.std.specs.Prelude.{◌<◌, ◌^◌, ℕ, ℤ, pos, negsuc, List, [], ◌∷◌, ◌++◌, All, codes, flat_map}
 use Rattle.std.specs.Fmt.{signed_decimal}
 use Rattle.restart_log.specs.meaning.Lines.{spaced}
 
@@ -11,6 +11,23 @@ pub record Retirement : Type 0 where
   pub regs : List ℤ
   pub child : List ℤ
   pub cells : List (ℤ × ℤ)
+
+-- a number of 64 bits, with a sign
+abbrev pub IsWide : ℤ → Type 0
+IsWide (pos n) = n < 2 ^ 63
+IsWide (negsuc n) = n < 2 ^ 63
+
+-- the number of a cell and its value are
+abbrev pub IsWideCell : ℤ × ℤ → Type 0
+IsWideCell cell = IsWide cell.0 × IsWide cell.1
+
+-- each number of the row is
+pub record IsWideRow (row : Retirement) : Type 0 where
+  pub position : IsWide row.position
+  pub bytes : IsWide row.bytes
+  pub regs : All IsWide row.regs
+  pub child : All IsWide row.child
+  pub cells : All IsWideCell row.cells
 
 -- a group of numbers
 abbrev pub group : List ℤ → List ℕ

@@ -1,6 +1,6 @@
 -- What a call that walks each subthread twice may write behind all that it has to write. No definition says when walks
 -- differ, nor how often they did: what a machine does wrong is in none.
-use Rattle.std.specs.Prelude.{◌≡◌, ◌≤◌, ◌++◌, ℕ, Bool, false, List, [], Option, Some, None, codes, decimal}
+use Rattle.std.specs.Prelude.{◌≡◌, ◌⊎◌, ◌≤◌, ◌++◌, ℕ, Bool, false, List, [], Option, Some, None, codes, decimal}
 use Rattle.gp_base.specs.meaning.Sinks.{AppendsPrefix}
 use Rattle.command_line.specs.declared.asked.Asked.{Asked}
 use Rattle.call_cases.specs.meaning.Answers.{Change}
@@ -15,14 +15,12 @@ abbrev pub disagreed_line : (position : ℕ) → List ℕ
 disagreed_line position = codes "gprs_twice: position " ++ decimal position ++ codes " could not be agreed on\n"
 
 -- what tells a stop at such a position: nothing at another status than that of memory that is out, whose line it stands for
-pub data MayTellDisagreed (status : ℕ) : List ℕ → Type 0 where
-  agreed : MayTellDisagreed status []
-  disagreed : (position : ℕ) → status ≡ 1 → MayTellDisagreed status (disagreed_line position)
+abbrev pub MayTellDisagreed : (status : ℕ) → List ℕ → Type 0
+MayTellDisagreed status line = (line ≡ []) ⊎ (status ≡ 1) × (position : ℕ) × (line ≡ disagreed_line position)
 
 -- what tells of walks that differed: nothing where a trace is asked for
-pub data MayTellDiffered (traced : Bool) : List ℕ → Type 0 where
-  same : MayTellDiffered traced []
-  differed : (count last : ℕ) → traced ≡ false → MayTellDiffered traced (differed_line count last)
+abbrev pub MayTellDiffered : (traced : Bool) → List ℕ → Type 0
+MayTellDiffered traced line = (line ≡ []) ⊎ (traced ≡ false) × (count : ℕ) × (last : ℕ) × (line ≡ differed_line count last)
 
 -- the lines that tell both
 pub record AreTold (traced : Bool) (status : ℕ) (lines : List ℕ) : Type 0 where

@@ -1,5 +1,5 @@
 -- What an engine keeps that undoes what faults ruin: histories beside the entries, or copies of the store at cuts.
-use Rattle.std.specs.Prelude.{◌≡◌, ◌+◌, ◌-◌, ◌%◌, min, ℕ, ◌≤◌, ◌<◌, Bool, true, false, ⊤, cond, nat_le, List, length, map, All, Contains, Option, Some, None, slice_get}
+use Rattle.std.specs.Prelude.{◌≡◌, ◌+◌, ◌-◌, ◌%◌, min, ℕ, ◌≤◌, ◌<◌, Bool, true, false, ⊤, cond, nat_le, List, length, map, All, Contains, Option, Some, None, IfSome, slice_get}
 use Rattle.std.specs.List.Sorted.{IsStrictlyIncreasing}
 use Rattle.gp_base.specs.declared.fault.Fault.{Fault}
 use Rattle.task_ast.specs.meaning.State.{State}
@@ -40,6 +40,10 @@ open_cut every entries p = cut_after every p (slice_get entries 0)
 -- there is a checkpoint at the cut
 abbrev pub HasCut : List Checkpoint → (cut : ℕ) → Type 0
 HasCut checkpoints cut = (checkpoint : Checkpoint) × Contains checkpoints checkpoint × (checkpoint.cut ≡ cut)
+
+-- the first checkpoint, where there is one, lies not before the position
+abbrev pub AreLive : (position : ℕ) → List Checkpoint → Type 0
+AreLive p checkpoints = IfSome (slice_get checkpoints 0) (λ (checkpoint : Checkpoint). p ≤ checkpoint.cut)
 
 -- the block of a position is open, by the number of positions that are applied before the first that is not
 abbrev pub is_open : Recovery → (whole position : ℕ) → Bool
@@ -96,6 +100,8 @@ module _ (run : List Subthread) (faults : List Fault) (start : State) where
     pub are : All (IsCheckpoint every at store) backup.checkpoints.items
     pub rising : IsStrictlyIncreasing (map (λ (checkpoint : Checkpoint). checkpoint.cut) backup.checkpoints.items)
     pub has : HasCheckpoints every at backup.checkpoints.items
+    -- those to which no rollback goes back any more were given up
+    pub live : AreLive at.retired backup.checkpoints.items
 
   -- what histories undo: the store and the entries hold what the history buffer of the run does
   pub record HistoriesStand (at : Stage) (entries : List Entry) (store : Stored) : Type 0 where

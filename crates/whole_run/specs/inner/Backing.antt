@@ -7,7 +7,7 @@ use Rattle.whole_run.specs.declared.recovery.Recovery.{Recovery}
 use Rattle.whole_run.specs.declared.recovery.Recovery.TheVariants.{Selective, Rollback}
 use Rattle.whole_run.specs.declared.parts.backing.Backup.{Backup}
 use Rattle.whole_run.specs.declared.parts.backing.Checkpoint.{Checkpoint}
-use Rattle.whole_run.specs.inner.Backed.{HasCut}
+use Rattle.whole_run.specs.inner.Backed.{HasCut, AreLive}
 
 -- the number went on over entries that are applied, up to one that is not, or to the end of the list
 pub record IsAdvanced (entries : List Entry) (before after : Backup) : Type 0 where
@@ -49,9 +49,10 @@ pub record DropsAfter (cut : ℕ) (before after : Backup) : Type 0 where
   pub dropped : All (λ (checkpoint : Checkpoint). cut < checkpoint.cut) rest
   pub kept : All (λ (checkpoint : Checkpoint). checkpoint.cut ≤ cut) after.checkpoints.items
 
--- some before the position were given up, at the front of the list
+-- those before the position were given up, at the front of the list
 pub record DropsBefore (position : ℕ) (before after : Backup) : Type 0 where
   pub whole : after.whole ≡ before.whole
   pub front : List Checkpoint
   pub split : before.checkpoints.items ≡ front ++ after.checkpoints.items
   pub dropped : All (λ (checkpoint : Checkpoint). checkpoint.cut < position) front
+  pub stops : AreLive position after.checkpoints.items

@@ -7,7 +7,7 @@ use Rattle.task_ast.specs.meaning.Control.{Point}
 use Rattle.task_ast.specs.meaning.Names.{records_of, locks_of, cells_in}
 use Rattle.task_ast.specs.meaning.Layout.{layout}
 use Rattle.task_ast.specs.meaning.Table.{Table}
-use Rattle.dependence.specs.meaning.Journal.{Stage, stage}
+use Rattle.dependence.specs.meaning.Journal.{Stage, stage, Lawful}
 use Rattle.dependence.specs.Posting.{OutReady}
 use Rattle.dependence.specs.Standing.{AreShort}
 use Rattle.task_code.specs.Relation.{Rests}
@@ -21,7 +21,7 @@ use Rattle.whole_run.specs.declared.parts.Plan.{Plan}
 use Rattle.whole_run.specs.declared.parts.Parts.{Parts}
 use Rattle.whole_run.specs.declared.calls.Halt.{Halt}
 use Rattle.whole_run.specs.View.{Batch, View, program_in, run_in, dependence_in, locks_in, under_in, start_in, IsHalt}
-use Rattle.whole_run.specs.Recovering.{HasCuts, LawfulBy}
+use Rattle.whole_run.specs.Recovering.{HasCuts}
 use Rattle.whole_run.specs.inner.Backed.{BackedBy}
 use Rattle.whole_run.specs.inner.Locks.{LocksStand}
 use Rattle.whole_run.specs.inner.RingStands.{from_before, RingStands}
@@ -72,7 +72,7 @@ pub record IsHome (batch : Batch) (table : Table) (store : Stored) : Type 0 wher
 
 -- the journal with its counts
 pub record JournalStands (batch : Batch) (events : List Event) (restarts : List Restart) (issued : ℕ) (ended : Option Halt) : Type 0 where
-  pub lawful : LawfulBy (run_in batch) batch.faults batch.recovery events
+  pub lawful : Lawful (dependence_in batch) batch.faults events
   pub restarts_are : restarts ≡ (stage_of batch events).progress.made
   pub issued_are : issued ≡ (stage_of batch events).progress.front
   pub ended_is : IsEnd batch (stage_of batch events).progress.front ended

@@ -1,5 +1,5 @@
 -- What is made ready before a turn, and what a turn gives.
-use Rattle.std.specs.Prelude.{◌≡◌, ◌⊎◌, ℕ, ◌+◌, ◌<◌, pos, negsuc, nat_lt, Bool, true, false, List, [], ◌∷◌, ◌++◌, length, Option, Some, None, is_some, slice_get, vec_len, vec_capacity, slice_set}
+use Rattle.std.specs.Prelude.{◌≡◌, ◌⊎◌, ℕ, ◌+◌, ◌<◌, Bool, true, false, List, [], ◌∷◌, ◌++◌, length, Option, Some, None, is_some, slice_get, vec_len, vec_capacity, slice_set}
 use Rattle.gp_base.specs.declared.journal.Event.TheVariants as event
 use Rattle.task_ast.specs.meaning.State.{State, RegistersOf, number_at}
 use Rattle.task_ast.specs.declared.sync.SyncOp.{SyncOp}

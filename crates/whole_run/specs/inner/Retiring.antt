@@ -7,7 +7,7 @@ use Rattle.reorder_list.specs.declared.entry.Entry.{Entry}
 use Rattle.reorder_list.specs.Entries.{is_applied, entry_at}
 use Rattle.whole_run.specs.declared.recovery.Recovery.{Recovery}
 use Rattle.whole_run.specs.declared.recovery.Recovery.TheVariants.{Selective, Rollback}
-use Rattle.whole_run.specs.Gives.{next_multiple}
+use Rattle.rollback.specs.Driving.{multiple_at}
 use Rattle.whole_run.specs.inner.Striking.{strikes}
 
 -- no fault strikes, if any is tried or those that are due
@@ -21,6 +21,10 @@ is_old begun front = nat_le (begun + LONGEST_DELAY) front
 abbrev pub entry_is_old : (front : ℕ) → Option Entry → Bool
 entry_is_old front None = false
 entry_is_old front (Some e) = is_old e.begun front
+
+-- the multiple of a number that comes next above a position
+abbrev pub next_multiple : (every position : ℕ) → ℕ
+next_multiple every p = multiple_at every p + every
 
 -- the block of the oldest position is applied to its end, and no fault can come that strikes its last
 abbrev pub block_is_safe : (every : ℕ) → List Entry → (whole oldest front : ℕ) → Bool

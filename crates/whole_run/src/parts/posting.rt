@@ -159,7 +159,7 @@ pub fn post<R: Threads + Sync, C: Crew>(
     requires may { MayPostNow (view_of (batch_in plan.now) parts.old) position }
     requires ready { C.ready crew.old }
     requires work { C.work crew.old ≡ (batch_in plan.now).work }
-    requires posted { C.posted crew.old ≡ (now (view_of (batch_in plan.now) parts.old)).posted }
+    requires posted { All (Contains (now (view_of (batch_in plan.now) parts.old)).posted) (C.posted crew.old) }
     ensures kept { Kept (batch_in plan.now) parts.new }
     ensures closed { parts.new.ring.cleared ≡ false }
     ensures did { OnOk result (Did (view_of (batch_in plan.now) parts.old) (event.Post position (present (now (view_of (batch_in plan.now) parts.old)) position)) (view_of (batch_in plan.now) parts.new)) }

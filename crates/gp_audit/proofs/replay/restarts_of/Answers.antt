@@ -1,5 +1,4 @@
-use Rattle.std.proofs.Common.{◌≡◌, ◌≤◌, ◌+◌, suc, [], length, sym, ap, subst, ◌∙◌, arith}
-use Rattle.gp_base.specs.declared.limits.TheConstants.{MOST_FAULTS}
+use Rattle.std.proofs.Common.{◌≡◌, ◌+◌, suc, [], length, sym, ap, subst, ◌∙◌, arith}
 use Rattle.dependence.specs.meaning.Restarts.{Progress, progress, advance}
 use Rattle.gp_audit.specs.Steps.{dependence_by}
 use Rattle.gp_audit.specs.inner.Audited.{Audited, kept, nothing_seen}

@@ -1,5 +1,5 @@
 use Rattle.std.proofs.Common.{[], ◌∷◌, ◌++◌, ap, subst, sym, ◌∙◌, refl}
-use Rattle.gp_resume.specs.meaning.Reading.{IsWide}
+use Rattle.retirement_log.specs.meaning.Rows.{IsWide}
 use Rattle.gp_resume.specs.inner.Fronts.{ReadsMany, EndsNumber, spaced_number}
 use Rattle.gp_resume.proofs.Fronts.{many-more, many-end}
 use Rattle.gp_resume.proofs.Numerals.{kept}

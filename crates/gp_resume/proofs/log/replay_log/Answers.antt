@@ -3,9 +3,8 @@ use Rattle.std.specs.Int.{int_max}
 use Rattle.std.proofs.lemmas.Bool.{false≢true}
 use Rattle.std.proofs.lemmas.Int.{to_z-of_z, ints, clamps}
 use Rattle.subthread.specs.Tasks.{program_in}
-use Rattle.retirement_log.specs.meaning.Rows.{row_text}
+use Rattle.retirement_log.specs.meaning.Rows.{row_text, IsWideRow}
 use Rattle.gp_resume.specs.meaning.Fitting.{resumed_at}
-use Rattle.gp_resume.specs.meaning.Reading.{IsWideRow}
 use Rattle.gp_resume.specs.inner.RowsRead.{row_in}
 use Rattle.gp_resume.proofs.Numerals.{kept}
 use Rattle.gp_resume.proofs.RowsReplayed.{last_row, count-within, least-here, unfit-at, one-replayed}

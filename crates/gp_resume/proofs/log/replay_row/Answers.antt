@@ -1,4 +1,4 @@
-use Rattle.std.proofs.Common.{pos, [], SFits, w64, rules, Option, Some, refl, sym, ◌∙◌, subst}
+use Rattle.std.proofs.Common.{◌≡◌, false, pos, [], SFits, w64, rules, Option, Some, refl, sym, ◌∙◌, subst}
 use Rattle.std.proofs.lemmas.Bool.{false≢true}
 use Rattle.std.proofs.lemmas.Int.{to_z-of_z}
 use Rattle.task_ast.specs.meaning.Plain.{Subthread, Plain, move}
@@ -7,16 +7,26 @@ use Rattle.retirement_log.specs.meaning.Rows.{Retirement}
 use Rattle.gp_resume.specs.declared.course.Plan.{Plan}
 use Rattle.gp_resume.specs.declared.course.Course.{Course}
 use Rattle.gp_resume.specs.declared.course.Begun.{Begun}
+use Rattle.std.specs.Bool.{Decides}
+use Rattle.gp_resume.specs.declared.course.Step.{Step}
+use Rattle.gp_resume.specs.declared.course.Step.TheVariants as step
 use Rattle.gp_resume.specs.meaning.Fitting.{FitsIssue, FitsMove}
-use Rattle.gp_resume.specs.inner.Course.{Stands, Begins}
+use Rattle.gp_resume.specs.inner.Course.{Stands, Begins, Gives}
 use Rattle.gp_resume.specs.inner.RowsRead.{row_in}
+use Rattle.gp_resume.proofs.Besides.{past-none}
 use Rattle.gp_resume.proofs.log.replay_row.Goals as goal
 use Rattle.gp_resume.proofs.log.replay_row.Goals.{In-Goes}
 
 -- what begins, of the run that the course stood at
 begun-of : (c : In-Goes) (x : Plain) → Stands c.args.plan.now x c.args.course.now
     → (s : Subthread) × ((y : Plain) × Begins c.args.plan.now x s y c.in-Goes.begun c.next.new.self)
-begun-of c = rw c.in-Goes.is at c.in_ok-begun.ensures
+begun-of c x stands =
+    subst (λ step. Gives c.args.plan.now x step c.next.new.self) c.in-Goes.is
+    (c.in_ok-begun.ensures.gives x (past-none c.args.plan.now x c.args.course.now stands))
+
+pub next-requires-clause-stands : goal.next-requires-clause-stands
+next-requires-clause-stands c =
+    (c.requires.stands.0, past-none c.args.plan.now c.requires.stands.0 c.args.course.now c.requires.stands.1)
 
 -- the move of the run is the subthread that begins
 module _ (plan : Plan) (x : Plain) (s : Subthread) (y : Plain) (begun : Begun) (course : Course) (begins : Begins plan x s y begun course)
@@ -28,6 +38,25 @@ module _ (plan : Plan) (x : Plain) (s : Subthread) (y : Plain) (begun : Begun) (
   fits-issue : FitsMove (program_in plan.work.now) x (move (program_in plan.work.now) plan.inputs.value plan.limits x) before row
       → FitsIssue (program_in plan.work.now) x s before row
   fits-issue fits = subst (λ m. FitsMove (program_in plan.work.now) x m before row) begins.moves fits
+
+-- no row fits where the run has ended
+ends-no : (plan : Plan) (x : Plain) (before : Option Retirement) (row : Retirement) (found : Step) (course : Course) → Gives plan x found course
+    → ((begun : Begun) → found ≡ step.Goes begun → ⊥)
+    → Decides false (FitsMove (program_in plan.work.now) x (move (program_in plan.work.now) plan.inputs.value plan.limits x) before row)
+ends-no plan x before row (step.Goes begun) course gives none = absurd (none begun refl)
+ends-no plan x before row (step.Ends end) course gives none =
+    ((λ e. absurd (false≢true e)), (λ fits. absurd (subst (λ m. FitsMove (program_in plan.work.now) x m before row) gives.moves fits)))
+
+pub returns-in_default-clause-fits : goal.returns-in_default-clause-fits
+returns-in_default-clause-fits c x before stands least =
+    ends-no c.args.plan.now x before (row_in c.args.row) c.in_ok-begun.field-0 c.next.new.self
+    (c.in_ok-begun.ensures.gives x (past-none c.args.plan.now x c.args.course.now stands)) (λ begun is. c.in_default.not-Goes begun is)
+
+pub fits-requires-clause-begun : goal.fits-requires-clause-begun
+fits-requires-clause-begun c =
+    let at = (goal.at.fits-requires-clause-begun c).In-Goes in
+    let next = begun-of at c.requires.stands.0 c.requires.stands.1 in
+    record { before = c.requires.stands.0; subthread = next.0; after = next.1.0; begins = next.1.1 }
 
 pub returns-then-not-branch-clause-fits : goal.returns-then-not-branch-clause-fits
 returns-then-not-branch-clause-fits c x before stands least =

@@ -1,6 +1,6 @@
 use Rattle.std.proofs.Common.{subst, sym}
 use Rattle.std.specs.Fmt.{signed_decimal}
-use Rattle.gp_resume.specs.meaning.Reading.{IsWide}
+use Rattle.retirement_log.specs.meaning.Rows.{IsWide}
 use Rattle.gp_resume.specs.inner.Fronts.{IsOnlyFront, EndsNumber}
 use Rattle.gp_resume.proofs.Numerals.{kept, no-number, some-number}
 use Rattle.gp_resume.proofs.numbers.number_at.Goals as goal

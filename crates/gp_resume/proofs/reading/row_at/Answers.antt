@@ -1,7 +1,6 @@
 use Rattle.std.proofs.Common.{◌≡◌, ◌++◌, sym, subst, ℤ}
 use Rattle.std.specs.Prelude.{All}
-use Rattle.retirement_log.specs.meaning.Rows.{Retirement, group, row_text}
-use Rattle.gp_resume.specs.meaning.Reading.{IsWide, IsWideRow}
+use Rattle.retirement_log.specs.meaning.Rows.{Retirement, group, row_text, IsWide, IsWideRow}
 use Rattle.gp_resume.specs.inner.Fronts.{IsOnlyFront, EndsNumbers, IsWideCell, Anything, cells_end}
 use Rattle.gp_resume.proofs.Numerals.{kept}
 use Rattle.gp_resume.proofs.RowFronts.{none-begins, no-head, no-regs, no-child, no-end, row-whole}

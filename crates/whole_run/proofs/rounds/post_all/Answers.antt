@@ -1,4 +1,5 @@
-use Rattle.std.proofs.Common.{◌<◌, ◌∙◌, refl, sym, ap, arith, subst}
+use Rattle.std.proofs.Common.{◌<◌, All, Contains, ◌∙◌, refl, sym, ap, arith, subst}
+use Rattle.std.proofs.lemmas.List.Elements.{All-contains_itself}
 use Rattle.gp_base.specs.declared.journal.Event.TheVariants as event
 use Rattle.dependence.specs.Standing.{present}
 use Rattle.whole_run.specs.View.{now, Stands}
@@ -38,7 +39,9 @@ pub post-requires-clause-work : goal.post-requires-clause-work
 post-requires-clause-work g c = c.posting.invariant.leaves.work_is ∙ sym (ap (λ v. v.batch.work) c.runnable.ensures.same)
 
 pub post-requires-clause-posted : goal.post-requires-clause-posted
-post-requires-clause-posted g c = c.posting.invariant.crew.posted_are ∙ sym (ap (λ v. (now v).posted) c.runnable.ensures.same)
+post-requires-clause-posted g c =
+    let are = c.posting.invariant.crew.posted_are ∙ sym (ap (λ v. (now v).posted) c.runnable.ensures.same) in
+    subst (λ posts. All (Contains posts) (g.C.Crew.posted c.posting.crew)) are (All-contains_itself (g.C.Crew.posted c.posting.crew))
 
 pub returns-in_err-post-clause-leaves : goal.returns-in_err-post-clause-leaves
 returns-in_err-post-clause-leaves g c =

@@ -1,7 +1,6 @@
-use Rattle.std.proofs.Common.{◌≡◌, ◌≤◌, Some, None, length, sym, ◌∙◌, arith}
+use Rattle.std.proofs.Common.{Some, sym, ◌∙◌, arith}
 use Rattle.std.proofs.lemmas.Result.{on_ok_weaker}
-use Rattle.gp_base.specs.declared.limits.TheConstants.{MOST_FAULTS}
-use Rattle.gp_audit.specs.inner.Audited.{kept, struck_in, is_last}
+use Rattle.gp_audit.specs.inner.Audited.{kept}
 use Rattle.gp_audit.proofs.Audits.{restart-low, restart-short}
 use Rattle.gp_audit.proofs.Replaying.{struck-low, few-attempts, stays-last, issue-advances, restart-advances}
 use Rattle.gp_audit.proofs.state.Audit.advance.Goals as goal

@@ -1,7 +1,6 @@
-use Rattle.std.proofs.Common.{◌≡◌, ◌+◌, ◌++◌, ◌∷◌, [], ◌<◌, ◌≤◌, length, sym, subst, ap, ◌∙◌, arith, true}
+use Rattle.std.proofs.Common.{◌≡◌, ◌++◌, ◌∷◌, [], ◌<◌, length, sym, subst, ap, ◌∙◌, arith, true}
 use Rattle.std.specs.List.{All}
 use Rattle.dependence.specs.meaning.Conflict.{clash_in}
-use Rattle.dependence.specs.meaning.Dependents.{dependents}
 use Rattle.gp_audit.specs.Steps.{feet_in}
 use Rattle.gp_audit.proofs.RedoLists.{none-before, joins, all-below-front, joins-first, joins-reached, joins-not, more-true, more-false}
 use Rattle.gp_audit.proofs.state.Audit.dependents.Goals.{then-later-struck+in_ok-push, then-later-struck-via-then-later-struck, then-later-struck-via-else-later-struck+then-is_reached, else-later-struck+else-is_reached}

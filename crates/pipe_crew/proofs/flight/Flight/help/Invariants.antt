@@ -1,4 +1,5 @@
 use Rattle.std.proofs.Common.{◌≡◌}
+use Rattle.desk_board.specs.Held.{hand}
 use Rattle.pipe_crew.specs.inner.Flights.{Stands}
 use Rattle.pipe_crew.proofs.flight.Flight.help.Given as goal
 
@@ -7,4 +8,5 @@ invariant-loop g l = record {
   stands : Stands l.self;
   taken : l.self.taken ≡ l.initial.self.taken;
   board : l.self.board ≡ l.initial.self.board;
+  share : (hand l.self.pass).share ≡ (hand l.initial.self.pass).share;
 }

@@ -2,7 +2,7 @@ use Rattle.std.proofs.Common.{◌≡◌, Some, sym, ap, subst, ◌∙◌}
 use Rattle.std.specs.Prelude.{slice_get}
 use Rattle.desk_board.specs.Held.{about, hand, IsPassOf}
 use Rattle.subthread.specs.Tasks.{Fits, Answers}
-use Rattle.pipe_crew.proofs.Taken.{idle_again}
+use Rattle.pipe_crew.proofs.Taken.{idle_again, share_kept}
 use Rattle.pipe_crew.proofs.flight.Flight.run_one.Goals as goal
 
 pub run_noted-run-requires : goal.run_noted-run-requires
@@ -29,3 +29,8 @@ returns-clause-stands g c =
       taken = was.taken;
       within = was.within;
     }
+
+pub returns-clause-share : goal.returns-clause-share
+returns-clause-share g c =
+    share_kept c.in-Some.desk.number (hand c.args.self.now.pass) (hand c.draw.new.pass) (hand c.finish.new.pass) c.in-Some.ensures.hand
+    c.finish.ensures.hand

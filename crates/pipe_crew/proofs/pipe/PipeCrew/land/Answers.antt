@@ -1,4 +1,4 @@
-use Rattle.std.proofs.Common.{◌≡◌, true, false, IfSome, refl, sym, subst, ap, ◌∙◌, append_assoc}
+use Rattle.std.proofs.Common.{◌≡◌, ◌+◌, true, false, IfSome, refl, sym, subst, ap, ◌∙◌, append_assoc}
 use Rattle.std.specs.Arc.{arc_value}
 use Rattle.desk_board.specs.Held.{about}
 use Rattle.subthread.specs.Tasks.{IsRun, task_of}
@@ -9,7 +9,7 @@ pub returns-in_err-bring_back-clause-fly : goal.returns-in_err-bring_back-clause
 returns-in_err-bring_back-clause-fly g c =
     let after = c.in_err-bring_back.ensures in
     record {
-      first_flies = subst (λ f. IfSome f (IsFlight c.bring_back.new.self.inbox.work)) (sym (after.first ∙ c.requires.none)) tt;
+      first_flies = subst (λ f. IfSome f (IsFlight c.bring_back.new.self.inbox.work (c.bring_back.new.self.threads + 1))) (sym (after.first ∙ c.requires.none)) tt;
       behind_fly = after.fly;
       none = λ kept. absurd (let both : true ≡ false = sym after.fails ∙ kept in cc);
     }

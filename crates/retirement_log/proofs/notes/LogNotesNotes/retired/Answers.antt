@@ -1,4 +1,4 @@
-use Rattle.std.proofs.Common.{◌≡◌, ◌∙◌, subst, rules}
+use Rattle.std.proofs.Common.{◌≡◌, ◌∙◌, subst, rules, arith}
 use Rattle.std.specs.Io.KnownBytes.{Appends}
 use Rattle.gp_base.specs.meaning.Sinks.{AppendsPrefix}
 use Rattle.crew.specs.Noted.{NotesPart}
@@ -30,7 +30,7 @@ returns-in_err-put_all-clause-part g c =
     =
     told_part c.args.self.now c.in-Some.row c.take_first.new.rows.items c.args.position bytes (g.L.Sink.written c.args.log.now)
     (g.L.Sink.written c.put_all.new.to)
-    c.in-Some.ensures c.in-Some-Some.ensures'.1
+    c.in-Some.ensures c.in-Some-Some.ensures'.sum (omega arith) c.in-Some-Some.ensures'.wide
     (subst (AppendsPrefix (g.L.Sink.written c.args.log.now) (g.L.Sink.written c.put_all.new.to)) text c.in_err-put_all.ensures.prefix) in
     search (rules, part)
 
@@ -41,5 +41,5 @@ returns-clause-told g c =
     let text : c.deref-2.result.now ≡ parts_text c.args.position bytes c.in-Some.row.groups.items
     = c.deref-2.ensures.value ∙ c.in_ok-text.ensures ∙ (λ i. parts_text (c.position.view_is i) bytes (c.deref.ensures.value i)) in
     told_one c.args.self.now after c.in-Some.row c.args.position (g.L.Sink.written c.args.log.now) (g.L.Sink.written c.put_all.new.to)
-    c.in-Some.ensures c.in-Some-Some.ensures.1 c.in-Some-Some.ensures'.1
+    c.in-Some.ensures c.in-Some-Some.ensures.1 c.in-Some-Some.ensures'.sum (omega arith) c.in-Some-Some.ensures'.wide
     (subst (Appends (g.L.Sink.written c.args.log.now) (g.L.Sink.written c.put_all.new.to)) text c.in_ok-put_all.ensures.all)

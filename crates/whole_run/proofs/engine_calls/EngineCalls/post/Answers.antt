@@ -1,4 +1,4 @@
-use Rattle.std.proofs.Common.{◌≡◌, ◌++◌, ◌∷◌, [], ap, subst, sym}
+use Rattle.std.proofs.Common.{◌≡◌, All, Contains, ◌++◌, ◌∷◌, [], ap, subst, sym}
 use Rattle.std.specs.Result.{OnOk}
 use Rattle.gp_base.specs.declared.journal.Event.TheVariants as event
 use Rattle.dependence.specs.Standing.{present}
@@ -16,7 +16,7 @@ post-requires-clause-may g c lifetimes within =
 
 pub post-requires-clause-posted : goal.post-requires-clause-posted
 post-requires-clause-posted g c lifetimes within =
-    subst (λ view. g.C.Crew.posted c.args.crew.now ≡ (now view).posted)
+    subst (λ view. All (Contains (now view).posted) (g.C.Crew.posted c.args.crew.now))
     (sym (ap (λ e. e.view) c.self.view_is)) c.requires.posted
 
 pub returns-clause-did : goal.returns-clause-did

@@ -1,7 +1,7 @@
 use Rattle.std.proofs.Common.{◌∙◌, ap, sym}
 use Rattle.whole_run.specs.inner.Kept.{batch_in}
 use Rattle.whole_run.proofs.Options.{none_some}
-use Rattle.whole_run.proofs.Detected.{attempts-few, restarts-few, copies-home, cut-there, cut-issued, cut-room, from-cut-there, kept-rolled}
+use Rattle.whole_run.proofs.Detected.{attempts-few, restarts-few, copies-home, cut-there, cut-issued, cut-room, from-cut-there, did-restart, kept-rolled}
 use Rattle.whole_run.proofs.parts.detecting.roll_back.Goals as goal
 
 pub unreachable-requires : goal.unreachable-requires
@@ -47,3 +47,8 @@ returns-clause-kept c =
     c.raise_from.new.redo.items (rw c.len.ensures at c.in_ok-copy.ensures) c.put_back.ensures c.drop_after.ensures
     (ap (λ n. record c.drop_after.new.backup { whole = n }) c.min-parts.ensures) c.attempt_of-attempt.ensures c.raise_from.ensures
     c.note.ensures.events (rw c.into_seq.ensures at c.note.ensures.restarts)
+
+pub returns-clause-did : goal.returns-clause-did
+returns-clause-did c =
+    did-restart (batch_in c.args.plan.now) c.args.parts.now c.requires.kept c.args.struck c.requires.is_struck c.requires.home
+    c.note.new.events.items c.note.ensures.events

@@ -1,11 +1,12 @@
-use Rattle.std.proofs.Common.{◌∙◌, ◌++◌, ◌∷◌, [], sym, ap, subst}
+use Rattle.std.proofs.Common.{Contains, ◌∙◌, ◌++◌, ◌∷◌, [], sym, ap, subst}
+use Rattle.std.proofs.lemmas.List.Elements.{All-contains}
 use Rattle.gp_base.specs.declared.journal.Event.TheVariants as event
 use Rattle.dependence.specs.Standing.{present}
 use Rattle.whole_run.specs.declared.parts.Parts.{Parts}
 use Rattle.whole_run.specs.View.{now}
 use Rattle.whole_run.specs.Gives.{Did}
 use Rattle.whole_run.specs.inner.Backed.{IsOpened}
-use Rattle.whole_run.specs.inner.Kept.{batch_in}
+use Rattle.whole_run.specs.inner.Kept.{batch_in, view_of}
 use Rattle.whole_run.proofs.Posted.{view-then, may-then, runnable, numbered, found-home, found-rising, fits, pair, did, stands, kept-then}
 use Rattle.whole_run.proofs.parts.posting.post.Goals as goal
 
@@ -33,7 +34,9 @@ send-requires-clause-fresh g c lifetimes within =
     let same = pair batch c.open_block.new.parts opened.kept c.args.position may c.in_ok-task.task task
     ∙ ap (λ view. (c.args.position, present (now view) c.args.position))
     (view-then batch c.args.parts.now c.open_block.new.parts opened.same) in
-    rw (c.requires.posted, same) c.requires.may.by_locks.unposted
+    rw same
+    (λ there. c.requires.may.by_locks.unposted
+    (All-contains (Contains (now (view_of batch c.args.parts.now)).posted) (g.C.Crew.posted c.args.crew.now) _ c.requires.posted there))
 
 pub send-requires-clause-home : goal.send-requires-clause-home
 send-requires-clause-home g c lifetimes within =

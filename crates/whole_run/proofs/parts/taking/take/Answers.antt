@@ -1,8 +1,8 @@
 use Rattle.std.proofs.Common.{rules, refl, subst, sym}
 use Rattle.std.proofs.lemmas.List.{with_items_is}
 use Rattle.gp_base.specs.declared.journal.Event.TheVariants as event
-use Rattle.whole_run.specs.Recovering.{AllowedBy}
-use Rattle.whole_run.specs.View.{run_in}
+use Rattle.dependence.specs.meaning.Journal.{Allowed}
+use Rattle.whole_run.specs.View.{dependence_in}
 use Rattle.whole_run.specs.inner.Kept.{batch_in, stage_of}
 use Rattle.whole_run.proofs.Taken.{allowed, comes, fits, numbered, out, kept-taken}
 use Rattle.whole_run.proofs.parts.taking.take.Goals as goal
@@ -40,7 +40,7 @@ returns-clause-did c =
     record {
       waited = tt;
       allowed =
-          subst (λ b. AllowedBy (run_in (batch_in c.args.plan.now)) (batch_in c.args.plan.now).faults (batch_in c.args.plan.now).recovery
+          subst (λ b. Allowed (dependence_in (batch_in c.args.plan.now)) (batch_in c.args.plan.now).faults
           (stage_of (batch_in c.args.plan.now) c.args.parts.now.events.items) (event.Take c.args.done.task.pos c.args.done.task.attempt b))
           (sym c.is_present-fresh.ensures)
           (allowed (batch_in c.args.plan.now) c.args.parts.now c.requires.kept c.args.done c.requires.task c.requires.run);

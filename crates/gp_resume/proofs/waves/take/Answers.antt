@@ -1,6 +1,6 @@
 use Rattle.std.proofs.Common.{sym, ap, subst, ◌∙◌}
 use Rattle.record_store.specs.Stored.{Stored, state_of, SameShape}
-use Rattle.gp_resume.proofs.running.take.Goals as goal
+use Rattle.gp_resume.proofs.waves.take.Goals as goal
 
 pub returns-clause-left : goal.returns-clause-left
 returns-clause-left c =

@@ -1,0 +1,4 @@
+//! Laws that join the top calls.
+#![tactic(auto)]
+
+pub mod laws;

@@ -1,0 +1,109 @@
+use Rattle.std.proofs.Common.{◌≡◌, ℕ, List, [], ◌∷◌, length, None, refl, sym, ap, ◌∙◌, subst, arith}
+use Rattle.task_ast.specs.meaning.Plain.{Plain}
+use Rattle.gp_resume.specs.inner.Flights.{Flown, Flight}
+use Rattle.gp_resume.specs.inner.Waves.{tasks_of, AreRunsOf, Homing}
+use Rattle.gp_resume.proofs.Homings.{homing-last, homing-part, homing-next, Coming, coming, coming-comes, coming-seat, coming-spot, coming-thread, coming-child, coming-then, coming-stops}
+use Rattle.gp_resume.proofs.waves.bring_home.Goals as goal
+use Rattle.gp_resume.proofs.waves.bring_home.Goals.{In-Some-run}
+
+none-left : {X : Type 0} (xs : List X) → length xs ≡ 0 → xs ≡ []
+none-left [] none = refl
+none-left (x ∷ xs) none = absurd (omega arith)
+
+-- the run that comes next is that of the first that is out
+next : (g : _) (c : In-Some-run g) (threads : ℕ) (x : Plain) (y : Plain) (fs : List Flown)
+    → Flight c.args._plan.now threads x y fs c.args.course.now
+    → AreRunsOf c.args._plan.now.work.now (tasks_of c.args._plan.now x fs) c.args.runs.items
+    → Coming c.args._plan.now c.requires.suits threads y fs (g.O.Sink.written c.args.out.now) (g.O.Sink.written c.loop-run.out)
+    c.in-Some-run.done c.next.new.self.rest.items c.loop-run.course
+next g c threads x y fs flight are =
+    coming c.args._plan.now c.requires.suits threads y fs (g.O.Sink.written c.args.out.now) (g.O.Sink.written c.loop-run.out)
+    c.in-Some.run' c.loop-run.run-iterator.rest.items c.next.new.self.rest.items c.in-Some-run.done c.loop-run.course
+    c.in-Some.ensures.steps.0 c.in-Some-run.is (c.loop-run.invariant.homing threads x y fs flight are)
+
+pub take-lines-requires-clause-comes : goal.take-lines-requires-clause-comes
+take-lines-requires-clause-comes g c =
+    let at = (goal.at.take-lines-requires-clause-comes g c).In-Some-run in
+    let k = c.requires.coming in
+    coming-comes c.args._plan.now c.requires.suits k.threads k.later k.flights _ _ c.in-Some-run.done _ c.loop-run.course
+    (next g at k.threads k.before k.later k.flights k.flight k.runs_are)
+
+pub take-lines-requires-clause-thread : goal.take-lines-requires-clause-thread
+take-lines-requires-clause-thread g c =
+    let at = (goal.at.take-lines-requires-clause-thread g c).In-Some-run in
+    let k = c.requires.coming in
+    coming-thread c.args._plan.now c.requires.suits k.threads k.later k.flights _ _ c.in-Some-run.done _ c.loop-run.course
+    (next g at k.threads k.before k.later k.flights k.flight k.runs_are)
+
+pub take-lines-requires-clause-child : goal.take-lines-requires-clause-child
+take-lines-requires-clause-child g c =
+    let at = (goal.at.take-lines-requires-clause-child g c).In-Some-run in
+    let k = c.requires.coming in
+    coming-child c.args._plan.now c.requires.suits k.threads k.later k.flights _ _ c.in-Some-run.done _ c.loop-run.course
+    (next g at k.threads k.before k.later k.flights k.flight k.runs_are)
+
+pub take-lines-requires-clause-seats : goal.take-lines-requires-clause-seats
+take-lines-requires-clause-seats g c =
+    let at = (goal.at.take-lines-requires-clause-seats g c).In-Some-run in
+    let k = c.requires.coming in
+    coming-seat c.args._plan.now c.requires.suits k.threads k.later k.flights _ _ c.in-Some-run.done _ c.loop-run.course
+    (next g at k.threads k.before k.later k.flights k.flight k.runs_are)
+
+pub take-lines-requires-clause-spots : goal.take-lines-requires-clause-spots
+take-lines-requires-clause-spots g c =
+    let at = (goal.at.take-lines-requires-clause-spots g c).In-Some-run in
+    let k = c.requires.coming in
+    coming-spot c.args._plan.now c.requires.suits k.threads k.later k.flights _ _ c.in-Some-run.done _ c.loop-run.course
+    (next g at k.threads k.before k.later k.flights k.flight k.runs_are)
+
+pub returns-in_err-text-in-Some-run-clause-partly : goal.returns-in_err-text-in-Some-run-clause-partly
+returns-in_err-text-in-Some-run-clause-partly g c threads x y fs flight are =
+    homing-part c.args._plan.now c.requires.suits threads y fs (g.O.Sink.written c.args.out.now) (g.O.Sink.written c.loop-run.out)
+    c.loop-run.run-iterator.rest.items c.loop-run.course (c.loop-run.invariant.homing threads x y fs flight are)
+
+pub returns-in_err-put-in-Some-run-clause-partly : goal.returns-in_err-put-in-Some-run-clause-partly
+returns-in_err-put-in-Some-run-clause-partly g c threads x y fs flight are =
+    let at = (goal.at.returns-in_err-put-in-Some-run-clause-partly g c).In-Some-run in
+    coming-stops c.args._plan.now c.requires.suits threads y fs (g.O.Sink.written c.args.out.now) (g.O.Sink.written c.loop-run.out)
+    c.in-Some-run.done c.next.new.self.rest.items c.loop-run.course (next g at threads x y fs flight are) (g.O.Sink.written c.put.new.out)
+    (rw (sym c.take-lines.ensures.lines, sym c.in_ok-text-in-Some-run.ensures, sym c.deref.ensures.value) c.put.ensures.prefix)
+
+pub loop-run-preserved : goal.loop-run-preserved
+loop-run-preserved g c =
+    let at = (goal.at.loop-run-preserved g c).In-Some-run in
+    record {
+      homing = λ threads x y fs flight are.
+          coming-then c.args._plan.now c.requires.suits threads y fs (g.O.Sink.written c.args.out.now) (g.O.Sink.written c.loop-run.out)
+          c.in-Some-run.done c.next.new.self.rest.items c.loop-run.course (next g at threads x y fs flight are) (g.O.Sink.written c.put.new.out)
+          c.take-lines.new.course c.take-lines.ensures.left
+          (rw (sym c.take-lines.ensures.lines, sym c.in_ok-text-in-Some-run.ensures, sym c.deref.ensures.value) c.in_ok-put-in-Some-run.ensures.all);
+      later = let first = c.loop-run.invariant.later in let then = c.put.ensures.cause.later in omega arith;
+    }
+
+pub unreachable-requires : goal.unreachable-requires
+unreachable-requires g c =
+    let k = c.requires.coming in
+    let homing = c.loop-run.invariant.homing k.threads k.before k.later k.flights k.flight k.runs_are in
+    (homing-next c.args._plan.now c.requires.suits k.threads k.later k.flights (g.O.Sink.written c.args.out.now)
+    (g.O.Sink.written c.loop-run.out) None c.next.new.self.rest.items c.loop-run.course
+    (subst (λ rs. Homing c.args._plan.now k.threads k.later k.flights (g.O.Sink.written c.args.out.now) (g.O.Sink.written c.loop-run.out) rs
+    c.loop-run.course) (c.in-Some.ensures.steps.0 ∙ ap (λ r. r ∷ c.next.new.self.rest.items) c.in-None-run.is) homing)).1.1.1
+
+pub returns-clause-stands : goal.returns-clause-stands
+returns-clause-stands g c threads x y fs flight are =
+    (homing-last c.args._plan.now c.requires.suits threads y fs (g.O.Sink.written c.args.out.now) (g.O.Sink.written c.loop-run.out)
+    c.loop-run.course
+    (subst (λ rs. Homing c.args._plan.now threads y fs (g.O.Sink.written c.args.out.now) (g.O.Sink.written c.loop-run.out) rs
+    c.loop-run.course) (none-left c.loop-run.run-iterator.rest.items (sym c.loop-run.run-iterator.rest.ok.0 ∙ c.in-None.ensures.steps.0)) (c.loop-run.invariant.homing threads x y fs flight are))).0
+
+pub returns-clause-lines : goal.returns-clause-lines
+returns-clause-lines g c threads x y fs flight are =
+    (homing-last c.args._plan.now c.requires.suits threads y fs (g.O.Sink.written c.args.out.now) (g.O.Sink.written c.loop-run.out)
+    c.loop-run.course
+    (subst (λ rs. Homing c.args._plan.now threads y fs (g.O.Sink.written c.args.out.now) (g.O.Sink.written c.loop-run.out) rs
+    c.loop-run.course) (none-left c.loop-run.run-iterator.rest.items (sym c.loop-run.run-iterator.rest.ok.0 ∙ c.in-None.ensures.steps.0)) (c.loop-run.invariant.homing threads x y fs flight are))).1
+
+pub returns-clause-partly : goal.returns-clause-partly
+returns-clause-partly g c threads x y fs flight are =
+    homing-part c.args._plan.now c.requires.suits threads y fs (g.O.Sink.written c.args.out.now) (g.O.Sink.written c.loop-run.out)
+    c.loop-run.run-iterator.rest.items c.loop-run.course (c.loop-run.invariant.homing threads x y fs flight are)
