@@ -1,11 +1,11 @@
 // What runs over a journal, each by the crew that is asked for.
-ghost use Rattle.std.specs.Prelude.{◌≡◌, true, false, All, IfOk};
+ghost use Rattle.std.specs.Prelude.{◌≡◌, ℕ, true, false, List, [], All, IfOk};
 ghost use Rattle.subthread.specs.Tasks.{Fits};
 ghost use Rattle.crew.specs.Out.{AreRuns};
 ghost use Rattle.steal_crew.specs.Batches.{AreCounted};
-ghost use Rattle.call_cases.specs.meaning.Answers.{IsEmpty, change_of};
+ghost use Rattle.call_cases.specs.meaning.Answers.{Change, IsEmpty, change_of};
 ghost use Rattle.call_cases.specs.Decided.{MayRun, work_of};
-ghost use Rattle.call_cases.specs.Answers.{PutFor};
+ghost use Rattle.call_cases.specs.Answers.{PutFor, RunEnds};
 ghost use Rattle.call_cases.specs.meaning.RunCommands.{work_text, work_status};
 ghost use Rattle.call_cases.specs.meaning.Work.{is_journalled};
 ghost use Rattle.command_line.specs.declared.asked.Command.TheVariants as command;
@@ -159,33 +159,48 @@ fn without_faults(alloc: Global, request: Request) -> Request
     }
 }
 
-// Runs a program by the crew of the calling thread, without faults, and writes the text of that. No journal is told.
+// Runs a program by the crew of the calling thread, without faults, and writes the text of that. No journal is told. The
+// recheck comes back with what was seen, or as a new one where no run began.
 fn put_one_rechecked<R: Threads + Sync, O: Sink, G: Gate>(
     rt: &R,
     alloc: Global,
     request: Request,
-    recheck: &Recheck,
+    recheck: Recheck,
     out: &mut O,
     gate: &G,
-) -> Result<u8, SinkFault>
+) -> (Result<u8, SinkFault>, Recheck)
     requires sound { MayRun request }
     requires run { request.asked.command ≡ command.One }
-    ensures { PutFor (work_text command.One (work_of request)) (work_status command.One (work_of request)) (change_of O.written O.faults out.old out.new) result }
+    ensures { PutFor (work_text command.One (work_of request)) (work_status command.One (work_of request)) (change_of O.written O.faults out.old out.new) result.0 }
 {
-    let (work, plan) = plan_of(alloc, without_faults(alloc, request), recheck)?;
+    let (work, plan) = match plan_of(alloc, without_faults(alloc, request), recheck) {
+        Ok(made) => made,
+        Err(_) => return (Err(SinkFault::OutOfMemory), Recheck::once()),
+    };
     let mut crew = InlineCrew::new(alloc, &work, gate);
-    put_untold(rt, alloc, &work, plan, &mut crew, out)
+    let put = put_untold(rt, alloc, &work, plan, &mut crew, out);
+    drop(crew);
+    let Work { recheck, .. } = work;
+    (put, recheck)
 }
 
-// How a run ended whose walks could not be agreed on, and which tells no journal. The line of that is left to the caller
-// of the top call, which has the recheck.
-fn stopped_untold(alloc: Global) -> Outcome
-    ensures status { result.status ≡ 1 }
+// How a run of a program on one thread ended whose subthreads were walked twice. Where walks could not be agreed on, the
+// line of that is left to the caller of the top call, which has the recheck.
+fn outcome_of_one<E: Sink>(
+    alloc: Global,
+    recheck: &Recheck,
+    put: Result<u8, SinkFault>,
+    err: &mut E,
+) -> Outcome
+    ensures ends { (text : List ℕ) (due : ℕ) (out : Change) → PutFor text due out put → RunEnds text [] due out (change_of E.written E.faults err.old err.new) result.status }
     ensures empty { IsEmpty result.journal }
 {
-    Outcome {
-        status: 1,
-        journal: empty_journal(alloc),
+    match put {
+        Err(SinkFault::OutOfMemory) if recheck.disagreed().is_some() => Outcome {
+            status: 1,
+            journal: empty_journal(alloc),
+        },
+        put => plain_outcome(alloc, put, err),
     }
 }
 
@@ -195,52 +210,51 @@ fn carry_plain<R: Threads + Sync, O: Sink, E: Sink, G: Gate>(
     rt: &R,
     alloc: Global,
     request: Request,
-    recheck: &Recheck,
+    recheck: Recheck,
     out: &mut O,
     err: &mut E,
     gate: &G,
-) -> Outcome
+) -> (Outcome, Recheck)
     requires sound { MayRun request }
     requires run { is_journalled request.asked.command ≡ false }
-    ensures { Carries request.asked (work_of request) (change_of O.written O.faults out.old out.new) (change_of E.written E.faults err.old err.new) result.status result.journal }
+    ensures { Carries request.asked (work_of request) (change_of O.written O.faults out.old out.new) (change_of E.written E.faults err.old err.new) result.0.status result.0.journal }
 {
     if request.asked.command == Command::One && recheck.is_on() {
-        let put = put_one_rechecked(rt, alloc, request, recheck, out, gate);
-        return match put {
-            Err(SinkFault::OutOfMemory) if recheck.disagreed().is_some() => stopped_untold(alloc),
-            put => plain_outcome(alloc, put, err),
-        };
+        let (put, recheck) = put_one_rechecked(rt, alloc, request, recheck, out, gate);
+        let outcome = outcome_of_one(alloc, &recheck, put, err);
+        return (outcome, recheck);
     }
     let outcome = put_plain(alloc, &request, out, err);
     drop(request);
-    outcome
+    (outcome, recheck)
 }
 
 /// Does what is requested, and writes its text, and the trace of its run where one is asked for. Each subthread is
-/// walked as the recheck says, which keeps what is seen. Where the output fails, the line of that is written to `err`.
-/// Lasting workers wait, which this call does not: in their place workers draw from boards.
+/// walked as the recheck says, which comes back with what was seen, or as a new one where no run began. Where the output
+/// fails, the line of that is written to `err`. Lasting workers wait, which this call does not: in their place workers
+/// draw from boards.
 pub fn carry_rechecked<R: Threads + Sync, O: Sink, E: Sink, G: Gate>(
     rt: &R,
     alloc: Global,
     request: Request,
-    recheck: &Recheck,
+    recheck: Recheck,
     out: &mut O,
     err: &mut E,
     gate: &G,
-) -> Outcome
+) -> (Outcome, Recheck)
     requires { MayRun request }
-    ensures { Carries request.asked (work_of request) (change_of O.written O.faults out.old out.new) (change_of E.written E.faults err.old err.new) result.status result.journal }
+    ensures { Carries request.asked (work_of request) (change_of O.written O.faults out.old out.new) (change_of E.written E.faults err.old err.new) result.0.status result.0.journal }
 {
     if !is_journalled(request.asked.command) {
         return carry_plain(rt, alloc, request, recheck, out, err, gate);
     }
     let (work, plan) = match plan_of(alloc, request, recheck) {
         Ok(made) => made,
-        Err(_) => return unbegun(alloc, err),
+        Err(_) => return (unbegun(alloc, err), Recheck::once()),
     };
     let outcome = carry_by_kind(rt, alloc, &work, plan, out, err, gate);
-    drop(work);
-    outcome
+    let Work { recheck, .. } = work;
+    (outcome, recheck)
 }
 
 /// Does what is requested, as `carry_rechecked` does, with each subthread walked once.
@@ -255,5 +269,5 @@ pub fn carry_out<R: Threads + Sync, O: Sink, E: Sink, G: Gate>(
     requires { MayRun request }
     ensures { Carries request.asked (work_of request) (change_of O.written O.faults out.old out.new) (change_of E.written E.faults err.old err.new) result.status result.journal }
 {
-    carry_rechecked(rt, alloc, request, &Recheck::once(), out, err, gate)
+    carry_rechecked(rt, alloc, request, Recheck::once(), out, err, gate).0
 }

@@ -35,13 +35,12 @@ fn read_log<H: Shelf>(alloc: Global, words: &[String], shelf: &mut H) -> Result<
     read_for(alloc, asked, shelf)
 }
 
-/// Does what the words of `log` ask for, as `log_run` does, with each subthread walked as the recheck says, which keeps
-/// what is seen.
+/// Does what the words of `log` ask for, as `log_run` does, with each subthread walked as the recheck says.
 pub fn log_rechecked<R: Threads + Sync + AllocGlobal, H: Shelf, O: Sink, E: Sink, G: Gate>(
     rt: &R,
     words: &[String],
     shelf: &mut H,
-    recheck: &Recheck,
+    recheck: Recheck,
     out: &mut O,
     err: &mut E,
     gate: &G,
@@ -62,7 +61,7 @@ pub fn log_rechecked<R: Threads + Sync + AllocGlobal, H: Shelf, O: Sink, E: Sink
 {
     let alloc = rt.alloc();
     match read_log(alloc, words, shelf) {
-        Ok(request) => carry_rechecked(rt, alloc, request, recheck, out, err, gate),
+        Ok(request) => carry_rechecked(rt, alloc, request, recheck, out, err, gate).0,
         Err(refusal) => refused_outcome(alloc, refusal, err),
     }
 }
@@ -97,5 +96,5 @@ pub fn log_run<R: Threads + Sync + AllocGlobal, H: Shelf, O: Sink, E: Sink, G: G
     // The shelf is not read for words of no command.
     ensures unread { log_by (texts words.now) ≡ None → shelf.new ≡ shelf.old }
 {
-    log_rechecked(rt, words, shelf, &Recheck::once(), out, err, gate)
+    log_rechecked(rt, words, shelf, Recheck::once(), out, err, gate)
 }

@@ -64,7 +64,7 @@ fn work_and_layout(
     checked: &Checked,
     feeds: &[Feed],
     turns: u64,
-    recheck: &Recheck,
+    recheck: Recheck,
 ) -> Result<(Work, Layout), AllocError>
     ensures code { IfOk result (λ made. IsCode (code_of made.0.code)) }
     ensures program { IfOk result (λ made. program_in made.0 ≡ plain_program (program_of checked.now)) }
@@ -75,7 +75,6 @@ fn work_and_layout(
     let layout = checked.layout(alloc)?;
     let feeds = copied_feeds(alloc, feeds)?;
     let code = lower(alloc, checked)?;
-    let recheck = recheck.shared()?;
     let work = Work {
         code,
         feeds,
@@ -90,7 +89,7 @@ fn work_and_layout(
 pub fn plan_of(
     alloc: Global,
     request: Request,
-    recheck: &Recheck,
+    recheck: Recheck,
 ) -> Result<(Work, Plan), AllocError>
     requires { IsSound request.asked (plain_program (program_of request.checked)) request.inputs }
     ensures plan { IfOk result (λ made. IsPlanOf made.0 made.1) }

@@ -92,7 +92,7 @@ fn carry_planned<
     requires run { is_journalled request.asked.command ≡ true }
     ensures { Carries request.asked (work_of request) (change_of O.written O.faults out.old out.new) (change_of E.written E.faults err.old err.new) result.status result.journal }
 {
-    let (work, plan) = match plan_of(alloc, request, &Recheck::once()) {
+    let (work, plan) = match plan_of(alloc, request, Recheck::once()) {
         Ok(made) => made,
         Err(_) => return unbegun(alloc, err),
     };
@@ -122,18 +122,18 @@ fn carry_waiting<
     carry_out(rt, alloc, request, out, err, &**gate)
 }
 
-/// Does what the words ask for, as `gprs_run_pipe` does, with each subthread walked as the recheck says, which keeps what
-/// is seen. In the place of lasting workers, which wait, workers draw from boards. A run whose walks could not be agreed
+/// Does what the words ask for, as `gprs_run_pipe` does, with each subthread walked as the recheck says, which comes
+/// back with what was seen. In the place of lasting workers, which wait, workers draw from boards. A run whose walks could not be agreed
 /// on stops as where memory is out, but without a line of that.
 pub fn run_rechecked<R: Threads + Sync + AllocGlobal, H: Shelf, O: Sink, E: Sink, G: Gate>(
     rt: &R,
     words: &[String],
     shelf: &mut H,
-    recheck: &Recheck,
+    recheck: Recheck,
     out: &mut O,
     err: &mut E,
     gate: &G,
-) -> Outcome
+) -> (Outcome, Recheck)
     ensures headline { Headline commands (record {
       words = texts words.now;
       files = H.files shelf.old;
@@ -141,8 +141,8 @@ pub fn run_rechecked<R: Threads + Sync + AllocGlobal, H: Shelf, O: Sink, E: Sink
       failed' = H.failed shelf.new;
       out = change_of O.written O.faults out.old out.new;
       err = change_of E.written E.faults err.old err.new;
-      status = result.status;
-      journal = result.journal;
+      status = result.0.status;
+      journal = result.0.journal;
     }) }
 
     // The shelf is not read for words of no command, nor for a batch that the program makes itself.
@@ -151,7 +151,7 @@ pub fn run_rechecked<R: Threads + Sync + AllocGlobal, H: Shelf, O: Sink, E: Sink
     let alloc = rt.alloc();
     match read_waiting(alloc, words, shelf) {
         Ok(request) => carry_rechecked(rt, alloc, request, recheck, out, err, gate),
-        Err(refusal) => refused_outcome(alloc, refusal, err),
+        Err(refusal) => (refused_outcome(alloc, refusal, err), recheck),
     }
 }
 

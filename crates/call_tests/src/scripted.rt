@@ -83,7 +83,7 @@ fn plan_of_adders(alloc: Global, faults: &str) -> Result<(Work, Begins), Fail>
         drop(request);
         return Err(Fail::from("the program is not to be run"));
     }
-    let (work, plan) = plan_of(alloc, request, &Recheck::once())?;
+    let (work, plan) = plan_of(alloc, request, Recheck::once())?;
     Ok((work, plan.begins))
 }
 

@@ -7,7 +7,7 @@ ghost use Rattle.call_cases.specs.meaning.Headline.{Headline};
 ghost use Rattle.batch_calls.specs.meaning.LogCommands.{commands};
 
 use batch_calls::log_rechecked;
-use call_cases::{Outcome, Refusal, refused_outcome};
+use call_cases::Outcome;
 use gp_base::{Gate, Shelf, Sink};
 use std::thread::Threads;
 use subthread::Recheck;
@@ -38,8 +38,5 @@ pub fn twice_log_run<R: Threads + Sync + AllocGlobal, H: Shelf, O: Sink, E: Sink
     // The shelf is not read for words of no command.
     ensures unread { log_by (texts words.now) ≡ None → shelf.new ≡ shelf.old }
 {
-    match Recheck::twice(rt.alloc()) {
-        Ok(recheck) => log_rechecked(rt, words, shelf, &recheck, out, err, gate),
-        Err(_) => refused_outcome(rt.alloc(), Refusal::OutOfMemory, err),
-    }
+    log_rechecked(rt, words, shelf, Recheck::twice(), out, err, gate)
 }

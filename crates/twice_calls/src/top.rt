@@ -8,23 +8,24 @@ ghost use Rattle.twice_calls.specs.meaning.Differences.{traces, MayTellBehind};
 
 use crate::lines::tell;
 use batch_calls::run_rechecked;
-use call_cases::{Outcome, Refusal, refused_outcome};
+use call_cases::Outcome;
 use gp_base::{Gate, Shelf, Sink};
 use std::thread::Threads;
 use subthread::Recheck;
 
-/// Does what the words ask for, as `twice_run` does, with each subthread walked as the recheck says.
+/// Does what the words ask for, as `twice_run` does, with each subthread walked as the recheck says, which comes back with
+/// what was seen.
 pub fn run_told<R: Threads + Sync + AllocGlobal, H: Shelf, O: Sink, E: Sink, G: Gate>(
     rt: &R,
     words: &[String],
     shelf: &mut H,
-    recheck: &Recheck,
+    recheck: Recheck,
     out: &mut O,
     err: &mut E,
     gate: &G,
-) -> Outcome
+) -> (Outcome, Recheck)
     ensures headline { (due : Change)
-        × MayTellBehind (traces (asked_waiting (texts words.now))) result.status due (change_of E.written E.faults err.old err.new)
+        × MayTellBehind (traces (asked_waiting (texts words.now))) result.0.status due (change_of E.written E.faults err.old err.new)
         × Headline commands (record {
           words = texts words.now;
           files = H.files shelf.old;
@@ -32,16 +33,16 @@ pub fn run_told<R: Threads + Sync + AllocGlobal, H: Shelf, O: Sink, E: Sink, G: 
           failed' = H.failed shelf.new;
           out = change_of O.written O.faults out.old out.new;
           err = due;
-          status = result.status;
-          journal = result.journal;
+          status = result.0.status;
+          journal = result.0.journal;
         }) }
 
     // The shelf is not read for words of no command, nor for a batch that the program makes itself.
     ensures unread { ReadsNothing commands (asked_waiting (texts words.now)) → shelf.new ≡ shelf.old }
 {
-    let outcome = run_rechecked(rt, words, shelf, recheck, out, err, gate);
-    tell(rt.alloc(), recheck, words, outcome.status, err);
-    outcome
+    let (outcome, recheck) = run_rechecked(rt, words, shelf, recheck, out, err, gate);
+    tell(rt.alloc(), &recheck, words, outcome.status, err);
+    (outcome, recheck)
 }
 
 /// Does what the words ask for, as `gprs_run_pipe` does, but walks each subthread twice and compares the walks before
@@ -75,8 +76,5 @@ pub fn twice_run<R: Threads + Sync + AllocGlobal, H: Shelf, O: Sink, E: Sink, G:
     // The shelf is not read for words of no command, nor for a batch that the program makes itself.
     ensures unread { ReadsNothing commands (asked_waiting (texts words.now)) → shelf.new ≡ shelf.old }
 {
-    match Recheck::twice(rt.alloc()) {
-        Ok(recheck) => run_told(rt, words, shelf, &recheck, out, err, gate),
-        Err(_) => refused_outcome(rt.alloc(), Refusal::OutOfMemory, err),
-    }
+    run_told(rt, words, shelf, Recheck::twice(), out, err, gate).0
 }

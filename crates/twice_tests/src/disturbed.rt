@@ -4,7 +4,6 @@ ghost use Rattle.std.specs.Prelude.{◌≡◌, ◌++◌, ◌∷◌, [], IfOk, On
 ghost use Rattle.gp_base.specs.Files.{HasDistinctNames};
 
 use batch_calls::log_rechecked;
-use call_cases::Outcome;
 use gp_base::{FreeGate, MemShelf, MemSink, Name, Seq, Text};
 use std::alloc::{AllocError, Global};
 use std::test::Fail;
@@ -47,6 +46,7 @@ struct Answer {
     status: u8,
     output: MemSink,
     error: MemSink,
+    recheck: Recheck,
 }
 
 impl Answer {
@@ -94,7 +94,7 @@ fn files_of(alloc: Global) -> Result<Seq<(Name, Text)>, AllocError>
 fn answer_under<R: Threads + Sync + AllocGlobal>(
     rt: &R,
     words: &str,
-    recheck: &Recheck,
+    recheck: Recheck,
 ) -> Result<Box<Answer>, AllocError> {
     let alloc = rt.alloc();
     let is_log = words.starts_with("log");
@@ -102,8 +102,8 @@ fn answer_under<R: Threads + Sync + AllocGlobal>(
     let mut shelf = MemShelf::new(alloc, files_of(alloc)?, Seq::new(alloc));
     let mut output = MemSink::new(alloc, 1000, Seq::new(alloc));
     let mut error = MemSink::new(alloc, 1000, Seq::new(alloc));
-    let Outcome { status, .. } = if is_log {
-        log_rechecked(
+    let (outcome, recheck) = if is_log {
+        let outcome = log_rechecked(
             rt,
             &words,
             &mut shelf,
@@ -111,7 +111,8 @@ fn answer_under<R: Threads + Sync + AllocGlobal>(
             &mut output,
             &mut error,
             &FreeGate,
-        )
+        );
+        (outcome, Recheck::once())
     } else {
         run_told(
             rt,
@@ -126,9 +127,10 @@ fn answer_under<R: Threads + Sync + AllocGlobal>(
     drop(words);
     drop(shelf);
     let answer = Answer {
-        status,
+        status: outcome.status,
         output,
         error,
+        recheck,
     };
     Ok(Box::new(alloc, answer)?)
 }
@@ -142,8 +144,8 @@ fn answers<R: Threads + Sync + AllocGlobal>(
     output: &str,
     error: &str,
 ) -> Result<(), Fail> {
-    let recheck = Recheck::disturbing(rt.alloc(), disturbed.0, disturbed.1)?;
-    let answer = answer_under(rt, words, &recheck)?;
+    let recheck = Recheck::disturbing(disturbed.0, disturbed.1);
+    let answer = answer_under(rt, words, recheck)?;
     if answer.is(status, output, error) {
         Ok(())
     } else {
@@ -194,11 +196,10 @@ fn an_old_value_that_changed_is_told_by_the_sum(rt: HostRuntime) -> Result<(), F
 
 #[test]
 fn nothing_stands_behind_a_trace_or_a_log(rt: HostRuntime) -> Result<(), Fail> {
-    let once = Recheck::once();
-    let traced = answer_under(&rt, "run p.gp --trace", &once)?;
-    let disturbed = Recheck::disturbing(rt.alloc(), Disturbance::Steps, 1)?;
-    let again = answer_under(&rt, "run p.gp --trace", &disturbed)?;
-    if disturbed.differed() != 1 || again.error.written() != traced.error.written() {
+    let traced = answer_under(&rt, "run p.gp --trace", Recheck::once())?;
+    let disturbed = Recheck::disturbing(Disturbance::Steps, 1);
+    let again = answer_under(&rt, "run p.gp --trace", disturbed)?;
+    if again.recheck.differed() != 1 || again.error.written() != traced.error.written() {
         return Err(Fail::from("the trace is another one"));
     }
     answers(&rt, "log p.gp", (Disturbance::Steps, 1), 0, ADDED, ADD_LOG)
@@ -209,9 +210,8 @@ fn nothing_stands_behind_a_trace_or_a_log(rt: HostRuntime) -> Result<(), Fail> {
 fn no_difference_is_told_where_nothing_is_disturbed(rt: HostRuntime) -> Result<(), Fail> {
     for crew in &CREWS {
         let words = format!(in rt.alloc(); "run p.gp --faults f.csv --workers 2 --crew {crew}")?;
-        let recheck = Recheck::twice(rt.alloc())?;
-        let answer = answer_under(&rt, &words, &recheck)?;
-        let is_told = recheck.differed() > 0 || recheck.disagreed().is_some();
+        let answer = answer_under(&rt, &words, Recheck::twice())?;
+        let is_told = answer.recheck.differed() > 0 || answer.recheck.disagreed().is_some();
         if is_told || !(answer.status == 0 || answer.status == 1) {
             return Err(Fail::from("a difference is told, or another status"));
         }
