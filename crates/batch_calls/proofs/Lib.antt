@@ -5,3 +5,4 @@ pub mod PlainTexts
 pub mod RanPieces
 pub mod RunEnds
 pub mod RunPieces
+pub mod Untold

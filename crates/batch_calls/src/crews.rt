@@ -1,24 +1,27 @@
 // What runs over a journal, each by the crew that is asked for.
-ghost use Rattle.std.specs.Prelude.{◌≡◌, true, All, IfOk};
+ghost use Rattle.std.specs.Prelude.{◌≡◌, true, false, All, IfOk};
 ghost use Rattle.subthread.specs.Tasks.{Fits};
 ghost use Rattle.crew.specs.Out.{AreRuns};
 ghost use Rattle.steal_crew.specs.Batches.{AreCounted};
-ghost use Rattle.call_cases.specs.meaning.Answers.{change_of};
+ghost use Rattle.call_cases.specs.meaning.Answers.{IsEmpty, change_of};
 ghost use Rattle.call_cases.specs.Decided.{MayRun, work_of};
+ghost use Rattle.call_cases.specs.Answers.{PutFor};
+ghost use Rattle.call_cases.specs.meaning.RunCommands.{work_text, work_status};
 ghost use Rattle.call_cases.specs.meaning.Work.{is_journalled};
-ghost use Rattle.batch_calls.specs.inner.Planned.{IsPlanOf, Carries, work_planned};
+ghost use Rattle.command_line.specs.declared.asked.Command.TheVariants as command;
+ghost use Rattle.batch_calls.specs.inner.Planned.{IsPlanOf, Carries, work_planned, without_faults};
 
 use crate::plan::{Plan, plan_of};
-use crate::run::{carry_by, carry_plain, is_journalled, unbegun};
-use call_cases::{Outcome, Request};
-use command_line::CrewKind;
+use crate::run::{carry_by, is_journalled, put_plain, put_untold, unbegun};
+use call_cases::{Outcome, Request, empty_journal, plain_outcome};
+use command_line::{Command, CrewKind};
 use crew::{BatchCrew, InlineCrew, MeanSteps, run_wave};
-use gp_base::{Gate, Seq, Sink};
+use gp_base::{Faults, Gate, Seq, Sink, SinkFault};
 use pipe_crew::run_board;
 use std::alloc::{AllocError, Global};
 use std::thread::Threads;
 use steal_crew::{StealCrew, run_steal};
-use subthread::{Done, Task, Work};
+use subthread::{Done, Recheck, Task, Work};
 
 // Runs a plan in the calling thread.
 fn carry_inline<R: Threads + Sync, O: Sink, E: Sink, G: Gate>(
@@ -136,9 +139,111 @@ fn carry_by_kind<R: Threads + Sync, O: Sink, E: Sink, G: Gate>(
     }
 }
 
-/// Does what is requested, and writes its text, and the trace of its run where one is asked for. Where the output
-/// fails, the line of that is written to `err`. Lasting workers wait, which this call does not: in their place workers
-/// draw from boards.
+// A request without its faults.
+fn without_faults(alloc: Global, request: Request) -> Request
+    ensures work { work_of result ≡ without_faults (work_of request) }
+    ensures asked { result.asked ≡ request.asked }
+    ensures sound { MayRun request → MayRun result }
+{
+    let Request {
+        asked,
+        checked,
+        inputs,
+        ..
+    } = request;
+    Request {
+        asked,
+        checked,
+        inputs,
+        faults: Faults::none(alloc),
+    }
+}
+
+// Runs a program by the crew of the calling thread, without faults, and writes the text of that. No journal is told.
+fn put_one_rechecked<R: Threads + Sync, O: Sink, G: Gate>(
+    rt: &R,
+    alloc: Global,
+    request: Request,
+    recheck: &Recheck,
+    out: &mut O,
+    gate: &G,
+) -> Result<u8, SinkFault>
+    requires sound { MayRun request }
+    requires run { request.asked.command ≡ command.One }
+    ensures { PutFor (work_text command.One (work_of request)) (work_status command.One (work_of request)) (change_of O.written O.faults out.old out.new) result }
+{
+    let (work, plan) = plan_of(alloc, without_faults(alloc, request), recheck)?;
+    let mut crew = InlineCrew::new(alloc, &work, gate);
+    put_untold(rt, alloc, &work, plan, &mut crew, out)
+}
+
+// How a run ended whose walks could not be agreed on, and which tells no journal. The line of that is left to the caller
+// of the top call, which has the recheck.
+fn stopped_untold(alloc: Global) -> Outcome
+    ensures status { result.status ≡ 1 }
+    ensures empty { IsEmpty result.journal }
+{
+    Outcome {
+        status: 1,
+        journal: empty_journal(alloc),
+    }
+}
+
+// Does what is requested that runs over no journal. The run of a program on one thread is one over a journal that is
+// not told, where its subthreads are to be walked twice.
+fn carry_plain<R: Threads + Sync, O: Sink, E: Sink, G: Gate>(
+    rt: &R,
+    alloc: Global,
+    request: Request,
+    recheck: &Recheck,
+    out: &mut O,
+    err: &mut E,
+    gate: &G,
+) -> Outcome
+    requires sound { MayRun request }
+    requires run { is_journalled request.asked.command ≡ false }
+    ensures { Carries request.asked (work_of request) (change_of O.written O.faults out.old out.new) (change_of E.written E.faults err.old err.new) result.status result.journal }
+{
+    if request.asked.command == Command::One && recheck.is_on() {
+        let put = put_one_rechecked(rt, alloc, request, recheck, out, gate);
+        return match put {
+            Err(SinkFault::OutOfMemory) if recheck.disagreed().is_some() => stopped_untold(alloc),
+            put => plain_outcome(alloc, put, err),
+        };
+    }
+    let outcome = put_plain(alloc, &request, out, err);
+    drop(request);
+    outcome
+}
+
+/// Does what is requested, and writes its text, and the trace of its run where one is asked for. Each subthread is
+/// walked as the recheck says, which keeps what is seen. Where the output fails, the line of that is written to `err`.
+/// Lasting workers wait, which this call does not: in their place workers draw from boards.
+pub fn carry_rechecked<R: Threads + Sync, O: Sink, E: Sink, G: Gate>(
+    rt: &R,
+    alloc: Global,
+    request: Request,
+    recheck: &Recheck,
+    out: &mut O,
+    err: &mut E,
+    gate: &G,
+) -> Outcome
+    requires { MayRun request }
+    ensures { Carries request.asked (work_of request) (change_of O.written O.faults out.old out.new) (change_of E.written E.faults err.old err.new) result.status result.journal }
+{
+    if !is_journalled(request.asked.command) {
+        return carry_plain(rt, alloc, request, recheck, out, err, gate);
+    }
+    let (work, plan) = match plan_of(alloc, request, recheck) {
+        Ok(made) => made,
+        Err(_) => return unbegun(alloc, err),
+    };
+    let outcome = carry_by_kind(rt, alloc, &work, plan, out, err, gate);
+    drop(work);
+    outcome
+}
+
+/// Does what is requested, as `carry_rechecked` does, with each subthread walked once.
 pub fn carry_out<R: Threads + Sync, O: Sink, E: Sink, G: Gate>(
     rt: &R,
     alloc: Global,
@@ -150,16 +255,5 @@ pub fn carry_out<R: Threads + Sync, O: Sink, E: Sink, G: Gate>(
     requires { MayRun request }
     ensures { Carries request.asked (work_of request) (change_of O.written O.faults out.old out.new) (change_of E.written E.faults err.old err.new) result.status result.journal }
 {
-    if !is_journalled(request.asked.command) {
-        let outcome = carry_plain(alloc, &request, out, err);
-        drop(request);
-        return outcome;
-    }
-    let (work, plan) = match plan_of(alloc, request) {
-        Ok(made) => made,
-        Err(_) => return unbegun(alloc, err),
-    };
-    let outcome = carry_by_kind(rt, alloc, &work, plan, out, err, gate);
-    drop(work);
-    outcome
+    carry_rechecked(rt, alloc, request, &Recheck::once(), out, err, gate)
 }

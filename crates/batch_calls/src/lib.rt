@@ -14,6 +14,6 @@ mod top;
 mod waiting;
 
 pub use ckpt::ckpt_run;
-pub use log::log_run;
+pub use log::{log_rechecked, log_run};
 pub use top::gprs_run;
-pub use waiting::gprs_run_pipe;
+pub use waiting::{gprs_run_pipe, run_rechecked};

@@ -10,12 +10,13 @@ ghost use Rattle.call_cases.specs.Refusals.{AnswersCase, AnswersNoCommand, Touch
 ghost use Rattle.call_cases.specs.meaning.RunCommands.{MayRead};
 ghost use Rattle.batch_calls.specs.meaning.LogCommands.{asking, commands};
 
-use crate::crews::carry_out;
+use crate::crews::carry_rechecked;
 use call_cases::{Outcome, Refusal, Request, read_for, refused_outcome};
 use command_line::read_log_words;
 use gp_base::{Gate, Shelf, Sink};
 use std::alloc::Global;
 use std::thread::Threads;
+use subthread::Recheck;
 
 // What the words ask for, as `read_request` reads it, where they are those of `log`.
 fn read_log<H: Shelf>(alloc: Global, words: &[String], shelf: &mut H) -> Result<Request, Refusal>
@@ -32,6 +33,38 @@ fn read_log<H: Shelf>(alloc: Global, words: &[String], shelf: &mut H) -> Result<
         Err(_) => return Err(Refusal::OutOfMemory),
     };
     read_for(alloc, asked, shelf)
+}
+
+/// Does what the words of `log` ask for, as `log_run` does, with each subthread walked as the recheck says, which keeps
+/// what is seen.
+pub fn log_rechecked<R: Threads + Sync + AllocGlobal, H: Shelf, O: Sink, E: Sink, G: Gate>(
+    rt: &R,
+    words: &[String],
+    shelf: &mut H,
+    recheck: &Recheck,
+    out: &mut O,
+    err: &mut E,
+    gate: &G,
+) -> Outcome
+    ensures headline { Headline commands (record {
+      words = texts words.now;
+      files = H.files shelf.old;
+      failed = H.failed shelf.old;
+      failed' = H.failed shelf.new;
+      out = change_of O.written O.faults out.old out.new;
+      err = change_of E.written E.faults err.old err.new;
+      status = result.status;
+      journal = result.journal;
+    }) }
+
+    // The shelf is not read for words of no command.
+    ensures unread { log_by (texts words.now) ≡ None → shelf.new ≡ shelf.old }
+{
+    let alloc = rt.alloc();
+    match read_log(alloc, words, shelf) {
+        Ok(request) => carry_rechecked(rt, alloc, request, recheck, out, err, gate),
+        Err(refusal) => refused_outcome(alloc, refusal, err),
+    }
 }
 
 /// Runs the program that the words of `log` name, over what is handed in, as `gprs_run` runs one by `run`, and writes a
@@ -64,9 +97,5 @@ pub fn log_run<R: Threads + Sync + AllocGlobal, H: Shelf, O: Sink, E: Sink, G: G
     // The shelf is not read for words of no command.
     ensures unread { log_by (texts words.now) ≡ None → shelf.new ≡ shelf.old }
 {
-    let alloc = rt.alloc();
-    match read_log(alloc, words, shelf) {
-        Ok(request) => carry_out(rt, alloc, request, out, err, gate),
-        Err(refusal) => refused_outcome(alloc, refusal, err),
-    }
+    log_rechecked(rt, words, shelf, &Recheck::once(), out, err, gate)
 }

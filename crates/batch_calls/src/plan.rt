@@ -23,7 +23,7 @@ use gp_checkpoint::ckpt_drive;
 use lock_checker::Checked;
 use std::alloc::{AllocError, Global};
 use std::thread::Threads;
-use subthread::Work;
+use subthread::{Recheck, Work};
 use task_ast::Layout;
 use task_code::lower;
 use whole_run::Recovery;
@@ -57,13 +57,14 @@ fn recovery_of(command: Command) -> Recovery
     }
 }
 
-// What runs a program: its code, with copies of the feeds and the turns that a subthread may take, and the layout of
-// its cells. The error is that memory is out.
+// What runs a program: its code, with copies of the feeds, the turns that a subthread may take, and the recheck that its
+// subthreads are walked under; and the layout of its cells. The error is that memory is out.
 fn work_and_layout(
     alloc: Global,
     checked: &Checked,
     feeds: &[Feed],
     turns: u64,
+    recheck: &Recheck,
 ) -> Result<(Work, Layout), AllocError>
     ensures code { IfOk result (λ made. IsCode (code_of made.0.code)) }
     ensures program { IfOk result (λ made. program_in made.0 ≡ plain_program (program_of checked.now)) }
@@ -74,11 +75,23 @@ fn work_and_layout(
     let layout = checked.layout(alloc)?;
     let feeds = copied_feeds(alloc, feeds)?;
     let code = lower(alloc, checked)?;
-    Ok((Work { code, feeds, turns }, layout))
+    let recheck = recheck.shared()?;
+    let work = Work {
+        code,
+        feeds,
+        turns,
+        recheck,
+    };
+    Ok((work, layout))
 }
 
-/// The code of a request's program, and the plan of its run. The error is that memory is out.
-pub fn plan_of(alloc: Global, request: Request) -> Result<(Work, Plan), AllocError>
+/// The code of a request's program, whose subthreads are walked under this recheck, and the plan of its run. The error
+/// is that memory is out.
+pub fn plan_of(
+    alloc: Global,
+    request: Request,
+    recheck: &Recheck,
+) -> Result<(Work, Plan), AllocError>
     requires { IsSound request.asked (plain_program (program_of request.checked)) request.inputs }
     ensures plan { IfOk result (λ made. IsPlanOf made.0 made.1) }
     ensures work { IfOk result (λ made. work_planned made.1 ≡ work_of request) }
@@ -86,7 +99,13 @@ pub fn plan_of(alloc: Global, request: Request) -> Result<(Work, Plan), AllocErr
 {
     let limits = request.asked.limits;
     let feeds = request.inputs.feeds.as_slice();
-    let (work, layout) = match work_and_layout(alloc, &request.checked, feeds, limits.turns) {
+    let (work, layout) = match work_and_layout(
+        alloc,
+        &request.checked,
+        feeds,
+        limits.turns,
+        recheck,
+    ) {
         Ok(made) => made,
         Err(refused) => {
             drop(request);

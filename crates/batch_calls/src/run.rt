@@ -8,13 +8,14 @@ ghost use Rattle.restart_log.specs.meaning.Trace.{trace_text};
 ghost use Rattle.command_line.specs.declared.asked.Command.TheVariants as command;
 ghost use Rattle.command_line.specs.declared.asked.Asked.{Asked};
 ghost use Rattle.call_cases.specs.meaning.Answers.{Change, change_of};
-ghost use Rattle.call_cases.specs.Answers.{LineEnds, unwritten};
+ghost use Rattle.call_cases.specs.Answers.{LineEnds, PutFor, unwritten};
 ghost use Rattle.call_cases.specs.Decided.{work_of};
 ghost use Rattle.call_cases.specs.meaning.PlainText.{plain_ran, restarts_in};
+ghost use Rattle.call_cases.specs.meaning.RunCommands.{end_status};
 ghost use Rattle.call_cases.specs.meaning.Texts.{run_text, run_soak};
 ghost use Rattle.call_cases.specs.meaning.Work.{ToDo, is_journalled};
 ghost use Rattle.batch_calls.specs.inner.Planned.{IsPlanOf, IsPlanned, Carries, work_begun, work_planned};
-ghost use Rattle.batch_calls.specs.inner.Ran.{RanFor, EndsFor, StopsWith, WritesLines, why_of, told_tail, told_soak};
+ghost use Rattle.batch_calls.specs.inner.Ran.{RanFor, EndsFor, StopsWith, WritesLines, why_of, fault_of, told_tail, told_soak};
 
 use crate::logged::{outcome_logged, put_logged};
 use crate::plain::{put_ok, put_one};
@@ -32,7 +33,7 @@ use lock_checker::Checked;
 use restart_log::{soak_text, tail_text, trace_text};
 use std::alloc::Global;
 use std::thread::Threads;
-use subthread::Work;
+use subthread::{Recheck, Work};
 
 fn why_of(fault: SinkFault) -> StopWhy
     ensures { result ≡ why_of fault }
@@ -52,12 +53,14 @@ pub fn stopped(fault: SinkFault, journal: Journal) -> EngineStop
     EngineStop { why, journal }
 }
 
-// Tells why a call stopped, and answers the status of that.
-fn stop_with<E: Sink>(err: &mut E, why: StopWhy) -> u8
+// Tells why a call stopped, and answers the status of that. Where walks could not be agreed on, the line of that is left to
+// the caller of the top call, which has the recheck.
+fn stop_with<E: Sink>(err: &mut E, why: StopWhy, recheck: &Recheck) -> u8
     ensures { StopsWith why (change_of E.written E.faults err.old err.new) result }
 {
     match why {
         StopWhy::WriteFault => end_with(err, WRITE_FAULT, 8),
+        StopWhy::OutOfMemory if recheck.disagreed().is_some() => 1,
         StopWhy::OutOfMemory => end_with(err, OUT_OF_MEMORY, 1),
     }
 }
@@ -179,6 +182,7 @@ fn put_trace<E: Sink>(alloc: Global, is_traced: bool, journal: &Journal, err: &m
 fn outcome_of<E: Sink>(
     alloc: Global,
     is_traced: bool,
+    recheck: &Recheck,
     ran: Result<Report, EngineStop>,
     err: &mut E,
 ) -> Outcome
@@ -195,7 +199,7 @@ fn outcome_of<E: Sink>(
             }
         }
         Err(stop) => {
-            let status = stop_with(err, stop.why);
+            let status = stop_with(err, stop.why, recheck);
             Outcome {
                 status,
                 journal: stop.journal,
@@ -227,11 +231,11 @@ fn carry_begun<R: Threads + Sync, C: Crew, O: Sink, E: Sink>(
     match asked.command {
         Command::Run | Command::Ckpt(_) => {
             let ran = put_run(rt, alloc, asked, checked, code, begins, crew, out);
-            outcome_of(alloc, asked.trace, ran, err)
+            outcome_of(alloc, asked.trace, &code.recheck, ran, err)
         }
         Command::Soak(soak) => {
             let ran = put_soak(rt, alloc, asked, checked, code, begins, soak, crew, out);
-            outcome_of(alloc, asked.trace, ran, err)
+            outcome_of(alloc, asked.trace, &code.recheck, ran, err)
         }
         Command::Log => {
             let ran = put_logged(rt, alloc, asked, checked, code, begins, crew, out, err);
@@ -272,6 +276,49 @@ pub fn carry_by<R: Threads + Sync, C: Crew, O: Sink, E: Sink>(
     outcome
 }
 
+// The fault of the output at which a run stopped.
+fn fault_of(why: StopWhy) -> SinkFault
+    ensures { result ≡ fault_of why }
+{
+    match why {
+        StopWhy::WriteFault => SinkFault::Failed,
+        StopWhy::OutOfMemory => SinkFault::OutOfMemory,
+    }
+}
+
+/// Runs a plan with a crew to which nothing was posted, and writes the text of its run. The answer is the status; no
+/// journal is told.
+pub fn put_untold<R: Threads + Sync, C: Crew, O: Sink>(
+    rt: &R,
+    alloc: Global,
+    code: &Work,
+    plan: Plan,
+    crew: &mut C,
+    out: &mut O,
+) -> Result<u8, SinkFault>
+    requires planned { IsPlanOf code.now plan }
+    requires ready { C.ready crew.old }
+    requires work { C.work crew.old ≡ code.now }
+    requires none_out { C.out crew.old ≡ [] }
+    requires none_posted { C.posted crew.old ≡ [] }
+    requires lines { WritesLines plan.asked.command }
+    ensures { let work = work_planned plan in
+        PutFor (run_text (plain_ran work) (restarts_in work) (length work.faults)) (end_status (plain_ran work).end) (change_of O.written O.faults out.old out.new) result }
+{
+    let Plan {
+        asked,
+        checked,
+        begins,
+    } = plan;
+    let ran = put_run(rt, alloc, &asked, &checked, code, begins, crew, out);
+    drop(checked);
+    drop(asked);
+    match ran {
+        Ok(report) => Ok(end_status(report.end)),
+        Err(stop) => Err(fault_of(stop.why)),
+    }
+}
+
 /// How a run ended that did not begin, since memory was out.
 pub fn unbegun<E: Sink>(alloc: Global, err: &mut E) -> Outcome
     ensures { (asked : Asked) (work : ToDo) (written : Option (List ℕ)) (faults : ℕ) →
@@ -285,7 +332,7 @@ pub fn unbegun<E: Sink>(alloc: Global, err: &mut E) -> Outcome
 }
 
 /// Does what is requested that runs over no journal.
-pub fn carry_plain<O: Sink, E: Sink>(
+pub fn put_plain<O: Sink, E: Sink>(
     alloc: Global,
     request: &Request,
     out: &mut O,

@@ -12,7 +12,7 @@ ghost use Rattle.call_cases.specs.meaning.Work.{is_journalled};
 ghost use Rattle.batch_calls.specs.meaning.WaitingCommands.{asking, commands};
 ghost use Rattle.batch_calls.specs.inner.Planned.{IsPlanOf, Carries, work_planned};
 
-use crate::crews::carry_out;
+use crate::crews::{carry_out, carry_rechecked};
 use crate::plan::{Plan, plan_of};
 use crate::run::{carry_by, is_journalled, unbegun};
 use call_cases::{Outcome, Refusal, Request, read_for, refused_outcome};
@@ -22,7 +22,7 @@ use pipe_crew::PipeCrew;
 use std::alloc::Global;
 use std::sync::{Arc, Wait};
 use std::thread::Threads;
-use subthread::Work;
+use subthread::{Recheck, Work};
 
 // What the words ask for, as `read_request` reads it, where `pipe` is the word of a crew too.
 fn read_waiting<H: Shelf>(
@@ -92,7 +92,7 @@ fn carry_planned<
     requires run { is_journalled request.asked.command ≡ true }
     ensures { Carries request.asked (work_of request) (change_of O.written O.faults out.old out.new) (change_of E.written E.faults err.old err.new) result.status result.journal }
 {
-    let (work, plan) = match plan_of(alloc, request) {
+    let (work, plan) = match plan_of(alloc, request, &Recheck::once()) {
         Ok(made) => made,
         Err(_) => return unbegun(alloc, err),
     };
@@ -120,6 +120,39 @@ fn carry_waiting<
         return carry_planned(rt, alloc, request, out, err, gate);
     }
     carry_out(rt, alloc, request, out, err, &**gate)
+}
+
+/// Does what the words ask for, as `gprs_run_pipe` does, with each subthread walked as the recheck says, which keeps what
+/// is seen. In the place of lasting workers, which wait, workers draw from boards. A run whose walks could not be agreed
+/// on stops as where memory is out, but without a line of that.
+pub fn run_rechecked<R: Threads + Sync + AllocGlobal, H: Shelf, O: Sink, E: Sink, G: Gate>(
+    rt: &R,
+    words: &[String],
+    shelf: &mut H,
+    recheck: &Recheck,
+    out: &mut O,
+    err: &mut E,
+    gate: &G,
+) -> Outcome
+    ensures headline { Headline commands (record {
+      words = texts words.now;
+      files = H.files shelf.old;
+      failed = H.failed shelf.old;
+      failed' = H.failed shelf.new;
+      out = change_of O.written O.faults out.old out.new;
+      err = change_of E.written E.faults err.old err.new;
+      status = result.status;
+      journal = result.journal;
+    }) }
+
+    // The shelf is not read for words of no command, nor for a batch that the program makes itself.
+    ensures unread { ReadsNothing commands (asked_waiting (texts words.now)) → shelf.new ≡ shelf.old }
+{
+    let alloc = rt.alloc();
+    match read_waiting(alloc, words, shelf) {
+        Ok(request) => carry_rechecked(rt, alloc, request, recheck, out, err, gate),
+        Err(refusal) => refused_outcome(alloc, refusal, err),
+    }
 }
 
 /// Does what the words ask for, as `gprs_run` does, where `pipe` is the word of a crew too: its workers last as long as

@@ -12,7 +12,7 @@ use gp_base::{Event, MemShelf, MemSink, Nums, Pos, Seq};
 use std::alloc::{AllocError, AllocFailed, Global};
 use std::test::Fail;
 use std::thread::Threads;
-use subthread::{Done, Task, Work};
+use subthread::{Done, Recheck, Task, Work};
 
 // A crew that notes each cell that a task is given, with the task's position.
 #[derive(Drop)]
@@ -83,7 +83,7 @@ fn plan_of_adders(alloc: Global, faults: &str) -> Result<(Work, Begins), Fail>
         drop(request);
         return Err(Fail::from("the program is not to be run"));
     }
-    let (work, plan) = plan_of(alloc, request)?;
+    let (work, plan) = plan_of(alloc, request, &Recheck::once())?;
     Ok((work, plan.begins))
 }
 

@@ -15,7 +15,7 @@ use std::sync::atomic::{AtomicU64, Ordering};
 use std::sync::{Arc, Wait};
 use std::test::Fail;
 use std::thread::{Threads, yield_now};
-use subthread::{Done, Task, Work};
+use subthread::{Done, Recheck, Task, Work};
 use task_ast::{Next, SyncOp};
 use task_code::lower;
 use task_parser::{lex, parse};
@@ -34,6 +34,7 @@ fn idle_work(alloc: Global) -> Result<Arc<Work>, Fail> {
         code: code?,
         feeds: Seq::new(alloc),
         turns: 1,
+        recheck: Recheck::once(),
     };
     Ok(Arc::new(alloc, work)?)
 }

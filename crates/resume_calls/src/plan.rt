@@ -7,7 +7,7 @@ use call_cases::{Request, copied_feeds};
 use gp_base::{Inputs, Limits};
 use lock_checker::Checked;
 use std::alloc::{AllocError, Global};
-use subthread::Work;
+use subthread::{Recheck, Work};
 use task_ast::Layout;
 use task_code::lower;
 
@@ -42,6 +42,7 @@ pub fn plan_of(alloc: Global, request: Request) -> Result<(Work, Plan), AllocErr
         code,
         feeds,
         turns: limits.turns,
+        recheck: Recheck::once(),
     };
     let plan = Plan {
         checked,

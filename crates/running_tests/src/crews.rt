@@ -16,7 +16,7 @@ use std::sync::atomic::{AtomicU64, Ordering};
 use std::test::Fail;
 use std::thread::Threads;
 use steal_crew::{StealCrew, run_steal};
-use subthread::{Done, Task, Work};
+use subthread::{Done, Recheck, Task, Work};
 use task_ast::{Next, SyncOp};
 
 // What the tasks of the program run under in which two threads add to one total.
@@ -25,6 +25,7 @@ fn adding(alloc: Global) -> Result<Work, Fail> {
         code: code_of(alloc, ADD)?,
         feeds: Seq::new(alloc),
         turns: 100,
+        recheck: Recheck::once(),
     })
 }
 

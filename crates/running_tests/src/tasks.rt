@@ -13,7 +13,7 @@ use gp_base::{At, Feed, LockNo, Nums, Pos, RecNo, Seq, ThreadNo};
 use record_store::{Bundle, Given};
 use std::alloc::{AllocError, Global};
 use std::test::Fail;
-use subthread::{Done, Task, Work, run_task};
+use subthread::{Done, Recheck, Task, Work, run_task};
 use task_ast::{Next, SyncOp};
 
 // A thread adds to a total, under its lock.
@@ -47,7 +47,12 @@ fn work(alloc: Global, text: &[u8], feeds: Seq<Feed>, turns: u64) -> Result<Work
     requires { length text.now < 2 ^ 32 }
 {
     let code = code_of(alloc, text)?;
-    Ok(Work { code, feeds, turns })
+    Ok(Work {
+        code,
+        feeds,
+        turns,
+        recheck: Recheck::once(),
+    })
 }
 
 fn run(alloc: Global, work: &Work, task: Task) -> Result<Done, AllocError>

@@ -1,5 +1,5 @@
 -- Runs that may begin, and what comes of them.
-use Rattle.std.specs.Prelude.{◌≡◌, ℕ, true, false}
+use Rattle.std.specs.Prelude.{◌≡◌, ℕ, true, false, []}
 use Rattle.gp_base.specs.declared.journal.Journal.{Journal}
 use Rattle.task_ast.specs.meaning.Tree.{Program}
 use Rattle.task_ast.specs.View.{plain_program}
@@ -45,6 +45,10 @@ work_begun asked checked begins = work_for asked (plain_program (program_of chec
 
 abbrev pub work_planned : Plan → ToDo
 work_planned plan = work_begun plan.asked plan.checked plan.begins
+
+-- the same, without faults
+abbrev pub without_faults : ToDo → ToDo
+without_faults work = record work { faults = [] }
 
 -- how a work of this command ends: the error stream takes the log of the run, or the trace
 abbrev pub EndsBy : Command → Asked → ToDo → (out err : Change) → (status : ℕ) → Journal → Type 0

@@ -41,6 +41,11 @@ abbrev pub why_of : SinkFault → StopWhy
 why_of Failed = WriteFault
 why_of sink.OutOfMemory = why.OutOfMemory
 
+-- the fault of its output at which a run stopped
+abbrev pub fault_of : StopWhy → SinkFault
+fault_of WriteFault = Failed
+fault_of why.OutOfMemory = sink.OutOfMemory
+
 -- the line that tells why a call stopped was written, or it was not
 abbrev pub StopsWith : StopWhy → Change → ℕ → Type 0
 StopsWith WriteFault err status = LineEnds 8 write_fault_line err status

@@ -7,22 +7,22 @@ use Rattle.call_cases.proofs.Headlines.{log_headline, refused_headline}
 use Rattle.batch_calls.specs.meaning.LogCommands.{commands, log_for, TakesLog}
 use Rattle.batch_calls.proofs.AskedOtherwise.{log_sound}
 use Rattle.batch_calls.proofs.LoggedEnds.{log_ends}
-use Rattle.batch_calls.proofs.log.log_run.Goals as goal
+use Rattle.batch_calls.proofs.log.log_rechecked.Goals as goal
 
 pub returns-in-Ok-clause-headline : goal.returns-in-Ok-clause-headline
 returns-in-Ok-clause-headline g c =
     let request = c.in-Ok.request in
-    let out = change_of g.O.Sink.written g.O.Sink.faults c.args.out.now c.carry_out.new.out in
-    let err = change_of g.E.Sink.written g.E.Sink.faults c.args.err.now c.carry_out.new.err in
+    let out = change_of g.O.Sink.written g.O.Sink.faults c.args.out.now c.carry_rechecked.new.out in
+    let err = change_of g.E.Sink.written g.E.Sink.faults c.args.err.now c.carry_rechecked.new.err in
     let logged = subst (λ asked. IfSome asked IsLogged) c.in-Ok.ensures.asked (log_asks (texts c.args.words.now)) in
     log_headline commands log_sound (record { whole = log_for; taken = TakesLog }) (texts c.args.words.now)
     (g.H.Shelf.files c.args.shelf.now) (g.H.Shelf.failed c.args.shelf.now) (g.H.Shelf.failed c.read_log.new.shelf) out err
-    c.carry_out.result.status c.carry_out.result.journal (files_read request.asked (program_in request))
+    c.carry_rechecked.result.status c.carry_rechecked.result.journal (files_read request.asked (program_in request))
     (work_of request) request.asked refl
-    c.in-Ok.ensures.asked c.in-Ok.ensures.case c.in-Ok.ensures.shelf c.carry_out.ensures.unjournalled
-    (λ is. let made = c.carry_out.ensures.run is in (made.lawful, made.complete, made.retired))
-    (log_ends request.asked (work_of request) out err c.carry_out.result.status c.carry_out.result.journal request.asked.command
-    logged.command c.carry_out.ensures.ends)
+    c.in-Ok.ensures.asked c.in-Ok.ensures.case c.in-Ok.ensures.shelf c.carry_rechecked.ensures.unjournalled
+    (λ is. let made = c.carry_rechecked.ensures.run is in (made.lawful, made.complete, made.retired))
+    (log_ends request.asked (work_of request) out err c.carry_rechecked.result.status c.carry_rechecked.result.journal request.asked.command
+    logged.command c.carry_rechecked.ensures.ends)
 
 pub returns-in-Err-clause-headline : goal.returns-in-Err-clause-headline
 returns-in-Err-clause-headline g c =

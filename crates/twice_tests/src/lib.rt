@@ -1,0 +1,6 @@
+//! Tests of runs whose subthreads are walked twice, where a walk is disturbed as a fault of the machine would. They stand
+//! in a crate of their own, since a crate with tests is proved twice.
+#![tactic(auto)]
+
+#[cfg(test)]
+mod disturbed;
