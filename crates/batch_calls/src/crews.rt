@@ -204,6 +204,25 @@ fn outcome_of_one<E: Sink>(
     }
 }
 
+// Runs a program on one thread by subthreads that are walked twice, over a journal that is not told.
+fn carry_one<R: Threads + Sync, O: Sink, E: Sink, G: Gate>(
+    rt: &R,
+    alloc: Global,
+    request: Request,
+    recheck: Recheck,
+    out: &mut O,
+    err: &mut E,
+    gate: &G,
+) -> (Outcome, Recheck)
+    requires sound { MayRun request }
+    requires run { request.asked.command ≡ command.One }
+    ensures { Carries request.asked (work_of request) (change_of O.written O.faults out.old out.new) (change_of E.written E.faults err.old err.new) result.0.status result.0.journal }
+{
+    let (put, recheck) = put_one_rechecked(rt, alloc, request, recheck, out, gate);
+    let outcome = outcome_of_one(alloc, &recheck, put, err);
+    (outcome, recheck)
+}
+
 // Does what is requested that runs over no journal. The run of a program on one thread is one over a journal that is
 // not told, where its subthreads are to be walked twice.
 fn carry_plain<R: Threads + Sync, O: Sink, E: Sink, G: Gate>(
@@ -219,10 +238,8 @@ fn carry_plain<R: Threads + Sync, O: Sink, E: Sink, G: Gate>(
     requires run { is_journalled request.asked.command ≡ false }
     ensures { Carries request.asked (work_of request) (change_of O.written O.faults out.old out.new) (change_of E.written E.faults err.old err.new) result.0.status result.0.journal }
 {
-    if request.asked.command == Command::One && recheck.is_on() {
-        let (put, recheck) = put_one_rechecked(rt, alloc, request, recheck, out, gate);
-        let outcome = outcome_of_one(alloc, &recheck, put, err);
-        return (outcome, recheck);
+    if recheck.is_on() && matches!(request.asked.command, Command::One) {
+        return carry_one(rt, alloc, request, recheck, out, err, gate);
     }
     let outcome = put_plain(alloc, &request, out, err);
     drop(request);
