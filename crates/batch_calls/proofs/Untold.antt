@@ -1,5 +1,5 @@
 -- A run over a journal that is not told: that of a program on one thread, whose faults are left out.
-use Rattle.std.proofs.Common.{◌≡◌, ℕ, zero, suc, Bool, true, false, cond, List, [], refl, sym, ap, ◌∙◌, subst}
+use Rattle.std.proofs.Common.{◌≡◌, ◌+◌, ℕ, zero, suc, Bool, true, false, cond, List, [], refl, sym, ap, ◌∙◌, subst}
 use Rattle.std.specs.Prelude.{Option, None, Result, length}
 use Rattle.std.specs.declared.result.Result.TheVariants.{Ok, Err}
 use Rattle.gp_base.specs.declared.sink.SinkFault.{SinkFault}
@@ -24,11 +24,11 @@ use Rattle.task_ast.specs.meaning.Plain.{order}
 
 -- no fault makes a restart
 none_struck : (dependence : Dependence) (at : Progress) → struck_next dependence [] at ≡ None
-none_struck dependence at = go (drains dependence at.front)
+none_struck dependence at = same None (drains dependence at.front)
   where
-    go : (b : Bool) → cond b None None ≡ None
-    go true = refl
-    go false = refl
+    same : (x : Option ℕ) (b : Bool) → cond b x x ≡ x
+    same x true = refl
+    same x false = refl
 
 none_made : (dependence : Dependence) (steps : ℕ) → (progress dependence [] steps).made ≡ []
 none_made dependence zero = refl

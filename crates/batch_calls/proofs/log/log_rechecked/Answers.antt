@@ -17,11 +17,11 @@ returns-in-Ok-clause-headline g c =
     let logged = subst (λ asked. IfSome asked IsLogged) c.in-Ok.ensures.asked (log_asks (texts c.args.words.now)) in
     log_headline commands log_sound (record { whole = log_for; taken = TakesLog }) (texts c.args.words.now)
     (g.H.Shelf.files c.args.shelf.now) (g.H.Shelf.failed c.args.shelf.now) (g.H.Shelf.failed c.read_log.new.shelf) out err
-    c.carry_rechecked.result.status c.carry_rechecked.result.journal (files_read request.asked (program_in request))
+    c.carry_rechecked.result.0.status c.carry_rechecked.result.0.journal (files_read request.asked (program_in request))
     (work_of request) request.asked refl
     c.in-Ok.ensures.asked c.in-Ok.ensures.case c.in-Ok.ensures.shelf c.carry_rechecked.ensures.unjournalled
     (λ is. let made = c.carry_rechecked.ensures.run is in (made.lawful, made.complete, made.retired))
-    (log_ends request.asked (work_of request) out err c.carry_rechecked.result.status c.carry_rechecked.result.journal request.asked.command
+    (log_ends request.asked (work_of request) out err c.carry_rechecked.result.0.status c.carry_rechecked.result.0.journal request.asked.command
     logged.command c.carry_rechecked.ensures.ends)
 
 pub returns-in-Err-clause-headline : goal.returns-in-Err-clause-headline

@@ -18,11 +18,11 @@ returns-in-Ok-clause-headline g c =
     subst (λ asked. IfSome asked (λ a. KeepsNoLog a.command)) c.in-Ok.ensures.asked (words_keep_none true (texts c.args.words.now)) in
     run_headline commands waiting_sound (texts c.args.words.now) (g.H.Shelf.files c.args.shelf.now) (g.H.Shelf.failed c.args.shelf.now)
     (g.H.Shelf.failed c.read_waiting.new.shelf) out err
-    c.carry_rechecked.result.status c.carry_rechecked.result.journal (files_read request.asked (program_in request))
+    c.carry_rechecked.result.0.status c.carry_rechecked.result.0.journal (files_read request.asked (program_in request))
     (work_of request) request.asked refl
     c.in-Ok.ensures.asked c.in-Ok.ensures.case c.in-Ok.ensures.shelf c.carry_rechecked.ensures.unjournalled
     (λ is. let made = c.carry_rechecked.ensures.run is in (made.lawful, made.complete, made.retired))
-    (run_ends request.asked (work_of request) out err c.carry_rechecked.result.status c.carry_rechecked.result.journal request.asked.command
+    (run_ends request.asked (work_of request) out err c.carry_rechecked.result.0.status c.carry_rechecked.result.0.journal request.asked.command
     none c.carry_rechecked.ensures.ends)
 
 pub returns-in-Err-clause-headline : goal.returns-in-Err-clause-headline
