@@ -1,6 +1,5 @@
 -- What there is to be done for a call has numbers of 32 bits.
 use Rattle.std.proofs.Common.{ℕ, Bool, List, arith}
-use Rattle.gp_base.specs.declared.limits.TheConstants.{MOST_SUBTHREADS}
 use Rattle.task_ast.specs.meaning.Tree.{Name}
 use Rattle.task_ast.specs.meaning.Plain.{tree_machine}
 use Rattle.task_ast.proofs.PlainRuns.{count_law}

@@ -1,5 +1,5 @@
 -- The lines of a journal have numbers of 32 bits.
-use Rattle.std.proofs.Common.{◌≡◌, ℕ, zero, suc, ◌+◌, ◌<◌, ◌≤◌, ◌^◌, min, List, [], ◌∷◌, ◌++◌, length, get_or, Contains, Option, Some, None, refl, sym, ap, subst, ◌∙◌, arith, append_assoc}
+use Rattle.std.proofs.Common.{◌≡◌, ℕ, zero, suc, ◌+◌, ◌<◌, ◌≤◌, ◌^◌, List, [], ◌∷◌, ◌++◌, length, get_or, Contains, Option, Some, None, refl, sym, subst, arith, append_assoc}
 use Rattle.std.specs.Prelude.{flat_map, slice_get}
 use Rattle.std.specs.List.{All}
 use Rattle.std.proofs.lemmas.List.Elements.{All-nil, All-cons, All-append, All-push, All-contains, All-contains_itself}
@@ -17,7 +17,7 @@ use Rattle.dependence.proofs.Journals.{LawfulFrom-front}
 use Rattle.dependence.proofs.Standing.{initial-stands, stands-from}
 use Rattle.dependence.proofs.Struck.{struck-live}
 use Rattle.gp_audit.specs.declared.line.TraceLine.TheVariants as line
-use Rattle.gp_audit.specs.meaning.Lines.{IsNarrow, IsNarrowRestart, IsNarrowLine}
+use Rattle.gp_audit.specs.meaning.Lines.{IsNarrowRestart, IsNarrowLine}
 use Rattle.gp_traces.specs.Laws.{IsNarrowFault}
 use Rattle.gp_traces.specs.Told.{restart_line, line_of}
 
