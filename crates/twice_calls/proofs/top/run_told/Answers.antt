@@ -4,8 +4,7 @@ use Rattle.twice_calls.proofs.top.run_told.Goals as goal
 
 pub returns-clause-headline : goal.returns-clause-headline
 returns-clause-headline g c =
-    let told = c.tell.ensures.behind in
-    (
+    let told = c.tell.ensures.behind in (
       change_of g.E.Sink.written g.E.Sink.faults c.args.err.now c.run_rechecked.new.err,
       record {
         written = refl;
