@@ -5,7 +5,7 @@ use Rattle.twice_calls.proofs.top.run_told.Goals as goal
 pub returns-clause-headline : goal.returns-clause-headline
 returns-clause-headline g c =
     let told = c.tell.ensures.behind in (
-      change_of g.E.Sink.written g.E.Sink.faults c.args.err.now c.run_rechecked.new.err,
+      change_of g.E.Sink.written g.E.Sink.faults c.args.err.now c.run_rechecked-outcome.new.err,
       record {
         written = refl;
         faults = refl;
@@ -14,5 +14,5 @@ returns-clause-headline g c =
         are_told = told.1;
         behind = told.2;
       },
-      c.run_rechecked.ensures.headline,
+      c.run_rechecked-outcome.ensures.headline,
     )
