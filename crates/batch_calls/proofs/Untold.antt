@@ -4,7 +4,7 @@ use Rattle.std.specs.Prelude.{Option, None, Result, length}
 use Rattle.std.specs.declared.result.Result.TheVariants.{Ok, Err}
 use Rattle.gp_base.specs.declared.sink.SinkFault.{SinkFault}
 use Rattle.gp_base.specs.declared.sink.SinkFault.TheVariants.{Failed}
-use Rattle.dependence.specs.meaning.Restarts.{Dependence, Progress, progress, advance_by, struck_next, drains, restarts}
+use Rattle.dependence.specs.meaning.Restarts.{Dependence, Progress, progress, advance_by, struck_next, drains}
 use Rattle.reorder_list.specs.declared.report.Report.{Report}
 use Rattle.reorder_list.specs.declared.report.EngineStop.{EngineStop}
 use Rattle.reorder_list.specs.declared.report.StopWhy.{StopWhy}

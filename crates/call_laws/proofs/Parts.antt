@@ -1,6 +1,6 @@
 -- What the first bytes of a run's own log come to, where notes told them; and how much of the text was there before.
-use Rattle.std.proofs.Common.{◌≡◌, inl, inr, ◌+◌, ◌<◌, ◌≤◌, ℕ, zero, suc, pos, List, [], ◌∷◌, ◌++◌, length, take, drop, Option, Some, refl, sym, ap, subst, ◌∙◌, arith, append_assoc}
-use Rattle.std.specs.Prelude.{All, codes, flat_map}
+use Rattle.std.proofs.Common.{◌≡◌, inl, inr, ◌≤◌, ℕ, zero, suc, List, [], ◌∷◌, ◌++◌, length, take, drop, Option, refl, sym, ap, subst, ◌∙◌, arith}
+use Rattle.std.specs.Prelude.{All, codes}
 use Rattle.std.proofs.lemmas.Bool.{cases_lt}
 use Rattle.std.proofs.lemmas.List.{length-append, length-take, length-take-le, take_all, take-append-le, take-append-drop}
 use Rattle.std.proofs.lemmas.Grind.{flat_map-append}
@@ -19,7 +19,7 @@ use Rattle.retirement_log.specs.meaning.Telling.{TellsPart}
 use Rattle.retirement_log.proofs.Told.{rows_first}
 use Rattle.gp_resume.specs.meaning.Reading.{IsLogOf}
 use Rattle.gp_resume.specs.meaning.Resumed.{lines_of}
-use Rattle.gp_resume.specs.Laws.{own_rows, text_before}
+use Rattle.gp_resume.specs.Laws.{own_rows}
 use Rattle.gp_resume.proofs.LogRows.{row-some}
 use Rattle.gp_resume.proofs.OwnAnswers.{own-answer}
 use Rattle.gp_resume.proofs.Replaying.{length-left, length-rows}
