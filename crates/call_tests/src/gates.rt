@@ -199,7 +199,7 @@ fn two_tasks_meet_where_two_workers_run_them(rt: HostRuntime) -> Result<(), Fail
 }
 
 // Whether the run by each of these words ends well, and three of its tasks are in at once exactly where they are to be.
-fn crowd<R: Threads + Sync + AllocGlobal>(
+fn crowds<R: Threads + Sync + AllocGlobal>(
     rt: &R,
     rows: &[&str],
     are_to: bool,
@@ -233,7 +233,7 @@ static OF_MANY: [&str; 3] = [
 
 #[test]
 fn no_more_tasks_run_at_once_than_there_are_workers(rt: HostRuntime) -> Result<(), Fail> {
-    assert!(rt; crowd(&rt, &OF_MANY, true)?);
-    assert!(rt; crowd(&rt, &OF_TWO, false)?);
+    assert!(rt; crowds(&rt, &OF_MANY, true)?);
+    assert!(rt; crowds(&rt, &OF_TWO, false)?);
     Ok(())
 }
