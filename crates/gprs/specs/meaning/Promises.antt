@@ -12,7 +12,7 @@ use Rattle.gprs.specs.declared.choice.TopCall.{TopCall}
 use Rattle.gprs.specs.declared.choice.TopCall.TheVariants.{Run, Pipe, Audit, Ckpt, Log, Resume}
 
 -- the promises of each of them, that of an audit by each judge, and that of a run that goes on by each reader
-abbrev pub Promised : TopCall → Call → Type 0
+unfoldable pub Promised : TopCall → Call → Type 0
 Promised Run call = Headline run.commands call
 Promised Pipe call = Headline waiting.commands call
 Promised Audit call = (judge : Judge) → Headline (audit.commands judge) call
