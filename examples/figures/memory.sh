@@ -1,10 +1,10 @@
 #!/usr/bin/env bash
 # memory.sh [WORD ..]: refuses each allocation of a run in turn. It runs these words on the batch of the folder faults (where none is given: `run` by
 # each crew, `ckpt`, `log`, `resume` and `audit`), again and again, and in run N the Nth call for memory is refused, and no other. N goes from 1 on, until
-# 60 runs in a row ended as if nothing were refused: all their calls for memory were made by then. Each run has to end within 20 seconds, with status 0 and
-# all bytes, or with status 1, its line on the error stream and a part of the output from its beginning. It prints a line for each row of words: how many runs there were, and how many of
-# them ended with status 1. The program has to be built, and a C compiler be there, since an allocator is put under the program, which counts the calls and
-# refuses one. The last line says how many runs broke this, and the script fails where one did.
+# 60 runs in a row ended as if nothing were refused: all their calls for memory were made by then. Each run has to end within 20 seconds, with status 0
+# and all bytes, or with status 1, its line on the error stream and a part of the output from its beginning. It prints a line for each row of words: how
+# many runs there were, and how many of them ended with status 1. The program has to be built, and a C compiler be there, since an allocator is put under
+# the program, which counts the calls and refuses one. The last line says how many runs broke this, and the script fails where one did.
 set -u
 cd "$(dirname "$(readlink -f "${BASH_SOURCE[0]}")")" || exit 1
 
