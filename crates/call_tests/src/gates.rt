@@ -10,8 +10,11 @@ use std::sync::atomic::{AtomicU64, Ordering};
 use std::test::Fail;
 use std::thread::Threads;
 
-// How often a gate looks before it lets a task pass that it holds.
-const MOST_LOOKS: u32 = 50_000_000;
+// How often a gate looks before it lets a task pass that it holds: where others are to come, for seconds, since on a
+// machine with other work they may be late.
+fn looks(are_to: bool) -> u32 {
+    if are_to { 4_000_000_000 } else { 50_000_000 }
+}
 
 /// A gate that holds the first task that enters of positions 2 and 3 until the other has entered too, or until it has
 /// looked often enough.
@@ -19,14 +22,16 @@ const MOST_LOOKS: u32 = 50_000_000;
 pub struct Meeting {
     entered: AtomicU64,
     met: AtomicU64,
+    looks: u32,
 }
 
 impl Meeting {
-    /// No task has entered.
-    pub fn new() -> Meeting {
+    /// No task has entered; two are to meet, or are not.
+    pub fn new(are_to: bool) -> Meeting {
         Meeting {
             entered: AtomicU64::new(0),
             met: AtomicU64::new(0),
+            looks: looks(are_to),
         }
     }
 
@@ -44,7 +49,7 @@ impl Gate for Meeting {
         if self.entered.fetch_add(1, Ordering::SeqCst) > 0 {
             return;
         }
-        for _ in 0..MOST_LOOKS {
+        for _ in 0..self.looks {
             if self.entered.load(Ordering::SeqCst) > 1 {
                 self.met.store(1, Ordering::SeqCst);
                 return;
@@ -66,14 +71,16 @@ task main() { fork first(); fork second(); fork third(); join 1; join 2; join 3;
 pub struct Crowd {
     inside: AtomicU64,
     told: AtomicU64,
+    looks: u32,
 }
 
 impl Crowd {
-    /// No task is in.
-    pub fn new() -> Crowd {
+    /// No task is in; three are to be in at once, or are not.
+    pub fn new(are_to: bool) -> Crowd {
         Crowd {
             inside: AtomicU64::new(0),
             told: AtomicU64::new(0),
+            looks: looks(are_to),
         }
     }
 
@@ -84,7 +91,7 @@ impl Crowd {
 
     // Waits until three were in at once, for so many looks at most.
     fn hold(&self) {
-        for _ in 0..MOST_LOOKS {
+        for _ in 0..self.looks {
             if self.is_told() {
                 return;
             }
@@ -112,7 +119,7 @@ fn meet<R: Threads + Sync + AllocGlobal>(
     are_to: bool,
 ) -> Result<bool, AllocError> {
     for case in cases {
-        let gate = Meeting::new();
+        let gate = Meeting::new(are_to);
         let answer = answer_through(rt, case, &gate)?;
         if answer.status != 0 || gate.has_met() != are_to {
             return Ok(false);
@@ -205,7 +212,7 @@ fn crowds<R: Threads + Sync + AllocGlobal>(
     are_to: bool,
 ) -> Result<bool, AllocError> {
     for words in rows {
-        let gate = Crowd::new();
+        let gate = Crowd::new(are_to);
         let case = Case {
             words,
             program: THREE,

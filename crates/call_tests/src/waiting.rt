@@ -135,7 +135,7 @@ fn meets<R: Threads + Wait + Clone + Send + Sync + Drop + AllocGlobal + 'static>
     words: &str,
     are_to: bool,
 ) -> Result<bool, AllocError> {
-    let gate = Arc::new(rt.alloc(), Meeting::new())?;
+    let gate = Arc::new(rt.alloc(), Meeting::new(are_to))?;
     let case = Case {
         words,
         program: ADD,
@@ -158,7 +158,7 @@ fn crowds<R: Threads + Wait + Clone + Send + Sync + Drop + AllocGlobal + 'static
     words: &str,
     are_to: bool,
 ) -> Result<bool, AllocError> {
-    let gate = Arc::new(rt.alloc(), Crowd::new())?;
+    let gate = Arc::new(rt.alloc(), Crowd::new(are_to))?;
     let case = Case {
         words,
         program: THREE,
