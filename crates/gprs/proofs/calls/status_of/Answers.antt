@@ -34,6 +34,6 @@ returns-in-Log-clause-promised g c = (
 
 pub returns-in-Resume-clause-promised : goal.returns-in-Resume-clause-promised
 returns-in-Resume-clause-promised g c = (
-  c.resume_run.result.journal,
-  resume_kept (texts c.args.words.now) _ c.in_ok-call_of.field-0 c.in_ok-call_of.ensures c.in-Resume.is c.resume_run.ensures.headline,
+  c.resumed.result.journal,
+  resume_kept (texts c.args.words.now) _ c.in_ok-call_of.field-0 c.in_ok-call_of.ensures c.in-Resume.is c.resumed.ensures.headline,
 )
