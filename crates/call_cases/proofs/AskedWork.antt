@@ -9,7 +9,7 @@ use Rattle.std.specs.declared.result.Result.{Result}
 use Rattle.std.specs.declared.result.Result.TheVariants.{Ok, Err}
 use Rattle.std.proofs.lemmas.Bool.Decides.{nat_tests}
 use Rattle.std.proofs.lemmas.List.Elements.{All-nil}
-use Rattle.clap.specs.Words.{Row, Text, fault_of, matches_of}
+use Rattle.clap.specs.Words.{Row, Text, fault_of, matches_of, first_of}
 use Rattle.gp_base.specs.meaning.Digits.{is_digits}
 use Rattle.gp_base.specs.meaning.Files.{bytes_of}
 use Rattle.gp_base.specs.declared.fault.Fault.{Fault}
@@ -22,8 +22,8 @@ use Rattle.task_ast.specs.declared.check_kind.CheckKind.{CheckKind}
 use Rattle.task_parser.specs.meaning.Spelling.{Meaning, Stands, LexFails, ParseFails}
 use Rattle.batch_files.specs.meaning.Rows.{Broken, csv_rows}
 use Rattle.command_line.specs.meaning.Numbers.{number_between}
-use Rattle.command_line.specs.meaning.Arguments.{is_faultless, argument_text, number_or}
-use Rattle.command_line.specs.meaning.Words.{named_verb, app_for, command_in, program_in, faults_in, limits_with, limits_in, crew_in, workers_in, asked_with, asked_in, asked_of, asked_among}
+use Rattle.command_line.specs.meaning.Arguments.{is_faultless, number_or}
+use Rattle.command_line.specs.meaning.Words.{named_verb, app_for, command_in, program_in, faults_in, limits_in, crew_in, workers_in, asked_with, asked_in, asked_of, asked_among, both}
 use Rattle.command_line.specs.declared.asked.Asked.{Asked}
 use Rattle.command_line.specs.declared.asked.Command.{Command}
 use Rattle.command_line.specs.declared.asked.CrewKind.{CrewKind}
@@ -52,16 +52,19 @@ most_or low high other (Some text) within = number_most low high text
 abbrev AreFew : Limits → Type 0
 AreFew limits = limits.subthreads ≤ MOST_SUBTHREADS
 
-few_with : (turns subthreads : Option ℕ) → IfSome subthreads (λ n. n ≤ MOST_SUBTHREADS) → IfSome (limits_with turns subthreads) AreFew
+limited : (turns subthreads : ℕ) → Limits
+limited turns subthreads = record { turns = turns; subthreads = subthreads }
+
+few_with : (turns subthreads : Option ℕ) → IfSome subthreads (λ n. n ≤ MOST_SUBTHREADS) → IfSome (both limited turns subthreads) AreFew
 few_with None subthreads is = tt
 few_with (Some turns) None is = tt
 few_with (Some turns) (Some subthreads) is = is
 
 few_in : (rows : List Row) → IfSome (limits_in rows) AreFew
 few_in rows =
-    few_with (number_or 1 MOST_TURNS DEFAULT_TURNS (argument_text (codes "turns") rows))
-    (number_or 1 MOST_SUBTHREADS DEFAULT_SUBTHREADS (argument_text (codes "subthreads") rows))
-    (most_or 1 MOST_SUBTHREADS DEFAULT_SUBTHREADS (argument_text (codes "subthreads") rows) (omega arith))
+    few_with (number_or 1 MOST_TURNS DEFAULT_TURNS (first_of (codes "turns") rows))
+    (number_or 1 MOST_SUBTHREADS DEFAULT_SUBTHREADS (first_of (codes "subthreads") rows))
+    (most_or 1 MOST_SUBTHREADS DEFAULT_SUBTHREADS (first_of (codes "subthreads") rows) (omega arith))
 
 abbrev AsksFew : Asked → Type 0
 AsksFew asked = AreFew asked.limits
@@ -79,7 +82,7 @@ few_taken : (waits : Bool) (verb : Verb) (rows : List Row) (b : Bool) → IfSome
 few_taken waits verb rows false = tt
 few_taken waits verb rows true =
     few_asked (command_in verb rows) (program_in verb rows) (faults_in verb rows) (limits_in rows) (crew_in waits rows) (workers_in rows)
-    (argument_text (codes "trace") rows) (few_in rows)
+    (first_of (codes "trace") rows) (few_in rows)
 
 pub few_among : (waits : Bool) (words : List Text) → IfSome (asked_among waits words) AsksFew
 few_among waits [] = tt

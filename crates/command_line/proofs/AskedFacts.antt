@@ -5,7 +5,7 @@ use Rattle.clap.specs.Words.{App, Kinds, Row, Text, fault_of, is_simple_and_free
 use Rattle.clap.specs.declared.parser.matches.ArgMatches.{ArgMatches}
 use Rattle.command_line.specs.meaning.Arguments.{is_faultless}
 use Rattle.command_line.specs.Arguments.{IsParsedAs}
-use Rattle.command_line.specs.meaning.Words.{texts, named_verb, app_for, asked_in, asked_of, asked_among}
+use Rattle.command_line.specs.meaning.Words.{texts, named_verb, app_for, asked_in, asked_of, asked_among, begins_with, accepted, accepted_as, both}
 use Rattle.command_line.specs.declared.asked.Verb.{Verb}
 use Rattle.command_line.specs.declared.asked.Verb.TheVariants.{Run, One, Check, Soak}
 
@@ -29,11 +29,28 @@ choice (k ∷ ks) taken refused = refl
 -- what the rows of a parse are read as, where the command takes the words, and where it does not
 module _ {X : Type 0} (read : List Row → Option X) (app : App) (words : List Text) where
   pub read_taken : (matches : ArgMatches) → IsParsedAs app words (Some matches)
-      → read (rows_of (found_of matches)) ≡ if is_faultless (fault_of app words) then read (matches_of app words) else None
+      → read (rows_of (found_of matches)) ≡ accepted app read words
   read_taken matches h = ap read h.1 ∙ sym (ap (λ (kinds : Kinds). if is_faultless kinds then read (matches_of app words) else None) h.0)
 
-  pub read_refused : IsParsedAs app words None → None ≡ if is_faultless (fault_of app words) then read (matches_of app words) else None
+  pub read_refused : IsParsedAs app words None → None ≡ accepted app read words
   read_refused h = sym (choice (fault_of app words) (read (matches_of app words)) h)
+
+  -- the same where the words begin with the command's name
+  module _ (name : Text) (is : Bool) (found : is ≡ begins_with name words) (named : is ≡ true) where
+    begins : begins_with name words ≡ true
+    begins = sym found ∙ named
+
+    pub named_taken : (matches : ArgMatches) → IsParsedAs app words (Some matches)
+        → read (rows_of (found_of matches)) ≡ accepted_as name app read words
+    named_taken matches h = rw begins (read_taken matches h)
+
+    pub named_refused : IsParsedAs app words None → None ≡ accepted_as name app read words
+    named_refused h = rw begins (read_refused h)
+
+-- nothing is made where the second part is not there
+pub none_alone : {A B C : Type 0} (make : A → B → C) (a : Option A) → None ≡ both make a None
+none_alone make (Some a) = refl
+none_alone make None = refl
 
 pub asked_taken : (waits : Bool) (verb : Verb) (words : List Text) (matches : ArgMatches) → IsParsedAs (app_for verb) words (Some matches)
     → asked_in waits verb (rows_of (found_of matches)) ≡ asked_of waits verb words

@@ -1,14 +1,14 @@
 -- What words ask for keeps a log where they are those of `log`, and no log where they are those of `gprs_run` or of `ckpt`.
 use Rattle.std.proofs.Common.{◌≡◌, ℕ, Bool, true, false, if◌then◌else◌, List, [], ◌∷◌, IfSome, refl}
-use Rattle.std.specs.Prelude.{codes, ⊤}
+use Rattle.std.specs.Prelude.{codes, option_and_then, ⊤}
 use Rattle.std.specs.Str.{bytes_eq}
 use Rattle.std.specs.declared.option.Option.{Option}
 use Rattle.std.specs.declared.option.Option.TheVariants.{None, Some}
 use Rattle.clap.specs.Words.{Text, fault_of, matches_of}
 use Rattle.command_line.specs.meaning.Arguments.{is_faultless}
-use Rattle.command_line.specs.meaning.Words.{asked_in, asked_among}
-use Rattle.command_line.specs.meaning.CkptWords.{for_ckpt, every_in, ckpt_with, ckpt_by}
-use Rattle.command_line.specs.meaning.LogWords.{for_log, steals, log_with, log_by}
+use Rattle.command_line.specs.meaning.Words.{asked_in, asked_among, both}
+use Rattle.command_line.specs.meaning.CkptWords.{for_ckpt, every_in, cut_run, ckpt_in, ckpt_by}
+use Rattle.command_line.specs.meaning.LogWords.{for_log, steals, log_with, log_in, log_by}
 use Rattle.command_line.specs.declared.asked.Asked.{Asked}
 use Rattle.command_line.specs.declared.asked.Command.{Command}
 use Rattle.command_line.specs.declared.asked.Command.TheVariants.{Log}
@@ -37,12 +37,11 @@ pub ckpt_keeps_none : (words : List Text) → IfSome (ckpt_by words) (λ asked. 
 ckpt_keeps_none [] = tt
 ckpt_keeps_none (word ∷ words) =
     let rows = matches_of for_ckpt (word ∷ words) in
-    let asked = ckpt_with (every_in rows) (asked_in false Run rows) in
     let taken = is_faultless (fault_of for_ckpt (word ∷ words)) in
-    if_taken KeepsNone (if taken then asked else None) (if_taken KeepsNone asked (go (every_in rows) (asked_in false Run rows)) taken)
-    (bytes_eq word (codes "ckpt"))
+    if_taken KeepsNone (if taken then ckpt_in rows else None)
+    (if_taken KeepsNone (ckpt_in rows) (go (every_in rows) (asked_in false Run rows)) taken) (bytes_eq word (codes "ckpt"))
   where
-    go : (every : Option ℕ) (run : Option Asked) → IfSome (ckpt_with every run) KeepsNone
+    go : (every : Option ℕ) (run : Option Asked) → IfSome (both cut_run every run) KeepsNone
     go (Some every) (Some run) = tt
     go (Some every) None = tt
     go None run = tt
@@ -56,16 +55,16 @@ pub record IsLogged (asked : Asked) : Type 0 where
 pub log_asks : (words : List Text) → IfSome (log_by words) IsLogged
 log_asks [] = tt
 log_asks (word ∷ words) =
-    let asked = log_with (asked_in false Run (matches_of for_log (word ∷ words))) in
+    let rows = matches_of for_log (word ∷ words) in
     let taken = is_faultless (fault_of for_log (word ∷ words)) in
-    if_taken IsLogged (if taken then asked else None)
-    (if_taken IsLogged asked (go (asked_in false Run (matches_of for_log (word ∷ words)))) taken) (bytes_eq word (codes "log"))
+    if_taken IsLogged (if taken then log_in rows else None)
+    (if_taken IsLogged (log_in rows) (go (asked_in false Run rows)) taken) (bytes_eq word (codes "log"))
   where
     kept : (run : Asked) (b : Bool) → steals run.crew ≡ b
         → IfSome (if b then None else Some (record run { command = Log; trace = false })) IsLogged
     kept run true is = tt
     kept run false is = record { command = refl; crew = is }
 
-    go : (run : Option Asked) → IfSome (log_with run) IsLogged
+    go : (run : Option Asked) → IfSome (option_and_then log_with run) IsLogged
     go None = tt
     go (Some run) = kept run (steals run.crew) refl

@@ -3,9 +3,9 @@ use Rattle.std.proofs.Common.{ℕ, Bool, true, false, if◌then◌else◌, List,
 use Rattle.std.specs.Prelude.{option_and_then, option_map, codes}
 use Rattle.std.specs.declared.option.Option.{Option}
 use Rattle.std.specs.declared.option.Option.TheVariants.{None, Some}
-use Rattle.clap.specs.Words.{Row, Text, fault_of, matches_of}
+use Rattle.clap.specs.Words.{Row, Text, fault_of, matches_of, first_of}
 use Rattle.gp_base.specs.declared.limits.Limits.{Limits}
-use Rattle.command_line.specs.meaning.Arguments.{is_faultless, argument_text}
+use Rattle.command_line.specs.meaning.Arguments.{is_faultless}
 use Rattle.command_line.specs.meaning.Words.{named_verb, app_for, soak_in, command_in, program_in, faults_in, limits_in, crew_in, workers_in, asked_with, asked_in, asked_of, asked_among}
 use Rattle.command_line.specs.declared.asked.Soak.{Soak}
 use Rattle.command_line.specs.declared.asked.CrewKind.{CrewKind}
@@ -41,7 +41,7 @@ module _ (P : Command → Type 0) where
     taken_command : (v : Verb) (rows : List Row) (b : Bool) → IfSome (if b then asked_in waits v rows else None) (λ asked. P asked.command)
     taken_command v rows true =
         with_command (command_in v rows) (program_in v rows) (faults_in v rows) (limits_in rows) (crew_in waits rows) (workers_in rows)
-        (argument_text (codes "trace") rows)
+        (first_of (codes "trace") rows)
         (verb_command run one check soak v rows)
     taken_command v rows false = tt
 

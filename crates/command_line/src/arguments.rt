@@ -1,7 +1,8 @@
 // The arguments of a command, one parse by it, and the values that the parse found.
 ghost use Rattle.std.specs.Prelude.{◌≡◌, ◌≤◌, false, true, map, option_map, string_bytes, IfOk, IfSome};
-ghost use Rattle.clap.specs.Words.{App, app_of, found_of, is_simple_and_free, rows_of, rule_of, with_rule};
-ghost use Rattle.command_line.specs.meaning.Arguments.{option_of, flag_of, is_on, positional, number_of, number_or, argument_text};
+ghost use Rattle.clap.specs.Words.{App, app_of, found_of, is_simple_and_free, rows_of, rule_of, with_rule, first_of};
+ghost use Rattle.command_line.specs.meaning.Arguments.{option_of, flag_of, is_on, positional, number_of, number_or};
+ghost use Rattle.command_line.specs.meaning.Words.{begins_with, texts};
 ghost use Rattle.command_line.specs.Arguments.{IsParsedAs};
 
 use crate::number::number_in;
@@ -104,9 +105,19 @@ pub fn taken<'a>(
     taken_by(command?, words)
 }
 
+/// Whether the first of the words is this one.
+pub fn begins_with(name: &str, words: &[String]) -> bool
+    ensures { result ≡ begins_with name.now (texts words.now) }
+{
+    match words {
+        [word, ..] => word.as_str() == name,
+        [] => false,
+    }
+}
+
 /// The text that stands for an argument.
 pub fn found_text<'a>(matches: &ArgMatches<'a>, name: &str) -> Option<&'a str>
-    ensures { option_map (λ text. text.now) result ≡ argument_text name.now (rows_of (found_of matches.now)) }
+    ensures { option_map (λ text. text.now) result ≡ first_of name.now (rows_of (found_of matches.now)) }
 {
     matches.get_str(name)
 }
@@ -120,7 +131,7 @@ pub fn option_number(
     other: u64,
 ) -> Option<u64>
     requires { (low ≤ other) × (other ≤ high) }
-    ensures value { result ≡ number_or low high other (argument_text name.now (rows_of (found_of matches.now))) }
+    ensures value { result ≡ number_or low high other (first_of name.now (rows_of (found_of matches.now))) }
     ensures within { IfSome result (λ n. (low ≤ n) × (n ≤ high)) }
 {
     match found_text(matches, name) {
@@ -131,7 +142,7 @@ pub fn option_number(
 
 /// The number of an argument, or none where its text is no number within the limits.
 pub fn found_number(matches: &ArgMatches<'_>, name: &str, low: u64, high: u64) -> Option<u64>
-    ensures value { result ≡ number_of low high (argument_text name.now (rows_of (found_of matches.now))) }
+    ensures value { result ≡ number_of low high (first_of name.now (rows_of (found_of matches.now))) }
     ensures within { IfSome result (λ n. (low ≤ n) × (n ≤ high)) }
 {
     let text = found_text(matches, name)?;
@@ -140,7 +151,7 @@ pub fn found_number(matches: &ArgMatches<'_>, name: &str, low: u64, high: u64) -
 
 /// Whether a flag is there.
 pub fn is_given(matches: &ArgMatches<'_>, name: &str) -> bool
-    ensures { result ≡ is_on (argument_text name.now (rows_of (found_of matches.now))) }
+    ensures { result ≡ is_on (first_of name.now (rows_of (found_of matches.now))) }
 {
     match found_text(matches, name) {
         Some(text) => text == "true",

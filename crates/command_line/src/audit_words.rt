@@ -3,9 +3,9 @@ ghost use Rattle.std.specs.Prelude.{◌≡◌, IfOk, IfSome};
 ghost use Rattle.clap.specs.Words.{app_of, found_of, rows_of};
 ghost use Rattle.command_line.specs.meaning.Words.{texts};
 ghost use Rattle.command_line.specs.Words.{IsWithinLimits};
-ghost use Rattle.command_line.specs.meaning.AuditWords.{for_audit, audited_in, audited_of, audited_by};
+ghost use Rattle.command_line.specs.meaning.AuditWords.{for_audit, audited_in, audited_by};
 
-use crate::arguments::{found_text, taken, with_option, with_positional};
+use crate::arguments::{begins_with, found_text, taken, with_option, with_positional};
 use crate::asked::{Asked, Verb, asked_in, on_program, with_limits};
 use clap::ArgMatches;
 use gp_base::Name;
@@ -44,28 +44,17 @@ fn audited_in(alloc: Global, matches: &ArgMatches<'_>) -> Result<Option<Audited>
     Ok(Some(Audited { run, trace }))
 }
 
-// What the words of the command ask for, or none where it does not take them.
-fn audited_of(alloc: Global, words: &[String]) -> Result<Option<Audited>, AllocError>
-    ensures audited { IfOk result (λ audited. audited ≡ audited_of (texts words.now)) }
-    ensures within { IfOk result (λ audited. IfSome audited (λ a. IsWithinLimits a.run)) }
-{
-    match taken(for_audit(alloc), words)? {
-        Some(matches) => audited_in(alloc, &matches),
-        None => Ok(None),
-    }
-}
-
 /// What the words ask to be audited, or none where they are not those of `audit`: the first word is another, the
 /// command does not take the others, or a number is outside its range. `words` are those after the program's own name.
 pub fn read_audit_words(alloc: Global, words: &[String]) -> Result<Option<Audited>, AllocError>
     ensures audited { IfOk result (λ audited. audited ≡ audited_by (texts words.now)) }
     ensures within { IfOk result (λ audited. IfSome audited (λ a. IsWithinLimits a.run)) }
 {
-    let [word, ..] = words else {
-        return Ok(None);
-    };
-    if word.as_str() != "audit" {
+    if !begins_with("audit", words) {
         return Ok(None);
     }
-    audited_of(alloc, words)
+    match taken(for_audit(alloc), words)? {
+        Some(matches) => audited_in(alloc, &matches),
+        None => Ok(None),
+    }
 }

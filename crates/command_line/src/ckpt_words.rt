@@ -3,10 +3,10 @@ ghost use Rattle.std.specs.Prelude.{◌≡◌, ◌≤◌, IfOk, IfSome};
 ghost use Rattle.clap.specs.Words.{app_of, found_of, rows_of};
 ghost use Rattle.command_line.specs.meaning.Words.{texts};
 ghost use Rattle.command_line.specs.Words.{IsWithinLimits};
-ghost use Rattle.command_line.specs.meaning.CkptWords.{for_ckpt, every_in, ckpt_in, ckpt_of, ckpt_by};
+ghost use Rattle.command_line.specs.meaning.CkptWords.{for_ckpt, every_in, ckpt_in, ckpt_by};
 ghost use Rattle.command_line.specs.declared.ckpt_words.TheConstants.{LEAST_EVERY, MOST_EVERY};
 
-use crate::arguments::{option_number, taken, with_option};
+use crate::arguments::{begins_with, option_number, taken, with_option};
 use crate::asked::{Asked, Command, Verb, asked_in, on_program, with_crew, with_limits};
 use clap::ArgMatches;
 use std::alloc::{AllocError, Global};
@@ -59,17 +59,6 @@ fn ckpt_in(alloc: Global, matches: &ArgMatches<'_>) -> Result<Option<Asked>, All
     }))
 }
 
-// What the words of the command ask for, or none where it does not take them.
-fn ckpt_of(alloc: Global, words: &[String]) -> Result<Option<Asked>, AllocError>
-    ensures asked { IfOk result (λ asked. asked ≡ ckpt_of (texts words.now)) }
-    ensures within { IfOk result (λ asked. IfSome asked IsWithinLimits) }
-{
-    match taken(for_ckpt(alloc), words)? {
-        Some(matches) => ckpt_in(alloc, &matches),
-        None => Ok(None),
-    }
-}
-
 /// What the words ask for, or none where they are not those of `ckpt`: the first word is another, the command does not
 /// take the others, a number is outside its range, or a crew's word names none. `words` are those after the program's
 /// own name.
@@ -77,11 +66,11 @@ pub fn read_ckpt_words(alloc: Global, words: &[String]) -> Result<Option<Asked>,
     ensures asked { IfOk result (λ asked. asked ≡ ckpt_by (texts words.now)) }
     ensures within { IfOk result (λ asked. IfSome asked IsWithinLimits) }
 {
-    let [word, ..] = words else {
-        return Ok(None);
-    };
-    if word.as_str() != "ckpt" {
+    if !begins_with("ckpt", words) {
         return Ok(None);
     }
-    ckpt_of(alloc, words)
+    match taken(for_ckpt(alloc), words)? {
+        Some(matches) => ckpt_in(alloc, &matches),
+        None => Ok(None),
+    }
 }

@@ -10,6 +10,7 @@ mod number;
 mod resume_words;
 mod why_words;
 
+pub use arguments::begins_with;
 pub use asked::{
     Asked, Command, CrewKind, Soak, Verb, asked_of, read_waiting_words, read_words, wants_pipe,
 };

@@ -1,11 +1,11 @@
 // The words of `log`: a run that keeps a log of what retires.
-ghost use Rattle.std.specs.Prelude.{◌≡◌, Some, IfOk, IfSome};
+ghost use Rattle.std.specs.Prelude.{◌≡◌, IfOk, IfSome};
 ghost use Rattle.clap.specs.Words.{app_of, found_of, rows_of};
 ghost use Rattle.command_line.specs.meaning.Words.{texts};
 ghost use Rattle.command_line.specs.Words.{IsWithinLimits};
-ghost use Rattle.command_line.specs.meaning.LogWords.{for_log, steals, log_with, log_in, log_of, log_by};
+ghost use Rattle.command_line.specs.meaning.LogWords.{for_log, steals, log_with, log_in, log_by};
 
-use crate::arguments::{taken, with_option};
+use crate::arguments::{begins_with, taken, with_option};
 use crate::asked::{Asked, Command, CrewKind, Verb, asked_in, on_program, with_crew, with_limits};
 use clap::ArgMatches;
 use std::alloc::{AllocError, Global};
@@ -30,7 +30,7 @@ fn steals(crew: CrewKind) -> bool
 // The run with a log, or none where no log is kept under its crew.
 fn logged(run: Asked) -> Option<Asked>
     requires { IsWithinLimits run }
-    ensures asked { result ≡ log_with (Some run) }
+    ensures asked { result ≡ log_with run }
     ensures within { IfSome result IsWithinLimits }
 {
     if steals(run.crew) {
@@ -55,17 +55,6 @@ fn log_in(alloc: Global, matches: &ArgMatches<'_>) -> Result<Option<Asked>, Allo
     }
 }
 
-// What the words of the command ask for, or none where it does not take them.
-fn log_of(alloc: Global, words: &[String]) -> Result<Option<Asked>, AllocError>
-    ensures asked { IfOk result (λ asked. asked ≡ log_of (texts words.now)) }
-    ensures within { IfOk result (λ asked. IfSome asked IsWithinLimits) }
-{
-    match taken(for_log(alloc), words)? {
-        Some(matches) => log_in(alloc, &matches),
-        None => Ok(None),
-    }
-}
-
 /// What the words ask for, or none where they are not those of `log`: the first word is another, the command does not
 /// take the others, a number is outside its range, a crew's word names none, or its workers steal from one another.
 /// `words` are those after the program's own name. The error is that memory is out.
@@ -73,11 +62,11 @@ pub fn read_log_words(alloc: Global, words: &[String]) -> Result<Option<Asked>, 
     ensures asked { IfOk result (λ asked. asked ≡ log_by (texts words.now)) }
     ensures within { IfOk result (λ asked. IfSome asked IsWithinLimits) }
 {
-    let [word, ..] = words else {
-        return Ok(None);
-    };
-    if word.as_str() != "log" {
+    if !begins_with("log", words) {
         return Ok(None);
     }
-    log_of(alloc, words)
+    match taken(for_log(alloc), words)? {
+        Some(matches) => log_in(alloc, &matches),
+        None => Ok(None),
+    }
 }

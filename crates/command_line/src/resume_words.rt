@@ -3,9 +3,9 @@ ghost use Rattle.std.specs.Prelude.{◌≡◌, IfOk, IfSome};
 ghost use Rattle.clap.specs.Words.{app_of, found_of, rows_of};
 ghost use Rattle.command_line.specs.meaning.Words.{texts};
 ghost use Rattle.command_line.specs.Words.{IsWithinLimits};
-ghost use Rattle.command_line.specs.meaning.ResumeWords.{for_resume, resumed_in, resumed_of, resumed_by};
+ghost use Rattle.command_line.specs.meaning.ResumeWords.{for_resume, resumed_in, resumed_by};
 
-use crate::arguments::{found_text, taken, with_positional};
+use crate::arguments::{begins_with, found_text, taken, with_positional};
 use crate::asked::{Asked, Verb, asked_in, on_program, with_limits};
 use clap::ArgMatches;
 use gp_base::Name;
@@ -42,17 +42,6 @@ fn resumed_in(alloc: Global, matches: &ArgMatches<'_>) -> Result<Option<Resumed>
     Ok(Some(Resumed { run, log }))
 }
 
-// What the words of the command ask for, or none where it does not take them.
-fn resumed_of(alloc: Global, words: &[String]) -> Result<Option<Resumed>, AllocError>
-    ensures resumed { IfOk result (λ resumed. resumed ≡ resumed_of (texts words.now)) }
-    ensures within { IfOk result (λ resumed. IfSome resumed (λ r. IsWithinLimits r.run)) }
-{
-    match taken(for_resume(alloc), words)? {
-        Some(matches) => resumed_in(alloc, &matches),
-        None => Ok(None),
-    }
-}
-
 /// What the words ask to be gone on with, or none where they are not those of `resume`: the first word is another, the
 /// command does not take the others, or a number is outside its range. `words` are those after the program's own name.
 /// The error is that memory is out.
@@ -60,11 +49,11 @@ pub fn read_resume_words(alloc: Global, words: &[String]) -> Result<Option<Resum
     ensures resumed { IfOk result (λ resumed. resumed ≡ resumed_by (texts words.now)) }
     ensures within { IfOk result (λ resumed. IfSome resumed (λ r. IsWithinLimits r.run)) }
 {
-    let [word, ..] = words else {
-        return Ok(None);
-    };
-    if word.as_str() != "resume" {
+    if !begins_with("resume", words) {
         return Ok(None);
     }
-    resumed_of(alloc, words)
+    match taken(for_resume(alloc), words)? {
+        Some(matches) => resumed_in(alloc, &matches),
+        None => Ok(None),
+    }
 }

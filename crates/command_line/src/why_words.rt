@@ -3,9 +3,9 @@ ghost use Rattle.std.specs.Prelude.{◌≡◌, IfOk, IfSome};
 ghost use Rattle.clap.specs.Words.{app_of, found_of, rows_of};
 ghost use Rattle.command_line.specs.meaning.Words.{texts};
 ghost use Rattle.command_line.specs.Words.{IsWithinLimits};
-ghost use Rattle.command_line.specs.meaning.WhyWords.{for_why, position_in, sought_in, sought_of, sought_by};
+ghost use Rattle.command_line.specs.meaning.WhyWords.{for_why, position_in, sought_in, sought_by};
 
-use crate::arguments::{found_number, taken, with_option, with_positional};
+use crate::arguments::{begins_with, found_number, taken, with_option, with_positional};
 use crate::asked::{Asked, Verb, asked_in, on_program, with_limits};
 use clap::ArgMatches;
 use std::alloc::{AllocError, Global};
@@ -49,28 +49,17 @@ fn sought_in(alloc: Global, matches: &ArgMatches<'_>) -> Result<Option<Sought>, 
     Ok(Some(Sought { run, position }))
 }
 
-// What the words of the command ask for, or none where it does not take them.
-fn sought_of(alloc: Global, words: &[String]) -> Result<Option<Sought>, AllocError>
-    ensures sought { IfOk result (λ sought. sought ≡ sought_of (texts words.now)) }
-    ensures within { IfOk result (λ sought. IfSome sought (λ s. IsWithinLimits s.run)) }
-{
-    match taken(for_why(alloc), words)? {
-        Some(matches) => sought_in(alloc, &matches),
-        None => Ok(None),
-    }
-}
-
 /// What the words ask to be told why, or none where they are not those of `why`: the first word is another, the command
 /// does not take the others, or a number is outside its range. `words` are those after the program's own name.
 pub fn read_why_words(alloc: Global, words: &[String]) -> Result<Option<Sought>, AllocError>
     ensures sought { IfOk result (λ sought. sought ≡ sought_by (texts words.now)) }
     ensures within { IfOk result (λ sought. IfSome sought (λ s. IsWithinLimits s.run)) }
 {
-    let [word, ..] = words else {
-        return Ok(None);
-    };
-    if word.as_str() != "why" {
+    if !begins_with("why", words) {
         return Ok(None);
     }
-    sought_of(alloc, words)
+    match taken(for_why(alloc), words)? {
+        Some(matches) => sought_in(alloc, &matches),
+        None => Ok(None),
+    }
 }

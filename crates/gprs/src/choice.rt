@@ -1,9 +1,9 @@
 // Which of the top calls takes the words.
 ghost use Rattle.std.specs.Prelude.{◌≡◌, IfOk};
 ghost use Rattle.command_line.specs.meaning.Words.{texts};
-ghost use Rattle.gprs.specs.meaning.Choice.{begins_with, top_call};
+ghost use Rattle.gprs.specs.meaning.Choice.{top_call};
 
-use command_line::wants_pipe;
+use command_line::{begins_with, wants_pipe};
 use std::alloc::{AllocError, Global};
 
 /// The top calls: that which runs or checks a batch, the same by lasting workers, that which audits a trace, that which
@@ -16,16 +16,6 @@ pub enum TopCall {
     Ckpt,
     Log,
     Resume,
-}
-
-// Whether the first of the words is this one.
-fn begins_with(name: &str, words: &[String]) -> bool
-    ensures { result ≡ begins_with name.now (texts words.now) }
-{
-    match words {
-        [word, ..] => word.as_str() == name,
-        [] => false,
-    }
 }
 
 /// Which top call takes the words: that of an audit where the first word is `audit`, that by checkpoints where it is

@@ -6,12 +6,12 @@ use Rattle.std.specs.declared.option.Option.{Option}
 use Rattle.std.specs.declared.option.Option.TheVariants.{None, Some}
 use Rattle.std.specs.declared.result.Result.{Result}
 use Rattle.std.specs.declared.result.Result.TheVariants.{Ok, Err}
-use Rattle.clap.specs.Words.{Row, Text, fault_of, matches_of}
+use Rattle.clap.specs.Words.{Row, Text, fault_of, matches_of, first_of}
 use Rattle.gp_base.specs.declared.limits.Limits.{Limits}
 use Rattle.gp_base.specs.declared.limits.TheConstants.{MOST_FILE_BYTES}
-use Rattle.command_line.specs.meaning.Arguments.{is_faultless, argument_text}
-use Rattle.command_line.specs.meaning.Words.{program_in, faults_in, limits_in, crew_in, workers_in, asked_with, asked_in}
-use Rattle.command_line.specs.meaning.ResumeWords.{for_resume, resumed_with, resumed_in as found_in, resumed_by}
+use Rattle.command_line.specs.meaning.Arguments.{is_faultless}
+use Rattle.command_line.specs.meaning.Words.{program_in, faults_in, limits_in, crew_in, workers_in, asked_with, asked_in, both}
+use Rattle.command_line.specs.meaning.ResumeWords.{for_resume, resumed_in as found_in, resumed_by}
 use Rattle.command_line.specs.declared.asked.Asked.{Asked}
 use Rattle.command_line.specs.declared.asked.CrewKind.{CrewKind}
 use Rattle.command_line.specs.declared.asked.Command.TheVariants as command
@@ -41,9 +41,12 @@ one_with (Some program) faults (Some limits) (Some crew) (Some workers) trace = 
 one_in : (rows : List Row) → IfSome (asked_in false verb.One rows) IsOne
 one_in rows =
     one_with (program_in verb.One rows) (faults_in verb.One rows) (limits_in rows) (crew_in false rows) (workers_in rows)
-    (argument_text (codes "trace") rows)
+    (first_of (codes "trace") rows)
 
-resumed_one : (run : Option Asked) (log : Option Text) → IfSome run IsOne → IfSome (resumed_with run log) RunsOne
+made : Asked → Text → Resumed
+made run log = record { run = run; log = log }
+
+resumed_one : (run : Option Asked) (log : Option Text) → IfSome run IsOne → IfSome (both made run log) RunsOne
 resumed_one None log is = tt
 resumed_one (Some run) None is = tt
 resumed_one (Some run) (Some log) is = is
@@ -58,7 +61,7 @@ words_ask (word ∷ words) =
     let rows = matches_of for_resume (word ∷ words) in
     let taken = is_faultless (fault_of for_resume (word ∷ words)) in
     if_taken (if taken then found_in rows else None)
-    (if_taken (found_in rows) (resumed_one (asked_in false verb.One rows) (argument_text (codes "log_file") rows) (one_in rows)) taken)
+    (if_taken (found_in rows) (resumed_one (asked_in false verb.One rows) (first_of (codes "log_file") rows) (one_in rows)) taken)
     (bytes_eq word (codes "resume"))
 
 -- what is asked for has that command, and so the run may begin

@@ -9,7 +9,7 @@ use Rattle.task_ast.specs.meaning.Check.{check_fault}
 use Rattle.task_parser.specs.meaning.Spelling.{Meaning, Means, Stands, LexFails, ParseFails}
 use Rattle.call_cases.specs.meaning.Work.{Files, Supplied, Supplies, Lacks, Spoils}
 use Rattle.call_cases.specs.meaning.Commands.{Asking, Commands}
-use Rattle.call_cases.specs.meaning.Lines.{usage_line, read_fault_line, lex_line, parse_line, check_line}
+use Rattle.call_cases.specs.meaning.Lines.{usage_line, lex_line, parse_line, check_line}
 
 -- the case of a call, where what there may be to do is a value of T
 pub data Case (T : Type 0) : Type 0 where
@@ -59,10 +59,10 @@ abbrev pub ForCase : {A T : Type 0} → Asking A T → List (List ℕ) → Optio
 ForCase asking words None P = ⊤
 ForCase {T} asking words (Some files) P = (case : Case T) → IsCase asking words files case → P case
 
--- its line on the error stream
+-- its line on the error stream; that of a file that is not there is due once a read of it failed
 abbrev pub line_of : {T : Type 0} → Case T → List ℕ
 line_of Usage = usage_line
-line_of (Missing names name) = read_fault_line name
+line_of (Missing names name) = []
 line_of (BadProgram name line) = line
 line_of (BadInput names line) = line
 line_of (Go names work) = []

@@ -1,7 +1,7 @@
 -- The arguments of a command, and what words stand for them, by the definitions of `clap`.
 use Rattle.std.specs.Prelude.{ℕ, Bool, true, false, List, [], ◌∷◌, Option, Some, None, codes}
 use Rattle.std.specs.Str.{bytes_eq}
-use Rattle.clap.specs.Words.{Kinds, Row, Rule, Text, first_of, new_rule}
+use Rattle.clap.specs.Words.{Kinds, Rule, Text, new_rule}
 use Rattle.clap.specs.declared.builder.action.ArgAction.TheVariants.{SetTrue}
 use Rattle.command_line.specs.meaning.Numbers.{number_between}
 
@@ -19,10 +19,6 @@ flag_of name = record (new_rule name) { long = Some name; action = Some SetTrue 
 abbrev pub is_faultless : Kinds → Bool
 is_faultless [] = true
 is_faultless (kind ∷ kinds) = false
-
--- the text that stands for an argument, if one does
-abbrev pub argument_text : Text → List Row → Option Text
-argument_text = first_of
 
 -- the number of a text, where there is one
 abbrev pub number_of : (low high : ℕ) → Option Text → Option ℕ

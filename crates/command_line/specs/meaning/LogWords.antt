@@ -1,9 +1,8 @@
 -- What words ask for that have a log kept of a run.
-use Rattle.std.specs.Prelude.{false, true, Bool, List, [], ◌∷◌, Option, Some, None, codes, if◌then◌else◌}
-use Rattle.std.specs.Str.{bytes_eq}
-use Rattle.clap.specs.Words.{App, Row, Text, fault_of, matches_of, with_rule}
-use Rattle.command_line.specs.meaning.Arguments.{is_faultless, option_of}
-use Rattle.command_line.specs.meaning.Words.{on_program, with_limits, with_crew, asked_in}
+use Rattle.std.specs.Prelude.{false, true, Bool, List, Option, Some, None, option_and_then, codes, if◌then◌else◌}
+use Rattle.clap.specs.Words.{App, Row, Text, with_rule}
+use Rattle.command_line.specs.meaning.Arguments.{option_of}
+use Rattle.command_line.specs.meaning.Words.{on_program, with_limits, with_crew, asked_in, accepted_as}
 use Rattle.command_line.specs.declared.asked.Asked.{Asked}
 use Rattle.command_line.specs.declared.asked.Command.TheVariants.{Log}
 use Rattle.command_line.specs.declared.asked.CrewKind.{CrewKind}
@@ -20,19 +19,13 @@ steals crew.Steal = true
 steals kind = false
 
 -- the run that is asked for, with a log; it is not traced
-abbrev pub log_with : Option Asked → Option Asked
-log_with (Some run) = if steals run.crew then None else Some (record run { command = Log; trace = false })
-log_with None = None
+abbrev pub log_with : Asked → Option Asked
+log_with run = if steals run.crew then None else Some (record run { command = Log; trace = false })
 
--- what the texts that were found ask for
+-- what the arguments ask for
 abbrev pub log_in : List Row → Option Asked
-log_in rows = log_with (asked_in false Run rows)
-
--- what the words ask for, where `log` takes them
-abbrev pub log_of : List Text → Option Asked
-log_of words = if is_faultless (fault_of for_log words) then log_in (matches_of for_log words) else None
+log_in rows = option_and_then log_with (asked_in false Run rows)
 
 -- what the words ask for, where they are those of `log`
 abbrev pub log_by : List Text → Option Asked
-log_by [] = None
-log_by (word ∷ words) = if bytes_eq word (codes "log") then log_of (word ∷ words) else None
+log_by = accepted_as (codes "log") for_log log_in

@@ -3,10 +3,10 @@ use Rattle.std.specs.Prelude.{ℕ, Bool, true, false, ◌&&◌, List, [], ◌∷
 use Rattle.std.specs.Option.{option_map_or}
 use Rattle.std.specs.Str.{bytes_eq}
 use Rattle.std.specs.declared.alloc.Global.{Global}
-use Rattle.clap.specs.Words.{App, Row, Text, fault_of, matches_of, new_app, with_rule}
+use Rattle.clap.specs.Words.{App, Row, Text, fault_of, matches_of, new_app, with_rule, first_of}
 use Rattle.gp_base.specs.declared.limits.Limits.{Limits}
 use Rattle.gp_base.specs.declared.limits.TheConstants.{DEFAULT_TURNS, DEFAULT_SUBTHREADS, DEFAULT_WORKERS, LEAST_MOVES, MOST_MOVES, MOST_TURNS, MOST_SUBTHREADS, MOST_WORKERS}
-use Rattle.command_line.specs.meaning.Arguments.{is_faultless, positional, option_of, flag_of, is_on, number_of, number_or, argument_text}
+use Rattle.command_line.specs.meaning.Arguments.{is_faultless, positional, option_of, flag_of, is_on, number_of, number_or}
 use Rattle.command_line.specs.declared.asked.Asked.{Asked}
 use Rattle.command_line.specs.declared.asked.Soak.{Soak}
 use Rattle.command_line.specs.declared.asked.Command.{Command}
@@ -36,6 +36,24 @@ named_crew waits word =
     else (if bytes_eq word (codes "board") then Some crew.Board
     else (if bytes_eq word (codes "steal") then Some crew.Steal
     else (if waits && bytes_eq word (codes "pipe") then Some crew.Pipe else None))))
+
+-- the first of the words is this one
+abbrev pub begins_with : (name : Text) → List Text → Bool
+begins_with name [] = false
+begins_with name (word ∷ words) = bytes_eq word name
+
+-- what words mean to a command, by the arguments that it finds in them, where it takes them
+abbrev pub accepted : {A : Type 0} → App → (List Row → Option A) → List Text → Option A
+accepted app meaning words = if is_faultless (fault_of app words) then meaning (matches_of app words) else None
+
+-- the same where they begin with its name
+abbrev pub accepted_as : {A : Type 0} → (name : Text) → App → (List Row → Option A) → List Text → Option A
+accepted_as name app meaning words = if begins_with name words then accepted app meaning words else None
+
+-- what two parts make, where both are there
+abbrev pub both : {A B C : Type 0} → (A → B → C) → Option A → Option B → Option C
+both make (Some a) (Some b) = Some (make a b)
+both make a b = None
 
 -- a command without a help flag
 abbrev pub without_help : App → App
@@ -69,14 +87,10 @@ app_for Check = on_program (codes "check")
 app_for SoakVerb = for_soak
 
 -- a batch of so many moves, from this number
-abbrev pub soak_with : (moves start : Option ℕ) → Option Soak
-soak_with (Some moves) (Some start) = Some (record { moves = moves; start = start })
-soak_with moves start = None
-
 abbrev pub soak_in : List Row → Option Soak
 soak_in rows =
-    soak_with (number_of LEAST_MOVES MOST_MOVES (argument_text (codes "moves") rows))
-    (number_of 0 18446744073709551615 (argument_text (codes "start") rows))
+    both (λ moves start. record { moves = moves; start = start }) (number_of LEAST_MOVES MOST_MOVES (first_of (codes "moves") rows))
+    (number_of 0 18446744073709551615 (first_of (codes "start") rows))
 
 -- what is to be done
 abbrev pub command_in : Verb → List Row → Option Command
@@ -88,28 +102,25 @@ command_in SoakVerb rows = option_map command.Soak (soak_in rows)
 -- the program's file, and the file of faults; a batch that is made has both in itself
 abbrev pub program_in : Verb → List Row → Option Text
 program_in SoakVerb rows = Some (codes "soak.gp")
-program_in verb rows = argument_text (codes "program") rows
+program_in verb rows = first_of (codes "program") rows
 
 abbrev pub faults_in : Verb → List Row → Option Text
 faults_in SoakVerb rows = Some (codes "faults.csv")
-faults_in verb rows = argument_text (codes "faults") rows
+faults_in verb rows = first_of (codes "faults") rows
 
 -- a limit is a number in its range, or stands at its default
-abbrev pub limits_with : (turns subthreads : Option ℕ) → Option Limits
-limits_with (Some turns) (Some subthreads) = Some (record { turns = turns; subthreads = subthreads })
-limits_with turns subthreads = None
-
 abbrev pub limits_in : List Row → Option Limits
 limits_in rows =
-    limits_with (number_or 1 MOST_TURNS DEFAULT_TURNS (argument_text (codes "turns") rows))
-    (number_or 1 MOST_SUBTHREADS DEFAULT_SUBTHREADS (argument_text (codes "subthreads") rows))
+    both (λ turns subthreads. record { turns = turns; subthreads = subthreads })
+    (number_or 1 MOST_TURNS DEFAULT_TURNS (first_of (codes "turns") rows))
+    (number_or 1 MOST_SUBTHREADS DEFAULT_SUBTHREADS (first_of (codes "subthreads") rows))
 
 -- the crew is one that a word names, or the default
 abbrev pub crew_in : (waits : Bool) → List Row → Option CrewKind
-crew_in waits rows = option_map_or (named_crew waits) (argument_text (codes "crew") rows) (Some crew.Wave)
+crew_in waits rows = option_map_or (named_crew waits) (first_of (codes "crew") rows) (Some crew.Wave)
 
 abbrev pub workers_in : List Row → Option ℕ
-workers_in rows = number_or 1 MOST_WORKERS DEFAULT_WORKERS (argument_text (codes "workers") rows)
+workers_in rows = number_or 1 MOST_WORKERS DEFAULT_WORKERS (first_of (codes "workers") rows)
 
 -- what is asked for, where all that has to be there is
 abbrev pub asked_with : Option Command → (program faults : Option Text) → Option Limits → Option CrewKind → (workers : Option ℕ)
@@ -130,12 +141,11 @@ asked_with command program faults limits crew workers trace = None
 abbrev pub asked_in : (waits : Bool) → Verb → List Row → Option Asked
 asked_in waits verb rows =
     asked_with (command_in verb rows) (program_in verb rows) (faults_in verb rows) (limits_in rows) (crew_in waits rows) (workers_in rows)
-    (argument_text (codes "trace") rows)
+    (first_of (codes "trace") rows)
 
 -- what the words of this command ask for, where it takes them
 abbrev pub asked_of : (waits : Bool) → Verb → List Text → Option Asked
-asked_of waits verb words =
-    if is_faultless (fault_of (app_for verb) words) then asked_in waits verb (matches_of (app_for verb) words) else None
+asked_of waits verb = accepted (app_for verb) (asked_in waits verb)
 
 -- what the words ask for, where they are those of a command
 abbrev pub asked_among : (waits : Bool) → List Text → Option Asked

@@ -1,18 +1,15 @@
-use Rattle.std.proofs.Common.{◌≡◌, ◌∙◌, ap, sym, refl, false, Bor, List, ℕ, Option, Some, None}
+use Rattle.std.proofs.Common.{◌≡◌, ◌∙◌, ap, sym, false, Bor, List, ℕ, Option, Some, None}
 use Rattle.std.specs.Prelude.{option_map}
 use Rattle.clap.specs.Words.{found_of, rows_of}
-use Rattle.command_line.specs.meaning.Words.{asked_in}
-use Rattle.command_line.specs.meaning.ResumeWords.{resumed_with}
+use Rattle.command_line.specs.meaning.Words.{asked_in, both}
 use Rattle.command_line.specs.declared.asked.Asked.{Asked}
 use Rattle.command_line.specs.declared.asked.Verb.TheVariants.{One}
+use Rattle.command_line.specs.declared.resume_words.Resumed.{Resumed}
+use Rattle.command_line.proofs.AskedFacts.{none_alone}
 use Rattle.command_line.proofs.resume_words.resumed_in.Goals as goal
-
--- nothing is asked for without the log
-alone : (run : Option Asked) → None ≡ resumed_with run None
-alone (Some run) = refl
-alone None = refl
 
 pub returns-in_default-clause-resumed : goal.returns-in_default-clause-resumed
 returns-in_default-clause-resumed c =
     let run = asked_in false One (rows_of (found_of c.args.matches.now)) in
-    alone run ∙ ap (resumed_with run) (ap (option_map (λ (text : Bor (List ℕ)). text.now)) (sym c.in_default.is) ∙ c.found_text.ensures)
+    let made : Asked → List ℕ → Resumed = λ run log. record { run = run; log = log } in
+    none_alone made run ∙ ap (both made run) (ap (option_map (λ (text : Bor (List ℕ)). text.now)) (sym c.in_default.is) ∙ c.found_text.ensures)

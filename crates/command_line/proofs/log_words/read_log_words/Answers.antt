@@ -1,10 +1,11 @@
 use Rattle.std.proofs.Common.{◌≡◌, ◌∙◌, ap, refl, true, Some, None}
+use Rattle.std.specs.Prelude.{codes}
 use Rattle.std.proofs.lemmas.Result.{IfOk-weaker}
 use Rattle.clap.specs.Words.{is_simple_and_free}
 use Rattle.command_line.specs.meaning.Words.{texts}
 use Rattle.command_line.specs.meaning.LogWords.{for_log, log_in}
-use Rattle.command_line.proofs.AskedFacts.{parsed_by, read_taken, read_refused}
-use Rattle.command_line.proofs.log_words.log_of.Goals as goal
+use Rattle.command_line.proofs.AskedFacts.{parsed_by, named_taken, named_refused}
+use Rattle.command_line.proofs.log_words.read_log_words.Goals as goal
 
 -- the parse of the command is known exactly
 simple_log : is_simple_and_free for_log ≡ true
@@ -20,10 +21,12 @@ returns-in-Some-clause-asked c =
     let parsed =
     parsed_by for_log words (Some c.in-Some.matches) c.in_ok-matches.field-0 c.in-Some.is
     (c.in_ok-matches.ensures for_log c.for_log.ensures) in
-    IfOk-weaker c.log_in.result _ _ (λ asked is. is ∙ read_taken log_in for_log words c.in-Some.matches parsed) c.log_in.ensures.asked
+    IfOk-weaker c.log_in.result _ _ (λ asked is. is
+    ∙ named_taken log_in for_log words (codes "log") c.begins_with.result c.begins_with.ensures
+    c.if-not-begins_with.false c.in-Some.matches parsed) c.log_in.ensures.asked
 
 pub returns-in-None-clause-asked : goal.returns-in-None-clause-asked
 returns-in-None-clause-asked c =
     let words = texts c.args.words.now in
-    read_refused log_in for_log words (parsed_by for_log words None c.in_ok-matches.field-0 c.in-None.is
-    (c.in_ok-matches.ensures for_log c.for_log.ensures))
+    named_refused log_in for_log words (codes "log") c.begins_with.result c.begins_with.ensures c.if-not-begins_with.false
+    (parsed_by for_log words None c.in_ok-matches.field-0 c.in-None.is (c.in_ok-matches.ensures for_log c.for_log.ensures))
