@@ -1,5 +1,5 @@
 // The turn of the thread that the token comes to.
-ghost use Rattle.std.specs.Prelude.{◌≡◌, ℕ, ℤ, ◌<◌, length, map, List, Some, None, IfOk, OnOk, slice_get, unwrap_or, count_by, ⊤};
+ghost use Rattle.std.specs.Prelude.{◌≡◌, ℕ, ℤ, ◌<◌, length, map, List, Some, None, IfOk, OnOk, slice_get, unwrap_or, count_by, is_some, if◌then◌else◌, ⊤};
 ghost use Rattle.gp_base.specs.declared.ending.End.TheVariants.{Stuck};
 ghost use Rattle.task_ast.specs.Looking.{begun, joined_in, is_free_to_go};
 ghost use Rattle.task_ast.specs.declared.sync.Next.{Next as NextThere};
@@ -7,7 +7,7 @@ ghost use Rattle.task_ast.specs.declared.sync.SyncOp.TheVariants as sync;
 ghost use Rattle.task_ast.specs.meaning.Table.{next_of, waits_at};
 ghost use Rattle.task_ast.specs.meaning.Turn.{turn, next_issue, tried, issuing, passing, look, seats_after, child_of, deadlocked, all_threads, met, arrived, released_at};
 ghost use Rattle.one_thread.specs.inner.Holding.{AreHeld};
-ghost use Rattle.one_thread.specs.inner.View.{table_of, seat_of, gives, gave, Halts};
+ghost use Rattle.one_thread.specs.inner.View.{table_of, seat_of, gives, gave, Halts, MarkStands};
 
 use crate::seats::{Seat, Stand, Table, clear, new_seat};
 use gp_base::limits::MOST_THREADS;
@@ -68,6 +68,13 @@ fn add_child(seats: &mut Vec<Seat>, sync: &SyncOp) -> Result<Option<usize>, Allo
     }
 }
 
+// The mark after an issue: a child has not ended.
+fn live_after(live: usize, child: Option<usize>, threads: usize) -> usize
+    ensures { result ≡ (if is_some child then threads else live) }
+{
+    if child.is_some() { threads } else { live }
+}
+
 // The thread that a join names, where there is one.
 fn joined(h: i64, threads: usize) -> Option<usize>
     ensures { result ≡ joined_in h threads }
@@ -83,8 +90,11 @@ impl Table {
     // The thread passes.
     fn pass(&mut self, t: usize) -> Turn
         requires exists { t < length self.old.seats.items }
+        requires live { t < self.old.live }
+        requires mark { MarkStands self.old }
         ensures turn { passing (table_of self.old) t ≡ gives result (table_of self.new) }
         ensures owners { self.new.owners ≡ self.old.owners }
+        ensures mark { MarkStands self.new }
     {
         self.seats[t].passed = true;
         self.start = t + 1;
@@ -94,9 +104,12 @@ impl Table {
     // The thread performs its next synchronisation and begins a subthread, unless the limit is reached.
     fn issue(&mut self, alloc: Global, t: usize) -> Result<Turn, AllocError>
         requires exists { t < length self.old.seats.items }
+        requires live { t < self.old.live }
+        requires mark { MarkStands self.old }
         requires held { AreHeld self.old.owners.owners.items self.old.owners.held.items }
         ensures turn { IfOk result (λ r. (next : NextThere) → next_of (table_of self.old) t ≡ Some next → issuing (table_of self.old) t next ≡ gives r (table_of self.new)) }
         ensures held { OnOk result (AreHeld self.new.owners.owners.items self.new.owners.held.items) }
+        ensures mark { OnOk result (MarkStands self.new) }
     {
         if self.issued >= self.limit {
             return Ok(Turn::Ended(End::Spent(Pos(self.limit))));
@@ -104,9 +117,10 @@ impl Table {
         let Some(next) = begin(&mut self.seats[t], self.issued) else {
             return Ok(Turn::Needs(t));
         };
-        clear(&mut self.seats);
+        clear(&mut self.seats, self.live);
         self.owners.hand_over(alloc, &next.sync, t)?;
         let child = add_child(&mut self.seats, &next.sync)?;
+        self.live = live_after(self.live, child, self.seats.len());
         self.start = t + 1;
         self.issued += 1;
         Ok(Turn::Issue(t, next, child))
@@ -115,9 +129,12 @@ impl Table {
     // A lock is taken where nobody owns it.
     fn lock(&mut self, alloc: Global, t: usize, lock: u32) -> Result<Turn, AllocError>
         requires exists { t < length self.old.seats.items }
+        requires live { t < self.old.live }
+        requires mark { MarkStands self.old }
         requires held { AreHeld self.old.owners.owners.items self.old.owners.held.items }
         ensures turn { IfOk result (λ r. (next : NextThere) → next_of (table_of self.old) t ≡ Some next → tried (sync.Lock lock) (table_of self.old) t next ≡ gives r (table_of self.new)) }
         ensures held { OnOk result (AreHeld self.new.owners.owners.items self.new.owners.held.items) }
+        ensures mark { OnOk result (MarkStands self.new) }
     {
         if self.owners.is_free(lock) {
             self.issue(alloc, t)
@@ -129,9 +146,12 @@ impl Table {
     // A join waits for the end of its thread.
     fn join(&mut self, alloc: Global, t: usize, h: i64, line: u32) -> Result<Turn, AllocError>
         requires exists { t < length self.old.seats.items }
+        requires live { t < self.old.live }
+        requires mark { MarkStands self.old }
         requires held { AreHeld self.old.owners.owners.items self.old.owners.held.items }
         ensures turn { IfOk result (λ r. (next : NextThere) → next_of (table_of self.old) t ≡ Some next → next.line ≡ line → tried (sync.Join h) (table_of self.old) t next ≡ gives r (table_of self.new)) }
         ensures held { OnOk result (AreHeld self.new.owners.owners.items self.new.owners.held.items) }
+        ensures mark { OnOk result (MarkStands self.new) }
     {
         let Some(other) = joined(h, self.seats.len()) else {
             return stuck(Why::Join, t, line);
@@ -151,9 +171,12 @@ impl Table {
     // A fork finds a seat while there are fewer threads than the most.
     fn fork(&mut self, alloc: Global, t: usize, line: u32) -> Result<Turn, AllocError>
         requires exists { t < length self.old.seats.items }
+        requires live { t < self.old.live }
+        requires mark { MarkStands self.old }
         requires held { AreHeld self.old.owners.owners.items self.old.owners.held.items }
         ensures turn { IfOk result (λ r. (next : NextThere) (task : ℕ) (arguments : List ℤ) → next_of (table_of self.old) t ≡ Some next → next.line ≡ line → tried (sync.Fork task arguments) (table_of self.old) t next ≡ gives r (table_of self.new)) }
         ensures held { OnOk result (AreHeld self.new.owners.owners.items self.new.owners.held.items) }
+        ensures mark { OnOk result (MarkStands self.new) }
     {
         if self.seats.len() < MOST_THREADS as usize {
             self.issue(alloc, t)
@@ -165,11 +188,15 @@ impl Table {
     // The thread arrives at a barrier, and where the stated number wait there, all are released.
     fn arrive(&mut self, t: usize, barrier: u32)
         requires exists { t < length self.old.seats.items }
+        requires live { t < self.old.live }
+        requires mark { MarkStands self.old }
         ensures table { table_of self.new ≡ met (arrived (table_of self.old) t) barrier }
         ensures threads { length self.new.seats.items ≡ length self.old.seats.items }
         ensures owners { self.new.owners ≡ self.old.owners }
+        ensures live { self.new.live ≡ self.old.live }
+        ensures mark { MarkStands self.new }
     {
-        clear(&mut self.seats);
+        clear(&mut self.seats, self.live);
         self.seats[t].stand = Stand::Waits;
         if stated(&self.barriers, barrier) <= waiting(&self.seats, barrier) as u64 {
             release(&mut self.seats, barrier);
@@ -179,9 +206,12 @@ impl Table {
     // A released thread goes on, and another waits.
     fn meet(&mut self, alloc: Global, t: usize, barrier: u32) -> Result<Turn, AllocError>
         requires exists { t < length self.old.seats.items }
+        requires live { t < self.old.live }
+        requires mark { MarkStands self.old }
         requires held { AreHeld self.old.owners.owners.items self.old.owners.held.items }
         ensures turn { IfOk result (λ r. (next : NextThere) → next_of (table_of self.old) t ≡ Some next → tried (sync.Barrier barrier) (table_of self.old) t next ≡ gives r (table_of self.new)) }
         ensures held { OnOk result (AreHeld self.new.owners.owners.items self.new.owners.held.items) }
+        ensures mark { OnOk result (MarkStands self.new) }
     {
         if is_away(&self.seats[t]) {
             self.arrive(t, barrier);
@@ -212,8 +242,10 @@ impl Table {
     // One turn, by its rules.
     fn turn(&mut self, alloc: Global) -> Result<Turn, AllocError>
         requires held { AreHeld self.old.owners.owners.items self.old.owners.held.items }
+        requires mark { MarkStands self.old }
         ensures turn { IfOk result (λ r. turn (table_of self.old) ≡ gives r (table_of self.new)) }
         ensures held { OnOk result (AreHeld self.new.owners.owners.items self.new.owners.held.items) }
+        ensures mark { OnOk result (MarkStands self.new) }
     {
         let Some(t) = self.token_at() else {
             return Ok(Turn::Ended(End::Finished));
@@ -255,8 +287,10 @@ impl Table {
     /// Turns up to the first that does not pass.
     pub fn next_issue(&mut self, alloc: Global) -> Result<Turn, AllocError>
         requires held { AreHeld self.old.owners.owners.items self.old.owners.held.items }
+        requires mark { MarkStands self.old }
         ensures turn { IfOk result (λ r. next_issue (table_of self.old) ≡ gave r (table_of self.new)) }
         ensures held { OnOk result (AreHeld self.new.owners.owners.items self.new.owners.held.items) }
+        ensures mark { OnOk result (MarkStands self.new) }
     {
         loop {
             match self.turn(alloc)? {

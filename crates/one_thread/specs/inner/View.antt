@@ -1,8 +1,9 @@
 -- The table of the code as the thread table that definitions see.
-use Rattle.std.specs.Prelude.{◌≡◌, ℕ, zero, suc, true, map, Option, Some, None, nat_lt}
+use Rattle.std.specs.Prelude.{◌≡◌, ℕ, zero, suc, true, ◌≤◌, length, map, Option, Some, None, nat_lt}
 use Rattle.task_ast.specs.meaning.Repeat.{Again, More, Done}
 use Rattle.task_ast.specs.meaning.Table as plain
 use Rattle.task_ast.specs.meaning.Turn as there
+use Rattle.ended_seats.specs.Idle.{IdleFrom}
 use Rattle.one_thread.specs.declared.seats.Stand.{Stand}
 use Rattle.one_thread.specs.declared.seats.Stand.TheVariants as stands
 use Rattle.one_thread.specs.declared.seats.Seat.{Seat}
@@ -33,6 +34,12 @@ table_of table =
       token = token_of table.start;
       issued = table.issued;
     }
+
+-- each thread from the mark on is idle, and the token looks first at none beyond all threads
+pub record MarkStands (table : Table) : Type 0 where
+  pub within : table.live ≤ length table.seats.items
+  pub idle : IdleFrom table.live (map seat_of table.seats.items)
+  pub start : table.start ≤ length table.seats.items
 
 -- what a turn gave, where the table stands so afterwards
 abbrev pub gives : Turn → plain.Table → Again plain.Table there.Turn

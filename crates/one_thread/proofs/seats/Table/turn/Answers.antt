@@ -18,7 +18,7 @@ returns-in-Start-clause-turn c =
     by-rule c.issue.result c.args.self.now c.issue.new.self c.in-Some.t c.in-Some-next.next
     (λ n. issuing (table_of c.args.self.now) c.in-Some.t n)
     (turn-tries (table_of c.args.self.now) c.in-Some.t (seat_of c.in-Some-get.seat.now) c.in-Some-next.next
-    sync.Start c.in-Some.ensures at c.in-Some-next.is
+    sync.Start c.in-Some.ensures.found at c.in-Some-next.is
     c.if-seat.false c.in-Start.is)
     (next-at (table_of c.args.self.now) c.in-Some.t (seat_of c.in-Some-get.seat.now) at ∙ c.in-Some-next.is) c.issue.ensures.turn
 
@@ -30,7 +30,7 @@ returns-in-Unlock-clause-turn c =
     by-rule c.issue-in-Unlock.result c.args.self.now c.issue-in-Unlock.new.self c.in-Some.t c.in-Some-next.next
     (λ n. issuing (table_of c.args.self.now) c.in-Some.t n)
     (turn-tries (table_of c.args.self.now) c.in-Some.t (seat_of c.in-Some-get.seat.now) c.in-Some-next.next
-    (sync.Unlock c.in-Unlock.field-0) c.in-Some.ensures at c.in-Some-next.is c.if-seat.false c.in-Unlock.is)
+    (sync.Unlock c.in-Unlock.field-0) c.in-Some.ensures.found at c.in-Some-next.is c.if-seat.false c.in-Unlock.is)
     (next-at (table_of c.args.self.now) c.in-Some.t (seat_of c.in-Some-get.seat.now) at ∙ c.in-Some-next.is) c.issue-in-Unlock.ensures.turn
 
 pub returns-in-End-clause-turn : goal.returns-in-End-clause-turn
@@ -41,7 +41,7 @@ returns-in-End-clause-turn c =
     by-rule c.issue-in-End.result c.args.self.now c.issue-in-End.new.self c.in-Some.t c.in-Some-next.next
     (λ n. issuing (table_of c.args.self.now) c.in-Some.t n)
     (turn-tries (table_of c.args.self.now) c.in-Some.t (seat_of c.in-Some-get.seat.now) c.in-Some-next.next
-    sync.End c.in-Some.ensures at c.in-Some-next.is
+    sync.End c.in-Some.ensures.found at c.in-Some-next.is
     c.if-seat.false c.in-End.is)
     (next-at (table_of c.args.self.now) c.in-Some.t (seat_of c.in-Some-get.seat.now) at ∙ c.in-Some-next.is) c.issue-in-End.ensures.turn
 
@@ -53,7 +53,7 @@ returns-in-Settle-clause-turn c =
     by-rule c.issue-in-Settle.result c.args.self.now c.issue-in-Settle.new.self c.in-Some.t c.in-Some-next.next
     (λ n. issuing (table_of c.args.self.now) c.in-Some.t n)
     (turn-tries (table_of c.args.self.now) c.in-Some.t (seat_of c.in-Some-get.seat.now) c.in-Some-next.next
-    (sync.Settle c.in-Settle.reg c.in-Settle.ctl) c.in-Some.ensures at c.in-Some-next.is c.if-seat.false c.in-Settle.is)
+    (sync.Settle c.in-Settle.reg c.in-Settle.ctl) c.in-Some.ensures.found at c.in-Some-next.is c.if-seat.false c.in-Settle.is)
     (next-at (table_of c.args.self.now) c.in-Some.t (seat_of c.in-Some-get.seat.now) at ∙ c.in-Some-next.is) c.issue-in-Settle.ensures.turn
 
 pub returns-in-Barrier-clause-turn : goal.returns-in-Barrier-clause-turn
@@ -64,7 +64,7 @@ returns-in-Barrier-clause-turn c =
     by-rule c.meet.result c.args.self.now c.meet.new.self c.in-Some.t c.in-Some-next.next
     (λ n. tried (sync.Barrier c.in-Barrier.barrier) (table_of c.args.self.now) c.in-Some.t n)
     (turn-tries (table_of c.args.self.now) c.in-Some.t (seat_of c.in-Some-get.seat.now) c.in-Some-next.next
-    (sync.Barrier c.in-Barrier.barrier) c.in-Some.ensures at c.in-Some-next.is c.if-seat.false c.in-Barrier.is)
+    (sync.Barrier c.in-Barrier.barrier) c.in-Some.ensures.found at c.in-Some-next.is c.if-seat.false c.in-Barrier.is)
     (next-at (table_of c.args.self.now) c.in-Some.t (seat_of c.in-Some-get.seat.now) at ∙ c.in-Some-next.is) c.meet.ensures.turn
 
 pub returns-in-Join-clause-turn : goal.returns-in-Join-clause-turn
@@ -76,7 +76,7 @@ returns-in-Join-clause-turn c =
     by-line c.join.result c.args.self.now c.join.new.self c.in-Some.t c.in-Some-next.next
     (λ n. tried (sync.Join c.in-Join.h) (table_of c.args.self.now) c.in-Some.t n)
     (turn-tries (table_of c.args.self.now) c.in-Some.t (seat_of c.in-Some-get.seat.now) c.in-Some-next.next
-    (sync.Join c.in-Join.h) c.in-Some.ensures at c.in-Some-next.is c.if-seat.false c.in-Join.is)
+    (sync.Join c.in-Join.h) c.in-Some.ensures.found at c.in-Some-next.is c.if-seat.false c.in-Join.is)
     (next-at (table_of c.args.self.now) c.in-Some.t (seat_of c.in-Some-get.seat.now) at ∙ c.in-Some-next.is)
     (simp to_z-of_z at c.join.ensures.turn)
 
@@ -87,7 +87,7 @@ returns-in-Fork-clause-turn c =
     c.in-Some-get.ensures.lookup.1 in
     by-fork c.fork.result c.args.self.now c.fork.new.self c.in-Some.t c.in-Some-next.next c.in-Fork.task c.in-Fork.args
     (turn-tries (table_of c.args.self.now) c.in-Some.t (seat_of c.in-Some-get.seat.now) c.in-Some-next.next
-    (sync.Fork c.in-Fork.task c.in-Fork.args) c.in-Some.ensures at c.in-Some-next.is c.if-seat.false c.in-Fork.is)
+    (sync.Fork c.in-Fork.task c.in-Fork.args) c.in-Some.ensures.found at c.in-Some-next.is c.if-seat.false c.in-Fork.is)
     (next-at (table_of c.args.self.now) c.in-Some.t (seat_of c.in-Some-get.seat.now) at ∙ c.in-Some-next.is) c.fork.ensures.turn
 
 pub returns-in-BadIndex-clause-turn : goal.returns-in-BadIndex-clause-turn
@@ -97,7 +97,7 @@ returns-in-BadIndex-clause-turn c =
     c.in-Some-get.ensures.lookup.1 in
     by-end c.stuck.result c.args.self.now _
     (turn-tries (table_of c.args.self.now) c.in-Some.t (seat_of c.in-Some-get.seat.now) c.in-Some-next.next
-    sync.BadIndex c.in-Some.ensures at c.in-Some-next.is
+    sync.BadIndex c.in-Some.ensures.found at c.in-Some-next.is
     c.if-seat.false c.in-BadIndex.is)
     c.stuck.ensures
 
@@ -107,7 +107,7 @@ returns-in-Spent-clause-turn c =
     seen-get c.args.self.now _ c.in-Some.t c.in-Some-get.seat.now c.deref.ensures.value c.in-Some-get.ensures.lookup.0
     c.in-Some-get.ensures.lookup.1 in
     (turn-tries (table_of c.args.self.now) c.in-Some.t (seat_of c.in-Some-get.seat.now) c.in-Some-next.next
-    sync.Spent c.in-Some.ensures at c.in-Some-next.is
+    sync.Spent c.in-Some.ensures.found at c.in-Some-next.is
     c.if-seat.false c.in-Spent.is)
     ∙ ap (λ p. Done (Ended (Spent p))) (last-at (table_of c.args.self.now) c.in-Some.t
     (seat_of c.in-Some-get.seat.now) at ∙ sym c.unwrap_or-last.ensures)

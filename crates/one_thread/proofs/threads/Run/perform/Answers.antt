@@ -56,6 +56,7 @@ returns c =
       threads = c.in_ok-add.ensures.threads;
       table = c.learn.ensures.table ∙ ap (λ t. learning (table_of t) c.args.t c.in_ok-done.done.next) c.in_ok-add.ensures.table;
       owners = c.learn.ensures.owners ∙ ap (λ t. t.owners) c.in_ok-add.ensures.table;
+      mark = c.learn.ensures.mark;
       told_is = refl;
       program = c.in_ok-add.ensures.program;
       slots = c.in_ok-add.ensures.slots;
