@@ -11,8 +11,8 @@ its running threads is turned (with --memory: of a word of its heap), and it goe
     hang    no end within twenty times the time of a run
     wrong   status 0 with other bytes, or bytes that are no part of the right ones: a silent corruption
 
-Runs whose thread had ended before it could be stopped are not counted: it goes on until N bits were turned. It uses ptrace, on x86-64 alone. A single bit that turns in a register is how soft
-errors are modelled in the literature (Reis et al., SWIFT, CGO 2005).
+Runs whose thread had ended before it could be stopped are not counted: it goes on until N bits were turned. It uses ptrace, on x86-64 alone. A single
+bit that turns in a register is how soft errors are modelled in the literature (Reis et al., SWIFT, CGO 2005).
 """
 import argparse
 import collections
