@@ -11,8 +11,8 @@ its running threads is turned (with --memory: of a word of its heap), and it goe
     hang    no end within twenty times the time of a run
     wrong   status 0 with other bytes, or bytes that are no part of the right ones: a silent corruption
 
-Runs whose thread had ended before it could be stopped are left out. It uses ptrace, on x86-64 alone. A single bit that turns in a register is how soft
-errors are modelled in the literature (Reis et al., SWIFT, CGO 2005).
+Runs whose thread had ended before it could be stopped are not counted: it goes on until N bits were turned. It uses ptrace, on x86-64 alone. A single
+bit that turns in a register is how soft errors are modelled in the literature (Reis et al., SWIFT, CGO 2005).
 """
 import argparse
 import collections
@@ -120,7 +120,13 @@ def main():
     span = time.time() - begun
     draws = random.Random(asked.seed)
     turn = turn_memory if asked.memory else turn_register
-    ends = collections.Counter(run_turned(command, asked.folder, right, span, turn, draws) for _ in range(asked.count))
+    ends, missed = collections.Counter(), 0
+    while ends.total() < asked.count:
+        end = run_turned(command, asked.folder, right, span, turn, draws)
+        ends.update([end] if end else [])
+        missed = 0 if end else missed + 1
+        if missed == 100:
+            sys.exit(f"{sys.argv[0]}: no bit could be turned: ptrace is not allowed here, or the runs are too short")
     counts = " | ".join(str(ends[end]) for end in ENDS)
     name = " ".join([os.path.basename(command[0]), *command[1:]])
     print(f"| {name}{', heap' if asked.memory else ''} | {counts} |")

@@ -52,7 +52,7 @@ most_or low high other (Some text) within = number_most low high text
 abbrev AreFew : Limits → Type 0
 AreFew limits = limits.subthreads ≤ MOST_SUBTHREADS
 
-limited : (turns subthreads : ℕ) → Limits
+abbrev limited : (turns subthreads : ℕ) → Limits
 limited turns subthreads = record { turns = turns; subthreads = subthreads }
 
 few_with : (turns subthreads : Option ℕ) → IfSome subthreads (λ n. n ≤ MOST_SUBTHREADS) → IfSome (both limited turns subthreads) AreFew

@@ -43,7 +43,7 @@ one_in rows =
     one_with (program_in verb.One rows) (faults_in verb.One rows) (limits_in rows) (crew_in false rows) (workers_in rows)
     (first_of (codes "trace") rows)
 
-made : Asked → Text → Resumed
+abbrev made : Asked → Text → Resumed
 made run log = record { run = run; log = log }
 
 resumed_one : (run : Option Asked) (log : Option Text) → IfSome run IsOne → IfSome (both made run log) RunsOne
