@@ -4,14 +4,14 @@
 use Rattle.std.proofs.Common.{◌≡◌, ℕ, ◌<◌, ◌≤◌, Bool, true, false, cond, nat_lt, nat_le, unwrap_or, is_none, count_by, List, map, length, Option, Some, None, refl, sym, ap, ◌∙◌, subst, arith}
 use Rattle.std.specs.Prelude.{slice_get, pos, negsuc}
 use Rattle.std.specs.Option.{option_and_then}
-use Rattle.std.proofs.lemmas.List.{length-map, length_push}
+use Rattle.std.proofs.lemmas.List.{length-map}
 use Rattle.std.proofs.lemmas.Option.{slice_get_within}
 use Rattle.task_ast.specs.declared.sync.SyncOp.{SyncOp}
 use Rattle.task_ast.specs.declared.sync.SyncOp.TheVariants as sync
 use Rattle.task_ast.specs.declared.sync.Next.{Next}
 use Rattle.task_ast.specs.meaning.Repeat.{Again, More, Done}
-use Rattle.task_ast.specs.meaning.Table.{Seat, Stand, Away, Waits, Released, Table, ring, next_of, is_end, unpassed, with_nth, new_seat, waits_at, learning}
-use Rattle.task_ast.specs.meaning.Turn.{Turn, Issue, Needs, Ended, Look, To, Unknown, NoThread, look, turn, tried, at_look, deadlocked, has_passed, stand_of, met, arrived, come_to, at_barrier, released_at, issuing, passing, at_join, seats_after, owner_of, most_threads, all_threads}
+use Rattle.task_ast.specs.meaning.Table.{Seat, Stand, Away, Waits, Released, Table, ring, next_of, is_end, unpassed, with_nth, waits_at, learning}
+use Rattle.task_ast.specs.meaning.Turn.{Turn, Issue, Needs, Ended, Look, To, Unknown, NoThread, look, turn, tried, at_look, deadlocked, has_passed, stand_of, met, arrived, come_to, at_barrier, released_at, issuing, passing, at_join, owner_of, most_threads, all_threads}
 use Rattle.task_ast.specs.laws.Threads.{table_after}
 use Rattle.task_ast.proofs.Counting.{length-with_nth}
 use Rattle.task_ast.proofs.IssuedTables.{learnt_length}
@@ -19,10 +19,11 @@ use Rattle.task_ast.proofs.TurnLaws.{pass_law, issue_law}
 use Rattle.token_order.proofs.Owned.{length-after}
 use Rattle.task_ast.proofs.SeatLimits.{seats_law}
 use Rattle.task_ast.proofs.Turns.{Known, known_to, look_known}
+use Rattle.ended_seats.proofs.Idle.{grows}
 use Rattle.token_order.specs.declared.threads.Threads.{Threads}
 use Rattle.token_order.specs.declared.rules.Turn.{Turn as TurnHere}
 use Rattle.token_order.specs.declared.rules.Turn.TheVariants as here
-use Rattle.token_order.specs.View.{IsBelow, StandsInside, table, seat_of}
+use Rattle.token_order.specs.View.{IsBelow, StandsInside, MarkStands, table, seat_of}
 use Rattle.token_order.specs.Turned.{Answered}
 
 -- the thread whose turn was last is there
@@ -34,18 +35,6 @@ data TokenAfter : Again Table Turn → Type 0 where
   issues : {t : ℕ} {next : Next} {child : Option ℕ} {after : Table} → HasToken after → TokenAfter (Done (Issue t next child after))
   needs : {t : ℕ} → TokenAfter (Done (Needs t))
   over : {e : _} → TokenAfter (Done (Ended e))
-
-grows : (op : SyncOp) (seats : List Seat) → length seats ≤ length (seats_after op seats)
-grows (sync.Fork task arguments) seats = let one = length_push seats new_seat in omega (arith, one)
-grows sync.Start seats = omega arith
-grows (sync.Lock l) seats = omega arith
-grows (sync.Unlock l) seats = omega arith
-grows (sync.Join h) seats = omega arith
-grows (sync.Barrier b) seats = omega arith
-grows (sync.Settle register control) seats = omega arith
-grows sync.End seats = omega arith
-grows sync.BadIndex seats = omega arith
-grows sync.Spent seats = omega arith
 
 pass-token : (table : Table) (t : ℕ) → t < length table.seats → TokenAfter (passing table t)
 pass-token table t l = let same = length-with_nth table.seats t (λ s. record s { passed = true }) in passes (omega (arith, same, l))
@@ -140,41 +129,46 @@ few-table : (threads : Threads) → StandsInside threads → length (table threa
 few-table threads inside = subst (λ n. n ≤ most_threads) (sym (length-map threads.seats.items seat_of)) inside.few
 
 stands : (threads : Threads) → length (table threads).seats ≤ most_threads → HasToken (table threads)
-    → length threads.owners.items ≤ 4294967295 → StandsInside threads
-stands threads few token locks =
+    → length threads.owners.items ≤ 4294967295 → MarkStands threads → StandsInside threads
+stands threads few token locks mark =
     let same = length-map threads.seats.items seat_of in
-    record { few = subst (λ n. n ≤ most_threads) same few; token = subst (λ n. IsBelow n threads.token) same token; locks = locks }
+    record {
+      few = subst (λ n. n ≤ most_threads) same few;
+      token = subst (λ n. IsBelow n threads.token) same token;
+      locks = locks;
+      mark = mark;
+    }
 
 same-locks : (before after : Threads) → StandsInside before → length after.owners.items ≡ length before.owners.items
     → length after.owners.items ≤ 4294967295
 same-locks before after inside same = subst (λ n. n ≤ 4294967295) (sym same) inside.locks
 
-still : (before after : Threads) → StandsInside before → table after ≡ table before → StandsInside after
-still before after inside same =
+still : (before after : Threads) → StandsInside before → MarkStands after → table after ≡ table before → StandsInside after
+still before after inside mark same =
     stands after (subst (λ there. length there.seats ≤ most_threads) (sym same) (few-table before inside))
     (subst HasToken (sym same) (subst (λ n. IsBelow n before.token) (sym (length-map before.seats.items seat_of)) inside.token))
-    (same-locks before after inside (ap (λ there. length there.owners) same))
+    (same-locks before after inside (ap (λ there. length there.owners) same)) mark
 
-pub turn-stands : (before after : Threads) (r : TurnHere) → StandsInside before
+pub turn-stands : (before after : Threads) (r : TurnHere) → StandsInside before → MarkStands after
     → Answered (turn (table before)) (table before) r (table after) → StandsInside after
-turn-stands before after (here.Issue t next child) inside e =
+turn-stands before after (here.Issue t next child) inside mark e =
     stands after (seats_law (table before) (table after) (few-table before inside) (ap table_after e))
     (issued (subst TokenAfter e (turn-token (table before))))
     (same-locks before after inside (ap length (issue_law (table before) t next child (table after) e).owners
-    ∙ length-after next.sync t before.owners.items))
-turn-stands before after here.Pass inside e =
+    ∙ length-after next.sync t before.owners.items)) mark
+turn-stands before after here.Pass inside mark e =
     stands after (seats_law (table before) (table after) (few-table before inside) (ap table_after e))
     (passed (subst TokenAfter e (turn-token (table before))))
-    (same-locks before after inside (ap length (pass_law (table before) (table after) e).owners))
-turn-stands before after (here.Settles t) inside h = absurd h
-turn-stands before after (here.Needs t) inside h = still before after inside (h.1)
-turn-stands before after (here.Ended e) inside h = still before after inside (h.1)
+    (same-locks before after inside (ap length (pass_law (table before) (table after) e).owners)) mark
+turn-stands before after (here.Settles t) inside mark h = absurd h
+turn-stands before after (here.Needs t) inside mark h = still before after inside mark (h.1)
+turn-stands before after (here.Ended e) inside mark h = still before after inside mark (h.1)
 
-pub learn-stands : (before after : Threads) (t : ℕ) (next : Next) → StandsInside before → table after ≡ learning (table before) t next
+pub learn-stands : (before after : Threads) (t : ℕ) (next : Next) → StandsInside before → MarkStands after → table after ≡ learning (table before) t next
     → StandsInside after
-learn-stands before after t next inside e =
+learn-stands before after t next inside mark e =
     let same = learnt_length (table before) t next in
     stands after (subst (λ there. length there.seats ≤ most_threads) (sym e)
     (subst (λ n. n ≤ most_threads) (sym same) (few-table before inside)))
     (subst HasToken (sym e) (subst (λ n. IsBelow n before.token) (sym (same ∙ length-map before.seats.items seat_of)) inside.token))
-    (same-locks before after inside (ap (λ there. length there.owners) e))
+    (same-locks before after inside (ap (λ there. length there.owners) e)) mark

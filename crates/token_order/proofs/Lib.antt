@@ -6,3 +6,4 @@ pub mod Owned
 pub mod Rings
 pub mod Settling
 pub mod Turning
+pub mod Waiting

@@ -137,8 +137,8 @@ impl Ring {
         Some(ThreadNo(t))
     }
 
-    /// Whether a thread that stands at it isn't kept back: nobody owns its lock, and the thread that it joins is known
-    /// to have ended. A turn issues no thread that is kept back.
+    /// Whether the thread that the token comes to, which stands at it, isn't kept back: nobody owns its lock, the thread
+    /// that it joins is known to have ended, and it does not wait at a barrier. A turn issues no thread that is kept back.
     pub fn lets(&self, sync: &SyncOp) -> bool
         ensures { result ≡ is_let self.now.table sync.now }
     {

@@ -1,6 +1,6 @@
 // The rules of a turn.
 
-ghost use Rattle.std.specs.Prelude.{◌≡◌, ℕ, ◌<◌, ◌≤◌, ◌+◌, length, map, List, Option, Some, None, ℤ, vec_len, vec_capacity, is_none, slice_get, slice_set, unwrap_or, count_by};
+ghost use Rattle.std.specs.Prelude.{◌≡◌, ℕ, ◌<◌, ◌≤◌, ◌+◌, length, map, List, Option, Some, None, ℤ, vec_len, vec_capacity, is_none, slice_get, slice_set, unwrap_or, count_by, is_some, if◌then◌else◌};
 ghost use Rattle.std.specs.Option.{option_and_then};
 ghost use Rattle.gp_base.specs.declared.ending.End.TheVariants as ends;
 ghost use Rattle.gp_base.specs.declared.limits.TheConstants.{MOST_THREADS};
@@ -10,9 +10,9 @@ ghost use Rattle.task_ast.specs.Table.{is_known_end};
 ghost use Rattle.task_ast.specs.meaning.Repeat.{More};
 ghost use Rattle.task_ast.specs.meaning.Table.{Away, next_of, waits_at};
 ghost use Rattle.task_ast.specs.meaning.Turn.{tried, issuing, passing, look, owners_after, seats_after, child_of, deadlocked, all_threads, arrived, stand_of, released_at};
-ghost use Rattle.token_order.specs.View.{table, seat_of, StandsInside};
+ghost use Rattle.token_order.specs.View.{table, seat_of, StandsInside, MarkStands};
 ghost use Rattle.token_order.specs.declared.rules.Turn.TheVariants as here;
-ghost use Rattle.token_order.specs.Turned.{Answered, is_let};
+ghost use Rattle.token_order.specs.Turned.{Answered, is_let, waits_ahead};
 
 use crate::threads::{Seat, Stand, Threads, has_ended, new_seat, unpass_all};
 use gp_base::limits::MOST_THREADS;
@@ -84,6 +84,13 @@ fn add_child(seats: &mut Vec<Seat>, sync: &SyncOp) -> Option<ThreadNo>
     child
 }
 
+// The mark after an issue: a child has not ended.
+fn live_after(live: usize, child: &Option<ThreadNo>, threads: usize) -> usize
+    ensures { result ≡ (if is_some child.now then threads else live) }
+{
+    if child.is_some() { threads } else { live }
+}
+
 // Whether nobody owns the lock.
 fn is_free(owners: &[Option<u32>], lock: u32) -> bool
     ensures { result ≡ is_none (option_and_then (λ o. o) (slice_get owners.now lock)) }
@@ -121,14 +128,27 @@ fn joined(h: i64, threads: usize) -> Option<u32>
 }
 
 impl Threads {
-    /// Whether a thread that stands at it isn't kept back: nobody owns its lock, and the thread that it joins is known
-    /// to have ended.
+    // Whether the thread that the token comes to waits at a barrier.
+    fn waits_ahead(&self) -> bool
+        requires inside { StandsInside self.now }
+        ensures { result ≡ waits_ahead (table self.now) }
+    {
+        match self.token_at() {
+            Some(t) => stands_waiting(&self.seats[t as usize]),
+            None => false,
+        }
+    }
+
+    /// Whether the thread that the token comes to, which stands at it, isn't kept back: nobody owns its lock, the thread
+    /// that it joins is known to have ended, and it does not wait at a barrier.
     pub fn lets(&self, sync: &SyncOp) -> bool
+        requires inside { StandsInside self.now }
         ensures { result ≡ is_let (table self.now) sync.now }
     {
         match sync {
             SyncOp::Lock(lock) => is_free(&self.owners, lock.0),
             SyncOp::Join(thread) => *thread >= 0 && is_over(&self.seats, *thread as usize),
+            SyncOp::Barrier(_) => !self.waits_ahead(),
             _ => true,
         }
     }
@@ -136,8 +156,11 @@ impl Threads {
     // The thread passes.
     fn pass(&mut self, t: u32)
         requires exists { t < length self.old.seats.items }
+        requires live { t < self.old.live }
+        requires mark { MarkStands self.old }
         ensures passes { passing (table self.old) t ≡ More (table self.new) }
         ensures capacity { vec_capacity self.new.seats ≡ vec_capacity self.old.seats }
+        ensures mark { MarkStands self.new }
     {
         self.seats[t as usize].passed = true;
         self.token = Some(t);
@@ -146,10 +169,13 @@ impl Threads {
     // The thread performs its next synchronisation and begins a subthread, unless the limit is reached.
     fn issue(&mut self, t: u32) -> Turn
         requires exists { t < length self.old.seats.items }
+        requires live { t < self.old.live }
+        requires mark { MarkStands self.old }
         requires few { length self.old.seats.items ≤ MOST_THREADS }
         requires spare { vec_len self.old.seats < vec_capacity self.old.seats }
         ensures answer { (next : Next) → next_of (table self.old) t ≡ Some next → Answered (issuing (table self.old) t next) (table self.old) result (table self.new) }
         ensures capacity { vec_capacity self.new.seats ≡ vec_capacity self.old.seats }
+        ensures mark { MarkStands self.new }
     {
         if self.issued >= self.limit {
             return Turn::Ended(End::Spent(Pos(self.limit)));
@@ -157,9 +183,10 @@ impl Threads {
         let Some(next) = begin(&mut self.seats[t as usize], self.issued) else {
             return Turn::Needs(ThreadNo(t));
         };
-        unpass_all(&mut self.seats);
+        unpass_all(&mut self.seats, self.live);
         hand_over(&mut self.owners, &next.sync, t);
         let child = add_child(&mut self.seats, &next.sync);
+        self.live = live_after(self.live, &child, self.seats.len());
         self.token = Some(t);
         self.issued += 1;
         Turn::Issue {
@@ -172,10 +199,13 @@ impl Threads {
     // A lock is taken where nobody owns it.
     fn lock(&mut self, t: u32, lock: u32) -> Turn
         requires exists { t < length self.old.seats.items }
+        requires live { t < self.old.live }
+        requires mark { MarkStands self.old }
         requires few { length self.old.seats.items ≤ MOST_THREADS }
         requires spare { vec_len self.old.seats < vec_capacity self.old.seats }
         ensures answer { (next : Next) → next_of (table self.old) t ≡ Some next → Answered (tried (sync.Lock lock) (table self.old) t next) (table self.old) result (table self.new) }
         ensures capacity { vec_capacity self.new.seats ≡ vec_capacity self.old.seats }
+        ensures mark { MarkStands self.new }
     {
         if is_free(&self.owners, lock) {
             return self.issue(t);
@@ -187,10 +217,13 @@ impl Threads {
     // A join waits for the end of its thread.
     fn join(&mut self, t: u32, h: i64, line: u32) -> Turn
         requires exists { t < length self.old.seats.items }
+        requires live { t < self.old.live }
+        requires mark { MarkStands self.old }
         requires few { length self.old.seats.items ≤ MOST_THREADS }
         requires spare { vec_len self.old.seats < vec_capacity self.old.seats }
         ensures answer { (next : Next) → next_of (table self.old) t ≡ Some next → next.line ≡ line → Answered (tried (sync.Join h) (table self.old) t next) (table self.old) result (table self.new) }
         ensures capacity { vec_capacity self.new.seats ≡ vec_capacity self.old.seats }
+        ensures mark { MarkStands self.new }
     {
         let Some(other) = joined(h, self.seats.len()) else {
             return stuck(Why::Join, t, line);
@@ -210,10 +243,13 @@ impl Threads {
     // A fork finds a seat while there are fewer threads than may exist.
     fn fork(&mut self, t: u32, line: u32) -> Turn
         requires exists { t < length self.old.seats.items }
+        requires live { t < self.old.live }
+        requires mark { MarkStands self.old }
         requires few { length self.old.seats.items ≤ MOST_THREADS }
         requires spare { vec_len self.old.seats < vec_capacity self.old.seats }
         ensures answer { (next : Next) (task : ℕ) (arguments : List ℤ) → next_of (table self.old) t ≡ Some next → next.line ≡ line → Answered (tried (sync.Fork task arguments) (table self.old) t next) (table self.old) result (table self.new) }
         ensures capacity { vec_capacity self.new.seats ≡ vec_capacity self.old.seats }
+        ensures mark { MarkStands self.new }
     {
         if self.seats.len() < MOST_THREADS as usize {
             return self.issue(t);
@@ -224,20 +260,28 @@ impl Threads {
     // The thread arrives at a barrier, which counts as a change.
     fn arrive(&mut self, t: u32)
         requires exists { t < length self.old.seats.items }
+        requires live { t < self.old.live }
+        requires mark { MarkStands self.old }
         ensures table { table self.new ≡ arrived (table self.old) t }
         ensures length { length self.new.seats.items ≡ length self.old.seats.items }
         ensures spare { (vec_len self.new.seats ≡ vec_len self.old.seats) × (vec_capacity self.new.seats ≡ vec_capacity self.old.seats) }
+        ensures live { self.new.live ≡ self.old.live }
+        ensures mark { MarkStands self.new }
     {
-        unpass_all(&mut self.seats);
+        unpass_all(&mut self.seats, self.live);
         self.seats[t as usize].stand = Stand::Waits;
     }
 
     // The last thread arrives at a barrier, and all that wait there are released.
     fn open(&mut self, t: u32, barrier: u32)
         requires exists { t < length self.old.seats.items }
+        requires live { t < self.old.live }
+        requires mark { MarkStands self.old }
         ensures table { table self.new ≡ record (arrived (table self.old) t) { seats = map (released_at barrier) (arrived (table self.old) t).seats } }
         ensures length { length self.new.seats.items ≡ length self.old.seats.items }
         ensures spare { (vec_len self.new.seats ≡ vec_len self.old.seats) × (vec_capacity self.new.seats ≡ vec_capacity self.old.seats) }
+        ensures live { self.new.live ≡ self.old.live }
+        ensures mark { MarkStands self.new }
     {
         self.arrive(t);
         release(&mut self.seats, barrier);
@@ -246,10 +290,13 @@ impl Threads {
     // A thread comes to a barrier. Where the stated number of threads are there, it goes on and all others may.
     fn come(&mut self, t: u32, barrier: u32) -> Turn
         requires exists { t < length self.old.seats.items }
+        requires live { t < self.old.live }
+        requires mark { MarkStands self.old }
         requires few { length self.old.seats.items ≤ MOST_THREADS }
         requires spare { vec_len self.old.seats < vec_capacity self.old.seats }
         ensures answer { (next : Next) → next_of (table self.old) t ≡ Some next → next.sync ≡ sync.Barrier barrier → stand_of (table self.old) t ≡ Away → Answered (tried (sync.Barrier barrier) (table self.old) t next) (table self.old) result (table self.new) }
         ensures capacity { vec_capacity self.new.seats ≡ vec_capacity self.old.seats }
+        ensures mark { MarkStands self.new }
     {
         if waiting(&self.seats, barrier) + 1 < stated(&self.barriers, barrier) as usize {
             self.arrive(t);
@@ -266,10 +313,13 @@ impl Threads {
     // A released thread goes on, and one that has arrived waits.
     fn meet(&mut self, t: u32, barrier: u32) -> Turn
         requires exists { t < length self.old.seats.items }
+        requires live { t < self.old.live }
+        requires mark { MarkStands self.old }
         requires few { length self.old.seats.items ≤ MOST_THREADS }
         requires spare { vec_len self.old.seats < vec_capacity self.old.seats }
         ensures answer { (next : Next) → next_of (table self.old) t ≡ Some next → next.sync ≡ sync.Barrier barrier → Answered (tried (sync.Barrier barrier) (table self.old) t next) (table self.old) result (table self.new) }
         ensures capacity { vec_capacity self.new.seats ≡ vec_capacity self.old.seats }
+        ensures mark { MarkStands self.new }
     {
         if is_released(&self.seats[t as usize]) {
             return self.issue(t);
@@ -322,6 +372,7 @@ impl Threads {
         requires spare { vec_len self.old.seats < vec_capacity self.old.seats }
         ensures answer { Answered (Rattle.task_ast.specs.meaning.Turn.turn (table self.old)) (table self.old) result (table self.new) }
         ensures capacity { vec_capacity self.new.seats ≡ vec_capacity self.old.seats }
+        ensures mark { MarkStands self.new }
     {
         let Some(t) = self.token_at() else {
             return Turn::Ended(End::Finished);
@@ -388,6 +439,13 @@ fn stated(barriers: &[u32], barrier: u32) -> u32
         Some(number) => *number,
         None => 0,
     }
+}
+
+// Whether the thread has arrived and isn't released.
+fn stands_waiting(seat: &Seat) -> bool
+    ensures { result ≡ Rattle.task_ast.specs.meaning.Table.is_waiting (seat_of seat.now).stand }
+{
+    matches!(seat.stand, Stand::Waits)
 }
 
 // Whether the thread waits at this barrier.

@@ -1,13 +1,14 @@
 // The threads, and the one that the token comes to.
 
-ghost use Rattle.std.specs.Prelude.{◌≡◌, ◌<◌, ◌≤◌, ◌-◌, length, map, Option, Some, None, IfSome, IfOk, replicate, vec_capacity};
+ghost use Rattle.std.specs.Prelude.{◌≡◌, ℕ, ◌<◌, ◌≤◌, ◌-◌, max, suc, length, map, Option, Some, None, IfSome, IfOk, replicate, vec_capacity};
 ghost use Rattle.gp_base.specs.declared.limits.TheConstants.{MOST_THREADS};
 ghost use Rattle.task_ast.specs.Looking.{start_of, look_of};
 ghost use Rattle.task_ast.specs.Reached.{start_table};
 ghost use Rattle.task_ast.specs.meaning.Table.{numbers, ring, learning, unpassed};
 ghost use Rattle.task_ast.specs.meaning.Turn.{look};
 ghost use Rattle.task_ast.specs.Table;
-ghost use Rattle.token_order.specs.View.{table, seat_of, StandsInside};
+ghost use Rattle.ended_seats.specs.Idle.{IdleFrom, is_idle};
+ghost use Rattle.token_order.specs.View.{table, seat_of, StandsInside, MarkStands};
 
 use gp_base::limits::MOST_THREADS;
 use std::alloc::{AllocError, Global};
@@ -32,11 +33,13 @@ pub struct Seat {
 }
 
 /// The threads in the order in which they were forked, the owner of each lock cell, and the thread whose turn was last.
+/// Each thread from `live` on is known to have ended, and has not passed, so no walk goes beyond it.
 #[derive(Drop)]
 pub struct Threads {
     pub limit: u32,
     pub barriers: Vec<u32>,
     pub seats: Vec<Seat>,
+    pub live: usize,
     pub owners: Vec<Option<u32>>,
     pub token: Option<u32>,
     pub issued: u32,
@@ -64,6 +67,27 @@ pub fn has_ended(seat: &Seat) -> bool
     }
 }
 
+// Whether the thread is known to have ended, and has not passed.
+fn is_idle(seat: &Seat) -> bool
+    ensures { result ≡ is_idle (seat_of seat.now) }
+{
+    has_ended(seat) && !seat.passed
+}
+
+// A mark goes back over the idle threads before it.
+fn lowered(seats: &[Seat], live: usize) -> usize
+    requires within { live ≤ length seats.now }
+    requires idle { IdleFrom live (map seat_of seats.now) }
+    ensures within { result ≤ live }
+    ensures idle { IdleFrom result (map seat_of seats.now) }
+{
+    let mut live = live;
+    while live > 0 && is_idle(&seats[live - 1]) {
+        live -= 1;
+    }
+    live
+}
+
 impl Threads {
     /// One thread, of which nothing was issued. The error is that memory is out.
     pub fn new(
@@ -83,6 +107,7 @@ impl Threads {
             limit,
             barriers,
             seats,
+            live: 1,
             owners,
             token: None,
             issued: 0,
@@ -121,11 +146,14 @@ impl Threads {
     pub fn token_at(&self) -> Option<u32>
         requires inside { StandsInside self.now }
         ensures below { IfSome result (λ t. t < length self.now.seats.items) }
+        ensures live { IfSome result (λ t. t < self.now.live) }
         ensures found { look (table self.now) (ring (table self.now).token (length (table self.now).seats)) ≡ look_of (table self.now) result }
     {
-        let threads = self.seats.len();
         let start = self.start();
-        if let Some(t) = self.first_live(start, threads) {
+        if self.live <= start {
+            return self.first_live(0, self.live);
+        }
+        if let Some(t) = self.first_live(start, self.live) {
             return Some(t);
         }
         self.first_live(0, start)
@@ -134,18 +162,23 @@ impl Threads {
     /// The next synchronisation of a thread becomes known.
     pub fn learn(&mut self, t: u32, next: Next)
         requires exists { t < length self.old.seats.items }
+        requires mark { MarkStands self.old }
         ensures learnt { table self.new ≡ learning (table self.old) t next }
         ensures capacity { vec_capacity self.new.seats ≡ vec_capacity self.old.seats }
+        ensures mark { MarkStands self.new }
     {
         self.seats[t as usize].next = Some(next);
+        self.live = lowered(&self.seats, self.live.max(t as usize + 1));
     }
 }
 
-/// No thread has passed since the last change.
-pub fn unpass_all(seats: &mut [Seat])
+/// No thread has passed since the last change. The threads from the mark on had not.
+pub fn unpass_all(seats: &mut [Seat], live: usize)
+    requires within { live ≤ length seats.old }
+    requires idle { IdleFrom live (map seat_of seats.old) }
     ensures { map seat_of seats.new ≡ map unpassed (map seat_of seats.old) }
 {
-    for seat in seats.iter_mut() {
-        seat.passed = false;
+    for t in 0..live {
+        seats[t].passed = false;
     }
 }

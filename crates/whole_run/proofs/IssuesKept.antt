@@ -3,7 +3,7 @@
 -- what is known; an issue adds an entry, and where a child starts. What was prepared before, a slot of the store and
 -- the place, is for the thread that is ahead, which is the one that is issued.
 use Rattle.std.proofs.Common.{◌≡◌, inl, inr, ℕ, suc, ◌+◌, ◌<◌, ◌≤◌, true, false, List, [], ◌∷◌, ◌++◌, length, Option, Some, None, is_some, option_map, get_or, refl, sym, ap, ◌∙◌, subst, arith, ◌⊎◌, Bool, cond, nat_eq}
-use Rattle.std.specs.Prelude.{IsSome, slice_get, is_none, pos, negsuc, ℤ}
+use Rattle.std.specs.Prelude.{IsSome, slice_get, pos, ℤ}
 use Rattle.std.specs.Option.{option_and_then}
 use Rattle.std.proofs.lemmas.Option.{slice_get_within}
 use Rattle.std.proofs.lemmas.Bool.{eqb-true, eq-eqb, false≢true}
@@ -21,7 +21,7 @@ use Rattle.task_ast.specs.meaning.Table.{Seat, Table, next_of, owned_from, is_se
 use Rattle.token_order.specs.Turned.{settling_in, is_let}
 use Rattle.task_ast.specs.meaning.Turn.{Turn, Issue, Needs, Ended, child_of, turn}
 use Rattle.dependence.specs.meaning.Runs.{settles_one}
-use Rattle.task_ast.specs.laws.Threads.{MayBegin, HasBegun, with_child, ahead}
+use Rattle.task_ast.specs.laws.Threads.{HasBegun, with_child, ahead}
 use Rattle.task_ast.specs.laws.Standing.{IsIssuedBy}
 use Rattle.task_ast.specs.meaning.Plain.{Subthread, tree_machine, start_point, task_at}
 use Rattle.task_ast.specs.Plain.{lock_foot_of}
@@ -45,6 +45,7 @@ use Rattle.gp_base.specs.Reserved.{Reserved}
 use Rattle.token_order.specs.View.{Roomy}
 use Rattle.task_ast.specs.SyncOps.{IsNumbered}
 use Rattle.task_ast.specs.Table.{is_known_end}
+use Rattle.token_order.proofs.Waiting.{issue_lets}
 use Rattle.whole_run.specs.declared.parts.Parts.{Parts}
 use Rattle.whole_run.specs.declared.parts.Place.{Place}
 use Rattle.whole_run.specs.declared.calls.Halt.{Halt}
@@ -400,13 +401,6 @@ module _ (batch : Batch) (table : Table) (places : List Place) (entries : List E
           (names_issued batch events keeps.fit keeps.journal) allowed first placed after store home refl (omega arith) refl)
           keeps.journal.restarts_are (ap (λ n. n + 1) keeps.journal.issued_are) tt
 
--- a thread that is issued was not kept back
-lets_begun : (op : SyncOp) (table : Table) → MayBegin table op → is_let table op ≡ true
-lets_begun (sync.Lock l) table may = ap is_none may
-lets_begun (sync.Join (pos h)) table may = may.1
-lets_begun (sync.Join (negsuc h)) table may = absurd may
-lets_begun op table may = refl
-
 -- a thread that is known to have ended is there
 ended_below : (table : Table) (h : ℕ) → is_known_end (next_of table h) ≡ true → h < length table.seats
 ended_below table h e = go (slice_get table.seats h) refl
@@ -428,10 +422,7 @@ module _ (batch : Batch) (parts : Parts) (kept : Kept batch parts) (t : ℕ) (ne
       after is).tried
 
   pub not_none : IsReadyFor batch parts None → ⊥
-  not_none ready =
-      let b = begun batch (IsPlaceIn batch) (stage_of batch parts.events.items) parts.ring.table parts.places.items kept.ring t next child
-      after is in
-      false≢true (sym (ready.prepared_is t next tried) ∙ lets_begun next.sync parts.ring.table b.may)
+  not_none ready = false≢true (sym (ready.prepared_is t next tried) ∙ issue_lets parts.ring.table t next child after is)
 
   pub prepared_some : (o : Option Prepared) → IsReadyFor batch parts o → IsSome o
   prepared_some None there = absurd (not_none there)

@@ -1,15 +1,18 @@
-use Rattle.std.proofs.Common.{◌∙◌, refl, arith}
-use Rattle.std.proofs.lemmas.List.{length-map}
+use Rattle.std.proofs.Common.{◌≡◌, ◌∙◌, ap, map, refl, arith, rules}
 use Rattle.task_ast.specs.meaning.Table.{unpassed}
 use Rattle.token_order.specs.View.{seat_of}
-use Rattle.task_ast.proofs.ChangedSeats.{first_mapped-all}
+use Rattle.task_ast.proofs.ChangedSeats.{first_mapped}
 use Rattle.task_ast.proofs.SeenSeats.{first_mapped-next}
+use Rattle.ended_seats.proofs.Idle.{first_mapped-idle}
 use Rattle.token_order.proofs.threads.unpass_all.Goals as goal
 
-pub loop-seat-preserved : goal.loop-seat-preserved
-loop-seat-preserved c =
-    first_mapped-next seat_of unpassed c.args.seats.now c.loop-seat.seats c.loop-seat.seat-index c.seat-item.result _ (omega arith)
-    c.loop-seat.invariant refl
-
 pub returns : goal.returns
-returns c = c.loop-seat.invariant ∙ first_mapped-all unpassed c.loop-seat.seat-index _ (length-map c.args.seats.now seat_of ∙ omega arith)
+returns c =
+    let all : c.loop-t.t ≡ c.args.live = omega arith in
+    c.loop-t.invariant ∙ ap (λ n. first_mapped unpassed n (map seat_of c.args.seats.now)) all
+    ∙ first_mapped-idle c.args.live (map seat_of c.args.seats.now) c.requires.idle
+
+pub loop-t-preserved : goal.loop-t-preserved
+loop-t-preserved c =
+    first_mapped-next seat_of unpassed c.args.seats.now c.loop-t.seats c.loop-t.t c.index-seats-t.result _ (search rules)
+    c.loop-t.invariant refl

@@ -4,5 +4,5 @@ use Rattle.token_order.specs.View.{seat_of}
 use Rattle.task_ast.proofs.ChangedSeats.{first_mapped}
 use Rattle.token_order.proofs.threads.unpass_all.Given as goal
 
-abbrev pub invariant-loop-seat : goal.invariant-loop-seat
-invariant-loop-seat l = map seat_of l.seats ≡ first_mapped unpassed l.seat-index (map seat_of l.fn.seats)
+abbrev pub invariant-loop-t : goal.invariant-loop-t
+invariant-loop-t l = map seat_of l.seats ≡ first_mapped unpassed l.t (map seat_of l.fn.seats)

@@ -9,7 +9,7 @@ use Rattle.token_order.proofs.ring.Ring.turn.Goals as goal
 
 pub invariant_of-self : goal.invariant_of-self
 invariant_of-self c = record {
-  inside = turn-stands c.self.inside.threads c.turn-turn.new.self c.turn-turn.result c.self.invariant.inside c.turn-turn.ensures.answer;
+  inside = turn-stands c.self.inside.threads c.turn-turn.new.self c.turn-turn.result c.self.invariant.inside c.turn-turn.ensures.mark c.turn-turn.ensures.answer;
   locks = c.note.ensures.stands;
   owners =
       c.note.ensures.owners ∙ ap (noted c.turn-turn.result) c.self.invariant.owners
