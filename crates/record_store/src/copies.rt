@@ -3,12 +3,12 @@
 ghost use Rattle.std.specs.Prelude.{◌≡◌, false, map, All, IfOk};
 ghost use Rattle.record_store.specs.inner.Shelves.{is_away};
 
+use crate::Summed;
 use crate::shelf::Shelf;
-use gp_base::Seq;
 use std::alloc::{AllocError, Global};
 
 /// A copy of each list.
-pub fn copy_lists<T: Copy>(alloc: Global, lists: &[Seq<T>]) -> Result<Vec<Seq<T>>, AllocError>
+pub fn copy_lists(alloc: Global, lists: &[Summed]) -> Result<Vec<Summed>, AllocError>
     ensures { IfOk result (λ copies. copies.items ≡ lists.now) }
 {
     let mut copies = Vec::new(alloc);

@@ -7,8 +7,9 @@ ghost use Rattle.task_ast.specs.meaning.Under.{under_lock};
 ghost use Rattle.record_store.specs.Lent.{IsSharedOut};
 ghost use Rattle.record_store.specs.inner.Shelves.{seen, is_away, value_on, cells_on, ArePlaced, new_shelf};
 
-use crate::exchange::value_at;
+use crate::Summed;
 use crate::shelf::Shelf;
+use crate::summed::value_at;
 use gp_base::{LockNo, Nums, RecNo, Seq};
 use std::alloc::{AllocError, Global};
 
@@ -23,18 +24,19 @@ fn copy_cells(alloc: Global, cells: &[i64], numbers: &[RecNo]) -> Result<Nums, A
     Ok(values)
 }
 
-/// A shelf for each lock cell, with the values of the cells under it.
+/// A shelf for each lock cell, with the values of the cells under it, and with their sum where that is asked for.
 pub fn shelves_of(
     alloc: Global,
     cells: &[i64],
     under: &[Seq<RecNo>],
+    is_summed: bool,
 ) -> Result<Vec<Shelf>, AllocError>
     ensures { IfOk result (λ shelves. shelves.items ≡ map (new_shelf cells.now) under.now) }
 {
     let mut shelves = Vec::new(alloc);
     for numbers in under {
         let values = copy_cells(alloc, cells, numbers.as_slice())?;
-        shelves.push(Shelf::Home(values))?;
+        shelves.push(Shelf::Home(Summed::made(values, is_summed)))?;
     }
     Ok(shelves)
 }

@@ -14,10 +14,11 @@ ghost use Rattle.record_store.specs.Lent.{marked, lock_in, whole_effect, AreAsLe
 ghost use Rattle.record_store.specs.inner.Homing.{CanLend, HaveSizes};
 
 use crate::copies::{copy_lists, copy_shelves};
-use crate::exchange::{exchange_threads, value_at};
-use crate::shelf::{Shelf, is_home, put_in, set_at, take_out};
+use crate::exchange::exchange_threads;
+use crate::shelf::{Shelf, is_home, is_whole, put_in, set_at, take_out};
 use crate::stock::{fill_cells, places_of, shelves_of};
-use crate::{Bundle, Effect, History};
+use crate::summed::value_at;
+use crate::{Bundle, Effect, History, Summed};
 use gp_base::{Lines, LockNo, Nums, RecNo, Room, Seq, ThreadNo};
 use std::alloc::{AllocError, Global};
 use std::marker::Model;
@@ -38,7 +39,7 @@ struct Standing {
 /// that they stand for.
 #[derive(Drop)]
 pub struct Store {
-    threads: Vec<Nums>,
+    threads: Vec<Summed>,
     shelves: Vec<Shelf>,
     standing: Arc<Standing>,
     room: Nums,
@@ -58,14 +59,24 @@ impl Model for Store {
 }
 
 impl Store {
-    /// These record cells, all at home, and no thread. The error is that memory is out, or that there are more cells
-    /// than have numbers.
-    pub fn new(alloc: Global, records: Nums, layout: Layout) -> Result<Store, AllocError>
+    /// These record cells, all at home, and no thread; those under each lock cell have a sum, where that is asked for.
+    /// The error is that memory is out, or that there are more cells than have numbers.
+    pub fn new(
+        alloc: Global,
+        records: Nums,
+        layout: Layout,
+        is_summed: bool,
+    ) -> Result<Store, AllocError>
         requires { IsSharedOut (length records) layout.under }
         ensures { IfOk result (λ store. store ≡ without_threads records layout.under) }
     {
         let places = places_of(alloc, records.len(), layout.under.as_slice())?;
-        let shelves = shelves_of(alloc, records.as_slice(), layout.under.as_slice())?;
+        let shelves = shelves_of(
+            alloc,
+            records.as_slice(),
+            layout.under.as_slice(),
+            is_summed,
+        )?;
         let standing = Arc::new(alloc, Standing { places, layout })?;
         Ok(Store {
             threads: Vec::new(alloc),
@@ -131,23 +142,33 @@ impl Store {
         ensures err { OnErr result (self.new ≡ self.old) }
     {
         let zeros = vec![in alloc; 0i64; regs as usize]?;
-        self.threads.push(Seq::from_vec(zeros))?;
+        self.threads.push(Summed::plain(Seq::from_vec(zeros)))?;
         Ok(())
     }
 
-    /// The registers of a thread, and `$ret` of the thread that is joined, if any, or 0. The error is that memory is
-    /// out.
+    /// The registers of a thread, with the sum that they were left with, and `$ret` of the thread that is joined, if any,
+    /// or 0. The error is that memory is out.
     pub fn regs_of(
         &self,
         alloc: Global,
         thread: ThreadNo,
         joined: Option<ThreadNo>,
-    ) -> Result<(Nums, i64), AllocError>
+    ) -> Result<(Summed, i64), AllocError>
         ensures regs { IfOk result (λ given. given.0 ≡ state_of self.now (RegistersOf thread)) }
         ensures joined { IfOk result (λ given. given.1 ≡ joined_value (state_of self.now) joined) }
     {
-        let regs = Seq::from_slice(alloc, self.registers(thread))?;
+        let regs = self.registers_copied(alloc, thread)?;
         Ok((regs, self.returned(joined)))
+    }
+
+    // The registers of a thread, with the sum that they were left with; one that isn't there has none.
+    fn registers_copied(&self, alloc: Global, thread: ThreadNo) -> Result<Summed, AllocError>
+        ensures { IfOk result (λ regs. regs ≡ state_of self.now (RegistersOf thread)) }
+    {
+        match self.threads.get(thread.0 as usize) {
+            Some(regs) => regs.copied(alloc),
+            None => Ok(Summed::plain(Seq::new(alloc))),
+        }
     }
 
     // The registers of a thread; one that isn't there has none.
@@ -168,6 +189,11 @@ impl Store {
             Some(thread) => value_at(self.registers(thread), 0),
             None => 0,
         }
+    }
+
+    /// Whether the cells that are at home are those that writes left, as far as their sums tell. Takes no memory.
+    pub fn is_whole(&self) -> bool {
+        self.shelves.iter().all(|shelf| is_whole(shelf))
     }
 
     /// Whether the cells under a lock cell are at home. Takes no memory.

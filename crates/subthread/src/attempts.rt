@@ -160,7 +160,7 @@ fn attempt<'a>(
     let Ok(ctl) = task.ctl.copied(alloc) else {
         return Err(bundles);
     };
-    let Ok(regs) = task.given.regs.copied(alloc) else {
+    let Ok(regs) = Seq::from_slice(alloc, task.given.regs.as_slice()) else {
         return Err(bundles);
     };
     let mut stand = Stand {
@@ -261,9 +261,18 @@ fn part<'a>(
 }
 
 // Whether a walk left what another one did, and no other cells. The error is that memory is out.
-fn is_like<'a>(alloc: Global, sum: i64, walk: &Walk<'a>, left: &Left) -> Result<bool, AllocError>
+fn is_like<'a>(
+    alloc: Global,
+    recheck: &Recheck,
+    sum: i64,
+    walk: &Walk<'a>,
+    left: &Left,
+) -> Result<bool, AllocError>
     ensures { IfOk result (λ same. IsTrue same → IsSame walk.now left.now) }
 {
+    if recheck.disturbs(Disturbance::Refusal) {
+        return Err(AllocError);
+    }
     let changes = walk.doing.cells.changes(alloc)?;
     Ok(
         same_control(walk, left)
@@ -276,12 +285,13 @@ fn is_like<'a>(alloc: Global, sum: i64, walk: &Walk<'a>, left: &Left) -> Result<
 // Whether a walk left what one of these two did. The error is that memory is out.
 fn is_like_either<'a>(
     alloc: Global,
+    recheck: &Recheck,
     sum: i64,
     walk: &Walk<'a>,
     one: &Left,
     two: &Left,
 ) -> Result<bool, AllocError> {
-    Ok(is_like(alloc, sum, walk, one)? || is_like(alloc, sum, walk, two)?)
+    Ok(is_like(alloc, recheck, sum, walk, one)? || is_like(alloc, recheck, sum, walk, two)?)
 }
 
 // The third walk of a task, whose first two left these two and were not alike: it must be like one of them. The error is
@@ -298,7 +308,7 @@ fn agreed<'a>(
     ensures walk { IfOk result (λ walk. walk ≡ third.entry) }
     ensures back { IfErr result (λ bundles. bundles ≡ third.entry.doing.cells.came) }
 {
-    match is_like_either(alloc, sum, &third, one, two) {
+    match is_like_either(alloc, &work.recheck, sum, &third, one, two) {
         Ok(true) => return Ok(third),
         Ok(false) => work.recheck.note_disagreed(task.pos),
         Err(_) => {}
@@ -306,8 +316,23 @@ fn agreed<'a>(
     Err(given_back(third))
 }
 
+// A sum over the bundles of a task, where these and its registers are as they were left; where they are not, that is
+// noted.
+fn sum_as_left(recheck: &Recheck, task: &Task, bundles: &[Bundle]) -> Option<i64> {
+    let sum = if task.given.regs.is_whole() {
+        sum_of(bundles)
+    } else {
+        None
+    };
+    if sum.is_none() {
+        recheck.note_damaged(task.pos);
+    }
+    sum
+}
+
 // A walk of a task, as `attempt`, made twice: where the two differ, a third must be like one of them. The error is that
-// memory is out, or that it is like neither, or that the cells that came could not be had back; it has the bundles.
+// memory is out, or that it is like neither, or that the cells that came could not be had back, or that what came is not
+// as it was left; it has the bundles.
 fn compared<'a>(
     alloc: Global,
     work: &'a Work,
@@ -326,11 +351,13 @@ fn compared<'a>(
     ensures walk { IfOk result (IsWalk work.now (with_bundles ground.now.bundles.value task.now) ground.now) }
     ensures back { IfErr result (λ back. back ≡ ground.now.bundles.value) }
 {
-    let sum = sum_of(bundles.as_slice());
+    let Some(sum) = sum_as_left(&work.recheck, task, bundles.as_slice()) else {
+        return Err(bundles);
+    };
     let first = attempt(alloc, work, task, ground, bundles, steps)?;
     let (bundles, one) = part(alloc, work, task, sum, first)?;
     let second = attempt(alloc, work, task, ground, bundles, steps)?;
-    match is_like(alloc, sum, &second, &one) {
+    match is_like(alloc, &work.recheck, sum, &second, &one) {
         Ok(true) => return Ok(second),
         Ok(false) => work.recheck.note(task.pos),
         Err(_) => return Err(given_back(second)),
@@ -342,7 +369,7 @@ fn compared<'a>(
 
 /// A walk of a task from its beginning, made once, or twice and compared, as the work's recheck says; its bundles are
 /// handed over, and the steps of all walks are added. The error is that memory is out, or that walks could not be agreed
-/// on, which the recheck keeps; it has the bundles as they came.
+/// on, or that what came is not as it was left, which the recheck keeps; it has the bundles as they came.
 pub fn attempts<'a>(
     alloc: Global,
     work: &'a Work,

@@ -12,7 +12,7 @@ ghost use Rattle.subthread.specs.inner.Hand.{with_old, damaged_write, turned_wri
 use crate::numbers::is_zero;
 use crate::places::find_cell;
 use gp_base::{LockNo, RecNo, Seq};
-use record_store::Bundle;
+use record_store::{Bundle, mixed};
 use std::alloc::{AllocError, Global};
 use std::collections::BTreeMap;
 use std::marker::Model;
@@ -62,31 +62,33 @@ pub struct Change {
     pub new: i64,
 }
 
-// An odd number with its bits spread, by which values are mixed.
-const SPREAD: i64 = 0x1E37_79B9_7F4A_7C15;
-
-// What a value at a place adds to the sum of bundles.
-fn mixed(lock: LockNo, place: usize, value: i64) -> i64 {
-    let place = match u32::try_from(place) {
-        Ok(place) => i64::from(place),
-        Err(_) => 0,
-    };
-    let key = i64::from(lock.0)
-        .wrapping_mul(SPREAD)
-        .wrapping_add(place)
-        .wrapping_mul(SPREAD);
-    (value ^ key).wrapping_mul(SPREAD)
+// What the sum of a bundle, or a part of it, adds to the sum of all bundles: an odd multiple, by the lock.
+fn share(lock: LockNo, sum: i64) -> i64 {
+    let odd = i64::from(lock.0).wrapping_mul(2).wrapping_add(1);
+    sum.wrapping_mul(odd)
 }
 
-/// A sum over all values of bundles, which tells whether one of them changed.
-pub fn sum_of(bundles: &[Bundle]) -> i64 {
-    let mut sum = 0i64;
+/// A sum over all values of bundles, which tells whether one of them changed; none where the values of a bundle are not
+/// those that it was left with.
+pub fn sum_of(bundles: &[Bundle]) -> Option<i64> {
+    let mut all = 0i64;
     for bundle in bundles {
-        for (place, value) in bundle.cells.as_slice().iter().enumerate() {
-            sum = sum.wrapping_add(mixed(bundle.lock, place, *value));
+        let sum = bundle.cells.sum();
+        if !bundle.cells.expects(sum) {
+            return None;
         }
+        all = all.wrapping_add(share(bundle.lock, sum));
     }
-    sum
+    Some(all)
+}
+
+/// Turns a bit of the sum of the first bundle, as a fault of the machine would.
+pub fn disturb_first(bundles: &mut [Bundle])
+    ensures { bundles.new ≡ bundles.old }
+{
+    if !bundles.is_empty() {
+        bundles[0].cells.disturb();
+    }
 }
 
 // Puts a value into a place.
@@ -307,11 +309,11 @@ impl<'a> Cells<'a> {
     pub fn is_kept(&self, sum: i64, changes: &[Change]) -> bool {
         let mut then = sum;
         for change in changes {
-            then = then
-                .wrapping_sub(mixed(change.lock, change.place, change.old))
-                .wrapping_add(mixed(change.lock, change.place, change.new));
+            let old = mixed(change.place, change.old);
+            let new = mixed(change.place, change.new);
+            then = then.wrapping_add(share(change.lock, new.wrapping_sub(old)));
         }
-        then == sum_of(&self.bundles)
+        sum_of(&self.bundles) == Some(then)
     }
 
     /// The bundles as they came. Takes no memory.

@@ -1,5 +1,5 @@
 // The run of a task.
-ghost use Rattle.std.specs.Prelude.{◌≡◌, [], length, map, All, true, IfOk, IfErr};
+ghost use Rattle.std.specs.Prelude.{◌≡◌, [], length, map, option_map, All, true, IfOk, IfErr};
 ghost use Rattle.std.specs.List.Sorted.{IsStrictlyIncreasing};
 ghost use Rattle.std.specs.Ordering.{nat_cmp};
 ghost use Rattle.std.specs.FinMap.{is_sorted};
@@ -14,16 +14,16 @@ ghost use Rattle.subthread.specs.inner.Leaving.{IsGroundOf, Walked, actions_at, 
 
 use crate::attempts::{Walk, attempts};
 use crate::begins::begin;
-use crate::cells::Cells;
+use crate::cells::{Cells, disturb_first};
 use crate::damage::damage;
 use crate::footprints::footprint;
 use crate::ground::{Doing, Ground, Stand};
 use crate::names::Names;
 use crate::numbers::narrow;
 use crate::walk::run_body;
-use crate::{Done, Task, Work};
-use gp_base::{At, Footprint, RecNo, Seq, ThreadNo};
-use record_store::{Bundle, Effect};
+use crate::{Disturbance, Done, Recheck, Task, Work};
+use gp_base::{At, Footprint, Lines, Nums, RecNo, Seq, ThreadNo};
+use record_store::{Bundle, Effect, Summed};
 use std::alloc::{AllocError, AllocFailed, Global};
 use std::mem;
 use std::snapshot::Snapshot;
@@ -84,10 +84,78 @@ pub fn walk(
     Ok((next, foot))
 }
 
-// Ends a run: the mask falls on all that it did. Gives the bundles with their new values, the old ones, and the effect.
-// The error is that memory is out, and has the bundles as they came.
+// Registers with the sum over them, of which a bit is turned where a test says so.
+fn summed(recheck: &Recheck, regs: Summed) -> Summed
+    ensures { result ≡ regs }
+{
+    let mut regs = regs.summed();
+    if recheck.disturbs(Disturbance::RegisterSum) {
+        regs.disturb();
+    }
+    regs
+}
+
+// An effect with the sums over its registers, where walks are made twice.
+fn with_sums(recheck: &Recheck, effect: Effect) -> Effect
+    ensures { result ≡ effect }
+{
+    if !recheck.is_on() {
+        return effect;
+    }
+    let Effect {
+        thread,
+        regs,
+        child,
+        prints,
+    } = effect;
+    let child = match child {
+        Some((child, regs)) => Some((child, regs.summed())),
+        None => None,
+    };
+    Effect {
+        thread,
+        regs: summed(recheck, regs),
+        child,
+        prints,
+    }
+}
+
+// Bundles of which the first has a bit of its sum turned, where a test says so.
+fn left_at_rest(recheck: &Recheck, bundles: Seq<Bundle>) -> Seq<Bundle>
+    ensures { result ≡ bundles }
+{
+    let mut bundles = bundles.into_vec();
+    if !bundles.is_empty() && recheck.disturbs(Disturbance::BundleSum) {
+        disturb_first(&mut bundles);
+    }
+    Seq::from_vec(bundles)
+}
+
+// What was done beside cells, as an effect.
+fn effect_of(
+    thread: ThreadNo,
+    child: Option<ThreadNo>,
+    regs: Nums,
+    child_regs: Nums,
+    prints: Lines,
+) -> Effect
+    ensures { result ≡ record { thread = thread; regs = regs; child = option_map (λ c. (c, child_regs)) child; prints = prints } }
+{
+    let child_regs = Summed::plain(child_regs);
+    Effect {
+        thread,
+        regs: Summed::plain(regs),
+        child: child.map(|c| (c, child_regs)),
+        prints,
+    }
+}
+
+// Ends a run: the mask falls on all that it did. Gives the bundles with their new values, the old ones, and the effect,
+// whose registers have sums where walks are made twice. The error is that memory is out, and has the bundles as they
+// came.
 fn end(
     alloc: Global,
+    recheck: &Recheck,
     mask: i64,
     thread: ThreadNo,
     child: Option<ThreadNo>,
@@ -106,24 +174,21 @@ fn end(
         lines,
         ..
     } = doing;
-    let effect = Effect {
-        thread,
-        regs,
-        child: child.map(|c| (c, child_regs)),
-        prints: lines,
-    };
+    let effect = effect_of(thread, child, regs, child_regs, lines);
     let Ok(effect) = damage(alloc, mask, effect) else {
         return Err(cells.take_back());
     };
+    let effect = with_sums(recheck, effect);
     match cells.finish(alloc, mask) {
         Err(bundles) => Err(bundles),
-        Ok(left) => Ok((left.0, left.1, effect)),
+        Ok(left) => Ok((left_at_rest(recheck, left.0), left.1, effect)),
     }
 }
 
 // Ends the run of a task that stands here, and whose bundles are with the cells at hand.
 fn ended(
     alloc: Global,
+    recheck: &Recheck,
     task: Task,
     stand: Stand,
     next: Next,
@@ -138,7 +203,7 @@ fn ended(
         task.given.bundles = doing.cells.take_back();
         return Err(AllocFailed { value: task });
     };
-    match end(alloc, task.mask, task.thread, task.child, doing) {
+    match end(alloc, recheck, task.mask, task.thread, task.child, doing) {
         Err(bundles) => {
             task.given.bundles = bundles;
             Err(AllocFailed { value: task })
@@ -184,7 +249,8 @@ pub fn run_task(alloc: Global, work: &Work, task: Task) -> Result<Done, AllocFai
 /// 'Error detection by duplicated instructions in super-scalar processors' (EDDI, 2002), and Reis, Chang, Vachharajani,
 /// Rangan and August, 'SWIFT: software implemented fault tolerance' (2005) repeat each instruction; Reinhardt and
 /// Mukherjee, 'Transient fault detection via simultaneous multithreading' (RMT, 2000) compare two threads at what leaves
-/// them, as is done here at what leaves a subthread.
+/// them, as is done here at what leaves a subthread. A sum is then kept with each bundle and with the registers of each
+/// thread that it leaves, and asked when they are lent again.
 pub fn run_counted(
     alloc: Global,
     work: &Work,
@@ -208,7 +274,7 @@ pub fn run_counted(
                 next,
                 foot,
             } = walk;
-            ended(alloc, task, stand, next, foot, doing)
+            ended(alloc, &work.recheck, task, stand, next, foot, doing)
         }
         Err(bundles) => {
             task.given.bundles = bundles;
