@@ -10,7 +10,7 @@ mod soak;
 mod tail;
 mod trace;
 
-pub use lines::{printed, push_lines, push_number, push_spaced};
-pub use soak::soak_text;
-pub use tail::{plain_tail_text, tail_text};
+pub use lines::{is_printed, printed, push_lines, push_number, push_spaced};
+pub use soak::{is_soak_text, soak_text};
+pub use tail::{is_tail_text, plain_tail_text, tail_text};
 pub use trace::trace_text;

@@ -1,5 +1,5 @@
 // Numbers and printed lines, as bytes.
-ghost use Rattle.std.specs.Prelude.{◌≡◌, ◌++◌, OnOk, IfOk};
+ghost use Rattle.std.specs.Prelude.{◌≡◌, ◌↔◌, ◌++◌, IsTrue, OnOk, IfOk};
 ghost use Rattle.std.specs.Fmt.{signed_decimal};
 ghost use Rattle.restart_log.specs.meaning.Lines.{spaced, printed_line, printed};
 
@@ -53,4 +53,12 @@ pub fn printed(alloc: Global, lines: &Lines) -> Result<Vec<u8>, AllocError>
     let mut text = Vec::new(alloc);
     push_lines(&mut text, lines)?;
     Ok(text)
+}
+
+/// Whether this is the text of printed lines, which is made again for that. The error is that memory is out.
+pub fn is_printed(alloc: Global, text: &[u8], lines: &Lines) -> Result<bool, AllocError>
+    ensures { IfOk result (λ is. IsTrue is ↔ (text.now ≡ printed lines.now)) }
+{
+    let again = printed(alloc, lines)?;
+    Ok(again.as_slice() == text)
 }

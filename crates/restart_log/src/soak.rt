@@ -1,5 +1,5 @@
 // The summary of a batch that the program made itself.
-ghost use Rattle.std.specs.Prelude.{◌≡◌, ◌++◌, IfOk, OnOk};
+ghost use Rattle.std.specs.Prelude.{◌≡◌, ◌↔◌, ◌++◌, IsTrue, IfOk, OnOk};
 ghost use Rattle.restart_log.specs.meaning.Soak.{wrapped_sum, sum_line, soak_end, soak_text};
 
 use crate::counts::push_counts;
@@ -61,4 +61,18 @@ pub fn soak_text(alloc: Global, moves: u32, start: u64, r: &Report) -> Result<Te
         r.unused,
     )?;
     Ok(Seq::from_vec(text))
+}
+
+/// Whether this is the text of a batch, as `soak_text`, which is made again for that. The error is that memory is out.
+pub fn is_soak_text(
+    alloc: Global,
+    text: &[u8],
+    moves: u32,
+    start: u64,
+    r: &Report,
+) -> Result<bool, AllocError>
+    ensures { IfOk result (λ is. IsTrue is ↔ (text.now ≡ soak_text moves start r.now.end r.now.records r.now.subthreads r.now.journal.restarts r.now.unused)) }
+{
+    let again = soak_text(alloc, moves, start, r)?;
+    Ok(again.as_slice() == text)
 }

@@ -1,5 +1,5 @@
 // What follows the printed lines of a run.
-ghost use Rattle.std.specs.Prelude.{◌≡◌, ◌++◌, [], IfOk, OnOk};
+ghost use Rattle.std.specs.Prelude.{◌≡◌, ◌↔◌, ◌++◌, [], IsTrue, IfOk, OnOk};
 ghost use Rattle.task_ast.specs.meaning.Names.{records_of};
 ghost use Rattle.task_ast.specs.meaning.Layout.{cut};
 ghost use Rattle.lock_checker.specs.Accepted.{program_of};
@@ -100,4 +100,13 @@ pub fn plain_tail_text(
     ensures { IfOk result (λ text. text ≡ tail_text end (cut (records_of (program_of c.now).heads) records.now) subthreads [] 0) }
 {
     tail_of(alloc, c, end, records, subthreads, &[], 0)
+}
+
+/// Whether this is the text that follows the printed lines of a run, as `tail_text`, which is made again for that. The
+/// error is that memory is out.
+pub fn is_tail_text(alloc: Global, text: &[u8], c: &Checked, r: &Report) -> Result<bool, AllocError>
+    ensures { IfOk result (λ is. IsTrue is ↔ (text.now ≡ tail_text r.now.end (cut (records_of (program_of c.now).heads) r.now.records) r.now.subthreads r.now.journal.restarts r.now.unused)) }
+{
+    let again = tail_text(alloc, c, r)?;
+    Ok(again.as_slice() == text)
 }
