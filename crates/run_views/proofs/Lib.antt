@@ -1,5 +1,6 @@
 pub mod Chains
 pub mod Linking
 pub mod Pictures
+pub mod Runs
 pub mod SeenSteps
 pub mod Takes
