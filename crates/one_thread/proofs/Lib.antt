@@ -8,6 +8,7 @@ pub mod Lefts
 pub mod Looking
 pub mod Mirroring
 pub mod Naming
+pub mod Nearing
 pub mod Openings
 pub mod Performing
 pub mod Running

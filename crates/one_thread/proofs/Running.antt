@@ -157,15 +157,15 @@ module _ (code : Code) (inputs : Inputs) (limits : Limits) where
   abbrev goes : Plain → Move Plain Subthread End
   goes = move (plain_program code) inputs limits
 
-  steps-goes : (l : ℕ) (p next : Plain) (s : Subthread) → goes p ≡ Goes s next → steps goes (suc l) p ≡ s ∷ steps goes l next
+  pub steps-goes : (l : ℕ) (p next : Plain) (s : Subthread) → goes p ≡ Goes s next → steps goes (suc l) p ≡ s ∷ steps goes l next
   unfolding steps
   steps-goes l p next s is = ap (λ m. steps_from goes m (steps goes l)) is
 
-  state-goes : (l : ℕ) (p next : Plain) (s : Subthread) → goes p ≡ Goes s next → state_after goes (suc l) p ≡ state_after goes l next
+  pub state-goes : (l : ℕ) (p next : Plain) (s : Subthread) → goes p ≡ Goes s next → state_after goes (suc l) p ≡ state_after goes l next
   unfolding state_after
   state-goes l p next s is = ap (λ m. state_from goes p m (state_after goes l)) is
 
-  steps-ends : (l : ℕ) (p : Plain) (e : End) → goes p ≡ Ends e → steps goes l p ≡ []
+  pub steps-ends : (l : ℕ) (p : Plain) (e : End) → goes p ≡ Ends e → steps goes l p ≡ []
   unfolding steps
   steps-ends zero p e is = refl
   steps-ends (suc l) p e is = ap (λ m. steps_from goes m (steps goes l)) is

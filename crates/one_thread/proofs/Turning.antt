@@ -1,5 +1,5 @@
 -- One turn, by the thread that the token comes to.
-use Rattle.std.proofs.Common.{Result, Ok, Err, ℤ, IfOk, ◌≡◌, ℕ, ◌<◌, ◌≤◌, Bool, true, false, cond, nat_le, unwrap_or, count_by, List, map, length, Option, Some, None, refl, sym, ap, ◌∙◌, set}
+use Rattle.std.proofs.Common.{Result, Ok, Err, ℤ, IfOk, ◌≡◌, ℕ, ◌<◌, ◌≤◌, Bool, true, false, cond, nat_le, unwrap_or, count_by, List, map, Some, None, refl, sym, ap, ◌∙◌}
 use Rattle.std.specs.Prelude.{slice_get}
 use Rattle.std.specs.declared.alloc.AllocError.{AllocError}
 use Rattle.gp_base.specs.declared.ending.End.{End}
@@ -7,15 +7,12 @@ use Rattle.one_thread.specs.declared.turns.Turn.{Turn as TurnHere}
 use Rattle.one_thread.specs.declared.turns.Turn.TheVariants as here
 use Rattle.task_ast.specs.meaning.Turn.{next_issue, turns_left}
 use Rattle.task_ast.specs.meaning.Repeat.{go_on}
-use Rattle.std.specs.Option.{option_map, option_and_then}
-use Rattle.std.proofs.lemmas.Option.{slice_get-map}
 use Rattle.task_ast.specs.declared.sync.Next.{Next}
-use Rattle.task_ast.specs.declared.sync.SyncOp.{SyncOp as Sync}
 use Rattle.task_ast.specs.declared.sync.SyncOp.TheVariants as sync_op
 use Rattle.task_ast.specs.meaning.Repeat.{Again, Done}
-use Rattle.task_ast.specs.meaning.Table.{Seat as SeatThere, Stand, Away, Waits, Released, Table, ring, next_of, unpassed, with_nth, waits_at}
+use Rattle.task_ast.specs.meaning.Table.{Seat as SeatThere, Stand, Away, Waits, Released, Table, ring, next_of, waits_at}
 use Rattle.gp_base.specs.declared.ending.End.TheVariants.{Finished}
-use Rattle.task_ast.specs.meaning.Turn.{Turn, Needs, Ended, deadlocked, all_threads, look, turn, tried, has_passed, stand_of, met, arrived, come_to, at_barrier, released_at, issuing, passing, last_of, is_away}
+use Rattle.task_ast.specs.meaning.Turn.{Turn, Needs, Ended, deadlocked, all_threads, look, turn, tried, stand_of, met, arrived, come_to, at_barrier, released_at, issuing, passing, is_away}
 use Rattle.std.proofs.lemmas.Bool.{false≢true, le-leb, lt-leb}
 use Rattle.one_thread.specs.declared.seats.Table.{Table as Ring}
 use Rattle.one_thread.specs.declared.seats.Seat.{Seat}

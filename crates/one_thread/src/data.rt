@@ -12,6 +12,7 @@ ghost use Rattle.one_thread.specs.inner.Working.{setting_in, Works, ArmWorks, No
 
 use crate::cells::{record_number, same_name};
 use crate::names::Names;
+use crate::reckoning::Reckon;
 use crate::variables::{number_at, register_place, set_number};
 use gp_base::{Lines, Name, Nums, Seq};
 use std::alloc::{AllocError, Global};
@@ -57,8 +58,8 @@ pub fn has_value(e: &Expr, env: &Env) -> bool
     eval_d(e, env).is_some()
 }
 
-// The value of a data variable.
-fn register_value(names: &[Name], x: &Name, registers: &[i64]) -> i64
+/// The value of a data variable, or 0 where there is none of this name.
+pub fn register_value(names: &[Name], x: &Name, registers: &[i64]) -> i64
     ensures { result ≡ term_value (register (position (is_name x.now) names.now)) registers.now }
 {
     match register_place(names, x) {
@@ -170,8 +171,9 @@ fn all_fit(block: &[Stmt], program: &Program, env: &Env) -> bool
 }
 
 // The values of a printed line, or `None` where one has none.
-fn line_of(
+fn line_of<R: Reckon>(
     alloc: Global,
+    reckon: &mut R,
     es: &[Expr],
     names: &[Name],
     env: &Env,
@@ -181,7 +183,7 @@ fn line_of(
 {
     let mut line = Seq::new(alloc);
     for e in es {
-        match data_value(e, names, env, registers) {
+        match reckon.of_data(e, names, env, registers) {
             Some(v) => line.push(v)?,
             None => return Ok(None),
         }
@@ -252,8 +254,9 @@ fn note_all(
 /// Does a data statement that names cells that exist.
 #[cycle(performing)]
 #[tactic(auto, using(task_ast::proofs::Views::view), unfolding(task_ast::specs::View::plain_what, task_ast::specs::View::plain_stmt))]
-pub fn perform(
+pub fn perform<R: Reckon>(
     alloc: Global,
+    reckon: &mut R,
     what: &What,
     program: &Program,
     names: &[Name],
@@ -265,7 +268,7 @@ pub fn perform(
 {
     match what {
         What::SetReg(x, e) => {
-            if let Some(v) = data_value(e, names, env, data.registers.as_slice()) {
+            if let Some(v) = reckon.of_data(e, names, env, data.registers.as_slice()) {
                 set_number(&mut data.registers, register_number(names, x), v);
             }
             Ok(())
@@ -278,7 +281,7 @@ pub fn perform(
             Ok(())
         }
         What::Write(r, i, e) => {
-            if let Some(v) = data_value(e, names, env, data.registers.as_slice()) {
+            if let Some(v) = reckon.of_data(e, names, env, data.registers.as_slice()) {
                 if let Some(c) = record_number(program.heads.as_slice(), r, index_of(i, env)) {
                     set_number(&mut data.cells, c as usize, v);
                 }
@@ -288,6 +291,7 @@ pub fn perform(
         What::Print(es) => {
             if let Some(line) = line_of(
                 alloc,
+                reckon,
                 es.as_slice(),
                 names,
                 env,
@@ -298,14 +302,14 @@ pub fn perform(
             Ok(())
         }
         What::When(e, first, second) => {
-            match data_value(e, names, env, data.registers.as_slice()) {
+            match reckon.of_data(e, names, env, data.registers.as_slice()) {
                 None => Ok(()),
                 Some(v) => {
                     if is_zero(v) {
-                        perform_all(alloc, second.as_slice(), program, names, env, data)?;
+                        perform_all(alloc, reckon, second.as_slice(), program, names, env, data)?;
                         Ok(())
                     } else {
-                        perform_all(alloc, first.as_slice(), program, names, env, data)?;
+                        perform_all(alloc, reckon, first.as_slice(), program, names, env, data)?;
                         Ok(())
                     }
                 }
@@ -317,8 +321,9 @@ pub fn perform(
 
 #[cycle(performing)]
 #[tactic(auto, using(task_ast::proofs::Views::view), unfolding(task_ast::specs::View::plain_what, task_ast::specs::View::plain_stmt))]
-fn perform_all(
+fn perform_all<R: Reckon>(
     alloc: Global,
+    reckon: &mut R,
     block: &[Stmt],
     program: &Program,
     names: &[Name],
@@ -329,7 +334,8 @@ fn perform_all(
     ensures { OnOk result (ArmWorks (arm (setting_in program.now env.now) names.now (plain_block block.now) env.now) data.old data.new) }
 {
     for stmt in block {
-        perform(alloc, &stmt.what, program, names, env, data)?;
+        reckon.at(stmt.line);
+        perform(alloc, reckon, &stmt.what, program, names, env, data)?;
     }
     Ok(())
 }

@@ -8,12 +8,17 @@ mod left;
 mod names;
 mod opening;
 mod owners;
+mod reckoning;
 mod run;
 mod seats;
+mod standing;
 mod threads;
 mod turns;
 mod variables;
 mod walk;
 mod work;
 
-pub use run::{PlainRun, Step, run_plain};
+pub use data::register_value;
+pub use reckoning::{Plainly, Reckon};
+pub use run::{PlainRun, Step, run_plain, run_reckoned};
+pub use standing::{Standing, stand_before};

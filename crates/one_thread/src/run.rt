@@ -12,6 +12,7 @@ ghost use Rattle.one_thread.specs.inner.Moves.{Stepped, Follows};
 
 use crate::footprints::footprint;
 use crate::opening::all_registers;
+use crate::reckoning::{Plainly, Reckon};
 use crate::threads::Run;
 use crate::turns::{Turn, thread_number};
 use crate::work::{Shared, Told};
@@ -59,9 +60,10 @@ fn locks_of(alloc: Global, held: &[u32]) -> Result<Seq<LockNo>, AllocError>
 
 impl Run<'_> {
     // One subthread, whose synchronisation the table knows.
-    fn step(
+    fn step<R: Reckon>(
         &mut self,
         alloc: Global,
+        reckon: &mut R,
         t: usize,
         begins: Next,
         child: Option<usize>,
@@ -75,7 +77,8 @@ impl Run<'_> {
         ensures { IfOk result (λ step. Stepped self.old t begins child step self.new) }
     {
         let held = locks_of(alloc, self.table.owners.held_by(t))?;
-        let told = self.perform(alloc, t, &begins, child)?;
+        reckon.begin();
+        let told = self.perform(alloc, reckon, t, &begins, child)?;
         let foot = footprint(alloc, t, &begins.sync, child, &told.named)?;
         let thread = thread_number(t)?;
         let Told { lines: prints, .. } = told;
@@ -88,8 +91,8 @@ impl Run<'_> {
         })
     }
 
-    // The next subthread, or the end.
-    fn next(&mut self, alloc: Global) -> Result<Move, AllocError>
+    /// The next subthread, or the end.
+    pub fn next<R: Reckon>(&mut self, alloc: Global, reckon: &mut R) -> Result<Move, AllocError>
         requires small { IsSmall self.old.program.now }
         requires slots { self.old.slots.now ≡ map slots_of self.old.program.now.tasks }
         requires sound { AreSound self.old.program.now self.old.threads.items }
@@ -99,7 +102,7 @@ impl Run<'_> {
     {
         match self.table.next_issue(alloc)? {
             Turn::Issue(t, begins, child) => {
-                let step = self.step(alloc, t, begins, child)?;
+                let step = self.step(alloc, reckon, t, begins, child)?;
                 Ok(Move::Goes(step))
             }
             Turn::Ended(end) => Ok(Move::Ends(end)),
@@ -128,12 +131,25 @@ pub fn run_plain(
 ) -> Result<PlainRun, AllocError>
     ensures { IfOk result (λ run. IsPlainRun (plain_program (program_of c.now)) inputs.now limits run) }
 {
+    run_reckoned(alloc, c, inputs, limits, &mut Plainly)
+}
+
+/// The same run, in which another evaluates the expressions.
+pub fn run_reckoned<R: Reckon>(
+    alloc: Global,
+    c: &Checked,
+    inputs: &Inputs,
+    limits: Limits,
+    reckon: &mut R,
+) -> Result<PlainRun, AllocError>
+    ensures { IfOk result (λ run. IsPlainRun (plain_program (program_of c.now)) inputs.now limits run) }
+{
     let program = c.program();
     let slots = all_registers(alloc, program.tasks.as_slice())?;
     let mut run = Run::new(alloc, program, slots.as_slice(), inputs, limits)?;
     let mut order = Seq::new(alloc);
     loop {
-        match run.next(alloc)? {
+        match run.next(alloc, reckon)? {
             Move::Goes(step) => order.push(step)?,
             Move::Ends(end) => {
                 return Ok(PlainRun {

@@ -8,6 +8,7 @@ ghost use Rattle.one_thread.specs.inner.Runs.{slots_of, registers_at, joined_of,
 use crate::data::Data;
 use crate::left::Left;
 use crate::names::Names;
+use crate::reckoning::Reckon;
 use crate::seats::Table;
 use crate::turns::thread_number;
 use crate::variables::{control_variables, number_at, with_number};
@@ -154,9 +155,10 @@ impl Run<'_> {
     }
 
     /// Performs one subthread, and gives what is told of it.
-    pub fn perform(
+    pub fn perform<R: Reckon>(
         &mut self,
         alloc: Global,
+        reckon: &mut R,
         t: usize,
         begins: &Next,
         child: Option<usize>,
@@ -173,6 +175,7 @@ impl Run<'_> {
         settle(alloc, walk, &begins.sync);
         let done = work(
             alloc,
+            reckon,
             walk,
             &mut self.shared,
             &begins.sync,

@@ -13,15 +13,14 @@ ghost use Rattle.one_thread.specs.inner.Remaining.{left_of, rest_of};
 ghost use Rattle.one_thread.specs.inner.Walking.{setting_of, point_of, LeadsTo, Stepped, Came, Halted, Ran, Begun, Gives};
 
 use crate::cells::{barrier_number, lock_number, same_name};
-use crate::data::{
-    Data, data_value, fits, has_value, index_of, is_zero, note, perform, register_number,
-};
+use crate::data::{Data, fits, has_value, index_of, is_zero, note, perform, register_number};
 use crate::left::Left;
+use crate::reckoning::{Plainly, Reckon};
 use crate::variables::{register_names, set_number, variable_number, with_value, zeros};
 use gp_base::{LockNo, Name, Nums, Seq};
 use std::alloc::{AllocError, Global};
 use std::mem;
-use task_ast::{Atom, Env, Expr, Next, Param, Program, Stmt, SyncOp, TaskText, What, eval_d};
+use task_ast::{Atom, Env, Expr, Next, Param, Program, Stmt, SyncOp, TaskText, What};
 
 /// A thread at work: its task, the statements left, its control variables under which expressions are read, and its
 /// data.
@@ -72,8 +71,9 @@ fn number(k: usize) -> Result<u32, AllocError>
 }
 
 // The values of a fork's control arguments, or `None` where one has none.
-fn control_values(
+fn control_values<R: Reckon>(
     alloc: Global,
+    reckon: &mut R,
     params: &[Param],
     es: &[Expr],
     env: &Env,
@@ -86,7 +86,7 @@ fn control_values(
             return Ok(Some(values));
         };
         if let Param::Ctl(_) = param {
-            match eval_d(e, env) {
+            match reckon.of_control(e, env) {
                 Some(v) => values.push(v)?,
                 None => return Ok(None),
             }
@@ -116,7 +116,15 @@ fn data_fits(params: &[Param], es: &[Expr], env: &Env) -> bool
 }
 
 // The data arguments of a fork go into the registers of the child.
-fn give(params: &[Param], es: &[Expr], given: &[Name], names: &[Name], env: &Env, data: &mut Data)
+fn give<R: Reckon>(
+    reckon: &mut R,
+    params: &[Param],
+    es: &[Expr],
+    given: &[Name],
+    names: &[Name],
+    env: &Env,
+    data: &mut Data,
+)
     ensures { (joined : ℤ) (s : Setting) (actions : List Action) → data_arguments s given.now names.now params.now (plain_exprs es.now) env.now ≡ Some actions → data.new ≡ all_worked joined actions data.old }
 {
     for (k, param) in params.iter().enumerate() {
@@ -125,7 +133,7 @@ fn give(params: &[Param], es: &[Expr], given: &[Name], names: &[Name], env: &Env
         };
         match param {
             Param::Reg(x) => {
-                if let Some(v) = data_value(e, names, env, data.registers.as_slice()) {
+                if let Some(v) = reckon.of_data(e, names, env, data.registers.as_slice()) {
                     set_number(&mut data.child, register_number(given, x), v);
                 }
             }
@@ -136,11 +144,18 @@ fn give(params: &[Param], es: &[Expr], given: &[Name], names: &[Name], env: &Env
 
 impl<'a> Walk<'a> {
     // A statement that sets a control variable.
-    fn set_control(&mut self, alloc: Global, x: &Name, e: &Expr, line: u32) -> Went<'a>
+    fn set_control<R: Reckon>(
+        &mut self,
+        alloc: Global,
+        reckon: &mut R,
+        x: &Name,
+        e: &Expr,
+        line: u32,
+    ) -> Went<'a>
         requires clean { self.old.env.regs ≡ [] }
         ensures { Stepped (step_at (setting_of self.old) line (plain.SetCtl x.now (plain_expr e.now)) (rest_of self.old.left) (point_of self.old)) result self.old self.new }
     {
-        match eval_d(e, &self.env) {
+        match reckon.of_control(e, &self.env) {
             None => fault(line),
             Some(v) => {
                 let names = mem::replace(&mut self.env.names, Seq::new(alloc));
@@ -152,12 +167,12 @@ impl<'a> Walk<'a> {
     }
 
     // A loop.
-    fn turn(&mut self, e: &Expr, body: &'a [Stmt], line: u32) -> Went<'a>
+    fn turn<R: Reckon>(&mut self, reckon: &mut R, e: &Expr, body: &'a [Stmt], line: u32) -> Went<'a>
         requires clean { self.old.env.regs ≡ [] }
         requires first { left_of self.old.left ≡ plain.At line (plain.While (plain_expr e.now) (plain_block body.now)) ∷ rest_of self.old.left }
         ensures { Stepped (step_at (setting_of self.old) line (plain.While (plain_expr e.now) (plain_block body.now)) (rest_of self.old.left) (point_of self.old)) result self.old self.new }
     {
-        match eval_d(e, &self.env) {
+        match reckon.of_control(e, &self.env) {
             None => fault(line),
             Some(v) => {
                 if is_zero(v) {
@@ -171,8 +186,9 @@ impl<'a> Walk<'a> {
     }
 
     // A choice.
-    fn choose(
+    fn choose<R: Reckon>(
         &mut self,
+        reckon: &mut R,
         e: &Expr,
         first: &'a [Stmt],
         second: &'a [Stmt],
@@ -181,7 +197,7 @@ impl<'a> Walk<'a> {
         requires clean { self.old.env.regs ≡ [] }
         ensures { IfOk result (λ went. Stepped (step_at (setting_of self.old) line (plain.If (plain_expr e.now) (plain_block first.now) (plain_block second.now)) (rest_of self.old.left) (point_of self.old)) went self.old self.new) }
     {
-        match eval_d(e, &self.env) {
+        match reckon.of_control(e, &self.env) {
             None => Ok(fault(line)),
             Some(v) => {
                 self.left.pass();
@@ -205,7 +221,7 @@ impl<'a> Walk<'a> {
             return Ok(fault(line));
         };
         let params = self.program.tasks.as_slice()[k].params.as_slice();
-        let Some(args) = control_values(alloc, params, es, &self.env)? else {
+        let Some(args) = control_values(alloc, &mut Plainly, params, es, &self.env)? else {
             return Ok(fault(line));
         };
         if data_fits(params, es, &self.env) {
@@ -253,7 +269,13 @@ impl<'a> Walk<'a> {
     }
 
     // A data statement.
-    fn act(&mut self, alloc: Global, what: &What, line: u32) -> Result<Went<'a>, AllocError>
+    fn act<R: Reckon>(
+        &mut self,
+        alloc: Global,
+        reckon: &mut R,
+        what: &What,
+        line: u32,
+    ) -> Result<Went<'a>, AllocError>
         requires clean { self.old.env.regs ≡ [] }
         requires records { cells_in (records_of self.old.program.now.heads) ≤ 65536 }
         requires registers { self.old.registers.now ≡ registers_of (plain_task self.old.task.now) }
@@ -264,6 +286,7 @@ impl<'a> Walk<'a> {
             note(what, self.program, &self.env, &mut self.data.named)?;
             perform(
                 alloc,
+                reckon,
                 what,
                 self.program,
                 self.registers,
@@ -278,7 +301,7 @@ impl<'a> Walk<'a> {
     }
 
     // One control step. A loop turn is only found.
-    fn step(&mut self, alloc: Global) -> Result<Went<'a>, AllocError>
+    fn step<R: Reckon>(&mut self, alloc: Global, reckon: &mut R) -> Result<Went<'a>, AllocError>
         requires locks { cells_in (locks_of self.old.program.now.heads) ≤ 65536 }
         requires records { cells_in (records_of self.old.program.now.heads) ≤ 65536 }
         requires registers { self.old.registers.now ≡ registers_of (plain_task self.old.task.now) }
@@ -289,10 +312,17 @@ impl<'a> Walk<'a> {
             return Ok(stop(SyncOp::End, 0));
         };
         let line = s.line;
+        reckon.at(line);
         match &s.what {
-            What::SetCtl(x, e) => Ok(self.set_control(alloc, x, e, line)),
-            What::While(e, body) => Ok(self.turn(e, body.as_slice(), line)),
-            What::If(e, first, second) => self.choose(e, first.as_slice(), second.as_slice(), line),
+            What::SetCtl(x, e) => Ok(self.set_control(alloc, reckon, x, e, line)),
+            What::While(e, body) => Ok(self.turn(reckon, e, body.as_slice(), line)),
+            What::If(e, first, second) => self.choose(
+                reckon,
+                e,
+                first.as_slice(),
+                second.as_slice(),
+                line,
+            ),
             What::Lock(a, i) => match self.lock_at(a, i) {
                 Some(lock) => Ok(stop(SyncOp::Lock(lock), line)),
                 None => Ok(fault(line)),
@@ -302,22 +332,22 @@ impl<'a> Walk<'a> {
                 None => Ok(fault(line)),
             },
             What::Fork(t, es, _) => self.fork(alloc, t, es.as_slice(), line),
-            What::Join(e, _) => match eval_d(e, &self.env) {
+            What::Join(e, _) => match reckon.of_control(e, &self.env) {
                 Some(h) => Ok(stop(SyncOp::Join(h), line)),
                 None => Ok(fault(line)),
             },
             What::Barrier(b) => self.barrier(b, line),
             What::Settle(x, c) => self.settle(x, c, line),
-            What::SetReg(_, _) => self.act(alloc, &s.what, line),
-            What::Read(_, _, _) => self.act(alloc, &s.what, line),
-            What::Write(_, _, _) => self.act(alloc, &s.what, line),
-            What::Print(_) => self.act(alloc, &s.what, line),
-            What::When(_, _, _) => self.act(alloc, &s.what, line),
+            What::SetReg(_, _) => self.act(alloc, reckon, &s.what, line),
+            What::Read(_, _, _) => self.act(alloc, reckon, &s.what, line),
+            What::Write(_, _, _) => self.act(alloc, reckon, &s.what, line),
+            What::Print(_) => self.act(alloc, reckon, &s.what, line),
+            What::When(_, _, _) => self.act(alloc, reckon, &s.what, line),
         }
     }
 
     // Steps up to a loop turn or a stop.
-    fn stretch(&mut self, alloc: Global) -> Result<Went<'a>, AllocError>
+    fn stretch<R: Reckon>(&mut self, alloc: Global, reckon: &mut R) -> Result<Went<'a>, AllocError>
         requires locks { cells_in (locks_of self.old.program.now.heads) ≤ 65536 }
         requires records { cells_in (records_of self.old.program.now.heads) ≤ 65536 }
         requires registers { self.old.registers.now ≡ registers_of (plain_task self.old.task.now) }
@@ -326,7 +356,7 @@ impl<'a> Walk<'a> {
         ensures halts { IfOk result (λ went. Halted (step (setting_of self.new) (point_of self.new)) went self.new) }
     {
         loop {
-            match self.step(alloc)? {
+            match self.step(alloc, reckon)? {
                 Went::On => {}
                 went => return Ok(went),
             }
@@ -334,7 +364,12 @@ impl<'a> Walk<'a> {
     }
 
     /// Steps up to a stop, with at most so many loop turns.
-    pub fn run(&mut self, alloc: Global, turns: u64) -> Result<Next, AllocError>
+    pub fn run<R: Reckon>(
+        &mut self,
+        alloc: Global,
+        reckon: &mut R,
+        turns: u64,
+    ) -> Result<Next, AllocError>
         requires locks { cells_in (locks_of self.old.program.now.heads) ≤ 65536 }
         requires records { cells_in (records_of self.old.program.now.heads) ≤ 65536 }
         requires registers { self.old.registers.now ≡ registers_of (plain_task self.old.task.now) }
@@ -343,7 +378,7 @@ impl<'a> Walk<'a> {
     {
         let mut left = turns;
         loop {
-            match self.stretch(alloc)? {
+            match self.stretch(alloc, reckon)? {
                 Went::Turned(body) => {
                     if left == 0 {
                         return Ok(Next {
@@ -361,7 +396,13 @@ impl<'a> Walk<'a> {
     }
 
     // The registers of a fork's child: each data argument stands in the register of its parameter.
-    fn give_registers(&mut self, alloc: Global, t: &Name, es: &[Expr]) -> Result<(), AllocError>
+    fn give_registers<R: Reckon>(
+        &mut self,
+        alloc: Global,
+        reckon: &mut R,
+        t: &Name,
+        es: &[Expr],
+    ) -> Result<(), AllocError>
         requires registers { self.old.registers.now ≡ registers_of (plain_task self.old.task.now) }
         requires clean { self.old.env.regs ≡ [] }
         ensures { OnOk result (Gives (fork_named (setting_of self.old) t.now (plain_exprs es.now) (point_of self.old)) self.old self.new) }
@@ -371,7 +412,7 @@ impl<'a> Walk<'a> {
         };
         let task = &self.program.tasks.as_slice()[k];
         let params = task.params.as_slice();
-        let Some(_values) = control_values(alloc, params, es, &self.env)? else {
+        let Some(_values) = control_values(alloc, reckon, params, es, &self.env)? else {
             return Ok(());
         };
         if !data_fits(params, es, &self.env) {
@@ -380,6 +421,7 @@ impl<'a> Walk<'a> {
         let given = register_names(alloc, task)?;
         self.data.child = zeros(alloc, given.len())?;
         give(
+            reckon,
             params,
             es,
             given.as_slice(),
@@ -426,9 +468,10 @@ impl<'a> Walk<'a> {
 
     /// Performs the synchronisation at which the thread stands: a fork's variable gets the child's number and its data
     /// arguments stand in the child's registers; a join's variable gets the value that the joined thread left.
-    pub fn begin(
+    pub fn begin<R: Reckon>(
         &mut self,
         alloc: Global,
+        reckon: &mut R,
         child: Option<usize>,
         joined: i64,
     ) -> Result<(), AllocError>
@@ -441,7 +484,8 @@ impl<'a> Walk<'a> {
         };
         match &s.what {
             What::Fork(t, es, into) => {
-                self.give_registers(alloc, t, es.as_slice())?;
+                reckon.at(s.line);
+                self.give_registers(alloc, reckon, t, es.as_slice())?;
                 self.begin_fork(alloc, into, child)?;
                 Ok(())
             }

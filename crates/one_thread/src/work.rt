@@ -7,6 +7,7 @@ ghost use Rattle.one_thread.specs.inner.Walking.{setting_of, point_of, Begun};
 ghost use Rattle.one_thread.specs.inner.Subthreads.{at_work, RanWith};
 
 use crate::names::Names;
+use crate::reckoning::Reckon;
 use crate::walk::Walk;
 use gp_base::{Feed, Lines, Name, Nums, Seq};
 use std::alloc::{AllocError, Global};
@@ -48,8 +49,9 @@ fn hand_out(alloc: Global, walk: &mut Walk, shared: &mut Shared)
 }
 
 // The synchronisation that a subthread begins with.
-fn start(
+fn start<R: Reckon>(
     alloc: Global,
+    reckon: &mut R,
     walk: &mut Walk,
     begins: &SyncOp,
     child: Option<usize>,
@@ -62,12 +64,13 @@ fn start(
     if begins.is_start() {
         return Ok(());
     }
-    walk.begin(alloc, child, joined)
+    walk.begin(alloc, reckon, child, joined)
 }
 
 /// Runs a subthread of a thread: the synchronisation that it begins with, then its body.
-pub fn work(
+pub fn work<R: Reckon>(
     alloc: Global,
+    reckon: &mut R,
     walk: &mut Walk,
     shared: &mut Shared,
     begins: &SyncOp,
@@ -82,8 +85,8 @@ pub fn work(
     ensures { IfOk result (λ done. RanWith walk.old shared.old begins.now child joined turns done walk.new shared.new) }
 {
     hand_out(alloc, walk, shared);
-    start(alloc, walk, begins, child, joined)?;
-    let next = walk.run(alloc, turns)?;
+    start(alloc, reckon, walk, begins, child, joined)?;
+    let next = walk.run(alloc, reckon, turns)?;
     mem::swap(&mut walk.data.cells, &mut shared.cells);
     mem::swap(&mut walk.env.feeds, &mut shared.feeds);
     let child = mem::replace(&mut walk.data.child, Seq::new(alloc));

@@ -2,4 +2,5 @@
 pub mod Links
 pub mod Order
 pub mod Timeline
+pub mod Waits
 pub mod Why

@@ -10,8 +10,11 @@ mod names;
 mod order;
 mod timeline;
 mod told;
+mod waits;
 mod why;
 
+pub use names::{push_barrier, push_between, push_labelled, push_lock, push_number, push_record};
 pub use order::order_text;
 pub use timeline::timeline_text;
+pub use waits::push_waits;
 pub use why::why_text;

@@ -13,7 +13,7 @@ use Rattle.one_thread.proofs.Fitting.{work-in-order, said, unsaid, first_works, 
 use Rattle.one_thread.proofs.data.+performing.Goals as goal
 
 pub perform_all-loop-stmt-preserved : goal.perform_all-loop-stmt-preserved
-perform_all-loop-stmt-preserved t c = λ joined.
+perform_all-loop-stmt-preserved g t c = λ joined.
     let s = setting_in c.args.program.now c.args.env.now in
     let names = c.args.names.now in
     let env = c.args.env.now in
@@ -28,7 +28,7 @@ perform_all-loop-stmt-preserved t c = λ joined.
     (arm s names behind env) c.loop-stmt.data c.perform.new.data c.args.data.now (c.in_ok-perform.ensures joined) here
 
 pub perform_all-returns : goal.perform_all-returns
-perform_all-returns t c = λ joined a is.
+perform_all-returns g t c = λ joined a is.
     let s = setting_in c.args.program.now c.args.env.now in
     let names = c.args.names.now in
     let env = c.args.env.now in
@@ -40,7 +40,7 @@ perform_all-returns t c = λ joined a is.
     (c.loop-stmt.invariant joined)) a is
 
 pub perform-returns-in_ok-push-in-Print : goal.perform-returns-in_ok-push-in-Print
-perform-returns-in_ok-push-in-Print t c = λ joined a is.
+perform-returns-in_ok-push-in-Print g t c = λ joined a is.
     let s = setting_in c.args.program.now c.args.env.now in
     let line = rw (c.in-Some-2.is, c.as_slice-in-Print.ensures, c.as_slice-in-Print-2.ensures) at c.in_ok-line-in-Print.ensures in
     ap (λ l. record c.args.data.now { lines = l }) c.in_ok-push-in-Print.ensures.ok
@@ -49,37 +49,37 @@ perform-returns-in_ok-push-in-Print t c = λ joined a is.
     (sym (ap (λ w. action s c.args.names.now w c.args.env.now) (ap plain_what c.in-Print.is ∙ what_Print c.in-Print.es)) ∙ is)
 
 pub perform-returns-in_default-2 : goal.perform-returns-in_default-2
-perform-returns-in_default-2 t c = λ joined a is.
+perform-returns-in_default-2 g t c = λ joined a is.
     let s = setting_in c.args.program.now c.args.env.now in
     let line = rw (c.in_default-2.is, c.as_slice-in-Print.ensures, c.as_slice-in-Print-2.ensures) at c.in_ok-line-in-Print.ensures in
     unsaid (all_of (map (λ e. term c.args.names.now e c.args.env.now) (plain_exprs c.in-Print.es))) c.args.data.now
     c.args.data.now line joined a
     (sym (ap (λ w. action s c.args.names.now w c.args.env.now) (ap plain_what c.in-Print.is ∙ what_Print c.in-Print.es)) ∙ is)
 
-pub perform-returns-in_ok-perform_all-in-Some-data_value-2 : goal.perform-returns-in_ok-perform_all-in-Some-data_value-2
-perform-returns-in_ok-perform_all-in-Some-data_value-2 t c = λ joined act is.
+pub perform-returns-in_ok-perform_all-in-Some-of_data-2 : goal.perform-returns-in_ok-perform_all-in-Some-of_data-2
+perform-returns-in_ok-perform_all-in-Some-of_data-2 g t c = λ joined act is.
     let s = setting_in c.args.program.now c.args.env.now in
     let names = c.args.names.now in
     let env = c.args.env.now in
-    let v = c.in-Some-data_value-2.v in
+    let v = c.in-Some-of_data-2.v in
     let fits : SFits w64 v = search rules in
     let test = rw (to_z-of_z w64 v fits) at c.if-is_zero.ensures in
-    let value = rw c.as_slice-in-When.ensures at c.in-Some-data_value-2.ensures in
-    let does = rw c.as_slice-then-is_zero.ensures at c.in_ok-perform_all-in-Some-data_value-2.ensures in
+    let value = rw c.as_slice-in-When.ensures at c.in-Some-of_data-2.ensures in
+    let does = rw c.as_slice-then-is_zero.ensures at c.in_ok-perform_all-in-Some-of_data-2.ensures in
     second_works (term names (plain_expr c.in-When.e) env) (arm s names (plain_block c.in-When.first) env)
     (arm s names (plain_block c.in-When.second) env) c.args.data.now c.perform_all.new.data v (sym test) (sym value) does joined act
     (sym (ap (λ w. action s names w env) (ap plain_what c.in-When.is ∙ what_When c.in-When.e c.in-When.first c.in-When.second)) ∙ is)
 
-pub perform-returns-in_ok-perform_all-in-Some-data_value-2-2 : goal.perform-returns-in_ok-perform_all-in-Some-data_value-2-2
-perform-returns-in_ok-perform_all-in-Some-data_value-2-2 t c = λ joined act is.
+pub perform-returns-in_ok-perform_all-in-Some-of_data-2-2 : goal.perform-returns-in_ok-perform_all-in-Some-of_data-2-2
+perform-returns-in_ok-perform_all-in-Some-of_data-2-2 g t c = λ joined act is.
     let s = setting_in c.args.program.now c.args.env.now in
     let names = c.args.names.now in
     let env = c.args.env.now in
-    let v = c.in-Some-data_value-2.v in
+    let v = c.in-Some-of_data-2.v in
     let fits : SFits w64 v = search rules in
     let test = rw (to_z-of_z w64 v fits) at c.if-is_zero.ensures in
-    let value = rw c.as_slice-in-When.ensures at c.in-Some-data_value-2.ensures in
-    let does = rw c.as_slice-else-is_zero.ensures at c.in_ok-perform_all-in-Some-data_value-2-2.ensures in
+    let value = rw c.as_slice-in-When.ensures at c.in-Some-of_data-2.ensures in
+    let does = rw c.as_slice-else-is_zero.ensures at c.in_ok-perform_all-in-Some-of_data-2-2.ensures in
     first_works (term names (plain_expr c.in-When.e) env) (arm s names (plain_block c.in-When.first) env)
     (arm s names (plain_block c.in-When.second) env) c.args.data.now c.perform_all-else-is_zero.new.data v (sym test)
     (sym value) does joined act

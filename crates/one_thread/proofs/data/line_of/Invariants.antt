@@ -6,7 +6,7 @@ use Rattle.task_ast.specs.View.{plain_exprs}
 use Rattle.one_thread.proofs.data.line_of.Given as goal
 
 abbrev pub invariant-loop-e : goal.invariant-loop-e
-invariant-loop-e l =
+invariant-loop-e g l =
     option_map (λ vs. l.line ++ vs) (option_map (map (λ t. term_value t l.registers))
     (all_of (map (λ e. term l.names e l.env) (plain_exprs (drop l.e-index l.es)))))
     ≡ option_map (map (λ t. term_value t l.registers)) (all_of (map (λ e. term l.names e l.env) (plain_exprs l.es)))

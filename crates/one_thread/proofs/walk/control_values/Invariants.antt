@@ -5,4 +5,4 @@ use Rattle.one_thread.proofs.Forks.{controls_from}
 use Rattle.one_thread.proofs.walk.control_values.Given as goal
 
 abbrev pub invariant-loop-k : goal.invariant-loop-k
-invariant-loop-k l = controls_from l.params l.es l.env l.k l.values ≡ control_arguments l.params (plain_exprs l.es) l.env
+invariant-loop-k g l = controls_from l.params l.es l.env l.k l.values ≡ control_arguments l.params (plain_exprs l.es) l.env

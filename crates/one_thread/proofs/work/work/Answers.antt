@@ -6,7 +6,7 @@ use Rattle.one_thread.proofs.SubthreadRuns.{ran_with}
 use Rattle.one_thread.proofs.work.work.Goals as goal
 
 pub returns : goal.returns
-returns c =
+returns g c =
     let fits : SFits w64 c.args.joined = search rules in
     let started = rw (to_z-of_z w64 c.args.joined fits) at c.in_ok-start.ensures in
     let begun =

@@ -5,7 +5,7 @@ use Rattle.one_thread.proofs.Running.{issue-inside, issue-stays, issue-goes}
 use Rattle.one_thread.proofs.threads.Run.next.Goals as goal
 
 pub step-requires-clause-exists : goal.step-requires-clause-exists
-step-requires-clause-exists c =
+step-requires-clause-exists g c =
     let is : next_issue (table_of c.args.self.now.table)
     ≡ Issue c.in-Issue.t c.in-Issue.begins c.in-Issue.child (table_of c.next_issue.new.self) =
     c.in_ok-t.ensures.turn ∙ ap (λ turn. gave turn (table_of c.next_issue.new.self)) c.in-Issue.is in
@@ -13,14 +13,14 @@ step-requires-clause-exists c =
     (issue-inside c.args.self.now.table c.next_issue.new.self c.in-Issue.t c.in-Issue.begins c.in-Issue.child is)
 
 pub step-requires-clause-seated : goal.step-requires-clause-seated
-step-requires-clause-seated c =
+step-requires-clause-seated g c =
     let is : next_issue (table_of c.args.self.now.table)
     ≡ Issue c.in-Issue.t c.in-Issue.begins c.in-Issue.child (table_of c.next_issue.new.self) =
     c.in_ok-t.ensures.turn ∙ ap (λ turn. gave turn (table_of c.next_issue.new.self)) c.in-Issue.is in
     issue-stays c.args.self.now.table c.next_issue.new.self c.in-Issue.t c.in-Issue.begins c.in-Issue.child is
 
 pub returns-in_ok-step-in-Issue : goal.returns-in_ok-step-in-Issue
-returns-in_ok-step-in-Issue c = λ inputs limits plain holds.
+returns-in_ok-step-in-Issue g c = λ inputs limits plain holds.
     let is : next_issue (table_of c.args.self.now.table)
     ≡ Issue c.in-Issue.t c.in-Issue.begins c.in-Issue.child (table_of c.next_issue.new.self) =
     c.in_ok-t.ensures.turn ∙ ap (λ turn. gave turn (table_of c.next_issue.new.self)) c.in-Issue.is in

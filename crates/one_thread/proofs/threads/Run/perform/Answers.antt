@@ -10,7 +10,7 @@ use Rattle.task_ast.proofs.Looks.{get-at}
 use Rattle.one_thread.proofs.threads.Run.perform.Goals as goal
 
 pub work-requires-clause-locks : goal.work-requires-clause-locks
-work-requires-clause-locks c =
+work-requires-clause-locks g c =
     let here =
     c.requires.sound.each c.args.t c.index_mut-walk.result.now
     (get-at c.args.self.now.threads.items c.args.t c.index_mut-walk.result.now c.requires.exists c.index_mut-walk.ensures.value) in
@@ -18,7 +18,7 @@ work-requires-clause-locks c =
     (subst (λ code. cells_in (locks_of code.heads) ≤ 65536) (sym here.program) c.requires.small.locks)
 
 pub work-requires-clause-records : goal.work-requires-clause-records
-work-requires-clause-records c =
+work-requires-clause-records g c =
     let here =
     c.requires.sound.each c.args.t c.index_mut-walk.result.now
     (get-at c.args.self.now.threads.items c.args.t c.index_mut-walk.result.now c.requires.exists c.index_mut-walk.ensures.value) in
@@ -26,20 +26,20 @@ work-requires-clause-records c =
     (subst (λ code. cells_in (records_of code.heads) ≤ 65536) (sym here.program) c.requires.small.records)
 
 pub work-requires-clause-registers : goal.work-requires-clause-registers
-work-requires-clause-registers c =
+work-requires-clause-registers g c =
     subst (λ w. w.registers.now ≡ registers_of (plain_task w.task.now)) (sym c.settle.ensures)
     (c.requires.sound.each c.args.t c.index_mut-walk.result.now
     (get-at c.args.self.now.threads.items c.args.t c.index_mut-walk.result.now c.requires.exists
     c.index_mut-walk.ensures.value)).registers
 
 pub work-requires-clause-clean : goal.work-requires-clause-clean
-work-requires-clause-clean c =
+work-requires-clause-clean g c =
     subst (λ w. w.env.regs ≡ []) (sym c.settle.ensures)
     (c.requires.sound.each c.args.t c.index_mut-walk.result.now
     (get-at c.args.self.now.threads.items c.args.t c.index_mut-walk.result.now c.requires.exists c.index_mut-walk.ensures.value)).clean
 
 pub returns : goal.returns
-returns c =
+returns g c =
     let fits : SFits w64 c.joined_value-joined.result = search rules in
     let ran =
     rw (to_z-of_z w64 c.joined_value-joined.result fits, c.joined_value-joined.ensures, c.deref.ensures.value, c.settle.ensures)

@@ -12,7 +12,7 @@ use Rattle.one_thread.proofs.Steps.{acted, unacted}
 use Rattle.one_thread.proofs.walk.Walk.act.Goals as goal
 
 pub returns-in_ok-perform : goal.returns-in_ok-perform
-returns-in_ok-perform c =
+returns-in_ok-perform g c =
     let walk = c.args.self.now in
     let names = registers_of (plain_task walk.task.now) in
     let by : List Name → Option Action =
@@ -25,7 +25,7 @@ returns-in_ok-perform c =
     (record { at = ap (λ l. going (point_of walk) l) c.pass.ensures; keeps = search (rules, c.requires.clean) })
 
 pub returns-else-fits : goal.returns-else-fits
-returns-else-fits c =
+returns-else-fits g c =
     let walk = c.args.self.now in
     let names = registers_of (plain_task walk.task.now) in
     let stopped = unacted walk c.args.line (plain_what c.args.what.now) c.requires.clean c.requires.data (sym (c.if-fits.ensures names)) in

@@ -8,7 +8,7 @@ use Rattle.one_thread.proofs.Beginning.{plainly_begun, fork_begun, begun_first}
 use Rattle.one_thread.proofs.walk.Walk.begin.Goals as goal
 
 pub returns-in-SetCtl : goal.returns-in-SetCtl
-returns-in-SetCtl c =
+returns-in-SetCtl g c =
     begun_first c.args.self.now c.first.new.self _ c.in-Some.s.now
     (plain.SetCtl c.in-SetCtl.field-0 (plain_expr c.in-SetCtl.field-1)) c.args.child c.args.joined c.in-Some.ensures.same
     c.in-Some.ensures.one (ap plain_what c.in-SetCtl.is ∙ what_SetCtl c.in-SetCtl.field-0 c.in-SetCtl.field-1)
@@ -16,7 +16,7 @@ returns-in-SetCtl c =
     (plain.SetCtl c.in-SetCtl.field-0 (plain_expr c.in-SetCtl.field-1)) c.args.child c.args.joined c.requires.clean refl c.pass.ensures)
 
 pub returns-in-While : goal.returns-in-While
-returns-in-While c =
+returns-in-While g c =
     begun_first c.args.self.now c.first.new.self _ c.in-Some.s.now
     (plain.While (plain_expr c.in-While.field-0) (plain_block c.in-While.field-1)) c.args.child c.args.joined c.in-Some.ensures.same
     c.in-Some.ensures.one (ap plain_what c.in-While.is ∙ what_While c.in-While.field-0 c.in-While.field-1)
@@ -25,7 +25,7 @@ returns-in-While c =
     c.pass-in-While.ensures)
 
 pub returns-in-If : goal.returns-in-If
-returns-in-If c =
+returns-in-If g c =
     begun_first c.args.self.now c.first.new.self _ c.in-Some.s.now
     (plain.If (plain_expr c.in-If.field-0) (plain_block c.in-If.field-1) (plain_block c.in-If.field-2)) c.args.child c.args.joined
     c.in-Some.ensures.same c.in-Some.ensures.one (ap plain_what c.in-If.is ∙ what_If c.in-If.field-0 c.in-If.field-1 c.in-If.field-2)
@@ -34,7 +34,7 @@ returns-in-If c =
     c.requires.clean refl c.pass-in-If.ensures)
 
 pub returns-in-Lock : goal.returns-in-Lock
-returns-in-Lock c =
+returns-in-Lock g c =
     begun_first c.args.self.now c.first.new.self _ c.in-Some.s.now
     (plain.Lock c.in-Lock.field-0 c.in-Lock.field-1) c.args.child c.args.joined c.in-Some.ensures.same c.in-Some.ensures.one
     (ap plain_what c.in-Lock.is ∙ what_Lock c.in-Lock.field-0 c.in-Lock.field-1)
@@ -42,7 +42,7 @@ returns-in-Lock c =
     (plain.Lock c.in-Lock.field-0 c.in-Lock.field-1) c.args.child c.args.joined c.requires.clean refl c.pass-in-Lock.ensures)
 
 pub returns-in-Unlock : goal.returns-in-Unlock
-returns-in-Unlock c =
+returns-in-Unlock g c =
     begun_first c.args.self.now c.first.new.self _ c.in-Some.s.now
     (plain.Unlock c.in-Unlock.field-0 c.in-Unlock.field-1) c.args.child c.args.joined c.in-Some.ensures.same c.in-Some.ensures.one
     (ap plain_what c.in-Unlock.is ∙ what_Unlock c.in-Unlock.field-0 c.in-Unlock.field-1)
@@ -50,7 +50,7 @@ returns-in-Unlock c =
     (plain.Unlock c.in-Unlock.field-0 c.in-Unlock.field-1) c.args.child c.args.joined c.requires.clean refl c.pass-in-Unlock.ensures)
 
 pub returns-in-Barrier : goal.returns-in-Barrier
-returns-in-Barrier c =
+returns-in-Barrier g c =
     begun_first c.args.self.now c.first.new.self _ c.in-Some.s.now
     (plain.Barrier c.in-Barrier.field-0) c.args.child c.args.joined c.in-Some.ensures.same c.in-Some.ensures.one
     (ap plain_what c.in-Barrier.is ∙ what_Barrier c.in-Barrier.field-0)
@@ -58,7 +58,7 @@ returns-in-Barrier c =
     (plain.Barrier c.in-Barrier.field-0) c.args.child c.args.joined c.requires.clean refl c.pass-in-Barrier.ensures)
 
 pub returns-in-Settle : goal.returns-in-Settle
-returns-in-Settle c =
+returns-in-Settle g c =
     begun_first c.args.self.now c.first.new.self _ c.in-Some.s.now
     (plain.Settle c.in-Settle.field-0 c.in-Settle.field-1) c.args.child c.args.joined c.in-Some.ensures.same c.in-Some.ensures.one
     (ap plain_what c.in-Settle.is ∙ what_Settle c.in-Settle.field-0 c.in-Settle.field-1)
@@ -66,7 +66,7 @@ returns-in-Settle c =
     (plain.Settle c.in-Settle.field-0 c.in-Settle.field-1) c.args.child c.args.joined c.requires.clean refl c.pass-in-Settle.ensures)
 
 pub returns-in-SetReg : goal.returns-in-SetReg
-returns-in-SetReg c =
+returns-in-SetReg g c =
     begun_first c.args.self.now c.first.new.self _ c.in-Some.s.now
     (plain.SetReg c.in-SetReg.field-0 (plain_expr c.in-SetReg.field-1)) c.args.child c.args.joined c.in-Some.ensures.same
     c.in-Some.ensures.one (ap plain_what c.in-SetReg.is ∙ what_SetReg c.in-SetReg.field-0 c.in-SetReg.field-1)
@@ -75,7 +75,7 @@ returns-in-SetReg c =
     c.pass-in-SetReg.ensures)
 
 pub returns-in-Read : goal.returns-in-Read
-returns-in-Read c =
+returns-in-Read g c =
     begun_first c.args.self.now c.first.new.self _ c.in-Some.s.now
     (plain.Read c.in-Read.field-0 c.in-Read.field-1 c.in-Read.field-2) c.args.child c.args.joined c.in-Some.ensures.same
     c.in-Some.ensures.one (ap plain_what c.in-Read.is ∙ what_Read c.in-Read.field-0 c.in-Read.field-1 c.in-Read.field-2)
@@ -84,7 +84,7 @@ returns-in-Read c =
     refl c.pass-in-Read.ensures)
 
 pub returns-in-Write : goal.returns-in-Write
-returns-in-Write c =
+returns-in-Write g c =
     begun_first c.args.self.now c.first.new.self _ c.in-Some.s.now
     (plain.Write c.in-Write.field-0 c.in-Write.field-1 (plain_expr c.in-Write.field-2)) c.args.child c.args.joined
     c.in-Some.ensures.same c.in-Some.ensures.one
@@ -94,7 +94,7 @@ returns-in-Write c =
     c.pass-in-Write.ensures)
 
 pub returns-in-Print : goal.returns-in-Print
-returns-in-Print c =
+returns-in-Print g c =
     begun_first c.args.self.now c.first.new.self _ c.in-Some.s.now
     (plain.Print (plain_exprs c.in-Print.field-0)) c.args.child c.args.joined c.in-Some.ensures.same c.in-Some.ensures.one
     (ap plain_what c.in-Print.is ∙ what_Print c.in-Print.field-0)
@@ -102,7 +102,7 @@ returns-in-Print c =
     (plain.Print (plain_exprs c.in-Print.field-0)) c.args.child c.args.joined c.requires.clean refl c.pass-in-Print.ensures)
 
 pub returns-in-When : goal.returns-in-When
-returns-in-When c =
+returns-in-When g c =
     begun_first c.args.self.now c.first.new.self _ c.in-Some.s.now
     (plain.When (plain_expr c.in-When.field-0) (plain_block c.in-When.field-1) (plain_block c.in-When.field-2)) c.args.child
     c.args.joined c.in-Some.ensures.same c.in-Some.ensures.one
@@ -112,7 +112,7 @@ returns-in-When c =
     c.args.joined c.requires.clean refl c.pass-in-When.ensures)
 
 pub returns-in-Join : goal.returns-in-Join
-returns-in-Join c =
+returns-in-Join g c =
     let fits : SFits w64 c.args.joined = search rules in
     let begun = rw (to_z-of_z w64 c.args.joined fits) at c.begin_join.ensures in
     begun_first c.args.self.now c.first.new.self c.begin_join.new.self c.in-Some.s.now
@@ -121,7 +121,7 @@ returns-in-Join c =
     (begun c.args.child c.in-Some.s.now.line (plain_expr c.in-Join.field-0))
 
 pub returns-in_ok-begin_fork-in-Fork : goal.returns-in_ok-begin_fork-in-Fork
-returns-in_ok-begin_fork-in-Fork c =
+returns-in_ok-begin_fork-in-Fork g c =
     begun_first c.args.self.now c.first.new.self c.begin_fork.new.self c.in-Some.s.now
     (plain.Fork c.in-Fork.t (plain_exprs c.as_slice.result.now) c.in-Fork.into) c.args.child c.args.joined
     c.in-Some.ensures.same c.in-Some.ensures.one

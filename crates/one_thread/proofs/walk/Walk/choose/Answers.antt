@@ -5,7 +5,7 @@ use Rattle.one_thread.proofs.Steps.{first_taken, second_taken}
 use Rattle.one_thread.proofs.walk.Walk.choose.Goals as goal
 
 pub returns-in_ok-enter-in-Some : goal.returns-in_ok-enter-in-Some
-returns-in_ok-enter-in-Some c =
+returns-in_ok-enter-in-Some g c =
     let fits : SFits w64 c.in-Some.v = search rules in
     let test = rw (to_z-of_z w64 c.in-Some.v fits) at c.if-is_zero.ensures in
     second_taken c.args.self.now _ c.args.line (plain_expr c.args.e.now) c.args.first.now c.args.second.now c.in-Some.v c.requires.clean
@@ -14,7 +14,7 @@ returns-in_ok-enter-in-Some c =
     (record { at = refl; keeps = record { program = refl; task = refl; registers = refl; feeds = refl; clean = c.requires.clean } })
 
 pub returns-in_ok-enter-in-Some-2 : goal.returns-in_ok-enter-in-Some-2
-returns-in_ok-enter-in-Some-2 c =
+returns-in_ok-enter-in-Some-2 g c =
     let fits : SFits w64 c.in-Some.v = search rules in
     let test = rw (to_z-of_z w64 c.in-Some.v fits) at c.if-is_zero.ensures in
     first_taken c.args.self.now _ c.args.line (plain_expr c.args.e.now) c.args.first.now c.args.second.now c.in-Some.v c.requires.clean

@@ -9,13 +9,13 @@ use Rattle.one_thread.proofs.Forks.{named-is, unnamed-is, fork-untasked, fork-un
 use Rattle.one_thread.proofs.walk.Walk.give_registers.Goals as goal
 
 pub returns-in_default : goal.returns-in_default
-returns-in_default c =
+returns-in_default g c =
     let none : None ≡ position (λ task. is_name c.args.t.now task.name) c.args.self.now.program.now.tasks = search rules in
     gives-none c.args.self.now _ (fork-untasked c.args.self.now c.args.t.now (plain_exprs c.args.es.now)
     (unnamed-is c.args.t.now c.args.self.now.program.now none))
 
 pub returns-in_default-2 : goal.returns-in_default-2
-returns-in_default-2 c =
+returns-in_default-2 g c =
     let walk = c.args.self.now in
     let at : Some c.in-Some.k ≡ position (λ task. is_name c.args.t.now task.name) walk.program.now.tasks = search rules in
     let inside : c.in-Some.k < length walk.program.now.tasks = search rules in
@@ -28,7 +28,7 @@ returns-in_default-2 c =
     gives-none walk _ (fork-uncontrolled walk c.args.t.now (plain_exprs c.args.es.now) task c.requires.clean named none)
 
 pub returns-then-not-data_fits : goal.returns-then-not-data_fits
-returns-then-not-data_fits c =
+returns-then-not-data_fits g c =
     let walk = c.args.self.now in
     let at : Some c.in-Some.k ≡ position (λ task. is_name c.args.t.now task.name) walk.program.now.tasks = search rules in
     let inside : c.in-Some.k < length walk.program.now.tasks = search rules in
@@ -45,7 +45,7 @@ returns-then-not-data_fits c =
     gives-none walk _ (fork-undata walk c.args.t.now (plain_exprs c.args.es.now) task c.in-Some-2._values c.requires.clean named some fits)
 
 pub returns : goal.returns
-returns c =
+returns g c =
     let walk = c.args.self.now in
     let at : Some c.in-Some.k ≡ position (λ task. is_name c.args.t.now task.name) walk.program.now.tasks = search rules in
     let inside : c.in-Some.k < length walk.program.now.tasks = search rules in

@@ -15,44 +15,44 @@ use Rattle.one_thread.proofs.Walks.{with_left, at_first, at_first_ok, at_fork, s
 use Rattle.one_thread.proofs.walk.Walk.step.Goals as goal
 
 pub turn-requires-clause-first : goal.turn-requires-clause-first
-turn-requires-clause-first c =
+turn-requires-clause-first g c =
     c.in-Some.ensures.one ∙ ap (λ st. st ∷ rest_of c.first.new.self)
     (stmt_At c.in-Some.s.now ∙ ap (plain.At c.in-Some.s.now.line)
     (ap plain_what c.in-While.is ∙ what_While c.in-While.e c.in-While.body
     ∙ ap (λ b. plain.While (plain_expr c.in-While.e) (plain_block b)) (sym c.as_slice.ensures)))
 
 pub act-requires-clause-data : goal.act-requires-clause-data
-act-requires-clause-data c =
+act-requires-clause-data g c =
     subst (λ w. IsTrue (is_data w)) (sym (ap plain_what c.in-SetReg.is ∙ what_SetReg c.in-SetReg.field-0 c.in-SetReg.field-1)) refl
 
 pub act-requires-in-Read-clause-data : goal.act-requires-in-Read-clause-data
-act-requires-in-Read-clause-data c =
+act-requires-in-Read-clause-data g c =
     subst (λ w. IsTrue (is_data w)) (sym (ap plain_what c.in-Read.is ∙ what_Read c.in-Read.field-0 c.in-Read.field-1 c.in-Read.field-2))
     refl
 
 pub act-requires-in-Write-clause-data : goal.act-requires-in-Write-clause-data
-act-requires-in-Write-clause-data c =
+act-requires-in-Write-clause-data g c =
     subst (λ w. IsTrue (is_data w)) (sym (ap plain_what c.in-Write.is
     ∙ what_Write c.in-Write.field-0 c.in-Write.field-1 c.in-Write.field-2)) refl
 
 pub act-requires-in-Print-clause-data : goal.act-requires-in-Print-clause-data
-act-requires-in-Print-clause-data c =
+act-requires-in-Print-clause-data g c =
     subst (λ w. IsTrue (is_data w)) (sym (ap plain_what c.in-Print.is ∙ what_Print c.in-Print.field-0)) refl
 
 pub act-requires-in-When-clause-data : goal.act-requires-in-When-clause-data
-act-requires-in-When-clause-data c =
+act-requires-in-When-clause-data g c =
     subst (λ w. IsTrue (is_data w)) (sym (ap plain_what c.in-When.is ∙ what_When c.in-When.field-0 c.in-When.field-1 c.in-When.field-2))
     refl
 
 pub returns-in-SetCtl : goal.returns-in-SetCtl
-returns-in-SetCtl c =
+returns-in-SetCtl g c =
     at_first c.args.self.now c.first.new.self c.set_control.new.self c.in-Some.ensures.same c.in-Some.s.now
     (plain.SetCtl c.in-SetCtl.x (plain_expr c.in-SetCtl.e)) c.set_control.result c.in-Some.ensures.one
     (ap plain_what c.in-SetCtl.is ∙ what_SetCtl c.in-SetCtl.x c.in-SetCtl.e)
     c.set_control.ensures
 
 pub returns-in-While : goal.returns-in-While
-returns-in-While c =
+returns-in-While g c =
     at_first c.args.self.now c.first.new.self c.turn.new.self c.in-Some.ensures.same c.in-Some.s.now
     (plain.While (plain_expr c.in-While.e) (plain_block c.as_slice.result.now)) c.turn.result c.in-Some.ensures.one
     (ap plain_what c.in-While.is ∙ what_While c.in-While.e c.in-While.body
@@ -60,7 +60,7 @@ returns-in-While c =
     c.turn.ensures
 
 pub returns-in-If : goal.returns-in-If
-returns-in-If c =
+returns-in-If g c =
     at_first_ok c.args.self.now c.first.new.self c.choose.new.self c.in-Some.ensures.same c.in-Some.s.now
     (plain.If (plain_expr c.in-If.e) (plain_block c.as_slice-in-If.result.now) (plain_block c.as_slice-in-If-2.result.now))
     c.choose.result c.in-Some.ensures.one (ap plain_what c.in-If.is ∙ what_If c.in-If.e c.in-If.first c.in-If.second
@@ -70,7 +70,7 @@ returns-in-If c =
     c.choose.ensures
 
 pub returns-in-Some-lock_at : goal.returns-in-Some-lock_at
-returns-in-Some-lock_at c =
+returns-in-Some-lock_at g c =
     subst (λ r. Stepped (step (setting_of c.args.self.now) (point_of c.args.self.now)) r c.args.self.now
     (with_left c.args.self.now c.first.new.self)) (sym c.stop-in-Some-lock_at.ensures)
     (at_first c.args.self.now c.first.new.self (with_left c.args.self.now c.first.new.self) c.in-Some.ensures.same c.in-Some.s.now
@@ -80,7 +80,7 @@ returns-in-Some-lock_at c =
     (env_is (with_left c.args.self.now c.first.new.self) c.requires.clean) ∙ sym c.in-Some-lock_at.ensures)))
 
 pub returns-in-None : goal.returns-in-None
-returns-in-None c =
+returns-in-None g c =
     subst (λ r. Stepped (step (setting_of c.args.self.now) (point_of c.args.self.now)) r c.args.self.now
     (with_left c.args.self.now c.first.new.self)) (sym c.fault.ensures)
     (at_first c.args.self.now c.first.new.self (with_left c.args.self.now c.first.new.self) c.in-Some.ensures.same c.in-Some.s.now
@@ -90,7 +90,7 @@ returns-in-None c =
     (env_is (with_left c.args.self.now c.first.new.self) c.requires.clean) ∙ sym c.in-None.ensures)))
 
 pub returns-in-Some-lock_at-2 : goal.returns-in-Some-lock_at-2
-returns-in-Some-lock_at-2 c =
+returns-in-Some-lock_at-2 g c =
     subst (λ r. Stepped (step (setting_of c.args.self.now) (point_of c.args.self.now)) r c.args.self.now
     (with_left c.args.self.now c.first.new.self)) (sym c.stop-in-Some-lock_at-2.ensures)
     (at_first c.args.self.now c.first.new.self (with_left c.args.self.now c.first.new.self) c.in-Some.ensures.same c.in-Some.s.now
@@ -101,7 +101,7 @@ returns-in-Some-lock_at-2 c =
     (env_is (with_left c.args.self.now c.first.new.self) c.requires.clean) ∙ sym c.in-Some-lock_at-2.ensures)))
 
 pub returns-in-None-lock_at : goal.returns-in-None-lock_at
-returns-in-None-lock_at c =
+returns-in-None-lock_at g c =
     subst (λ r. Stepped (step (setting_of c.args.self.now) (point_of c.args.self.now)) r c.args.self.now
     (with_left c.args.self.now c.first.new.self)) (sym c.fault-in-None-lock_at.ensures)
     (at_first c.args.self.now c.first.new.self (with_left c.args.self.now c.first.new.self) c.in-Some.ensures.same c.in-Some.s.now
@@ -111,22 +111,22 @@ returns-in-None-lock_at c =
     (ap (lock_number (setting_of (with_left c.args.self.now c.first.new.self)) c.in-Unlock.a c.in-Unlock.i)
     (env_is (with_left c.args.self.now c.first.new.self) c.requires.clean) ∙ sym c.in-None-lock_at.ensures)))
 
-pub returns-in-Some-eval_d : goal.returns-in-Some-eval_d
-returns-in-Some-eval_d c =
-    let fits : SFits w64 c.in-Some-eval_d.h = search rules in
-    let stops = rw (to_z-of_z w64 c.in-Some-eval_d.h fits) at c.stop-in-Some-eval_d.ensures in
+pub returns-in-Some-of_control : goal.returns-in-Some-of_control
+returns-in-Some-of_control g c =
+    let fits : SFits w64 c.in-Some-of_control.h = search rules in
+    let stops = rw (to_z-of_z w64 c.in-Some-of_control.h fits) at c.stop-in-Some-of_control.ensures in
     subst (λ r. Stepped (step (setting_of c.args.self.now) (point_of c.args.self.now)) r c.args.self.now
     (with_left c.args.self.now c.first.new.self)) (sym stops)
     (at_first c.args.self.now c.first.new.self (with_left c.args.self.now c.first.new.self) c.in-Some.ensures.same c.in-Some.s.now
     (plain.Join (plain_expr c.in-Join.e) c.in-Join.field-1) _ c.in-Some.ensures.one
     (ap plain_what c.in-Join.is ∙ what_Join c.in-Join.e c.in-Join.field-1)
-    (stops_with (with_left c.args.self.now c.first.new.self) c.in-Some.s.now.line _ sync.Join c.in-Some-eval_d.h c.requires.clean
+    (stops_with (with_left c.args.self.now c.first.new.self) c.in-Some.s.now.line _ sync.Join c.in-Some-of_control.h c.requires.clean
     (ap (value (plain_expr c.in-Join.e)) (env_is (with_left c.args.self.now c.first.new.self) c.requires.clean)
-    ∙ sym c.in-Some-eval_d.ensures)))
+    ∙ sym c.in-Some-of_control.ensures)))
 
-pub returns-in-None-eval_d : goal.returns-in-None-eval_d
-returns-in-None-eval_d c =
-    let stops = c.fault-in-None-eval_d.ensures in
+pub returns-in-None-of_control : goal.returns-in-None-of_control
+returns-in-None-of_control g c =
+    let stops = c.fault-in-None-of_control.ensures in
     subst (λ r. Stepped (step (setting_of c.args.self.now) (point_of c.args.self.now)) r c.args.self.now
     (with_left c.args.self.now c.first.new.self)) (sym stops)
     (at_first c.args.self.now c.first.new.self (with_left c.args.self.now c.first.new.self) c.in-Some.ensures.same c.in-Some.s.now
@@ -134,54 +134,54 @@ returns-in-None-eval_d c =
     (ap plain_what c.in-Join.is ∙ what_Join c.in-Join.e c.in-Join.field-1)
     (stops_without (with_left c.args.self.now c.first.new.self) c.in-Some.s.now.line _ sync.Join c.requires.clean
     (ap (value (plain_expr c.in-Join.e)) (env_is (with_left c.args.self.now c.first.new.self) c.requires.clean)
-    ∙ sym c.in-None-eval_d.ensures)))
+    ∙ sym c.in-None-of_control.ensures)))
 
 pub returns-in-Fork : goal.returns-in-Fork
-returns-in-Fork c =
+returns-in-Fork g c =
     at_fork c.args.self.now c.first.new.self (with_left c.args.self.now c.first.new.self) c.in-Some.ensures.same c.in-Some.s.now c.in-Fork.t
     (plain_exprs c.as_slice-in-Fork.result.now) c.in-Fork.field-2 c.fork.result c.in-Some.ensures.one
     (ap plain_what c.in-Fork.is ∙ what_Fork c.in-Fork.t c.in-Fork.es c.in-Fork.field-2
     ∙ ap (λ es. plain.Fork c.in-Fork.t (plain_exprs es) c.in-Fork.field-2) (sym c.as_slice-in-Fork.ensures)) c.fork.ensures
 
 pub returns-in-Barrier : goal.returns-in-Barrier
-returns-in-Barrier c =
+returns-in-Barrier g c =
     at_first_ok c.args.self.now c.first.new.self (with_left c.args.self.now c.first.new.self) c.in-Some.ensures.same c.in-Some.s.now
     (plain.Barrier c.in-Barrier.b) c.barrier.result c.in-Some.ensures.one (ap plain_what c.in-Barrier.is ∙ what_Barrier c.in-Barrier.b)
     c.barrier.ensures
 
 pub returns-in-Settle : goal.returns-in-Settle
-returns-in-Settle c =
+returns-in-Settle g c =
     at_first_ok c.args.self.now c.first.new.self (with_left c.args.self.now c.first.new.self) c.in-Some.ensures.same c.in-Some.s.now
     (plain.Settle c.in-Settle.x c.in-Settle.c) c.settle.result c.in-Some.ensures.one
     (ap plain_what c.in-Settle.is ∙ what_Settle c.in-Settle.x c.in-Settle.c)
     c.settle.ensures
 
 pub returns-in-SetReg : goal.returns-in-SetReg
-returns-in-SetReg c =
+returns-in-SetReg g c =
     at_first_ok c.args.self.now c.first.new.self c.act.new.self c.in-Some.ensures.same c.in-Some.s.now
     (plain_what c.in-Some.s.now.what) c.act.result c.in-Some.ensures.one (refl)
     c.act.ensures
 
 pub returns-in-Read : goal.returns-in-Read
-returns-in-Read c =
+returns-in-Read g c =
     at_first_ok c.args.self.now c.first.new.self c.act-in-Read.new.self c.in-Some.ensures.same c.in-Some.s.now
     (plain_what c.in-Some.s.now.what) c.act-in-Read.result c.in-Some.ensures.one (refl)
     c.act-in-Read.ensures
 
 pub returns-in-Write : goal.returns-in-Write
-returns-in-Write c =
+returns-in-Write g c =
     at_first_ok c.args.self.now c.first.new.self c.act-in-Write.new.self c.in-Some.ensures.same c.in-Some.s.now
     (plain_what c.in-Some.s.now.what) c.act-in-Write.result c.in-Some.ensures.one (refl)
     c.act-in-Write.ensures
 
 pub returns-in-Print : goal.returns-in-Print
-returns-in-Print c =
+returns-in-Print g c =
     at_first_ok c.args.self.now c.first.new.self c.act-in-Print.new.self c.in-Some.ensures.same c.in-Some.s.now
     (plain_what c.in-Some.s.now.what) c.act-in-Print.result c.in-Some.ensures.one (refl)
     c.act-in-Print.ensures
 
 pub returns-in-When : goal.returns-in-When
-returns-in-When c =
+returns-in-When g c =
     at_first_ok c.args.self.now c.first.new.self c.act-in-When.new.self c.in-Some.ensures.same c.in-Some.s.now
     (plain_what c.in-Some.s.now.what) c.act-in-When.result c.in-Some.ensures.one (refl)
     c.act-in-When.ensures

@@ -3,7 +3,7 @@ use Rattle.one_thread.specs.inner.Walking.{point_of, Came}
 use Rattle.one_thread.proofs.walk.Walk.stretch.Given as goal
 
 abbrev pub invariant-loop-went : goal.invariant-loop-went
-invariant-loop-went l = Came l.fn.self l.self
+invariant-loop-went g l = Came l.fn.self l.self
 
 abbrev pub decreases-loop-went : goal.decreases-loop-went
-decreases-loop-went l = size (point_of l.self)
+decreases-loop-went g l = size (point_of l.self)

@@ -5,7 +5,7 @@ use Rattle.one_thread.proofs.Steps.{turn_found}
 use Rattle.one_thread.proofs.walk.Walk.turn.Goals as goal
 
 pub returns-else-is_zero : goal.returns-else-is_zero
-returns-else-is_zero c =
+returns-else-is_zero g c =
     let fits : SFits w64 c.in-Some.v = search rules in
     let test = rw (to_z-of_z w64 c.in-Some.v fits) at c.if-is_zero.ensures in
     turn_found c.args.self.now c.args.line (plain_expr c.args.e.now) c.args.body c.in-Some.v c.requires.clean c.requires.first

@@ -5,15 +5,15 @@ use Rattle.lock_checker.proofs.BaseLemmas.{accepted_small}
 use Rattle.one_thread.specs.inner.Runs.{IsSmall, Holds}
 use Rattle.one_thread.specs.inner.Moves.{Follows, Ahead}
 use Rattle.one_thread.proofs.Running.{ahead-start, ahead-more, ahead-smaller, ahead-ends, follows-here}
-use Rattle.one_thread.proofs.run.run_plain.Goals as goal
+use Rattle.one_thread.proofs.run.run_reckoned.Goals as goal
 
 pub new-requires-clause-small : goal.new-requires-clause-small
-new-requires-clause-small c =
+new-requires-clause-small g c =
     let small = accepted_small (plain_program c.args.c.now.program) c.args.c.now.accepted.faultless in
     subst IsSmall (sym c.program-program.ensures) (record { locks = small.0; records = small.1 })
 
 pub loop-order-init : goal.loop-order-init
-loop-order-init c =
+loop-order-init g c =
     let small = accepted_small (plain_program c.args.c.now.program) c.args.c.now.accepted.faultless in
     let holds =
     subst (λ code. Holds code c.args.inputs.now c.args.limits c.in_ok-run.run'
@@ -26,7 +26,7 @@ loop-order-init c =
     }
 
 pub loop-order-smaller : goal.loop-order-smaller
-loop-order-smaller c =
+loop-order-smaller g c =
     let ahead = c.loop-order.invariant.ahead in
     let follows =
     follows-here c.args.c.now.program c.args.inputs.now c.args.limits c.loop-order.run c.next.new.self c.in_ok-step.field-0 ahead.plain
@@ -38,7 +38,7 @@ loop-order-smaller c =
     c.next.new.self ahead went
 
 pub loop-order-preserved : goal.loop-order-preserved
-loop-order-preserved c =
+loop-order-preserved g c =
     let ahead = c.loop-order.invariant.ahead in
     let follows =
     follows-here c.args.c.now.program c.args.inputs.now c.args.limits c.loop-order.run c.next.new.self c.in_ok-step.field-0 ahead.plain
@@ -55,7 +55,7 @@ loop-order-preserved c =
     }
 
 pub returns-in-Ends : goal.returns-in-Ends
-returns-in-Ends c =
+returns-in-Ends g c =
     let ahead = c.loop-order.invariant.ahead in
     let follows =
     follows-here c.args.c.now.program c.args.inputs.now c.args.limits c.loop-order.run c.next.new.self c.in_ok-step.field-0 ahead.plain

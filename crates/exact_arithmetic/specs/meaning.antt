@@ -1,0 +1,2 @@
+-- What `explain` says of arithmetic is said in the words of these definitions.
+pub mod Exact

@@ -1,0 +1,9 @@
+use Rattle.one_thread.specs.inner.Runs.{IsSmall}
+use Rattle.one_thread.proofs.Nearing.{Nears}
+use Rattle.one_thread.proofs.standing.stand_before.Given as goal
+
+abbrev pub invariant-loop-at : goal.invariant-loop-at
+invariant-loop-at l = record {
+  nears : Nears l.c.program l.inputs l.fn.limits l.position l.at l.run;
+  small : IsSmall l.c.program;
+}

@@ -1,0 +1,119 @@
+// What is noted of a run.
+
+use crate::data::reckon_data;
+use exact_arithmetic::reckon;
+use gp_base::{Limits, Name};
+use one_thread::Reckon;
+use std::alloc::{AllocError, Global};
+use task_ast::{Env, Expr, Program, Stmt, What};
+
+/// How often the arithmetic of a line was not exact, and at which position first.
+#[derive(Clone, Copy)]
+pub struct Slip {
+    pub times: u64,
+    pub first: u32,
+}
+
+/// The slips of each line, by its number; and by position the line in which a control value was last asked for, which
+/// is that of its loop where a subthread has spent its turns.
+#[derive(Drop)]
+pub struct Counting {
+    pub slips: Vec<Slip>,
+    lines: Vec<u32>,
+    begun: u32,
+    line: u32,
+    control: u32,
+}
+
+// The last line of a block in which a statement begins.
+fn last_line(block: &[Stmt]) -> u32 {
+    let mut last = 0;
+    for stmt in block {
+        let inner = match &stmt.what {
+            What::While(_, body) => last_line(body.as_slice()),
+            What::If(_, first, second) => {
+                last_line(first.as_slice()).max(last_line(second.as_slice()))
+            }
+            What::When(_, first, second) => {
+                last_line(first.as_slice()).max(last_line(second.as_slice()))
+            }
+            _ => 0,
+        };
+        last = inner.max(stmt.line).max(last);
+    }
+    last
+}
+
+impl Counting {
+    /// Nothing is noted yet of a run of a program under these limits. The error is that memory is out.
+    pub fn new(alloc: Global, program: &Program, limits: Limits) -> Result<Counting, AllocError> {
+        let mut last = 0;
+        for task in program.tasks.as_slice() {
+            last = last_line(task.body.as_slice()).max(last);
+        }
+        let lines = (last as usize).saturating_add(1);
+        Ok(Counting {
+            slips: Vec::from_elem(alloc, Slip { times: 0, first: 0 }, lines)?,
+            lines: Vec::from_elem(alloc, 0, limits.subthreads as usize)?,
+            begun: 0,
+            line: 0,
+            control: 0,
+        })
+    }
+
+    /// The line in which the subthread at a position last asked for a control value, or 0 where it is not known.
+    pub fn control_line(&self, position: usize) -> u32 {
+        if position.saturating_add(1) == self.begun as usize {
+            return self.control;
+        }
+        match self.lines.get(position) {
+            Some(line) => *line,
+            None => 0,
+        }
+    }
+
+    // A slip in this line.
+    fn slipped(&mut self) {
+        let first = self.begun.saturating_sub(1);
+        if let Some(slip) = self.slips.get_mut(self.line as usize) {
+            if slip.times == 0 {
+                slip.first = first;
+            }
+            slip.times = slip.times.saturating_add(1);
+        }
+    }
+}
+
+impl Reckon for Counting {
+    fn begin(&mut self) {
+        let position = self.begun.saturating_sub(1) as usize;
+        if let Some(line) = self.lines.get_mut(position) {
+            *line = self.control;
+        }
+        self.begun = self.begun.saturating_add(1);
+        self.control = 0;
+    }
+
+    fn at(&mut self, line: u32) {
+        self.line = line;
+    }
+
+    fn of_control(&mut self, e: &Expr, env: &Env) -> Option<i64> {
+        self.control = self.line;
+        let mut exact = true;
+        let value = reckon(e, env, &mut exact);
+        if !exact {
+            self.slipped();
+        }
+        value
+    }
+
+    fn of_data(&mut self, e: &Expr, names: &[Name], env: &Env, registers: &[i64]) -> Option<i64> {
+        let mut exact = true;
+        let value = reckon_data(e, names, env, registers, &mut exact);
+        if !exact {
+            self.slipped();
+        }
+        value
+    }
+}
