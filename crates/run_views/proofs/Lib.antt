@@ -2,5 +2,6 @@ pub mod Chains
 pub mod Holders
 pub mod Linking
 pub mod Pictures
+pub mod Runs
 pub mod SeenSteps
 pub mod Takes

@@ -1,9 +1,7 @@
 -- The picture of the code's steps is that of the subthreads that they show.
-use Rattle.std.proofs.Common.{◌≡◌, ℕ, zero, suc, ◌+◌, ◌≤◌, ◌%◌, max, cond, nat_eq, decimal, List, [], ◌∷◌, ◌++◌, Option, Some, None, length, map, codes, refl, sym, ap, ap₂, subst, ◌∙◌, arith}
+use Rattle.std.proofs.Common.{◌≡◌, ℕ, suc, ◌+◌, ◌<◌, ◌≤◌, cond, nat_eq, decimal, List, [], ◌∷◌, ◌++◌, Option, Some, None, length, map, drop, get_or, codes, refl, sym, ap, ap₂, ◌∙◌, add-one, append_assoc, arith}
 use Rattle.std.specs.Prelude.{Bool, is_some, option_map}
-use Rattle.std.specs.List.{All}
-use Rattle.std.proofs.lemmas.List.{length-map}
-use Rattle.std.proofs.lemmas.List.Elements.{All-nil, All-push}
+use Rattle.std.proofs.lemmas.List.{length-map, drop_more}
 use Rattle.gp_base.specs.declared.ending.End.{End}
 use Rattle.gp_base.specs.declared.fault.Fault.{Fault}
 use Rattle.gp_base.specs.declared.feed.Inputs.{Inputs}
@@ -15,17 +13,18 @@ use Rattle.task_ast.specs.meaning.Tree.{Program}
 use Rattle.task_ast.specs.meaning.Plain.{Subthread, order, end, tree_machine}
 use Rattle.task_ast.proofs.PlainRuns.{count_law}
 use Rattle.one_thread.specs.declared.run.PlainRun.{PlainRun}
+use Rattle.one_thread.specs.declared.run.Step.{Step}
 use Rattle.one_thread.specs.PlainRuns.{IsPlainRun, shown}
-use Rattle.dependence.specs.meaning.Restarts.{Dependence, redoes, advance_by, progress, restarts, struck_next, restart_of}
+use Rattle.dependence.specs.meaning.Restarts.{redoes, restarts}
 use Rattle.dependence.specs.meaning.Runs.{restarts_of}
 use Rattle.dependence.proofs.RestartEnds.{few-restarts}
 use Rattle.gp_audit.specs.declared.line.TraceLine.{TraceLine}
 use Rattle.gp_audit.specs.Steps.{dependence_by}
 use Rattle.gp_audit.proofs.Orders.{order-is}
 use Rattle.gp_audit.proofs.StepOrder.{steps-struck}
-use Rattle.run_views.specs.declared.frame.Frame.{Frame}
-use Rattle.run_views.specs.meaning.Timeline.{rows_for, lanes_for, frame_of, left, top, words_at, rows, Tells, told_of, picture_start, title, attempt_box, ended_by, boxes, column_of, columns, restart_marks, picture, timeline_text}
-use Rattle.run_views.specs.inner.Seen.{seen}
+use Rattle.run_views.specs.declared.bands.Band.{Band}
+use Rattle.run_views.specs.meaning.Timeline.{foot, left, opening_band, next_band, last_band, words_at, is_folded, band_head, Tells, told_of, picture_start, title, attempt_box, ended_by, boxes, front_marks, shown_column, column_of, threads_of, columns, notes, picture, timeline_text}
+use Rattle.run_views.specs.inner.Seen.{seen, threads_in}
 use Rattle.run_views.proofs.SeenSteps.{child_written}
 
 -- a subthread without its actions
@@ -35,72 +34,101 @@ bare s = record s { actions = [] }
 seen-is : (s : Subthread) → seen (shown s) ≡ bare s
 seen-is s = λ i. record { thread = s.thread; begins = s.begins; child = child_written s i; held = s.held; actions = []; lines = s.lines }
 
+threads-shown : (steps : List Step) → threads_of (map seen steps) ≡ threads_in steps
+threads-shown [] = refl
+threads-shown (s ∷ steps) = ap (λ threads. s.thread ∷ threads) (threads-shown steps)
+
 -- a picture says nothing of actions
-boxes-bare : (frame : Frame) (heads : List Head) (tells : Tells) (p : ℕ) (s : Subthread) (attempt number : ℕ) (restarts : List Restart)
-    → boxes frame heads tells p (bare s) attempt number restarts ≡ boxes frame heads tells p s attempt number restarts
-unfolding attempt_box title
-boxes-bare frame heads tells p s attempt number [] = refl
-boxes-bare frame heads tells p s attempt number (r ∷ later) =
-    ap₂ (λ yes no. cond (redoes p r) (attempt_box frame heads p s attempt (ended_by p number r) (tells p attempt) ++ yes) no)
-    (boxes-bare frame heads tells p s (suc attempt) (suc number) later) (boxes-bare frame heads tells p s attempt (suc number) later)
+module _ (heads : List Head) (tells : Tells) (restarts : List Restart) where
+  boxes-bare : (band : Band) (p : ℕ) (s : Subthread) (attempt number : ℕ) (those : List Restart)
+      → boxes band heads tells p (bare s) attempt number those ≡ boxes band heads tells p s attempt number those
+  unfolding attempt_box title
+  boxes-bare band p s attempt number [] = refl
+  boxes-bare band p s attempt number (r ∷ later) =
+      ap₂ (λ yes no. cond (redoes p r) (attempt_box band heads p s attempt (ended_by p number r) (tells p attempt) ++ yes) no)
+      (boxes-bare band p s (suc attempt) (suc number) later) (boxes-bare band p s attempt (suc number) later)
 
-column-bare : (frame : Frame) (heads : List Head) (tells : Tells) (restarts : List Restart) (p : ℕ) (s : Subthread)
-    → column_of frame heads tells restarts p (bare s) ≡ column_of frame heads tells restarts p s
-unfolding column_of
-column-bare frame heads tells restarts p s =
-    ap (λ own. cond (nat_eq (p % 40) 0) (rows frame p frame.threads) []
-    ++ words_at (codes "column") (left p + 16) (top frame p + 12) (decimal p) ++ own)
-    (boxes-bare frame heads tells p s 0 1 restarts)
+  column-bare : (band : Band) (p : ℕ) (s : Subthread)
+      → column_of band heads tells restarts p (bare s) ≡ column_of band heads tells restarts p s
+  unfolding shown_column
+  column-bare band p s =
+      ap (λ own. cond (nat_eq p band.first) (band_head tells band) []
+      ++ cond (is_folded band) []
+      (words_at (codes "column") (left band p + 22) (band.top + 12) (decimal p) ++ own ++ front_marks band p 1 restarts))
+      (boxes-bare band p s 0 1 restarts)
 
-columns-seen : (frame : Frame) (heads : List Head) (tells : Tells) (restarts : List Restart) (p : ℕ) (run : List Subthread)
-    → columns frame heads tells restarts p (map seen (map shown run)) ≡ columns frame heads tells restarts p run
-columns-seen frame heads tells restarts p [] = refl
-columns-seen frame heads tells restarts p (s ∷ run) =
-    ap₂ (λ own later. own ++ later) (ap (column_of frame heads tells restarts p) (seen-is s) ∙ column-bare frame heads tells restarts p s)
-    (columns-seen frame heads tells restarts (suc p) run)
+  threads-seen : (run : List Subthread) → threads_of (map seen (map shown run)) ≡ threads_of run
+  threads-seen [] = refl
+  threads-seen (s ∷ run) = ap (λ threads. s.thread ∷ threads) (threads-seen run)
 
-rows-seen : (run : List Subthread) → rows_for (map seen (map shown run)) ≡ rows_for run
-rows-seen [] = refl
-rows-seen (s ∷ run) = ap (max (s.thread + 1)) (rows-seen run)
+  columns-seen : (band : Band) (p : ℕ) (run : List Subthread)
+      → columns band heads tells restarts p (map seen (map shown run)) ≡ columns band heads tells restarts p run
+  columns-seen band p [] = refl
+  columns-seen band p (s ∷ run) =
+      let here = next_band restarts band p (threads_of (s ∷ run)) in
+      ap (λ threads. columns-from (next_band restarts band p (s.thread ∷ threads))) (threads-seen run)
+      ∙ ap₂ (λ own later. own ++ later) (ap (column_of here heads tells restarts p) (seen-is s) ∙ column-bare here p s)
+      (columns-seen here (suc p) run)
+    where
+      columns-from : Band → List ℕ
+      columns-from here =
+          column_of here heads tells restarts p (seen (shown s))
+          ++ columns here heads tells restarts (suc p) (map seen (map shown run))
 
-length-seen : (run : List Subthread) → length (map seen (map shown run)) ≡ length run
-length-seen run = length-map (map shown run) seen ∙ length-map run shown
+  length-seen : (run : List Subthread) → length (map seen (map shown run)) ≡ length run
+  length-seen run = length-map (map shown run) seen ∙ length-map run shown
 
-frame-seen : (run : List Subthread) (restarts : List Restart) → frame_of (map seen (map shown run)) restarts ≡ frame_of run restarts
-frame-seen run restarts = λ i.
-    record { positions = length-seen run i; threads = rows-seen run i; lanes = lanes_for restarts (length-seen run i) }
+  picture-seen : (traced : Bool) (run : List Subthread) (ending : End)
+      → picture traced heads tells (map seen (map shown run)) ending restarts ≡ picture traced heads tells run ending restarts
+  picture-seen traced run ending =
+      let from : ℕ → List ℕ → List ℕ → List ℕ = λ positions threads own.
+      let below = foot (last_band restarts opening_band 0 threads) in
+      picture_start traced positions (length restarts) below ending ++ own ++ notes below 1 restarts ++ codes "</svg>\n" in
+      let columns_are : List Subthread → List ℕ = columns opening_band heads tells restarts 0 in
+      ap (λ positions. from positions (threads_of (map seen (map shown run))) (columns_are (map seen (map shown run)))) (length-seen run)
+      ∙ ap (λ threads. from (length run) threads (columns_are (map seen (map shown run)))) (threads-seen run)
+      ∙ ap (from (length run) (threads_of run)) (columns-seen opening_band 0 run)
 
-picture-seen : (traced : Bool) (heads : List Head) (tells : Tells) (run : List Subthread) (ending : End) (restarts : List Restart)
-    → picture traced heads tells (map seen (map shown run)) ending restarts ≡ picture traced heads tells run ending restarts
-picture-seen traced heads tells run ending restarts =
-    let from : Frame → List ℕ → List ℕ = λ frame own. picture_start traced frame (length restarts) ending ++ own ++ restart_marks frame 1 restarts
-    ++ codes "</svg>\n" in
-    ap (λ frame. from frame (columns frame heads tells restarts 0 (map seen (map shown run)))) (frame-seen run restarts)
-    ∙ ap (from (frame_of run restarts)) (columns-seen (frame_of run restarts) heads tells restarts 0 run)
+  -- the column of one step more was told
+  pub columns-next : (band here : Band) (p : ℕ) (steps ahead : List Step) (step : Step) (text now all : List ℕ) → p < length steps
+      → step ≡ get_or steps p step → ahead ≡ drop p steps → here ≡ next_band restarts band p (threads_in ahead)
+      → text ++ columns band heads tells restarts p (map seen (drop p steps)) ≡ all
+      → now ≡ text ++ column_of here heads tells restarts p (seen step)
+      → now ++ columns here heads tells restarts (p + 1) (map seen (drop (p + 1) steps)) ≡ all
+  columns-next band here p steps ahead step text now all less is cut here_is so_far told =
+      let rest = drop (p + 1) steps in
+      let first : drop p steps ≡ step ∷ rest = drop_more steps p step less ∙ ap (λ s. s ∷ rest) (sym is) in
+      let own : List ℕ = column_of here heads tells restarts p (seen step) in
+      let from : Band → List ℕ =
+      λ b. column_of b heads tells restarts p (seen step) ++ columns b heads tells restarts (suc p) (map seen rest) in
+      let same : here ≡ next_band restarts band p (threads_of (map seen (step ∷ rest))) =
+      here_is ∙ ap (λ left. next_band restarts band p (threads_in left)) (cut ∙ first)
+      ∙ ap (next_band restarts band p) (sym (threads-shown (step ∷ rest))) in
+      ap (λ l. l ++ columns here heads tells restarts (p + 1) (map seen rest)) told
+      ∙ append_assoc text own (columns here heads tells restarts (p + 1) (map seen rest))
+      ∙ ap (λ q. text ++ (own ++ columns here heads tells restarts q (map seen rest))) (add-one p)
+      ∙ sym (ap (λ l. text ++ l) (ap (λ left. columns band heads tells restarts p (map seen left)) first ∙ ap from (sym same)))
+      ∙ so_far
+
+  -- a picture that was put together piece by piece
+  pub picture-made : (traced : Bool) (steps : List Step) (ending : End) (below count many : ℕ) (first second third last : List ℕ)
+      → below ≡ foot (last_band restarts opening_band 0 (threads_in steps)) → count ≡ length steps → many ≡ length restarts
+      → first ≡ picture_start traced count many below ending
+      → second ≡ first ++ columns opening_band heads tells restarts 0 (map seen steps) → third ≡ second ++ notes below 1 restarts
+      → last ≡ third ++ codes "</svg>\n" → last ≡ picture traced heads tells (map seen steps) ending restarts
+  picture-made traced steps ending below count many first second third last edge counted restarted started drawn noted closed =
+      let end : List ℕ = codes "</svg>\n" in
+      let own : List ℕ = columns opening_band heads tells restarts 0 (map seen steps) in
+      let from : ℕ → ℕ → ℕ → List ℕ = λ n k b. picture_start traced n k b ending ++ own ++ notes b 1 restarts ++ end in
+      closed ∙ ap (λ l. l ++ end) (noted ∙ ap (λ l. l ++ notes below 1 restarts) (drawn ∙ ap (λ l. l ++ own) started))
+      ∙ ap (λ n. from n many below) (counted ∙ sym (length-map steps seen)) ∙ ap (λ k. from (length (map seen steps)) k below) restarted
+      ∙ ap (from (length (map seen steps)) (length restarts))
+      (edge ∙ ap (λ threads. foot (last_band restarts opening_band 0 threads)) (sym (threads-shown steps)))
 
 -- a trace is there however it is seen
 pub still-there : {A B : Type 0} (f : A → B) (o : Option A) → is_some o ≡ is_some (option_map f o)
 still-there f None = refl
 still-there f (Some x) = refl
-
--- no restart has a front past the end of the run
-fronts-low : (dependence : Dependence) (faults : List Fault) (k : ℕ)
-    → ((progress dependence faults k).front ≤ dependence.count)
-    × All (λ (r : Restart). r.front ≤ dependence.count) (progress dependence faults k).made
-fronts-low dependence faults zero = (omega arith, All-nil (λ (r : Restart). r.front ≤ dependence.count))
-fronts-low dependence faults (suc k) = go (struck_next dependence faults (progress dependence faults k)) (fronts-low dependence faults k)
-  where
-    go : (o : Option ℕ)
-        → ((progress dependence faults k).front ≤ dependence.count)
-        × All (λ (r : Restart). r.front ≤ dependence.count) (progress dependence faults k).made
-        → ((advance_by dependence (progress dependence faults k) o).front ≤ dependence.count)
-        × All (λ (r : Restart). r.front ≤ dependence.count) (advance_by dependence (progress dependence faults k) o).made
-    go (Some p) h = (
-      h.0,
-      All-push (λ (r : Restart). r.front ≤ dependence.count) (progress dependence faults k).made
-          (restart_of dependence (progress dependence faults k) p) h.1 h.0,
-    )
-    go None h = (omega arith, h.1)
 
 module _ (program : Program) (inputs : Inputs) (limits : Limits) (run : PlainRun) (is : IsPlainRun program inputs limits run)
     (few : limits.subthreads ≤ MOST_SUBTHREADS) where
@@ -119,13 +147,6 @@ module _ (program : Program) (inputs : Inputs) (limits : Limits) (run : PlainRun
         let all = few-restarts (dependence_by run.order) (steps-struck run.order) faults in let same = ap length made_is in
         omega (arith, all, same)
 
-    pub low-fronts : All (λ (r : Restart). r.front ≤ 200000) made
-    low-fronts k d l =
-        let low = (fronts-low (dependence_by run.order) faults (length run.order + length faults)).1 in
-        let here = subst (λ xs. All (λ (r : Restart). r.front ≤ length run.order) xs) (sym made_is) low k d l in
-        let steps = few-steps in
-        omega (arith, here, steps)
-
     -- the picture of the code's run is that of the plain run
     pub picture-shown : (heads : List Head) → heads ≡ program.heads → (trace : Option (List TraceLine)) (traced : Bool)
         → traced ≡ is_some trace
@@ -141,4 +162,4 @@ module _ (program : Program) (inputs : Inputs) (limits : Limits) (run : PlainRun
         ∙ ap (λ steps. picture (is_some trace) program.heads (told_of trace) (map seen steps) run.end made) is.order
         ∙ ap (λ e. picture (is_some trace) program.heads (told_of trace) (map seen (map shown run_is)) e made) is.end
         ∙ ap (picture (is_some trace) program.heads (told_of trace) (map seen (map shown run_is)) (end program inputs limits)) all
-        ∙ picture-seen (is_some trace) program.heads (told_of trace) run_is (end program inputs limits) (restarts_of run_is faults)
+        ∙ picture-seen program.heads (told_of trace) (restarts_of run_is faults) (is_some trace) run_is (end program inputs limits)

@@ -1,6 +1,6 @@
 // The elements of a picture.
 ghost use Rattle.std.specs.Prelude.{◌≡◌, ◌++◌, codes, decimal, OnOk};
-ghost use Rattle.run_views.specs.meaning.Timeline.{at_place, placed, sized, words_from, words_at};
+ghost use Rattle.run_views.specs.meaning.Timeline.{at_place, placed, sized, words_from, words_at, room, fitted_words};
 
 use crate::names::{push_between, push_labelled};
 use std::alloc::AllocError;
@@ -70,4 +70,32 @@ pub fn push_numeral(
 {
     push_placed(text, b"<text", class, x, y)?;
     push_between(text, b">", number, b"</text>\n")
+}
+
+// Appends the room of words in a box, where they have so many letters.
+fn push_room(text: &mut Vec<u8>, letters: usize) -> Result<(), AllocError>
+    ensures { OnOk result (text.new.items ≡ text.old.items ++ room letters) }
+{
+    if 8 < letters {
+        return text.extend_from_slice(b" textLength='42' lengthAdjust='spacingAndGlyphs'");
+    }
+    Ok(())
+}
+
+/// Appends the words of a box, in its room where they are long.
+#[tactic(auto, unfolding(crate::specs::meaning::Timeline::fitted_words))]
+pub fn push_fitted(
+    text: &mut Vec<u8>,
+    class: &[u8],
+    x: u64,
+    y: u64,
+    content: &[u8],
+) -> Result<(), AllocError>
+    ensures { OnOk result (text.new.items ≡ text.old.items ++ fitted_words class.now x y content.now) }
+{
+    push_placed(text, b"<text", class, x, y)?;
+    push_room(text, content.len())?;
+    text.extend_from_slice(b">")?;
+    text.extend_from_slice(content)?;
+    end_words(text)
 }

@@ -2,8 +2,8 @@
 //! restarts.
 #![tactic(auto)]
 
+mod bands;
 mod elements;
-mod frame;
 pub mod laws;
 mod links;
 mod names;

@@ -97,3 +97,29 @@ pub fn push_barrier(text: &mut Vec<u8>, heads: &[Head], barrier: u32) -> Result<
     }
     Ok(())
 }
+
+/// Appends a word and the name of a lock cell after it.
+pub fn push_named_lock(
+    text: &mut Vec<u8>,
+    word: &[u8],
+    heads: &[Head],
+    lock: LockNo,
+) -> Result<(), AllocError>
+    ensures { OnOk result (text.new.items ≡ text.old.items ++ word.now ++ cell_name (locks_of heads.now) lock) }
+{
+    text.extend_from_slice(word)?;
+    push_lock(text, heads, lock)
+}
+
+/// Appends a word and the name of a barrier after it.
+pub fn push_named_barrier(
+    text: &mut Vec<u8>,
+    word: &[u8],
+    heads: &[Head],
+    barrier: u32,
+) -> Result<(), AllocError>
+    ensures { OnOk result (text.new.items ≡ text.old.items ++ word.now ++ barrier_name (barriers_of heads.now) barrier) }
+{
+    text.extend_from_slice(word)?;
+    push_barrier(text, heads, barrier)
+}

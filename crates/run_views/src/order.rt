@@ -1,13 +1,12 @@
 // The text that shows the order of a run.
 ghost use Rattle.std.specs.Prelude.{◌≡◌, ◌++◌, codes, map, IfOk, OnOk};
 ghost use Rattle.task_ast.specs.View.{plain_program};
-ghost use Rattle.task_ast.specs.meaning.Names.{locks_of, barriers_of};
 ghost use Rattle.lock_checker.specs.Accepted.{program_of};
 ghost use Rattle.restart_log.specs.meaning.Tail.{why_word};
-ghost use Rattle.run_views.specs.meaning.Order.{cell_name, barrier_name, thread_text, sync_text, held_text, order_line, order_lines, end_line, order_text};
+ghost use Rattle.run_views.specs.meaning.Order.{thread_text, sync_text, held_text, order_line, order_lines, end_line, order_text};
 ghost use Rattle.run_views.specs.inner.Seen.{child_in, seen};
 
-use crate::names::{push_barrier, push_between, push_labelled, push_lock, push_number};
+use crate::names::{push_between, push_labelled, push_named_barrier, push_named_lock, push_number};
 use gp_base::{End, Footprint, Inputs, Limits, Loc, LockNo, Seq, Text, ThreadNo, Why};
 use lock_checker::Checked;
 use one_thread::{Step, run_plain};
@@ -22,27 +21,6 @@ pub fn child_in(foot: &Footprint) -> Option<ThreadNo>
         Some(Loc::Regs(child)) => Some(*child),
         _ => None,
     }
-}
-
-// Appends a word and the name of a lock cell behind it.
-fn push_named_lock(
-    text: &mut Vec<u8>,
-    word: &[u8],
-    heads: &[Head],
-    lock: LockNo,
-) -> Result<(), AllocError>
-    ensures { OnOk result (text.new.items ≡ text.old.items ++ word.now ++ cell_name (locks_of heads.now) lock) }
-{
-    text.extend_from_slice(word)?;
-    push_lock(text, heads, lock)
-}
-
-// Appends a barrier by its name.
-fn push_named_barrier(text: &mut Vec<u8>, heads: &[Head], barrier: u32) -> Result<(), AllocError>
-    ensures { OnOk result (text.new.items ≡ text.old.items ++ codes "barrier " ++ barrier_name (barriers_of heads.now) barrier) }
-{
-    text.extend_from_slice(b"barrier ")?;
-    push_barrier(text, heads, barrier)
 }
 
 /// Appends a word and the thread that is forked, where it is known.
@@ -74,7 +52,7 @@ fn push_sync(
         SyncOp::Unlock(lock) => push_named_lock(text, b"unlock ", heads, *lock),
         SyncOp::Fork { .. } => push_child(text, b"fork ", child),
         SyncOp::Join(thread) => push_labelled(text, b"join ", *thread),
-        SyncOp::Barrier(barrier) => push_named_barrier(text, heads, *barrier),
+        SyncOp::Barrier(barrier) => push_named_barrier(text, b"barrier ", heads, *barrier),
         SyncOp::Settle { .. } => text.extend_from_slice(b"settle"),
         SyncOp::End | SyncOp::BadIndex | SyncOp::Spent => Ok(()),
     }

@@ -1,5 +1,5 @@
 -- What a step of the code's run says of a subthread.
-use Rattle.std.specs.Prelude.{ℕ, [], Option, Some, None, slice_get}
+use Rattle.std.specs.Prelude.{ℕ, List, [], Option, Some, None, map, slice_get}
 use Rattle.gp_base.specs.declared.footprint.Loc.{Loc}
 use Rattle.gp_base.specs.declared.footprint.Loc.TheVariants as loc
 use Rattle.gp_base.specs.declared.footprint.Footprint.{Footprint}
@@ -24,3 +24,7 @@ seen step =
 -- what is looked at of it where it is linked to another
 abbrev pub party_in : Step → Party
 party_in step = record { thread = step.thread; begins = step.begins.sync; child = child_in step.foot; foot = step.foot }
+
+-- the threads of steps
+abbrev pub threads_in : List Step → List ℕ
+threads_in steps = map (λ (s : Step). s.thread) steps

@@ -5,7 +5,7 @@ use Rattle.task_ast.specs.View.{plain_program}
 use Rattle.lock_checker.specs.Accepted.{program_of}
 use Rattle.gp_audit.specs.declared.line.TraceLine.{TraceLine}
 use Rattle.run_views.specs.inner.Tellings.{found}
-use Rattle.run_views.proofs.Pictures.{few-steps, few-made, low-fronts, still-there, picture-shown}
+use Rattle.run_views.proofs.Pictures.{few-steps, few-made, still-there, picture-shown}
 use Rattle.run_views.proofs.timeline.timeline_text.Goals as goal
 
 pub restarts_of-requires : goal.restarts_of-requires
@@ -23,12 +23,6 @@ picture-requires-clause-few_restarts c =
     few-made (plain_program (program_of c.args.c.now)) c.args.inputs.now c.args.limits c.in_ok-run.run' c.in_ok-run.ensures c.requires
     c.args.faults.now.list _
     (c.as_slice-made.ensures ∙ c.in_ok-restarts.ensures) c.args.faults.now.few
-
-pub picture-requires-clause-fronts : goal.picture-requires-clause-fronts
-picture-requires-clause-fronts c =
-    low-fronts (plain_program (program_of c.args.c.now)) c.args.inputs.now c.args.limits c.in_ok-run.run' c.in_ok-run.ensures c.requires
-    c.args.faults.now.list _
-    (c.as_slice-made.ensures ∙ c.in_ok-restarts.ensures)
 
 pub returns : goal.returns
 returns c =

@@ -1,7 +1,7 @@
 use Rattle.std.proofs.Common.{◌≡◌, ◌≤◌, take}
 use Rattle.std.specs.Prelude.{count_by}
 use Rattle.dependence.specs.meaning.Restarts.{redoes}
-use Rattle.run_views.proofs.frame.attempt_of.Given as goal
+use Rattle.run_views.proofs.bands.attempt_of.Given as goal
 
 -- so many of the restarts so far redo the position
 abbrev pub invariant-loop-restart : goal.invariant-loop-restart

@@ -1,6 +1,6 @@
 use Rattle.std.proofs.Common.{◌≡◌, nat_eq, false, take}
 use Rattle.std.specs.List.{list_any}
-use Rattle.run_views.proofs.frame.is_among.Given as goal
+use Rattle.run_views.proofs.bands.is_among.Given as goal
 
 -- none so far is the position
 abbrev pub invariant-loop-other : goal.invariant-loop-other

@@ -1,8 +1,0 @@
-use Rattle.std.proofs.Common.{◌≡◌, ◌+◌, ◌++◌, drop}
-use Rattle.run_views.specs.meaning.Timeline.{restart_marks}
-use Rattle.run_views.proofs.timeline.push_restarts.Given as goal
-
--- the restarts so far, and those that are left, are all
-abbrev pub invariant-loop-at : goal.invariant-loop-at
-invariant-loop-at l =
-    l.text.items ++ restart_marks l.frame (l.at + 1) (drop l.at l.restarts) ≡ l.fn.text.items ++ restart_marks l.frame 1 l.restarts
