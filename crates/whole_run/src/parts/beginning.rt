@@ -53,7 +53,7 @@ fn store_of(alloc: Global, plan: &Plan, layout: Layout, records: Nums) -> Result
     ensures { IfOk result (λ store. store ≡ with_thread (length (registers_of (main_task (program_in (batch_in plan.now))))) (without_threads records layout.under)) }
 {
     let code = &plan.work.code;
-    let mut store = Store::new(alloc, records, layout)?;
+    let mut store = Store::new(alloc, records, layout, plan.work.recheck.is_on())?;
     store.reserve_thread(alloc, registers(code, code.main()))?;
     Ok(store)
 }

@@ -10,14 +10,14 @@ ghost use Rattle.whole_run.specs.inner.Kept.{batch_in, view_of, Kept};
 ghost use Rattle.whole_run.specs.Recovering.{HasCuts};
 ghost use Rattle.whole_run.specs.inner.Retiring.{none_strikes, is_old, block_is_safe, is_safe, oldest_retires, oldest_lines};
 
-use crate::Recovery;
 use crate::parts::backing::drop_before;
 use crate::parts::{Backup, FaultsInOrder, Parts, Plan};
+use crate::{Halt, Recovery};
 use gp_base::limits::LONGEST_DELAY;
 use gp_base::{Event, Pos, Sink, SinkFault, put_all};
 use reorder_list::{Entry, Rol, StopWhy};
-use restart_log::printed;
-use std::alloc::Global;
+use restart_log::{is_printed, printed};
+use std::alloc::{AllocError, Global};
 
 // Whether no fault strikes at this front, or no fault that is due.
 fn none_strikes(rol: &Rol, faults: &FaultsInOrder, front: u32, any: bool) -> bool
@@ -94,15 +94,43 @@ fn put<O: Sink>(out: &mut O, bytes: &[u8]) -> Result<(), StopWhy>
     }
 }
 
+// Whether this is the text of the lines of an entry, and the record cells, where it is the last one, are as they were
+// left. The error is that memory is out.
+fn is_whole(alloc: Global, parts: &Parts, entry: &Entry, text: &[u8]) -> Result<bool, AllocError> {
+    let is_last = parts.rol.len() == 1 && matches!(parts.ended, Some(Halt::Ended(_)));
+    if is_last && !parts.store.is_whole() {
+        return Ok(false);
+    }
+    is_printed(alloc, text, &entry.prints)
+}
+
+// The text of the lines of an entry; where walks are compared, it is made twice. The error is that memory is out, or that
+// the texts differ, or data are not as they were left, which is noted.
+fn text_of(alloc: Global, plan: &Plan, parts: &Parts, entry: &Entry) -> Result<Vec<u8>, AllocError>
+    ensures { IfOk result (λ text. text.items ≡ printed entry.now.prints) }
+{
+    let text = printed(alloc, &entry.prints)?;
+    if plan.work.recheck.is_on() && !is_whole(alloc, parts, entry, &text)? {
+        plan.work.recheck.note_damaged(entry.pos);
+        return Err(AllocError);
+    }
+    Ok(text)
+}
+
 // Writes the lines of the oldest entry.
-fn write_oldest<O: Sink>(alloc: Global, rol: &Rol, out: &mut O) -> Result<(), StopWhy>
-    ensures all { OnOk result (Appends (O.written out.old) (O.written out.new) (printed (oldest_lines rol.now.entries))) }
-    ensures prefix { OnErr result (AppendsPrefix (O.written out.old) (O.written out.new) (printed (oldest_lines rol.now.entries))) }
+fn write_oldest<O: Sink>(
+    alloc: Global,
+    plan: &Plan,
+    parts: &Parts,
+    out: &mut O,
+) -> Result<(), StopWhy>
+    ensures all { OnOk result (Appends (O.written out.old) (O.written out.new) (printed (oldest_lines parts.now.rol.entries))) }
+    ensures prefix { OnErr result (AppendsPrefix (O.written out.old) (O.written out.new) (printed (oldest_lines parts.now.rol.entries))) }
     ensures cause { HasStopCause (O.faults out.old) (O.faults out.new) result }
 {
-    match rol.front() {
+    match parts.rol.front() {
         Some(entry) => {
-            let text = printed(alloc, &entry.prints)?;
+            let text = text_of(alloc, plan, parts, entry)?;
             put(out, &text)
         }
         None => Ok(()),
@@ -130,7 +158,7 @@ pub fn retire<O: Sink>(
         return Ok(None);
     }
     parts.events.reserve(1)?;
-    write_oldest(alloc, &parts.rol, out)?;
+    write_oldest(alloc, plan, parts, out)?;
     let entry = parts.rol.retire_front();
     drop_before(&mut parts.backup, entry.pos.0 + 1);
     parts.events.push(Event::Retire(entry.pos));
