@@ -155,6 +155,52 @@ restart 8 4 0 redo 4 6 7
 take 7 0 stale
 ";
 
+// A thread that takes a lock of the second array sixty times, and has 121 subthreads.
+const LONG: &str = "lock x[3];
+lock y[3];
+task main() {
+  var i;
+  while i < 60 {
+    lock y[2];
+    unlock y[2];
+    i = i + 1;
+  }
+}
+";
+
+// The first ten positions of its run.
+const BEGUN: &str = "issue 0
+post 0 0
+take 0 0 applied
+issue 1
+post 1 0
+take 1 0 applied
+issue 2
+post 2 0
+take 2 0 applied
+issue 3
+post 3 0
+take 3 0 applied
+issue 4
+post 4 0
+take 4 0 applied
+issue 5
+post 5 0
+take 5 0 applied
+issue 6
+post 6 0
+take 6 0 applied
+issue 7
+post 7 0
+take 7 0 applied
+issue 8
+post 8 0
+take 8 0 applied
+issue 9
+post 9 0
+take 9 0 applied
+";
+
 const UNLAWFUL: &str = "gprs_view: input cut.txt kind 1 row 24\n";
 
 const BROKEN: &str = "gprs_view: input lock.csv kind 1 row 1\n";
@@ -190,14 +236,16 @@ fn put(
     files.push((name, text))
 }
 
-// A shelf with this program, three lists of one fault each, and a trace.
+// A shelf with this program, four lists of one fault each, and two traces.
 fn shelf_with(alloc: Global, program: &str) -> Result<MemShelf, AllocError> {
     let mut files = Seq::new(alloc);
     put(alloc, &mut files, b"p.gp", program.as_bytes())?;
     put(alloc, &mut files, b"lock.csv", b"4,0,3,1\n")?;
     put(alloc, &mut files, b"start.csv", b"2,0,60,1\n")?;
     put(alloc, &mut files, b"fork.csv", b"1,0,60,1\n")?;
+    put(alloc, &mut files, b"late.csv", b"70,0,3,1\n")?;
     put(alloc, &mut files, b"cut.txt", CUT.as_bytes())?;
+    put(alloc, &mut files, b"begun.txt", BEGUN.as_bytes())?;
     Ok(MemShelf::new(alloc, files, Seq::new(alloc)))
 }
 
@@ -290,18 +338,76 @@ fn count_of(text: &[u8], part: &[u8]) -> usize {
 // Parts of a picture, and how often each stands in it.
 type Counts = [(&'static [u8], usize); 4];
 
-const TRACED: Counts = [
-    (b"<title>", 14),
-    (b", its result came after the restart</title>", 1),
-    (b", not run</title>", 6),
-    (b"class='struck'", 3),
-];
-
-const PLAIN: Counts = [
-    (b"<title>", 14),
-    (b", its result came after the restart</title>", 0),
-    (b", not run</title>", 0),
-    (b"class='struck'", 3),
+// Words, a program, and what the picture has. The first three are of eleven positions, of which a restart redoes three.
+// In the others it redoes four, from position 70 on: the seventy before them are a band without rows, the next thirty-two
+// one with a row of two lanes, and the last nineteen one with a row of one lane.
+const PICTURES: [(&str, &str, Counts); 6] = [
+    (
+        "timeline p.gp --faults lock.csv --trace cut.txt",
+        ADD,
+        [
+            (b"<title>", 14),
+            (b", its result came after the restart</title>", 1),
+            (b", not run</title>", 6),
+            (b"class='struck'", 3),
+        ],
+    ),
+    (
+        "timeline p.gp --faults lock.csv",
+        ADD,
+        [
+            (b"<title>", 14),
+            (b", its result came after the restart</title>", 0),
+            (b", not run</title>", 0),
+            (b"class='struck'", 3),
+        ],
+    ),
+    (
+        "timeline p.gp",
+        ADD,
+        [
+            (b"<title>", 11),
+            (b" width='660' height='190'>", 1),
+            (
+                b"textLength='42' lengthAdjust='spacingAndGlyphs'>L tally[0]</text>",
+                2,
+            ),
+            (b"'>F 2</text>", 1),
+        ],
+    ),
+    (
+        "timeline p.gp --faults late.csv",
+        LONG,
+        [
+            (b"<title>", 55),
+            (b" width='1532' height='282'>", 1),
+            (b"'>70 subthreads from 0 on, without a restart</text>", 1),
+            (b"'>L y[2]</text>", 27),
+        ],
+    ),
+    (
+        "timeline p.gp --faults late.csv --trace begun.txt",
+        LONG,
+        [
+            (b"<title>", 55),
+            (b", not run</title>", 55),
+            (
+                b"'>70 subthreads from 0 on, without a restart, 60 not run</text>",
+                1,
+            ),
+            (b"class='side'", 2),
+        ],
+    ),
+    (
+        "timeline p.gp",
+        LONG,
+        [
+            (b"<title>", 0),
+            (b" width='1532' height='136'>", 1),
+            (b"'>121 subthreads from 0 on, without a restart</text>", 1),
+            (b"class='side'", 0),
+        ],
+    ),
 ];
 
 // Whether the output of a call has these parts so often.
@@ -314,19 +420,14 @@ fn has_counts(answer: &Answer, counts: &Counts) -> bool {
     true
 }
 
-// Whether the picture of the run that adds has these parts so often, for these words.
-fn pictures(alloc: Global, words: &str, counts: &Counts) -> Result<bool, AllocError> {
-    let answer = answer_of(alloc, words, ADD, 100000)?;
-    let is_told = has_counts(&answer, counts);
-    drop(answer);
-    Ok(is_told)
-}
-
 #[test]
-fn a_trace_tells_how_far_a_run_came(rt: HostRuntime) -> Result<(), Fail> {
+fn pictures_have_their_boxes(rt: HostRuntime) -> Result<(), Fail> {
     let alloc = rt.alloc();
-    let traced = "timeline p.gp --faults lock.csv --trace cut.txt";
-    assert!(rt; pictures(alloc, traced, &TRACED)?);
-    assert!(rt; pictures(alloc, "timeline p.gp --faults lock.csv", &PLAIN)?);
+    for (words, program, counts) in &PICTURES {
+        let answer = answer_of(alloc, words, program, 100000)?;
+        let is_drawn = has_counts(&answer, counts);
+        drop(answer);
+        assert!(rt; is_drawn);
+    }
     Ok(())
 }
