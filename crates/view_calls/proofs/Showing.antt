@@ -110,7 +110,7 @@ module _ (judge : Judge) where
       -- a part of the line of a refusal is a part of a line of the case
       module _ (reading : Option Viewed) (failed failed' : List Name) where
         abbrev TakesLine : Case Sight → Type 0
-        TakesLine case = (line : List ℕ) × IsLine (Grew failed failed') case line × TakesPart err line
+        TakesLine case = (line : List ℕ) × IsLine (Grew failed failed') (own_line case) (names_read case) line × TakesPart err line
 
         refusal_part : (refusal : Refusal) → IfSome files (λ told. RefusesCase (IsCase (asking judge) words told) refusal)
             → RefusesShelf MayRead reading failed failed' refusal → TakesPart err (refusal_line refusal)
@@ -148,7 +148,7 @@ module _ (judge : Judge) where
           → RefusesShelf MayRead reading failed failed' refusal → LineEnds (refusal_status refusal) (refusal_line refusal) err status
           → status ≡ 7
           → (name : Name)
-          × FailsToRead judge
+          × FailsToRead (asking judge)
           (record { words = words; files = files; failed = failed; failed' = failed'; out = out; err = err; status = status }) name
           × TakesAll err (read_fault_line name)
       refusal_read failed failed' out reading refusal status known shelf (line_failed part fails) is = absurd (omega (arith, is))
@@ -222,7 +222,7 @@ module _ (judge : Judge) where
     stop_part fault status (line_no_memory part) = part
     stop_part fault status (whole all) = prefix_whole err.written err.written' (fault_line fault) all
 
-    stop_line : (grew : Type 0) (fault : SinkFault) (case : Case Sight) → IsLine grew case (fault_line fault)
+    stop_line : (grew : Type 0) (fault : SinkFault) (case : Case Sight) → IsLine grew (own_line case) (names_read case) (fault_line fault)
     stop_line grew Failed case = inr (inr (inl refl))
     stop_line grew sink.OutOfMemory case = inr (inl refl)
 
@@ -271,7 +271,7 @@ module _ (judge : Judge) where
     absent_part position status there ends = subst (λ a. TakesPart err (absent_line a)) (sym there) (absent_taken position status ends)
 
     show_stopped : (grew : Type 0) (names : List Name) (status : ℕ) → ShowEnds sight out err status → IsStop status
-        → (line : List ℕ) × IsLine grew (Go names sight) line × TakesPart err line
+        → (line : List ℕ) × IsLine grew (absent_line (absent_of sight)) names line × TakesPart err line
     show_stopped grew names status (shown none all kept) is = absurd (grind (arith, is))
     show_stopped grew names status (absent {position = position} there all ends) is =
         (absent_line (absent_of sight), inl refl, absent_part position status there ends)
@@ -296,6 +296,6 @@ module _ (judge : Judge) where
         read_fault = λ is. absurd (grind (arith, is, is_status));
         write_fault = show_fault sight out err status ends;
         stopped = λ is. for_known (asking judge) words files (Go names sight)
-            (λ case. (line : List ℕ) × IsLine (Grew failed failed') case line × TakesPart err line) known
+            (λ case. (line : List ℕ) × IsLine (Grew failed failed') (own_line case) (names_read case) line × TakesPart err line) known
             (show_stopped sight out err (Grew failed failed') names status ends is);
       }

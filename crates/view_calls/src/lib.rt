@@ -8,5 +8,5 @@ mod top;
 mod words;
 
 pub use call_cases::end_with;
-pub use lines::OUT_OF_MEMORY;
+pub use lines::{OUT_OF_MEMORY, refuse, stop_with};
 pub use top::view_run;

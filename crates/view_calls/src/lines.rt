@@ -18,7 +18,7 @@ pub const OUT_OF_MEMORY: &[u8] = b"gprs_view: out of memory\n";
 pub const WRITE_FAULT: &[u8] = b"gprs_view: write fault\n";
 
 // Words of no command.
-const USAGE: &[u8] = b"gprs_view: usage: order | why | timeline\n";
+const USAGE: &[u8] = b"gprs_view: usage: order | why | timeline | explain\n";
 
 // Writes two pieces one after the other.
 fn put_both<E: Sink>(to: &mut E, first: &[u8], second: &[u8]) -> Result<(), SinkFault>

@@ -10,7 +10,7 @@ under_own_name line = codes "gprs_view" ++ drop 4 line
 
 -- words of no command
 abbrev pub usage_line : List ℕ
-usage_line = codes "gprs_view: usage: order | why | timeline\n"
+usage_line = codes "gprs_view: usage: order | why | timeline | explain\n"
 
 -- a file that could not be read
 abbrev pub read_fault_line : (name : List ℕ) → List ℕ
