@@ -14,7 +14,6 @@ use Rattle.task_parser.specs.meaning.Words.{Placed, tokens_of}
 use Rattle.task_parser.specs.meaning.Expressions.{Text}
 use Rattle.task_parser.specs.meaning.Promise.{Stop, Spelled, StandFor, StopFirst, FaultThere}
 use Rattle.task_parser.specs.meaning.Answer.{offset_of, IsFirstFault}
-use Rattle.task_parser.specs.meaning.Spelling.{HasFault}
 use Rattle.task_parser.specs.Pieces.{least_length}
 use Rattle.task_parser.specs.Lexing.{AreTokensOf}
 use Rattle.task_parser.specs.Splitting.{AreInOrder}
@@ -147,15 +146,15 @@ before_len text (x ∷ front) rest place at order spans e =
     let yes : ltb x.from at ≡ true = grind (arith, nat_tests) in
     rw yes (omega (arith, before_len text front rest x.to at order.1 (λ k d h. spans (suc k) d (omega arith)) e))
 
-pub front_is : (text : Text) (tokens : List Token) (at : ℕ) → HasFault text tokens (Unexpected at) → AreInOrder 0 tokens
+pub front_is : (text : Text) (tokens : List Token) (at : ℕ) → IsFirstFault text tokens (Unexpected at) → AreInOrder 0 tokens
     → AreTokensOf text tokens → IsFront text tokens (take (prefix_len (λ (token : Token). ltb token.from at) tokens) tokens)
 front_is text tokens at h order spans =
-    let rest = h.first.0 in
-    let stop = h.first.2 in
+    let rest = h.0 in
+    let stop = h.2 in
     let f = tokens_of stop.front in
     let len : prefix_len (λ (token : Token). ltb token.from at) tokens ≡ length f =
     ap (λ (l : List Token). prefix_len (λ (token : Token). ltb token.from at) l) stop.parts
-    ∙ before_len text f rest 0 at (subst (AreInOrder 0) stop.parts order) (subst (AreTokensOf text) stop.parts spans) h.first.1 in
+    ∙ before_len text f rest 0 at (subst (AreInOrder 0) stop.parts order) (subst (AreTokensOf text) stop.parts spans) h.1 in
     let same : take (prefix_len (λ (token : Token). ltb token.from at) tokens) tokens ≡ f =
     ap (λ n. take n tokens) len ∙ ap (λ (l : List Token). take (length f) l) stop.parts ∙ take_at f rest (length f) refl in
     subst (IsFront text tokens) (sym same) (record { rest = rest; parts = stop.parts; stops = stop })

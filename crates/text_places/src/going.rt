@@ -3,7 +3,7 @@ ghost use Rattle.std.specs.Prelude.{◌≡◌, ◌<◌, ◌≤◌, ◌^◌, ◌�
 ghost use Rattle.std.specs.List.{prefix_len};
 ghost use Rattle.task_parser.specs.declared.token.Token.{Token as PlainToken};
 ghost use Rattle.task_parser.specs.meaning.Lexing.{lexed};
-ghost use Rattle.task_parser.specs.meaning.Spelling.{HasFault};
+ghost use Rattle.task_parser.specs.meaning.Answer.{IsFirstFault};
 ghost use Rattle.task_parser.specs.Lexing.{AreTokensOf};
 ghost use Rattle.text_places.specs.meaning.Expected.{GoesOn, IsFront, AreExpected, IsExpected, kind_of};
 
@@ -88,7 +88,7 @@ pub fn expected(
     requires few { length text.now < 2 ^ 31 }
     requires lexed { lexed text.now ≡ Ok tokens.now }
     requires spans { AreTokensOf text.now tokens.now }
-    requires fault { HasFault text.now tokens.now (ParseFault.Unexpected at) }
+    requires fault { IsFirstFault text.now tokens.now (ParseFault.Unexpected at) }
     ensures { IfOk result (λ kinds. IsExpected text.now tokens.now kinds.items) }
 {
     tokens_are_placed();
