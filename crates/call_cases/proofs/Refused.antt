@@ -221,29 +221,38 @@ text_case files asked text program there stands accepted =
     subst (λ fault. IsCaseOf asking asked files (program_case asking files asked program fault)) accepted
     (of_text (Stands program) there stands)
 
-pub accepted_answers : (told known : Option Files) (asked : Asked) (text : List ℕ) (program : Program) (before now : List (List ℕ))
-    (result : Result Request Refusal) → known ≡ told
-    → IfSome told (λ files. AnswersRead (bytes_of files asked.program) MOST_PROGRAM_BYTES before now (Ok text)) → Spells text program
-    → check_fault program ≡ None
+pub accepted_answers : (told known : Option Files) (asked : Asked) (text : List ℕ) (program : Program)
+    (result : Result Request Refusal) → known ≡ told → Spells text program → check_fault program ≡ None
     → IfSome known (λ files. AnswersCase case_of (λ case. accepted_case asked program files ≡ case) result)
-    → IfSome told (λ files. AnswersCase case_of (IsCaseOf asking asked files) result)
-accepted_answers None known asked text program before now result same read stands accepted is = tt
-accepted_answers (Some files) known asked text program before now result same read stands accepted is =
-    let case = text_case files asked text program read.ok stands accepted in
+    → IfSome told (λ files. bytes_of files asked.program ≡ Some text → AnswersCase case_of (IsCaseOf asking asked files) result)
+accepted_answers None known asked text program result same stands accepted is = tt
+accepted_answers (Some files) known asked text program result same stands accepted is = λ there.
+    let case = text_case files asked text program there stands accepted in
     answers_map case_of (λ c. accepted_case asked program files ≡ c) (IsCaseOf asking asked files)
     (λ c same_case. subst (IsCaseOf asking asked files) same_case case) result
     (subst (λ k. IfSome k (λ files. AnswersCase case_of (λ c. accepted_case asked program files ≡ c) result)) same is)
 
-pub refused_answers : (files : Option Files) (asked : Asked) (text : List ℕ) (before now : List (List ℕ)) (refusal : Refusal)
-    → IfSome files (λ files. AnswersRead (bytes_of files asked.program) MOST_PROGRAM_BYTES before now (Ok text))
-    → IsAcceptedIn asked text (Err refusal) → IfSome files (λ files. RefusesCase (IsCaseOf asking asked files) refusal)
-refused_answers None asked text before now refusal read is = tt
-refused_answers (Some files) asked text before now RefusedUsage read is = absurd is
-refused_answers (Some files) asked text before now (RefusedProgram line) read (meaning, means, is) =
-    (asked.program, subst (IsCaseOf asking asked files) (is files) (of_text meaning read.ok means))
-refused_answers (Some files) asked text before now (RefusedInput line) read is = absurd is
-refused_answers (Some files) asked text before now (ReadFault name) read is = absurd is
-refused_answers (Some files) asked text before now OutOfMemory read is = tt
+refused_answer : (files : Files) (asked : Asked) (text : List ℕ) (refusal : Refusal) → IsAcceptedIn asked text (Err refusal)
+    → bytes_of files asked.program ≡ Some text → RefusesCase (IsCaseOf asking asked files) refusal
+refused_answer files asked text RefusedUsage is there = absurd is
+refused_answer files asked text (RefusedProgram line) (meaning, means, is) there =
+    (asked.program, subst (IsCaseOf asking asked files) (is files) (of_text meaning there means))
+refused_answer files asked text (RefusedInput line) is there = absurd is
+refused_answer files asked text (ReadFault name) is there = absurd is
+refused_answer files asked text OutOfMemory is there = tt
+
+pub refused_answers : (files : Option Files) (asked : Asked) (text : List ℕ) (refusal : Refusal) → IsAcceptedIn asked text (Err refusal)
+    → IfSome files (λ files. bytes_of files asked.program ≡ Some text → RefusesCase (IsCaseOf asking asked files) refusal)
+refused_answers None asked text refusal is = tt
+refused_answers (Some files) asked text refusal is = refused_answer files asked text refusal is
+
+-- what holds where the program has a text holds where that was read
+pub there_read : (told known : Option Files) (asked : Asked) (text : List ℕ) (P : Files → Type 0) → known ≡ told
+    → IfSome told (λ files. bytes_of files asked.program ≡ Some text)
+    → IfSome known (λ files. bytes_of files asked.program ≡ Some text → P files) → IfSome told P
+there_read None known asked text P same read holds = tt
+there_read (Some files) known asked text P same read holds =
+    subst (λ k. IfSome k (λ files. bytes_of files asked.program ≡ Some text → P files)) same holds read
 
 pub refused_reads : (reading : Option Asked) (asked : Asked) (text : List ℕ) (before now : List Name) (refusal : Refusal) → now ≡ before
     → IsAcceptedIn asked text (Err refusal) → RefusesShelf MayRead reading before now refusal

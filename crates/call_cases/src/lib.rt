@@ -15,5 +15,5 @@ pub use endings::{Outcome, empty_journal, end_status, plain_outcome, refuse, ref
 pub use feeds::copied_feeds;
 pub use inputs::{read_file, refused_input};
 pub use lines::{OUT_OF_MEMORY, WRITE_FAULT, end_with};
-pub use reading::{Refusal, read_asked, read_for, read_request};
+pub use reading::{Refusal, read_asked, read_beside, read_for, read_program, read_request};
 pub use work::{Request, runs};

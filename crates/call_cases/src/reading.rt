@@ -1,6 +1,7 @@
 // What a call is to do, from its words and the shelf.
-ghost use Rattle.std.specs.Prelude.{◌≡◌, ◌<◌, ◌≤◌, List, Some, None, IfOk, IfSome, length, true};
+ghost use Rattle.std.specs.Prelude.{◌≡◌, ◌<◌, ◌≤◌, List, Some, None, IfOk, IfSome, MatchResult, length, true};
 ghost use Rattle.gp_base.specs.declared.limits.TheConstants.{MOST_PROGRAM_BYTES};
+ghost use Rattle.gp_base.specs.meaning.Files.{bytes_of};
 ghost use Rattle.task_ast.specs.View.{plain_program};
 ghost use Rattle.task_ast.specs.meaning.Tree.{Name};
 ghost use Rattle.task_ast.specs.Inputs.{AreInputsOf};
@@ -19,7 +20,7 @@ ghost use Rattle.call_cases.specs.meaning.InputFiles.{supplied_for};
 ghost use Rattle.call_cases.specs.InputFiles.{names_for};
 ghost use Rattle.call_cases.specs.declared.reading.Refusal.TheVariants.{OutOfMemory};
 ghost use Rattle.call_cases.specs.Decided.{IsAcceptedIn, accepted_case, case_of, IsRefusedWith, RefusesLexing, RefusesParsing, RefusesChecking, MayRun};
-ghost use Rattle.call_cases.specs.Refusals.{AnswersCase, AnswersNoCommand, ReadsAmong, TouchesShelf};
+ghost use Rattle.call_cases.specs.Refusals.{AnswersCase, AnswersNoCommand, ReadsAmong, RefusesCase, TouchesShelf};
 
 use crate::inputs::{read_inputs, read_struck};
 use crate::lines::{TOO_LONG, fault_line};
@@ -193,6 +194,49 @@ fn request_of<H: Shelf>(
     })
 }
 
+/// What is asked, on the program for which this text stands, with the files that the program names, and that of the
+/// faults. The first refusal met is the answer.
+pub fn read_beside<H: Shelf>(
+    alloc: Global,
+    asked: Asked,
+    text: &[u8],
+    shelf: &mut H,
+) -> Result<Request, Refusal>
+    requires within { IsWithinLimits asked }
+    requires short { length text.now ≤ MOST_PROGRAM_BYTES }
+    ensures kept { H.files shelf.new ≡ H.files shelf.old }
+    ensures shelf { TouchesShelf MayRead (Some asked) (H.failed shelf.old) (H.failed shelf.new) result }
+    ensures case { IfSome (H.files shelf.old) (λ files. bytes_of files asked.program ≡ Some text.now
+        → AnswersCase case_of (IsCaseOf asking asked files) result) }
+    ensures sound { IfOk result MayRun }
+    ensures asked { IfOk result (λ request. request.asked ≡ asked) }
+{
+    match program_in(alloc, &asked, text) {
+        Ok(checked) => request_of(alloc, asked, checked, shelf),
+        Err(refusal) => Err(refusal),
+    }
+}
+
+/// The text of the program that is asked for. The refusal is that of a file that can't be read, of a text that is longer
+/// than a program may be, or that memory is out.
+pub fn read_program<H: Shelf>(alloc: Global, asked: &Asked, shelf: &mut H) -> Result<Text, Refusal>
+    ensures kept { H.files shelf.new ≡ H.files shelf.old }
+    ensures shelf { TouchesShelf MayRead (Some asked.now) (H.failed shelf.old) (H.failed shelf.new) result }
+    ensures case { IfSome (H.files shelf.old) (λ files. MatchResult result
+        (λ text. bytes_of files asked.now.program ≡ Some text) (RefusesCase (IsCaseOf asking asked.now files))) }
+    ensures short { IfOk result (λ text. length text ≤ MOST_PROGRAM_BYTES) }
+{
+    match shelf.read(&asked.program, MOST_PROGRAM_BYTES) {
+        Ok(text) => Ok(text),
+        Err(ShelfFault::TooLong) => Err(refused(alloc, TOO_LONG)),
+        Err(ShelfFault::Failed) => match asked.program.copied(alloc) {
+            Ok(name) => Err(Refusal::ReadFault(name)),
+            Err(_) => Err(Refusal::OutOfMemory),
+        },
+        Err(ShelfFault::OutOfMemory) => Err(Refusal::OutOfMemory),
+    }
+}
+
 /// What is asked, on the program that its file has, with the files that the program names, and that of the faults. The
 /// first refusal met is the answer.
 pub fn read_asked<H: Shelf>(alloc: Global, asked: Asked, shelf: &mut H) -> Result<Request, Refusal>
@@ -203,14 +247,8 @@ pub fn read_asked<H: Shelf>(alloc: Global, asked: Asked, shelf: &mut H) -> Resul
     ensures sound { IfOk result MayRun }
     ensures asked { IfOk result (λ request. request.asked ≡ asked) }
 {
-    let text = match shelf.read(&asked.program, MOST_PROGRAM_BYTES) {
-        Ok(text) => text,
-        Err(ShelfFault::TooLong) => return Err(refused(alloc, TOO_LONG)),
-        Err(ShelfFault::Failed) => return Err(Refusal::ReadFault(asked.program)),
-        Err(ShelfFault::OutOfMemory) => return Err(Refusal::OutOfMemory),
-    };
-    match program_in(alloc, &asked, text.as_slice()) {
-        Ok(checked) => request_of(alloc, asked, checked, shelf),
+    match read_program(alloc, &asked, shelf) {
+        Ok(text) => read_beside(alloc, asked, text.as_slice(), shelf),
         Err(refusal) => Err(refusal),
     }
 }
