@@ -1,4 +1,5 @@
 pub mod Chains
+pub mod Endings
 pub mod Holders
 pub mod Linking
 pub mod Pictures

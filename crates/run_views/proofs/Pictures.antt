@@ -10,8 +10,7 @@ use Rattle.gp_base.specs.declared.limits.Limits.{Limits}
 use Rattle.gp_base.specs.declared.limits.TheConstants.{MOST_SUBTHREADS, MOST_FAULTS}
 use Rattle.task_ast.specs.declared.tree.Head.{Head}
 use Rattle.task_ast.specs.meaning.Tree.{Program}
-use Rattle.task_ast.specs.meaning.Plain.{Subthread, order, end, tree_machine}
-use Rattle.task_ast.proofs.PlainRuns.{count_law}
+use Rattle.task_ast.specs.meaning.Plain.{Subthread, order, end}
 use Rattle.one_thread.specs.declared.run.PlainRun.{PlainRun}
 use Rattle.one_thread.specs.declared.run.Step.{Step}
 use Rattle.one_thread.specs.PlainRuns.{IsPlainRun, shown}
@@ -25,6 +24,7 @@ use Rattle.gp_audit.proofs.StepOrder.{steps-struck}
 use Rattle.run_views.specs.declared.bands.Band.{Band}
 use Rattle.run_views.specs.meaning.Timeline.{foot, left, opening_band, next_band, last_band, words_at, is_folded, band_head, Tells, told_of, picture_start, title, attempt_box, ended_by, boxes, front_marks, shown_column, column_of, threads_of, columns, notes, picture, timeline_text}
 use Rattle.run_views.specs.inner.Seen.{seen, threads_in}
+use Rattle.run_views.proofs.Endings.{most_steps}
 use Rattle.run_views.proofs.SeenSteps.{child_written}
 
 -- a subthread without its actions
@@ -134,11 +134,7 @@ module _ (program : Program) (inputs : Inputs) (limits : Limits) (run : PlainRun
     (few : limits.subthreads ≤ MOST_SUBTHREADS) where
   -- a run has no more steps than subthreads are allowed
   pub few-steps : length run.order ≤ 200000
-  few-steps =
-      let count : length (order program inputs limits) ≤ limits.subthreads =
-      count_law (tree_machine program inputs limits) program inputs limits in
-      let same = ap length is.order ∙ length-map (order program inputs limits) shown in
-      omega (arith, count, same)
+  few-steps = let most = most_steps program inputs limits run is in omega (arith, most)
 
   module _ (faults : List Fault) (made : List Restart) (made_is : made ≡ restarts (dependence_by run.order) faults) where
     -- no more restarts than faults

@@ -1,5 +1,6 @@
 -- The text of the code's steps is that of the subthreads that they show.
-use Rattle.std.proofs.Common.{◌≡◌, ℕ, suc, List, [], ◌∷◌, ◌++◌, Option, Some, None, map, codes, slice_get, refl, ap, ap₂, ◌∙◌, append_assoc}
+use Rattle.std.proofs.Common.{◌≡◌, ℕ, suc, List, [], ◌∷◌, ◌++◌, Option, Some, None, map, codes, slice_get, refl, ap, ap₂, ◌∙◌}
+use Rattle.gp_base.specs.declared.ending.End.{End}
 use Rattle.gp_base.specs.declared.footprint.Loc.{Loc}
 use Rattle.gp_base.specs.declared.footprint.Loc.TheVariants as loc
 use Rattle.gp_base.specs.declared.feed.Inputs.{Inputs}
@@ -7,11 +8,13 @@ use Rattle.gp_base.specs.declared.limits.Limits.{Limits}
 use Rattle.task_ast.specs.declared.tree.Head.{Head}
 use Rattle.task_ast.specs.meaning.Tree.{Program}
 use Rattle.task_ast.specs.meaning.Footprint.{named_by, child_registers}
-use Rattle.task_ast.specs.meaning.Plain.{Subthread, foot_of, order, end}
+use Rattle.task_ast.specs.meaning.Plain.{Subthread, foot_of, order, end, last_state}
 use Rattle.one_thread.specs.declared.run.PlainRun.{PlainRun}
 use Rattle.one_thread.specs.declared.run.Step.{Step}
 use Rattle.one_thread.specs.PlainRuns.{IsPlainRun, shown}
-use Rattle.run_views.specs.meaning.Order.{order_line, order_lines, end_line, order_text}
+use Rattle.run_views.specs.meaning.Order.{order_line, order_lines, end_line}
+use Rattle.run_views.specs.meaning.Deadlocks.{deadlock_text}
+use Rattle.run_views.specs.meaning.OrderText.{order_text}
 use Rattle.run_views.specs.inner.Seen.{thread_in, child_in, seen}
 
 -- the thread that is forked is the second whose registers are written
@@ -37,26 +40,32 @@ lines_seen : (heads : List Head) (p : ℕ) (run : List Subthread) → order_line
 lines_seen heads p [] = refl
 lines_seen heads p (s ∷ run) = ap₂ (λ line lines. line ++ lines) (line_seen heads p s) (lines_seen heads (suc p) run)
 
--- the text of the code's run is that of the plain run
-pub text_seen : (program : Program) (inputs : Inputs) (limits : Limits) (run : PlainRun) → IsPlainRun program inputs limits run
-    → codes "order\n" ++ order_lines program.heads 0 (map seen run.order) ++ end_line run.end ≡ order_text program inputs limits
-unfolding order_text
-text_seen program inputs limits run is =
-    ap₂ (λ steps ending. codes "order\n" ++ order_lines program.heads 0 (map seen steps) ++ end_line ending) is.order is.end
-    ∙ ap (λ lines. codes "order\n" ++ lines ++ end_line (end program inputs limits))
-    (lines_seen program.heads 0 (order program inputs limits))
+module _ (program : Program) (inputs : Inputs) (limits : Limits) where
+  -- the text of these steps with this end, after these bytes
+  abbrev text_from : List ℕ → List Head → List Step → End → List ℕ
+  text_from bytes heads steps ending =
+      bytes ++ order_lines heads 0 (map seen steps) ++ end_line ending
+      ++ deadlock_text program.heads (last_state program inputs limits).table ending
 
--- the same of a text that was put together piece by piece
-pub text_shown : (program : Program) (inputs : Inputs) (limits : Limits) (run : PlainRun) (first second third text : List ℕ)
-    (heads : List Head) (steps : List Step) → IsPlainRun program inputs limits run
-    → first ≡ codes "order\n" → heads ≡ program.heads → steps ≡ run.order → second ≡ first ++ order_lines heads 0 (map seen steps)
-    → third ≡ second ++ end_line run.end → text ≡ third
-    → text ≡ order_text program inputs limits
-text_shown program inputs limits run first second third text heads steps is begun same_heads same_steps lines ends taken =
-    let from : List ℕ → List Head → List Step → List ℕ =
-    λ bytes heads steps. (bytes ++ order_lines heads 0 (map seen steps)) ++ end_line run.end in
-    taken ∙ ends ∙ ap (λ l. l ++ end_line run.end) lines
-    ∙ ap (λ l. from l heads steps) begun ∙ ap (λ h. from (codes "order\n") h steps) same_heads
-    ∙ ap (λ l. from (codes "order\n") program.heads l) same_steps
-    ∙ append_assoc (codes "order\n") (order_lines program.heads 0 (map seen run.order)) (end_line run.end)
-    ∙ text_seen program inputs limits run is
+  -- the text of the code's run is that of the plain run
+  text_seen : (run : PlainRun) → IsPlainRun program inputs limits run
+      → text_from (codes "order\n") program.heads run.order run.end ≡ order_text program inputs limits
+  unfolding order_text
+  text_seen run is =
+      ap₂ (text_from (codes "order\n") program.heads) is.order is.end
+      ∙ ap (λ lines. codes "order\n" ++ lines ++ end_line (end program inputs limits)
+      ++ deadlock_text program.heads (last_state program inputs limits).table (end program inputs limits))
+      (lines_seen program.heads 0 (order program inputs limits))
+
+  -- the same of a text that was put together piece by piece
+  pub text_shown : (run : PlainRun) (first second third fourth text : List ℕ) (heads : List Head) (steps : List Step)
+      → IsPlainRun program inputs limits run → first ≡ codes "order\n" → heads ≡ program.heads → steps ≡ run.order
+      → second ≡ first ++ order_lines heads 0 (map seen steps) → third ≡ second ++ end_line run.end
+      → fourth ≡ third ++ deadlock_text program.heads (last_state program inputs limits).table run.end → text ≡ fourth
+      → text ≡ order_text program inputs limits
+  text_shown run first second third fourth text heads steps is begun same_heads same_steps lines ends told taken =
+      taken ∙ told
+      ∙ ap (λ l. l ++ deadlock_text program.heads (last_state program inputs limits).table run.end)
+      (ends ∙ ap (λ l. l ++ end_line run.end) lines)
+      ∙ ap (λ l. text_from l heads steps run.end) begun ∙ ap (λ h. text_from (codes "order\n") h steps run.end) same_heads
+      ∙ ap (λ l. text_from (codes "order\n") program.heads l run.end) same_steps ∙ text_seen run is

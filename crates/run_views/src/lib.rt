@@ -3,6 +3,7 @@
 #![tactic(auto)]
 
 mod bands;
+mod deadlocks;
 mod elements;
 pub mod laws;
 mod links;

@@ -1,15 +1,20 @@
 // The text that shows the order of a run.
-ghost use Rattle.std.specs.Prelude.{◌≡◌, ◌++◌, codes, map, IfOk, OnOk};
+ghost use Rattle.std.specs.Prelude.{◌≡◌, ◌≤◌, ◌++◌, codes, length, map, IfOk, OnOk};
 ghost use Rattle.task_ast.specs.View.{plain_program};
+ghost use Rattle.task_ast.specs.meaning.Plain.{order, last_state};
 ghost use Rattle.lock_checker.specs.Accepted.{program_of};
+ghost use Rattle.one_thread.specs.PlainRuns.{IsPlainRun};
 ghost use Rattle.restart_log.specs.meaning.Tail.{why_word};
-ghost use Rattle.run_views.specs.meaning.Order.{thread_text, sync_text, held_text, order_line, order_lines, end_line, order_text};
+ghost use Rattle.run_views.specs.meaning.Order.{thread_text, sync_text, held_text, order_line, order_lines, end_line};
+ghost use Rattle.run_views.specs.meaning.Deadlocks.{standing_text, deadlock_text};
+ghost use Rattle.run_views.specs.meaning.OrderText.{order_text};
 ghost use Rattle.run_views.specs.inner.Seen.{child_in, seen};
 
+use crate::deadlocks::push_standing;
 use crate::names::{push_between, push_labelled, push_named_barrier, push_named_lock, push_number};
 use gp_base::{End, Footprint, Inputs, Limits, Loc, LockNo, Seq, Text, ThreadNo, Why};
 use lock_checker::Checked;
-use one_thread::{Step, run_plain};
+use one_thread::{PlainRun, Step, run_plain, stand_before};
 use std::alloc::{AllocError, Global};
 use task_ast::{Head, SyncOp};
 
@@ -123,9 +128,62 @@ pub fn push_end(text: &mut Vec<u8>, end: End) -> Result<(), AllocError>
     }
 }
 
+// Appends who waits for what after all subthreads of a run, of which there are so many.
+fn push_stand(
+    alloc: Global,
+    text: &mut Vec<u8>,
+    c: &Checked,
+    inputs: &Inputs,
+    limits: Limits,
+    subthreads: u32,
+) -> Result<(), AllocError>
+    requires { subthreads ≡ length (order (plain_program (program_of c.now)) inputs.now limits) }
+    ensures { let program = plain_program (program_of c.now) in let table = (last_state program inputs.now limits).table in OnOk result (text.new.items
+        ≡ text.old.items ++ standing_text program.heads table.owners (map (λ seat. seat.next) table.seats)) }
+{
+    match stand_before(alloc, c, inputs, limits, subthreads)? {
+        Some(standing) => push_standing(alloc, text, c.program().heads.as_slice(), &standing),
+        None => Ok(()),
+    }
+}
+
+// How many subthreads a run has, with this limit of them.
+fn subthreads_of(run: &PlainRun, most: u32) -> u32
+    requires { length run.now.order ≤ most }
+    ensures { result ≡ length run.now.order }
+{
+    run.order.len() as u32
+}
+
+// Appends who waits for what where no thread of a run can go on.
+fn push_deadlock(
+    alloc: Global,
+    text: &mut Vec<u8>,
+    c: &Checked,
+    inputs: &Inputs,
+    limits: Limits,
+    run: &PlainRun,
+) -> Result<(), AllocError>
+    requires { IsPlainRun (plain_program (program_of c.now)) inputs.now limits run.now }
+    ensures { let program = plain_program (program_of c.now) in OnOk result (text.new.items
+        ≡ text.old.items ++ deadlock_text program.heads (last_state program inputs.now limits).table run.now.end) }
+{
+    match run.end {
+        End::Stuck {
+            why: Why::Deadlock,
+            ..
+        } => {
+            let subthreads = subthreads_of(run, limits.subthreads);
+            push_stand(alloc, text, c, inputs, limits, subthreads)
+        }
+        _ => Ok(()),
+    }
+}
+
 /// The text that shows the order of a program's run on one thread without faults: a line for each subthread by its
 /// position, with its thread, the synchronisation that it begins with, how many lines it prints and the locks that it
-/// holds; then how the run ends. The error is that memory is out.
+/// holds; then how the run ends. Where no thread can go on, a line for each that has not ended tells what it waits for,
+/// and one for each barrier at which threads stand how many are missing. The error is that memory is out.
 pub fn order_text(
     alloc: Global,
     c: &Checked,
@@ -142,5 +200,6 @@ pub fn order_text(
         run.order.as_slice(),
     )?;
     push_end(&mut text, run.end)?;
+    push_deadlock(alloc, &mut text, c, inputs, limits, &run)?;
     Ok(Seq::from_vec(text))
 }

@@ -1,16 +1,14 @@
--- The text that shows the order of a run: a line for each subthread, and one for the end.
+-- The lines that show the order of a run: one for each subthread, and one for the end.
 use Rattle.std.specs.Prelude.{ℕ, suc, ◌-◌, List, [], ◌∷◌, ◌++◌, Option, Some, None, length, codes, decimal, flat_map, nat_lt, slice_get, unwrap_or, if◌then◌else◌}
 use Rattle.std.specs.Fmt.{signed_decimal}
 use Rattle.gp_base.specs.declared.ending.End.{End}
 use Rattle.gp_base.specs.declared.ending.End.TheVariants.{Finished, Stuck, Spent}
-use Rattle.gp_base.specs.declared.feed.Inputs.{Inputs}
-use Rattle.gp_base.specs.declared.limits.Limits.{Limits}
 use Rattle.task_ast.specs.declared.sync.SyncOp.{SyncOp}
 use Rattle.task_ast.specs.declared.sync.SyncOp.TheVariants as sync
 use Rattle.task_ast.specs.declared.tree.Head.{Head}
-use Rattle.task_ast.specs.meaning.Tree.{Name, Program}
+use Rattle.task_ast.specs.meaning.Tree.{Name}
 use Rattle.task_ast.specs.meaning.Names.{firsts, locks_of, barriers_of}
-use Rattle.task_ast.specs.meaning.Plain.{Subthread, order, end}
+use Rattle.task_ast.specs.meaning.Plain.{Subthread}
 use Rattle.restart_log.specs.meaning.Tail.{why_word}
 
 -- a cell of an array
@@ -67,8 +65,3 @@ end_line Finished = codes "end finished\n"
 end_line (Stuck why thread line) =
     codes "end stuck " ++ why_word why ++ codes " thread " ++ decimal thread ++ codes " line " ++ decimal line ++ codes "\n"
 end_line (Spent position) = codes "end spent " ++ decimal position ++ codes "\n"
-
--- the order of a program's run
-unfoldable pub order_text : Program → Inputs → Limits → List ℕ
-order_text program inputs limits =
-    codes "order\n" ++ order_lines program.heads 0 (order program inputs limits) ++ end_line (end program inputs limits)

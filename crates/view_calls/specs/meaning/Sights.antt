@@ -11,7 +11,7 @@ use Rattle.call_cases.specs.meaning.InputFiles.{supplied_by, then_load}
 use Rattle.call_cases.specs.meaning.Journals.{dependence_for}
 use Rattle.call_cases.specs.meaning.Lines.{input_line}
 use Rattle.audit_calls.specs.meaning.Tried.{Judge}
-use Rattle.run_views.specs.meaning.Order.{order_text}
+use Rattle.run_views.specs.meaning.OrderText.{order_text}
 use Rattle.run_views.specs.meaning.Timeline.{timeline_text}
 use Rattle.run_views.specs.meaning.Why.{why_text}
 use Rattle.view_calls.specs.declared.words.Viewed.{Viewed}

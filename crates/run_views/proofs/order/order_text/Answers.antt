@@ -7,6 +7,6 @@ use Rattle.run_views.proofs.order.order_text.Goals as goal
 
 pub returns : goal.returns
 returns c =
-    text_shown (plain_program (program_of c.args.c.now)) c.args.inputs.now c.args.limits c.in_ok-run.run' _ _ _ _ _ _ c.in_ok-run.ensures
+    text_shown (plain_program (program_of c.args.c.now)) c.args.inputs.now c.args.limits c.in_ok-run.run' _ _ _ _ _ _ _ c.in_ok-run.ensures
     c.in_ok-text.ensures.items (c.as_slice.ensures ∙ ap (λ (p : Program). p.heads) c.program.ensures) c.as_slice-2.ensures
-    c.in_ok-push_order.ensures c.in_ok-push_end.ensures c.from_vec.ensures
+    c.in_ok-push_order.ensures c.in_ok-push_end.ensures c.in_ok-push_deadlock.ensures c.from_vec.ensures

@@ -1,0 +1,56 @@
+-- What stands where a run has ended.
+use Rattle.std.proofs.Common.{◌≡◌, ◌≤◌, ℕ, zero, suc, length, map, refl, ap, ap₂, ◌∙◌, arith}
+use Rattle.std.proofs.lemmas.List.{length-map}
+use Rattle.gp_base.specs.declared.feed.Inputs.{Inputs}
+use Rattle.gp_base.specs.declared.limits.Limits.{Limits}
+use Rattle.task_ast.specs.meaning.Tree.{Program}
+use Rattle.task_ast.specs.meaning.Plain.{Plain, tree_machine, move, opening, order, last_state}
+use Rattle.task_ast.specs.meaning.Position.{before}
+use Rattle.task_ast.specs.meaning.Repeat.{Move, Goes, Ends, steps_from, steps, state_from, state_after}
+use Rattle.task_ast.proofs.PlainRuns.{count_law}
+use Rattle.one_thread.specs.declared.run.PlainRun.{PlainRun}
+use Rattle.one_thread.specs.declared.standing.Standing.{Standing}
+use Rattle.one_thread.specs.PlainRuns.{IsPlainRun, Stands, shown}
+use Rattle.run_views.specs.meaning.Deadlocks.{standing_text}
+
+module _ {A S E : Type 0} (moves : A → Move A S E) where
+  -- all steps lead where more of them would lead
+  after_all : (n : ℕ) (a : A) → state_after moves (length (steps moves n a)) a ≡ state_after moves n a
+  unfolding steps state_after
+  after_all zero a = refl
+  after_all (suc n) a = go (moves a) refl (after_all n)
+    where
+      go : (m : Move A S E) → moves a ≡ m → ((b : A) → state_after moves (length (steps moves n b)) b ≡ state_after moves n b)
+          → state_after moves (length (steps_from moves m (steps moves n))) a ≡ state_from moves a m (state_after moves n)
+      go (Goes s b) is again = ap (λ m. state_from moves a m (state_after moves (length (steps moves n b)))) is ∙ again b
+      go (Ends e) is again = refl
+
+module _ (program : Program) (inputs : Inputs) (limits : Limits) (run : PlainRun) (is : IsPlainRun program inputs limits run) where
+  -- the code's run has as many subthreads as the plain run, and no more than are allowed
+  pub same_count : length run.order ≡ length (order program inputs limits)
+  same_count = ap length is.order ∙ length-map (order program inputs limits) shown
+
+  pub most_steps : length run.order ≤ limits.subthreads
+  most_steps =
+      let count : length (order program inputs limits) ≤ limits.subthreads =
+      count_law (tree_machine program inputs limits) program inputs limits in
+      let same = same_count in
+      omega (arith, count, same)
+
+-- a run stands after all its subthreads as it stands at its end
+before_end : (program : Program) (inputs : Inputs) (limits : Limits)
+    → before program inputs limits (length (order program inputs limits)) ≡ last_state program inputs limits
+before_end program inputs limits =
+    after_all (move program inputs limits) (suc limits.subthreads) (opening program inputs limits)
+
+-- so what is told of the threads there is told of them at its end
+pub standing_at_end : (program : Program) (inputs : Inputs) (limits : Limits) (position : ℕ) (standing : Standing)
+    → position ≡ length (order program inputs limits)
+    → Stands (before program inputs limits position).table (before program inputs limits position).points standing
+    → standing_text program.heads standing.owners.items standing.nexts.items
+    ≡ standing_text program.heads (last_state program inputs limits).table.owners
+    (map (λ seat. seat.next) (last_state program inputs limits).table.seats)
+standing_at_end program inputs limits position standing is stands =
+    ap₂ (standing_text program.heads) stands.owners stands.nexts
+    ∙ ap (λ (here : Plain). standing_text program.heads here.table.owners (map (λ seat. seat.next) here.table.seats))
+    (ap (before program inputs limits) is ∙ before_end program inputs limits)
