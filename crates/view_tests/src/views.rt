@@ -74,6 +74,62 @@ const STUCK: &str = "order
 6 thread 1 line 6 lock y[0] prints 0 holds x[1] y[0]
 7 thread 2 line 14 lock y[1] prints 0 holds y[1]
 end stuck deadlock thread 0 line 22
+thread 0 line 22 waits for thread 1 to end
+thread 1 line 7 waits for lock y[1] of thread 2
+thread 2 line 15 waits for lock x[1] of thread 1
+";
+
+// A thread takes a lock of the second array that it holds by another name, two stand at a barrier of three, one at a barrier
+// of two, and one has ended.
+const WAITING: &str = "lock x[2];
+barrier start(2);
+barrier step(3);
+lock y[4];
+task two(i, j) { lock y[i]; lock y[j]; unlock y[j]; unlock y[i]; }
+task meet() { barrier step; }
+task late() { barrier start; }
+task none() { }
+task main() {
+  fork meet();
+  fork two(3, 3);
+  fork none();
+  fork late();
+  barrier step;
+}
+";
+
+const WAITED: &str = "order
+0 thread 0 line 0 start prints 0 holds
+1 thread 0 line 10 fork 1 prints 0 holds
+2 thread 1 line 0 start prints 0 holds
+3 thread 0 line 11 fork 2 prints 0 holds
+4 thread 2 line 0 start prints 0 holds
+5 thread 0 line 12 fork 3 prints 0 holds
+6 thread 2 line 5 lock y[3] prints 0 holds y[3]
+7 thread 3 line 0 start prints 0 holds
+8 thread 0 line 13 fork 4 prints 0 holds
+9 thread 4 line 0 start prints 0 holds
+end stuck deadlock thread 0 line 14
+thread 0 line 14 waits for barrier step
+thread 1 line 6 waits for barrier step
+thread 2 line 5 waits for lock y[3], which it holds itself
+thread 4 line 7 waits for barrier start
+barrier start: 1 of 2 threads is there: 4
+barrier step: 2 of 3 threads are there: 0 1
+";
+
+// A thread that does not exist is joined; the other one waits for a lock, which is not told.
+const JOINS: &str = "lock x[1];
+task t() { lock x[0]; unlock x[0]; }
+task main() { lock x[0]; fork t(); join 2; unlock x[0]; }
+";
+
+const NOT_JOINED: &str = "order
+0 thread 0 line 0 start prints 0 holds
+1 thread 0 line 3 lock x[0] prints 0 holds x[0]
+2 thread 0 line 3 fork 1 prints 0 holds x[0]
+3 thread 1 line 0 start prints 0 holds
+end stuck join thread 0 line 3
 ";
 
 const BARRIERS: &str = "barrier first(1);
@@ -283,9 +339,11 @@ fn answer_of(alloc: Global, words: &str, program: &str, most: usize) -> Result<A
 // Words, a program, and the status, the output and the line on the error stream that they have.
 type Row = (&'static str, &'static str, u8, &'static str, &'static str);
 
-const ROWS: [Row; 19] = [
+const ROWS: [Row; 21] = [
     ("order p.gp", ADD, 0, ADDED, ""),
     ("order p.gp", DEADLOCK, 0, STUCK, ""),
+    ("order p.gp", WAITING, 0, WAITED, ""),
+    ("order p.gp", JOINS, 0, NOT_JOINED, ""),
     ("order p.gp", BARRIERS, 0, MET, ""),
     ("order p.gp --turns 10", LOOP, 0, SPENT, ""),
     ("why p.gp 7 --faults lock.csv", ADD, 0, NAMED, ""),
