@@ -133,7 +133,7 @@ fn redo(alloc: Global, rol: &mut Rol, struck: u32) -> Result<Seq<Pos>, AllocErro
     };
     let mut redo = Room::new(alloc);
     redo.reserve(8)?;
-    let mut store = Store::new(alloc, Seq::new(alloc), layout)?;
+    let mut store = Store::new(alloc, Seq::new(alloc), layout, false)?;
     restart(alloc, rol, &mut store, Pos(struck), Pos(8), &mut redo);
     drop(store);
     Ok(redo.into_seq())
