@@ -9,8 +9,8 @@ ghost use Rattle.restart_log.specs.meaning.Lines.{spaced};
 ghost use Rattle.retirement_log.specs.meaning.Rows.{IsWide, IsWideCell, IsWideRow, group, cell_numbers, groups_text};
 ghost use Rattle.retirement_log.specs.meaning.Log.{child_left, numbered, log_row};
 
-use gp_base::{LockNo, Nums, RecNo, Seq, ThreadNo};
-use record_store::Bundle;
+use gp_base::{LockNo, RecNo, Seq, ThreadNo};
+use record_store::{Bundle, Summed};
 use restart_log::{push_number, push_spaced};
 use std::alloc::{AllocError, Global};
 use subthread::{Done, Work};
@@ -72,7 +72,7 @@ fn push_group(text: &mut Vec<u8>, values: &[i64]) -> Result<(), AllocError>
 }
 
 // Appends the group of the registers of a child, which is empty where there is no child.
-fn push_child(text: &mut Vec<u8>, child: &Option<(ThreadNo, Nums)>) -> Result<(), AllocError>
+fn push_child(text: &mut Vec<u8>, child: &Option<(ThreadNo, Summed)>) -> Result<(), AllocError>
     ensures text { OnOk result (text.new.items ≡ text.old.items ++ group (child_left child.now)) }
     ensures wide { All IsWide (child_left child.now) }
 {
