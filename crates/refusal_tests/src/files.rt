@@ -2,8 +2,9 @@
 use crate::shown::file_told;
 use batch_files::FileKind;
 use batch_files::FileKind::{Fields, Number, Range, TooMany, Twice};
-use gp_base::Seq;
+use gp_base::Name;
 use refusal_texts::FileUse;
+use std::alloc::{AllocError, Global};
 use std::test::Fail;
 
 // What a file is read as.
@@ -133,21 +134,27 @@ const FILES: [Case; 16] = [
     ),
 ];
 
+// Whether what is wanted is told of the file.
+fn is_told(alloc: Global, case: &Case) -> Result<bool, AllocError> {
+    let (used, file, kind, row, wanted) = case;
+    let name = Name::from_slice(alloc, b"acct")?;
+    let used = match used {
+        Used::Record => FileUse::Record {
+            name: &name,
+            size: 40,
+        },
+        Used::Feed => FileUse::Feed { fields: 3 },
+        Used::Faults => FileUse::Faults,
+    };
+    let text = file_told(alloc, file, used, *kind, *row)?;
+    Ok(text.as_slice() == *wanted)
+}
+
 #[test]
 fn files_that_are_refused(rt: HostRuntime) -> Result<(), Fail> {
     let table: [Case; 16] = FILES;
-    let name = Seq::from_slice(rt.alloc(), b"acct")?;
-    for (used, file, kind, row, wanted) in &table {
-        let used = match used {
-            Used::Record => FileUse::Record {
-                name: &name,
-                size: 40,
-            },
-            Used::Feed => FileUse::Feed { fields: 3 },
-            Used::Faults => FileUse::Faults,
-        };
-        let text = file_told(rt.alloc(), file, used, *kind, *row)?;
-        assert_eq!(rt; text.as_slice(), *wanted);
+    for case in &table {
+        assert!(rt; is_told(rt.alloc(), case)?);
     }
     Ok(())
 }
