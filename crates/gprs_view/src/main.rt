@@ -1,10 +1,14 @@
-//! Shows the runs of batch programs: the order of their subthreads, why one was redone, and a picture.
+//! Shows the runs of batch programs: the order of their subthreads, why one was redone, and a picture; and tells in words
+//! what a program and its files come to.
 #![tactic(auto)]
 
+mod calls;
+
+use calls::status_for;
 use process_io::{FileShelf, StdSink, words_of};
 use std::io;
 use std::process::ExitCode;
-use view_calls::{OUT_OF_MEMORY, end_with, view_run};
+use view_calls::{OUT_OF_MEMORY, end_with};
 
 fn main(rt: HostRuntime) -> ExitCode {
     let mut err = StdSink::new(rt.stderr());
@@ -18,5 +22,5 @@ fn main(rt: HostRuntime) -> ExitCode {
     };
     let mut shelf = FileShelf::new(&rt);
     let mut out = StdSink::new(rt.stdout());
-    ExitCode::from(view_run(rt.alloc(), &words, &mut shelf, &mut out, &mut err))
+    ExitCode::from(status_for(rt.alloc(), &words, &mut shelf, &mut out, &mut err))
 }

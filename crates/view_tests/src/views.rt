@@ -263,7 +263,7 @@ const BROKEN: &str = "gprs_view: input lock.csv kind 1 row 1\n";
 
 const NO_POSITION: &str = "gprs_view: no position 11\n";
 
-const USAGE: &str = "gprs_view: usage: order | why | timeline\n";
+const USAGE: &str = "gprs_view: usage: order | why | timeline | explain\n";
 
 const UNNAMED: &str = "gprs_view: check 1 at line 1\n";
 

@@ -1,0 +1,4 @@
+pub mod Explaining
+pub mod Fronts
+pub mod Outcomes
+pub mod OwnCases

@@ -1,0 +1,22 @@
+use Rattle.std.proofs.Common.{◌≡◌, None, Some, IfSome, sym, subst}
+use Rattle.command_line.specs.meaning.Words.{texts}
+use Rattle.call_cases.specs.meaning.Case.{IsCase}
+use Rattle.call_cases.specs.Refusals.{RefusesCase}
+use Rattle.call_cases.proofs.Answering.{usage_case}
+use Rattle.explain_calls.specs.meaning.Commands.{asking, explained_by}
+use Rattle.explain_calls.specs.Endings.{plainly}
+use Rattle.explain_calls.proofs.OwnCases.{words_answer}
+use Rattle.explain_calls.proofs.reading.read_explained.Goals as goal
+
+pub returns-in-Ok-Some-clause-case : goal.returns-in-Ok-Some-clause-case
+returns-in-Ok-Some-clause-case g c =
+    let some : explained_by (texts c.args.words.now) ≡ Some c.in-Ok-Some.asked =
+    sym (rw c.in-Ok-Some.field-0-is at c.in-Ok-Some.ensures.asked) in
+    words_answer (texts c.args.words.now) (g.H.Shelf.files c.args.shelf.now) c.in-Ok-Some.asked (plainly c.read_run.result) some
+    c.read_run.ensures.case
+
+pub returns-in-Ok-None-clause-case : goal.returns-in-Ok-None-clause-case
+returns-in-Ok-None-clause-case g c =
+    let none : explained_by (texts c.args.words.now) ≡ None = sym (rw c.in-Ok-None.field-0-is at c.in-Ok-None.ensures.asked) in
+    subst (λ refusal. IfSome (g.H.Shelf.files c.args.shelf.now) (λ files. RefusesCase (IsCase asking (texts c.args.words.now) files) refusal))
+    (sym c.bare.ensures.refusal) (usage_case asking (texts c.args.words.now) (g.H.Shelf.files c.args.shelf.now) none)

@@ -1,0 +1,173 @@
+// How much a run did, how much of it side by side, and in which lines its arithmetic was not exact.
+
+use gp_base::{Loc, ThreadNo};
+use one_thread::{PlainRun, Step};
+use run_counts::{Counting, Slip};
+use run_views::{push_between, push_number};
+use std::alloc::{AllocError, Global};
+use task_ast::SyncOp;
+
+// The levels of subthreads: one more than that of the last of its thread, of each lock that it holds, and of the thread
+// that it joins or whose fork it is. `next` has for each thread, and each lock, the level that comes next.
+#[derive(Drop)]
+struct Levels {
+    threads: Vec<u32>,
+    locks: Vec<u32>,
+    widths: Vec<u32>,
+}
+
+// The number at a place, or 0 past the end.
+fn at(numbers: &[u32], place: usize) -> u32 {
+    match numbers.get(place) {
+        Some(number) => *number,
+        None => 0,
+    }
+}
+
+// Puts a number at a place, behind so many zeros as are wanted.
+fn put(numbers: &mut Vec<u32>, place: usize, number: u32) -> Result<(), AllocError> {
+    let missing = place.saturating_add(1).saturating_sub(numbers.len());
+    for _ in 0..missing {
+        numbers.push(0)?;
+    }
+    if let Some(slot) = numbers.get_mut(place) {
+        *slot = number;
+    }
+    Ok(())
+}
+
+// The thread that a subthread forked, whose registers it writes beside its own.
+fn child_of(step: &Step) -> Option<ThreadNo> {
+    match step.foot.writes.get(1) {
+        Some(Loc::Regs(child)) => Some(*child),
+        _ => None,
+    }
+}
+
+impl Levels {
+    fn new(alloc: Global) -> Levels {
+        Levels {
+            threads: Vec::new(alloc),
+            locks: Vec::new(alloc),
+            widths: Vec::new(alloc),
+        }
+    }
+
+    // The level of a subthread by those before it.
+    fn level_of(&self, step: &Step) -> u32 {
+        let mut level = at(&self.threads, step.thread.0 as usize);
+        for lock in step.held.as_slice() {
+            level = level.max(at(&self.locks, lock.0 as usize));
+        }
+        if let SyncOp::Join(thread) = &step.begins.sync {
+            if let Ok(thread) = usize::try_from(*thread) {
+                level = level.max(at(&self.threads, thread));
+            }
+        }
+        level
+    }
+
+    // One subthread more.
+    fn note(&mut self, step: &Step) -> Result<(), AllocError> {
+        let level = self.level_of(step);
+        let next = level.saturating_add(1);
+        put(&mut self.threads, step.thread.0 as usize, next)?;
+        for lock in step.held.as_slice() {
+            put(&mut self.locks, lock.0 as usize, next)?;
+        }
+        if let Some(child) = child_of(step) {
+            put(&mut self.threads, child.0 as usize, next)?;
+        }
+        let width = at(&self.widths, level as usize).saturating_add(1);
+        put(&mut self.widths, level as usize, width)
+    }
+}
+
+// The most subthreads of one level.
+fn widest(alloc: Global, order: &[Step]) -> Result<u32, AllocError> {
+    let mut levels = Levels::new(alloc);
+    for step in order {
+        levels.note(step)?;
+    }
+    let mut widest = 0;
+    for width in &levels.widths {
+        widest = widest.max(*width);
+    }
+    Ok(widest)
+}
+
+// How many of these steps begin a thread, and how many take a lock.
+fn counted(order: &[Step]) -> (usize, usize) {
+    let mut threads: usize = 0;
+    let mut locks: usize = 0;
+    for step in order {
+        match &step.begins.sync {
+            SyncOp::Start => threads = threads.saturating_add(1),
+            SyncOp::Lock(_) => locks = locks.saturating_add(1),
+            _ => {}
+        }
+    }
+    (threads, locks)
+}
+
+// Appends how many of a thing there are.
+fn push_many(text: &mut Vec<u8>, count: usize, thing: &[u8]) -> Result<(), AllocError> {
+    push_number(text, count)?;
+    text.extend_from_slice(thing)?;
+    if count != 1 {
+        text.extend_from_slice(b"s")?;
+    }
+    Ok(())
+}
+
+// Appends the line of a slip.
+fn push_slip(text: &mut Vec<u8>, line: usize, slip: &Slip) -> Result<(), AllocError> {
+    push_between(
+        text,
+        b"line ",
+        line,
+        b": arithmetic left 64 bits or divided by 0, ",
+    )?;
+    if slip.times == 1 {
+        text.extend_from_slice(b"once")?;
+    } else {
+        push_between(text, b"", slip.times, b" times")?;
+    }
+    push_between(text, b", first at position ", slip.first, b"\n")
+}
+
+// Appends the lines whose arithmetic was not exact.
+fn push_slips(text: &mut Vec<u8>, counting: &Counting) -> Result<(), AllocError> {
+    let mut exact = true;
+    for (line, slip) in counting.slips.iter().enumerate() {
+        if slip.times != 0 {
+            exact = false;
+            push_slip(text, line, slip)?;
+        }
+    }
+    if exact {
+        text.extend_from_slice(b"arithmetic: exact in every line\n")?;
+    }
+    Ok(())
+}
+
+/// Appends how many subthreads, threads and locks a run had, the most subthreads of one level, and each line whose
+/// arithmetic was not exact. The error is that memory is out.
+pub fn push_counts(
+    alloc: Global,
+    text: &mut Vec<u8>,
+    run: &PlainRun,
+    counting: &Counting,
+) -> Result<(), AllocError> {
+    let order = run.order.as_slice();
+    let (threads, locks) = counted(order);
+    push_many(text, order.len(), b" subthread")?;
+    text.extend_from_slice(b", ")?;
+    push_many(text, threads, b" thread")?;
+    text.extend_from_slice(b", ")?;
+    push_many(text, locks, b" lock")?;
+    text.extend_from_slice(b" taken; at most ")?;
+    push_many(text, widest(alloc, order)? as usize, b" subthread")?;
+    text.extend_from_slice(b" side by side\n")?;
+    push_slips(text, counting)
+}

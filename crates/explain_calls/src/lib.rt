@@ -1,0 +1,15 @@
+//! The call of `gprs_view explain`: what a run on one thread would come to, told in words, over a shelf and two sinks
+//! that are handed in.
+#![tactic(auto)]
+
+mod counts;
+mod details;
+mod indices;
+mod reading;
+mod refused;
+mod running;
+mod top;
+mod words;
+
+pub use top::explain_run;
+pub use words::is_explain;

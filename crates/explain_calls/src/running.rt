@@ -1,0 +1,140 @@
+// What is told of a run.
+ghost use Rattle.std.specs.Prelude.{◌≡◌, ◌++◌, List, [], length, IfOk, OnOk};
+ghost use Rattle.task_ast.specs.declared.tree.Program.{Program as ProgramThere};
+ghost use Rattle.task_ast.specs.meaning.Table.{Table};
+ghost use Rattle.task_ast.specs.meaning.Control.{Point};
+ghost use Rattle.task_ast.specs.meaning.Plain.{order, end};
+ghost use Rattle.task_ast.specs.meaning.Position.{before};
+ghost use Rattle.restart_log.specs.meaning.Tail.{why_word};
+ghost use Rattle.one_thread.specs.PlainRuns.{IsPlainRun, Stands};
+ghost use Rattle.command_line.specs.Words.{IsWithinLimits};
+ghost use Rattle.call_cases.specs.Decided.{work_of, program_in};
+ghost use Rattle.call_cases.specs.meaning.Case.{Go};
+ghost use Rattle.explain_calls.specs.meaning.Fronts.{ending_line, stuck_waits, front, last_table, IsText};
+
+use crate::counts::push_counts;
+use crate::details::{push_spent_details, push_stuck_details};
+use call_cases::Request;
+use gp_base::{End, Seq, Text, Why};
+use one_thread::{PlainRun, Standing, run_reckoned, stand_before};
+use run_counts::Counting;
+use run_views::{push_between, push_labelled, push_waits};
+use std::alloc::{AllocError, Global};
+use task_ast::Head;
+
+/// What is told of a run, and how it ends.
+#[derive(Drop)]
+pub struct Told {
+    pub text: Text,
+    pub end: End,
+}
+
+fn why_word(why: Why) -> &'static str
+    ensures { result.now ≡ why_word why }
+{
+    match why {
+        Why::Deadlock => "deadlock",
+        Why::Index => "index",
+        Why::Join => "join",
+        Why::Threads => "threads",
+    }
+}
+
+// Appends the line that tells how a run ends.
+fn push_ending(text: &mut Vec<u8>, end: End) -> Result<(), AllocError>
+    ensures { OnOk result (text.new.items ≡ text.old.items ++ ending_line end) }
+{
+    match end {
+        End::Finished => text.extend_from_slice(b"ok\n"),
+        End::Stuck { why, thread, line } => {
+            text.extend_from_slice(b"stuck ")?;
+            text.extend_from_slice(why_word(why).as_bytes())?;
+            push_labelled(text, b" thread ", thread.0)?;
+            push_between(text, b" line ", line, b"\n")
+        }
+        End::Spent(position) => push_between(text, b"spent ", position.0, b"\n"),
+    }
+}
+
+// Appends what the threads wait for, where no one can go on.
+fn push_stuck(
+    text: &mut Vec<u8>,
+    heads: &[Head],
+    why: Why,
+    standing: &Standing,
+) -> Result<(), AllocError>
+    ensures { (table : Table) (points : List Point) → Stands table points standing.now
+        → OnOk result (text.new.items ≡ text.old.items ++ stuck_waits heads.now why table) }
+{
+    match why {
+        Why::Deadlock => push_waits(text, heads, &standing.owners, &standing.nexts),
+        Why::Index | Why::Join | Why::Threads => Ok(()),
+    }
+}
+
+// Where the threads stand after the last of so many subthreads.
+fn last_standing(alloc: Global, request: &Request, position: usize) -> Result<Standing, AllocError>
+    requires { let work = work_of request.now in position ≡ length (order work.program work.inputs work.limits) }
+    ensures { let work = work_of request.now in IfOk result (λ standing. Stands (last_table work.program work.inputs work.limits)
+        (before work.program work.inputs work.limits position).points standing) }
+{
+    let limits = request.asked.limits;
+    let Ok(position) = u32::try_from(position) else {
+        return Err(AllocError);
+    };
+    match stand_before(alloc, &request.checked, &request.inputs, limits, position)? {
+        Some(standing) => Ok(standing),
+        None => unreachable!(),
+    }
+}
+
+// The front of what is told of a run. What stands after it goes to `rest`.
+fn front_of(
+    alloc: Global,
+    request: &Request,
+    run: &PlainRun,
+    rest: &mut Vec<u8>,
+) -> Result<Vec<u8>, AllocError>
+    requires { let work = work_of request.now in IsPlainRun work.program work.inputs work.limits run.now }
+    ensures { let work = work_of request.now in IfOk result (λ text. text.items ≡ front work.program work.inputs work.limits) }
+{
+    let heads = request.checked.program().heads.as_slice();
+    let mut text = Vec::new(alloc);
+    push_ending(&mut text, run.end)?;
+    match run.end {
+        End::Finished => Ok(text),
+        End::Spent(_) => Ok(text),
+        End::Stuck { why, thread, line } => {
+            let standing = last_standing(alloc, request, run.order.len())?;
+            push_stuck(&mut text, heads, why, &standing)?;
+            push_stuck_details(alloc, rest, request, why, thread, line, &standing)?;
+            Ok(text)
+        }
+    }
+}
+
+/// What is told of a run on one thread, of which no fault strikes a subthread. The error is that memory is out.
+pub fn tell_of(alloc: Global, request: &Request) -> Result<Told, AllocError>
+    requires { IsWithinLimits request.now.asked }
+    ensures text { IfOk result (λ told. IsText (Go [] (work_of request.now)) told.text) }
+    ensures end { let work = work_of request.now in IfOk result (λ told. told.end ≡ end work.program work.inputs work.limits) }
+{
+    let limits = request.asked.limits;
+    let mut counting = Counting::new(alloc, request.checked.program(), limits)?;
+    let run = run_reckoned(
+        alloc,
+        &request.checked,
+        &request.inputs,
+        limits,
+        &mut counting,
+    )?;
+    let mut rest = Vec::new(alloc);
+    let mut text = front_of(alloc, request, &run, &mut rest)?;
+    push_spent_details(alloc, &mut rest, request, &run, &counting)?;
+    push_counts(alloc, &mut rest, &run, &counting)?;
+    text.extend_from_slice(&rest)?;
+    Ok(Told {
+        text: Seq::from_vec(text),
+        end: run.end,
+    })
+}

@@ -1,0 +1,541 @@
+// What no clause says: what is told of calls, as a table of mistakes, each with the words as they are written.
+ghost use Rattle.std.specs.Prelude.{◌≡◌, ◌++◌, ◌∷◌, [], OnOk};
+
+use explain_calls::explain_run;
+use gp_base::{MemShelf, MemSink, Name, Seq, Text};
+use std::alloc::{AllocError, Global};
+use std::test::Fail;
+
+// The words of a call, its program, the file moves.csv beside it, and what it has to come to: the status, the output and
+// the line on the error stream.
+type Row = (
+    &'static str,
+    &'static str,
+    &'static str,
+    u8,
+    &'static str,
+    &'static str,
+);
+
+const USAGE: &str = "gprs_view: usage: order | why | timeline | explain\n";
+
+const EMPTY: &str = "task main() { }";
+
+const EMPTY_TOLD: &str = "ok
+1 subthread, 1 thread, 0 locks taken; at most 1 subthread side by side
+arithmetic: exact in every line
+";
+
+const FEED: &str = "feed moves[2] from \"moves.csv\";
+task main() { print rows(moves); }
+";
+
+const WORDS: [Row; 8] = [
+    ("explain p.gp --trace", EMPTY, "", 2, "", USAGE),
+    ("explain", EMPTY, "", 2, "", USAGE),
+    ("explain p.gp --turns 0", EMPTY, "", 2, "", USAGE),
+    ("explain p.gp q.gp", EMPTY, "", 2, "", USAGE),
+    ("explain p.gp --crew two", EMPTY, "", 2, "", USAGE),
+    (
+        "explain p.gp --crew board --workers 2",
+        EMPTY,
+        "",
+        0,
+        EMPTY_TOLD,
+        "",
+    ),
+    (
+        "explain q.gp",
+        EMPTY,
+        "",
+        7,
+        "",
+        "gprs_view: read fault q.gp\n",
+    ),
+    (
+        "explain p.gp --faults f.csv",
+        EMPTY,
+        "",
+        7,
+        "",
+        "gprs_view: read fault f.csv\n",
+    ),
+];
+
+const ALONE: &str = "lock l[1];
+task main() {
+  var i, j;
+  lock l[i];
+  lock l[j];
+  unlock l[j];
+  unlock l[i];
+}
+";
+
+const ALONE_TOLD: &str = "stuck deadlock thread 0 line 5
+thread 0 line 5 waits for lock l[0], which it holds itself
+2 subthreads, 1 thread, 1 lock taken; at most 1 subthread side by side
+arithmetic: exact in every line
+";
+
+const TWO: &str = "lock x[2];
+lock y[2];
+task p() {
+  print 1;
+  lock x[1];
+  lock y[0];
+  lock y[1];
+  unlock y[1];
+  unlock y[0];
+  unlock x[1];
+}
+task q() {
+  print 2;
+  lock y[1];
+  lock x[1];
+  unlock x[1];
+  unlock y[1];
+}
+task main() {
+  fork p();
+  fork q();
+  join 1;
+}
+";
+
+const TWO_TOLD: &str = "stuck deadlock thread 0 line 22
+thread 0 line 22 waits for thread 1 to end
+thread 1 line 7 waits for lock y[1] of thread 2
+thread 2 line 15 waits for lock x[1] of thread 1
+8 subthreads, 3 threads, 3 locks taken; at most 2 subthreads side by side
+arithmetic: exact in every line
+";
+
+const THREE: &str = "lock l[3];
+barrier all(3);
+task p(i, j) {
+  lock l[i];
+  barrier all;
+  lock l[j];
+  unlock l[j];
+  unlock l[i];
+}
+task main() {
+  fork p(0, 1);
+  fork p(1, 2);
+  fork p(2, 0);
+}
+";
+
+const THREE_TOLD: &str = "stuck deadlock thread 1 line 6
+thread 1 line 6 waits for lock l[1] of thread 2
+thread 2 line 6 waits for lock l[2] of thread 3
+thread 3 line 6 waits for lock l[0] of thread 1
+13 subthreads, 4 threads, 3 locks taken; at most 3 subthreads side by side
+arithmetic: exact in every line
+";
+
+const BARRIER: &str = "barrier step(3);
+task t() { barrier step; }
+task main() {
+  fork t();
+  barrier step;
+}
+";
+
+const BARRIER_TOLD: &str = "stuck deadlock thread 0 line 5
+thread 0 line 5 waits for barrier step
+thread 1 line 2 waits for barrier step
+barrier step: 2 of 3 threads are there: 0, 1
+3 subthreads, 2 threads, 0 locks taken; at most 1 subthread side by side
+arithmetic: exact in every line
+";
+
+const ITSELF: &str = "task main() { join 0; }";
+
+const ITSELF_TOLD: &str = "stuck deadlock thread 0 line 1
+thread 0 line 1 waits for thread 0 to end
+1 subthread, 1 thread, 0 locks taken; at most 1 subthread side by side
+arithmetic: exact in every line
+";
+
+const LONE: &str = "barrier a(1);
+barrier b(2);
+task main() {
+  barrier a;
+  barrier b;
+}
+";
+
+const LONE_TOLD: &str = "stuck deadlock thread 0 line 5
+thread 0 line 5 waits for barrier b
+barrier b: 1 of 2 threads is there: 0
+2 subthreads, 1 thread, 0 locks taken; at most 1 subthread side by side
+arithmetic: exact in every line
+";
+
+const NOBODY: &str = "task t() { }
+task main() {
+  fork t();
+  join 7;
+}
+";
+
+const NOBODY_TOLD: &str = "stuck join thread 0 line 4
+thread 7 is joined; there are 2 threads, 0 to 1
+3 subthreads, 2 threads, 0 locks taken; at most 1 subthread side by side
+arithmetic: exact in every line
+";
+
+const NEGATIVE: &str = "task main() { join 0 - 1; }";
+
+const NEGATIVE_TOLD: &str = "stuck join thread 0 line 1
+thread -1 is joined; there is 1 thread, 0
+1 subthread, 1 thread, 0 locks taken; at most 1 subthread side by side
+arithmetic: exact in every line
+";
+
+const STUCK: [Row; 8] = [
+    ("explain p.gp", ALONE, "", 5, ALONE_TOLD, ""),
+    ("explain p.gp", TWO, "", 5, TWO_TOLD, ""),
+    ("explain p.gp", THREE, "", 5, THREE_TOLD, ""),
+    ("explain p.gp", BARRIER, "", 5, BARRIER_TOLD, ""),
+    ("explain p.gp", ITSELF, "", 5, ITSELF_TOLD, ""),
+    ("explain p.gp", LONE, "", 5, LONE_TOLD, ""),
+    ("explain p.gp", NOBODY, "", 5, NOBODY_TOLD, ""),
+    ("explain p.gp", NEGATIVE, "", 5, NEGATIVE_TOLD, ""),
+];
+
+const LOCK: &str = "lock bank[2];
+task main() {
+  var i;
+  i = 2;
+  lock bank[i];
+  unlock bank[i];
+}
+";
+
+const LOCK_TOLD: &str = "stuck index thread 0 line 5
+bank[i] with i = 2; bank has 2 cells, 0 to 1
+thread 0: i = 2
+1 subthread, 1 thread, 0 locks taken; at most 1 subthread side by side
+arithmetic: exact in every line
+";
+
+const LITERAL: &str = "lock bank[2];
+task main() {
+  lock bank[5];
+  unlock bank[5];
+}
+";
+
+const LITERAL_TOLD: &str = "stuck index thread 0 line 3
+bank[5]; bank has 2 cells, 0 to 1
+1 subthread, 1 thread, 0 locks taken; at most 1 subthread side by side
+arithmetic: exact in every line
+";
+
+const BELOW: &str = "lock bank[2];
+task t(i, k) {
+  lock bank[i];
+  unlock bank[i];
+}
+task main() {
+  fork t(0 - 1, 3);
+}
+";
+
+const BELOW_TOLD: &str = "stuck index thread 1 line 3
+bank[i] with i = -1; bank has 2 cells, 0 to 1
+thread 1: i = -1, k = 3
+3 subthreads, 2 threads, 0 locks taken; at most 1 subthread side by side
+arithmetic: exact in every line
+";
+
+const PAST: &str = "feed moves[2] from \"moves.csv\";
+task main() {
+  var i;
+  while i < 5 {
+    print moves[i, 1];
+    i = i + 1;
+  }
+}
+";
+
+const PAST_TOLD: &str = "stuck index thread 0 line 5
+moves[2, 1]; moves has 2 rows, 0 to 1, of 2 fields, 0 to 1
+thread 0: i = 2
+1 subthread, 1 thread, 0 locks taken; at most 1 subthread side by side
+arithmetic: exact in every line
+";
+
+const FIELD: &str = "feed moves[2] from \"moves.csv\";
+task main() {
+  var x;
+  x = 3 + 2 * moves[0, 2];
+}
+";
+
+const FIELD_TOLD: &str = "stuck index thread 0 line 4
+moves[0, 2]; moves has 1 rows, 0 to 0, of 2 fields, 0 to 1
+thread 0: x = 0
+1 subthread, 1 thread, 0 locks taken; at most 1 subthread side by side
+arithmetic: exact in every line
+";
+
+const NO_ROW: &str = "feed moves[2] from \"moves.csv\";
+task t(n) { }
+task main() {
+  fork t(moves[0, 0]);
+}
+";
+
+const NO_ROW_TOLD: &str = "stuck index thread 0 line 4
+moves[0, 0]; moves has 0 rows, of 2 fields, 0 to 1
+1 subthread, 1 thread, 0 locks taken; at most 1 subthread side by side
+arithmetic: exact in every line
+";
+
+const ARM: &str = "feed moves[2] from \"moves.csv\";
+task main() {
+  var $a;
+  when $a {
+    print moves[0, 0];
+  } else {
+    $a = moves[0, 0] + moves[4, 1];
+  }
+}
+";
+
+const ARM_TOLD: &str = "stuck index thread 0 line 4
+moves[4, 1]; moves has 1 rows, 0 to 0, of 2 fields, 0 to 1
+1 subthread, 1 thread, 0 locks taken; at most 1 subthread side by side
+arithmetic: exact in every line
+";
+
+const INDICES: [Row; 7] = [
+    ("explain p.gp", LOCK, "", 5, LOCK_TOLD, ""),
+    ("explain p.gp", LITERAL, "", 5, LITERAL_TOLD, ""),
+    ("explain p.gp", BELOW, "", 5, BELOW_TOLD, ""),
+    ("explain p.gp", PAST, "1,2\n3,4\n", 5, PAST_TOLD, ""),
+    ("explain p.gp", FIELD, "1,2\n", 5, FIELD_TOLD, ""),
+    ("explain p.gp", NO_ROW, "", 5, NO_ROW_TOLD, ""),
+    ("explain p.gp", ARM, "1,2\n", 5, ARM_TOLD, ""),
+];
+
+const LOOP: &str = "task main() { while 1 { } }";
+
+const LOOP_TOLD: &str = "spent 0
+thread 0 took 10 loop turns in one subthread, last at the loop in line 1
+hint: --turns allows up to 10000000
+1 subthread, 1 thread, 0 locks taken; at most 1 subthread side by side
+arithmetic: exact in every line
+";
+
+const NESTED: &str = "task main() {
+  var i;
+  while i < 3 {
+    i = i + 1;
+    while i > 0 { i = 2; }
+  }
+}
+";
+
+const NESTED_TOLD: &str = "spent 0
+thread 0 took 10 loop turns in one subthread, last at the loop in line 5
+hint: --turns allows up to 10000000
+1 subthread, 1 thread, 0 locks taken; at most 1 subthread side by side
+arithmetic: exact in every line
+";
+
+const OTHER: &str = "task t() { while 1 { } }
+task main() {
+  fork t();
+  join 1;
+}
+";
+
+const OTHER_TOLD: &str = "spent 2
+thread 1 took 3 loop turns in one subthread, last at the loop in line 1
+hint: --turns allows up to 10000000
+3 subthreads, 2 threads, 0 locks taken; at most 1 subthread side by side
+arithmetic: exact in every line
+";
+
+const MANY: &str = "lock l[1];
+task main() {
+  while 1 {
+    lock l[0];
+    unlock l[0];
+  }
+}
+";
+
+const MANY_TOLD: &str = "spent 5
+5 subthreads were begun; thread 0 line 4 would begin one more
+hint: --subthreads allows up to 200000
+5 subthreads, 1 thread, 2 locks taken; at most 1 subthread side by side
+arithmetic: exact in every line
+";
+
+const SPENT: [Row; 4] = [
+    ("explain p.gp --turns 10", LOOP, "", 6, LOOP_TOLD, ""),
+    ("explain p.gp --turns 10", NESTED, "", 6, NESTED_TOLD, ""),
+    ("explain --turns 3 p.gp", OTHER, "", 6, OTHER_TOLD, ""),
+    ("explain p.gp --subthreads 5", MANY, "", 6, MANY_TOLD, ""),
+];
+
+const CONTROL: &str = "task main() {
+  var m, x;
+  m = 0 - 9223372036854775807 - 1;
+  x = m / (0 - 1);
+  x = -m;
+  x = 7 % 0;
+  x = m - 1;
+  x = m * 2;
+  x = 7 / 2 + 5 % 3 - (0 - 4) * 9;
+  print x;
+}
+";
+
+const CONTROL_TOLD: &str = "ok
+1 subthread, 1 thread, 0 locks taken; at most 1 subthread side by side
+line 4: arithmetic left 64 bits or divided by 0, once, first at position 0
+line 5: arithmetic left 64 bits or divided by 0, once, first at position 0
+line 6: arithmetic left 64 bits or divided by 0, once, first at position 0
+line 7: arithmetic left 64 bits or divided by 0, once, first at position 0
+line 8: arithmetic left 64 bits or divided by 0, once, first at position 0
+";
+
+const DATA: &str = "lock l[1];
+record r[1] by l;
+task main() {
+  var i, $a;
+  while i < 3 {
+    lock l[0];
+    read r[0] into $a;
+    $a = $a * 3037000500 + 3037000500;
+    write r[0] = $a / i;
+    unlock l[0];
+    i = i + 1;
+  }
+  when $a > 0 {
+    print 1;
+  } else {
+    print -$a, $a % 0;
+  }
+}
+";
+
+// In the three rounds r[0] is 0, and the remainder 3037000500 of the sum; the first is divided by 0, which leaves 0, the
+// second by 1, and the third, 3037000500 * 3037000500 + 3037000500, leaves 64 bits at its product.
+const DATA_TOLD: &str = "ok
+7 subthreads, 1 thread, 3 locks taken; at most 1 subthread side by side
+line 8: arithmetic left 64 bits or divided by 0, once, first at position 5
+line 9: arithmetic left 64 bits or divided by 0, once, first at position 1
+line 16: arithmetic left 64 bits or divided by 0, once, first at position 6
+";
+
+const GIVEN: &str = "task t(n, $d) { print n, $d; }
+task main() {
+  var k;
+  k = 9223372036854775807;
+  fork t(k + 1, k * k);
+  fork t(k, k);
+  join 1 / 0 + 1;
+}
+";
+
+const GIVEN_TOLD: &str = "ok
+6 subthreads, 3 threads, 0 locks taken; at most 2 subthreads side by side
+line 5: arithmetic left 64 bits or divided by 0, 2 times, first at position 1
+line 7: arithmetic left 64 bits or divided by 0, once, first at position 3
+";
+
+const EXACT: [Row; 4] = [
+    ("explain p.gp", CONTROL, "", 0, CONTROL_TOLD, ""),
+    ("explain p.gp", DATA, "", 0, DATA_TOLD, ""),
+    ("explain p.gp", GIVEN, "", 0, GIVEN_TOLD, ""),
+    ("explain p.gp", FEED, "1,2\n", 0, EMPTY_TOLD, ""),
+];
+
+// The words between spaces.
+fn words_of(alloc: Global, text: &str) -> Result<Vec<String>, AllocError> {
+    let mut words = Vec::new(alloc);
+    for word in text.split(' ') {
+        words.push(String::from_str(alloc, word)?)?;
+    }
+    Ok(words)
+}
+
+// Puts a file of this name after others.
+fn put(
+    alloc: Global,
+    files: &mut Seq<(Name, Text)>,
+    name: &[u8],
+    text: &str,
+) -> Result<(), AllocError>
+    ensures { OnOk result (files.new ≡ files.old ++ (name.now, text.now) ∷ []) }
+{
+    let name = Name::from_slice(alloc, name)?;
+    let text = Text::from_slice(alloc, text.as_bytes())?;
+    files.push((name, text))
+}
+
+// Whether a call comes to what its row says.
+fn is_told(alloc: Global, row: &Row) -> Result<bool, AllocError> {
+    let (words, program, moves, status, told, line) = row;
+    let words = words_of(alloc, words)?;
+    let mut files = Seq::new(alloc);
+    put(alloc, &mut files, b"p.gp", program)?;
+    put(alloc, &mut files, b"moves.csv", moves)?;
+    let mut shelf = MemShelf::new(alloc, files, Seq::new(alloc));
+    let mut output = MemSink::new(alloc, 10000, Seq::new(alloc));
+    let mut error = MemSink::new(alloc, 1000, Seq::new(alloc));
+    let ended = explain_run(alloc, &words, &mut shelf, &mut output, &mut error);
+    Ok(
+        ended == *status
+            && output.written() == told.as_bytes()
+            && error.written() == line.as_bytes(),
+    )
+}
+
+// Whether each call comes to what its row says.
+fn are_told(alloc: Global, rows: &[Row]) -> Result<bool, AllocError> {
+    for row in rows {
+        if !is_told(alloc, row)? {
+            return Ok(false);
+        }
+    }
+    Ok(true)
+}
+
+#[test]
+fn words_are_read(rt: HostRuntime) -> Result<(), Fail> {
+    assert!(rt; are_told(rt.alloc(), &WORDS)?);
+    Ok(())
+}
+
+#[test]
+fn stuck_runs_are_told(rt: HostRuntime) -> Result<(), Fail> {
+    assert!(rt; are_told(rt.alloc(), &STUCK)?);
+    Ok(())
+}
+
+#[test]
+fn indices_are_told(rt: HostRuntime) -> Result<(), Fail> {
+    assert!(rt; are_told(rt.alloc(), &INDICES)?);
+    Ok(())
+}
+
+#[test]
+fn spent_runs_are_told(rt: HostRuntime) -> Result<(), Fail> {
+    assert!(rt; are_told(rt.alloc(), &SPENT)?);
+    Ok(())
+}
+
+#[test]
+fn arithmetic_is_told(rt: HostRuntime) -> Result<(), Fail> {
+    assert!(rt; are_told(rt.alloc(), &EXACT)?);
+    Ok(())
+}
