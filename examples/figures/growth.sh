@@ -67,7 +67,7 @@ grown() {
     empty="$(least "$@" empty.gp)"
     half=$(($(least "$@" half.gp --subthreads 200000) - empty))
     full=$(($(least "$@" full.gp --subthreads 200000) - empty))
-    awk -v half="$half" -v full="$full" 'BEGIN { printf " %d, %d | %s |", half, full, half > 0 ? sprintf("%.1f", full / half) : "" }'
+    awk -v half="$half" -v full="$full" 'BEGIN { printf " %d, %d | %.1f |", half, full, full / (half > 0 ? half : 1) }'
 }
 
 # The row of a batch at this size.
