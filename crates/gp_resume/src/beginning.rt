@@ -52,7 +52,7 @@ fn store_of(alloc: Global, plan: &Plan, cells: Layout, records: Nums) -> Result<
     ensures { IfOk result (λ store. store ≡ with_thread (length (registers_of (main_task (program_in plan.now.work.now)))) (without_threads records cells.under)) }
 {
     let code = &plan.work.code;
-    let mut store = Store::new(alloc, records, cells)?;
+    let mut store = Store::new(alloc, records, cells, plan.work.recheck.is_on())?;
     store.reserve_thread(alloc, registers(code, code.main()))?;
     Ok(store)
 }

@@ -19,7 +19,8 @@ ghost use Rattle.gp_resume.specs.inner.RowsRead.{row_in, write_in};
 use crate::beginning::registers;
 use crate::course::{Begun, Course, Plan};
 use crate::row::LogRow;
-use gp_base::{LockNo, Nums, Pos};
+use gp_base::{LockNo, Pos};
+use record_store::Summed;
 use std::alloc::{AllocError, Global};
 use task_ast::SyncOp;
 use task_code::Code;
@@ -97,7 +98,7 @@ fn fits_turn(position: Pos, least: i64, row: &LogRow) -> bool
 }
 
 // Whether a row has as many registers as these, and as many of a child as a subthread gives that begins so.
-fn fits_registers(code: &Code, begins: &SyncOp, regs: &Nums, row: &LogRow) -> bool
+fn fits_registers(code: &Code, begins: &SyncOp, regs: &Summed, row: &LogRow) -> bool
     ensures { IsTrue result ↔ (length row.now.regs ≡ length regs.now) × (length row.now.child ≡ child_size (code_of code.now).program begins.now) }
 {
     let given = registers_given(code, begins) as usize;

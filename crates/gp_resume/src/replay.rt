@@ -17,7 +17,7 @@ ghost use Rattle.gp_resume.specs.inner.RowsRead.{row_in, write_in, with_cells};
 use crate::course::{Begun, Course, Plan};
 use crate::row::LogRow;
 use gp_base::{At, LockNo, Nums, RecNo, Seq, ThreadNo};
-use record_store::{Effect, Store};
+use record_store::{Effect, Store, Summed};
 use std::alloc::{AllocError, Global};
 use subthread::{Work, control_of, room_for, set_cells};
 use task_ast::Next;
@@ -76,9 +76,10 @@ fn effect_of(
 ) -> Effect
     ensures { result ≡ record { thread = thread; regs = regs; child = option_map (λ c. (c, given)) child; prints = [] } }
 {
+    let given = Summed::plain(given);
     Effect {
         thread,
-        regs,
+        regs: Summed::plain(regs),
         child: child.map(|child| (child, given)),
         prints: Seq::new(alloc),
     }

@@ -9,7 +9,7 @@ use crew::Crew;
 use gp_base::{At, FreeGate, Gate, Pos, Seq, ThreadNo};
 use lock_checker::check;
 use pipe_crew::PipeCrew;
-use record_store::Given;
+use record_store::{Given, Summed};
 use std::alloc::{AllocError, Global};
 use std::sync::atomic::{AtomicU64, Ordering};
 use std::sync::{Arc, Wait};
@@ -53,7 +53,7 @@ fn start(alloc: Global, attempt: u32) -> Result<Task, AllocError>
     ensures attempt { IfOk result (λ task. task.attempt ≡ attempt) }
     ensures fits { IfOk result (λ task. (work : PlainWork) → instrs_of (code_of work.code).tasks 0 ≡ [] → Fits work task) }
 {
-    let regs = Seq::from_slice(alloc, &[0])?;
+    let regs = Summed::plain(Seq::from_slice(alloc, &[0])?);
     Ok(Task {
         pos: Pos(0),
         thread: ThreadNo(0),

@@ -10,7 +10,7 @@ use crate::outcome::passes;
 use crate::programs::{ADD, code_of};
 use crew::{BatchCrew, Crew, InlineCrew, MeanSteps, ScriptCrew, run_wave};
 use gp_base::{At, FreeGate, Gate, Pos, Seq, ThreadNo};
-use record_store::Given;
+use record_store::{Given, Summed};
 use std::alloc::{AllocError, Global};
 use std::sync::atomic::{AtomicU64, Ordering};
 use std::test::Fail;
@@ -36,7 +36,7 @@ fn start(alloc: Global, attempt: u32) -> Result<Task, AllocError>
     ensures at { IfOk result (λ task. task.at.task ≡ 1) }
     ensures fits { IfOk result FitsWithoutCells }
 {
-    let regs = Seq::from_slice(alloc, &[0])?;
+    let regs = Summed::plain(Seq::from_slice(alloc, &[0])?);
     Ok(Task {
         pos: Pos(0),
         thread: ThreadNo(0),

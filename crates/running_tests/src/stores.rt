@@ -6,7 +6,7 @@ ghost use Rattle.running_tests.specs.Pairs.{IsPair, each_alone};
 
 use crate::outcome::passes;
 use gp_base::{LockNo, RecNo, Room, Seq, ThreadNo};
-use record_store::{Bundle, Effect, History, Store};
+use record_store::{Bundle, Effect, History, Store, Summed};
 use std::alloc::{AllocError, Global};
 use std::test::Fail;
 use task_ast::Layout;
@@ -26,7 +26,7 @@ fn two_cells(alloc: Global) -> Result<Store, AllocError>
     ensures pair { IfOk result (λ store. IsPair store) }
     ensures cells { IfOk result (λ store. store.cells ≡ pos 5 ∷ pos 7 ∷ []) }
 {
-    let mut store = Store::new(alloc, Seq::from_slice(alloc, &[5, 7])?, alone(alloc)?)?;
+    let mut store = Store::new(alloc, Seq::from_slice(alloc, &[5, 7])?, alone(alloc)?, true)?;
     store.reserve_thread(alloc, 1)?;
     store.reserve_thread(alloc, 0)?;
     Ok(store)
@@ -39,8 +39,8 @@ fn fork(alloc: Global) -> Result<Effect, AllocError>
 {
     let mut prints = Seq::new(alloc);
     prints.push(Seq::from_slice(alloc, &[1])?)?;
-    let regs = Seq::from_slice(alloc, &[3])?;
-    let given = Seq::from_slice(alloc, &[4, 2])?;
+    let regs = Summed::plain(Seq::from_slice(alloc, &[3])?);
+    let given = Summed::plain(Seq::from_slice(alloc, &[4, 2])?);
     Ok(Effect {
         thread: ThreadNo(0),
         regs,
@@ -53,7 +53,7 @@ fn fork(alloc: Global) -> Result<Effect, AllocError>
 fn bundle(alloc: Global, cell: u32, value: i64) -> Result<Seq<Bundle>, AllocError>
     ensures { IfOk result (λ bundles. bundles ≡ record { lock = cell; cells = value ∷ [] } ∷ []) }
 {
-    let cells = Seq::from_slice(alloc, &[value])?;
+    let cells = Summed::plain(Seq::from_slice(alloc, &[value])?);
     let lock = LockNo(cell);
     let mut bundles = Seq::new(alloc);
     bundles.push(Bundle { lock, cells })?;
@@ -82,7 +82,7 @@ fn write(
     lent.reserve(1)?;
     let effect = Effect {
         thread: ThreadNo(0),
-        regs: Seq::new(alloc),
+        regs: Summed::plain(Seq::new(alloc)),
         child: None,
         prints: Seq::new(alloc),
     };

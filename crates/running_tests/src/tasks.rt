@@ -10,7 +10,7 @@ use crate::named::names_below;
 use crate::outcome::passes;
 use crate::programs::code_of;
 use gp_base::{At, Feed, LockNo, Nums, Pos, RecNo, Seq, ThreadNo};
-use record_store::{Bundle, Given};
+use record_store::{Bundle, Given, Summed};
 use std::alloc::{AllocError, Global};
 use std::test::Fail;
 use subthread::{Done, Recheck, Task, Work, run_task};
@@ -88,13 +88,14 @@ fn adding(alloc: Global, mask: i64) -> Result<Task, AllocError>
     ensures { IfOk result (λ task. (work : PlainWork) → under_lock (under_of work) 0 ≡ 0 ∷ [] → NamesBelow 1 work 0 → Fits work task) }
 {
     let cells = Seq::from_slice(alloc, &[0])?;
+    let cells = Summed::plain(cells);
     let bundle = Bundle {
         lock: LockNo(0),
         cells,
     };
     let bundles = Seq::from_vec(vec![in alloc; bundle]?);
     let ctl = Seq::from_slice(alloc, &[3])?;
-    let regs = Seq::from_slice(alloc, &[0, 0])?;
+    let regs = Summed::plain(Seq::from_slice(alloc, &[0, 0])?);
     let held = Seq::from_slice(alloc, &[LockNo(0)])?;
     Ok(Task {
         pos: Pos(4),
@@ -168,7 +169,7 @@ fn free(
     at: At,
     ctl: Nums,
     child: Option<ThreadNo>,
-    regs: Nums,
+    regs: Summed,
     joined: i64,
 ) -> Task
     requires { IsNumbered begins.sync }
@@ -197,7 +198,7 @@ fn starting(alloc: Global) -> Result<Task, AllocError>
     ensures { IfOk result FitsWithoutCells }
 {
     let ctl = Seq::from_slice(alloc, &[0, 0, 0])?;
-    let regs = Seq::from_slice(alloc, &[0, 0, 0])?;
+    let regs = Summed::plain(Seq::from_slice(alloc, &[0, 0, 0])?);
     let begins = Next {
         sync: SyncOp::Start,
         line: 0,
@@ -251,8 +252,8 @@ fn prints(done: &Done, lines: &[&[i64]]) -> bool {
     prints.len() == lines.len()
 }
 
-fn is_numbers(numbers: &Nums, want: [i64; 3]) -> bool {
-    numbers.as_slice() == want.as_slice()
+fn is_numbers(numbers: &[i64], want: [i64; 3]) -> bool {
+    numbers == want.as_slice()
 }
 
 // The first subthread stops at the fork of `sum` with 2, on line 9.
@@ -260,7 +261,7 @@ fn forks(done: &Done) -> bool {
     match &done.next.sync {
         SyncOp::Fork { task: 0, args } => {
             args.as_slice() == [2].as_slice()
-                && is_numbers(&done.effect.regs, [0, 14, 2])
+                && is_numbers(done.effect.regs.as_slice(), [0, 14, 2])
                 && prints(done, &[&[0, 6], &[1, 14], &[-2, 0]])
         }
         _ => false,
@@ -272,7 +273,7 @@ fn joins(done: &Done) -> bool {
     match (&done.next.sync, &done.effect.child) {
         (SyncOp::Join(1), Some((ThreadNo(1), regs))) => {
             regs.as_slice() == [0, 3].as_slice()
-                && is_numbers(&done.ctl, [2, 2, 1])
+                && is_numbers(done.ctl.as_slice(), [2, 2, 1])
                 && prints(done, &[&[1]])
         }
         _ => false,
@@ -284,7 +285,7 @@ fn is_right(step: usize, done: &Done) -> bool {
         0 => forks(done),
         1 => joins(done),
         2 => matches!(&done.next.sync, SyncOp::Barrier(0))
-            && is_numbers(&done.effect.regs, [0, 14, 7]),
+            && is_numbers(done.effect.regs.as_slice(), [0, 14, 7]),
         _ => matches!(&done.next.sync, SyncOp::BadIndex) && done.next.line == 12,
     }
 }

@@ -16,7 +16,7 @@ returns-clause-cells c =
     let bundles : c.in_ok-bundles.bundles ≡ one_bundle cell c.args.value = search rules in
     let old : c.in_ok-old.old ≡ (cell, c.args.before) ∷ [] = search rules in
     let under : lent.under ≡ each_alone = ap (λ (s : Stored). s.under) c.lend.ensures.store ∙ c.requires.pair.under in
-    let effect : Effect = record { thread = 0; regs = c.new.result; child = None; prints = c.new-2.result } in
+    let effect : Effect = record { thread = 0; regs = c.plain.result; child = None; prints = c.new-2.result } in
     λ n.
     written lent c.accept_home-history.new.self cell c.args.before c.args.value effect under c.requires.exists
     (rw (bundles, old) at c.accept_home-history.ensures.state) n

@@ -5,7 +5,7 @@ use Rattle.running_tests.proofs.tasks.adding.Goals as goal
 
 pub returns : goal.returns
 returns c = λ work alone low.
-    let bundle : Bundle = record { lock = 0; cells = c.in_ok-cells.cells } in
+    let bundle : Bundle = record { lock = 0; cells = c.plain-cells.result } in
     let one : c.from_vec-bundles.result ≡ bundle ∷ [] = c.from_vec-bundles.ensures ∙ c.in_ok-vec.ensures.items in
-    let size : length c.in_ok-cells.cells ≡ 1 = ap length c.in_ok-cells.ensures in
+    let size : length c.plain-cells.result ≡ 1 = ap length (c.plain-cells.ensures ∙ c.in_ok-cells.ensures) in
     one_cell work _ bundle one refl size alone tt low
