@@ -184,8 +184,8 @@ fn put_one_rechecked<R: Threads + Sync, O: Sink, G: Gate>(
     (put, recheck)
 }
 
-// How a run of a program on one thread ended whose subthreads were walked twice. Where walks could not be agreed on, the
-// line of that is left to the caller of the top call, which has the recheck.
+// How a run of a program on one thread ended whose subthreads were walked twice. Where the recheck stopped it, the line of
+// that is left to the caller of the top call, which has the recheck.
 fn outcome_of_one<E: Sink>(
     alloc: Global,
     recheck: &Recheck,
@@ -196,7 +196,7 @@ fn outcome_of_one<E: Sink>(
     ensures empty { IsEmpty result.journal }
 {
     match put {
-        Err(SinkFault::OutOfMemory) if recheck.disagreed().is_some() => Outcome {
+        Err(SinkFault::OutOfMemory) if recheck.has_stopped() => Outcome {
             status: 1,
             journal: empty_journal(alloc),
         },

@@ -1,5 +1,5 @@
 // Carries a run over a journal out, and writes its text and its trace.
-ghost use Rattle.std.specs.Prelude.{◌≡◌, ℕ, List, [], true, false, length, OnOk, OnErr, Option, if◌then◌else◌};
+ghost use Rattle.std.specs.Prelude.{◌≡◌, ℕ, List, [], true, false, length, IfOk, OnOk, OnErr, Option, if◌then◌else◌};
 ghost use Rattle.std.specs.Io.KnownBytes.{Appends};
 ghost use Rattle.gp_base.specs.meaning.Sinks.{AppendsPrefix, HasCause};
 ghost use Rattle.task_ast.specs.View.{plain_program};
@@ -28,10 +28,10 @@ use call_cases::{
 use command_line::{Asked, Command, Soak};
 use crew::Crew;
 use engine::{EngineStop, Report, StopWhy};
-use gp_base::{Journal, NeverSink, Sink, SinkFault, put_all};
+use gp_base::{Journal, NeverSink, Pos, Sink, SinkFault, Text, put_all};
 use lock_checker::Checked;
-use restart_log::{soak_text, tail_text, trace_text};
-use std::alloc::Global;
+use restart_log::{is_soak_text, is_tail_text, soak_text, tail_text, trace_text};
+use std::alloc::{AllocError, Global};
 use std::thread::Threads;
 use subthread::{Recheck, Work};
 
@@ -53,21 +53,63 @@ pub fn stopped(fault: SinkFault, journal: Journal) -> EngineStop
     EngineStop { why, journal }
 }
 
-// Tells why a call stopped, and answers the status of that. Where walks could not be agreed on, the line of that is left to
-// the caller of the top call, which has the recheck.
+// Tells why a call stopped, and answers the status of that. Where the recheck stopped it, the line of that is left to the
+// caller of the top call, which has the recheck.
 fn stop_with<E: Sink>(err: &mut E, why: StopWhy, recheck: &Recheck) -> u8
     ensures { StopsWith why (change_of E.written E.faults err.old err.new) result }
 {
     match why {
         StopWhy::WriteFault => end_with(err, WRITE_FAULT, 8),
-        StopWhy::OutOfMemory if recheck.disagreed().is_some() => 1,
+        StopWhy::OutOfMemory if recheck.has_stopped() => 1,
         StopWhy::OutOfMemory => end_with(err, OUT_OF_MEMORY, 1),
     }
+}
+
+// The position at which a fault of the text is noted that follows all lines: the last one.
+fn last_of(report: &Report) -> Pos {
+    Pos(report.subthreads.saturating_sub(1))
+}
+
+// What follows the printed lines; where walks are compared, it is made twice. The error is that memory is out, or that the
+// two texts differ, which is noted.
+fn tail_of(
+    alloc: Global,
+    recheck: &Recheck,
+    checked: &Checked,
+    report: &Report,
+) -> Result<Text, AllocError>
+    ensures { IfOk result (λ text. text ≡ told_tail (plain_program (program_of checked.now)) report.now) }
+{
+    let tail = tail_text(alloc, checked, report)?;
+    if recheck.is_on() && !is_tail_text(alloc, tail.as_slice(), checked, report)? {
+        recheck.note_damaged(last_of(report));
+        return Err(AllocError);
+    }
+    Ok(tail)
+}
+
+// The summary of a batch that the program made; where walks are compared, it is made twice, as `tail_of` does.
+fn summary_of(
+    alloc: Global,
+    recheck: &Recheck,
+    soak: Soak,
+    report: &Report,
+) -> Result<Text, AllocError>
+    ensures { IfOk result (λ text. text ≡ told_soak soak report.now) }
+{
+    let (moves, start) = (soak.moves, soak.start);
+    let summary = soak_text(alloc, moves, start, report)?;
+    if recheck.is_on() && !is_soak_text(alloc, summary.as_slice(), moves, start, report)? {
+        recheck.note_damaged(last_of(report));
+        return Err(AllocError);
+    }
+    Ok(summary)
 }
 
 /// Writes what follows the printed lines.
 pub fn put_tail<O: Sink>(
     alloc: Global,
+    recheck: &Recheck,
     checked: &Checked,
     report: &Report,
     out: &mut O,
@@ -76,13 +118,14 @@ pub fn put_tail<O: Sink>(
     ensures prefix { OnErr result (AppendsPrefix (O.written out.old) (O.written out.new) (told_tail (plain_program (program_of checked.now)) report.now)) }
     ensures cause { HasCause (O.faults out.old) (O.faults out.new) result }
 {
-    let tail = tail_text(alloc, checked, report)?;
+    let tail = tail_of(alloc, recheck, checked, report)?;
     put_all(out, tail.as_slice())
 }
 
 // Writes the summary of a batch that the program made.
 fn put_summary<O: Sink>(
     alloc: Global,
+    recheck: &Recheck,
     soak: Soak,
     report: &Report,
     out: &mut O,
@@ -91,7 +134,7 @@ fn put_summary<O: Sink>(
     ensures prefix { OnErr result (AppendsPrefix (O.written out.old) (O.written out.new) (told_soak soak report.now)) }
     ensures cause { HasCause (O.faults out.old) (O.faults out.new) result }
 {
-    let summary = soak_text(alloc, soak.moves, soak.start, report)?;
+    let summary = summary_of(alloc, recheck, soak, report)?;
     put_all(out, summary.as_slice())
 }
 
@@ -126,7 +169,7 @@ fn put_run<R: Threads + Sync, C: Crew, O: Sink>(
         Ok(report) => report,
         Err(stop) => return Err(stop),
     };
-    match put_tail(alloc, checked, &report, out) {
+    match put_tail(alloc, &code.recheck, checked, &report, out) {
         Ok(()) => Ok(report),
         Err(fault) => Err(stopped(fault, report.journal)),
     }
@@ -158,7 +201,7 @@ fn put_soak<R: Threads + Sync, C: Crew, O: Sink>(
         Ok(report) => report,
         Err(stop) => return Err(stop),
     };
-    match put_summary(alloc, soak, &report, out) {
+    match put_summary(alloc, &code.recheck, soak, &report, out) {
         Ok(()) => Ok(report),
         Err(fault) => Err(stopped(fault, report.journal)),
     }

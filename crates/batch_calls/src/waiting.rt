@@ -123,8 +123,8 @@ fn carry_waiting<
 }
 
 /// Does what the words ask for, as `gprs_run_pipe` does, with each subthread walked as the recheck says, which comes
-/// back with what was seen. In the place of lasting workers, which wait, workers draw from boards. A run whose walks could not be agreed
-/// on stops as where memory is out, but without a line of that.
+/// back with what was seen. In the place of lasting workers, which wait, workers draw from boards. A run that the recheck
+/// stops does so as where memory is out, but without a line of that.
 pub fn run_rechecked<R: Threads + Sync + AllocGlobal, H: Shelf, O: Sink, E: Sink, G: Gate>(
     rt: &R,
     words: &[String],
