@@ -1,8 +1,8 @@
-// The lines that tell of walks that differed.
+// The lines that tell of walks that differed, and of data at rest that were not as they were left.
 ghost use Rattle.std.specs.Prelude.{◌≡◌, ◌≤◌, ℕ, List, IfOk};
 ghost use Rattle.gp_base.specs.meaning.Sinks.{AppendsPrefix};
 ghost use Rattle.command_line.specs.meaning.Words.{texts, asked_waiting};
-ghost use Rattle.twice_calls.specs.meaning.Differences.{differed_line, disagreed_line, traces, MayTellDisagreed, MayTellDiffered, AreTold};
+ghost use Rattle.twice_calls.specs.meaning.Differences.{differed_line, disagreed_line, damaged_line, traces, MayTellStop, MayTellDiffered, AreTold};
 
 use command_line::read_waiting_words;
 use gp_base::{Sink, put_all};
@@ -20,6 +20,16 @@ fn disagreed_line(alloc: Global, position: u64) -> Result<Vec<u8>, AllocError>
     Ok(line)
 }
 
+// The line of a position at which data were not as they were left.
+fn damaged_line(alloc: Global, position: u64) -> Result<Vec<u8>, AllocError>
+    ensures { IfOk result (λ line. line.items ≡ damaged_line position) }
+{
+    let mut line = Vec::from_slice(alloc, b"gprs_twice: data damaged at position ")?;
+    line.extend_from_slice(Buffer::new().format(position).as_bytes())?;
+    line.extend_from_slice(b"\n")?;
+    Ok(line)
+}
+
 // The line of walks that differed so many times, and those of a position last.
 fn differed_line(alloc: Global, count: u64, last: u64) -> Result<Vec<u8>, AllocError>
     ensures { IfOk result (λ line. line.items ≡ differed_line count last) }
@@ -33,12 +43,25 @@ fn differed_line(alloc: Global, count: u64, last: u64) -> Result<Vec<u8>, AllocE
 }
 
 // What tells a stop at a position whose walks could not be agreed on.
-fn stop_told(alloc: Global, recheck: &Recheck, status: u8) -> Result<Vec<u8>, AllocError>
-    ensures { IfOk result (λ line. MayTellDisagreed status line.items) }
+fn disagreement_told(alloc: Global, recheck: &Recheck) -> Result<Vec<u8>, AllocError>
+    ensures { IfOk result (λ line. MayTellStop 1 line.items) }
 {
     match recheck.disagreed() {
-        Some(position) if status == 1 => disagreed_line(alloc, position),
-        _ => Ok(Vec::new(alloc)),
+        Some(position) => disagreed_line(alloc, position),
+        None => Ok(Vec::new(alloc)),
+    }
+}
+
+// What tells a stop at a position at which data were not as they were left, or else at one of the former kind.
+fn stop_told(alloc: Global, recheck: &Recheck, status: u8) -> Result<Vec<u8>, AllocError>
+    ensures { IfOk result (λ line. MayTellStop status line.items) }
+{
+    if status != 1 {
+        return Ok(Vec::new(alloc));
+    }
+    match recheck.damaged() {
+        Some(position) => damaged_line(alloc, position),
+        None => disagreement_told(alloc, recheck),
     }
 }
 
@@ -80,8 +103,9 @@ fn lines_told(
     Ok(lines)
 }
 
-/// Tells of what a recheck has seen in a call by these words that answered this status: the position whose walks could
-/// not be agreed on, where that stopped the run, and how often walks differed, but not behind a trace. Where memory is
+/// Tells of what a recheck has seen in a call by these words that answered this status: the position at which data were not
+/// as they were left, or whose walks could not be agreed on, where that stopped the run, and how often walks differed, but
+/// not behind a trace. Where memory is
 /// out it tells nothing, and where the write fails a part.
 pub fn tell<E: Sink>(alloc: Global, recheck: &Recheck, words: &[String], status: u8, err: &mut E)
     ensures behind { (lines : List ℕ) × AreTold (traces (asked_waiting (texts words.now))) status lines × AppendsPrefix (E.written err.old) (E.written err.new) lines }

@@ -14,8 +14,8 @@ use subthread::Recheck;
 
 /// Does what the words of `log` ask for, as `log_run` does, but walks each subthread twice and compares the walks before
 /// anything is handed on; where they differ, a third walk must be like one of them. `err` takes what it takes there and
-/// nothing more, since that is read as a log. Where the walks of a position could not be agreed on, the call stops as it
-/// does where memory is out.
+/// nothing more, since that is read as a log. Where the walks of a position could not be agreed on, or data were not as they
+/// were left, the call stops as it does where memory is out.
 pub fn twice_log_run<R: Threads + Sync + AllocGlobal, H: Shelf, O: Sink, E: Sink, G: Gate>(
     rt: &R,
     words: &[String],

@@ -1,5 +1,6 @@
-// Runs of two threads that add to one total, of which walks are disturbed. What they write was reckoned by hand: the first
-// walk of a run is that of position 0, and the first that writes a cell is that of position 4.
+// Runs of which walks are disturbed, or the sums of what they leave at rest. What they write was reckoned by hand: the first
+// walk of a run is that of position 0, and where two threads add to one total, the first that has a cell is that of
+// position 4.
 ghost use Rattle.std.specs.Prelude.{◌≡◌, ◌++◌, ◌∷◌, [], IfOk, OnOk};
 ghost use Rattle.gp_base.specs.Files.{HasDistinctNames};
 
@@ -11,7 +12,8 @@ use std::thread::Threads;
 use subthread::{Disturbance, Recheck};
 use twice_calls::run_told;
 
-const ADD: &str = "lock tally[1];
+/// Two threads add to one total.
+pub const ADD: &str = "lock tally[1];
 record total[1] by tally;
 task add(n) {
   var $t;
@@ -25,6 +27,35 @@ task main() {
   fork add(4);
   join 1;
   join 2;
+}
+";
+
+// A cell is written under its lock at position 1. All lines before the settle are published when position 3 begins with
+// it, and position 4 is the next that has the cell.
+const KEPT: &str = "lock tally[1];
+record total[1] by tally;
+task main() {
+  var n, $x;
+  print 1;
+  lock tally[0];
+  write total[0] = 5;
+  unlock tally[0];
+  settle $x into n;
+  lock tally[0];
+  read total[0] into $x;
+  unlock tally[0];
+  print $x;
+}
+";
+
+// The cell that is written at position 1 is under no lock after that; position 2 is the last.
+const WRITTEN: &str = "lock tally[1];
+record total[1] by tally;
+task main() {
+  print 1;
+  lock tally[0];
+  write total[0] = 5;
+  unlock tally[0];
 }
 ";
 
@@ -57,8 +88,8 @@ impl Answer {
     }
 }
 
-// The words between spaces.
-fn words_of(alloc: Global, text: &str) -> Result<Vec<String>, AllocError> {
+/// The words between spaces.
+pub fn words_of(alloc: Global, text: &str) -> Result<Vec<String>, AllocError> {
     let mut words = Vec::new(alloc);
     for word in text.split(' ') {
         words.push(String::from_str(alloc, word)?)?;
@@ -80,26 +111,27 @@ fn put(
     files.push((name, text))
 }
 
-// The program, and its faults.
-fn files_of(alloc: Global) -> Result<Seq<(Name, Text)>, AllocError>
+/// A program, and its faults.
+pub fn files_of(alloc: Global, program: &str) -> Result<Seq<(Name, Text)>, AllocError>
     ensures { IfOk result HasDistinctNames }
 {
     let mut files = Seq::new(alloc);
-    put(alloc, &mut files, b"p.gp", ADD.as_bytes())?;
+    put(alloc, &mut files, b"p.gp", program.as_bytes())?;
     put(alloc, &mut files, b"f.csv", FAULT.as_bytes())?;
     Ok(files)
 }
 
-// What a call by these words answers, whose subthreads are walked under this recheck.
+// What a call by these words answers over a program, whose subthreads are walked under this recheck.
 fn answer_under<R: Threads + Sync + AllocGlobal>(
     rt: &R,
+    program: &str,
     words: &str,
     recheck: Recheck,
 ) -> Result<Box<Answer>, AllocError> {
     let alloc = rt.alloc();
     let is_log = words.starts_with("log");
     let words = words_of(alloc, words)?;
-    let mut shelf = MemShelf::new(alloc, files_of(alloc)?, Seq::new(alloc));
+    let mut shelf = MemShelf::new(alloc, files_of(alloc, program)?, Seq::new(alloc));
     let mut output = MemSink::new(alloc, 1000, Seq::new(alloc));
     let mut error = MemSink::new(alloc, 1000, Seq::new(alloc));
     let (outcome, recheck) = if is_log {
@@ -135,9 +167,10 @@ fn answer_under<R: Threads + Sync + AllocGlobal>(
     Ok(Box::new(alloc, answer)?)
 }
 
-// Fails unless a call by these words, of which so many walks are disturbed so, answers this.
+// Fails unless a call by these words over a program, of which so many walks are disturbed so, answers this.
 fn answers<R: Threads + Sync + AllocGlobal>(
     rt: &R,
+    program: &str,
     words: &str,
     disturbed: (Disturbance, u64),
     status: u8,
@@ -145,7 +178,7 @@ fn answers<R: Threads + Sync + AllocGlobal>(
     error: &str,
 ) -> Result<(), Fail> {
     let recheck = Recheck::disturbing(disturbed.0, disturbed.1);
-    let answer = answer_under(rt, words, recheck)?;
+    let answer = answer_under(rt, program, words, recheck)?;
     if answer.is(status, output, error) {
         Ok(())
     } else {
@@ -156,8 +189,8 @@ fn answers<R: Threads + Sync + AllocGlobal>(
 #[test]
 fn a_walk_that_differs_is_put_right(rt: HostRuntime) -> Result<(), Fail> {
     let line = "gprs_twice: differed 1, last 0\n";
-    answers(&rt, "run p.gp", (Disturbance::Steps, 1), 0, ADDED, line)?;
-    answers(&rt, "one p.gp", (Disturbance::Steps, 1), 0, ADDED, line)
+    answers(&rt, ADD, "run p.gp", (Disturbance::Steps, 1), 0, ADDED, line)?;
+    answers(&rt, ADD, "one p.gp", (Disturbance::Steps, 1), 0, ADDED, line)
 }
 
 #[test]
@@ -165,6 +198,7 @@ fn walks_that_are_all_unlike_stop_the_run(rt: HostRuntime) -> Result<(), Fail> {
     let lines = "gprs_twice: position 0 could not be agreed on\ngprs_twice: differed 1, last 0\n";
     answers(
         &rt,
+        ADD,
         "run p.gp",
         (Disturbance::Steps, 2),
         1,
@@ -173,6 +207,7 @@ fn walks_that_are_all_unlike_stop_the_run(rt: HostRuntime) -> Result<(), Fail> {
     )?;
     answers(
         &rt,
+        ADD,
         "one p.gp",
         (Disturbance::Steps, 2),
         1,
@@ -186,6 +221,7 @@ fn an_old_value_that_changed_is_told_by_the_sum(rt: HostRuntime) -> Result<(), F
     let lines = "gprs_twice: position 4 could not be agreed on\ngprs_twice: differed 1, last 4\n";
     answers(
         &rt,
+        ADD,
         "run p.gp",
         (Disturbance::OldValue, 1),
         1,
@@ -195,14 +231,56 @@ fn an_old_value_that_changed_is_told_by_the_sum(rt: HostRuntime) -> Result<(), F
 }
 
 #[test]
+fn a_changed_sum_of_cells_is_told_when_they_are_lent_again(rt: HostRuntime) -> Result<(), Fail> {
+    let disturbed = (Disturbance::BundleSum, 1);
+    let output = "output\n1\n";
+    let line = "gprs_twice: data damaged at position 4\n";
+    answers(&rt, KEPT, "run p.gp", disturbed, 1, output, line)?;
+    answers(&rt, KEPT, "one p.gp", disturbed, 1, output, line)?;
+    let line = "gprs_twice: data damaged at position 7\n";
+    answers(&rt, ADD, "run p.gp", disturbed, 1, "output\n", line)
+}
+
+#[test]
+fn a_changed_sum_of_registers_is_told_when_they_are_lent_again(
+    rt: HostRuntime,
+) -> Result<(), Fail> {
+    let disturbed = (Disturbance::RegisterSum, 1);
+    let line = "gprs_twice: data damaged at position 1\n";
+    answers(&rt, KEPT, "run p.gp", disturbed, 1, "output\n", line)?;
+    answers(&rt, KEPT, "one p.gp", disturbed, 1, "output\n", line)
+}
+
+#[test]
+fn a_changed_sum_of_cells_is_told_at_the_end(rt: HostRuntime) -> Result<(), Fail> {
+    let disturbed = (Disturbance::BundleSum, 1);
+    let output = "output\n1\n";
+    let line = "gprs_twice: data damaged at position 2\n";
+    answers(&rt, WRITTEN, "run p.gp", disturbed, 1, output, line)
+}
+
+#[test]
+fn memory_that_is_refused_is_no_difference(rt: HostRuntime) -> Result<(), Fail> {
+    let line = "gprs: out of memory\n";
+    for words in ["run p.gp", "one p.gp"] {
+        let recheck = Recheck::disturbing(Disturbance::Refusal, 1);
+        let answer = answer_under(&rt, ADD, words, recheck)?;
+        if answer.recheck.differed() != 0 || !answer.is(1, "output\n", line) {
+            return Err(Fail::from("a refusal is told otherwise"));
+        }
+    }
+    Ok(())
+}
+
+#[test]
 fn nothing_stands_behind_a_trace_or_a_log(rt: HostRuntime) -> Result<(), Fail> {
-    let traced = answer_under(&rt, "run p.gp --trace", Recheck::once())?;
+    let traced = answer_under(&rt, ADD, "run p.gp --trace", Recheck::once())?;
     let disturbed = Recheck::disturbing(Disturbance::Steps, 1);
-    let again = answer_under(&rt, "run p.gp --trace", disturbed)?;
+    let again = answer_under(&rt, ADD, "run p.gp --trace", disturbed)?;
     if again.recheck.differed() != 1 || again.error.written() != traced.error.written() {
         return Err(Fail::from("the trace is another one"));
     }
-    answers(&rt, "log p.gp", (Disturbance::Steps, 1), 0, ADDED, ADD_LOG)
+    answers(&rt, ADD, "log p.gp", (Disturbance::Steps, 1), 0, ADDED, ADD_LOG)
 }
 
 // Also where an allocation is refused, which is no difference.
@@ -210,8 +288,8 @@ fn nothing_stands_behind_a_trace_or_a_log(rt: HostRuntime) -> Result<(), Fail> {
 fn no_difference_is_told_where_nothing_is_disturbed(rt: HostRuntime) -> Result<(), Fail> {
     for crew in &CREWS {
         let words = format!(in rt.alloc(); "run p.gp --faults f.csv --workers 2 --crew {crew}")?;
-        let answer = answer_under(&rt, &words, Recheck::twice())?;
-        let is_told = answer.recheck.differed() > 0 || answer.recheck.disagreed().is_some();
+        let answer = answer_under(&rt, ADD, &words, Recheck::twice())?;
+        let is_told = answer.recheck.differed() > 0 || answer.recheck.has_stopped();
         if is_told || !(answer.status == 0 || answer.status == 1) {
             return Err(Fail::from("a difference is told, or another status"));
         }

@@ -1,5 +1,5 @@
 -- What a call that walks each subthread twice may write behind all that it has to write. No definition says when walks
--- differ, nor how often they did: what a machine does wrong is in none.
+-- differ, how often they did, or when data at rest were not as they were left: what a machine does wrong is in none.
 use Rattle.std.specs.Prelude.{◌≡◌, ◌⊎◌, ◌≤◌, ◌++◌, ℕ, Bool, false, List, [], Option, Some, None, codes, decimal}
 use Rattle.gp_base.specs.meaning.Sinks.{AppendsPrefix}
 use Rattle.command_line.specs.declared.asked.Asked.{Asked}
@@ -14,9 +14,14 @@ differed_line count last =
 abbrev pub disagreed_line : (position : ℕ) → List ℕ
 disagreed_line position = codes "gprs_twice: position " ++ decimal position ++ codes " could not be agreed on\n"
 
+-- the data that were there at this position were not as they were left
+abbrev pub damaged_line : (position : ℕ) → List ℕ
+damaged_line position = codes "gprs_twice: data damaged at position " ++ decimal position ++ codes "\n"
+
 -- what tells a stop at such a position: nothing at another status than that of memory that is out, whose line it stands for
-abbrev pub MayTellDisagreed : (status : ℕ) → List ℕ → Type 0
-MayTellDisagreed status line = (line ≡ []) ⊎ (status ≡ 1) × (position : ℕ) × (line ≡ disagreed_line position)
+abbrev pub MayTellStop : (status : ℕ) → List ℕ → Type 0
+MayTellStop status line =
+    (line ≡ []) ⊎ (status ≡ 1) × (position : ℕ) × ((line ≡ disagreed_line position) ⊎ (line ≡ damaged_line position))
 
 -- what tells of walks that differed: nothing where a trace is asked for
 abbrev pub MayTellDiffered : (traced : Bool) → List ℕ → Type 0
@@ -25,7 +30,7 @@ MayTellDiffered traced line = (line ≡ []) ⊎ (traced ≡ false) × (count : �
 -- the lines that tell both
 pub record AreTold (traced : Bool) (status : ℕ) (lines : List ℕ) : Type 0 where
   pub stop : List ℕ
-  pub is_stop : MayTellDisagreed status stop
+  pub is_stop : MayTellStop status stop
   pub seen : List ℕ
   pub is_seen : MayTellDiffered traced seen
   pub lines_are : lines ≡ stop ++ seen
