@@ -1,0 +1,153 @@
+// Files that are refused.
+use crate::shown::file_told;
+use batch_files::FileKind;
+use batch_files::FileKind::{Fields, Number, Range, TooMany, Twice};
+use gp_base::Seq;
+use refusal_texts::FileUse;
+use std::test::Fail;
+
+// What a file is read as.
+#[derive(Clone, Copy)]
+enum Used {
+    Record,
+    Feed,
+    Faults,
+}
+
+// A file, its rule and its row, and what is to be told of it.
+type Case = (Used, &'static [u8], FileKind, u32, &'static [u8]);
+
+// Records of 40 cells, feeds of three fields, faults.
+const FILES: [Case; 16] = [
+    (
+        Used::Feed,
+        b"0,1,2\n0,1,3\n\n0,1,4\n0,1,5\n0,1,12.50\n",
+        Number,
+        5,
+        b"f.csv:6: field 3: \"12.50\" is no whole number (kind 2 row 5)\n0,1,12.50\nhint: amounts in cents\n",
+    ),
+    (
+        Used::Feed,
+        b"1;2;3\n",
+        Fields,
+        1,
+        b"f.csv:1: 1 field, and not 3 (kind 1 row 1)\n1;2;3\nhint: the line has 2 semicolons: fields stand between commas\n",
+    ),
+    (
+        Used::Feed,
+        b"a,b,c\n1,2,3\n",
+        Number,
+        1,
+        b"f.csv:1: field 1: \"a\" is no whole number (kind 2 row 1)\na,b,c\nhint: a header has to go\n",
+    ),
+    (
+        Used::Feed,
+        b"1,2,3\n4,5,6\n",
+        TooMany,
+        2,
+        b"f.csv:2: this row passes 1000000 cells of feeds (kind 5 row 2)\n4,5,6\n",
+    ),
+    (
+        Used::Record,
+        b"1,2\n40,7\n",
+        Range,
+        2,
+        b"f.csv:2: field 1: 40 is no index of acct, which has 40 cells, 0 to 39 (kind 3 row 2)\n40,7\n",
+    ),
+    (
+        Used::Record,
+        b"3,1\n4,1\n\n3,2\n",
+        Twice,
+        3,
+        b"f.csv:4: field 1: index 3 stands in line 1 already (kind 4 row 3)\n3,2\n",
+    ),
+    (
+        Used::Record,
+        b"0,1\r1,x\r",
+        Number,
+        2,
+        b"f.csv:2: field 2: \"x\" is no whole number (kind 2 row 2)\n1,x\n",
+    ),
+    (
+        Used::Record,
+        b"0,1\r\n1,x\r\n",
+        Number,
+        2,
+        b"f.csv:2: field 2: \"x\" is no whole number (kind 2 row 2)\n1,x\n",
+    ),
+    (
+        Used::Record,
+        b"\"0\",\"1\"\n1,\"2\n\"\n2,x\n",
+        Number,
+        3,
+        b"f.csv:4: field 2: \"x\" is no whole number (kind 2 row 3)\n2,x\n",
+    ),
+    (
+        Used::Record,
+        b"\xef\xbb\xbfa,1\n",
+        Number,
+        1,
+        b"f.csv:1: field 1: \"a\" is no whole number (kind 2 row 1)\na,1\nhint: a header has to go\n",
+    ),
+    (
+        Used::Record,
+        b"0,1,2\n",
+        Fields,
+        1,
+        b"f.csv:1: 3 fields, and not 2 (kind 1 row 1)\n0,1,2\n",
+    ),
+    (
+        Used::Record,
+        b"0,\"1\"\"2\"\n",
+        Number,
+        1,
+        b"f.csv:1: field 2: \"1\"2\" is no whole number (kind 2 row 1)\n0,\"1\"\"2\"\n",
+    ),
+    (
+        Used::Record,
+        b"0\t1\n",
+        Fields,
+        1,
+        b"f.csv:1: 1 field, and not 2 (kind 1 row 1)\n0\t1\nhint: the line has 1 tab: fields stand between commas\n",
+    ),
+    (
+        Used::Faults,
+        b"1,0,65,1\n",
+        Range,
+        1,
+        b"f.csv:1: field 3: 65 is no delay, 0 to 64 (kind 3 row 1)\n1,0,65,1\n",
+    ),
+    (
+        Used::Faults,
+        b"1,0,0,1\n1,0,5,1\n",
+        Twice,
+        2,
+        b"f.csv:2: field 1: position 1 with attempt 0 stands in line 1 already (kind 4 row 2)\n1,0,5,1\n",
+    ),
+    (
+        Used::Faults,
+        b"1,0,0,0\n",
+        Range,
+        1,
+        b"f.csv:1: field 4: 0 is no mask: it flips no bit (kind 3 row 1)\n1,0,0,0\n",
+    ),
+];
+
+#[test]
+fn files_that_are_refused(rt: HostRuntime) -> Result<(), Fail> {
+    let table: [Case; 16] = FILES;
+    let name = Seq::from_slice(rt.alloc(), b"acct")?;
+    for (used, file, kind, row, wanted) in &table {
+        let used = match used {
+            Used::Record => FileUse::Record {
+                name: &name,
+                size: 40,
+            },
+            Used::Feed => FileUse::Feed { fields: 3 },
+            Used::Faults => FileUse::Faults,
+        };
+        let text = file_told(rt.alloc(), file, used, *kind, *row)?;
+        assert_eq!(rt; text.as_slice(), *wanted);
+    }
+    Ok(())
+}

@@ -1,0 +1,11 @@
+//! Tests of the texts that tell why a program or a file is refused.
+#![tactic(auto)]
+
+#[cfg(test)]
+mod checks;
+#[cfg(test)]
+mod files;
+#[cfg(test)]
+mod forms;
+#[cfg(test)]
+mod shown;

@@ -1,0 +1,64 @@
+// What is told of a program, and of a file.
+ghost use Rattle.std.specs.Prelude.{◌<◌, ◌^◌, length};
+
+use batch_files::FileKind;
+use gp_base::{Name, Seq, Text};
+use refusal_texts::{
+    FileUse, push_check_refusal, push_file_refusal, push_lex_refusal, push_parse_refusal,
+};
+use std::alloc::{AllocError, Global};
+use task_ast::CheckKind;
+use task_parser::{lex, parse};
+
+/// What is told of a program under the name `p.gp`: why it is no list of tokens, or no program, or how it breaks this rule
+/// in this line.
+pub fn told(
+    alloc: Global,
+    program: &[u8],
+    kind: CheckKind,
+    line: u32,
+) -> Result<Vec<u8>, AllocError>
+    requires { length program.now < 2 ^ 31 }
+{
+    let mut text = Vec::new(alloc);
+    let name = Name::from_slice(alloc, b"p.gp")?;
+    let tokens = match lex(alloc, program) {
+        Ok(tokens) => tokens,
+        Err(fault) => {
+            push_lex_refusal(alloc, &mut text, &name, program, fault)?;
+            return Ok(text);
+        }
+    };
+    match parse(alloc, program, &tokens) {
+        Ok(tree) => {
+            push_check_refusal(
+                alloc,
+                &mut text,
+                &name,
+                (program, &tokens),
+                &tree,
+                kind,
+                line,
+            )?
+        }
+        Err(fault) => push_parse_refusal(alloc, &mut text, &name, program, &tokens, fault)?,
+    }
+    Ok(text)
+}
+
+/// What is told of a file under the name `f.csv`, refused by this rule at this row.
+pub fn file_told(
+    alloc: Global,
+    bytes: &[u8],
+    used: FileUse<'_>,
+    kind: FileKind,
+    row: u32,
+) -> Result<Vec<u8>, AllocError>
+    requires { length bytes.now < 2 ^ 31 }
+{
+    let mut text = Vec::new(alloc);
+    let name = Name::from_slice(alloc, b"f.csv")?;
+    let bytes = Text::from_slice(alloc, bytes)?;
+    push_file_refusal(alloc, &mut text, &name, &bytes, used, kind, row)?;
+    Ok(text)
+}

@@ -1,0 +1,286 @@
+// Why a file is refused.
+ghost use Rattle.std.specs.Prelude.{◌<◌, ◌^◌, length};
+
+use crate::pieces::{push_between, push_number, push_words};
+use batch_files::FileKind;
+use csv::ByteRecord;
+use gp_base::{Name, Text};
+use row_places::{RowPlace, bad_field, fault_field, first_like, line_from, place_of, row_of};
+use std::alloc::{AllocError, Global};
+use text_places::push_shown;
+
+/// What a file is read as: the cells of a record with so many, the rows of a feed with so many fields, or faults.
+#[derive(Clone, Copy)]
+pub enum FileUse<'a> {
+    Record { name: &'a Name, size: u64 },
+    Feed { fields: u64 },
+    Faults,
+}
+
+// How many bytes of a field are told.
+const LONGEST_FIELD: usize = 40;
+
+// How many fields a row has to have.
+fn fields_of(used: FileUse<'_>) -> u64 {
+    match used {
+        FileUse::Record { .. } => 2,
+        FileUse::Feed { fields } => fields,
+        FileUse::Faults => 4,
+    }
+}
+
+// The bytes of a field, as many as are told.
+fn field_of(row: &ByteRecord, field: usize) -> &[u8] {
+    match row.get(field) {
+        Some(bytes) => &bytes[..bytes.len().min(LONGEST_FIELD)],
+        None => &[],
+    }
+}
+
+// Appends the number of a field, from 1.
+fn push_field(text: &mut Vec<u8>, field: usize) -> Result<(), AllocError> {
+    push_between(text, b"field ", (field as u64).saturating_add(1), b": ")
+}
+
+// Appends that a row has another number of fields.
+fn push_count(text: &mut Vec<u8>, row: &ByteRecord, used: FileUse<'_>) -> Result<(), AllocError> {
+    let word: &[u8] = if row.len() == 1 {
+        b" field, and not "
+    } else {
+        b" fields, and not "
+    };
+    push_between(text, b"", row.len() as u64, word)?;
+    push_number(text, fields_of(used))
+}
+
+// Appends that a field writes no number.
+fn push_no_number(text: &mut Vec<u8>, row: &ByteRecord) -> Result<(), AllocError> {
+    let Some(field) = bad_field(row) else {
+        return text.extend_from_slice(b"a field is no whole number");
+    };
+    push_field(text, field)?;
+    text.extend_from_slice(b"\"")?;
+    push_shown(text, field_of(row, field))?;
+    text.extend_from_slice(b"\" is no whole number")
+}
+
+// Appends that a number is outside of its range.
+fn push_range(text: &mut Vec<u8>, row: &ByteRecord, used: FileUse<'_>) -> Result<(), AllocError> {
+    match used {
+        FileUse::Record { name, size } => {
+            push_field(text, 0)?;
+            push_shown(text, field_of(row, 0))?;
+            push_words(text, b" is no index of ", name.as_slice(), b", which has ")?;
+            push_between(text, b"", size, b" cells, 0 to ")?;
+            push_number(text, size.saturating_sub(1))
+        }
+        _ => push_fault_range(text, row),
+    }
+}
+
+// Appends which number of a fault is outside of its range.
+fn push_fault_range(text: &mut Vec<u8>, row: &ByteRecord) -> Result<(), AllocError> {
+    let Some(field) = fault_field(row) else {
+        return text.extend_from_slice(b"a number is outside its range");
+    };
+    push_field(text, field)?;
+    push_shown(text, field_of(row, field))?;
+    match field {
+        0 => text.extend_from_slice(b" is no position, 0 to 4294967295"),
+        1 => text.extend_from_slice(b" is no attempt, 0 to 4294967295"),
+        2 => text.extend_from_slice(b" is no delay, 0 to 64"),
+        _ => text.extend_from_slice(b" is no mask: it flips no bit"),
+    }
+}
+
+// Appends which earlier row says the same.
+fn push_twice(
+    alloc: Global,
+    text: &mut Vec<u8>,
+    bytes: &[u8],
+    row: &ByteRecord,
+    used: FileUse<'_>,
+) -> Result<(), AllocError>
+    requires { length bytes.now < 2 ^ 31 }
+{
+    let keys = if matches!(used, FileUse::Faults) {
+        2
+    } else {
+        1
+    };
+    let line = match first_like(alloc, bytes, row, keys) {
+        Some(number) => place_of(alloc, bytes, number),
+        None => None,
+    };
+    let first: &[u8] = if keys == 1 {
+        b"field 1: index "
+    } else {
+        b"field 1: position "
+    };
+    push_words(text, first, field_of(row, 0), b"")?;
+    if keys == 2 {
+        push_words(text, b" with attempt ", field_of(row, 1), b"")?;
+    }
+    match line {
+        Some(place) => push_between(
+            text,
+            b" stands in line ",
+            u64::from(place.line),
+            b" already",
+        ),
+        None => text.extend_from_slice(b" stands in an earlier row already"),
+    }
+}
+
+// Appends what is said of a row.
+fn push_row_message(
+    alloc: Global,
+    text: &mut Vec<u8>,
+    bytes: &[u8],
+    row: &ByteRecord,
+    used: FileUse<'_>,
+    kind: FileKind,
+) -> Result<(), AllocError>
+    requires { length bytes.now < 2 ^ 31 }
+{
+    match kind {
+        FileKind::Fields => push_count(text, row, used),
+        FileKind::Number => push_no_number(text, row),
+        FileKind::Range => push_range(text, row, used),
+        FileKind::Twice => push_twice(alloc, text, bytes, row, used),
+        FileKind::TooMany => match used {
+            FileUse::Faults => text.extend_from_slice(b"this row passes 1000 faults"),
+            _ => text.extend_from_slice(b"this row passes 1000000 cells of feeds"),
+        },
+    }
+}
+
+// The number of a rule.
+fn kind_number(kind: FileKind) -> u64 {
+    match kind {
+        FileKind::Fields => 1,
+        FileKind::Number => 2,
+        FileKind::Range => 3,
+        FileKind::Twice => 4,
+        FileKind::TooMany => 5,
+    }
+}
+
+// How often a byte stands in a line.
+fn count(line: &[u8], wanted: u8) -> u64 {
+    line.iter().filter(|byte| **byte == wanted).count() as u64
+}
+
+// Appends that the fields of a line stand between other marks than commas.
+fn push_separator(text: &mut Vec<u8>, marks: u64, word: &[u8]) -> Result<(), AllocError> {
+    push_between(text, b"hint: the line has ", marks, word)?;
+    let plural: &[u8] = if marks == 1 { b"" } else { b"s" };
+    push_words(text, plural, b": fields stand between commas", b"\n")
+}
+
+// Whether a field has a digit and a point.
+fn has_point(field: &[u8]) -> bool {
+    count(field, b'.') > 0 && field.iter().any(|byte| byte.is_ascii_digit())
+}
+
+// Whether a field has a letter.
+fn has_letter(field: &[u8]) -> bool {
+    field.iter().any(|byte| byte.is_ascii_alphabetic())
+}
+
+// Appends a hint on a row with another number of fields.
+fn push_fields_hint(text: &mut Vec<u8>, line: &[u8]) -> Result<(), AllocError> {
+    if count(line, b';') > 0 {
+        push_separator(text, count(line, b';'), b" semicolon")
+    } else if count(line, b'\t') > 0 {
+        push_separator(text, count(line, b'\t'), b" tab")
+    } else {
+        Ok(())
+    }
+}
+
+// Appends a hint on a field that is no number, in the row of this number.
+fn push_number_hint(text: &mut Vec<u8>, field: &[u8], number: u32) -> Result<(), AllocError> {
+    if has_point(field) {
+        text.extend_from_slice(b"hint: amounts in cents\n")
+    } else if number == 1 && has_letter(field) {
+        text.extend_from_slice(b"hint: a header has to go\n")
+    } else {
+        Ok(())
+    }
+}
+
+// Appends a hint on a row that is not as it has to be.
+fn push_hint(
+    text: &mut Vec<u8>,
+    line: &[u8],
+    row: &ByteRecord,
+    kind: FileKind,
+    number: u32,
+) -> Result<(), AllocError> {
+    match (kind, bad_field(row)) {
+        (FileKind::Fields, _) => push_fields_hint(text, line),
+        (FileKind::Number, Some(field)) => push_number_hint(text, field_of(row, field), number),
+        _ => Ok(()),
+    }
+}
+
+// Appends the line of a row, and a hint on it.
+fn push_line(
+    text: &mut Vec<u8>,
+    bytes: &[u8],
+    place: Option<RowPlace>,
+    row: &ByteRecord,
+    kind: FileKind,
+    number: u32,
+) -> Result<(), AllocError> {
+    let line = match place {
+        Some(place) if place.at <= bytes.len() => line_from(bytes, place.at),
+        _ => &[],
+    };
+    if !line.is_empty() {
+        push_shown(text, line)?;
+        text.extend_from_slice(b"\n")?;
+    }
+    push_hint(text, line, row, kind, number)
+}
+
+/// Appends why a file is refused at a row: the name of the file, the line of the row, what is said of the row, the rule
+/// and the row, the line itself, and hints. Where the line can't be found it is left out. The only error is out of memory.
+pub fn push_file_refusal(
+    alloc: Global,
+    text: &mut Vec<u8>,
+    name: &Name,
+    bytes: &Text,
+    used: FileUse<'_>,
+    kind: FileKind,
+    row: u32,
+) -> Result<(), AllocError>
+    requires { length bytes.now < 2 ^ 31 }
+{
+    let bytes = bytes.as_slice();
+    let place = place_of(alloc, bytes, row);
+    let record = match row_of(alloc, bytes, row) {
+        Some(record) => record,
+        None => return Err(AllocError),
+    };
+    text.extend_from_slice(name.as_slice())?;
+    if let Some(place) = place {
+        push_between(text, b":", u64::from(place.line), b"")?;
+    }
+    text.extend_from_slice(b": ")?;
+    push_row_message(alloc, text, bytes, &record, used, kind)?;
+    push_between(text, b" (kind ", kind_number(kind), b" row ")?;
+    push_between(text, b"", u64::from(row), b")\n")?;
+    push_line(text, bytes, place, &record, kind, row)
+}
+
+/// Appends that a file is too long.
+pub fn push_long_file(text: &mut Vec<u8>, name: &Name) -> Result<(), AllocError> {
+    push_words(
+        text,
+        name.as_slice(),
+        b": more than 33554432 bytes (kind 6 row 0)\n",
+        b"",
+    )
+}

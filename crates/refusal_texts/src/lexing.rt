@@ -1,0 +1,129 @@
+// Why a text is no list of tokens.
+ghost use Rattle.std.specs.Prelude.{◌≡◌, ◌<◌, ◌≤◌, ◌++◌, ◌^◌, length, OnOk, codes};
+ghost use Rattle.text_places.specs.meaning.Faults.{lex_place};
+ghost use Rattle.refusal_texts.specs.meaning.Fronts.{rule_text, IsRefusal};
+ghost use Rattle.refusal_texts.specs.meaning.Refusals.{IsLexRefusal};
+
+use crate::front::{Rule, push_refusal};
+use crate::hints::lex_hints;
+use crate::pieces::{push_between, push_words};
+use gp_base::Name;
+use std::alloc::{AllocError, Global};
+use task_parser::LexFault;
+use text_places::{lex_place, push_shown};
+
+/// What the first rule of lexing says.
+pub const BYTES: &[u8] =
+    b"outside of comments a text has ASCII letters, digits and the marks of the language";
+
+/// What the second says.
+pub const NUMBERS: &[u8] = b"a number is at most 9223372036854775807";
+
+// What is said of a byte that can't stand where it is shown.
+fn byte_message(alloc: Global, program: &[u8], at: usize) -> Result<Vec<u8>, AllocError> {
+    let mut text = Vec::new(alloc);
+    match program.get(at) {
+        None => text.extend_from_slice(b"the text ends inside a text in quotes")?,
+        Some(b'\n') => text.extend_from_slice(b"the line ends inside a text in quotes")?,
+        Some(byte) if *byte > 32 && *byte < 127 => push_words(
+            &mut text,
+            b"`",
+            &[*byte],
+            b"` cannot stand here",
+        )?,
+        Some(byte) => push_between(&mut text, b"byte ", u64::from(*byte), b" cannot stand here")?,
+    }
+    Ok(text)
+}
+
+// How many digits stand at the front.
+fn digits(text: &[u8]) -> usize
+    ensures { result ≤ length text.now }
+{
+    text.iter().take_while(|byte| byte.is_ascii_digit()).count()
+}
+
+// What is said of a number that is too big.
+fn number_message(alloc: Global, program: &[u8], at: usize) -> Result<Vec<u8>, AllocError> {
+    let rest = &program[at.min(program.len())..];
+    let mut text = Vec::new(alloc);
+    push_shown(&mut text, &rest[..digits(rest).min(40)])?;
+    text.extend_from_slice(b" is too big")?;
+    Ok(text)
+}
+
+// Appends why a byte can't stand where it does.
+fn push_bad_byte(
+    alloc: Global,
+    text: &mut Vec<u8>,
+    name: &Name,
+    program: &[u8],
+    at: u32,
+) -> Result<(), AllocError>
+    requires { length program.now < 2 ^ 31 }
+    ensures { OnOk result (IsRefusal name.now program.now (lex_place program.now at)
+        (rule_text (codes "lex") 1 BYTES.now (codes "byte") at) text.old.items text.new.items) }
+{
+    let place = lex_place(program, at as usize);
+    let message = byte_message(alloc, program, place)?;
+    let hints = lex_hints(alloc, program, place)?;
+    let rule = Rule {
+        kind: b"lex",
+        number: 1,
+        says: BYTES,
+        unit: b"byte",
+        at: u64::from(at),
+    };
+    push_refusal(text, name, program, place, &message, rule, &hints)
+}
+
+// Appends why a number can't stand where it does.
+fn push_big_number(
+    alloc: Global,
+    text: &mut Vec<u8>,
+    name: &Name,
+    program: &[u8],
+    at: u32,
+) -> Result<(), AllocError>
+    requires { length program.now < 2 ^ 31 }
+    ensures { OnOk result (IsRefusal name.now program.now at
+        (rule_text (codes "lex") 2 NUMBERS.now (codes "byte") at) text.old.items text.new.items) }
+{
+    let message = number_message(alloc, program, at as usize)?;
+    let rule = Rule {
+        kind: b"lex",
+        number: 2,
+        says: NUMBERS,
+        unit: b"byte",
+        at: u64::from(at),
+    };
+    push_refusal(text, name, program, at as usize, &message, rule, b"")
+}
+
+// Appends that a text is too long.
+fn push_too_long(text: &mut Vec<u8>, name: &Name) -> Result<(), AllocError>
+    ensures { OnOk result (text.new.items ≡ text.old.items ++ name.now ++ codes ": more than 1048576 bytes (lex 3)\n") }
+{
+    text.extend_from_slice(name.as_slice())?;
+    text.extend_from_slice(b": more than 1048576 bytes (lex 3)\n")
+}
+
+/// Appends why a text is no list of tokens: its name, the place, the message, the line with a mark, the rule, and hints.
+/// The only error is out of memory, which is the answer to that fault too.
+pub fn push_lex_refusal(
+    alloc: Global,
+    text: &mut Vec<u8>,
+    name: &Name,
+    program: &[u8],
+    fault: LexFault,
+) -> Result<(), AllocError>
+    requires { length program.now < 2 ^ 31 }
+    ensures { OnOk result (IsLexRefusal name.now program.now fault text.old.items text.new.items) }
+{
+    match fault {
+        LexFault::BadByte(at) => push_bad_byte(alloc, text, name, program, at),
+        LexFault::NumberTooBig(at) => push_big_number(alloc, text, name, program, at),
+        LexFault::TooLong => push_too_long(text, name),
+        LexFault::OutOfMemory => Err(AllocError),
+    }
+}

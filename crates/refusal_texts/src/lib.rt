@@ -1,0 +1,18 @@
+//! The texts that tell why a program or a file is refused: the place, the line with a mark under it, the rule, and hints.
+#![tactic(auto)]
+
+mod checking;
+mod files;
+mod front;
+mod hints;
+mod kinds;
+mod lexing;
+mod messages;
+mod parsing;
+mod pieces;
+mod spelling;
+
+pub use checking::push_check_refusal;
+pub use files::{FileUse, push_file_refusal, push_long_file};
+pub use lexing::push_lex_refusal;
+pub use parsing::push_parse_refusal;

@@ -1,0 +1,59 @@
+// Where rows begin, by a scan of a file's bytes. What it finds is looked up by who calls it.
+ghost use Rattle.std.specs.Prelude.{◌≡◌, ◌≤◌, length};
+ghost use Rattle.row_places.specs.meaning.Places.{is_line_end};
+
+// Where a byte of a file stands.
+#[derive(Clone, Copy, PartialEq, Eq)]
+enum Stand {
+    RowStart,
+    FieldStart,
+    InField,
+    InQuotes,
+    // After a quote in quotes, which ends them unless another quote follows.
+    QuoteEnd,
+}
+
+pub fn is_line_end(byte: u8) -> bool
+    ensures { result ≡ is_line_end byte }
+{
+    byte == b'\n' || byte == b'\r'
+}
+
+// Where the byte after this one stands.
+fn after(stand: Stand, byte: u8) -> Stand {
+    match (stand, byte) {
+        (Stand::InQuotes, b'"') => Stand::QuoteEnd,
+        (Stand::InQuotes, _) => Stand::InQuotes,
+        (Stand::QuoteEnd | Stand::RowStart | Stand::FieldStart, b'"') => Stand::InQuotes,
+        (_, b'\n' | b'\r') => Stand::RowStart,
+        (_, b',') => Stand::FieldStart,
+        _ => Stand::InField,
+    }
+}
+
+// How many bytes a byte order mark at the front takes.
+fn mark_length(bytes: &[u8]) -> usize
+    ensures { result ≤ length bytes.now }
+{
+    match bytes {
+        [0xef, 0xbb, 0xbf, ..] => 3,
+        _ => 0,
+    }
+}
+
+/// Where the row of this number, from 1, seems to begin.
+pub fn row_start(bytes: &[u8], row: u32) -> Option<usize> {
+    let first = mark_length(bytes);
+    let mut stand = Stand::RowStart;
+    let mut rows: u32 = 0;
+    for at in first..bytes.len() {
+        if stand == Stand::RowStart && !is_line_end(bytes[at]) {
+            rows = rows.saturating_add(1);
+            if rows == row {
+                return Some(at);
+            }
+        }
+        stand = after(stand, bytes[at]);
+    }
+    None
+}

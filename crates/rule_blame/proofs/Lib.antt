@@ -1,0 +1,4 @@
+pub mod Appends
+pub mod Blaming
+pub mod NameLemmas
+pub mod PointLemmas

@@ -1,0 +1,4 @@
+pub mod Told
+pub mod Views
+pub mod Walked
+pub mod meaning

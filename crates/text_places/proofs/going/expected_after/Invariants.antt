@@ -1,0 +1,5 @@
+use Rattle.text_places.specs.meaning.Expected.{AreExpected}
+use Rattle.text_places.proofs.going.expected_after.Given as goal
+
+abbrev pub invariant-loop-number : goal.invariant-loop-number
+invariant-loop-number l = AreExpected l.text l.front l.number l.kinds.items

@@ -1,0 +1,16 @@
+//! Places in the text of a program: the line and the column of a byte, the line that is shown with a mark under that
+//! byte, where a fault of lexing or of parsing stands, where a name stands in a line, and which tokens could stand where
+//! a program can't go on.
+#![tactic(auto)]
+
+mod faults;
+mod going;
+mod lines;
+mod names;
+mod place;
+
+pub use faults::{is_quoted_at, lex_place, parse_place};
+pub use going::expected;
+pub use lines::{push_marked, push_shown};
+pub use names::{first_place, name_place};
+pub use place::{Place, place_of};
