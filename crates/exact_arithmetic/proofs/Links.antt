@@ -7,7 +7,7 @@ use Rattle.task_ast.specs.View.{plain_expr, plain_links}
 use Rattle.task_ast.specs.declared.env.Env.{Env}
 use Rattle.task_ast.specs.declared.tree.Op.{Op}
 use Rattle.task_ast.specs.declared.tree.Expr.{Expr}
-use Rattle.exact_arithmetic.specs.meaning.Exact.{is_exact, is_exact_on, stays, stays_on}
+use Rattle.exact_arithmetic.specs.Exact.{is_exact, is_exact_on, stays, stays_on}
 
 flag-one : (exact side here rest : Bool) → (((exact && side) && here) && rest) ≡ (exact && ((side && here) && rest))
 flag-one true side here rest = refl

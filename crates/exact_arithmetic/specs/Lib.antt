@@ -1,1 +1,1 @@
-pub mod meaning
+pub mod Exact

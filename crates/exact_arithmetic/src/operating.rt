@@ -2,7 +2,7 @@
 ghost use Rattle.std.specs.Prelude.{◌≡◌, ◌&&◌, Some, false, neg_ℤ};
 ghost use Rattle.std.specs.Int.{int_wrap, w64};
 ghost use Rattle.task_ast.specs.meaning.Value.{operate};
-ghost use Rattle.exact_arithmetic.specs.meaning.Exact.{is_exact, negates};
+ghost use Rattle.exact_arithmetic.specs.Exact.{is_exact, negates};
 
 use task_ast::{Op, apply, negate};
 

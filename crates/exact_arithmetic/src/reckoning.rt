@@ -2,7 +2,7 @@
 ghost use Rattle.std.specs.Prelude.{◌≡◌, ◌&&◌, Some, IfSome};
 ghost use Rattle.task_ast.specs.meaning.Value.{value, value_on};
 ghost use Rattle.task_ast.specs.View.{plain_expr, plain_links};
-ghost use Rattle.exact_arithmetic.specs.meaning.Exact.{stays, stays_on};
+ghost use Rattle.exact_arithmetic.specs.Exact.{stays, stays_on};
 
 use crate::operating::{negated, operated};
 use task_ast::{Env, Expr, Op, eval_d};

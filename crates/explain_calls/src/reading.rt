@@ -1,5 +1,6 @@
 // What a call is to explain, from its words and the shelf.
-ghost use Rattle.std.specs.Prelude.{◌≡◌, [], None, Some, IfErr, IfOk, IfSome};
+ghost use Rattle.std.specs.Prelude.{◌≡◌, ◌≤◌, [], length, None, Some, IfErr, IfOk, IfSome};
+ghost use Rattle.gp_base.specs.declared.limits.TheConstants.{MOST_PROGRAM_BYTES};
 ghost use Rattle.command_line.specs.meaning.Words.{texts};
 ghost use Rattle.command_line.specs.Words.{IsWithinLimits};
 ghost use Rattle.call_cases.specs.meaning.Case.{IsCase, IsCaseOf};
@@ -42,6 +43,7 @@ fn told_by<H: Shelf>(
     refusal: Refusal,
     shelf: &mut H,
 ) -> Explained
+    requires { length text.now ≤ MOST_PROGRAM_BYTES }
     ensures same { IsOrShort refusal result.refusal }
     ensures text { TextFor result.refusal result.text }
     ensures shelf { KeepsFor refusal (H.failed shelf.new ≡ H.failed shelf.old) }

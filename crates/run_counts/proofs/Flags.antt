@@ -13,7 +13,7 @@ use Rattle.task_ast.specs.declared.tree.Op.{Op}
 use Rattle.task_ast.specs.declared.tree.Expr.{Expr}
 use Rattle.task_ast.proofs.Registers.{or_false}
 use Rattle.task_ast.proofs.Terms.{value_is}
-use Rattle.exact_arithmetic.specs.meaning.Exact.{is_exact, negates, stays, stays_on}
+use Rattle.exact_arithmetic.specs.Exact.{is_exact, negates, stays, stays_on}
 use Rattle.exact_arithmetic.proofs.Links.{flag-more}
 use Rattle.run_counts.specs.Data.{with_data}
 

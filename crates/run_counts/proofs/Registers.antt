@@ -5,7 +5,7 @@ use Rattle.task_ast.specs.meaning.Tree.{Name, Expr, Num, Ctl, Reg, Me, Rows, Cel
 use Rattle.task_ast.specs.meaning.Declarations.{has_data, have_data}
 use Rattle.task_ast.specs.meaning.Value.{operate_on, value}
 use Rattle.task_ast.proofs.Registers.{or_false, value-registers}
-use Rattle.exact_arithmetic.specs.meaning.Exact.{is_exact_on, negates, stays, stays_on}
+use Rattle.exact_arithmetic.specs.Exact.{is_exact_on, negates, stays, stays_on}
 
 abbrev with_registers : Env → List (Name × ℤ) → Env
 with_registers env registers = record env { regs = registers }

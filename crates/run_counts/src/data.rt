@@ -4,7 +4,7 @@ ghost use Rattle.task_ast.specs.meaning.Declarations.{has_data_index, have_data_
 ghost use Rattle.task_ast.specs.meaning.Action.{term, terms};
 ghost use Rattle.task_ast.specs.meaning.Effect.{term_value, terms_value};
 ghost use Rattle.task_ast.specs.View.{plain_expr, plain_links};
-ghost use Rattle.exact_arithmetic.specs.meaning.Exact.{stays, stays_on};
+ghost use Rattle.exact_arithmetic.specs.Exact.{stays, stays_on};
 ghost use Rattle.run_counts.specs.Data.{with_data};
 
 use exact_arithmetic::{negated, operated, reckon};

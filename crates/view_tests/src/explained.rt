@@ -459,6 +459,140 @@ const EXACT: [Row; 4] = [
     ("explain p.gp", FEED, "1,2\n", 0, EMPTY_TOLD, ""),
 ];
 
+const DECIMAL: &str = "task main() {
+  when $x > 1.5 {
+  }
+}
+";
+
+const DECIMAL_TOLD: &str = "p.gp:2:14: `.` cannot stand here
+  when $x > 1.5 {
+             ^
+lex 1: outside of comments a text has ASCII letters, digits and the marks of the language (lex 1 at byte 27)
+hint: numbers are whole: write amounts in cents
+";
+
+const NOTHING_SET: &str = "task main() {
+  var i;
+  i = ;
+}
+";
+
+const NOTHING_SET_TOLD: &str = "p.gp:3:7: `;` cannot stand here; an expression was expected
+  i = ;
+      ^
+parse 1: the first token that no program goes on with (parse 1 at byte 29)
+";
+
+const UNDECLARED: &str = "task main() {
+  var $low;
+  $low = $lwo - 1;
+}
+";
+
+const UNDECLARED_TOLD: &str = "p.gp:3:10: $lwo is no data variable of task main
+  $low = $lwo - 1;
+         ^
+check 1: a name has to be declared as what its place needs (check 1 at line 3)
+hint: $low is declared
+";
+
+const RECORD: &str = "lock l[2];
+record acct[2] by l from \"moves.csv\";
+task main() { }
+";
+
+const RANGE_TOLD: &str =
+    "moves.csv:1: field 1: 2 is no index of acct, which has 2 cells, 0 to 1 (kind 3 row 1)
+2,7
+";
+
+const CENTS_TOLD: &str = "moves.csv:3: field 2: \"4.5\" is no whole number (kind 2 row 2)
+3,4.5
+hint: amounts in cents
+";
+
+const HEADER_TOLD: &str = "moves.csv:1: field 1: \"a\" is no whole number (kind 2 row 1)
+a,b
+hint: a header has to go
+";
+
+const SEMICOLON_TOLD: &str = "moves.csv:1: 1 field, and not 2 (kind 1 row 1)
+1;2
+hint: the line has 1 semicolon: fields stand between commas
+";
+
+const DELAY_TOLD: &str = "moves.csv:1: field 3: 65 is no delay, 0 to 64 (kind 3 row 1)
+1,0,65,1
+";
+
+const REFUSED: [Row; 8] = [
+    (
+        "explain p.gp",
+        DECIMAL,
+        "",
+        3,
+        DECIMAL_TOLD,
+        "gprs_view: lex 1 at byte 27\n",
+    ),
+    (
+        "explain p.gp",
+        NOTHING_SET,
+        "",
+        3,
+        NOTHING_SET_TOLD,
+        "gprs_view: parse 1 at byte 29\n",
+    ),
+    (
+        "explain p.gp",
+        UNDECLARED,
+        "",
+        3,
+        UNDECLARED_TOLD,
+        "gprs_view: check 1 at line 3\n",
+    ),
+    (
+        "explain p.gp",
+        RECORD,
+        "2,7\n",
+        4,
+        RANGE_TOLD,
+        "gprs_view: input moves.csv kind 3 row 1\n",
+    ),
+    (
+        "explain p.gp",
+        FEED,
+        "1,2\n\n3,4.5\n",
+        4,
+        CENTS_TOLD,
+        "gprs_view: input moves.csv kind 2 row 2\n",
+    ),
+    (
+        "explain p.gp",
+        FEED,
+        "a,b\n1,2\n",
+        4,
+        HEADER_TOLD,
+        "gprs_view: input moves.csv kind 2 row 1\n",
+    ),
+    (
+        "explain p.gp",
+        FEED,
+        "1;2\n",
+        4,
+        SEMICOLON_TOLD,
+        "gprs_view: input moves.csv kind 1 row 1\n",
+    ),
+    (
+        "explain p.gp --faults moves.csv",
+        EMPTY,
+        "1,0,65,1\n",
+        4,
+        DELAY_TOLD,
+        "gprs_view: input moves.csv kind 3 row 1\n",
+    ),
+];
+
 // The words between spaces.
 fn words_of(alloc: Global, text: &str) -> Result<Vec<String>, AllocError> {
     let mut words = Vec::new(alloc);
@@ -537,5 +671,11 @@ fn spent_runs_are_told(rt: HostRuntime) -> Result<(), Fail> {
 #[test]
 fn arithmetic_is_told(rt: HostRuntime) -> Result<(), Fail> {
     assert!(rt; are_told(rt.alloc(), &EXACT)?);
+    Ok(())
+}
+
+#[test]
+fn refusals_are_told(rt: HostRuntime) -> Result<(), Fail> {
+    assert!(rt; are_told(rt.alloc(), &REFUSED)?);
     Ok(())
 }

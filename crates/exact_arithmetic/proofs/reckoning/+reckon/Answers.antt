@@ -3,7 +3,7 @@ use Rattle.std.proofs.lemmas.Int.{to_z-of_z}
 use Rattle.task_ast.specs.meaning.Value.{operate}
 use Rattle.task_ast.specs.View.{plain_links}
 use Rattle.task_ast.proofs.Values.{value_from-some, value_from-none}
-use Rattle.exact_arithmetic.specs.meaning.Exact.{is_exact, stays_on}
+use Rattle.exact_arithmetic.specs.Exact.{is_exact, stays_on}
 use Rattle.exact_arithmetic.proofs.Links.{flag-more}
 use Rattle.exact_arithmetic.proofs.reckoning.+reckon.Goals as goal
 

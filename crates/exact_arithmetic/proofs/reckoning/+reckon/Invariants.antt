@@ -1,7 +1,7 @@
 use Rattle.std.proofs.Common.{◌≡◌, ◌&&◌, drop, Some}
 use Rattle.task_ast.specs.meaning.Value.{value_on}
 use Rattle.task_ast.specs.View.{plain_links}
-use Rattle.exact_arithmetic.specs.meaning.Exact.{stays_on}
+use Rattle.exact_arithmetic.specs.Exact.{stays_on}
 use Rattle.exact_arithmetic.proofs.reckoning.+reckon.Given as goal
 
 abbrev pub invariant-reckon_links-loop-link : goal.invariant-reckon_links-loop-link

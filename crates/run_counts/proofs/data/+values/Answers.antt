@@ -5,7 +5,7 @@ use Rattle.task_ast.specs.meaning.Declarations.{has_data, has_data_index, have_d
 use Rattle.task_ast.specs.View.{plain_expr, plain_links}
 use Rattle.task_ast.proofs.Views.{expr_Neg, expr_Cell, expr_Chain}
 use Rattle.task_ast.proofs.Registers.{or_false}
-use Rattle.exact_arithmetic.specs.meaning.Exact.{stays}
+use Rattle.exact_arithmetic.specs.Exact.{stays}
 use Rattle.run_counts.specs.Data.{with_data}
 use Rattle.run_counts.proofs.Flags.{parts-from, neg-flag, chain-flag, value-more, flag-on}
 use Rattle.run_counts.proofs.Registers.{stays-registers}

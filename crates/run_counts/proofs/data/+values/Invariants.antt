@@ -3,7 +3,7 @@ use Rattle.task_ast.specs.meaning.Declarations.{have_data_index}
 use Rattle.task_ast.specs.meaning.Action.{terms}
 use Rattle.task_ast.specs.meaning.Effect.{terms_value}
 use Rattle.task_ast.specs.View.{plain_links}
-use Rattle.exact_arithmetic.specs.meaning.Exact.{stays_on}
+use Rattle.exact_arithmetic.specs.Exact.{stays_on}
 use Rattle.run_counts.specs.Data.{with_data}
 use Rattle.run_counts.proofs.data.+values.Given as goal
 
