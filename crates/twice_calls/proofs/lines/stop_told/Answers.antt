@@ -6,5 +6,5 @@ use Rattle.twice_calls.proofs.lines.stop_told.Goals as goal
 pub returns-in-Some : goal.returns-in-Some
 returns-in-Some c =
     IfOk-weaker c.damaged_line.result (λ line. line.items ≡ damaged_line c.in-Some.position)
-    (λ line. MayTellStop c.args.status line.items) (λ line is. inr (c.if-status-neq1.false, c.in-Some.position, inr is))
+    (λ line. MayTellStop c.args.status line.items) (λ line is. inr (c.if-status-ne1.false, c.in-Some.position, inr is))
     c.damaged_line.ensures
