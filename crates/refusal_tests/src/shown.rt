@@ -19,8 +19,7 @@ pub fn told(
     program: &[u8],
     kind: CheckKind,
     line: u32,
-) -> Result<Vec<u8>, AllocError>
-{
+) -> Result<Vec<u8>, AllocError> {
     let mut text = Vec::new(alloc);
     if program.len() >= TOO_LONG {
         return Ok(text);
@@ -57,8 +56,7 @@ pub fn file_told(
     used: FileUse<'_>,
     kind: FileKind,
     row: u32,
-) -> Result<Vec<u8>, AllocError>
-{
+) -> Result<Vec<u8>, AllocError> {
     let mut text = Vec::new(alloc);
     if bytes.len() >= TOO_LONG {
         return Ok(text);

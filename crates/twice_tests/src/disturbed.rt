@@ -189,8 +189,24 @@ fn answers<R: Threads + Sync + AllocGlobal>(
 #[test]
 fn a_walk_that_differs_is_put_right(rt: HostRuntime) -> Result<(), Fail> {
     let line = "gprs_twice: differed 1, last 0\n";
-    answers(&rt, ADD, "run p.gp", (Disturbance::Steps, 1), 0, ADDED, line)?;
-    answers(&rt, ADD, "one p.gp", (Disturbance::Steps, 1), 0, ADDED, line)
+    answers(
+        &rt,
+        ADD,
+        "run p.gp",
+        (Disturbance::Steps, 1),
+        0,
+        ADDED,
+        line,
+    )?;
+    answers(
+        &rt,
+        ADD,
+        "one p.gp",
+        (Disturbance::Steps, 1),
+        0,
+        ADDED,
+        line,
+    )
 }
 
 #[test]
@@ -280,7 +296,15 @@ fn nothing_stands_behind_a_trace_or_a_log(rt: HostRuntime) -> Result<(), Fail> {
     if again.recheck.differed() != 1 || again.error.written() != traced.error.written() {
         return Err(Fail::from("the trace is another one"));
     }
-    answers(&rt, ADD, "log p.gp", (Disturbance::Steps, 1), 0, ADDED, ADD_LOG)
+    answers(
+        &rt,
+        ADD,
+        "log p.gp",
+        (Disturbance::Steps, 1),
+        0,
+        ADDED,
+        ADD_LOG,
+    )
 }
 
 // Also where an allocation is refused, which is no difference.
