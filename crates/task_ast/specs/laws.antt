@@ -6,5 +6,6 @@ pub mod Keeps
 pub mod Less
 pub mod Positions
 pub mod Registers
+pub mod Runs
 pub mod Standing
 pub mod Threads

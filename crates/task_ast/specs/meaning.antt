@@ -12,6 +12,7 @@ pub mod Names
 pub mod Plain
 pub mod Position
 pub mod Repeat
+pub mod Run
 pub mod State
 pub mod Table
 pub mod Tree

@@ -5,6 +5,7 @@ ghost use Rattle.task_ast.specs.Reached.{DeadlockLaw};
 ghost use Rattle.task_ast.specs.laws.Ends.{EndLaw, CountLaw, TablesLaw, WholeLaw};
 ghost use Rattle.task_ast.specs.laws.Folds.{WritesLaw, NoDamageLaw, FoldLaw};
 ghost use Rattle.task_ast.specs.laws.Keeps.{ReadsLaw, WithinLaw};
+ghost use Rattle.task_ast.specs.laws.Runs.{RunMoveLaw, RunInsideLaw, RunOrderLaw, RunBeforeLaw, RunEndLaw};
 ghost use Rattle.task_ast.specs.Layout.{LayoutLaw, SizesLaw, OverLaw, BaseLaw};
 
 /// An expression without data in an index has the value of its term.
@@ -64,4 +65,13 @@ pub fn layout_laws()
     ensures sizes { SizesLaw }
     ensures over { OverLaw }
     ensures base { BaseLaw }
+{}
+
+/// The plain run is the run of the general turn over the points of the tree.
+pub fn run_laws()
+    ensures moves { RunMoveLaw }
+    ensures inside { RunInsideLaw }
+    ensures order { RunOrderLaw }
+    ensures before { RunBeforeLaw }
+    ensures end { RunEndLaw }
 {}
