@@ -24,7 +24,7 @@ use Rattle.task_ast.specs.meaning.Control.{Setting, Point, step_at, step_from, k
 use Rattle.task_ast.specs.meaning.Held.{same_pair}
 use Rattle.task_ast.specs.laws.Keeps.{NamesOnly, AllName}
 use Rattle.task_ast.specs.Layout.{IsLaidOut}
-use Rattle.task_ast.specs.meaning.Table.{Table}
+use Rattle.task_ast.specs.Table.{Table}
 use Rattle.task_ast.specs.meaning.Turn.{owner_in, owners_after}
 use Rattle.lock_checker.specs.WalkLaw.{Holding, pairs_held, held_past, NextTouchesHeld, StillNamed}
 use Rattle.task_ast.specs.laws.Threads.{MayBegin}
