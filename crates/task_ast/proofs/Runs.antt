@@ -735,10 +735,10 @@ module _ (program : Program) (inputs : Inputs) (limits : Limits) where
 
   -- ---- the run
 
-  opening-inside : IsInside (plain_opening program inputs limits)
+  pub opening-inside : IsInside (plain_opening program inputs limits)
   opening-inside t e = absurd (cc e)
 
-  after-is : (n : ℕ) (x : Run) → IsInside x
+  pub after-is : (n : ℕ) (x : Run) → IsInside x
       → (plain_for program limits (state_after (plain_move program inputs limits) n x)
       ≡ state_after (move program inputs limits) n (plain_for program limits x))
       × IsInside (state_after (plain_move program inputs limits) n x)
@@ -768,7 +768,7 @@ module _ (program : Program) (inputs : Inputs) (limits : Limits) where
         inside,
       )
 
-  steps-are : (n : ℕ) (x : Run) → IsInside x
+  pub steps-are : (n : ℕ) (x : Run) → IsInside x
       → steps (plain_move program inputs limits) n x ≡ steps (move program inputs limits) n (plain_for program limits x)
   unfolding steps
   steps-are zero x inside = refl
@@ -795,12 +795,15 @@ module _ (program : Program) (inputs : Inputs) (limits : Limits) where
   end-for (Goes s y) = refl
   end-for (Ends e) = refl
 
+  pub ending-is : (x : Run) → IsInside x
+      → ending_of (plain_move program inputs limits x) ≡ ending_of (move program inputs limits (plain_for program limits x))
+  ending-is x inside = end-for (plain_move program inputs limits x) ∙ ap ending_of (sym (move-is x inside))
+
   pub end-is : plain_end program inputs limits ≡ end program inputs limits
   end-is =
       let last = after-is (suc limits.subthreads) (plain_opening program inputs limits) opening-inside in
-      end-for (plain_move program inputs limits (plain_before program inputs limits (suc limits.subthreads)))
-      ∙ (ap ending_of (sym (move-is (plain_before program inputs limits (suc limits.subthreads)) last.1))
-      ∙ ap (λ x. ending_of (move program inputs limits x)) last.0)
+      ending-is (plain_before program inputs limits (suc limits.subthreads)) last.1
+      ∙ ap (λ x. ending_of (move program inputs limits x)) last.0
 
 pub run-move : RunMoveLaw
 run-move program inputs limits x inside = move-is program inputs limits x inside
