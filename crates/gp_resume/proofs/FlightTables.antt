@@ -14,9 +14,9 @@ use Rattle.task_ast.specs.meaning.Tree.{Program}
 use Rattle.gp_base.specs.declared.feed.Inputs.{Inputs}
 use Rattle.task_ast.specs.meaning.Repeat.{Again, More, Done, Goes}
 use Rattle.task_ast.specs.meaning.Table.{Seat, Table, next_of, learning, owned_from}
-use Rattle.task_ast.specs.meaning.Turn.{Turn, Issue, child_of, owner_in, owners_after, turn}
+use Rattle.task_ast.specs.meaning.Turn.{Turn, Issue, child_of, owners_after, turn}
 use Rattle.task_ast.specs.SyncOps.{joined_by}
-use Rattle.task_ast.specs.Table.{is_known_end}
+use Rattle.task_ast.specs.Table.{is_known_end, owner_in}
 use Rattle.task_ast.specs.Under.{KeepsToLocks}
 use Rattle.task_ast.specs.meaning.Layout.{layout}
 use Rattle.task_ast.specs.Reached.{by_pass, by_issue, by_learning}

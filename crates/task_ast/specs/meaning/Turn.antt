@@ -1,7 +1,7 @@
 -- The order of subthreads: the turns of the threads, as a token goes round (after G. Gupta, S. Sridharan and G. S. Sohi, Globally
 -- precise-restartable execution of parallel programs, PLDI 2014).
 use Rattle.std.specs.Prelude.{ℕ, suc, pos, negsuc, ◌+◌, ◌*◌, Bool, true, false, not, cond, List, [], ◌∷◌, ◌++◌, length, map, count_by, Option, Some, None, is_none, nat_lt, nat_le, slice_get, slice_set, unwrap_or}
-use Rattle.std.specs.Option.{option_and_then, option_map}
+use Rattle.std.specs.Option.{option_map}
 use Rattle.gp_base.specs.declared.limits.TheConstants.{MOST_THREADS}
 use Rattle.gp_base.specs.declared.ending.Why.{Why}
 use Rattle.gp_base.specs.declared.ending.Why.TheVariants as why
@@ -100,13 +100,6 @@ abbrev pub at_barrier : Stand → Table → ℕ → Next → Again Table Turn
 at_barrier Released table t next = issuing table t next
 at_barrier _ table t next = passing table t
 
--- who owns a lock cell
-abbrev pub owner_in : List (Option ℕ) → ℕ → Option ℕ
-owner_in owners l = option_and_then (λ o. o) (slice_get owners l)
-
-abbrev pub owner_of : Table → ℕ → Option ℕ
-owner_of table l = owner_in table.owners l
-
 -- a join of a thread whose next synchronisation is this
 abbrev pub at_join : ℕ → Option Next → Table → ℕ → Next → Again Table Turn
 at_join h None table t next = Done (Needs h)
@@ -120,10 +113,6 @@ last_of table t = unwrap_or (last_in table t) 0
 abbrev pub stuck : Why → ℕ → Next → Again Table Turn
 stuck cause t next = Done (Ended (Stuck cause t next.line))
 
--- at most so many threads exist in a run
-abbrev pub most_threads : ℕ
-most_threads = MOST_THREADS
-
 -- the rules at the turn of a thread whose next synchronisation is this
 abbrev pub tried : SyncOp → Table → ℕ → Next → Again Table Turn
 tried sync.BadIndex table t next = stuck why.Index t next
@@ -132,8 +121,8 @@ tried (sync.Join (pos h)) table t next =
     cond (nat_lt h (length table.seats)) (at_join h (next_of table h) table t next) (stuck why.Join t next)
 tried (sync.Join (negsuc h)) table t next = stuck why.Join t next
 tried (sync.Fork task arguments) table t next =
-    cond (nat_lt (length table.seats) most_threads) (issuing table t next) (stuck why.Threads t next)
-tried (sync.Lock l) table t next = cond (is_none (owner_of table l)) (issuing table t next) (passing table t)
+    cond (nat_lt (length table.seats) MOST_THREADS) (issuing table t next) (stuck why.Threads t next)
+tried (sync.Lock l) table t next = cond (is_none (unwrap_or (slice_get table.owners l) None)) (issuing table t next) (passing table t)
 tried (sync.Barrier b) table t next = let there = come_to (stand_of table t) table t b in at_barrier (stand_of there t) there t next
 tried _ table t next = issuing table t next
 
@@ -147,16 +136,12 @@ deadlocked (To t next) = stuck why.Deadlock t next
 deadlocked (Unknown t) = Done (Needs t)
 deadlocked NoThread = Done (Ended Finished)
 
--- the numbers of all threads
-abbrev pub all_threads : Table → List ℕ
-all_threads table = numbers 0 (length table.seats)
-
 -- the turn of the thread that the token comes to; a token that comes back to a thread that has passed has found a deadlock
 abbrev pub at_look : Look → Table → Again Table Turn
 at_look NoThread table = Done (Ended Finished)
 at_look (Unknown t) table = Done (Needs t)
 at_look (To t next) table =
-    cond (has_passed table t) (deadlocked (look table (all_threads table))) (tried next.sync table t next)
+    cond (has_passed table t) (deadlocked (look table (numbers 0 (length table.seats)))) (tried next.sync table t next)
 
 -- one turn: a pass, or what is done
 abbrev pub turn : Table → Again Table Turn
