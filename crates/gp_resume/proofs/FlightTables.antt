@@ -14,8 +14,8 @@ use Rattle.task_ast.specs.meaning.Tree.{Program}
 use Rattle.gp_base.specs.declared.feed.Inputs.{Inputs}
 use Rattle.task_ast.specs.meaning.Repeat.{Again, More, Done, Goes}
 use Rattle.task_ast.specs.meaning.Table.{owned_from}
-use Rattle.task_ast.specs.Table.{Seat, Table, next_of, learning, is_known_end}
-use Rattle.task_ast.specs.meaning.Turn.{child_of, owner_in, owners_after}
+use Rattle.task_ast.specs.Table.{Seat, Table, next_of, learning, is_known_end, owner_in}
+use Rattle.task_ast.specs.meaning.Turn.{child_of, owners_after}
 use Rattle.task_ast.specs.Turn.{Turn, Issue, turn}
 use Rattle.task_ast.specs.SyncOps.{joined_by}
 use Rattle.task_ast.specs.Under.{KeepsToLocks}

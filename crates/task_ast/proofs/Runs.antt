@@ -517,15 +517,13 @@ module _ (program : Program) (inputs : Inputs) (limits : Limits) where
     tries-alike sync.End x t l = issue-alike x t (there x t) l refl
     tries-alike sync.BadIndex x t l = (refl, tt)
     tries-alike sync.Spent x t l = (ap (λ n. Ends (Spent n)) (last-is x t), tt)
-    tries-alike (sync.Lock k) x t l = go (slice_get x.owners k)
+    tries-alike (sync.Lock k) x t l = go (unwrap_or (slice_get x.owners k) None)
       where
-        go : (o : Option (Option ℕ))
-            → AlikeTurn (points x) x.state
-            (cond (is_none (option_and_then (λ o. o) o)) (issuing (table x) t (there x t).next) (passing (table x) t))
-            (cond (is_none (unwrap_or o None)) (goes_on program inputs limits x t (there x t)) (passes_on x t))
+        go : (o : Option ℕ)
+            → AlikeTurn (points x) x.state (cond (is_none o) (issuing (table x) t (there x t).next) (passing (table x) t))
+            (cond (is_none o) (goes_on program inputs limits x t (there x t)) (passes_on x t))
         go None = issue-alike x t (there x t) l refl
-        go (Some None) = issue-alike x t (there x t) l refl
-        go (Some (Some owner)) = pass-alike x t l
+        go (Some owner) = pass-alike x t l
     tries-alike (sync.Fork task arguments) x t l =
         subst
         (λ n. AlikeTurn (points x) x.state

@@ -1,5 +1,5 @@
 -- The thread table, over which a token gives the subthreads their order, where some next synchronisations may be unknown.
-use Rattle.std.specs.Prelude.{Bool, false, ◌||◌, Option, Some, None, ℕ, cond, List, slice_get}
+use Rattle.std.specs.Prelude.{ℕ, Bool, false, ◌||◌, List, Option, Some, None, unwrap_or, slice_get, cond}
 use Rattle.std.specs.List.{list_all}
 use Rattle.task_ast.specs.declared.sync.Next.{Next}
 use Rattle.task_ast.specs.meaning.Table.{is_end, Stand, Away, with_nth, meets, is_waiting, owned_from}
@@ -63,6 +63,10 @@ is_known_end (Some next) = is_end next.sync
 -- a thread has ended when its next synchronisation is known to be End
 abbrev pub has_ended : Seat → Bool
 has_ended seat = is_known_end seat.next
+
+-- who owns a lock cell
+abbrev pub owner_in : List (Option ℕ) → ℕ → Option ℕ
+owner_in owners l = unwrap_or (slice_get owners l) None
 
 -- every thread that has not ended has passed since the last issue or arrival
 abbrev pub all_passed : Table → Bool

@@ -12,7 +12,7 @@ use Rattle.task_ast.specs.declared.sync.Next.{Next}
 use Rattle.task_ast.specs.meaning.Repeat.{Again, More, Done, until_done}
 use Rattle.task_ast.specs.meaning.Table.{Stand, Away, Waits, Released, numbers, ring, is_end}
 use Rattle.task_ast.specs.Table.{Seat, Table, next_of, last_in, unpassed, with_seat, new_seat, waits_at}
-use Rattle.task_ast.specs.meaning.Turn.{owners_after, child_of, owner_in, is_away}
+use Rattle.task_ast.specs.meaning.Turn.{owners_after, child_of, is_away}
 
 -- what a turn does besides passing; it needs a thread's next synchronisation where the rules look at it and it is unknown
 pub data Turn : Type 0 where
@@ -90,9 +90,6 @@ abbrev pub at_barrier : Stand → Table → ℕ → Next → Again Table Turn
 at_barrier Released table t next = issuing table t next
 at_barrier _ table t next = passing table t
 
-abbrev pub owner_of : Table → ℕ → Option ℕ
-owner_of table l = owner_in table.owners l
-
 -- a join of a thread whose next synchronisation is this
 abbrev pub at_join : ℕ → Option Next → Table → ℕ → Next → Again Table Turn
 at_join h None table t next = Done (Needs h)
@@ -106,10 +103,6 @@ last_of table t = unwrap_or (last_in table t) 0
 abbrev pub stuck : Why → ℕ → Next → Again Table Turn
 stuck cause t next = Done (Ended (Stuck cause t next.line))
 
--- at most so many threads exist in a run
-abbrev pub most_threads : ℕ
-most_threads = MOST_THREADS
-
 -- the rules at the turn of a thread whose next synchronisation is this
 abbrev pub tried : SyncOp → Table → ℕ → Next → Again Table Turn
 tried sync.BadIndex table t next = stuck why.Index t next
@@ -118,8 +111,8 @@ tried (sync.Join (pos h)) table t next =
     cond (nat_lt h (length table.seats)) (at_join h (next_of table h) table t next) (stuck why.Join t next)
 tried (sync.Join (negsuc h)) table t next = stuck why.Join t next
 tried (sync.Fork task arguments) table t next =
-    cond (nat_lt (length table.seats) most_threads) (issuing table t next) (stuck why.Threads t next)
-tried (sync.Lock l) table t next = cond (is_none (owner_of table l)) (issuing table t next) (passing table t)
+    cond (nat_lt (length table.seats) MOST_THREADS) (issuing table t next) (stuck why.Threads t next)
+tried (sync.Lock l) table t next = cond (is_none (unwrap_or (slice_get table.owners l) None)) (issuing table t next) (passing table t)
 tried (sync.Barrier b) table t next = let there = come_to (stand_of table t) table t b in at_barrier (stand_of there t) there t next
 tried _ table t next = issuing table t next
 
@@ -133,16 +126,12 @@ deadlocked (To t next) = stuck why.Deadlock t next
 deadlocked (Unknown t) = Done (Needs t)
 deadlocked NoThread = Done (Ended Finished)
 
--- the numbers of all threads
-abbrev pub all_threads : Table → List ℕ
-all_threads table = numbers 0 (length table.seats)
-
 -- the turn of the thread that the token comes to; a token that comes back to a thread that has passed has found a deadlock
 abbrev pub at_look : Look → Table → Again Table Turn
 at_look NoThread table = Done (Ended Finished)
 at_look (Unknown t) table = Done (Needs t)
 at_look (To t next) table =
-    cond (has_passed table t) (deadlocked (look table (all_threads table))) (tried next.sync table t next)
+    cond (has_passed table t) (deadlocked (look table (numbers 0 (length table.seats)))) (tried next.sync table t next)
 
 -- one turn: a pass, or what is done
 abbrev pub turn : Table → Again Table Turn

@@ -4,7 +4,7 @@
 -- the place, is for the thread that is ahead, which is the one that is issued.
 use Rattle.std.proofs.Common.{◌≡◌, inl, inr, ℕ, suc, ◌+◌, ◌<◌, ◌≤◌, true, false, List, [], ◌∷◌, ◌++◌, length, Option, Some, None, is_some, option_map, get_or, refl, sym, ap, ◌∙◌, subst, arith, ◌⊎◌, Bool, cond, nat_eq}
 use Rattle.std.specs.Prelude.{IsSome, slice_get, pos, ℤ}
-use Rattle.std.specs.Option.{option_and_then}
+use Rattle.std.specs.Option.{option_and_then, option_map_or}
 use Rattle.std.proofs.lemmas.Option.{slice_get_within}
 use Rattle.std.proofs.lemmas.Bool.{eqb-true, eq-eqb, false≢true}
 use Rattle.gp_base.specs.declared.ending.End.{End}
@@ -22,7 +22,6 @@ use Rattle.task_ast.specs.Table.{Seat, Table, next_of, is_known_end}
 use Rattle.token_order.specs.Turned.{settling_in, is_let}
 use Rattle.task_ast.specs.meaning.Turn.{child_of}
 use Rattle.task_ast.specs.Turn.{Turn, Issue, Needs, Ended, turn}
-use Rattle.dependence.specs.meaning.Runs.{settles_one}
 use Rattle.task_ast.specs.laws.Threads.{HasBegun, with_child, ahead}
 use Rattle.task_ast.specs.laws.Standing.{IsIssuedBy}
 use Rattle.task_ast.specs.meaning.Plain.{Subthread, start_point, task_at}
@@ -261,7 +260,7 @@ module _ (batch : Batch) (table : Table) (places : List Place) (entries : List E
       go (More after) is f = absurd (none_some f)
       go (Done (Issue u next child after)) is f =
           let there = told batch (IsPlaceIn batch) at table places keeps.ring u next child after is in
-          ap settles_one there.position ∙ (ap (λ (n : Next). is_settle n.sync) there.begins ∙ is_one u (is_settle next.sync) f)
+          ap (λ o. option_map_or (λ (s : Subthread). is_settle s.begins.sync) o false) there.position ∙ (ap (λ (n : Next). is_settle n.sync) there.begins ∙ is_one u (is_settle next.sync) f)
       go (Done (Needs u)) is f = absurd (none_some f)
       go (Done (Ended ending)) is f = absurd (none_some f)
 

@@ -1,12 +1,11 @@
 -- Subthreads that began beside one another. Each is out with a crew before what those before it leave is in the data.
 use Rattle.std.specs.Prelude.{◌≡◌, ◌≢◌, ◌⊎◌, ⊤, ℕ, pos, ◌≤◌, ◌<◌, Bool, false, ◌||◌, List, [], ◌∷◌, ◌++◌, length, map, Contains, Some, None, slice_get, unwrap_or}
+use Rattle.task_ast.specs.Table.{owner_in, Table, next_of}
 use Rattle.task_ast.specs.declared.sync.Next.{Next}
 use Rattle.task_ast.specs.declared.sync.SyncOp.TheVariants as sync
 use Rattle.task_ast.specs.meaning.Control.{Point}
 use Rattle.task_ast.specs.meaning.Names.{records_of, locks_of, cells_in}
 use Rattle.task_ast.specs.meaning.State.{State}
-use Rattle.task_ast.specs.Table.{Table, next_of}
-use Rattle.task_ast.specs.meaning.Turn.{owner_in}
 use Rattle.task_ast.specs.meaning.Layout.{layout}
 use Rattle.task_ast.specs.SyncOps.{joined_by}
 use Rattle.task_ast.specs.Under.{KeepsToLocks}

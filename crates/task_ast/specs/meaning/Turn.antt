@@ -1,6 +1,5 @@
 -- What a synchronisation changes of the owners of locks, and the child that it makes.
-use Rattle.std.specs.Prelude.{ℕ, Bool, true, false, List, Option, Some, None, slice_get, slice_set}
-use Rattle.std.specs.Option.{option_and_then}
+use Rattle.std.specs.Prelude.{ℕ, Bool, true, false, List, Option, Some, None, slice_set}
 use Rattle.task_ast.specs.declared.sync.SyncOp.{SyncOp}
 use Rattle.task_ast.specs.declared.sync.SyncOp.TheVariants as sync
 use Rattle.task_ast.specs.meaning.Table.{Stand, Away}
@@ -15,10 +14,6 @@ owners_after _ t owners = owners
 abbrev pub child_of : SyncOp → ℕ → Option ℕ
 child_of (sync.Fork task arguments) n = Some n
 child_of _ n = None
-
--- who owns a lock cell
-abbrev pub owner_in : List (Option ℕ) → ℕ → Option ℕ
-owner_in owners l = option_and_then (λ o. o) (slice_get owners l)
 
 -- whether a thread has not arrived at a barrier
 abbrev pub is_away : Stand → Bool
