@@ -1,4 +1,4 @@
-use Rattle.std.proofs.Common.{◌≡◌, Bool, true, false, ◌||◌, refl, sym, ap, ◌∙◌}
+use Rattle.std.proofs.Common.{◌≡◌, Bool, false, ◌||◌, refl, sym, ap, ◌∙◌}
 use Rattle.task_ast.specs.meaning.Tree.{Name, Expr, Rows, Cell}
 use Rattle.task_ast.specs.View.{plain_expr}
 use Rattle.task_ast.proofs.Views.{expr_Cell}
