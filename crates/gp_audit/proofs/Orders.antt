@@ -37,7 +37,8 @@ before-is run p = ap (before_step (map shown run) p) (get-map run p) ∙ go (sli
     go None = refl
     go (Some s) = last-is run s.thread p
 
-settles-is : (run : List Subthread) (p : ℕ) → settles_step (slice_get (map shown run) p) ≡ option_map_or (λ s. is_settle s.begins.sync) (slice_get run p) false
+settles-is : (run : List Subthread) (p : ℕ)
+    → settles_step (slice_get (map shown run) p) ≡ option_map_or (λ s. is_settle s.begins.sync) (slice_get run p) false
 settles-is run p = ap settles_step (get-map run p) ∙ go (slice_get run p)
   where
     go : (o : Option Subthread) → settles_step (option_map shown o) ≡ option_map_or (λ s. is_settle s.begins.sync) o false

@@ -62,9 +62,11 @@ module _ (s : Scope) where
   at_same (Unlock x i) a b same =
       ap (λ t. fails_if (not (is_lock s x) || not (is_atom s i)) UnknownName ++ fails_if (not t) NotHeld) (same.members (x, i))
   at_same (Fork t es x) a b same =
-      ap (λ u. fails_if (is_none (task_named s.program t) || (list_any (has_unknown s) es || option_map_or (λ y. not (is_control s y)) x false)) UnknownName
+      ap (λ u. fails_if (is_none (task_named s.program t) || (list_any (has_unknown s) es
+      || option_map_or (λ y. not (is_control s y)) x false)) UnknownName
       ++ fails_if (option_map_or (λ task. not (length task.params == length es)) (task_named s.program t) false) WrongCount
-      ++ fails_if (option_map_or (λ task. list_any is_misplaced (zip task.params es)) (task_named s.program t) false) DataInControl ++ fails_if u IndexChangedWhileHeld)
+      ++ fails_if (option_map_or (λ task. list_any is_misplaced (zip task.params es)) (task_named s.program t) false) DataInControl
+      ++ fails_if u IndexChangedWhileHeld)
       (into_same x a b same)
   at_same (Join e x) a b same = refl
   at_same (Barrier c) a b same = refl

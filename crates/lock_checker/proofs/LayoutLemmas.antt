@@ -156,7 +156,8 @@ over_told all (RecHead name size by from line ∷ heads) fits =
     let m = cells_in (records_of heads) in
     let here = lock_over arrays (RecHead name size by from line ∷ heads) in
     let parts = and_parts (fits_array all (RecHead name size by from line)) (list_all (fits_array all) heads) fits in
-    let mine = and_parts (not (is_none (named by arrays))) (not (option_map_or (λ other. not (n == other)) (named by arrays) false)) parts.0 in
+    let mine = and_parts (not (is_none (named by arrays)))
+    (not (option_map_or (λ other. not (n == other)) (named by arrays) false)) parts.0 in
     let there = has_base arrays by n (array_found n (named by arrays) mine.0 mine.1) in
     let first : map Some (numbers there.0 n) ≡ map here (numbers 0 n) =
     map_numbers Some here there.0 0 n (λ k less. sym (there.2 k less)

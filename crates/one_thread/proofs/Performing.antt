@@ -61,7 +61,8 @@ joined-is sync.BadIndex walks state same = refl
 joined-is sync.Spent walks state same = refl
 
 -- a cell after an effect
-cell-after : (o : Option ℤ) (before : List ℤ) → number_at (unwrap_or (option_map (λ v. v ∷ []) o) before) 0 ≡ unwrap_or o (number_at before 0)
+cell-after : (o : Option ℤ) (before : List ℤ)
+    → number_at (unwrap_or (option_map (λ v. v ∷ []) o) before) 0 ≡ unwrap_or o (number_at before 0)
 cell-after None before = refl
 cell-after (Some v) before = refl
 

@@ -33,7 +33,8 @@ mutual
       ∙ ap (λ v. stays e env && stays_on links (with_registers env registers) v) (value-registers e env registers parts.0)
       ∙ ap (λ s. stays e env && s) (stays_on-registers links env registers (value e env) parts.1)
 
-  stays_on-registers : (links : Links) (env : Env) (registers : List (Name × ℤ)) (so_far : Option ℤ) → some_member is_data_variable links ≡ false
+  stays_on-registers : (links : Links) (env : Env) (registers : List (Name × ℤ)) (so_far : Option ℤ)
+      → some_member is_data_variable links ≡ false
       → stays_on links (with_registers env registers) so_far ≡ stays_on links env so_far
   stays_on-registers NoLinks env registers so_far h = refl
   stays_on-registers (Link op e links) env registers so_far h =

@@ -37,7 +37,8 @@ cell_there (array ∷ arrays) name size k e less = go (is_name name array.0) e (
     go false found later = let there = later found in (array.1 + there.0, omega arith, ap (option_map (λ n. array.1 + n)) there.2)
 
 -- the array of a record that fits it has the record's size
-pub array_found : (size : ℕ) (o : Option ℕ) → not (is_none o) ≡ true → not (option_map_or (λ other. not (size == other)) o false) ≡ true → o ≡ Some size
+pub array_found : (size : ℕ) (o : Option ℕ) → not (is_none o) ≡ true
+    → not (option_map_or (λ other. not (size == other)) o false) ≡ true → o ≡ Some size
 array_found size None there same = absurd (false≢true there)
 array_found size (Some other) there same =
     ap Some (sym (eqb-true size other (not-false (size == other) (not-true (not (size == other)) same))))
@@ -51,7 +52,8 @@ over_lock all (BarrierHead name number line ∷ heads) fits c less = over_lock a
 over_lock all (FeedHead name fields from line ∷ heads) fits c less = over_lock all heads fits c less
 over_lock all (RecHead name size by from line ∷ heads) fits c less =
     let parts = and_parts (fits_array all (RecHead name size by from line)) (list_all (fits_array all) heads) fits in
-    let mine = and_parts (not (is_none (named by (locks_of all)))) (not (option_map_or (λ other. not (natural size == other)) (named by (locks_of all)) false)) parts.0 in
+    let mine = and_parts (not (is_none (named by (locks_of all))))
+    (not (option_map_or (λ other. not (natural size == other)) (named by (locks_of all)) false)) parts.0 in
     let found = array_found (natural size) (named by (locks_of all)) mine.0 mine.1 in
     elim (cases_lt c (natural size)) [
       | inl l ↦

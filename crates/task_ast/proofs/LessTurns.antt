@@ -266,7 +266,8 @@ at_look_alike table seats h here over known (to_unknown t_in none) = needs t_in 
 at_look_alike table seats h here over (known_to e live) (to_one {t = t} {next = next}) =
     rw (sym (got_passed (slice_get table.seats t) (slice_get seats t) (get_less table.seats seats t h)))
     (cond_alike table (has_passed table t) _ _ _ _
-    (λ b. stuck_alike table _ _ (subst (λ n. LooksAlike table (look table (numbers 0 (length table.seats))) (look (seated table seats) (numbers 0 n)))
+    (λ b. stuck_alike table _ _
+    (subst (λ n. LooksAlike table (look table (numbers 0 (length table.seats))) (look (seated table seats) (numbers 0 n)))
     (length_less table.seats seats h) (first_alike table seats h (length table.seats) (omega arith))))
     (λ b. tried_alike next.sync table seats t next e h))
 

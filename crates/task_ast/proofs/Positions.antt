@@ -111,7 +111,8 @@ module _ {P : Type 0} (machine : Machine P) (program : Program) (inputs : Inputs
 
     lasts_next : (u : ℕ) → last_below (order_by machine program inputs limits) u (suc p) ≡ last_in y.table u
     lasts_next u =
-        ap (λ o. cond (option_map_or (λ s. nat_eq s.thread u) o false) (Some p) (last_below (order_by machine program inputs limits) u p)) at_p
+        ap (λ o. cond (option_map_or (λ s. nat_eq s.thread u) o false) (Some p)
+        (last_below (order_by machine program inputs limits) u p)) at_p
         ∙ elim (cases_eq s.thread u) [
           | inl e ↦
               (ap (λ b. cond b (Some p) (last_below (order_by machine program inputs limits) u p)) (eq-eqb s.thread u e)

@@ -38,7 +38,8 @@ mutual
       both_inside (has_data e) (some_member is_data_variable links) (has_data_index e) (some_member is_at_data links) (index_inside e)
       (indexes_inside links)
 
-  indexes_inside : (links : Links) → (some_member is_data_variable links || some_member is_at_data links) ≡ some_member is_data_variable links
+  indexes_inside : (links : Links)
+      → (some_member is_data_variable links || some_member is_at_data links) ≡ some_member is_data_variable links
   indexes_inside NoLinks = refl
   indexes_inside (Link op e links) =
       both_inside (has_data e) (some_member is_data_variable links) (has_data_index e) (some_member is_at_data links) (index_inside e)
@@ -72,7 +73,8 @@ mutual
       value_on-registers links env registers (value e (with_registers env registers)) parts.1
       ∙ ap (value_on links env) (value-registers e env registers parts.0)
 
-  value_on-registers : (links : Links) (env : Env) (registers : List (Name × ℤ)) (so_far : Option ℤ) → some_member is_data_variable links ≡ false
+  value_on-registers : (links : Links) (env : Env) (registers : List (Name × ℤ)) (so_far : Option ℤ)
+      → some_member is_data_variable links ≡ false
       → value_on links (with_registers env registers) so_far ≡ value_on links env so_far
   value_on-registers NoLinks env registers so_far h = refl
   value_on-registers (Link op e links) env registers so_far h =

@@ -69,10 +69,12 @@ slot_sets (n ∷ names) x v = go (is_name x n.0) refl (slot_sets names x v)
     shifted (Some k) = refl
 
     go : (b : Bool) → is_name x n.0 ≡ b → with_number names (slot (map (λ n. n.0) names) x) v ≡ with_value names x v
-        → with_number (n ∷ names) (slot (n.0 ∷ map (λ n. n.0) names) x) v ≡ cond (is_name x n.0) ((n.0, v) ∷ names) (n ∷ with_value names x v)
+        → with_number (n ∷ names) (slot (n.0 ∷ map (λ n. n.0) names) x) v
+        ≡ cond (is_name x n.0) ((n.0, v) ∷ names) (n ∷ with_value names x v)
     go true e later = rw (position-cons (is_name x) n.0 (map (λ n. n.0) names), e) refl
     go false e later =
-        rw (position-cons (is_name x) n.0 (map (λ n. n.0) names), e) (shifted (position (is_name x) (map (λ n. n.0) names)) ∙ ap (λ xs. n ∷ xs) later)
+        rw (position-cons (is_name x) n.0 (map (λ n. n.0) names), e)
+        (shifted (position (is_name x) (map (λ n. n.0) names)) ∙ ap (λ xs. n ∷ xs) later)
 
 slot_past : (names : List Name) (x : Name) → is_among x names ≡ false → slot names x ≡ length names
 slot_past [] x h = refl

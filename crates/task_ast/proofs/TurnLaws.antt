@@ -67,7 +67,8 @@ look_tried table NoThread t next child after e = absurd (cc e)
 look_tried table (Unknown u) t next child after e = absurd (cc e)
 look_tried table (To u there) t next child after e = go (has_passed table u) e
   where
-    go : (b : Bool) → IsIssue t next child after (cond b (deadlocked (look table (numbers 0 (length table.seats)))) (tried there.sync table u there))
+    go : (b : Bool) → IsIssue t next child after
+        (cond b (deadlocked (look table (numbers 0 (length table.seats)))) (tried there.sync table u there))
         → cond {A = Option (ℕ × Next)} b None (Some (u, there)) ≡ Some (t, next)
     go true e = absurd (stuck_issues (look table (numbers 0 (length table.seats))) e)
     go false e = let h = subst (IssuesAs u there) e (tried_as there.sync table u there) in rw (h.0, h.1) refl

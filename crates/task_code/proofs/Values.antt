@@ -45,7 +45,8 @@ value_by_number (n ∷ names) x = go (is_name x n.0) refl (value_by_number names
         → unwrap_or (cond (is_name x n.0) (Some n.1) (named x names)) (pos 0)
         ≡ number_at (n.1 ∷ seconds names) (slot (n.0 ∷ map (λ n. n.0) names) x)
     go true e rest = rw (position-cons (is_name x) n.0 (map (λ n. n.0) names), e) refl
-    go false e rest = rw (position-cons (is_name x) n.0 (map (λ n. n.0) names), e) (rest ∙ later (position (is_name x) (map (λ n. n.0) names)))
+    go false e rest = rw (position-cons (is_name x) n.0 (map (λ n. n.0) names), e)
+        (rest ∙ later (position (is_name x) (map (λ n. n.0) names)))
 
 -- a feed by its name is that of its number
 pub feed_by_number : (names : List Name) (feeds : List Feed) (f : Name)

@@ -83,7 +83,8 @@ joining-token h (Some other) table t next l = cond-token (is_end other.sync) _ _
 
 tried-token : (op : SyncOp) (table : Table) (t : ℕ) (next : Next) → t < length table.seats → TokenAfter (tried op table t next)
 tried-token sync.Start table t next l = issue-token table t next l
-tried-token (sync.Lock k) table t next l = cond-token (is_none (owner_in table.owners k)) _ _ (issue-token table t next l) (pass-token table t l)
+tried-token (sync.Lock k) table t next l =
+    cond-token (is_none (owner_in table.owners k)) _ _ (issue-token table t next l) (pass-token table t l)
 tried-token (sync.Settle register control) table t next l = issue-token table t next l
 tried-token (sync.Unlock k) table t next l = issue-token table t next l
 tried-token (sync.Fork task arguments) table t next l =

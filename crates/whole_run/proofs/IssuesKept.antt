@@ -260,7 +260,8 @@ module _ (batch : Batch) (table : Table) (places : List Place) (entries : List E
       go (More after) is f = absurd (none_some f)
       go (Done (Issue u next child after)) is f =
           let there = told batch (IsPlaceIn batch) at table places keeps.ring u next child after is in
-          ap (λ o. option_map_or (λ (s : Subthread). is_settle s.begins.sync) o false) there.position ∙ (ap (λ (n : Next). is_settle n.sync) there.begins ∙ is_one u (is_settle next.sync) f)
+          ap (λ o. option_map_or (λ (s : Subthread). is_settle s.begins.sync) o false) there.position
+          ∙ (ap (λ (n : Next). is_settle n.sync) there.begins ∙ is_one u (is_settle next.sync) f)
       go (Done (Needs u)) is f = absurd (none_some f)
       go (Done (Ended ending)) is f = absurd (none_some f)
 

@@ -41,7 +41,8 @@ module _ (run : List Subthread) (at : Stage) (entries : List Entry) (stand : Ent
       settles-is : is_settle oldest.0.begins.sync ≡ (dependence_of run).settles at.retired
       settles-is =
           let is = stand.each at.retired oldest.0 oldest.3 in
-          ap (λ begins. is_settle begins.sync) is.is_of.begins ∙ ap (λ o. option_map_or (λ (s : Subthread). is_settle s.begins.sync) o false) (sym is.is_there)
+          ap (λ begins. is_settle begins.sync) is.is_of.begins
+          ∙ ap (λ o. option_map_or (λ (s : Subthread). is_settle s.begins.sync) o false) (sym is.is_there)
 
       by-multiple : (low settles : Bool) → nat_le oldest.0.pos (multiple_at every p) ≡ low → is_settle oldest.0.begins.sync ≡ settles
           → IsOpenOrPast p (cond low (Some (multiple_at every p)) (cond settles (Some oldest.0.pos) None))

@@ -56,13 +56,13 @@ is_undeclared s (Rows f) = not (is_feed s f)
 is_undeclared s (Cell f row field) = not (is_feed s f)
 is_undeclared s e = false
 
+-- a name in the expression isn't declared so
+abbrev pub has_unknown : Scope → Expr → Bool
+has_unknown s e = some_part (is_undeclared s) e
+
 abbrev pub is_data_variable : Expr → Bool
 is_data_variable (Reg x) = true
 is_data_variable e = false
-
--- a name of the expression isn't declared
-abbrev pub has_unknown : Scope → Expr → Bool
-has_unknown s e = some_part (is_undeclared s) e
 
 -- a data variable stands in the expression
 abbrev pub has_data : Expr → Bool
