@@ -140,8 +140,11 @@ inhabited_made make P ip depth = let a = ip depth in (a.0, make a.1, record { fr
 
 -- ---- one token
 
+abbrev pub Passes : (Token → Bool) → Token → Type 0
+Passes test t = test t ≡ true
+
 one_cases : (limit depth : ℕ) (test : Token → Bool) (t : Token) (ts : List Token) → depth ≤ limit → (x : Token) → test x ≡ true → (b : Bool)
-    → test t ≡ b → Outcome limit depth (One test) (read_one test) (t ∷ ts) (cond b (Ok (t, ts)) (unexpected (t ∷ ts)))
+    → test t ≡ b → Outcome limit depth (One (Passes test)) (read_one test) (t ∷ ts) (cond b (Ok (t, ts)) (unexpected (t ∷ ts)))
 one_cases limit depth test t ts room x fits true e = record {
   used = record { token = t; nesting = depth } ∷ [];
   parts = refl;
@@ -165,7 +168,7 @@ one_cases limit depth test t ts room x fits false e = record {
     again (y ∷ ys) same = rw (← same, e) refl
 
 -- a token passes
-pub sound_one : (room : ℕ) (test : Token → Bool) (x : Token) → test x ≡ true → Sound room (One test) (read_one test)
+pub sound_one : (room : ℕ) (test : Token → Bool) (x : Token) → test x ≡ true → Sound room (One (Passes test)) (read_one test)
 sound_one room test x fits depth [] = record {
   used = [];
   more = record { token = x; nesting = depth } ∷ [];
@@ -185,24 +188,24 @@ sound_one room test x fits depth (t ∷ ts) = one_cases (depth + room) depth tes
 abbrev pub no_token : Token → Bool
 no_token t = false
 
-pub complete_one : (room : ℕ) (test goes : Token → Bool) → Complete room (One test) goes (read_one test)
+pub complete_one : (room : ℕ) (test goes : Token → Bool) → Complete room (One (Passes test)) goes (read_one test)
 complete_one room test goes depth used value rest h end =
     rw (h.alone, h.passes, fits) refl
   where
     fits : leb depth (depth + room) ≡ true
     fits = le-leb depth (depth + room) (omega arith)
 
-pub starts_one : (test : Token → Bool) → Starts test (One test)
+pub starts_one : (test : Token → Bool) → Starts test (One (Passes test))
 starts_one test depth used value h = rw h.alone h.passes
 
-pub inhabited_one : (test : Token → Bool) (x : Token) → test x ≡ true → Inhabited (One test)
+pub inhabited_one : (test : Token → Bool) (x : Token) → test x ≡ true → Inhabited (One (Passes test))
 inhabited_one test x fits depth = (record { token = x; nesting = depth } ∷ [], x, record { passes = fits; alone = refl })
 
 -- ---- a construct that nests
 
 opened_in : {A : Type 0} (limit depth : ℕ) (test : Token → Bool) (P : Form A) (p : Reader A) (t : Token) (ts : List Token)
     → suc depth ≤ limit → test t ≡ true → (r : Result (A × List Token) Stop) → Outcome limit (suc depth) P p ts r
-    → Outcome limit depth (Opened test P) (read_opened test (Some p)) (t ∷ ts) r
+    → Outcome limit depth (Opened (Passes test) P) (read_opened test (Some p)) (t ∷ ts) r
 opened_in limit depth test P p t ts room passes (Ok (x, rest)) h = record {
   used = record { token = t; nesting = suc depth } ∷ h.used;
   parts = ap (λ (l : List Token). t ∷ l) h.parts;
@@ -224,7 +227,7 @@ opened_in limit depth test P p t ts room passes (Err stop) h = record {
 -- no token, or one that doesn't open it
 opened_not : {A : Type 0} (limit depth : ℕ) (test : Token → Bool) (P : Form A) (inner : Option (Reader A)) (x : Token) → test x ≡ true
     → Inhabited P → (ts : List Token) → begins test ts ≡ false
-    → Outcome limit depth (Opened test P) (read_opened test inner) ts (unexpected ts)
+    → Outcome limit depth (Opened (Passes test) P) (read_opened test inner) ts (unexpected ts)
 opened_not limit depth test P inner x fits full ts e = let c = full (suc depth) in record {
   used = [];
   more = record { token = x; nesting = suc depth } ∷ c.0;
@@ -241,7 +244,7 @@ opened_not limit depth test P inner x fits full ts e = let c = full (suc depth) 
     again (y ∷ ys) e = rw e refl
 
 opened_deep : {A : Type 0} (depth : ℕ) (test : Token → Bool) (P : Form A) (t : Token) (ts : List Token) → test t ≡ true → Inhabited P
-    → Outcome depth depth (Opened test P) (read_opened test None) (t ∷ ts) (Err (record { deep = true; rest = t ∷ ts }))
+    → Outcome depth depth (Opened (Passes test) P) (read_opened test None) (t ∷ ts) (Err (record { deep = true; rest = t ∷ ts }))
 opened_deep {A = A} depth test P t ts passes full = let c = full (suc depth) in record {
   used = [];
   more = record { token = t; nesting = suc depth } ∷ c.0;
@@ -264,7 +267,7 @@ opening inner t ts b =
     opened >>= λ x. enter inner (t ∷ ts) x.1
 
 pub sound_opened : {A : Type 0} (room : ℕ) (test : Token → Bool) (P : Form A) (p : Reader A) (x : Token) → test x ≡ true → Inhabited P
-    → Sound room P p → Sound (suc room) (Opened test P) (read_opened test (Some p))
+    → Sound room P p → Sound (suc room) (Opened (Passes test) P) (read_opened test (Some p))
 sound_opened room test P p x fits full sp depth [] = opened_not (depth + suc room) depth test P (Some p) x fits full [] refl
 sound_opened {A = A} room test P p x fits full sp depth (t ∷ ts) = go (test t) refl
   where
@@ -272,27 +275,27 @@ sound_opened {A = A} room test P p x fits full sp depth (t ∷ ts) = go (test t)
     inside = subst (λ (limit : ℕ). Outcome limit (suc depth) P p ts (p ts)) (omega arith) (sp (suc depth) ts)
 
     go : (b : Bool) → test t ≡ b
-        → Outcome (depth + suc room) depth (Opened test P) (read_opened test (Some p)) (t ∷ ts) (opening (Some p) t ts b)
+        → Outcome (depth + suc room) depth (Opened (Passes test) P) (read_opened test (Some p)) (t ∷ ts) (opening (Some p) t ts b)
     go true e = opened_in (depth + suc room) depth test P p t ts (omega arith) e (p ts) inside
     go false e = opened_not (depth + suc room) depth test P (Some p) x fits full (t ∷ ts) e
 
 -- where there is no room for one more
 pub sound_opened_none : {A : Type 0} (test : Token → Bool) (P : Form A) (x : Token) → test x ≡ true → Inhabited P
-    → Sound 0 (Opened test P) (read_opened test None)
+    → Sound 0 (Opened (Passes test) P) (read_opened test None)
 sound_opened_none {A = A} test P x fits full depth ts =
-    subst (λ (limit : ℕ). Outcome limit depth (Opened test P) (read_opened test None) ts (read_opened test None ts)) (omega arith) (at ts)
+    subst (λ (limit : ℕ). Outcome limit depth (Opened (Passes test) P) (read_opened test None) ts (read_opened test None ts)) (omega arith) (at ts)
   where
     here : (t : Token) (ts : List Token) (b : Bool) → test t ≡ b
-        → Outcome depth depth (Opened test P) (read_opened test None) (t ∷ ts) (opening None t ts b)
+        → Outcome depth depth (Opened (Passes test) P) (read_opened test None) (t ∷ ts) (opening None t ts b)
     here t ts true e = opened_deep depth test P t ts e full
     here t ts false e = opened_not depth depth test P None x fits full (t ∷ ts) e
 
-    at : (ts : List Token) → Outcome depth depth (Opened test P) (read_opened test None) ts (read_opened test None ts)
+    at : (ts : List Token) → Outcome depth depth (Opened (Passes test) P) (read_opened test None) ts (read_opened test None ts)
     at [] = opened_not depth depth test P None x fits full [] refl
     at (t ∷ ts) = here t ts (test t) refl
 
 pub complete_opened : {A : Type 0} (room : ℕ) (test : Token → Bool) (P : Form A) (goes : Token → Bool) (p : Reader A)
-    → Complete room P goes p → Complete (suc room) (Opened test P) goes (read_opened test (Some p))
+    → Complete room P goes p → Complete (suc room) (Opened (Passes test) P) goes (read_opened test (Some p))
 complete_opened {A = A} room test P goes p cp depth used value rest h end =
     rw (h.parts, h.passes, fits, cp (suc depth) h.inner value rest h.stands end)
     (ap (λ (limit : ℕ). verdict limit h.inner rest ok) (omega arith))
@@ -304,16 +307,16 @@ complete_opened {A = A} room test P goes p cp depth used value rest h end =
     ok = Ok (value, rest)
 
 pub complete_opened_none : {A : Type 0} (test : Token → Bool) (P : Form A) (goes : Token → Bool)
-    → Complete 0 (Opened test P) goes (read_opened test None)
+    → Complete 0 (Opened (Passes test) P) goes (read_opened test None)
 complete_opened_none test P goes depth used value rest h end = rw (h.parts, h.passes, fits) refl
   where
     fits : leb (suc depth) (depth + 0) ≡ false
     fits = lt-leb (suc depth) (depth + 0) (omega arith)
 
-pub starts_opened : {A : Type 0} (test : Token → Bool) (P : Form A) → Starts test (Opened test P)
+pub starts_opened : {A : Type 0} (test : Token → Bool) (P : Form A) → Starts test (Opened (Passes test) P)
 starts_opened test P depth used value h = rw h.parts h.passes
 
-pub inhabited_opened : {A : Type 0} (test : Token → Bool) (P : Form A) (x : Token) → test x ≡ true → Inhabited P → Inhabited (Opened test P)
+pub inhabited_opened : {A : Type 0} (test : Token → Bool) (P : Form A) (x : Token) → test x ≡ true → Inhabited P → Inhabited (Opened (Passes test) P)
 inhabited_opened test P x fits full depth =
     let c = full (suc depth) in
     (record { token = x; nesting = suc depth } ∷ c.0, c.1, record { token = x; inner = c.0; passes = fits; parts = refl; stands = c.2 })
