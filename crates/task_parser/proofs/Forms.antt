@@ -15,7 +15,7 @@ use Rattle.task_parser.specs.meaning.Expressions.{Text, name_of, reg_name, name,
 use Rattle.task_parser.specs.inner.ExpressionReaders.{number_in, number_of, read_name, read_register, read_number, read_operator}
 use Rattle.task_parser.specs.inner.Reading.{Reader, read_one, read_both, read_made, read_either, repeat, read_perhaps, read_opened, read_the, ◌◃◌, read_after, read_some, read_separated}
 use Rattle.task_parser.specs.inner.Laws.{Sound, Complete, Starts, Inhabited, Parted}
-use Rattle.task_parser.proofs.Exact.{Passes, Covers, outcome_as, sound_one, sound_both, sound_made, sound_either, sound_opened, sound_opened_none, complete_one, complete_both, complete_made, complete_either, complete_opened, complete_opened_none, complete_wider, starts_one, starts_both, starts_made, starts_either, starts_opened, starts_wider, inhabited_one, inhabited_both, inhabited_made, inhabited_left, inhabited_opened, parted_starts, parted_made}
+use Rattle.task_parser.proofs.Exact.{Passes, OpenedBy, Covers, outcome_as, sound_one, sound_both, sound_made, sound_either, sound_opened, sound_opened_none, complete_one, complete_both, complete_made, complete_either, complete_opened, complete_opened_none, complete_wider, starts_one, starts_both, starts_made, starts_either, starts_opened, starts_wider, inhabited_one, inhabited_both, inhabited_made, inhabited_left, inhabited_opened, parted_starts, parted_made}
 use Rattle.task_parser.specs.inner.Classes.{class, holds, among, operator_in, op_of}
 use Rattle.task_parser.proofs.ClassLists.{disjoint, subset, apart, covers, holds_cases, of_class, usual, kind_of, token_of, token_among, Alike, alike_kind, IsOf, alike_written}
 use Rattle.task_parser.proofs.Perhaps.{sound_perhaps, complete_perhaps, parted_perhaps, inhabited_perhaps}
@@ -287,7 +287,7 @@ Inside (suc room) T P None goes = ⊥
 Inside (suc room) T P (Some p) goes = Inhabited T × Sound room T p × Complete room P (among goes) p
 
 opens : {A : Type 0} {T P : Form A} {goes : List ℕ} (room n : ℕ) (inner : Option (Reader A)) → Inside room T P inner goes
-    → Reads room (Opened (Passes (among (n ∷ []))) T) (Opened (Passes (among (n ∷ []))) P) (read_opened (among (n ∷ [])) inner) (n ∷ []) goes
+    → Reads room (OpenedBy (among (n ∷ [])) T) (OpenedBy (among (n ∷ [])) P) (read_opened (among (n ∷ [])) inner) (n ∷ []) goes
 opens {T = T} {P = P} {goes = goes} zero n None full = record {
   starts = starts_opened (among (n ∷ [])) P;
   starts_tall = starts_opened (among (n ∷ [])) T;
@@ -307,19 +307,19 @@ opens {T = T} {P = P} {goes = goes} (suc room) n (Some p) h = record {
 
 pub reads_opened : {A : Type 0} {T P : Form A} {goes : List ℕ} (text : String) (n : ℕ) → IsOf text n → (room : ℕ)
     (inner : Option (Reader A)) → Inside room T P inner goes
-    → Reads room (Opened (IsWritten text) T) (Opened (IsWritten text) P) (read_opened (among (n ∷ [])) inner) (n ∷ []) goes
+    → Reads room (Opened text T) (Opened text P) (read_opened (among (n ∷ [])) inner) (n ∷ []) goes
 reads_opened {A = A} {T = T} {P = P} text n is room inner h = reads_as (from T) (to T) (to P) (opens room n inner h)
   where
     alike : Alike (IsWritten text) (n ∷ [])
     alike = alike_written text n is
 
-    to : (Q : Form A) → Implies (Opened (IsWritten text) Q) (Opened (Passes (among (n ∷ []))) Q)
+    to : (Q : Form A) → Implies (Opened text Q) (OpenedBy (among (n ∷ [])) Q)
     to Q depth placed value s =
-        record { token = s.token; inner = s.inner; passes = alike.to s.token s.passes; parts = s.parts; stands = s.stands }
+        record { token = s.token; inner = s.inner; passes = alike.to s.token s.opens; parts = s.parts; stands = s.stands }
 
-    from : (Q : Form A) → Implies (Opened (Passes (among (n ∷ []))) Q) (Opened (IsWritten text) Q)
+    from : (Q : Form A) → Implies (OpenedBy (among (n ∷ [])) Q) (Opened text Q)
     from Q depth placed value s =
-        record { token = s.token; inner = s.inner; passes = alike.from s.token s.passes; parts = s.parts; stands = s.stands }
+        record { token = s.token; inner = s.inner; opens = alike.from s.token s.passes; parts = s.parts; stands = s.stands }
 
 -- A form that nests less deep is read with the room that is left, unless there is none.
 abbrev pub Deeper : {A : Type 0} → ℕ → Form A → Form A → Option (Reader A) → List ℕ → List ℕ → Type 0

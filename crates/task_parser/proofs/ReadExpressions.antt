@@ -6,7 +6,7 @@ use Rattle.task_ast.specs.declared.tree.Op.TheVariants.{Or, And, Eq, Ne, Lt, Le,
 use Rattle.task_ast.specs.meaning.Tree.{Expr, Num, Reg, Me, Rows, Neg, Not}
 use Rattle.task_parser.specs.declared.classes.TheConstants.{NUM, NAME, REG, AND, OR, NOT, SELF, ROWS, OPEN_BRACKET, CLOSE_BRACKET, OPEN_PAREN, CLOSE_PAREN, COMMA, EQ, NE, LT, LE, GT, GE, ADD, SUB, MUL, DIV, REM}
 use Rattle.task_parser.specs.inner.Classes.{among}
-use Rattle.task_parser.specs.meaning.Words.{Form, ◌▸◌, ◌∣◌, Made, many, perhaps, Opened, IsWritten, the, ◌◂◌, preceded, first_of}
+use Rattle.task_parser.specs.meaning.Words.{Form, ◌▸◌, ◌∣◌, Made, many, perhaps, Opened, the, ◌◂◌, preceded, first_of}
 use Rattle.task_parser.specs.inner.Reading.{Reader, read_opened, read_the}
 use Rattle.task_parser.specs.inner.Laws.{Inhabited}
 use Rattle.task_parser.specs.meaning.Expressions.{Text, name, number, operator, comparison, chain_of, compared_of, named_of, level, sum, compared, disjunction, place_in, operand, unary, expression}
@@ -125,7 +125,7 @@ reads_place room T P inner h =
     (λ r p k. let m = reads_pair (reads_disjunction k) in (m.sound, m.complete)) h))
 
 reads_group : (room : ℕ) (T P : Form Expr) (inner : Option (Reader Expr)) → Lower room T P inner
-    → Reads room (Opened (IsWritten "(") (disjunction T) ◂ ")") (Opened (IsWritten "(") (disjunction P) ◂ ")")
+    → Reads room (Opened "(" (disjunction T) ◂ ")") (Opened "(" (disjunction P) ◂ ")")
     (read_group inner) (OPEN_PAREN ∷ []) []
 unfolding read_group
 reads_group room T P inner h =
@@ -135,7 +135,7 @@ reads_group room T P inner h =
 
 -- an operand after a minus or a `not`
 reads_inner : (text : String) (n : ℕ) → IsOf text n → (room : ℕ) (T P : Form Expr) (inner : Option (Reader Expr)) → Lower room T P inner
-    → Reads room (Opened (IsWritten text) T) (Opened (IsWritten text) P) (read_opened (among (n ∷ [])) inner) (n ∷ []) going
+    → Reads room (Opened text T) (Opened text P) (read_opened (among (n ∷ [])) inner) (n ∷ []) going
 reads_inner text n is room T P inner h = reads_opened text n is room inner (same room inner h)
   where
     same : (room : ℕ) (inner : Option (Reader Expr)) → Lower room T P inner → Inside room T P inner going

@@ -1,6 +1,7 @@
 -- A program that bytes stand for is shaped. A form yields only values of which something holds, where no number is
 -- negative (Yields): one lemma for each word of the grammar. With these, by recursion on the height, each statement and
 -- block is shaped, and so are heads, tasks and programs. In a lexing no number is negative.
+use Prim.Native.String.{String}
 use Rattle.std.proofs.Common.{◌≡◌, ℕ, zero, suc, Bool, true, false, List, [], ◌∷◌, ◌++◌, Option, Some, None, ℤ, refl, sym, ap, subst, ◌∙◌, inl, inr}
 use Rattle.std.specs.Prelude.{◌&&◌}
 use Rattle.std.specs.List.{list_all}
@@ -86,8 +87,8 @@ right h = both (λ x. Unit {0}) (any (λ x. tt)) (so h (λ y g x u. g x))
 before : {A B : Type 0} {P : Form A} {Q : Form B} {G : A → Type 0} → Yields P G → Yields (Made first_of (P ▸ Q)) G
 before h = made (left (so h (λ x g y. g)))
 
-behind : {A B : Type 0} {P : Form A} {Q : Form B} {G : A → Type 0} → Yields P G → Yields (Made second_of (Q ▸ P)) G
-behind h = made (right (so h (λ y g x. g)))
+after : {A B : Type 0} {P : Form A} {Q : Form B} {G : A → Type 0} → Yields P G → Yields (Made second_of (Q ▸ P)) G
+after h = made (right (so h (λ y g x. g)))
 
 either : {A : Type 0} {P Q : Form A} {G : A → Type 0} → Yields P G → Yields Q G → Yields (P ∣ Q) G
 either {A = A} {P = P} {Q = Q} {G = G} h k = record { all = go }
@@ -117,7 +118,7 @@ if_given {A = A} {P = P} T none given h = record { all = go }
     go depth placed None n s = none
     go depth placed (Some x) n s = given x (h.all depth placed x n s)
 
-opened : {A : Type 0} {test : Token → Type 0} {P : Form A} {G : A → Type 0} → Yields P G → Yields (Opened test P) G
+opened : {A : Type 0} {text : String} {P : Form A} {G : A → Type 0} → Yields P G → Yields (Opened text P) G
 opened h = record { all = λ depth placed x n s. h.all (suc depth) s.inner x (and_parts _ _ (subst Natural s.parts n)).1 s.stands }
 
 -- ---- statements and blocks
@@ -135,7 +136,7 @@ module _ {S : Stmt → Type 0} {T : Block → Type 0} {P : Form Stmt} (blocks : 
   inner = before (opened body)
 
   otherwise : Yields (else_block P) T
-  otherwise = made (if_given (λ b. T (or_nothing b)) blocks.none (λ b t. t) (behind inner))
+  otherwise = made (if_given (λ b. T (or_nothing b)) blocks.none (λ b t. t) (after inner))
 
 abbrev IsShapedStmt : Stmt → Type 0
 IsShapedStmt s = is_shaped_stmt s ≡ true

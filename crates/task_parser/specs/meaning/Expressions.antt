@@ -6,7 +6,7 @@ use Rattle.task_ast.specs.declared.tree.Op.TheVariants.{Or, And, Eq, Ne, Lt, Le,
 use Rattle.task_ast.specs.meaning.Tree.{Expr, Num, Ctl, Reg, Me, Rows, Cell, Neg, Not, Chain, links}
 use Rattle.task_parser.specs.declared.token.Kind.TheVariants as kinds
 use Rattle.task_parser.specs.declared.token.Token.{Token}
-use Rattle.task_parser.specs.meaning.Words.{Form, ◌▸◌, Made, ◌∣◌, many, perhaps, Opened, of_kind, IsWritten, the, ◌◂◌, preceded, nothing}
+use Rattle.task_parser.specs.meaning.Words.{Form, ◌▸◌, Made, ◌∣◌, many, perhaps, Opened, of_kind, the, ◌◂◌, preceded, nothing}
 
 -- the bytes of a program's text, or of a part of it
 abbrev pub Text : Type 0
@@ -71,19 +71,19 @@ named_of (name, Some (row, field)) = Cell name row field
 
 -- a row and a field in brackets, which nest
 abbrev pub place_in : Form Expr → Form (Expr × Expr)
-place_in e = Opened (IsWritten "[") (e ◂ "," ▸ e) ◂ "]"
+place_in e = Opened "[" (e ◂ "," ▸ e) ◂ "]"
 
 -- an operand, from the operands in it
 abbrev pub operand : Text → Form Expr → Form Expr
 operand text unary =
-    Made Neg (Opened (IsWritten "-") unary)
-    ∣ Made Not (Opened (IsWritten "not") unary)
+    Made Neg (Opened "-" unary)
+    ∣ Made Not (Opened "not" unary)
     ∣ Made Num number
     ∣ Made named_of (name text ▸ perhaps (place_in (disjunction unary)))
     ∣ Made Reg (register text)
     ∣ Made (λ token. Me) (the "self")
     ∣ Made Rows (preceded "rows" (preceded "(" (name text ◂ ")")))
-    ∣ Opened (IsWritten "(") (disjunction unary) ◂ ")"
+    ∣ Opened "(" (disjunction unary) ◂ ")"
 
 -- an operand in which constructs nest less deep than the height
 abbrev pub unary : Text → ℕ → Form Expr

@@ -5,7 +5,7 @@ use Rattle.task_ast.specs.declared.tree.Atom.TheVariants as atoms
 use Rattle.task_ast.specs.meaning.Tree.{Expr, Stmt, At, What, SetCtl, While, If, Lock, Unlock, Fork, Join, Barrier, Settle, SetReg, Read, Write, Print, When, Block, Nothing, block}
 use Rattle.task_parser.specs.declared.token.Kind.TheVariants as kinds
 use Rattle.task_parser.specs.declared.token.Token.{Token}
-use Rattle.task_parser.specs.meaning.Words.{Form, ◌▸◌, Made, ◌∣◌, many, perhaps, Opened, of_kind, IsWritten, the, ◌◂◌, preceded, separated, nothing}
+use Rattle.task_parser.specs.meaning.Words.{Form, ◌▸◌, Made, ◌∣◌, many, perhaps, Opened, of_kind, the, ◌◂◌, preceded, separated, nothing}
 use Rattle.task_parser.specs.meaning.Expressions.{Text, name_of, reg_name, name, register, number, expression}
 
 -- ---- what the parts stand for: a statement stands on the line of its first token
@@ -31,7 +31,7 @@ atom text = Made atoms.Num number ∣ Made atoms.Var (name text)
 
 -- statements in braces, which nest
 abbrev pub block_of : Form Stmt → Form Block
-block_of s = Opened (IsWritten "{") (Made block (many s)) ◂ "}"
+block_of s = Opened "{" (Made block (many s)) ◂ "}"
 
 -- a missing `else` is an empty block
 abbrev pub else_block : Form Stmt → Form Block

@@ -54,14 +54,6 @@ abbrev pub perhaps : {A : Type 0} → Form A → Form (Option A)
 perhaps P depth placed None = placed ≡ []
 perhaps P depth placed (Some x) = P depth placed x
 
--- a token that opens a construct which counts as nesting, and the P in it
-pub record Opened {A : Type 0} (test : Token → Type 0) (P : Form A) (depth : ℕ) (placed : List Placed) (value : A) : Type 0 where
-  pub token : Token
-  pub inner : List Placed
-  pub passes : test token
-  pub parts : placed ≡ record { token = token; nesting = suc depth } ∷ inner
-  pub stands : P (suc depth) inner value
-
 -- no tokens fit
 abbrev pub nothing : {A : Type 0} → Form A
 nothing depth placed value = ⊥
@@ -86,6 +78,14 @@ IsWritten text token = piece_of (codes text) ≡ Take token.kind (length (codes 
 -- the reserved word or the mark that is written so
 abbrev pub the : String → Form Token
 the text = One (IsWritten text)
+
+-- a word or a mark that opens a construct which counts as nesting, and the P in it
+pub record Opened {A : Type 0} (text : String) (P : Form A) (depth : ℕ) (placed : List Placed) (value : A) : Type 0 where
+  pub token : Token
+  pub inner : List Placed
+  pub opens : IsWritten text token
+  pub parts : placed ≡ record { token = token; nesting = suc depth } ∷ inner
+  pub stands : P (suc depth) inner value
 
 -- a P and a word or a mark after it; the value is that of the P
 infixl 10 ◌◂◌
