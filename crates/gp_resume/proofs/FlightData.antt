@@ -13,7 +13,8 @@ use Rattle.task_ast.specs.meaning.Effect.{effect, after, left_to}
 use Rattle.task_ast.specs.meaning.Tree.{Program}
 use Rattle.task_ast.specs.meaning.Under.{under_lock, is_under}
 use Rattle.task_ast.specs.SyncOps.{joined_by}
-use Rattle.task_ast.specs.meaning.Plain.{Subthread, Plain, Machine, tree_machine}
+use Rattle.task_ast.specs.meaning.Plain.{Subthread}
+use Rattle.task_ast.specs.Plain.{Plain, Machine, tree_machine}
 use Rattle.task_ast.specs.Position.{IsStep}
 use Rattle.task_ast.proofs.Keeping.{names_write, writes_within}
 use Rattle.task_ast.proofs.Layouts.{accepted_sizes}

@@ -26,8 +26,8 @@ use Rattle.task_ast.specs.meaning.Effect.{Doing, cell_now, term_value, done, arm
 use Rattle.task_ast.specs.meaning.Turn.{child_of}
 use Rattle.task_ast.specs.meaning.Under.{is_under}
 use Rattle.task_ast.specs.Under.{KeepsToLocks}
-use Rattle.task_ast.specs.meaning.Plain.{Subthread, Plain, task_at, no_task, tree_machine, from_by}
-use Rattle.task_ast.specs.Plain.{setting}
+use Rattle.task_ast.specs.meaning.Plain.{Subthread, task_at, no_task}
+use Rattle.task_ast.specs.Plain.{Plain, tree_machine, from_by, setting}
 use Rattle.task_ast.specs.Position.{IsStep, point_in}
 use Rattle.task_ast.proofs.Keeping.{names_write, writes_within}
 use Rattle.task_ast.proofs.LessTurns.{inside_of}

@@ -8,7 +8,7 @@ use Rattle.std.proofs.lemmas.Bool.{lt-ltb, cases_eq}
 use Rattle.std.proofs.lemmas.Option.{slice_get_within}
 use Rattle.std.proofs.lemmas.List.Folds.{find_at}
 use Rattle.std.specs.List.{position_or_len}
-use Rattle.task_ast.specs.Table.{owner_in}
+use Rattle.task_ast.specs.Table.{owner_in, Table}
 use Rattle.task_ast.specs.declared.env.Env.{Env}
 use Rattle.task_ast.specs.declared.sync.SyncOp.{SyncOp}
 use Rattle.task_ast.specs.declared.sync.SyncOp.TheVariants as sync
@@ -25,7 +25,6 @@ use Rattle.task_ast.specs.meaning.Control.{Setting, Point, step_at, step_from, k
 use Rattle.task_ast.specs.meaning.Held.{same_pair}
 use Rattle.task_ast.specs.laws.Keeps.{NamesOnly, AllName}
 use Rattle.task_ast.specs.Layout.{IsLaidOut}
-use Rattle.task_ast.specs.meaning.Table.{Table}
 use Rattle.task_ast.specs.meaning.Turn.{owners_after}
 use Rattle.lock_checker.specs.WalkLaw.{Holding, pairs_held, held_past, NextTouchesHeld, StillNamed}
 use Rattle.task_ast.specs.laws.Threads.{MayBegin}

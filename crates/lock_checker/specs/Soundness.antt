@@ -12,12 +12,10 @@ use Rattle.task_ast.specs.meaning.Layout.{layout}
 use Rattle.task_ast.specs.Shaped.{IsAccepted}
 use Rattle.task_ast.specs.Under.{KeepsToLocks, NamesHeld}
 use Rattle.task_ast.specs.meaning.Repeat.{Goes}
-use Rattle.task_ast.specs.meaning.Table.{next_of}
-use Rattle.task_ast.specs.Table.{is_known_end, owner_in}
-use Rattle.task_ast.specs.meaning.Plain.{Subthread, Plain, opening, move, order}
-use Rattle.task_ast.specs.Plain.{setting}
-use Rattle.task_ast.specs.meaning.Position.{before}
-use Rattle.task_ast.specs.Position.{point_in}
+use Rattle.task_ast.specs.Table.{next_of, is_known_end, owner_in}
+use Rattle.task_ast.specs.meaning.Plain.{Subthread}
+use Rattle.task_ast.specs.Plain.{Plain, opening, move, order, setting}
+use Rattle.task_ast.specs.Position.{before, point_in}
 use Rattle.lock_checker.specs.WalkLaw.{Holding, Comes}
 
 -- each holding passes

@@ -9,13 +9,14 @@ use Rattle.std.proofs.lemmas.List.{length-map, length-append}
 use Rattle.std.proofs.lemmas.Option.{slice_get_within}
 use Rattle.gp_base.specs.declared.limits.TheConstants.{MOST_THREADS}
 use Rattle.gp_base.specs.declared.ending.End.TheVariants.{Finished}
-use Rattle.task_ast.specs.Table.{owner_in}
+use Rattle.task_ast.specs.Table.{owner_in, Seat, Table, next_of, unpassed, waits_at}
 use Rattle.task_ast.specs.declared.sync.SyncOp.{SyncOp}
 use Rattle.task_ast.specs.declared.sync.SyncOp.TheVariants as sync
 use Rattle.task_ast.specs.declared.sync.Next.{Next}
 use Rattle.task_ast.specs.meaning.Repeat.{Again, More, Done, go_on, repeated, until_done}
-use Rattle.task_ast.specs.meaning.Table.{Stand, Away, Waits, Released, Seat, Table, ring, next_of, unpassed, with_nth, waits_at, numbers}
-use Rattle.task_ast.specs.meaning.Turn.{Turn, Issue, Needs, Ended, Look, To, Unknown, NoThread, look, at_look, tried, issuing, passing, at_join, at_barrier, come_to, met, arrived, stand_of, child_of, seats_after, released_at, has_passed, deadlocked, turn, turns_left, next_issue}
+use Rattle.task_ast.specs.meaning.Table.{Stand, Away, Waits, Released, ring, with_nth, numbers}
+use Rattle.task_ast.specs.meaning.Turn.{child_of}
+use Rattle.task_ast.specs.Turn.{Turn, Issue, Needs, Ended, Look, To, Unknown, NoThread, look, at_look, tried, issuing, passing, at_join, at_barrier, come_to, met, arrived, stand_of, seats_after, released_at, has_passed, deadlocked, turn, turns_left, next_issue}
 use Rattle.task_ast.proofs.Counting.{length-with_nth}
 use Rattle.task_ast.proofs.Turns.{Known, known_to, look_known}
 

@@ -23,9 +23,10 @@ use Rattle.task_ast.specs.meaning.State.{State, RegistersOf, CellOf, number_at, 
 use Rattle.task_ast.specs.meaning.Effect.{Doing, all_done, joined_ret, effect, after, left_to}
 use Rattle.task_ast.specs.meaning.Footprint.{named_by}
 use Rattle.task_ast.specs.laws.Keeps.{AllName}
-use Rattle.task_ast.specs.meaning.Table.{learning}
+use Rattle.task_ast.specs.Table.{learning}
 use Rattle.task_ast.specs.meaning.Turn.{child_of}
-use Rattle.task_ast.specs.meaning.Plain.{Plain, Machine, tree_machine, points_with, point_by, settled_by, from_by, task_at, start_point}
+use Rattle.task_ast.specs.meaning.Plain.{task_at, start_point}
+use Rattle.task_ast.specs.Plain.{Plain, Machine, tree_machine, points_with, point_by, settled_by, from_by}
 use Rattle.task_ast.specs.meaning.Plain as plain
 use Rattle.task_ast.specs.View.{plain_program}
 use Rattle.task_ast.proofs.Arms.{some_is}

@@ -10,9 +10,9 @@ use Rattle.task_ast.specs.declared.sync.SyncOp.{SyncOp}
 use Rattle.task_ast.specs.declared.sync.SyncOp.TheVariants as sync
 use Rattle.task_ast.specs.declared.sync.Next.{Next}
 use Rattle.task_ast.specs.meaning.Repeat.{Again, Done}
-use Rattle.task_ast.specs.meaning.Table.{Stand, Away, Waits, Released, Table, numbers, ring, next_of, is_end}
-use Rattle.task_ast.specs.Table.{is_known_end, has_ended, owner_in}
-use Rattle.task_ast.specs.meaning.Turn.{Turn, Ended, Look, To, Unknown, NoThread, look_at, look, issuing, stand_of, come_to, at_barrier, at_join, tried, has_passed, deadlocked, at_look}
+use Rattle.task_ast.specs.meaning.Table.{Stand, Away, Waits, Released, numbers, ring, is_end}
+use Rattle.task_ast.specs.Table.{Table, next_of, is_known_end, has_ended, owner_in}
+use Rattle.task_ast.specs.Turn.{Turn, Ended, Look, To, Unknown, NoThread, look_at, look, issuing, stand_of, come_to, at_barrier, at_join, tried, has_passed, deadlocked, at_look}
 use Rattle.task_ast.specs.Reached.{FinishedLaw}
 use Rattle.task_ast.proofs.Rounds.{all_from, some_below}
 

@@ -16,10 +16,12 @@ use Rattle.task_ast.specs.meaning.Tree.{Program}
 use Rattle.task_ast.specs.meaning.Effect.{effect, after}
 use Rattle.task_ast.specs.meaning.Repeat.{Move, Goes, Ends, state_after}
 use Rattle.task_ast.specs.Repeat.{step_of}
-use Rattle.task_ast.specs.meaning.Table.{Table, new_seat, last_in}
-use Rattle.task_ast.specs.meaning.Turn.{Ended, child_of, next_issue}
+use Rattle.task_ast.specs.Table.{Table, new_seat, last_in}
+use Rattle.task_ast.specs.meaning.Turn.{child_of}
+use Rattle.task_ast.specs.Turn.{Ended, next_issue}
 use Rattle.task_ast.specs.laws.Threads.{MayBegin}
-use Rattle.task_ast.specs.meaning.Plain.{Subthread, PlainOf, Machine, on_turn_by, move_by, opening_by, order_by, before_by, last_by, end_by, ending_of}
+use Rattle.task_ast.specs.meaning.Plain.{Subthread, ending_of}
+use Rattle.task_ast.specs.Plain.{PlainOf, Machine, on_turn_by, move_by, opening_by, order_by, before_by, last_by, end_by}
 use Rattle.task_ast.specs.meaning.Position.{last_below}
 use Rattle.task_ast.specs.Position.{LeftBy, IsStep, IsForked}
 use Rattle.task_ast.specs.Fold.{applied, fold}

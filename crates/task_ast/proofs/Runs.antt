@@ -20,10 +20,13 @@ use Rattle.task_ast.specs.meaning.Control.{Point, tree_body, beginning, first_ac
 use Rattle.task_ast.specs.meaning.State.{State, RegistersOf, cell_value}
 use Rattle.task_ast.specs.meaning.Effect.{effect, after}
 use Rattle.task_ast.specs.meaning.Repeat.{Again, More, Done, Move, Goes, Ends, go_on, repeated, until_done, steps, state_after, state_from, steps_from}
-use Rattle.task_ast.specs.meaning.Table.{Stand, Away, Waits, Released, Seat, Table, numbers, ring, next_of, unpassed, with_nth, with_seat, learning, new_seat, meets, is_waiting, waits_at, owned_from}
-use Rattle.task_ast.specs.meaning.Turn.{Turn, Issue, Ended, Look, To, NoThread, look, look_at, passing, owners_after, seats_after, child_of, issuing, stand_of, released_at, arrived, met, come_to, at_barrier, at_join, last_of, stuck, tried, has_passed, deadlocked, at_look, turn, is_away, turns_left, next_issue}
-use Rattle.task_ast.specs.meaning.Plain.{Subthread, Plain, PlainOf, ending_of, points_with, point_by, settled_by, from_by, performed_by, on_turn_by, tree_machine, move, order, end, task_at, start_point, setting_of}
-use Rattle.task_ast.specs.meaning.Position.{before}
+use Rattle.task_ast.specs.meaning.Table.{Stand, Away, Waits, Released, numbers, ring, with_nth, meets, is_waiting, owned_from}
+use Rattle.task_ast.specs.Table.{Seat, Table, next_of, unpassed, with_seat, learning, new_seat, waits_at}
+use Rattle.task_ast.specs.meaning.Turn.{owners_after, child_of, is_away}
+use Rattle.task_ast.specs.Turn.{Turn, Issue, Ended, Look, To, NoThread, look, look_at, passing, seats_after, issuing, stand_of, released_at, arrived, met, come_to, at_barrier, at_join, last_of, stuck, tried, has_passed, deadlocked, at_look, turn, turns_left, next_issue}
+use Rattle.task_ast.specs.meaning.Plain.{Subthread, ending_of, task_at, start_point, setting_of}
+use Rattle.task_ast.specs.Plain.{Plain, PlainOf, points_with, point_by, settled_by, from_by, performed_by, on_turn_by, tree_machine, move, order, end}
+use Rattle.task_ast.specs.Position.{before}
 use Rattle.task_ast.specs.meaning.Run.{Thread, Run, unpassed_thread, with_thread, is_barrier_of, is_held_at, let_go, settled_point, stuck_at, passes_on, starting, thread_at, with_forked, begun_by, goes_on, all_met, comes_to, stands_at, has_finished, tries_by, first_up, dead_at, turn_of, one_turn, left_turns, plain_move, plain_opening, plain_order, plain_before, plain_end}
 use Rattle.task_ast.specs.laws.Runs.{seat_for, table_for, plain_for, move_for, IsInside, RunMoveLaw, RunInsideLaw, RunEndLaw}
 use Rattle.task_ast.proofs.Counting.{count-cons, one}
@@ -730,10 +733,10 @@ module _ (program : Program) (inputs : Inputs) (limits : Limits) where
 
   -- ---- the run
 
-  opening-inside : IsInside (plain_opening program inputs limits)
+  pub opening-inside : IsInside (plain_opening program inputs limits)
   opening-inside t e = absurd (cc e)
 
-  after-is : (n : ℕ) (x : Run) → IsInside x
+  pub after-is : (n : ℕ) (x : Run) → IsInside x
       → (plain_for program limits (state_after (plain_move program inputs limits) n x)
       ≡ state_after (move program inputs limits) n (plain_for program limits x))
       × IsInside (state_after (plain_move program inputs limits) n x)
@@ -763,7 +766,7 @@ module _ (program : Program) (inputs : Inputs) (limits : Limits) where
         inside,
       )
 
-  steps-are : (n : ℕ) (x : Run) → IsInside x
+  pub steps-are : (n : ℕ) (x : Run) → IsInside x
       → steps (plain_move program inputs limits) n x ≡ steps (move program inputs limits) n (plain_for program limits x)
   unfolding steps
   steps-are zero x inside = refl
@@ -790,12 +793,15 @@ module _ (program : Program) (inputs : Inputs) (limits : Limits) where
   end-for (Goes s y) = refl
   end-for (Ends e) = refl
 
+  pub ending-is : (x : Run) → IsInside x
+      → ending_of (plain_move program inputs limits x) ≡ ending_of (move program inputs limits (plain_for program limits x))
+  ending-is x inside = end-for (plain_move program inputs limits x) ∙ ap ending_of (sym (move-is x inside))
+
   pub end-is : plain_end program inputs limits ≡ end program inputs limits
   end-is =
       let last = after-is (suc limits.subthreads) (plain_opening program inputs limits) opening-inside in
-      end-for (plain_move program inputs limits (plain_before program inputs limits (suc limits.subthreads)))
-      ∙ (ap ending_of (sym (move-is (plain_before program inputs limits (suc limits.subthreads)) last.1))
-      ∙ ap (λ x. ending_of (move program inputs limits x)) last.0)
+      ending-is (plain_before program inputs limits (suc limits.subthreads)) last.1
+      ∙ ap (λ x. ending_of (move program inputs limits x)) last.0
 
 pub run-move : RunMoveLaw
 run-move program inputs limits x inside = move-is program inputs limits x inside

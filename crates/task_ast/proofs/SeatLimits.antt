@@ -6,9 +6,10 @@ use Rattle.task_ast.specs.declared.sync.SyncOp.{SyncOp}
 use Rattle.task_ast.specs.declared.sync.SyncOp.TheVariants as sync
 use Rattle.task_ast.specs.declared.sync.Next.{Next}
 use Rattle.task_ast.specs.meaning.Repeat.{Again, More, Done}
-use Rattle.task_ast.specs.meaning.Table.{Table, numbers, next_of}
-use Rattle.task_ast.specs.Table.{is_known_end}
-use Rattle.task_ast.specs.meaning.Turn.{Turn, Issue, Needs, Ended, Look, Unknown, look_at, look, child_of, tried, deadlocked, at_look, turn}
+use Rattle.task_ast.specs.meaning.Table.{numbers}
+use Rattle.task_ast.specs.Table.{Table, next_of, is_known_end}
+use Rattle.task_ast.specs.meaning.Turn.{child_of}
+use Rattle.task_ast.specs.Turn.{Turn, Issue, Needs, Ended, Look, Unknown, look_at, look, tried, deadlocked, at_look, turn}
 use Rattle.task_ast.specs.Reached.{Reached, at_start, by_pass, by_issue, by_learning}
 use Rattle.task_ast.specs.laws.Threads.{MayBegin, with_child, table_after, SeatsLaw, MostThreadsLaw, NeedsLaw, NeededLaw}
 use Rattle.task_ast.specs.laws.Less.{Alike, passes, issues, needs, ends}

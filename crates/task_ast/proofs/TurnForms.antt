@@ -12,9 +12,10 @@ use Rattle.task_ast.specs.declared.sync.SyncOp.{SyncOp}
 use Rattle.task_ast.specs.declared.sync.SyncOp.TheVariants as sync
 use Rattle.task_ast.specs.declared.sync.Next.{Next}
 use Rattle.task_ast.specs.meaning.Repeat.{Again, More, Done, go_on, repeated, until_done}
-use Rattle.task_ast.specs.meaning.Table.{Stand, Away, Waits, Released, Seat, Table, ring, next_of, is_end, unpassed, with_seat, waits_at, numbers}
-use Rattle.task_ast.specs.Table.{is_known_end, owner_in}
-use Rattle.task_ast.specs.meaning.Turn.{Turn, Issue, Needs, Ended, Look, To, Unknown, NoThread, look, passing, issuing, owners_after, seats_after, child_of, stand_of, released_at, arrived, met, come_to, at_barrier, at_join, tried, has_passed, at_look, turn, turns_left, next_issue, deadlocked}
+use Rattle.task_ast.specs.meaning.Table.{Stand, Away, Waits, Released, ring, is_end, numbers}
+use Rattle.task_ast.specs.Table.{Seat, Table, next_of, unpassed, with_seat, waits_at, is_known_end, owner_in}
+use Rattle.task_ast.specs.meaning.Turn.{owners_after, child_of}
+use Rattle.task_ast.specs.Turn.{Turn, Issue, Needs, Ended, Look, To, Unknown, NoThread, look, passing, issuing, seats_after, stand_of, released_at, arrived, met, come_to, at_barrier, at_join, tried, has_passed, at_look, turn, turns_left, next_issue, deadlocked}
 use Rattle.task_ast.proofs.Counting.{length-with_nth}
 use Rattle.task_ast.proofs.Rounds.{keeps_nth, keeps_map, length_arrive, pass, wait, arrive}
 use Rattle.task_ast.proofs.Turns.{Known, known_to, look_known}

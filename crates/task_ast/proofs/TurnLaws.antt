@@ -2,13 +2,14 @@
 use Rattle.std.proofs.Common.{◌≡◌, ℕ, suc, ◌<◌, Bool, true, false, cond, length, Option, Some, None, is_none, nat_lt, unwrap_or, refl, sym, ap, ◌∙◌, subst, arith, option_and_then}
 use Rattle.std.specs.Prelude.{⊤, pos, negsuc}
 use Rattle.gp_base.specs.declared.limits.TheConstants.{MOST_THREADS}
-use Rattle.task_ast.specs.Table.{owner_in}
+use Rattle.task_ast.specs.Table.{owner_in, Table, next_of}
 use Rattle.task_ast.specs.declared.sync.SyncOp.{SyncOp}
 use Rattle.task_ast.specs.declared.sync.SyncOp.TheVariants as sync
 use Rattle.task_ast.specs.declared.sync.Next.{Next}
 use Rattle.task_ast.specs.meaning.Repeat.{Again, More, Done}
-use Rattle.task_ast.specs.meaning.Table.{Stand, Away, Waits, Released, Table, ring, next_of, is_end, numbers}
-use Rattle.task_ast.specs.meaning.Turn.{Turn, Issue, Look, To, Unknown, NoThread, look, issuing, child_of, stand_of, come_to, at_barrier, at_join, tried, has_passed, at_look, turn, deadlocked, owners_after}
+use Rattle.task_ast.specs.meaning.Table.{Stand, Away, Waits, Released, ring, is_end, numbers}
+use Rattle.task_ast.specs.meaning.Turn.{child_of, owners_after}
+use Rattle.task_ast.specs.Turn.{Turn, Issue, Look, To, Unknown, NoThread, look, issuing, stand_of, come_to, at_barrier, at_join, tried, has_passed, at_look, turn, deadlocked}
 use Rattle.task_ast.proofs.Turns.{Known, known_to, look_known}
 use Rattle.task_ast.specs.laws.Threads.{with_child, SameThreads, tries, ahead, HasBegun, AheadLaw, PassLaw, IssueLaw}
 use Rattle.task_ast.proofs.LessTurns.{inside_of}

@@ -9,7 +9,8 @@ use Rattle.task_ast.specs.meaning.Tree.{Stmt, What, While, Expr, Block, TaskText
 use Rattle.task_ast.specs.meaning.Names.{controls_of}
 use Rattle.task_ast.specs.Names.{seconds}
 use Rattle.task_ast.specs.meaning.Control.{Point, beginning, first_actions, step, tree_body}
-use Rattle.task_ast.specs.meaning.Plain.{setting_of, task_at, start_point, tree_machine}
+use Rattle.task_ast.specs.meaning.Plain.{setting_of, task_at, start_point}
+use Rattle.task_ast.specs.Plain.{tree_machine}
 use Rattle.task_ast.specs.laws.Following.{IsFollowing, Agrees, Follows, IsSameRun}
 use Rattle.task_code.specs.Instructions.{Instr, At, GoOn, Again}
 use Rattle.task_code.specs.Lowering.{Scope, calc, what_code, block_code, scope_of, lowered}

@@ -7,8 +7,9 @@ use Rattle.task_ast.specs.declared.sync.SyncOp.{SyncOp}
 use Rattle.task_ast.specs.declared.sync.SyncOp.TheVariants as sync
 use Rattle.task_ast.specs.declared.sync.Next.{Next}
 use Rattle.task_ast.specs.meaning.Repeat.{Done}
-use Rattle.task_ast.specs.meaning.Table.{Stand, Away, Waits, Released, Table, ring, is_waiting, numbers}
-use Rattle.task_ast.specs.meaning.Turn.{Turn, Issue, Look, To, Unknown, NoThread, look, turn, tried, at_look, deadlocked, has_passed, stand_of}
+use Rattle.task_ast.specs.meaning.Table.{Stand, Away, Waits, Released, ring, is_waiting, numbers}
+use Rattle.task_ast.specs.Table.{Table}
+use Rattle.task_ast.specs.Turn.{Turn, Issue, Look, To, Unknown, NoThread, look, turn, tried, at_look, deadlocked, has_passed, stand_of}
 use Rattle.task_ast.specs.laws.Threads.{MayBegin, tries}
 use Rattle.task_ast.proofs.TurnLaws.{issue_law}
 use Rattle.token_order.specs.Turned.{waits_found, waits_ahead, is_let}

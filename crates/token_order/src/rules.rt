@@ -6,10 +6,11 @@ ghost use Rattle.gp_base.specs.declared.ending.End.TheVariants as ends;
 ghost use Rattle.gp_base.specs.declared.limits.TheConstants.{MOST_THREADS};
 ghost use Rattle.task_ast.specs.Looking.{begun, joined_in, is_free_to_go};
 ghost use Rattle.task_ast.specs.declared.sync.SyncOp.TheVariants as sync;
-ghost use Rattle.task_ast.specs.Table.{is_known_end};
+ghost use Rattle.task_ast.specs.Table.{is_known_end, next_of, waits_at};
 ghost use Rattle.task_ast.specs.meaning.Repeat.{More};
-ghost use Rattle.task_ast.specs.meaning.Table.{Away, next_of, waits_at, numbers};
-ghost use Rattle.task_ast.specs.meaning.Turn.{tried, issuing, passing, look, owners_after, seats_after, child_of, deadlocked, arrived, stand_of, released_at};
+ghost use Rattle.task_ast.specs.meaning.Table.{Away, numbers};
+ghost use Rattle.task_ast.specs.meaning.Turn.{owners_after, child_of};
+ghost use Rattle.task_ast.specs.Turn.{tried, issuing, passing, look, seats_after, deadlocked, arrived, stand_of, released_at};
 ghost use Rattle.token_order.specs.View.{table, seat_of, StandsInside, MarkStands};
 ghost use Rattle.token_order.specs.declared.rules.Turn.TheVariants as here;
 ghost use Rattle.token_order.specs.Turned.{Answered, is_let, waits_ahead};
@@ -348,7 +349,7 @@ impl Threads {
     /// The thread that the next turn would issue with a settle.
     pub fn settling(&self) -> Option<u32>
         requires inside { StandsInside self.now }
-        ensures { result ≡ Rattle.token_order.specs.Turned.settling_in (Rattle.task_ast.specs.meaning.Turn.turn (table self.now)) }
+        ensures { result ≡ Rattle.token_order.specs.Turned.settling_in (Rattle.task_ast.specs.Turn.turn (table self.now)) }
     {
         if self.limit <= self.issued {
             return None;
@@ -370,7 +371,7 @@ impl Threads {
     pub fn turn(&mut self) -> Turn
         requires inside { StandsInside self.old }
         requires spare { vec_len self.old.seats < vec_capacity self.old.seats }
-        ensures answer { Answered (Rattle.task_ast.specs.meaning.Turn.turn (table self.old)) (table self.old) result (table self.new) }
+        ensures answer { Answered (Rattle.task_ast.specs.Turn.turn (table self.old)) (table self.old) result (table self.new) }
         ensures capacity { vec_capacity self.new.seats ≡ vec_capacity self.old.seats }
         ensures mark { MarkStands self.new }
     {

@@ -17,13 +17,15 @@ use Rattle.task_ast.specs.declared.sync.SyncOp.TheVariants as sync
 use Rattle.task_ast.specs.declared.sync.Next.{Next}
 use Rattle.task_ast.specs.Footprint.{lock_footprint}
 use Rattle.task_ast.specs.meaning.Repeat.{Again, More, Done}
-use Rattle.task_ast.specs.meaning.Table.{Seat, Table, next_of, owned_from, is_settle}
+use Rattle.task_ast.specs.meaning.Table.{owned_from, is_settle}
+use Rattle.task_ast.specs.Table.{Seat, Table, next_of, is_known_end}
 use Rattle.token_order.specs.Turned.{settling_in, is_let}
-use Rattle.task_ast.specs.meaning.Turn.{Turn, Issue, Needs, Ended, child_of, turn}
+use Rattle.task_ast.specs.meaning.Turn.{child_of}
+use Rattle.task_ast.specs.Turn.{Turn, Issue, Needs, Ended, turn}
 use Rattle.task_ast.specs.laws.Threads.{HasBegun, with_child, ahead}
 use Rattle.task_ast.specs.laws.Standing.{IsIssuedBy}
-use Rattle.task_ast.specs.meaning.Plain.{Subthread, tree_machine, start_point, task_at}
-use Rattle.task_ast.specs.Plain.{lock_foot_of}
+use Rattle.task_ast.specs.meaning.Plain.{Subthread, start_point, task_at}
+use Rattle.task_ast.specs.Plain.{tree_machine, lock_foot_of}
 use Rattle.task_code.specs.Reading.{start_place}
 use Rattle.task_code.proofs.Machines.{follows}
 use Rattle.task_ast.proofs.TurnLaws.{pass_law, ahead_law}
@@ -43,7 +45,6 @@ use Rattle.rollback.specs.States.{HeldStands}
 use Rattle.gp_base.specs.Reserved.{Reserved}
 use Rattle.token_order.specs.View.{Roomy}
 use Rattle.task_ast.specs.SyncOps.{IsNumbered}
-use Rattle.task_ast.specs.Table.{is_known_end}
 use Rattle.token_order.proofs.Waiting.{issue_lets}
 use Rattle.whole_run.specs.declared.parts.Parts.{Parts}
 use Rattle.whole_run.specs.declared.parts.Place.{Place}

@@ -14,11 +14,14 @@ use Rattle.task_ast.specs.declared.sync.SyncOp.TheVariants as sync
 use Rattle.task_ast.specs.declared.sync.Next.{Next}
 use Rattle.task_ast.specs.meaning.Control.{Point}
 use Rattle.task_ast.specs.meaning.Repeat.{Again, More, Done}
-use Rattle.task_ast.specs.meaning.Table.{is_settle, Table, next_of, last_in}
-use Rattle.task_ast.specs.meaning.Turn.{Turn, Issue, Needs, Ended, child_of, turn}
+use Rattle.task_ast.specs.meaning.Table.{is_settle}
+use Rattle.task_ast.specs.Table.{Table, next_of, last_in}
+use Rattle.task_ast.specs.meaning.Turn.{child_of}
+use Rattle.task_ast.specs.Turn.{Turn, Issue, Needs, Ended, turn}
 use Rattle.task_ast.specs.laws.Threads.{SameThreads, HasBegun, with_child}
 use Rattle.task_ast.specs.laws.Standing.{Agrees, IsIssuedBy, TurnTells, passes, issues, needs, ends}
-use Rattle.task_ast.specs.meaning.Plain.{tree_machine, start_point, task_at, end, Subthread}
+use Rattle.task_ast.specs.meaning.Plain.{start_point, task_at, Subthread}
+use Rattle.task_ast.specs.Plain.{tree_machine, end}
 use Rattle.task_ast.specs.meaning.Position.{last_below}
 use Rattle.task_ast.specs.Position.{IsStep}
 use Rattle.task_ast.proofs.Standings.{agrees, turns_tell}

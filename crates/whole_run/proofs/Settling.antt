@@ -5,7 +5,7 @@ use Rattle.gp_base.specs.declared.journal.Event.TheVariants as event
 use Rattle.task_ast.specs.meaning.State.{State, RegistersOf, number_at}
 use Rattle.task_ast.specs.meaning.Table.{is_settle}
 use Rattle.task_ast.specs.meaning.Plain.{Subthread}
-use Rattle.task_ast.specs.meaning.Position.{before}
+use Rattle.task_ast.specs.Position.{before}
 use Rattle.dependence.specs.meaning.Journal.{Allowed}
 use Rattle.whole_run.specs.View.{View, program_in, run_in, dependence_in, now, state_in, Stands}
 use Rattle.whole_run.specs.Laws.{SettledNumberLaw}

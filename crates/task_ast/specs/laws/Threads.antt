@@ -5,9 +5,10 @@ use Rattle.task_ast.specs.declared.sync.SyncOp.{SyncOp}
 use Rattle.task_ast.specs.declared.sync.SyncOp.TheVariants as sync
 use Rattle.task_ast.specs.declared.sync.Next.{Next}
 use Rattle.task_ast.specs.meaning.Repeat.{Again, More, Done}
-use Rattle.task_ast.specs.meaning.Table.{Table, ring, next_of, last_in}
-use Rattle.task_ast.specs.Table.{is_known_end, owner_in}
-use Rattle.task_ast.specs.meaning.Turn.{Turn, Look, To, Unknown, NoThread, Issue, Needs, look, has_passed, owners_after, child_of, turn}
+use Rattle.task_ast.specs.meaning.Table.{ring}
+use Rattle.task_ast.specs.Table.{Table, next_of, last_in, is_known_end, owner_in}
+use Rattle.task_ast.specs.meaning.Turn.{owners_after, child_of}
+use Rattle.task_ast.specs.Turn.{Turn, Look, To, Unknown, NoThread, Issue, Needs, look, has_passed, turn}
 use Rattle.task_ast.specs.Reached.{Reached}
 
 -- both tables have the same threads, with the same next synchronisations and last subthreads

@@ -2,7 +2,7 @@ use Rattle.std.proofs.Common.{sym, ap, ◌∙◌, cond, is_none}
 use Rattle.std.specs.Prelude.{slice_get}
 use Rattle.std.specs.Option.{option_and_then}
 use Rattle.task_ast.specs.Table.{owner_in}
-use Rattle.task_ast.specs.meaning.Turn.{issuing, passing}
+use Rattle.task_ast.specs.Turn.{issuing, passing}
 use Rattle.token_order.specs.View.{table}
 use Rattle.token_order.proofs.Turning.{by}
 use Rattle.token_order.proofs.threads.Threads.lock.Goals as goal
