@@ -1,5 +1,5 @@
 -- What the plain run's order says of conflicts, restarts and journals.
-use Rattle.std.specs.Prelude.{false, List, length, map, slice_get}
+use Rattle.std.specs.Prelude.{ℕ, false, List, length, map, slice_get}
 use Rattle.std.specs.Option.{option_and_then, option_map_or}
 use Rattle.gp_base.specs.declared.fault.Fault.{Fault}
 use Rattle.gp_base.specs.declared.journal.Restart.{Restart}
