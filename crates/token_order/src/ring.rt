@@ -103,6 +103,9 @@ impl Ring {
         ensures cleared { self.new.cleared ≡ cleared_after result self.old.cleared }
         ensures spare { LeavesRoom result self.old.spare self.new.spare }
     {
+        let start = self.threads.start();
+        self.threads.shorten(0);
+        self.threads.shorten(start);
         if !self.cleared {
             if let Some(thread) = self.threads.settling() {
                 return Turn::Settles(ThreadNo(thread));

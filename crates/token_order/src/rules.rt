@@ -1,6 +1,6 @@
 // The rules of a turn.
 
-ghost use Rattle.std.specs.Prelude.{◌≡◌, ℕ, ◌<◌, ◌≤◌, ◌+◌, length, map, List, Option, Some, None, ℤ, vec_len, vec_capacity, is_none, slice_get, slice_set, unwrap_or, count_by, is_some, if◌then◌else◌};
+ghost use Rattle.std.specs.Prelude.{◌≡◌, ℕ, ◌<◌, ◌≤◌, ◌+◌, length, map, List, Option, Some, None, ℤ, vec_len, vec_capacity, is_none, slice_get, slice_set, unwrap_or, count_by, nat_lt, false};
 ghost use Rattle.std.specs.Option.{option_and_then};
 ghost use Rattle.gp_base.specs.declared.ending.End.TheVariants as ends;
 ghost use Rattle.gp_base.specs.declared.limits.TheConstants.{MOST_THREADS};
@@ -10,11 +10,12 @@ ghost use Rattle.task_ast.specs.Table.{is_known_end};
 ghost use Rattle.task_ast.specs.meaning.Repeat.{More};
 ghost use Rattle.task_ast.specs.meaning.Table.{Away, next_of, waits_at};
 ghost use Rattle.task_ast.specs.meaning.Turn.{tried, issuing, passing, look, owners_after, seats_after, child_of, deadlocked, all_threads, arrived, stand_of, released_at};
-ghost use Rattle.token_order.specs.View.{table, seat_of, StandsInside, MarkStands};
+ghost use Rattle.ended_seats.specs.Idle.{onward_after};
+ghost use Rattle.token_order.specs.View.{table, seat_of, onward_of, StandsInside, WalksStand};
 ghost use Rattle.token_order.specs.declared.rules.Turn.TheVariants as here;
 ghost use Rattle.token_order.specs.Turned.{Answered, is_let, waits_ahead};
 
-use crate::threads::{Seat, Stand, Threads, has_ended, new_seat, unpass_all};
+use crate::threads::{Passed, Seat, Stand, Threads, has_ended, new_seat, unpass_all};
 use gp_base::limits::MOST_THREADS;
 use gp_base::{End, Pos, ThreadNo, Why};
 use task_ast::{Next, SyncOp};
@@ -39,6 +40,7 @@ pub enum Turn {
 fn begin(seat: &mut Seat, issued: u32) -> Option<Next>
     ensures next { result ≡ seat.old.next }
     ensures seat { seat_of seat.new ≡ begun issued (seat_of seat.old) }
+    ensures onward { onward_of seat.new ≡ onward_of seat.old }
 {
     seat.last = Some(issued);
     seat.passed = false;
@@ -72,6 +74,7 @@ fn add_child(seats: &mut Vec<Seat>, sync: &SyncOp) -> Option<ThreadNo>
     requires few { length seats.old.items ≤ MOST_THREADS }
     ensures seats { map seat_of seats.new.items ≡ seats_after sync.now (map seat_of seats.old.items) }
     ensures child { result ≡ child_of sync.now (length seats.old.items) }
+    ensures onward { map onward_of seats.new.items ≡ onward_after sync.now (map onward_of seats.old.items) }
     ensures capacity { vec_capacity seats.new ≡ vec_capacity seats.old }
 {
     let child = sync.child_of(seats.len());
@@ -82,13 +85,6 @@ fn add_child(seats: &mut Vec<Seat>, sync: &SyncOp) -> Option<ThreadNo>
         }));
     }
     child
-}
-
-// The mark after an issue: a child has not ended.
-fn live_after(live: usize, child: &Option<ThreadNo>, threads: usize) -> usize
-    ensures { result ≡ (if is_some child.now then threads else live) }
-{
-    if child.is_some() { threads } else { live }
 }
 
 // Whether nobody owns the lock.
@@ -156,26 +152,27 @@ impl Threads {
     // The thread passes.
     fn pass(&mut self, t: u32)
         requires exists { t < length self.old.seats.items }
-        requires live { t < self.old.live }
-        requires mark { MarkStands self.old }
+        requires live { is_known_end (next_of (table self.old) t) ≡ false }
+        requires walks { WalksStand self.old }
         ensures passes { passing (table self.old) t ≡ More (table self.new) }
         ensures capacity { vec_capacity self.new.seats ≡ vec_capacity self.old.seats }
-        ensures mark { MarkStands self.new }
+        ensures walks { WalksStand self.new }
     {
         self.seats[t as usize].passed = true;
+        self.passed = self.passed.with(t as usize);
         self.token = Some(t);
     }
 
     // The thread performs its next synchronisation and begins a subthread, unless the limit is reached.
     fn issue(&mut self, t: u32) -> Turn
         requires exists { t < length self.old.seats.items }
-        requires live { t < self.old.live }
-        requires mark { MarkStands self.old }
+        requires live { is_known_end (next_of (table self.old) t) ≡ false }
+        requires walks { WalksStand self.old }
         requires few { length self.old.seats.items ≤ MOST_THREADS }
         requires spare { vec_len self.old.seats < vec_capacity self.old.seats }
         ensures answer { (next : Next) → next_of (table self.old) t ≡ Some next → Answered (issuing (table self.old) t next) (table self.old) result (table self.new) }
         ensures capacity { vec_capacity self.new.seats ≡ vec_capacity self.old.seats }
-        ensures mark { MarkStands self.new }
+        ensures walks { WalksStand self.new }
     {
         if self.issued >= self.limit {
             return Turn::Ended(End::Spent(Pos(self.limit)));
@@ -183,10 +180,10 @@ impl Threads {
         let Some(next) = begin(&mut self.seats[t as usize], self.issued) else {
             return Turn::Needs(ThreadNo(t));
         };
-        unpass_all(&mut self.seats, self.live);
+        unpass_all(&mut self.seats, self.passed);
+        self.passed = Passed::none();
         hand_over(&mut self.owners, &next.sync, t);
         let child = add_child(&mut self.seats, &next.sync);
-        self.live = live_after(self.live, &child, self.seats.len());
         self.token = Some(t);
         self.issued += 1;
         Turn::Issue {
@@ -199,13 +196,13 @@ impl Threads {
     // A lock is taken where nobody owns it.
     fn lock(&mut self, t: u32, lock: u32) -> Turn
         requires exists { t < length self.old.seats.items }
-        requires live { t < self.old.live }
-        requires mark { MarkStands self.old }
+        requires live { is_known_end (next_of (table self.old) t) ≡ false }
+        requires walks { WalksStand self.old }
         requires few { length self.old.seats.items ≤ MOST_THREADS }
         requires spare { vec_len self.old.seats < vec_capacity self.old.seats }
         ensures answer { (next : Next) → next_of (table self.old) t ≡ Some next → Answered (tried (sync.Lock lock) (table self.old) t next) (table self.old) result (table self.new) }
         ensures capacity { vec_capacity self.new.seats ≡ vec_capacity self.old.seats }
-        ensures mark { MarkStands self.new }
+        ensures walks { WalksStand self.new }
     {
         if is_free(&self.owners, lock) {
             return self.issue(t);
@@ -217,13 +214,13 @@ impl Threads {
     // A join waits for the end of its thread.
     fn join(&mut self, t: u32, h: i64, line: u32) -> Turn
         requires exists { t < length self.old.seats.items }
-        requires live { t < self.old.live }
-        requires mark { MarkStands self.old }
+        requires live { is_known_end (next_of (table self.old) t) ≡ false }
+        requires walks { WalksStand self.old }
         requires few { length self.old.seats.items ≤ MOST_THREADS }
         requires spare { vec_len self.old.seats < vec_capacity self.old.seats }
         ensures answer { (next : Next) → next_of (table self.old) t ≡ Some next → next.line ≡ line → Answered (tried (sync.Join h) (table self.old) t next) (table self.old) result (table self.new) }
         ensures capacity { vec_capacity self.new.seats ≡ vec_capacity self.old.seats }
-        ensures mark { MarkStands self.new }
+        ensures walks { WalksStand self.new }
     {
         let Some(other) = joined(h, self.seats.len()) else {
             return stuck(Why::Join, t, line);
@@ -243,13 +240,13 @@ impl Threads {
     // A fork finds a seat while there are fewer threads than may exist.
     fn fork(&mut self, t: u32, line: u32) -> Turn
         requires exists { t < length self.old.seats.items }
-        requires live { t < self.old.live }
-        requires mark { MarkStands self.old }
+        requires live { is_known_end (next_of (table self.old) t) ≡ false }
+        requires walks { WalksStand self.old }
         requires few { length self.old.seats.items ≤ MOST_THREADS }
         requires spare { vec_len self.old.seats < vec_capacity self.old.seats }
         ensures answer { (next : Next) (task : ℕ) (arguments : List ℤ) → next_of (table self.old) t ≡ Some next → next.line ≡ line → Answered (tried (sync.Fork task arguments) (table self.old) t next) (table self.old) result (table self.new) }
         ensures capacity { vec_capacity self.new.seats ≡ vec_capacity self.old.seats }
-        ensures mark { MarkStands self.new }
+        ensures walks { WalksStand self.new }
     {
         if self.seats.len() < MOST_THREADS as usize {
             return self.issue(t);
@@ -260,45 +257,58 @@ impl Threads {
     // The thread arrives at a barrier, which counts as a change.
     fn arrive(&mut self, t: u32)
         requires exists { t < length self.old.seats.items }
-        requires live { t < self.old.live }
-        requires mark { MarkStands self.old }
+        requires live { is_known_end (next_of (table self.old) t) ≡ false }
+        requires walks { WalksStand self.old }
         ensures table { table self.new ≡ arrived (table self.old) t }
         ensures length { length self.new.seats.items ≡ length self.old.seats.items }
         ensures spare { (vec_len self.new.seats ≡ vec_len self.old.seats) × (vec_capacity self.new.seats ≡ vec_capacity self.old.seats) }
-        ensures live { self.new.live ≡ self.old.live }
-        ensures mark { MarkStands self.new }
+        ensures live { is_known_end (next_of (table self.new) t) ≡ false }
+        ensures walks { WalksStand self.new }
     {
-        unpass_all(&mut self.seats, self.live);
+        unpass_all(&mut self.seats, self.passed);
+        self.passed = Passed::none();
         self.seats[t as usize].stand = Stand::Waits;
+        self.waits = self.waits.saturating_add(1);
     }
 
     // The last thread arrives at a barrier, and all that wait there are released.
     fn open(&mut self, t: u32, barrier: u32)
         requires exists { t < length self.old.seats.items }
-        requires live { t < self.old.live }
-        requires mark { MarkStands self.old }
+        requires live { is_known_end (next_of (table self.old) t) ≡ false }
+        requires walks { WalksStand self.old }
         ensures table { table self.new ≡ record (arrived (table self.old) t) { seats = map (released_at barrier) (arrived (table self.old) t).seats } }
         ensures length { length self.new.seats.items ≡ length self.old.seats.items }
         ensures spare { (vec_len self.new.seats ≡ vec_len self.old.seats) × (vec_capacity self.new.seats ≡ vec_capacity self.old.seats) }
-        ensures live { self.new.live ≡ self.old.live }
-        ensures mark { MarkStands self.new }
+        ensures live { is_known_end (next_of (table self.new) t) ≡ false }
+        ensures walks { WalksStand self.new }
     {
         self.arrive(t);
+        let there = waiting(&self.seats, barrier);
         release(&mut self.seats, barrier);
+        self.waits = self.waits.saturating_sub(there);
+    }
+
+    // Whether a thread that comes to this barrier is not the last of the stated number.
+    fn waits_for_more(&self, barrier: u32) -> bool
+        requires walks { WalksStand self.now }
+        ensures { result ≡ nat_lt (count_by (waits_at barrier) (table self.now).seats + 1) (unwrap_or (slice_get (table self.now).barriers barrier) 0) }
+    {
+        let stated = stated(&self.barriers, barrier) as usize;
+        self.waits.saturating_add(1) < stated || waiting(&self.seats, barrier) + 1 < stated
     }
 
     // A thread comes to a barrier. Where the stated number of threads are there, it goes on and all others may.
     fn come(&mut self, t: u32, barrier: u32) -> Turn
         requires exists { t < length self.old.seats.items }
-        requires live { t < self.old.live }
-        requires mark { MarkStands self.old }
+        requires live { is_known_end (next_of (table self.old) t) ≡ false }
+        requires walks { WalksStand self.old }
         requires few { length self.old.seats.items ≤ MOST_THREADS }
         requires spare { vec_len self.old.seats < vec_capacity self.old.seats }
         ensures answer { (next : Next) → next_of (table self.old) t ≡ Some next → next.sync ≡ sync.Barrier barrier → stand_of (table self.old) t ≡ Away → Answered (tried (sync.Barrier barrier) (table self.old) t next) (table self.old) result (table self.new) }
         ensures capacity { vec_capacity self.new.seats ≡ vec_capacity self.old.seats }
-        ensures mark { MarkStands self.new }
+        ensures walks { WalksStand self.new }
     {
-        if waiting(&self.seats, barrier) + 1 < stated(&self.barriers, barrier) as usize {
+        if self.waits_for_more(barrier) {
             self.arrive(t);
             self.pass(t);
             return Turn::Pass;
@@ -313,13 +323,13 @@ impl Threads {
     // A released thread goes on, and one that has arrived waits.
     fn meet(&mut self, t: u32, barrier: u32) -> Turn
         requires exists { t < length self.old.seats.items }
-        requires live { t < self.old.live }
-        requires mark { MarkStands self.old }
+        requires live { is_known_end (next_of (table self.old) t) ≡ false }
+        requires walks { WalksStand self.old }
         requires few { length self.old.seats.items ≤ MOST_THREADS }
         requires spare { vec_len self.old.seats < vec_capacity self.old.seats }
         ensures answer { (next : Next) → next_of (table self.old) t ≡ Some next → next.sync ≡ sync.Barrier barrier → Answered (tried (sync.Barrier barrier) (table self.old) t next) (table self.old) result (table self.new) }
         ensures capacity { vec_capacity self.new.seats ≡ vec_capacity self.old.seats }
-        ensures mark { MarkStands self.new }
+        ensures walks { WalksStand self.new }
     {
         if is_released(&self.seats[t as usize]) {
             return self.issue(t);
@@ -333,6 +343,7 @@ impl Threads {
 
     // Every thread that has not ended has passed.
     fn deadlock(&self) -> Turn
+        requires walks { WalksStand self.now }
         requires few { length self.now.seats.items ≤ MOST_THREADS }
         ensures { Answered (deadlocked (look (table self.now) (all_threads (table self.now)))) (table self.now) result (table self.now) }
     {
@@ -372,7 +383,7 @@ impl Threads {
         requires spare { vec_len self.old.seats < vec_capacity self.old.seats }
         ensures answer { Answered (Rattle.task_ast.specs.meaning.Turn.turn (table self.old)) (table self.old) result (table self.new) }
         ensures capacity { vec_capacity self.new.seats ≡ vec_capacity self.old.seats }
-        ensures mark { MarkStands self.new }
+        ensures walks { WalksStand self.new }
     {
         let Some(t) = self.token_at() else {
             return Turn::Ended(End::Finished);
@@ -484,7 +495,8 @@ fn waiting(seats: &[Seat], barrier: u32) -> usize
 
 // The threads that wait at this barrier are released.
 fn release(seats: &mut [Seat], barrier: u32)
-    ensures { map seat_of seats.new ≡ map (released_at barrier) (map seat_of seats.old) }
+    ensures seats { map seat_of seats.new ≡ map (released_at barrier) (map seat_of seats.old) }
+    ensures onward { map onward_of seats.new ≡ map onward_of seats.old }
 {
     for seat in seats.iter_mut() {
         if is_waiting(seat, barrier) {
