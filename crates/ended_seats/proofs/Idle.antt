@@ -6,16 +6,16 @@ use Rattle.std.proofs.lemmas.List.{length_push}
 use Rattle.std.proofs.lemmas.Option.{slice_get_within}
 use Rattle.task_ast.specs.declared.sync.SyncOp.{SyncOp}
 use Rattle.task_ast.specs.declared.sync.SyncOp.TheVariants as sync
-use Rattle.task_ast.specs.Table.{has_ended, is_known_end}
-use Rattle.task_ast.specs.meaning.Table.{Seat, Table, Released, numbers, next_of, unpassed, with_nth, new_seat, waits_at}
-use Rattle.task_ast.specs.meaning.Turn.{look, released_at, seats_after}
+use Rattle.task_ast.specs.Table.{has_ended, is_known_end, Seat, Table, next_of, unpassed, new_seat, waits_at}
+use Rattle.task_ast.specs.meaning.Table.{Released, numbers, with_nth}
+use Rattle.task_ast.specs.Turn.{look, released_at, seats_after}
 use Rattle.task_ast.proofs.Looks.{skipped, numbers-first}
 use Rattle.task_ast.proofs.Rounds.{other_nth}
 use Rattle.task_ast.proofs.SeenSeats.{look-past}
 use Rattle.ended_seats.specs.Idle.{is_idle, idle_at, passed_at, IdleBetween}
 
 -- what an idle thread is
-ended : (seat : Seat) → is_idle seat ≡ true → has_ended seat ≡ true
+pub ended : (seat : Seat) → is_idle seat ≡ true → has_ended seat ≡ true
 ended seat e = go (has_ended seat) (not seat.passed) e
   where
     go : (a b : Bool) → a && b ≡ true → a ≡ true

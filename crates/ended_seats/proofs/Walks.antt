@@ -4,8 +4,9 @@ use Rattle.std.specs.Prelude.{slice_get}
 use Rattle.std.proofs.lemmas.Bool.{false≢true, cases_lt, cases_eq}
 use Rattle.task_ast.specs.declared.sync.SyncOp.{SyncOp}
 use Rattle.task_ast.specs.declared.sync.SyncOp.TheVariants as sync
-use Rattle.task_ast.specs.meaning.Table.{Seat, Released, is_waiting, meets, unpassed, with_nth, new_seat, waits_at}
-use Rattle.task_ast.specs.meaning.Turn.{released_at, seats_after}
+use Rattle.task_ast.specs.Table.{Seat, unpassed, new_seat, waits_at, is_known_end}
+use Rattle.task_ast.specs.meaning.Table.{Released, is_waiting, meets, with_nth}
+use Rattle.task_ast.specs.Turn.{released_at, seats_after}
 use Rattle.task_ast.proofs.ChangedSeats.{map-replaced, released-waiting, released-other}
 use Rattle.task_ast.proofs.Counting.{length-with_nth, one, count-cons, count-with_nth, count-map, get-with_nth}
 use Rattle.task_ast.proofs.Rounds.{other_nth, keeps_map}
@@ -13,7 +14,11 @@ use Rattle.task_ast.proofs.SeenSeats.{seen-at}
 use Rattle.ended_seats.specs.Idle.{is_idle, idle_at, passed_at, waits, IdleBetween, IdleOver, Uncovered, PassedWithin, Walks, onward_after}
 use Rattle.std.proofs.lemmas.Option.{slice_get-map}
 use Rattle.task_ast.specs.Looking.{begun}
-use Rattle.task_ast.specs.Table.{is_known_end}
+use Rattle.task_ast.specs.declared.sync.Next.{Next}
+use Rattle.std.proofs.Common.{take, Option, None}
+use Rattle.task_ast.proofs.ChangedSeats.{first_mapped}
+use Rattle.task_ast.specs.meaning.Table.{is_end}
+use Rattle.ended_seats.proofs.Idle.{ended}
 use Rattle.ended_seats.proofs.Idle.{not_idle, idle_fresh, idle_unpassed, idle_released, idle_after, grows}
 use Rattle.std.proofs.lemmas.List.{length-map}
 use Rattle.std.proofs.lemmas.List.Sums.{count_by-le-length}
@@ -396,3 +401,103 @@ begun_as view onward items t x y position first last most at live same is walks 
     put_live view onward items t x y first last most first last most at live same (λ u a b. (a, b))
     (λ e. absurd (false≢true (sym (ap (λ s. s.passed) is) ∙ e)))
     (λ n a b. let none : one (waits (view y)) ≡ 0 = ap (λ s. one (waits s)) is in omega (arith, a, none)) walks
+
+-- an idle thread waits at no barrier
+idle_waits : (b : ℕ) (seat : Seat) → is_idle seat ≡ true → waits_at b seat ≡ false
+idle_waits b seat e = go seat.next (is_waiting seat.stand) (ended seat e)
+  where
+    ends : (op : SyncOp) → is_end op ≡ true → (line : ℕ) → meets b (Some (record { sync = op; line = line })) ≡ false
+    ends sync.End e line = refl
+    ends sync.Start e line = absurd (false≢true e)
+    ends (sync.Lock l) e line = absurd (false≢true e)
+    ends (sync.Unlock l) e line = absurd (false≢true e)
+    ends (sync.Fork task arguments) e line = absurd (false≢true e)
+    ends (sync.Join h) e line = absurd (false≢true e)
+    ends (sync.Barrier c) e line = absurd (false≢true e)
+    ends (sync.Settle register control) e line = absurd (false≢true e)
+    ends sync.BadIndex e line = absurd (false≢true e)
+    ends sync.Spent e line = absurd (false≢true e)
+
+    go : (o : Option Next) (w : Bool) → is_known_end o ≡ true → cond w (meets b o) false ≡ false
+    go o false e = refl
+    go None true e = refl
+    go (Some next) true e = ends next.sync e next.line
+
+idle_tail : (t n : ℕ) (x : Seat) (xs : List Seat) → IdleBetween (suc t) n (x ∷ xs) → IdleBetween t (n - 1) xs
+idle_tail t n x xs idle u l m = idle (suc u) (omega (arith, l)) (omega (arith, m))
+
+none_waits : (b n : ℕ) (seats : List Seat) → IdleBetween 0 n seats → count_by (waits_at b) (take n seats) ≡ 0
+none_waits b zero seats idle = refl
+none_waits b (suc n) [] idle = refl
+none_waits b (suc n) (x ∷ xs) idle =
+    let first = count-cons (waits_at b) x (take n xs) in
+    let none : one (waits_at b x) ≡ 0 = ap one (idle_waits b x (idle 0 (omega arith) (omega arith))) in
+    let rest = none_waits b n xs (λ u l m. idle (suc u) (omega arith) (omega (arith, m))) in
+    omega (arith, first, none, rest)
+
+-- a walk counts those that wait at a barrier
+pub counted : (b t n : ℕ) (seats : List Seat) (seat : Seat) → slice_get seats t ≡ Some seat → IdleBetween t n seats
+    → count_by (waits_at b) (take (max (t + 1) n) seats) ≡ count_by (waits_at b) (take t seats) + one (waits_at b seat)
+counted b t n [] seat at idle = absurd (cc at)
+counted b zero n (x ∷ xs) seat at idle =
+    let same : x ≡ seat = cc at in
+    let e : max (0 + 1) n ≡ suc (n - 1) = omega arith in
+    let first = count-cons (waits_at b) x (take (n - 1) xs) in
+    let none = none_waits b (n - 1) xs (λ u l m. idle (suc u) (omega arith) (omega (arith, m))) in
+    let here : one (waits_at b x) ≡ one (waits_at b seat) = ap (λ s. one (waits_at b s)) same in
+    ap (λ k. count_by (waits_at b) (take k (x ∷ xs))) e ∙ omega (arith, first, none, here)
+counted b (suc t) n (x ∷ xs) seat at idle =
+    let e : max (suc t + 1) n ≡ suc (max (t + 1) (n - 1)) = omega arith in
+    let first = count-cons (waits_at b) x (take (max (t + 1) (n - 1)) xs) in
+    let old = count-cons (waits_at b) x (take t xs) in
+    let rest = counted b t (n - 1) xs seat at (idle_tail t n x xs idle) in
+    ap (λ k. count_by (waits_at b) (take k (x ∷ xs))) e ∙ omega (arith, first, old, rest)
+
+idle_released_same : (b : ℕ) (seat : Seat) → is_idle seat ≡ true → released_at b seat ≡ seat
+idle_released_same b seat e = released-other b seat (idle_waits b seat e)
+
+releases_none : (b n : ℕ) (seats : List Seat) → IdleBetween 0 n seats → first_mapped (released_at b) n seats ≡ seats
+releases_none b zero seats idle = refl
+releases_none b (suc n) [] idle = refl
+releases_none b (suc n) (x ∷ xs) idle =
+    ap (λ y. y ∷ first_mapped (released_at b) n xs) (idle_released_same b x (idle 0 (omega arith) (omega arith)))
+    ∙ ap (λ ys. x ∷ ys) (releases_none b n xs (λ u l m. idle (suc u) (omega arith) (omega (arith, m))))
+
+-- a walk releases those that wait at a barrier
+pub releases : (b t n : ℕ) (seats : List Seat) → IdleBetween t n seats
+    → first_mapped (released_at b) (t + 1) seats ≡ first_mapped (released_at b) (max (t + 1) n) seats
+releases b t n [] idle =
+    let e : max (t + 1) n ≡ suc (max t (n - 1)) = omega arith in
+    let f : t + 1 ≡ suc t = omega arith in
+    ap (λ k. first_mapped (released_at b) k []) f ∙ sym (ap (λ k. first_mapped (released_at b) k []) e)
+releases b zero n (x ∷ xs) idle =
+    let e : max (0 + 1) n ≡ suc (n - 1) = omega arith in
+    sym (ap (λ k. first_mapped (released_at b) k (x ∷ xs)) e
+    ∙ ap (λ ys. released_at b x ∷ ys) (releases_none b (n - 1) xs (λ u l m. idle (suc u) (omega arith) (omega (arith, m)))))
+releases b (suc t) n (x ∷ xs) idle =
+    let e : max (suc t + 1) n ≡ suc (max (t + 1) (n - 1)) = omega arith in
+    let f : suc t + 1 ≡ suc (t + 1) = omega arith in
+    ap (λ k. first_mapped (released_at b) k (x ∷ xs)) f ∙ ap (λ ys. released_at b x ∷ ys) (releases b t (n - 1) xs (idle_tail t n x xs idle))
+    ∙ sym (ap (λ k. first_mapped (released_at b) k (x ∷ xs)) e)
+
+-- a walk that has come to the end has released all that wait
+pub releases_all : (b t : ℕ) (seats : List Seat) → length seats ≤ t → first_mapped (released_at b) t seats ≡ map (released_at b) seats
+releases_all b zero [] l = refl
+releases_all b zero (x ∷ xs) l = absurd (omega (arith, l))
+releases_all b (suc t) [] l = refl
+releases_all b (suc t) (x ∷ xs) l = ap (λ ys. released_at b x ∷ ys) (releases_all b t xs (omega (arith, l)))
+
+-- and has counted them
+pub counted_all : (b t : ℕ) (seats : List Seat) → length seats ≤ t → count_by (waits_at b) (take t seats) ≡ count_by (waits_at b) seats
+counted_all b zero [] l = refl
+counted_all b zero (x ∷ xs) l = absurd (omega (arith, l))
+counted_all b (suc t) [] l = refl
+counted_all b (suc t) (x ∷ xs) l =
+    let first = count-cons (waits_at b) x (take t xs) in
+    let all = count-cons (waits_at b) x xs in
+    let rest = counted_all b t xs (omega (arith, l)) in
+    omega (arith, first, all, rest)
+
+-- what is read twice is the same
+pub same_read : {X : Type 0} (xs : List X) (t : ℕ) (x y : X) → slice_get xs t ≡ Some x → slice_get xs t ≡ Some y → x ≡ y
+same_read xs t x y one two = cc (sym one ∙ two)

@@ -3,8 +3,8 @@ use Rattle.std.specs.Prelude.{◌≡◌, ℕ, ◌<◌, ◌≤◌, Bool, true, fa
 use Rattle.std.specs.Option.{option_map}
 use Rattle.task_ast.specs.declared.sync.SyncOp.{SyncOp}
 use Rattle.task_ast.specs.declared.sync.SyncOp.TheVariants as sync
-use Rattle.task_ast.specs.Table.{has_ended}
-use Rattle.task_ast.specs.meaning.Table.{Seat, is_waiting}
+use Rattle.task_ast.specs.Table.{has_ended, Seat}
+use Rattle.task_ast.specs.meaning.Table.{is_waiting}
 
 -- whether a thread is known to have ended, and has not passed
 abbrev pub is_idle : Seat → Bool

@@ -1,8 +1,9 @@
 -- Laws of threads that are idle.
 use Rattle.std.specs.Prelude.{◌≡◌, ℕ, ◌-◌, ◌≤◌, false, List, map, Some, slice_get}
 use Rattle.task_ast.specs.declared.sync.SyncOp.{SyncOp}
-use Rattle.task_ast.specs.meaning.Table.{Seat, Table, numbers, unpassed, with_nth}
-use Rattle.task_ast.specs.meaning.Turn.{look, released_at, seats_after}
+use Rattle.task_ast.specs.Table.{Seat, Table, unpassed}
+use Rattle.task_ast.specs.meaning.Table.{numbers, with_nth}
+use Rattle.task_ast.specs.Turn.{look, released_at, seats_after}
 use Rattle.ended_seats.specs.Idle.{is_idle, IdleBetween}
 
 -- a look finds what it finds from the first thread on that is not idle

@@ -16,9 +16,12 @@ use Rattle.task_ast.specs.meaning.State.{number_at, cell_value}
 use Rattle.task_ast.specs.meaning.Action.{Action}
 use Rattle.task_ast.specs.meaning.Footprint.{named_by}
 use Rattle.task_ast.specs.meaning.Repeat.{Move, Goes, Ends, steps, state_after, steps_from, state_from}
-use Rattle.task_ast.specs.meaning.Table.{Table as PlainTable, numbers, owned_from}
-use Rattle.task_ast.specs.meaning.Turn.{Turn as PlainTurn, Issue, next_issue, child_of}
-use Rattle.task_ast.specs.meaning.Plain.{Subthread, Plain, on_turn, move, opening, last_state, ending_of}
+use Rattle.task_ast.specs.meaning.Table.{numbers, owned_from}
+use Rattle.task_ast.specs.Table.{Table as PlainTable}
+use Rattle.task_ast.specs.meaning.Turn.{child_of}
+use Rattle.task_ast.specs.Turn.{Turn as PlainTurn, Issue, next_issue}
+use Rattle.task_ast.specs.meaning.Plain.{Subthread, ending_of}
+use Rattle.task_ast.specs.Plain.{Plain, on_turn, move, opening, last_state}
 use Rattle.task_ast.specs.View.{plain_program}
 use Rattle.task_ast.proofs.Counting.{length-with_nth}
 use Rattle.one_thread.specs.declared.seats.Table.{Table}
@@ -26,7 +29,7 @@ use Rattle.one_thread.specs.declared.threads.Run.{Run}
 use Rattle.one_thread.specs.declared.run.Step.{Step}
 use Rattle.one_thread.specs.declared.run.Move.{Move as Found}
 use Rattle.one_thread.specs.inner.Holding.{AreHeld}
-use Rattle.one_thread.specs.inner.View.{table_of, seat_of, MarkStands}
+use Rattle.one_thread.specs.inner.View.{table_of, seat_of, WalksStand}
 use Rattle.one_thread.specs.inner.Walking.{point_of}
 use Rattle.one_thread.specs.inner.Runs.{Holds, grown}
 use Rattle.one_thread.specs.PlainRuns.{shown, IsPlainRun}
@@ -79,10 +82,10 @@ module _ (code : Code) (inputs : Inputs) (limits : Limits) (old : Run) (plain : 
     abbrev plain_mid : Plain
     plain_mid = record plain { table = table_of after }
 
-    pub issue-goes : AreHeld after.owners.owners.items after.owners.held.items → MarkStands after → length old.threads.items ≡ length old.table.seats.items
+    pub issue-goes : AreHeld after.owners.owners.items after.owners.held.items → WalksStand after → length old.threads.items ≡ length old.table.seats.items
         → next_issue (table_of old.table) ≡ Issue t begins child (table_of after)
         → Stepped mid t begins child step new → Went code inputs limits plain step new
-    issue-goes held mark alike is stepped =
+    issue-goes held walks alike is stepped =
         record {
           subthread = _;
           then = after_it code inputs limits mid plain_mid holds_mid t begins child stepped.told new stepped.performed;
@@ -128,7 +131,7 @@ module _ (code : Code) (inputs : Inputs) (limits : Limits) (old : Run) (plain : 
               turns = holds.turns;
               feeds = holds.feeds;
               held = held;
-              mark = mark;
+              walks = walks;
               table = refl;
               sound = holds.sound;
               points = holds.points;

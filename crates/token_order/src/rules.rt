@@ -6,14 +6,15 @@ ghost use Rattle.gp_base.specs.declared.ending.End.TheVariants as ends;
 ghost use Rattle.gp_base.specs.declared.limits.TheConstants.{MOST_THREADS};
 ghost use Rattle.task_ast.specs.Looking.{begun, joined_in, is_free_to_go};
 ghost use Rattle.task_ast.specs.declared.sync.SyncOp.TheVariants as sync;
-ghost use Rattle.task_ast.specs.Table.{is_known_end};
+ghost use Rattle.task_ast.specs.Table.{is_known_end, next_of, waits_at, owner_in};
+ghost use Rattle.task_ast.specs.meaning.Table.{Away, numbers};
+ghost use Rattle.task_ast.specs.Turn.{tried, issuing, passing, look, seats_after, deadlocked, arrived, stand_of, released_at};
+ghost use Rattle.task_ast.specs.meaning.Turn.{owners_after, child_of};
 ghost use Rattle.task_ast.specs.meaning.Repeat.{More};
-ghost use Rattle.task_ast.specs.meaning.Table.{Away, next_of, waits_at};
-ghost use Rattle.task_ast.specs.meaning.Turn.{tried, issuing, passing, look, owners_after, seats_after, child_of, deadlocked, all_threads, arrived, stand_of, released_at};
 ghost use Rattle.ended_seats.specs.Idle.{onward_after};
 ghost use Rattle.token_order.specs.View.{table, seat_of, onward_of, StandsInside, WalksStand};
 ghost use Rattle.token_order.specs.declared.rules.Turn.TheVariants as here;
-ghost use Rattle.token_order.specs.Turned.{Answered, is_let, waits_ahead};
+ghost use Rattle.token_order.specs.Turned.{Answered, is_let, goes_ahead};
 
 use crate::threads::{Passed, Seat, Stand, Threads, has_ended, new_seat, unpass_all};
 use gp_base::limits::MOST_THREADS;
@@ -89,7 +90,7 @@ fn add_child(seats: &mut Vec<Seat>, sync: &SyncOp) -> Option<ThreadNo>
 
 // Whether nobody owns the lock.
 fn is_free(owners: &[Option<u32>], lock: u32) -> bool
-    ensures { result ≡ is_none (option_and_then (λ o. o) (slice_get owners.now lock)) }
+    ensures { result ≡ is_none (owner_in owners.now lock) }
 {
     match owners.get(lock as usize) {
         Some(owner) => owner.is_none(),
@@ -124,19 +125,23 @@ fn joined(h: i64, threads: usize) -> Option<u32>
 }
 
 impl Threads {
-    // Whether the thread that the token comes to waits at a barrier.
-    fn waits_ahead(&self) -> bool
+    // Whether the thread that the token comes to goes on at this barrier.
+    fn goes_ahead(&self, barrier: u32) -> bool
         requires inside { StandsInside self.now }
-        ensures { result ≡ waits_ahead (table self.now) }
+        ensures { result ≡ goes_ahead barrier (table self.now) }
     {
-        match self.token_at() {
-            Some(t) => stands_waiting(&self.seats[t as usize]),
-            None => false,
+        let Some(t) = self.token_at() else {
+            return true;
+        };
+        let seat = &self.seats[t as usize];
+        if is_away(seat) {
+            return !self.waits_for_more(barrier);
         }
+        is_released(seat)
     }
 
     /// Whether the thread that the token comes to, which stands at it, isn't kept back: nobody owns its lock, the thread
-    /// that it joins is known to have ended, and it does not wait at a barrier.
+    /// that it joins is known to have ended, and at a barrier it was released, or is the last of the stated number.
     pub fn lets(&self, sync: &SyncOp) -> bool
         requires inside { StandsInside self.now }
         ensures { result ≡ is_let (table self.now) sync.now }
@@ -144,7 +149,7 @@ impl Threads {
         match sync {
             SyncOp::Lock(lock) => is_free(&self.owners, lock.0),
             SyncOp::Join(thread) => *thread >= 0 && is_over(&self.seats, *thread as usize),
-            SyncOp::Barrier(_) => !self.waits_ahead(),
+            SyncOp::Barrier(barrier) => self.goes_ahead(*barrier),
             _ => true,
         }
     }
@@ -345,7 +350,7 @@ impl Threads {
     fn deadlock(&self) -> Turn
         requires walks { WalksStand self.now }
         requires few { length self.now.seats.items ≤ MOST_THREADS }
-        ensures { Answered (deadlocked (look (table self.now) (all_threads (table self.now)))) (table self.now) result (table self.now) }
+        ensures { Answered (deadlocked (look (table self.now) (numbers 0 (length (table self.now).seats)))) (table self.now) result (table self.now) }
     {
         let Some(t) = self.first_live(0, self.seats.len()) else {
             return Turn::Ended(End::Finished);
@@ -359,7 +364,7 @@ impl Threads {
     /// The thread that the next turn would issue with a settle.
     pub fn settling(&self) -> Option<u32>
         requires inside { StandsInside self.now }
-        ensures { result ≡ Rattle.token_order.specs.Turned.settling_in (Rattle.task_ast.specs.meaning.Turn.turn (table self.now)) }
+        ensures { result ≡ Rattle.token_order.specs.Turned.settling_in (Rattle.task_ast.specs.Turn.turn (table self.now)) }
     {
         if self.limit <= self.issued {
             return None;
@@ -381,7 +386,7 @@ impl Threads {
     pub fn turn(&mut self) -> Turn
         requires inside { StandsInside self.old }
         requires spare { vec_len self.old.seats < vec_capacity self.old.seats }
-        ensures answer { Answered (Rattle.task_ast.specs.meaning.Turn.turn (table self.old)) (table self.old) result (table self.new) }
+        ensures answer { Answered (Rattle.task_ast.specs.Turn.turn (table self.old)) (table self.old) result (table self.new) }
         ensures capacity { vec_capacity self.new.seats ≡ vec_capacity self.old.seats }
         ensures walks { WalksStand self.new }
     {
@@ -450,13 +455,6 @@ fn stated(barriers: &[u32], barrier: u32) -> u32
         Some(number) => *number,
         None => 0,
     }
-}
-
-// Whether the thread has arrived and isn't released.
-fn stands_waiting(seat: &Seat) -> bool
-    ensures { result ≡ Rattle.task_ast.specs.meaning.Table.is_waiting (seat_of seat.now).stand }
-{
-    matches!(seat.stand, Stand::Waits)
 }
 
 // Whether the thread waits at this barrier.

@@ -4,9 +4,9 @@ ghost use Rattle.std.specs.Prelude.{◌≡◌, ℕ, ◌<◌, ◌≤◌, ◌-◌,
 ghost use Rattle.gp_base.specs.declared.limits.TheConstants.{MOST_THREADS};
 ghost use Rattle.task_ast.specs.Looking.{start_of, look_of};
 ghost use Rattle.task_ast.specs.Reached.{start_table};
-ghost use Rattle.task_ast.specs.meaning.Table.{numbers, ring, next_of, learning, unpassed};
-ghost use Rattle.task_ast.specs.meaning.Turn.{look};
-ghost use Rattle.task_ast.specs.Table.{is_known_end};
+ghost use Rattle.task_ast.specs.Table.{next_of, is_known_end, learning, unpassed};
+ghost use Rattle.task_ast.specs.meaning.Table.{numbers, ring};
+ghost use Rattle.task_ast.specs.Turn.{look};
 ghost use Rattle.ended_seats.specs.Idle.{is_idle, IdleBetween, IdleOver, Uncovered, PassedWithin};
 ghost use Rattle.token_order.specs.View.{table, seat_of, onward_of, StandsInside, WalksStand};
 
@@ -57,7 +57,7 @@ pub struct Threads {
 
 /// A thread that has begun no subthread.
 pub fn new_seat(next: Next) -> Seat
-    ensures seat { seat_of result ≡ record (Rattle.task_ast.specs.meaning.Table.new_seat) { next = Some next } }
+    ensures seat { seat_of result ≡ record (Rattle.task_ast.specs.Table.new_seat) { next = Some next } }
     ensures onward { result.onward ≡ 0 }
 {
     Seat {

@@ -1,8 +1,8 @@
 use Rattle.std.proofs.Common.{◌∙◌, sym, ap, arith, map, length, ◌<◌, refl}
 use Rattle.std.proofs.lemmas.List.{length-map}
 use Rattle.std.proofs.lemmas.Option.{slice_get-get_or}
-use Rattle.task_ast.specs.meaning.Turn.{released_at}
 use Rattle.token_order.specs.View.{seat_of, onward_of}
+use Rattle.task_ast.specs.Turn.{released_at}
 use Rattle.task_ast.proofs.ChangedSeats.{first_mapped-all, released-waiting, released-other}
 use Rattle.task_ast.proofs.SeenSeats.{first_mapped-next}
 use Rattle.ended_seats.proofs.Walks.{map-kept}

@@ -4,6 +4,7 @@ use Rattle.std.proofs.lemmas.Option.{slice_get-get_or}
 use Rattle.token_order.specs.View.{seat_of, onward_of}
 use Rattle.ended_seats.specs.Idle.{IdleOver}
 use Rattle.ended_seats.proofs.Walks.{Clearing, map-kept, over, clearing_start, clearing_step, clearing_done}
+use Rattle.task_ast.specs.Table.{unpassed}
 use Rattle.token_order.proofs.threads.unpass_all.Goals as goal
 
 pub loop-t-preserved : goal.loop-t-preserved

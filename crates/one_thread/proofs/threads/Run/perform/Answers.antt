@@ -5,7 +5,7 @@ use Rattle.task_ast.specs.View.{plain_task}
 use Rattle.one_thread.specs.inner.Subthreads.{settled, RanWith}
 use Rattle.one_thread.specs.inner.Runs.{joined_of}
 use Rattle.one_thread.specs.inner.View.{table_of}
-use Rattle.task_ast.specs.meaning.Table.{learning}
+use Rattle.task_ast.specs.Table.{learning}
 use Rattle.task_ast.proofs.Looks.{get-at}
 use Rattle.one_thread.proofs.threads.Run.perform.Goals as goal
 
@@ -56,7 +56,7 @@ returns g c =
       threads = c.in_ok-add.ensures.threads;
       table = c.learn.ensures.table ∙ ap (λ t. learning (table_of t) c.args.t c.in_ok-done.done.next) c.in_ok-add.ensures.table;
       owners = c.learn.ensures.owners ∙ ap (λ t. t.owners) c.in_ok-add.ensures.table;
-      mark = c.learn.ensures.mark;
+      walks = c.learn.ensures.walks;
       told_is = refl;
       program = c.in_ok-add.ensures.program;
       slots = c.in_ok-add.ensures.slots;

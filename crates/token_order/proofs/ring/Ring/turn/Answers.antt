@@ -1,5 +1,5 @@
 use Rattle.std.proofs.Common.{◌≡◌, sym, ap, ◌∙◌, subst, refl, length, ℕ}
-use Rattle.task_ast.specs.meaning.Table.{Table}
+use Rattle.task_ast.specs.Table.{Table}
 use Rattle.token_order.specs.View.{Roomy, table}
 use Rattle.token_order.specs.Turned.{Answered, LeavesRoom}
 use Rattle.token_order.specs.Standing.{spare_of}

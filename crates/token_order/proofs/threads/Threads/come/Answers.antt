@@ -1,8 +1,8 @@
 use Rattle.std.proofs.Common.{◌+◌, ◌∙◌, ℕ, sym, ap, refl, subst, map, count_by, unwrap_or, rules, ◌<◌}
 use Rattle.std.specs.Prelude.{slice_get}
 use Rattle.std.proofs.lemmas.Bool.{le-ltb, ltb-true, ltb-false}
-use Rattle.task_ast.specs.meaning.Table.{Table, next_of, waits_at}
-use Rattle.task_ast.specs.meaning.Turn.{issuing, passing}
+use Rattle.task_ast.specs.Table.{Table, waits_at, next_of}
+use Rattle.task_ast.specs.Turn.{issuing, passing}
 use Rattle.token_order.specs.View.{table}
 use Rattle.token_order.specs.Turned.{Answered}
 use Rattle.token_order.proofs.Barriers.{comes, one_waits, last_goes, spent_issue}

@@ -6,9 +6,9 @@ use Rattle.task_ast.proofs.Looks.{get-at}
 use Rattle.task_ast.proofs.SeenSeats.{issued-as}
 use Rattle.ended_seats.specs.Idle.{IdleOver, PassedWithin, Walks}
 use Rattle.token_order.specs.View.{table, seat_of, onward_of}
-use Rattle.task_ast.specs.meaning.Table.{unpassed}
 use Rattle.ended_seats.proofs.Walks.{put_live, begun_as, cleared_as, issued_as}
 use Rattle.token_order.specs.declared.threads.Threads.{Threads}
+use Rattle.task_ast.specs.Table.{unpassed}
 use Rattle.token_order.proofs.threads.Threads.issue.Goals as goal
 use Rattle.token_order.proofs.threads.Threads.issue.Goals.{After-begin}
 

@@ -4,9 +4,8 @@ use Rattle.std.specs.Option.{option_and_then}
 use Rattle.std.specs.Vec.{with_items}
 use Rattle.std.proofs.lemmas.List.{with_items_is}
 use Rattle.ended_seats.specs.Idle.{Walks}
-use Rattle.task_ast.specs.Table.{is_known_end}
-use Rattle.task_ast.specs.meaning.Table.{waits_at}
-use Rattle.task_ast.specs.meaning.Turn.{released_at}
+use Rattle.task_ast.specs.Table.{is_known_end, waits_at}
+use Rattle.task_ast.specs.Turn.{released_at}
 use Rattle.token_order.specs.View.{seat_of, onward_of}
 use Rattle.ended_seats.proofs.Walks.{released_as, released_next}
 use Rattle.token_order.proofs.threads.Threads.open.Goals as goal

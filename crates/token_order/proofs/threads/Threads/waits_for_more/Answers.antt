@@ -1,7 +1,7 @@
 use Rattle.std.proofs.Common.{◌≡◌, ◌<◌, ◌≤◌, ◌+◌, ◌∙◌, sym, map, count_by, unwrap_or, arith, rules}
 use Rattle.std.specs.Prelude.{slice_get}
 use Rattle.std.proofs.lemmas.Bool.{lt-ltb}
-use Rattle.task_ast.specs.meaning.Table.{waits_at}
+use Rattle.task_ast.specs.Table.{waits_at}
 use Rattle.token_order.specs.View.{seat_of}
 use Rattle.ended_seats.proofs.Walks.{waits_most}
 use Rattle.token_order.proofs.threads.Threads.waits_for_more.Goals as goal
