@@ -7,7 +7,7 @@ use Rattle.task_ast.specs.declared.sync.SyncOp.{SyncOp}
 use Rattle.task_ast.specs.declared.sync.SyncOp.TheVariants as sync
 use Rattle.task_ast.specs.declared.sync.Next.{Next}
 use Rattle.task_ast.specs.meaning.Repeat.{Done}
-use Rattle.task_ast.specs.meaning.Table.{Stand, Away, Waits, Released, ring, is_waiting, numbers}
+use Rattle.task_ast.specs.meaning.Table.{Stand, Away, Waits, Released, ring, numbers}
 use Rattle.task_ast.specs.Table.{Table, next_of, waits_at}
 use Rattle.task_ast.specs.Turn.{Turn, Issue, Look, To, Unknown, NoThread, look, turn, tried, at_look, deadlocked, has_passed, stand_of}
 use Rattle.task_ast.specs.laws.Threads.{MayBegin, tries}
@@ -28,9 +28,10 @@ goes table t b next Away answer e known meets is = go (nat_lt (count_by (waits_a
         absurd (cc (sym (one_waits table t b _ _ next (comes table t b next known meets e) e refl refl (ltb-true _ _ few)) ∙ is))
 
 some_pair : {t u : ℕ} {a b : Next} → ◌≡◌ {A = Option (ℕ × Next)} (Some (t, a)) (Some (u, b)) → (t ≡ u) × (a ≡ b)
-some_pair {t} {u} {a} {b} e =
-    (ap (λ (o : Option (ℕ × Next)). unwrap_or (option_map (λ (x : ℕ × Next). x.0) o) t) e,
-    ap (λ (o : Option (ℕ × Next)). unwrap_or (option_map (λ (x : ℕ × Next). x.1) o) a) e)
+some_pair {t} {u} {a} {b} e = (
+  ap (λ (o : Option (ℕ × Next)). unwrap_or (option_map (λ (x : ℕ × Next). x.0) o) t) e,
+  ap (λ (o : Option (ℕ × Next)). unwrap_or (option_map (λ (x : ℕ × Next). x.1) o) a) e,
+)
 
 -- so one that is issued at a barrier goes on there
 goes_at : (table : Table) (l : Look) (t b : ℕ) (next : Next) (answer : Turn) → tries l table ≡ Some (t, next) → next_of table t ≡ Some next

@@ -11,7 +11,7 @@ ghost use Rattle.task_ast.specs.meaning.Table.{Away, numbers};
 ghost use Rattle.task_ast.specs.Turn.{tried, issuing, passing, look, seats_after, deadlocked, arrived, stand_of, released_at};
 ghost use Rattle.task_ast.specs.meaning.Turn.{owners_after, child_of};
 ghost use Rattle.task_ast.specs.meaning.Repeat.{More};
-ghost use Rattle.ended_seats.specs.Idle.{onward_after};
+ghost use Rattle.ended_seats.specs.Idle.{IdleOver, onward_after};
 ghost use Rattle.token_order.specs.View.{table, seat_of, onward_of, StandsInside, WalksStand};
 ghost use Rattle.token_order.specs.declared.rules.Turn.TheVariants as here;
 ghost use Rattle.token_order.specs.Turned.{Answered, is_let, goes_ahead};
@@ -479,27 +479,35 @@ fn is_waiting(seat: &Seat, barrier: u32) -> bool
 
 // How many threads wait at this barrier.
 fn waiting(seats: &[Seat], barrier: u32) -> usize
+    requires idle { IdleOver (map onward_of seats.now) (map seat_of seats.now) }
     ensures number { result ≡ count_by (waits_at barrier) (map seat_of seats.now) }
     ensures most { result ≤ length seats.now }
 {
     let mut number: usize = 0;
-    for seat in seats {
+    let mut t = 0;
+    while t < seats.len() {
+        let seat = &seats[t];
         if is_waiting(seat, barrier) {
             number += 1;
         }
+        t = (t + 1).max(seat.onward);
     }
     number
 }
 
 // The threads that wait at this barrier are released.
 fn release(seats: &mut [Seat], barrier: u32)
+    requires idle { IdleOver (map onward_of seats.old) (map seat_of seats.old) }
     ensures seats { map seat_of seats.new ≡ map (released_at barrier) (map seat_of seats.old) }
     ensures onward { map onward_of seats.new ≡ map onward_of seats.old }
 {
-    for seat in seats.iter_mut() {
-        if is_waiting(seat, barrier) {
-            seat.stand = Stand::Released;
+    let mut t = 0;
+    while t < seats.len() {
+        let onward = seats[t].onward;
+        if is_waiting(&seats[t], barrier) {
+            seats[t].stand = Stand::Released;
         }
+        t = (t + 1).max(onward);
     }
 }
 

@@ -1,7 +1,6 @@
 use Rattle.std.proofs.Common.{◌≡◌, ◌-◌, map, length}
 use Rattle.ended_seats.proofs.Walks.{Clearing}
 use Rattle.token_order.specs.View.{seat_of, onward_of}
-use Rattle.task_ast.specs.Table.{unpassed}
 use Rattle.token_order.proofs.threads.unpass_all.Given as goal
 
 abbrev pub invariant-loop-t : goal.invariant-loop-t

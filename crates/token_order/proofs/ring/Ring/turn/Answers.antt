@@ -1,7 +1,7 @@
-use Rattle.std.proofs.Common.{◌≡◌, sym, ap, ◌∙◌, subst, refl, length, ℕ}
+use Rattle.std.proofs.Common.{sym, ap, ◌∙◌, subst, refl, length}
 use Rattle.task_ast.specs.Table.{Table}
 use Rattle.token_order.specs.View.{Roomy, table}
-use Rattle.token_order.specs.Turned.{Answered, LeavesRoom}
+use Rattle.token_order.specs.Turned.{LeavesRoom}
 use Rattle.token_order.specs.Standing.{spare_of}
 use Rattle.token_order.specs.Owning.{noted}
 use Rattle.token_order.proofs.Inside.{turn-stands}

@@ -6,7 +6,7 @@ use Rattle.token_order.specs.View.{table, seat_of, onward_of}
 use Rattle.task_ast.proofs.Looks.{get-at}
 use Rattle.task_ast.proofs.SeenSeats.{arrived-is, arrived_next}
 use Rattle.token_order.specs.declared.threads.Stand.TheVariants.{Waits}
-use Rattle.task_ast.specs.Table.{is_known_end, Table, unpassed, next_of}
+use Rattle.task_ast.specs.Table.{is_known_end, unpassed, next_of}
 use Rattle.ended_seats.proofs.Walks.{arrived_as}
 use Rattle.token_order.proofs.threads.Threads.arrive.Goals as goal
 

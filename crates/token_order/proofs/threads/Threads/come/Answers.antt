@@ -1,4 +1,4 @@
-use Rattle.std.proofs.Common.{◌+◌, ◌∙◌, ℕ, sym, ap, refl, subst, map, count_by, unwrap_or, rules, ◌<◌}
+use Rattle.std.proofs.Common.{◌∙◌, ℕ, sym, ap, refl, subst, count_by, unwrap_or, rules, ◌<◌}
 use Rattle.std.specs.Prelude.{slice_get}
 use Rattle.std.proofs.lemmas.Bool.{le-ltb, ltb-true, ltb-false}
 use Rattle.task_ast.specs.Table.{Table, waits_at, next_of}

@@ -1,13 +1,12 @@
-use Rattle.std.proofs.Common.{◌≡◌, ◌∙◌, ap, refl, sym, subst, map, set, false, arith, rules}
+use Rattle.std.proofs.Common.{◌≡◌, ◌∙◌, ap, refl, sym, subst, map, set, arith, rules}
 use Rattle.std.specs.Vec.{with_item}
-use Rattle.std.proofs.lemmas.Bool.{false≢true, lt-ltb}
+use Rattle.std.proofs.lemmas.Bool.{lt-ltb}
 use Rattle.std.proofs.lemmas.List.{with_items_is}
 use Rattle.task_ast.proofs.Looks.{get-at}
 use Rattle.task_ast.proofs.SeenSeats.{issued-as}
 use Rattle.ended_seats.specs.Idle.{IdleOver, PassedWithin, Walks}
 use Rattle.token_order.specs.View.{table, seat_of, onward_of}
-use Rattle.ended_seats.proofs.Walks.{put_live, begun_as, cleared_as, issued_as}
-use Rattle.token_order.specs.declared.threads.Threads.{Threads}
+use Rattle.ended_seats.proofs.Walks.{begun_as, cleared_as, issued_as}
 use Rattle.task_ast.specs.Table.{unpassed}
 use Rattle.token_order.proofs.threads.Threads.issue.Goals as goal
 use Rattle.token_order.proofs.threads.Threads.issue.Goals.{After-begin}

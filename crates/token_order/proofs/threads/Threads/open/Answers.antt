@@ -3,7 +3,7 @@ use Rattle.std.specs.Prelude.{slice_get}
 use Rattle.std.specs.Option.{option_and_then}
 use Rattle.std.specs.Vec.{with_items}
 use Rattle.std.proofs.lemmas.List.{with_items_is}
-use Rattle.ended_seats.specs.Idle.{Walks}
+use Rattle.ended_seats.specs.Idle.{IdleOver, Walks}
 use Rattle.task_ast.specs.Table.{is_known_end, waits_at}
 use Rattle.task_ast.specs.Turn.{released_at}
 use Rattle.token_order.specs.View.{seat_of, onward_of}
@@ -30,3 +30,13 @@ returns-clause-walks c =
     (released_as seat_of onward_of there.seats.items (with_items there.seats c.release.new.seats).items there.passed.first there.passed.last
     there.waits c.args.barrier c.waiting-there.result (ap (map seat_of) same ∙ seats) (ap (map onward_of) same ∙ ways) number
     c.arrive.ensures.walks)
+
+pub waiting-there-requires : goal.waiting-there-requires
+waiting-there-requires c = record {
+  idle = subst (λ xs. IdleOver (map onward_of xs) (map seat_of xs)) (sym c.deref.ensures.value) c.arrive.ensures.walks.idle;
+}
+
+pub release-requires : goal.release-requires
+release-requires c = record {
+  idle = subst (λ xs. IdleOver (map onward_of xs) (map seat_of xs)) (sym c.deref_mut.ensures.value) c.arrive.ensures.walks.idle;
+}

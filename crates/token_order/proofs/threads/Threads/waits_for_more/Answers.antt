@@ -1,8 +1,8 @@
-use Rattle.std.proofs.Common.{◌≡◌, ◌<◌, ◌≤◌, ◌+◌, ◌∙◌, sym, map, count_by, unwrap_or, arith, rules}
+use Rattle.std.proofs.Common.{◌≡◌, ◌<◌, ◌≤◌, ◌+◌, ◌∙◌, sym, subst, map, unwrap_or, arith, rules}
+use Rattle.ended_seats.specs.Idle.{IdleOver}
 use Rattle.std.specs.Prelude.{slice_get}
 use Rattle.std.proofs.lemmas.Bool.{lt-ltb}
-use Rattle.task_ast.specs.Table.{waits_at}
-use Rattle.token_order.specs.View.{seat_of}
+use Rattle.token_order.specs.View.{seat_of, onward_of}
 use Rattle.ended_seats.proofs.Walks.{waits_most}
 use Rattle.token_order.proofs.threads.Threads.waits_for_more.Goals as goal
 
@@ -13,3 +13,8 @@ returns-then-saturating_add-stated c =
     let room : c.args.self.now.waits + 1 ≤ c.saturating_add.result = search rules in
     let is : c.stated-stated.result ≡ unwrap_or (slice_get c.args.self.now.barriers.items c.args.barrier) 0 = search rules in
     lt-ltb _ _ less ∙ sym (lt-ltb _ _ (omega (arith, less, few, room, is)))
+
+pub waiting-requires : goal.waiting-requires
+waiting-requires c = record {
+  idle = subst (λ xs. IdleOver (map onward_of xs) (map seat_of xs)) (sym c.deref-else-saturating_add-stated.ensures.value) c.requires.walks.idle;
+}
