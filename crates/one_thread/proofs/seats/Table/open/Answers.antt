@@ -20,12 +20,14 @@ returns-then-self-stated-clause-table c =
     (lt-leb _ _ (omega (arith, few, is, less))))
 
 pub waiting-there-requires : goal.waiting-there-requires
-waiting-there-requires c =
-    subst (λ xs. IdleOver (map onward_of xs) (map seat_of xs)) (sym c.deref-2.ensures.value) c.requires.walks.walks.idle
+waiting-there-requires c = record {
+  idle = subst (λ xs. IdleOver (map onward_of xs) (map seat_of xs)) (sym c.deref-2.ensures.value) c.requires.walks.walks.idle;
+}
 
 pub release-requires : goal.release-requires
-release-requires c =
-    subst (λ xs. IdleOver (map onward_of xs) (map seat_of xs)) (sym c.deref_mut.ensures.value) c.requires.walks.walks.idle
+release-requires c = record {
+  idle = subst (λ xs. IdleOver (map onward_of xs) (map seat_of xs)) (sym c.deref_mut.ensures.value) c.requires.walks.walks.idle;
+}
 
 pub returns-then-stated-there-clause-walks : goal.returns-then-stated-there-clause-walks
 returns-then-stated-there-clause-walks c =
