@@ -22,11 +22,11 @@ use Rattle.gp_audit.proofs.Orders.{order-is}
 use Rattle.gp_traces.proofs.WholeRuns.{audit-is-lawful}
 use Rattle.command_line.specs.declared.asked.Command.{Command}
 use Rattle.command_line.specs.declared.asked.Command.TheVariants as command
-use Rattle.call_cases.specs.meaning.Work.{Files, ToDo, is_journalled}
+use Rattle.call_cases.specs.meaning.Work.{Files, ToDo, is_journalled, Go}
 use Rattle.call_cases.specs.meaning.PlainText.{restarts_in}
 use Rattle.call_cases.specs.meaning.Recovering.{recovering_by}
 use Rattle.call_cases.specs.meaning.Journals.{run_of, dependence_for, IsJournalOf, IsCompleteOf}
-use Rattle.call_cases.specs.meaning.Case.{Go, IsCase, ForCase, ForRun, status_of, text_of}
+use Rattle.call_cases.specs.meaning.Case.{IsCase, ForCase, ForRun, status_of, text_of}
 use Rattle.call_cases.specs.meaning.RunCommands as run
 use Rattle.call_cases.specs.meaning.Headline.{Call, Headline}
 use Rattle.call_cases.proofs.OneCase.{one_case_of}

@@ -3,7 +3,7 @@
 -- A call refuses, or begins what is asked. What begins ends in one of a few ways, each with its status: RunEnds where
 -- no log is kept, LogEnds where one is. Each fact of the promise goes by these ways; both come to Ended, from which the
 -- promise follows once. A refusal goes by its kinds, and writes the same whether a log would be kept or not.
-use Rattle.std.proofs.Common.{◌≡◌, ◌⊎◌, ℕ, true, false, List, [], take, IfSome, refl, sym, subst, inl, inr, arith, append-nil}
+use Rattle.std.proofs.Common.{◌≡◌, ◌⊎◌, ℕ, true, false, List, [], ◌∷◌, take, IfSome, refl, sym, subst, inl, inr, arith, append-nil}
 use Rattle.std.specs.List.{Contains}
 use Rattle.std.specs.declared.option.Option.{Option}
 use Rattle.std.specs.declared.option.Option.TheVariants.{None, Some}
@@ -19,11 +19,11 @@ use Rattle.gp_base.proofs.Written.{prefix_whole, prefix_none, Keeps-same}
 use Rattle.task_ast.specs.meaning.Tree.{Name}
 use Rattle.call_cases.specs.declared.reading.Refusal.{Refusal}
 use Rattle.call_cases.specs.declared.reading.Refusal.TheVariants.{Usage as RefusedUsage, BadProgram as RefusedProgram, BadInput as RefusedInput, ReadFault, OutOfMemory}
-use Rattle.call_cases.specs.meaning.Work.{Files}
+use Rattle.call_cases.specs.meaning.Work.{Files, Case, Refused, Go}
 use Rattle.call_cases.specs.meaning.Commands.{Commands, Log, MayLog, Unlogged, Logged}
 use Rattle.call_cases.specs.Commands.{AreSound, IsApart}
-use Rattle.call_cases.specs.meaning.Case.{Case, Usage, Missing, BadProgram, BadInput, Go, IsCase, ForCase, ForRun, HasWork, IsMissing, names_read, status_of, text_of, line_of}
-use Rattle.call_cases.specs.meaning.Lines.{out_of_memory_line, write_fault_line}
+use Rattle.call_cases.specs.meaning.Case.{IsCase, ForCase, ForRun, HasWork, names_read, status_of, text_of, line_of}
+use Rattle.call_cases.specs.meaning.Lines.{usage_line, out_of_memory_line, write_fault_line}
 use Rattle.call_cases.specs.Refusals.{RefusesCase, RefusesWords, RefusesShelf, TakesRefusal, RefusalEnds, usage_told, program_told, input_told, read_told, refusal_no_memory, refusal_failed}
 use Rattle.call_cases.specs.meaning.Answers.{Change, TakesAll, TakesPart, IsUntouched, Fails, Grew, IsEmpty, IsStopLine, TakesStop, Yields, due_status, no_memory, read_fault, write_fault}
 use Rattle.call_cases.specs.Answers.{unwritten, LineEnds, whole, line_failed, line_no_memory, RunEnds, finished, run_no_memory, output_failed, error_failed, LogEnds, log_finished, log_no_memory, log_write_failed, log_unbegun, PutFor, StopsBy}
@@ -282,7 +282,7 @@ begun_headline {A} {T} commands sound call names work asked some known same empt
       untouched = λ tells. same;
       unread = λ none. same;
       missing =
-          here (λ case. IsMissing case → Grew call.failed call.failed' ⊎ (call.status ≡ 1) ⊎ Fails call.err) (λ missing. absurd missing);
+          here (λ case. status_of commands case ≡ 7 → Grew call.failed call.failed' ⊎ (call.status ≡ 1) ⊎ Fails call.err) (λ is. absurd (never_missing is));
       journal = λ unbegun. elim unbegun [
         | inl is ↦ absurd (ended.not_refused is)
         | inr nothing ↦ empty (subst (RunsNothing commands) some nothing)
@@ -295,6 +295,9 @@ begun_headline {A} {T} commands sound call names work asked some known same empt
   where
     here : (P : Case T → Type 0) → P (Go names work) → ForCase commands.asking call.words call.files P
     here P holds = for_known commands.asking call.words call.files (Go names work) P known holds
+
+    never_missing : commands.status work ≡ 7 → ⊥
+    never_missing is = let apart = sound.apart (commands.status work) (sound.ends work) in grind (arith, apart, is)
 
 -- what was begun to be done meets the promise where no log is kept
 pub run_headline : {A T : Type 0} (commands : Commands A T) (sound : AreSound commands) (words : List (List ℕ)) (files : Option Files)
@@ -438,13 +441,13 @@ module _ {A T : Type 0} (commands : Commands A T) (words : List (List ℕ)) (fil
       → RefusalEnds err refusal status
       → ForCase commands.asking words files (λ case. Yields (status_of commands case) (Grew before now) (Fails out ⊎ Fails err) status)
   refused_status refusal status known shelf (usage_told line) =
-      for_known commands.asking words files Usage
+      for_known commands.asking words files (Refused 2 [] usage_line)
       (λ case. Yields (status_of commands case) (Grew before now) (Fails out ⊎ Fails err) 2) known due_status
   refused_status refusal status known shelf (program_told {line} all) =
-      for_some commands words files Name (λ name. BadProgram name line)
+      for_some commands words files Name (λ name. Refused 3 (name ∷ []) line)
       (λ case. Yields (status_of commands case) (Grew before now) (Fails out ⊎ Fails err) 3) known (λ name. due_status)
   refused_status refusal status known shelf (input_told {line} all) =
-      for_some commands words files (List Name) (λ names. BadInput names line)
+      for_some commands words files (List Name) (λ names. Refused 4 names line)
       (λ case. Yields (status_of commands case) (Grew before now) (Fails out ⊎ Fails err) 4) known (λ names. due_status)
   refused_status refusal status known shelf (read_told {name} all) =
       for_each commands.asking words files (λ case. Yields (status_of commands case) (Grew before now) (Fails out ⊎ Fails err) 7)
@@ -460,12 +463,12 @@ module _ {A T : Type 0} (commands : Commands A T) (words : List (List ℕ)) (fil
       → RefusalEnds err refusal status
       → ForCase commands.asking words files (λ case. HasCaseLine status → TakesAll err (line_of case))
   refused_line refusal status known (usage_told all) =
-      for_known commands.asking words files Usage (λ case. HasCaseLine 2 → TakesAll err (line_of case)) known (λ _. all)
+      for_known commands.asking words files (Refused 2 [] usage_line) (λ case. HasCaseLine 2 → TakesAll err (line_of case)) known (λ _. all)
   refused_line refusal status known (program_told {line} all) =
-      for_some commands words files Name (λ name. BadProgram name line)
+      for_some commands words files Name (λ name. Refused 3 (name ∷ []) line)
       (λ case. HasCaseLine 3 → TakesAll err (line_of case)) known (λ name _. all)
   refused_line refusal status known (input_told {line} all) =
-      for_some commands words files (List Name) (λ names. BadInput names line)
+      for_some commands words files (List Name) (λ names. Refused 4 names line)
       (λ case. HasCaseLine 4 → TakesAll err (line_of case)) known (λ names _. all)
   refused_line refusal status known (read_told all) =
       for_each commands.asking words files (λ case. HasCaseLine 7 → TakesAll err (line_of case)) (λ case is. absurd (grind (arith, is)))
@@ -477,11 +480,11 @@ module _ {A T : Type 0} (commands : Commands A T) (words : List (List ℕ)) (fil
   refused_told : (refusal : Refusal) (status : ℕ) → IfSome files (λ told. RefusesCase (IsCase commands.asking words told) refusal)
       → RefusalEnds err refusal status → IsApart status ⊎ HasCaseLine status
       → IfSome files (λ told. (case : Case T) × IsCase commands.asking words told case × (status_of commands case ≡ status))
-  refused_told refusal status known (usage_told all) tells = told_case commands words files Usage known
+  refused_told refusal status known (usage_told all) tells = told_case commands words files (Refused 2 [] usage_line) known
   refused_told refusal status known (program_told {line} all) tells =
-      told_some commands words files Name (λ name. BadProgram name line) 3 known (λ name. refl)
+      told_some commands words files Name (λ name. Refused 3 (name ∷ []) line) 3 known (λ name. refl)
   refused_told refusal status known (input_told {line} all) tells =
-      told_some commands words files (List Name) (λ names. BadInput names line) 4 known (λ names. refl)
+      told_some commands words files (List Name) (λ names. Refused 4 names line) 4 known (λ names. refl)
   refused_told refusal status known (read_told all) tells = absurd (grind (arith, tells))
   refused_told refusal status known (refusal_no_memory taken) tells = absurd (grind (arith, tells))
   refused_told refusal status known (refusal_failed fails taken) tells = absurd (grind (arith, tells))
@@ -490,24 +493,24 @@ module _ {A T : Type 0} (commands : Commands A T) (words : List (List ℕ)) (fil
   refused_missing : (refusal : Refusal) (status : ℕ) → IfSome files (λ told. RefusesCase (IsCase commands.asking words told) refusal)
       → RefusesShelf commands.may_read (commands.asking.reading words) before now refusal
       → RefusalEnds err refusal status
-      → ForCase commands.asking words files (λ case. IsMissing case → Grew before now ⊎ (status ≡ 1) ⊎ Fails err)
+      → ForCase commands.asking words files (λ case. status_of commands case ≡ 7 → Grew before now ⊎ (status ≡ 1) ⊎ Fails err)
   refused_missing refusal status known shelf (usage_told all) =
-      for_known commands.asking words files Usage (λ case. IsMissing case → Grew before now ⊎ ◌≡◌ {A = ℕ} 2 1 ⊎ Fails err) known
-      (λ missing. absurd missing)
+      for_known commands.asking words files (Refused 2 [] usage_line) (λ case. status_of commands case ≡ 7 → Grew before now ⊎ ◌≡◌ {A = ℕ} 2 1 ⊎ Fails err) known
+      (λ is. absurd (omega (arith, is)))
   refused_missing refusal status known shelf (program_told {line} all) =
-      for_some commands words files Name (λ name. BadProgram name line)
-      (λ case. IsMissing case → Grew before now ⊎ ◌≡◌ {A = ℕ} 3 1 ⊎ Fails err) known (λ name missing. absurd missing)
+      for_some commands words files Name (λ name. Refused 3 (name ∷ []) line)
+      (λ case. status_of commands case ≡ 7 → Grew before now ⊎ ◌≡◌ {A = ℕ} 3 1 ⊎ Fails err) known (λ name is. absurd (omega (arith, is)))
   refused_missing refusal status known shelf (input_told {line} all) =
-      for_some commands words files (List Name) (λ names. BadInput names line)
-      (λ case. IsMissing case → Grew before now ⊎ ◌≡◌ {A = ℕ} 4 1 ⊎ Fails err) known (λ names missing. absurd missing)
+      for_some commands words files (List Name) (λ names. Refused 4 names line)
+      (λ case. status_of commands case ≡ 7 → Grew before now ⊎ ◌≡◌ {A = ℕ} 4 1 ⊎ Fails err) known (λ names is. absurd (omega (arith, is)))
   refused_missing refusal status known shelf (read_told all) =
-      for_each commands.asking words files (λ case. IsMissing case → Grew before now ⊎ ◌≡◌ {A = ℕ} 7 1 ⊎ Fails err)
+      for_each commands.asking words files (λ case. status_of commands case ≡ 7 → Grew before now ⊎ ◌≡◌ {A = ℕ} 7 1 ⊎ Fails err)
       (λ case missing. inl shelf.1)
   refused_missing refusal status known shelf (refusal_no_memory taken) =
-      for_each commands.asking words files (λ case. IsMissing case → Grew before now ⊎ ◌≡◌ {A = ℕ} 1 1 ⊎ Fails err)
+      for_each commands.asking words files (λ case. status_of commands case ≡ 7 → Grew before now ⊎ ◌≡◌ {A = ℕ} 1 1 ⊎ Fails err)
       (λ case missing. inr (inl refl))
   refused_missing refusal status known shelf (refusal_failed fails taken) =
-      for_each commands.asking words files (λ case. IsMissing case → Grew before now ⊎ ◌≡◌ {A = ℕ} 8 1 ⊎ Fails err)
+      for_each commands.asking words files (λ case. status_of commands case ≡ 7 → Grew before now ⊎ ◌≡◌ {A = ℕ} 8 1 ⊎ Fails err)
       (λ case missing. inr (inr fails))
 
   -- a refusal whose line was not written whole
@@ -521,14 +524,14 @@ module _ {A T : Type 0} (commands : Commands A T) (words : List (List ℕ)) (fil
       for_each commands.asking words files (λ case. TakesStopLines (Due case) err)
       (λ case. stop_lines (Due case) err (line_of case) line (inl refl) for_stop part)
   refused_stop RefusedUsage known shelf (line, inl tells, part) =
-      for_known commands.asking words files Usage (λ case. TakesStopLines (Due case) err) known
-      (due_lines (Due Usage) err line (inl tells) part)
+      for_known commands.asking words files (Refused 2 [] usage_line) (λ case. TakesStopLines (Due case) err) known
+      (due_lines (Due (Refused 2 [] usage_line)) err line (inl tells) part)
   refused_stop (RefusedProgram told) known shelf (line, inl tells, part) =
-      for_some commands words files Name (λ name. BadProgram name told) (λ case. TakesStopLines (Due case) err) known
-      (λ name. due_lines (Due (BadProgram name told)) err line (inl tells) part)
+      for_some commands words files Name (λ name. Refused 3 (name ∷ []) told) (λ case. TakesStopLines (Due case) err) known
+      (λ name. due_lines (Due (Refused 3 (name ∷ []) told)) err line (inl tells) part)
   refused_stop (RefusedInput told) known shelf (line, inl tells, part) =
-      for_some commands words files (List Name) (λ names. BadInput names told) (λ case. TakesStopLines (Due case) err) known
-      (λ names. due_lines (Due (BadInput names told)) err line (inl tells) part)
+      for_some commands words files (List Name) (λ names. Refused 4 names told) (λ case. TakesStopLines (Due case) err) known
+      (λ names. due_lines (Due (Refused 4 names told)) err line (inl tells) part)
   refused_stop (ReadFault name) known shelf (line, inl tells, part) = for_read files known
     where
       for_read : (files : Option Files)
@@ -647,18 +650,12 @@ module _ {A T : Type 0} (commands : Commands A T) where
   -- a journal of no event is one of each case
   empty_lawful : AreSound commands → (case : Case T) (journal : Journal) → IsEmpty journal
       → ForRun commands case (λ work. commands.lawful work journal)
-  empty_lawful sound Usage journal empty = tt
-  empty_lawful sound (Missing names name) journal empty = tt
-  empty_lawful sound (BadProgram name line) journal empty = tt
-  empty_lawful sound (BadInput names line) journal empty = tt
+  empty_lawful sound (Refused status names line) journal empty = tt
   empty_lawful sound (Go names work) journal empty = λ is. sound.begins work journal empty
 
   empty_retired : AreSound commands → (case : Case T) (journal : Journal) (written : Option (List ℕ)) (faults : ℕ) → IsEmpty journal
       → ForRun commands case (λ work. commands.retired work journal (unwritten written faults))
-  empty_retired sound Usage journal written faults empty = tt
-  empty_retired sound (Missing names name) journal written faults empty = tt
-  empty_retired sound (BadProgram name line) journal written faults empty = tt
-  empty_retired sound (BadInput names line) journal written faults empty = tt
+  empty_retired sound (Refused status names line) journal written faults empty = tt
   empty_retired sound (Go names work) journal written faults empty = λ is. sound.unbegun work journal written faults empty
 
   -- where a log is kept, a refusal tells what it tells where none is, with nothing else due

@@ -3,9 +3,9 @@ use Rattle.std.specs.Prelude.{◌≡◌, ◌⊎◌, ℕ, true, false, [], List, 
 use Rattle.gp_base.specs.declared.journal.Journal.{Journal}
 use Rattle.gp_base.specs.meaning.Files.{GrowsByOnly}
 use Rattle.task_ast.specs.meaning.Tree.{Name}
-use Rattle.call_cases.specs.meaning.Work.{Files}
+use Rattle.call_cases.specs.meaning.Work.{Files, Case}
 use Rattle.call_cases.specs.meaning.Commands.{Commands, MayLog, Unlogged, Logged}
-use Rattle.call_cases.specs.meaning.Case.{Case, IsCase, ForCase, ForRun, HasWork, IsMissing, status_of, text_of, line_of, names_read}
+use Rattle.call_cases.specs.meaning.Case.{IsCase, ForCase, ForRun, HasWork, status_of, text_of, line_of, names_read}
 use Rattle.call_cases.specs.meaning.Lines.{read_fault_line, write_fault_line}
 use Rattle.call_cases.specs.meaning.Answers.{Change, TakesAll, TakesPart, TakesNothing, IsUntouched, Fails, Grew, Yields, TakesStop, IsEmpty}
 
@@ -129,7 +129,7 @@ pub record Headline {A T : Type 0} (commands : Commands A T) (call : Call) : Typ
   pub untouched : TellsCase commands call.status → call.failed' ≡ call.failed
   pub unread : ReadsNothing commands (commands.asking.reading call.words) → call.failed' ≡ call.failed
   pub missing : ForCase commands.asking call.words call.files
-      (λ case. IsMissing case → Grew call.failed call.failed' ⊎ (call.status ≡ 1) ⊎ Fails call.err)
+      (λ case. status_of commands case ≡ 7 → Grew call.failed call.failed' ⊎ (call.status ≡ 1) ⊎ Fails call.err)
   -- The journal is empty where no run begins. Else it is a journal of the run, and complete where the text is whole.
   pub journal : IsRefusal call.status ⊎ RunsNothing commands (commands.asking.reading call.words) → IsEmpty call.journal
   pub unbegun : ForCase commands.asking call.words call.files (λ case. HasWork case ⊎ IsEmpty call.journal)
