@@ -27,7 +27,7 @@ use Rattle.call_cases.specs.meaning.Lines.{usage_line, out_of_memory_line, write
 use Rattle.call_cases.specs.Refusals.{RefusesCase, RefusesWords, RefusesShelf, TakesRefusal, RefusalEnds, usage_told, program_told, input_told, read_told, refusal_no_memory, refusal_failed}
 use Rattle.call_cases.specs.meaning.Answers.{Change, TakesAll, TakesPart, IsUntouched, Fails, Grew, IsEmpty, IsStopLine, TakesStop, Yields, due_status, no_memory, read_fault, write_fault}
 use Rattle.call_cases.specs.Answers.{unwritten, LineEnds, whole, line_failed, line_no_memory, RunEnds, finished, run_no_memory, output_failed, error_failed, LogEnds, log_finished, log_no_memory, log_write_failed, log_unbegun, PutFor, StopsBy}
-use Rattle.call_cases.specs.meaning.Headline.{Call, IsQuiet, TellsWrite, TellsStop, TellsCase, IsRefusal, HasCaseLine, error_for, RunsNothing, TellsReadFault, TellsWriteFault, IsStop, IsDue, TakesStopLines, ReadsNothing, Headline}
+use Rattle.call_cases.specs.meaning.Headline.{Call, IsQuiet, TellsWrite, TellsStop, TellsCase, IsRefusal, HasCaseLine, error_for, RunsNothing, TellsReadFault, TellsWriteFault, IsStop, IsDue, TakesStopLines, ReadsNothing, MeetsCase, Headline}
 use Rattle.call_cases.proofs.OneCase.{for_known, for_each, for_map, none_some}
 
 -- a prefix of the line that tells the stop, after nothing else
@@ -221,7 +221,7 @@ module _ (text rows : List ℕ) (taken : Change → Type 0) (due : ℕ) (out err
       inl (untouched, empty, stop_lines is_due err line out_of_memory_line for_case (inl refl) (line_part status told))
 
 -- How what was begun to be done ended: what its status says of what the streams took, whether a log is kept or not.
-record Ended {A T : Type 0} (commands : Commands A T) (call : Call) (work : T) : Type 0 where
+record Ended {A T : Type 0} (commands : Commands A T) (call : Call) (names : List Name) (work : T) : Type 0 where
   yields : Yields (commands.status work) (Grew call.failed call.failed') (Fails call.out ⊎ Fails call.err) call.status
   all : IsApart call.status → TakesAll call.out (commands.text work) × (commands.status work ≡ call.status)
   part : TakesPart call.out (commands.text work)
@@ -229,7 +229,7 @@ record Ended {A T : Type 0} (commands : Commands A T) (call : Call) (work : T) :
   not_refused : IsRefusal call.status → ⊥
   quiet : commands.whole call.status → IsQuiet commands call commands.log
   write_fault : call.status ≡ 8 → TellsWrite commands call commands.log
-  stopped : IsStop call.status → ForCase commands.asking call.words call.files (TellsStop commands call commands.log)
+  stopped : IsStop call.status → TellsStop commands call commands.log (Go names work)
 
 -- the case of what is done to its end
 told_work : {A T : Type 0} (commands : Commands A T) (words : List (List ℕ)) (files : Option Files)
@@ -249,14 +249,23 @@ begun_headline : {A T : Type 0} (commands : Commands A T) (sound : AreSound comm
     → (commands.has_journal work ≡ true
     → commands.lawful work call.journal × (commands.whole call.status → commands.complete work call.journal)
     × commands.retired work call.journal call.out)
-    → Ended commands call work → Headline commands call
+    → Ended commands call names work → Headline commands call
 begun_headline {A} {T} commands sound call names work asked some known same empty run ended =
     let words = call.words in
     let files = call.files in
     record {
-      status =
-          here (λ case. Yields (status_of commands case) (Grew call.failed call.failed') (Fails call.out ⊎ Fails call.err) call.status)
-          ended.yields;
+      by_case = for_known commands.asking words files (Go names work) (MeetsCase commands call) known (record {
+        status = ended.yields;
+        text = λ is. (ended.all (sound.apart call.status is)).0;
+        prefix = ended.part;
+        line = λ is. absurd (ended.not_refused (inl is));
+        stopped = ended.stopped;
+        missing = λ is. absurd (never_missing is);
+        unbegun = inl tt;
+        lawful = λ is. (run is).0;
+        complete = λ is_whole is. (run is).1 is_whole;
+        retired = λ is. (run is).2;
+      });
       told = λ tells. elim tells [
         | inl is ↦ told_work commands words files names work call.status known (ended.all (sound.apart call.status is)).1
         | inr is ↦ absurd (ended.not_refused (inl is))
@@ -267,35 +276,18 @@ begun_headline {A} {T} commands sound call names work asked some known same empt
       ];
       usage = λ is. absurd (ended.not_refused (inl (inl is)));
       no_command = λ none. absurd (none_some (commands.asking.reading words) asked none some);
-      text =
-          here (λ case. commands.whole call.status → TakesAll call.out (text_of commands case))
-          (λ is. (ended.all (sound.apart call.status is)).0);
-      prefix = here (λ case. TakesPart call.out (text_of commands case)) ended.part;
       refused = λ is. absurd (ended.not_refused is);
       quiet = ended.quiet;
-      line =
-          for_each commands.asking words files (λ case. HasCaseLine call.status → TakesAll call.err (line_of case))
-          (λ case is. absurd (ended.not_refused (inl is)));
       read_fault = λ is. absurd (ended.not_refused (inr is));
       write_fault = ended.write_fault;
-      stopped = ended.stopped;
       untouched = λ tells. same;
       unread = λ none. same;
-      missing =
-          here (λ case. status_of commands case ≡ 7 → Grew call.failed call.failed' ⊎ (call.status ≡ 1) ⊎ Fails call.err) (λ is. absurd (never_missing is));
       journal = λ unbegun. elim unbegun [
         | inl is ↦ absurd (ended.not_refused is)
         | inr nothing ↦ empty (subst (RunsNothing commands) some nothing)
       ];
-      unbegun = here (λ case. HasWork case ⊎ IsEmpty call.journal) (inl tt);
-      lawful = here (λ case. ForRun commands case (λ w. commands.lawful w call.journal)) (λ is. (run is).0);
-      complete = λ is_whole. here (λ case. ForRun commands case (λ w. commands.complete w call.journal)) (λ is. (run is).1 is_whole);
-      retired = here (λ case. ForRun commands case (λ w. commands.retired w call.journal call.out)) (λ is. (run is).2);
     }
   where
-    here : (P : Case T → Type 0) → P (Go names work) → ForCase commands.asking call.words call.files P
-    here P holds = for_known commands.asking call.words call.files (Go names work) P known holds
-
     never_missing : commands.status work ≡ 7 → ⊥
     never_missing is = let apart = sound.apart (commands.status work) (sound.ends work) in grind (arith, apart, is)
 
@@ -347,10 +339,9 @@ run_headline {A} {T} commands sound words files failed failed' out err status jo
       not_refused = run_not_refused text error due out err status apart ends;
       quiet = λ is. subst (IsQuiet commands call) (sym unlogged) (run_whole text error due out err status ends (sound.apart status is)).1;
       write_fault = λ is. subst (TellsWrite commands call) (sym unlogged) (run_fault text error due out err status apart ends is);
-      stopped = λ is. for_known commands.asking words files (Go names work) (TellsStop commands call commands.log) known
-          (subst (λ log. TellsStop commands call log (Go names work)) (sym unlogged)
+      stopped = λ is. subst (λ log. TellsStop commands call log (Go names work)) (sym unlogged)
           (run_stopped text error due out err (IsDue {T = T} (Grew failed failed') (Go names work) error) [] (inl refl)
-          (inr (inl (tt, refl))) status apart ends is));
+          (inr (inl (tt, refl))) status apart ends is);
     })
 
 -- what a stop tells of the case where this log is kept
@@ -412,11 +403,10 @@ log_headline {A} {T} commands sound log words files failed failed' out err statu
           (λ _. (log_whole text rows taken due out err journal status ends (sound.apart status is)).1));
       write_fault =
           λ is. subst (TellsWrite commands call) (sym logged) (log_fault text rows taken due out err journal status apart ends is);
-      stopped = λ is. for_known commands.asking words files (Go names work) (TellsStop commands call commands.log) known
-          (subst (λ kept. TellsStop commands call kept (Go names work)) (sym logged)
+      stopped = λ is. subst (λ kept. TellsStop commands call kept (Go names work)) (sym logged)
           (log_told commands call log names work
           (log_stopped text rows taken due out err journal (IsDue {T = T} (Grew failed failed') (Go names work) []) []
-          (inl refl) status apart ends is)));
+          (inl refl) status apart ends is));
     })
 
 -- what holds of a case that is known but for a part
@@ -673,6 +663,54 @@ module _ {A T : Type 0} (commands : Commands A T) where
       for_map commands.asking call.words call.files (λ case. TakesStopLines (IsDue (Grew call.failed call.failed') case []) call.err)
       (TellsStop commands call (Logged log)) (λ case stops. inl (untouched, empty, stops)) (tells [])
 
+-- a refusal meets what holds by the case
+refused_meets : {A T : Type 0} (commands : Commands A T) (sound : AreSound commands) (words : List (List ℕ)) (files : Option Files)
+    (failed failed' : List Name) (written : Option (List ℕ)) (faults : ℕ) (err : Change) (status : ℕ)
+    (journal : Journal) (refusal : Refusal)
+    → IfSome files (λ told. RefusesCase (IsCase commands.asking words told) refusal)
+    → RefusesShelf commands.may_read (commands.asking.reading words) failed failed' refusal → IsEmpty journal
+    → RefusalEnds err refusal status
+    → ForCase commands.asking words files (MeetsCase commands (record {
+      words = words;
+      files = files;
+      failed = failed;
+      failed' = failed';
+      out = unwritten written faults;
+      err = err;
+      status = status;
+      journal = journal;
+    }))
+refused_meets commands sound words None failed failed' written faults err status journal refusal known shelf empty ends = tt
+refused_meets commands sound words (Some files) failed failed' written faults err status journal refusal known shelf empty ends =
+    λ case is.
+    let out : Change = unwritten written faults in
+    let call : Call =
+    record {
+      words = words;
+      files = Some files;
+      failed = failed;
+      failed' = failed';
+      out = out;
+      err = err;
+      status = status;
+      journal = journal;
+    } in
+    let not_whole : commands.whole status → ⊥ = λ is. refused_not_apart err refusal status ends (sound.apart status is) in
+    record {
+      status = refused_status commands words (Some files) failed failed' out err [] refusal status known shelf ends case is;
+      text = λ is_whole. absurd (not_whole is_whole);
+      prefix = prefix_none written (text_of commands case);
+      line = refused_line commands words (Some files) failed failed' out err [] refusal status known ends case is;
+      stopped =
+          λ stop. refused_tells commands commands.log call (record { written = refl; faults = refl }) empty
+          (λ error. refused_stopped commands words (Some files) failed failed' out err error refusal status known shelf ends stop) case is;
+      missing = refused_missing commands words (Some files) failed failed' out err [] refusal status known shelf ends case is;
+      unbegun = inr empty;
+      lawful = empty_lawful commands sound case journal empty;
+      complete = λ is_whole. absurd (not_whole is_whole);
+      retired = empty_retired commands sound case journal written faults empty;
+    }
+
 -- a refusal meets the promise
 pub refused_headline : {A T : Type 0} (commands : Commands A T) (sound : AreSound commands) (words : List (List ℕ)) (files : Option Files)
     (failed failed' : List Name) (written : Option (List ℕ)) (faults : ℕ) (err : Change) (status : ℕ)
@@ -708,39 +746,21 @@ refused_headline commands sound words files failed failed' written faults err st
     } in
     let not_whole : commands.whole status → ⊥ = λ is. refused_not_apart err refusal status ends (sound.apart status is) in
     record {
-      status = refused_status commands words files failed failed' out err [] refusal status known shelf ends;
+      by_case =
+          refused_meets commands sound words files failed failed' written faults err status journal refusal known shelf empty ends;
       told =
           λ tells. refused_told commands words files failed failed' out err [] refusal status known ends
           (tells_apart commands sound status tells);
       among = inr (refused_among err refusal status ends);
       usage = refused_usage commands.may_read (commands.asking.reading words) failed failed' err refusal status shelf ends;
       no_command = λ none. refused_words err refusal status (no_command none) ends;
-      text =
-          for_each commands.asking words files (λ case. commands.whole status → TakesAll out (text_of commands case))
-          (λ case is. absurd (not_whole is));
-      prefix =
-          for_each commands.asking words files (λ case. TakesPart out (text_of commands case))
-          (λ case. prefix_none written (text_of commands case));
       refused = λ is. Keeps-same written;
       quiet = λ is. absurd (not_whole is);
-      line = refused_line commands words files failed failed' out err [] refusal status known ends;
       read_fault = refused_read commands words files failed failed' out err refusal status journal known shelf ends;
       write_fault = λ is. refused_write commands commands.log call (refused_fault out err refusal status ends is);
-      stopped =
-          λ is. refused_tells commands commands.log call (record { written = refl; faults = refl }) empty
-          (λ error. refused_stopped commands words files failed failed' out err error refusal status known shelf ends is);
       untouched =
           λ tells. refused_untouched commands.may_read (commands.asking.reading words) failed failed' err refusal status shelf ends
           (tells_apart commands sound status tells);
       unread = unread;
-      missing = refused_missing commands words files failed failed' out err [] refusal status known shelf ends;
       journal = λ unbegun. empty;
-      unbegun = for_each commands.asking words files (λ case. HasWork case ⊎ IsEmpty journal) (λ case. inr empty);
-      lawful =
-          for_each commands.asking words files (λ case. ForRun commands case (λ work. commands.lawful work journal))
-          (λ case. empty_lawful commands sound case journal empty);
-      complete = λ is. absurd (not_whole is);
-      retired =
-          for_each commands.asking words files (λ case. ForRun commands case (λ work. commands.retired work journal out))
-          (λ case. empty_retired commands sound case journal written faults empty);
     }

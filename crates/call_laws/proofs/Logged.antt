@@ -35,7 +35,7 @@ use Rattle.call_cases.specs.meaning.Case.{IsCaseOf, IsCase, no_program, of_text,
 use Rattle.call_cases.specs.meaning.InputFiles.{supplied_by, supplied_for, then_load, with_faults, load_faults}
 use Rattle.call_cases.specs.meaning.Journals.{run_of, retired_in, lines_before, HoldsRetired, TakesRetiredFor}
 use Rattle.call_cases.specs.meaning.RunCommands as run
-use Rattle.call_cases.specs.meaning.Headline.{Call, TellsStop, Headline}
+use Rattle.call_cases.specs.meaning.Headline.{Call, TellsStop, MeetsCase, Headline}
 use Rattle.call_cases.proofs.OneCase.{one_case_of}
 use Rattle.batch_calls.specs.meaning.LogCommands as log
 use Rattle.batch_calls.specs.meaning.LogCommands.{TakesLog}
@@ -101,20 +101,18 @@ module _ (call : Call) (files : Files) (names : List Name) (work : ToDo) (headli
   runs : is_journalled work.command ≡ true
   runs = ap is_journalled command
 
+  meets : MeetsCase log.commands call (Go names work)
+  meets = subst (λ told. ForCase log.asking call.words told (MeetsCase log.commands call)) known headline.by_case (Go names work) is
+
   held : HoldsRetired work call.journal call.out
-  held =
-      (subst (λ c. TakesRetiredFor c work call.journal call.out) command
-      (subst (λ told. ForCase log.asking call.words told
-      (λ case. ForRun log.commands case (λ w. TakesRetiredFor w.command w call.journal call.out))) known headline.retired (Go names work) is runs)).0
+  held = (subst (λ c. TakesRetiredFor c work call.journal call.out) command (meets.retired runs)).0
 
   logged_of : HasBegun call → TakesLog work call.journal call.err
   logged_of (inl whole) =
       (subst (λ told. ForCase log.asking call.words told
       (λ case. ForRun log.commands case (λ w. TakesAll call.err (log.log_for w) × TakesLog w call.journal call.err))) known
       (headline.quiet whole) (Go names work) is runs).1
-  logged_of (inr stopped) =
-      go (subst (λ told. ForCase log.asking call.words told (TellsStop log.commands call log.commands.log)) known
-      (headline.stopped stopped.0) (Go names work) is)
+  logged_of (inr stopped) = go (meets.stopped stopped.0)
     where
       go : TellsStop log.commands call log.commands.log (Go names work) → TakesLog work call.journal call.err
       go (inl unbegun) = absurd (stopped.1 unbegun.0)
