@@ -22,7 +22,7 @@ use Rattle.call_cases.specs.declared.reading.Refusal.TheVariants.{Usage as Refus
 use Rattle.call_cases.specs.meaning.Work.{Files, Case, Refused, Go}
 use Rattle.call_cases.specs.meaning.Commands.{Commands, Log, MayLog, Unlogged, Logged}
 use Rattle.call_cases.specs.Commands.{AreSound, IsApart}
-use Rattle.call_cases.specs.meaning.Case.{IsCase, ForCase, ForRun, HasWork, names_read, status_of, text_of, line_of}
+use Rattle.call_cases.specs.meaning.Case.{IsCase, ForCase, ForRun, HasWork, names_read, status_of, text_of, due_of}
 use Rattle.call_cases.specs.meaning.Lines.{usage_line, out_of_memory_line, write_fault_line}
 use Rattle.call_cases.specs.Refusals.{RefusesCase, RefusesWords, RefusesShelf, TakesRefusal, RefusalEnds, usage_told, program_told, input_told, read_told, refusal_no_memory, refusal_failed}
 use Rattle.call_cases.specs.meaning.Answers.{Change, TakesAll, TakesPart, IsUntouched, Fails, Grew, IsEmpty, IsStopLine, TakesStop, Yields, due_status, no_memory, read_fault, write_fault}
@@ -145,13 +145,13 @@ module _ (text trace : List ℕ) (due : ℕ) (out err : Change) where
   run_not_refused status is_apart (output_failed part fails told) is = grind (arith, is)
   run_not_refused status is_apart (error_failed part fails stop) is = grind (arith, is)
 
-  run_stopped : (is_due : List ℕ → Type 0) (line : List ℕ) → is_due line → is_due trace → (status : ℕ) → IsApart due
+  run_stopped : (is_due : List ℕ → Type 0) → is_due trace → (status : ℕ) → IsApart due
       → RunEnds text trace due out err status → IsStop status → TakesStopLines is_due err
-  run_stopped is_due line for_case for_trace status is_apart (finished all traced) is = absurd (grind (arith, is_apart, is))
-  run_stopped is_due line for_case for_trace status is_apart (run_no_memory part stop) is = (trace, for_trace, stop)
-  run_stopped is_due line for_case for_trace status is_apart (output_failed part fails told) is =
-      stop_lines is_due err line write_fault_line for_case (inr refl) (prefix_whole err.written err.written' write_fault_line told)
-  run_stopped is_due line for_case for_trace status is_apart (error_failed part fails stop) is = (trace, for_trace, stop)
+  run_stopped is_due for_trace status is_apart (finished all traced) is = absurd (grind (arith, is_apart, is))
+  run_stopped is_due for_trace status is_apart (run_no_memory part stop) is = (trace, for_trace, stop)
+  run_stopped is_due for_trace status is_apart (output_failed part fails told) is =
+      stop_lines is_due err trace write_fault_line for_trace (inr refl) (prefix_whole err.written err.written' write_fault_line told)
+  run_stopped is_due for_trace status is_apart (error_failed part fails stop) is = (trace, for_trace, stop)
 
 -- what was begun to be done, and of which a log is kept
 module _ (text rows : List ℕ) (taken : Change → Type 0) (due : ℕ) (out err : Change) (journal : Journal) where
@@ -340,8 +340,8 @@ run_headline {A} {T} commands sound words files failed failed' out err status jo
       quiet = λ is. subst (IsQuiet commands call) (sym unlogged) (run_whole text error due out err status ends (sound.apart status is)).1;
       write_fault = λ is. subst (TellsWrite commands call) (sym unlogged) (run_fault text error due out err status apart ends is);
       stopped = λ is. subst (λ log. TellsStop commands call log (Go names work)) (sym unlogged)
-          (run_stopped text error due out err (IsDue {T = T} (Grew failed failed') (Go names work) error) [] (inl refl)
-          (inr (inl (tt, refl))) status apart ends is);
+          (run_stopped text error due out err (IsDue {T = T} (Grew failed failed') (Go names work) error) (inl refl) status apart
+          ends is);
     })
 
 -- what a stop tells of the case where this log is kept
@@ -451,21 +451,21 @@ module _ {A T : Type 0} (commands : Commands A T) (words : List (List ℕ)) (fil
 
   refused_line : (refusal : Refusal) (status : ℕ) → IfSome files (λ told. RefusesCase (IsCase commands.asking words told) refusal)
       → RefusalEnds err refusal status
-      → ForCase commands.asking words files (λ case. HasCaseLine status → TakesAll err (line_of case))
+      → ForCase commands.asking words files (λ case. HasCaseLine status → TakesAll err (due_of case []))
   refused_line refusal status known (usage_told all) =
-      for_known commands.asking words files (Refused 2 [] usage_line) (λ case. HasCaseLine 2 → TakesAll err (line_of case)) known (λ _. all)
+      for_known commands.asking words files (Refused 2 [] usage_line) (λ case. HasCaseLine 2 → TakesAll err (due_of case [])) known (λ _. all)
   refused_line refusal status known (program_told {line} all) =
       for_some commands words files Name (λ name. Refused 3 (name ∷ []) line)
-      (λ case. HasCaseLine 3 → TakesAll err (line_of case)) known (λ name _. all)
+      (λ case. HasCaseLine 3 → TakesAll err (due_of case [])) known (λ name _. all)
   refused_line refusal status known (input_told {line} all) =
       for_some commands words files (List Name) (λ names. Refused 4 names line)
-      (λ case. HasCaseLine 4 → TakesAll err (line_of case)) known (λ names _. all)
+      (λ case. HasCaseLine 4 → TakesAll err (due_of case [])) known (λ names _. all)
   refused_line refusal status known (read_told all) =
-      for_each commands.asking words files (λ case. HasCaseLine 7 → TakesAll err (line_of case)) (λ case is. absurd (grind (arith, is)))
+      for_each commands.asking words files (λ case. HasCaseLine 7 → TakesAll err (due_of case [])) (λ case is. absurd (grind (arith, is)))
   refused_line refusal status known (refusal_no_memory taken) =
-      for_each commands.asking words files (λ case. HasCaseLine 1 → TakesAll err (line_of case)) (λ case is. absurd (grind (arith, is)))
+      for_each commands.asking words files (λ case. HasCaseLine 1 → TakesAll err (due_of case [])) (λ case is. absurd (grind (arith, is)))
   refused_line refusal status known (refusal_failed fails taken) =
-      for_each commands.asking words files (λ case. HasCaseLine 8 → TakesAll err (line_of case)) (λ case is. absurd (grind (arith, is)))
+      for_each commands.asking words files (λ case. HasCaseLine 8 → TakesAll err (due_of case [])) (λ case is. absurd (grind (arith, is)))
 
   refused_told : (refusal : Refusal) (status : ℕ) → IfSome files (λ told. RefusesCase (IsCase commands.asking words told) refusal)
       → RefusalEnds err refusal status → IsApart status ⊎ HasCaseLine status
@@ -512,7 +512,7 @@ module _ {A T : Type 0} (commands : Commands A T) (words : List (List ℕ)) (fil
       → TakesRefusal refusal err → ForCase commands.asking words files (λ case. TakesStopLines (Due case) err)
   refused_stop refusal known shelf (line, inr for_stop, part) =
       for_each commands.asking words files (λ case. TakesStopLines (Due case) err)
-      (λ case. stop_lines (Due case) err (line_of case) line (inl refl) for_stop part)
+      (λ case. stop_lines (Due case) err (due_of case error) line (inl refl) for_stop part)
   refused_stop RefusedUsage known shelf (line, inl tells, part) =
       for_known commands.asking words files (Refused 2 [] usage_line) (λ case. TakesStopLines (Due case) err) known
       (due_lines (Due (Refused 2 [] usage_line)) err line (inl tells) part)
@@ -530,7 +530,7 @@ module _ {A T : Type 0} (commands : Commands A T) (words : List (List ℕ)) (fil
       for_read None is = tt
       for_read (Some files) (case, is, reads) =
           for_known commands.asking words (Some files) case (λ c. TakesStopLines (Due c) err) is
-          (due_lines (Due case) err line (inr (inr (shelf.1, name, reads, tells))) part)
+          (due_lines (Due case) err line (inr (shelf.1, name, reads, tells)) part)
   refused_stop OutOfMemory known shelf (line, inl tells, part) = absurd tells
 
   refused_stopped : (refusal : Refusal) (status : ℕ) → IfSome files (λ told. RefusesCase (IsCase commands.asking words told) refusal)

@@ -39,10 +39,10 @@ abbrev pub ForCase : {A T : Type 0} → Asking A T → List (List ℕ) → Optio
 ForCase asking words None P = ⊤
 ForCase {T} asking words (Some files) P = (case : Case T) → IsCase asking words files case → P case
 
--- its line on the error stream
-abbrev pub line_of : {T : Type 0} → Case T → List ℕ
-line_of (Refused status names line) = line
-line_of (Go names work) = []
+-- what the error stream is to take: the line of a refusal, or this at the end of what is done
+abbrev pub due_of : {T : Type 0} → Case T → (error : List ℕ) → List ℕ
+due_of (Refused status names line) error = line
+due_of (Go names work) error = error
 
 -- the files that are read, in the order of reading
 abbrev pub names_read : {T : Type 0} → Case T → List Name

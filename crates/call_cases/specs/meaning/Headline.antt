@@ -5,7 +5,7 @@ use Rattle.gp_base.specs.meaning.Files.{GrowsByOnly}
 use Rattle.task_ast.specs.meaning.Tree.{Name}
 use Rattle.call_cases.specs.meaning.Work.{Files, Case}
 use Rattle.call_cases.specs.meaning.Commands.{Commands, MayLog, Unlogged, Logged}
-use Rattle.call_cases.specs.meaning.Case.{IsCase, ForCase, ForRun, HasWork, status_of, text_of, line_of, names_read}
+use Rattle.call_cases.specs.meaning.Case.{IsCase, ForCase, ForRun, HasWork, status_of, text_of, due_of, names_read}
 use Rattle.call_cases.specs.meaning.Lines.{read_fault_line, write_fault_line}
 use Rattle.call_cases.specs.meaning.Answers.{Change, TakesAll, TakesPart, TakesNothing, IsUntouched, Fails, Grew, Yields, TakesStop, IsEmpty}
 
@@ -32,12 +32,10 @@ IsRefusal status = HasCaseLine status ⊎ (status ≡ 7)
 abbrev pub IsStop : ℕ → Type 0
 IsStop status = (status ≡ 1) ⊎ (status ≡ 8)
 
--- what the error stream is to take for the case: the line of the case, or, where a read failed, of a file that it reads, or, where there
--- is something to be done, what it takes at the end of that
+-- what the error stream is to take for the case, or, where a read failed, the line of a file that it reads
 abbrev pub IsDue : {T : Type 0} → (grew : Type 0) → Case T → (error : List ℕ) → List ℕ → Type 0
 IsDue grew case error due =
-    (due ≡ line_of case) ⊎ HasWork case × (due ≡ error)
-    ⊎ grew × (name : Name) × Contains (names_read case) name × (due ≡ read_fault_line name)
+    (due ≡ due_of case error) ⊎ grew × (name : Name) × Contains (names_read case) name × (due ≡ read_fault_line name)
 
 -- the error stream took a prefix of what is due, and then a prefix of the line that tells the stop
 abbrev pub TakesStopLines : (is_due : List ℕ → Type 0) → Change → Type 0
@@ -107,7 +105,7 @@ pub record MeetsCase {A T : Type 0} (commands : Commands A T) (call : Call) (cas
   pub text : commands.whole call.status → TakesAll call.out (text_of commands case)
   pub prefix : TakesPart call.out (text_of commands case)
   -- The error stream grew by the line that tells a refusal, and where the call stopped by what is due then.
-  pub line : HasCaseLine call.status → TakesAll call.err (line_of case)
+  pub line : HasCaseLine call.status → TakesAll call.err (due_of case [])
   pub stopped : IsStop call.status → TellsStop commands call commands.log case
   -- Where a file that is read is not there, a read of it failed, or memory ran out before; status 8 then says that the line of that could
   -- not be written.
