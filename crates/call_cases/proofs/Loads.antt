@@ -28,6 +28,7 @@ use Rattle.batch_files.specs.meaning.Feeds.{feed_by}
 use Rattle.call_cases.specs.declared.reading.Refusal.{Refusal}
 use Rattle.call_cases.specs.declared.reading.Refusal.TheVariants as refused
 use Rattle.call_cases.specs.meaning.Work.{Files, Case, Refused, Go}
+use Rattle.call_cases.specs.meaning.Case.{names_read}
 use Rattle.call_cases.specs.meaning.Lines.{input_line}
 use Rattle.call_cases.specs.meaning.InputFiles.{no_inputs, are_rows, feed_where, feed_with, with_cells, with_feed, room_after, record_rows, feed_rows, fault_rows, more_cells, more_feed, by_rows, by_file, load_faults, by_record, load_head, then_load, load}
 use Rattle.call_cases.specs.InputFiles.{named, names_in, file_names}

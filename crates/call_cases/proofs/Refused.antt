@@ -53,10 +53,10 @@ use Rattle.call_cases.specs.Decided.{ComesTo, IsAcceptedIn, IsRefusedWith, Refus
 use Rattle.gp_base.specs.meaning.Files.{bytes_of, AnswersRead}
 
 pub decided_by_line : (asked : Asked) (text line : List ℕ) (refusal : Refusal) → IsRefusedWith line refusal
-    → ComesTo asked text (BadCase asked.program line) → IsAcceptedIn asked text (Err refusal)
+    → ComesTo asked text (Refused 3 (asked.program ∷ []) line) → IsAcceptedIn asked text (Err refusal)
 decided_by_line asked text line RefusedUsage with_line is = with_line
 decided_by_line asked text line (RefusedProgram told) with_line is =
-    subst (λ l. ComesTo asked text (BadCase asked.program l)) (sym with_line) is
+    subst (λ l. ComesTo asked text (Refused 3 (asked.program ∷ []) l)) (sym with_line) is
 decided_by_line asked text line (RefusedInput told) with_line is = with_line
 decided_by_line asked text line (ReadFault name) with_line is = with_line
 decided_by_line asked text line OutOfMemory with_line is = tt
@@ -272,15 +272,15 @@ lexed-long text long = ap (λ test. if test then Err lex.TooLong else lexed_afte
 
 long_file : (files : Files) (asked : Asked) → (found : Option (List ℕ)) → bytes_of files asked.program ≡ found
     → IsSomeAnd found (λ text. MOST_PROGRAM_BYTES < length text)
-    → IsCaseOf asking asked files (BadCase asked.program (lex_line lex.TooLong))
+    → IsCaseOf asking asked files (Refused 3 (asked.program ∷ []) (lex_line lex.TooLong))
 long_file files asked None is long = absurd long
 long_file files asked (Some text) is long = of_text (LexFails lex.TooLong) is (lexed-long text long)
 
 long_answer : (asked : Asked) (files : Files) (name line : List ℕ) (refusal : Refusal) → IsRefusedWith line refusal
-    → IsCaseOf asking asked files (BadCase name line) → RefusesCase (IsCaseOf asking asked files) refusal
+    → IsCaseOf asking asked files (Refused 3 (name ∷ []) line) → RefusesCase (IsCaseOf asking asked files) refusal
 long_answer asked files name line RefusedUsage with_line is = absurd with_line
 long_answer asked files name line (RefusedProgram told) with_line is =
-    (name, subst (λ l. IsCaseOf asking asked files (BadCase name l)) (sym with_line) is)
+    (name, subst (λ l. IsCaseOf asking asked files (Refused 3 (name ∷ []) l)) (sym with_line) is)
 long_answer asked files name line (RefusedInput told) with_line is = absurd with_line
 long_answer asked files name line (ReadFault other) with_line is = absurd with_line
 long_answer asked files name line OutOfMemory with_line is = tt

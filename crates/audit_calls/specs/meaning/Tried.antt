@@ -2,7 +2,6 @@
 use Rattle.std.specs.Prelude.{◌≡◌, ℕ, List, [], ◌∷◌, ◌++◌, All, Option, Result, Ok, Err}
 use Rattle.gp_base.specs.meaning.Files.{bytes_of}
 use Rattle.gp_base.specs.declared.fault.Fault.{Fault}
-
 use Rattle.task_ast.specs.meaning.Tree.{Name, Program}
 use Rattle.dependence.specs.meaning.Restarts.{Dependence}
 use Rattle.gp_audit.specs.declared.line.TraceLine.{TraceLine}

@@ -1,7 +1,6 @@
 -- What there is to be shown for a call, and the text that shows it.
 use Rattle.std.specs.Prelude.{ℕ, List, [], ◌∷◌, ◌++◌, Option, Some, None, unwrap_or, Result, Ok, Err, if◌then◌else◌}
 use Rattle.gp_base.specs.meaning.Files.{bytes_of}
-
 use Rattle.task_ast.specs.meaning.Tree.{Name, Program}
 use Rattle.gp_audit.specs.declared.line.TraceLine.{TraceLine}
 use Rattle.command_line.specs.declared.asked.Command.{Command}
