@@ -1,5 +1,5 @@
 -- From what the parts of the call ensure to what is promised of it.
-use Rattle.std.proofs.Common.{◌≡◌, ◌⊎◌, ◌∙◌, ℕ, List, [], IfSome, refl, sym, subst, inl, inr, arith}
+use Rattle.std.proofs.Common.{◌≡◌, ◌⊎◌, ◌∙◌, ℕ, List, [], ◌∷◌, IfSome, refl, sym, subst, inl, inr, arith}
 use Rattle.std.specs.Prelude.{IsSomeAnd}
 use Rattle.std.specs.List.{Contains}
 use Rattle.std.specs.declared.option.Option.{Option}
@@ -10,10 +10,11 @@ use Rattle.task_ast.specs.meaning.Tree.{Name}
 use Rattle.command_line.specs.declared.asked.Asked.{Asked}
 use Rattle.call_cases.specs.declared.reading.Refusal.{Refusal}
 use Rattle.call_cases.specs.declared.reading.Refusal.TheVariants.{Usage as RefusedUsage, BadProgram as RefusedProgram, BadInput as RefusedInput, ReadFault, OutOfMemory}
-use Rattle.call_cases.specs.meaning.Work.{Files, ToDo}
+use Rattle.call_cases.specs.meaning.Work.{Files, ToDo, Case, Refused, Go}
 use Rattle.call_cases.specs.meaning.RunCommands.{IsWhole, end_status}
 use Rattle.call_cases.specs.meaning.PlainText.{plain_ran}
-use Rattle.call_cases.specs.meaning.Case.{Case, Usage, BadProgram, BadInput, Go, IsCase, ForCase, names_read}
+use Rattle.call_cases.specs.meaning.Case.{IsCase, ForCase, names_read}
+use Rattle.call_cases.specs.meaning.Lines as gprs
 use Rattle.call_cases.specs.Refusals.{RefusesCase, RefusesWords}
 use Rattle.call_cases.specs.meaning.Answers.{Change, TakesAll, TakesPart, Fails, Grew, Yields, due_status, no_memory, read_fault, write_fault}
 use Rattle.call_cases.specs.meaning.Headline.{HasCaseLine, IsStop}
@@ -277,17 +278,17 @@ module _ (words : List (List ℕ)) (files : Option Files) (before now : List Nam
       → LeavesShelf (explained_by words) before now refusal
       → TellEnds text (refusal_status refusal) (refusal_line refusal) out err status → Explains (view status)
   refusal_explains RefusedUsage text status no_text no_command unread is shelf ends =
-      explains_known (Unit {0}) (λ _. Usage) text 2 usage_line (alone (λ told. IsCase asking words told Usage) is) (λ _. refl) (λ _. refl)
-      (λ _. no_text) (inr (inl refl)) (λ _. shelf.0) (λ _. refl) (λ ran. absurd (grind (arith, ran))) (λ _. shelf.1) unread status
+      explains_known (Unit {0}) (λ _. Refused 2 [] gprs.usage_line) text 2 usage_line (alone (λ told. IsCase asking words told (Refused 2 [] gprs.usage_line)) is) (λ _. refl) (λ _. refl)
+      (λ _. inr (inr no_text)) (inr (inl refl)) (λ _. shelf.0) (λ _. refl) (λ ran. absurd (grind (arith, ran))) (λ _. shelf.1) unread status
       (outcome text 2 usage_line out err status ends)
   refusal_explains (RefusedProgram told) text status some_words no_command unread is shelf ends =
-      explains_known Name (λ name. BadProgram name told) text 3 (under_own_name told) is (λ _. refl) (λ _. refl)
-      (λ _. tt) (inr (inr (inl refl))) (λ two. absurd (omega (arith, two))) (λ none. absurd (no_command none))
+      explains_known Name (λ name. Refused 3 (name ∷ []) told) text 3 (under_own_name told) is (λ _. refl) (λ _. refl)
+      (λ _. inl refl) (inr (inr (inl refl))) (λ two. absurd (omega (arith, two))) (λ none. absurd (no_command none))
       (λ ran. absurd (grind (arith, ran))) (λ _. shelf) unread status
       (outcome text 3 (under_own_name told) out err status ends)
   refusal_explains (RefusedInput told) text status some_words no_command unread is shelf ends =
-      explains_known (List Name) (λ names. BadInput names told) text 4 (under_own_name told) is (λ _. refl) (λ _. refl)
-      (λ _. tt) (inr (inr (inr refl))) (λ two. absurd (omega (arith, two))) (λ none. absurd (no_command none))
+      explains_known (List Name) (λ names. Refused 4 names told) text 4 (under_own_name told) is (λ _. refl) (λ _. refl)
+      (λ _. inr (inl refl)) (inr (inr (inr refl))) (λ two. absurd (omega (arith, two))) (λ none. absurd (no_command none))
       (λ ran. absurd (grind (arith, ran))) (λ ran. absurd (grind (arith, ran))) unread status
       (outcome text 4 (under_own_name told) out err status ends)
   refusal_explains (ReadFault name) text status no_text no_command unread is shelf ends =

@@ -10,8 +10,7 @@ use Rattle.call_cases.specs.declared.reading.Refusal.{Refusal}
 use Rattle.call_cases.specs.declared.reading.Refusal.TheVariants.{Usage, BadProgram, BadInput, ReadFault, OutOfMemory}
 use Rattle.call_cases.specs.meaning.RunCommands.{MayRead, end_status}
 use Rattle.call_cases.specs.meaning.PlainText.{plain_ran}
-use Rattle.call_cases.specs.meaning.Work.{ToDo}
-use Rattle.call_cases.specs.meaning.Case.{Go}
+use Rattle.call_cases.specs.meaning.Work.{ToDo, Go}
 use Rattle.call_cases.specs.meaning.Answers.{Change, TakesAll, TakesPart, Fails}
 use Rattle.call_cases.specs.Answers.{LineEnds}
 use Rattle.call_cases.specs.Refusals.{RefusesShelf}

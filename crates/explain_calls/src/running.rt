@@ -9,7 +9,7 @@ ghost use Rattle.restart_log.specs.meaning.Tail.{why_word};
 ghost use Rattle.one_thread.specs.PlainRuns.{IsPlainRun, Stands};
 ghost use Rattle.command_line.specs.Words.{IsWithinLimits};
 ghost use Rattle.call_cases.specs.Decided.{work_of, program_in};
-ghost use Rattle.call_cases.specs.meaning.Case.{Go};
+ghost use Rattle.call_cases.specs.meaning.Work.{Go};
 ghost use Rattle.explain_calls.specs.meaning.Fronts.{ending_line, stuck_waits, front, last_table, IsText};
 
 use crate::counts::push_counts;

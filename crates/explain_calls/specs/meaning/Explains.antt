@@ -1,9 +1,9 @@
 -- What each call of `gprs_view explain` is promised to do.
 use Rattle.std.specs.Prelude.{◌≡◌, ◌⊎◌, ℕ, List, [], None, Contains, IfSome}
 use Rattle.task_ast.specs.meaning.Tree.{Name}
-use Rattle.call_cases.specs.meaning.Work.{ToDo}
+use Rattle.call_cases.specs.meaning.Work.{ToDo, Case}
 use Rattle.call_cases.specs.meaning.RunCommands.{IsWhole}
-use Rattle.call_cases.specs.meaning.Case.{Case, IsCase, ForCase, names_read}
+use Rattle.call_cases.specs.meaning.Case.{IsCase, ForCase, names_read}
 use Rattle.call_cases.specs.meaning.Answers.{TakesAll, TakesPart, Fails, Grew, Yields}
 use Rattle.call_cases.specs.meaning.Headline.{HasCaseLine, IsStop}
 use Rattle.view_calls.specs.meaning.Lines.{read_fault_line, write_fault_line}

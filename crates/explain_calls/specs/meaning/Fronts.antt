@@ -1,5 +1,5 @@
 -- The texts that may be told of a case. That of a run begins with how it ends and, where no thread can go on, what each waits for.
-use Rattle.std.specs.Prelude.{◌≡◌, ℕ, List, [], ◌++◌, length, map, codes, decimal, ⊤}
+use Rattle.std.specs.Prelude.{◌≡◌, ◌⊎◌, ℕ, List, [], ◌++◌, length, map, codes, decimal}
 use Rattle.gp_base.specs.declared.ending.End.{End}
 use Rattle.gp_base.specs.declared.ending.End.TheVariants.{Finished, Stuck, Spent}
 use Rattle.gp_base.specs.declared.ending.Why.{Why}
@@ -13,8 +13,7 @@ use Rattle.task_ast.specs.Plain.{order, end}
 use Rattle.task_ast.specs.Position.{before}
 use Rattle.restart_log.specs.meaning.Tail.{why_word}
 use Rattle.run_views.specs.meaning.Waits.{waits_text}
-use Rattle.call_cases.specs.meaning.Work.{ToDo}
-use Rattle.call_cases.specs.meaning.Case.{Case, Usage, Missing, BadProgram, BadInput, Go}
+use Rattle.call_cases.specs.meaning.Work.{ToDo, Case, Refused, Go}
 
 -- how a run ends
 abbrev pub ending_line : End → List ℕ
@@ -44,8 +43,5 @@ module _ (program : Program) (inputs : Inputs) (limits : Limits) where
 
 -- The texts of a case. The words of a refusal are left open, and what is told of a run behind its front.
 abbrev pub IsText : Case ToDo → List ℕ → Type 0
-IsText Usage text = text ≡ []
-IsText (Missing names name) text = text ≡ []
-IsText (BadProgram name line) text = ⊤
-IsText (BadInput names line) text = ⊤
+IsText (Refused status names line) text = (status ≡ 3) ⊎ (status ≡ 4) ⊎ (text ≡ [])
 IsText (Go names work) text = (more : List ℕ) × (text ≡ front work.program work.inputs work.limits ++ more)
