@@ -1,7 +1,7 @@
 -- What there is to be done for a call has numbers of 32 bits.
 use Rattle.std.proofs.Common.{ℕ, Bool, List, arith}
 use Rattle.task_ast.specs.meaning.Tree.{Name}
-use Rattle.task_ast.specs.meaning.Plain.{tree_machine}
+use Rattle.task_ast.specs.Plain.{tree_machine}
 use Rattle.task_ast.proofs.PlainRuns.{count_law}
 use Rattle.gp_traces.specs.Laws.{IsNarrowRun}
 use Rattle.call_cases.specs.meaning.Work.{Files, ToDo}

@@ -5,7 +5,8 @@ use Rattle.std.specs.declared.result.Result.{Result}
 use Rattle.std.specs.declared.result.Result.TheVariants.{Ok}
 use Rattle.gp_base.specs.meaning.Files.{bytes_of}
 use Rattle.task_ast.specs.meaning.Tree.{Name}
-use Rattle.task_ast.specs.meaning.Plain.{Subthread, order}
+use Rattle.task_ast.specs.meaning.Plain.{Subthread}
+use Rattle.task_ast.specs.Plain.{order}
 use Rattle.dependence.specs.meaning.Restarts.{Dependence}
 use Rattle.dependence.specs.meaning.Restarts.{restarts}
 use Rattle.dependence.specs.meaning.Journal.{Complete}

@@ -11,7 +11,7 @@ use Rattle.gp_base.specs.declared.sink.SinkFault.{SinkFault}
 use Rattle.gp_base.specs.declared.sink.SinkFault.TheVariants.{Failed, OutOfMemory}
 use Rattle.gp_base.proofs.Written.{prefix_none}
 use Rattle.task_ast.specs.meaning.Tree.{Program}
-use Rattle.task_ast.specs.meaning.Plain.{order, tree_machine}
+use Rattle.task_ast.specs.Plain.{order, tree_machine}
 use Rattle.task_ast.proofs.PlainRuns.{count_law}
 use Rattle.one_thread.specs.PlainRuns.{shown}
 use Rattle.one_thread.specs.declared.run.Step.{Step}

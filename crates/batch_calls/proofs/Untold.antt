@@ -20,7 +20,7 @@ use Rattle.call_cases.specs.meaning.Answers.{Change}
 use Rattle.call_cases.specs.Answers.{PutFor}
 use Rattle.batch_calls.specs.inner.Planned.{without_faults}
 use Rattle.batch_calls.specs.inner.Ran.{RanFor, fault_of}
-use Rattle.task_ast.specs.meaning.Plain.{order}
+use Rattle.task_ast.specs.Plain.{order}
 
 -- no fault makes a restart
 none_struck : (dependence : Dependence) (at : Progress) → struck_next dependence [] at ≡ None

@@ -12,7 +12,7 @@ use Rattle.gp_base.specs.declared.journal.Journal.{Journal}
 use Rattle.task_ast.specs.declared.check_kind.CheckKind.{CheckKind}
 use Rattle.task_ast.specs.meaning.Tree.{Name, Program}
 use Rattle.task_ast.specs.meaning.Check.{check_fault}
-use Rattle.task_ast.specs.meaning.Plain.{order}
+use Rattle.task_ast.specs.Plain.{order}
 use Rattle.task_ast.specs.Shaped.{IsAccepted, is_shaped}
 use Rattle.task_parser.specs.meaning.Spelling.{Meaning, Means, Stands, LexFails, ParseFails}
 use Rattle.task_parser.proofs.ShapedSpelling.{spelled_is_shaped}

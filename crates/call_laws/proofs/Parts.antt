@@ -9,7 +9,8 @@ use Rattle.gp_base.specs.declared.limits.Limits.{Limits}
 use Rattle.gp_base.specs.declared.feed.Inputs.{Inputs}
 use Rattle.task_ast.specs.declared.effect.Effect.{Effect}
 use Rattle.task_ast.specs.meaning.Tree.{Program}
-use Rattle.task_ast.specs.meaning.Plain.{Subthread, order}
+use Rattle.task_ast.specs.meaning.Plain.{Subthread}
+use Rattle.task_ast.specs.Plain.{order}
 use Rattle.task_ast.specs.Shaped.{IsAccepted}
 use Rattle.restart_log.specs.meaning.Lines.{printed, printed_line}
 use Rattle.crew.specs.meaning.Noted.{left_in_order}

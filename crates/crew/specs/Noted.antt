@@ -1,7 +1,7 @@
 -- What a run with threads tells of itself to those who take notes.
 use Rattle.std.specs.Prelude.{◌≡◌, ℕ, List, [], ◌∷◌, ◌++◌, Option, Some, nat_eq, cond, length}
 use Rattle.task_ast.specs.declared.effect.Effect.{Effect}
-use Rattle.task_ast.specs.meaning.Position.{before}
+use Rattle.task_ast.specs.Position.{before}
 
 -- what notes tell: the known bytes of the log as it began and as it is, what the last result of each position left that
 -- was noted, and what the positions left that have retired, in order from the first

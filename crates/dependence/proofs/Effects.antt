@@ -11,7 +11,7 @@ use Rattle.std.proofs.lemmas.Bool.{eqb-true, eq-eqb, false≢true}
 use Rattle.std.proofs.Math.Path.{fun_ext}
 use Rattle.task_ast.specs.meaning.State.{Location, RegistersOf, CellOf, State, cell_value, number_at}
 use Rattle.task_ast.specs.declared.effect.Effect.{Effect}
-use Rattle.task_ast.specs.meaning.Effect.{after, one_number, left_to}
+use Rattle.task_ast.specs.meaning.Effect.{after, left_to}
 use Rattle.task_ast.specs.History.{named_child, named, IsNamed, old_write, old_child, old_of}
 use Rattle.dependence.specs.Histories.{HasCells, AfterLaw, HistoryLaw, UndoLaw}
 
@@ -73,8 +73,8 @@ pub history_is : HistoryLaw
 history_is e state cells (CellOf c) = rw (find_old (cell_value state) e.writes c, cells c) (go (find nat_cmp c e.writes))
   where
     go : (o : Option ℤ)
-        → option_map one_number (option_map (λ v. cell_value state c) o)
-        ≡ option_map (λ value. cell_value state c ∷ []) (option_map one_number o)
+        → option_map (λ v. v ∷ []) (option_map (λ v. cell_value state c) o)
+        ≡ option_map (λ value. cell_value state c ∷ []) (option_map (λ v. v ∷ []) o)
     go None = refl
     go (Some v) = refl
 history_is e state cells (RegistersOf t) = go (nat_eq t e.thread) refl e.child
@@ -139,7 +139,7 @@ module _ (left right : State) where
         prints = [];
       }
     where
-      there : (o : Option ℤ) → is_some o ≡ true → is_some (option_map one_number o) ≡ true
+      there : (o : Option ℤ) → is_some o ≡ true → is_some (option_map (λ v. v ∷ []) o) ≡ true
       there None h = h
       there (Some v) h = refl
 
@@ -168,7 +168,7 @@ pub HasCells-after : (e : Effect) (state : State) → HasCells state → HasCell
 HasCells-after e state cells c = go (find nat_cmp c e.writes)
   where
     go : (o : Option ℤ)
-        → unwrap_or (option_map one_number o) (state (CellOf c))
-        ≡ cell_value (λ place. unwrap_or (option_map one_number o) (state (CellOf c))) c ∷ []
+        → unwrap_or (option_map (λ v. v ∷ []) o) (state (CellOf c))
+        ≡ cell_value (λ place. unwrap_or (option_map (λ v. v ∷ []) o) (state (CellOf c))) c ∷ []
     go None = cells c
     go (Some v) = refl

@@ -6,7 +6,7 @@ use Rattle.gp_base.specs.declared.journal.Event.{Event}
 use Rattle.gp_base.specs.declared.journal.Event.TheVariants.{Issue, Post, Take, Restart, Retire}
 use Rattle.task_ast.specs.meaning.Body.{body, stretch}
 use Rattle.task_ast.specs.meaning.Repeat.{steps, repeated, until_done}
-use Rattle.task_ast.specs.meaning.Plain.{order}
+use Rattle.task_ast.specs.Plain.{order}
 use Rattle.task_ast.proofs.RowPrograms.{empty_batch, two_adders, settling}
 use Rattle.task_ast.proofs.RunRows.{zeros, limits}
 use Rattle.dependence.specs.meaning.Restarts.{Dependence}

@@ -23,7 +23,7 @@ use Rattle.task_ast.specs.meaning.Layout.{cells_under, layout}
 use Rattle.task_ast.specs.Layout.{IsLaidOut}
 use Rattle.task_ast.specs.meaning.Table.{numbers}
 use Rattle.task_ast.specs.meaning.State.{Location, RegistersOf, CellOf, State, number_at}
-use Rattle.task_ast.specs.meaning.Effect.{effect, joined_ret, one_number}
+use Rattle.task_ast.specs.meaning.Effect.{effect, joined_ret}
 use Rattle.task_ast.specs.Damage.{damaged, masked, all_masked}
 use Rattle.task_ast.specs.meaning.Footprint.{named_by, footprint, joined_registers, child_registers}
 use Rattle.task_ast.specs.Footprint.{lock_footprint}
@@ -156,7 +156,7 @@ module _ (m : Member) where
   within state (CellOf c) some =
       written c (writes_within (λ x. is_member x (named_by m.actions).writes) m.thread m.begins m.child m.actions state
       (writes-named m.actions) c
-      (λ none. false≢true (sym (ap (λ o. is_some (option_map one_number o))
+      (λ none. false≢true (sym (ap (λ o. is_some (option_map (λ v. v ∷ []) o))
       (find_masked (effect m.thread m.begins m.child m.actions state).writes c none)) ∙ some)))
   within state (RegistersOf t) some = go (nat_eq t m.thread) refl some
     where

@@ -4,7 +4,8 @@ use Rattle.gp_base.specs.declared.fault.Fault.{Fault}
 use Rattle.gp_base.specs.declared.journal.Restart.{Restart}
 use Rattle.task_ast.specs.meaning.Body.{body, stretch}
 use Rattle.task_ast.specs.meaning.Repeat.{steps, repeated, until_done}
-use Rattle.task_ast.specs.meaning.Plain.{Subthread, order}
+use Rattle.task_ast.specs.meaning.Plain.{Subthread}
+use Rattle.task_ast.specs.Plain.{order}
 use Rattle.task_ast.proofs.RowPrograms.{two_adders, reader_and_adder, settling}
 use Rattle.task_ast.proofs.RunRows.{zeros, limits}
 use Rattle.dependence.specs.meaning.Runs.{restarts_of}

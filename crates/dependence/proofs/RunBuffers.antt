@@ -14,10 +14,11 @@ use Rattle.gp_base.specs.declared.journal.Event.TheVariants as event
 use Rattle.task_ast.specs.meaning.Tree.{Program}
 use Rattle.task_ast.specs.meaning.State.{Location, State}
 use Rattle.task_ast.specs.meaning.Effect.{effect}
-use Rattle.task_ast.specs.meaning.Plain.{Subthread, tree_machine, order, opening, last_state}
+use Rattle.task_ast.specs.meaning.Plain.{Subthread}
+use Rattle.task_ast.specs.Plain.{tree_machine, order, opening, last_state}
 use Rattle.task_ast.specs.Fold.{fold}
 use Rattle.task_ast.specs.Members.{member_of, member_in}
-use Rattle.task_ast.specs.meaning.Position.{before}
+use Rattle.task_ast.specs.Position.{before}
 use Rattle.task_ast.proofs.Positions.{fold_below, lines_are, last_is}
 use Rattle.task_ast.proofs.WholeFolds.{undamaged}
 use Rattle.dependence.specs.meaning.Conflict.{foot_at}

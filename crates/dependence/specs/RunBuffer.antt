@@ -7,8 +7,9 @@ use Rattle.gp_base.specs.declared.journal.Event.{Event}
 use Rattle.gp_base.specs.declared.journal.Event.TheVariants as event
 use Rattle.task_ast.specs.meaning.Tree.{Program}
 use Rattle.task_ast.specs.meaning.State.{State}
-use Rattle.task_ast.specs.meaning.Plain.{Subthread, order, opening, last_state}
-use Rattle.task_ast.specs.meaning.Position.{before}
+use Rattle.task_ast.specs.meaning.Plain.{Subthread}
+use Rattle.task_ast.specs.Plain.{order, opening, last_state}
+use Rattle.task_ast.specs.Position.{before}
 use Rattle.task_ast.specs.Fold.{Member}
 use Rattle.task_ast.specs.Members.{member_in}
 use Rattle.dependence.specs.meaning.Conflict.{foot_at}

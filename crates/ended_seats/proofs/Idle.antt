@@ -6,9 +6,10 @@ use Rattle.std.proofs.lemmas.List.{length-map, length_push}
 use Rattle.std.proofs.lemmas.Option.{slice_get_within}
 use Rattle.task_ast.specs.declared.sync.SyncOp.{SyncOp}
 use Rattle.task_ast.specs.declared.sync.SyncOp.TheVariants as sync
-use Rattle.task_ast.specs.Table.{has_ended, is_known_end}
-use Rattle.task_ast.specs.meaning.Table.{Seat, Table, Waits, Released, numbers, next_of, unpassed, with_nth, new_seat, waits_at}
-use Rattle.task_ast.specs.meaning.Turn.{NoThread, met, arrived, look, look_at, released_at, seats_after, child_of}
+use Rattle.task_ast.specs.Table.{has_ended, is_known_end, Seat, Table, next_of, unpassed, new_seat, waits_at}
+use Rattle.task_ast.specs.meaning.Table.{Waits, Released, numbers, with_nth}
+use Rattle.task_ast.specs.meaning.Turn.{child_of}
+use Rattle.task_ast.specs.Turn.{NoThread, met, arrived, look, look_at, released_at, seats_after}
 use Rattle.task_ast.proofs.ChangedSeats.{first_mapped, map-replaced}
 use Rattle.task_ast.proofs.Counting.{length-with_nth}
 use Rattle.task_ast.proofs.Looks.{skipped}

@@ -1,7 +1,6 @@
 -- The threads that no turn comes to any more.
 use Rattle.std.specs.Prelude.{◌≡◌, ℕ, Bool, true, not, ◌&&◌, ◌≤◌, List, Some, slice_get}
-use Rattle.task_ast.specs.Table.{has_ended}
-use Rattle.task_ast.specs.meaning.Table.{Seat}
+use Rattle.task_ast.specs.Table.{has_ended, Seat}
 
 -- whether a thread is known to have ended, and has not passed
 abbrev pub is_idle : Seat → Bool

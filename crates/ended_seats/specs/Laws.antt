@@ -1,8 +1,10 @@
 -- Laws of a mark from which each thread is idle.
 use Rattle.std.specs.Prelude.{◌≡◌, ℕ, ◌-◌, ◌<◌, ◌≤◌, true, List, length, map, if◌then◌else◌, Some, is_some, slice_get}
 use Rattle.task_ast.specs.declared.sync.SyncOp.{SyncOp}
-use Rattle.task_ast.specs.meaning.Table.{Seat, Table, numbers, unpassed}
-use Rattle.task_ast.specs.meaning.Turn.{NoThread, look, released_at, seats_after, child_of}
+use Rattle.task_ast.specs.meaning.Table.{numbers}
+use Rattle.task_ast.specs.Table.{Seat, Table, unpassed}
+use Rattle.task_ast.specs.meaning.Turn.{child_of}
+use Rattle.task_ast.specs.Turn.{NoThread, look, released_at, seats_after}
 use Rattle.ended_seats.specs.Idle.{is_idle, IdleFrom}
 
 -- a look that begins before the mark and goes beyond it finds what it finds up to it

@@ -6,7 +6,7 @@ use Rattle.gp_base.specs.declared.ending.Why.{Why}
 use Rattle.gp_base.specs.declared.feed.Inputs.{Inputs}
 use Rattle.gp_base.specs.declared.limits.Limits.{Limits}
 use Rattle.task_ast.specs.meaning.Tree.{Program}
-use Rattle.task_ast.specs.meaning.Plain.{end}
+use Rattle.task_ast.specs.Plain.{end}
 use Rattle.call_cases.specs.meaning.Work.{ToDo}
 use Rattle.call_cases.specs.meaning.PlainText.{plain_ran}
 use Rattle.explain_calls.specs.meaning.Fronts.{ending_line, stuck_waits, last_table, waits_for, front}

@@ -1,10 +1,10 @@
 // What is told of a run.
 ghost use Rattle.std.specs.Prelude.{◌≡◌, ◌++◌, List, [], length, IfOk, OnOk};
 ghost use Rattle.task_ast.specs.declared.tree.Program.{Program as ProgramThere};
-ghost use Rattle.task_ast.specs.meaning.Table.{Table};
+ghost use Rattle.task_ast.specs.Table.{Table};
 ghost use Rattle.task_ast.specs.meaning.Control.{Point};
-ghost use Rattle.task_ast.specs.meaning.Plain.{order, end};
-ghost use Rattle.task_ast.specs.meaning.Position.{before};
+ghost use Rattle.task_ast.specs.Plain.{order, end};
+ghost use Rattle.task_ast.specs.Position.{before};
 ghost use Rattle.run_views.specs.meaning.Deadlocks.{deadlock_text};
 ghost use Rattle.one_thread.specs.PlainRuns.{IsPlainRun, Stands};
 ghost use Rattle.command_line.specs.Words.{IsWithinLimits};

@@ -3,11 +3,12 @@ use Rattle.std.proofs.Common.{◌≡◌, ℕ, ◌<◌, ◌≤◌, Bool, true, fa
 use Rattle.std.proofs.lemmas.List.{length-map}
 use Rattle.task_ast.specs.declared.sync.Next.{Next}
 use Rattle.task_ast.specs.meaning.Repeat.{Done as TurnDone}
-use Rattle.task_ast.specs.meaning.Table.{Table, is_settle}
-use Rattle.task_ast.specs.meaning.Turn.{Issue, turn}
+use Rattle.task_ast.specs.meaning.Table.{is_settle}
+use Rattle.task_ast.specs.Table.{Table}
+use Rattle.task_ast.specs.Turn.{Issue, turn}
 use Rattle.task_ast.specs.laws.Standing.{PassesTo, at_once, by_turn}
 use Rattle.task_ast.specs.laws.Threads.{ahead}
-use Rattle.task_ast.specs.meaning.Plain.{Plain}
+use Rattle.task_ast.specs.Plain.{Plain}
 use Rattle.task_ast.proofs.TurnLaws.{issue_law}
 use Rattle.record_store.specs.Stored.{state_of}
 use Rattle.token_order.specs.Turned.{settling_in}

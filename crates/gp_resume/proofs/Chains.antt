@@ -1,7 +1,8 @@
 -- Subthreads with which a run goes on, one after another.
 use Rattle.std.proofs.Common.{◌≡◌, ◌+◌, ◌≤◌, List, [], ◌∷◌, ◌++◌, length, map, sym, ap, ◌∙◌, arith, length-append}
 use Rattle.std.proofs.lemmas.List.{length-map}
-use Rattle.task_ast.specs.meaning.Plain.{Subthread, Plain}
+use Rattle.task_ast.specs.meaning.Plain.{Subthread}
+use Rattle.task_ast.specs.Plain.{Plain}
 use Rattle.gp_resume.specs.declared.course.Plan.{Plan}
 use Rattle.gp_resume.specs.inner.Flights.{Flown, Chain}
 use Rattle.gp_resume.specs.inner.Going.{rest, last}

@@ -12,7 +12,8 @@ use Rattle.task_ast.specs.meaning.State.{RegistersOf}
 use Rattle.task_ast.specs.meaning.Layout.{layout}
 use Rattle.task_ast.specs.meaning.Under.{is_under}
 use Rattle.task_ast.specs.meaning.Repeat.{Move, Goes, Ends}
-use Rattle.task_ast.specs.meaning.Plain.{Subthread, Plain, opening, move}
+use Rattle.task_ast.specs.meaning.Plain.{Subthread}
+use Rattle.task_ast.specs.Plain.{Plain, opening, move}
 use Rattle.retirement_log.specs.meaning.Rows.{Retirement}
 use Rattle.gp_resume.specs.meaning.Fitting.{writes_in, child_size, StandsUnder, least_bytes, FitsIssue, FitsMove, replayed, FitFrom, Fit}
 use Rattle.gp_resume.proofs.Choices.{Choice, same-choice, is-true, same-int, no-more, all}

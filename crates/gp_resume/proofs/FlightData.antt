@@ -9,11 +9,12 @@ use Rattle.std.proofs.lemmas.Bool.{eqb-true, false_from_ne_true, false≢true}
 use Rattle.task_ast.specs.declared.effect.Effect.{Effect}
 use Rattle.task_ast.specs.meaning.Control.{Point}
 use Rattle.task_ast.specs.meaning.State.{State, RegistersOf, CellOf, cell_value, number_at}
-use Rattle.task_ast.specs.meaning.Effect.{effect, after, left_to, one_number}
+use Rattle.task_ast.specs.meaning.Effect.{effect, after, left_to}
 use Rattle.task_ast.specs.meaning.Tree.{Program}
 use Rattle.task_ast.specs.meaning.Under.{under_lock, is_under}
 use Rattle.task_ast.specs.SyncOps.{joined_by}
-use Rattle.task_ast.specs.meaning.Plain.{Subthread, Plain, Machine, tree_machine}
+use Rattle.task_ast.specs.meaning.Plain.{Subthread}
+use Rattle.task_ast.specs.Plain.{Plain, Machine, tree_machine}
 use Rattle.task_ast.specs.Position.{IsStep}
 use Rattle.task_ast.proofs.Keeping.{names_write, writes_within}
 use Rattle.task_ast.proofs.Layouts.{accepted_sizes}
@@ -49,7 +50,7 @@ after-regs e state u ne other =
 after-cell : (e : Effect) (state : State) (c : ℕ) → ((find nat_cmp c e.writes ≡ None → ⊥) → ⊥) → after e state (CellOf c) ≡ state (CellOf c)
 after-cell e state c none = go (find nat_cmp c e.writes) none
   where
-    go : (o : Option ℤ) → ((o ≡ None → ⊥) → ⊥) → unwrap_or (option_map one_number o) (state (CellOf c)) ≡ state (CellOf c)
+    go : (o : Option ℤ) → ((o ≡ None → ⊥) → ⊥) → unwrap_or (option_map (λ v. v ∷ []) o) (state (CellOf c)) ≡ state (CellOf c)
     go None none = refl
     go (Some v) none = absurd (none (λ e. cc e))
 

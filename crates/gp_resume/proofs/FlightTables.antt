@@ -13,10 +13,11 @@ use Rattle.task_ast.specs.meaning.Control.{Point}
 use Rattle.task_ast.specs.meaning.Tree.{Program}
 use Rattle.gp_base.specs.declared.feed.Inputs.{Inputs}
 use Rattle.task_ast.specs.meaning.Repeat.{Again, More, Done, Goes}
-use Rattle.task_ast.specs.meaning.Table.{Seat, Table, next_of, learning, owned_from}
-use Rattle.task_ast.specs.meaning.Turn.{Turn, Issue, child_of, owner_in, owners_after, turn}
+use Rattle.task_ast.specs.meaning.Table.{owned_from}
+use Rattle.task_ast.specs.Table.{Seat, Table, next_of, learning, is_known_end, owner_in}
+use Rattle.task_ast.specs.meaning.Turn.{child_of, owners_after}
+use Rattle.task_ast.specs.Turn.{Turn, Issue, turn}
 use Rattle.task_ast.specs.SyncOps.{joined_by}
-use Rattle.task_ast.specs.Table.{is_known_end}
 use Rattle.task_ast.specs.Under.{KeepsToLocks}
 use Rattle.task_ast.specs.meaning.Layout.{layout}
 use Rattle.task_ast.specs.Reached.{by_pass, by_issue, by_learning}
@@ -24,8 +25,8 @@ use Rattle.task_ast.specs.laws.Following.{Follows}
 use Rattle.task_ast.specs.laws.Less.{IsUnknown, SeatLess, SeatsLess, KnowsLess, Alike, passes, issues, needs, ends}
 use Rattle.task_ast.specs.laws.Standing.{at_once, by_turn}
 use Rattle.task_ast.specs.laws.Threads.{MayBegin, HasBegun, with_child}
-use Rattle.task_ast.specs.meaning.Plain.{Subthread, Plain, Machine, tree_machine, points_with, point_by, move}
-use Rattle.task_ast.specs.Plain.{setting}
+use Rattle.task_ast.specs.meaning.Plain.{Subthread}
+use Rattle.task_ast.specs.Plain.{Plain, Machine, tree_machine, points_with, point_by, move, setting}
 use Rattle.task_ast.specs.Position.{body_by, point_in, IsStep}
 use Rattle.task_ast.proofs.IssuedTables.{fresh_seat, learn, issued_here, get_set_here, get_set_other, points_get, learnt_here, learnt_other, learnt_length}
 use Rattle.task_ast.proofs.LessSeats.{length_less, nth_of_less, nth_of_more}

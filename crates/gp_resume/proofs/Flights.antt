@@ -17,8 +17,9 @@ use Rattle.task_ast.specs.meaning.Control.{Point}
 use Rattle.task_ast.specs.meaning.Effect.{effect, after}
 use Rattle.task_ast.specs.meaning.Repeat.{More, Done as TurnDone}
 use Rattle.task_ast.specs.meaning.State.{State}
-use Rattle.task_ast.specs.meaning.Table.{Table, learning, owned_from, is_settle}
-use Rattle.task_ast.specs.meaning.Turn.{Issue, turn}
+use Rattle.task_ast.specs.meaning.Table.{owned_from, is_settle}
+use Rattle.task_ast.specs.Table.{Table, learning}
+use Rattle.task_ast.specs.Turn.{Issue, turn}
 use Rattle.task_ast.specs.meaning.Tree.{Program}
 use Rattle.task_ast.specs.meaning.Under.{is_under}
 use Rattle.task_ast.specs.laws.Less.{KnowsLess}
@@ -28,7 +29,7 @@ use Rattle.task_ast.specs.SyncOps.{IsNumbered, joined_by}
 use Rattle.record_store.specs.Given.{given_of, bundle_of}
 use Rattle.dependence.proofs.DependentSets.{is_member-is}
 use Rattle.task_ast.specs.laws.Standing.{PassesTo, at_once, by_turn}
-use Rattle.task_ast.specs.meaning.Plain.{Plain, Machine, tree_machine, points_with, point_by, settled_by}
+use Rattle.task_ast.specs.Plain.{Plain, Machine, tree_machine, points_with, point_by, settled_by}
 use Rattle.task_ast.specs.Position.{body_by, from_in}
 use Rattle.task_ast.proofs.LessSeats.{seats_same}
 use Rattle.task_ast.proofs.LessTurns.{turn_alike}

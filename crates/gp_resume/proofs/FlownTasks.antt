@@ -12,7 +12,8 @@ use Rattle.task_ast.specs.meaning.Under.{is_under}
 use Rattle.task_ast.specs.laws.Following.{Agrees, Follows}
 use Rattle.task_ast.specs.laws.Keeps.{AllName}
 use Rattle.task_ast.specs.laws.Threads.{with_child}
-use Rattle.task_ast.specs.meaning.Plain.{Subthread, Machine, tree_machine}
+use Rattle.task_ast.specs.meaning.Plain.{Subthread}
+use Rattle.task_ast.specs.Plain.{Machine, tree_machine}
 use Rattle.task_ast.specs.Position.{body_by, from_in, IsStep}
 use Rattle.task_ast.proofs.PlainSteps.{begins_of, begins_inside}
 use Rattle.task_ast.proofs.WholeFolds.{undamaged}

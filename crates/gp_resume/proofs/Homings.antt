@@ -4,7 +4,7 @@ use Rattle.std.specs.Io.KnownBytes.{Appends}
 use Rattle.std.proofs.KnownBytes.{Appends-nil}
 use Rattle.gp_base.specs.meaning.Sinks.{AppendsPrefix}
 use Rattle.gp_base.proofs.Written.{Appends-append, prefix_first, prefix_second, prefix_all}
-use Rattle.task_ast.specs.meaning.Plain.{Plain}
+use Rattle.task_ast.specs.Plain.{Plain}
 use Rattle.restart_log.specs.meaning.Lines.{printed}
 use Rattle.task_ast.specs.laws.Threads.{with_child}
 use Rattle.record_store.specs.Lent.{MayComeHome}

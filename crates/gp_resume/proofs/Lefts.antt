@@ -16,18 +16,18 @@ use Rattle.task_ast.specs.declared.sync.Next.{Next}
 use Rattle.task_ast.specs.declared.tree.Param.{Param}
 use Rattle.task_ast.specs.declared.tree.Param.TheVariants as param
 use Rattle.task_ast.specs.meaning.Tree.{Name, Expr, Stmt, At, What, SetCtl, While, If, Lock, Unlock, Fork, Join, Barrier, Settle, SetReg, Read, Write, Print, When, Block, Nothing, Then, TaskText, Program}
-use Rattle.task_ast.specs.meaning.Names.{is_name, barriers_of, registers_of, task_named, task_number}
-use Rattle.task_ast.specs.meaning.Value.{value}
+use Rattle.task_ast.specs.meaning.Names.{is_name, barriers_of, registers_of, task_named, task_number, slot}
+use Rattle.task_ast.specs.meaning.Value.{value, branch}
 use Rattle.task_ast.specs.meaning.Action.{term, Action, Set, Load, Store, Say, Choose, Child, Give, Bring, Arm, NoAction, OneAction}
 use Rattle.task_ast.specs.meaning.Body.{Step, Silent, Iteration, Act, Stop, Body, follow, stretch, body}
-use Rattle.task_ast.specs.meaning.Control.{Setting, Point, known, branch, action, arm, lock_number, record_number, register_number, all_of, control_arguments, data_arguments, fork_arguments, fork_named, step_at, step_from, step, size, begin_actions, env_at, tree_body}
+use Rattle.task_ast.specs.meaning.Control.{Setting, Point, known, action, arm, lock_number, record_number, all_of, control_arguments, data_arguments, fork_arguments, fork_named, step_at, step_from, step, size, begin_actions, env_at, tree_body}
 use Rattle.task_ast.specs.meaning.State.{State, RegistersOf, cell_value}
-use Rattle.task_ast.specs.meaning.Effect.{Doing, picked, cell_now, term_value, done, arm_done, all_done, joined_ret, effect}
+use Rattle.task_ast.specs.meaning.Effect.{Doing, cell_now, term_value, done, arm_done, all_done, joined_ret, effect}
 use Rattle.task_ast.specs.meaning.Turn.{child_of}
 use Rattle.task_ast.specs.meaning.Under.{is_under}
 use Rattle.task_ast.specs.Under.{KeepsToLocks}
-use Rattle.task_ast.specs.meaning.Plain.{Subthread, Plain, task_at, no_task, tree_machine, from_by}
-use Rattle.task_ast.specs.Plain.{setting}
+use Rattle.task_ast.specs.meaning.Plain.{Subthread, task_at, no_task}
+use Rattle.task_ast.specs.Plain.{Plain, tree_machine, from_by, setting}
 use Rattle.task_ast.specs.Position.{IsStep, point_in}
 use Rattle.task_ast.proofs.Keeping.{names_write, writes_within}
 use Rattle.task_ast.proofs.LessTurns.{inside_of}
@@ -38,7 +38,7 @@ use Rattle.gp_resume.specs.meaning.Fitting.{StandsUnder, child_size}
 
 -- ---- registers
 
-picked_keeps : (P : Doing → Type 0) (v : ℤ) (a b : Doing) → P a → P b → P (picked v a b)
+picked_keeps : (P : Doing → Type 0) (v : ℤ) (a b : Doing) → P a → P b → P (branch v a b)
 picked_keeps P (pos zero) a b first second = second
 picked_keeps P (pos (suc n)) a b first second = first
 picked_keeps P (negsuc n) a b first second = first
@@ -156,9 +156,9 @@ module _ (s : Setting) where
   module _ (registers : List Name) (env : Env) where
     mutual
       action_bears : (w : What) (a : Action) → action s registers w env ≡ Some a → BearsNone a
-      action_bears (SetReg x e) a is = mapped BearsNone (term registers e env) (Set (register_number s registers x)) a (λ t known. tt) is
+      action_bears (SetReg x e) a is = mapped BearsNone (term registers e env) (Set (slot registers x)) a (λ t known. tt) is
       action_bears (Read r i x) a is =
-          mapped BearsNone (record_number s r i env) (λ c. Load c (register_number s registers x)) a (λ c known. tt) is
+          mapped BearsNone (record_number s r i env) (λ c. Load c (slot registers x)) a (λ c known. tt) is
       action_bears (Write r i e) a is =
           chained BearsNone (record_number s r i env) (λ c. option_map (Store c) (term registers e env)) a
           (λ c known there. mapped BearsNone (term registers e env) (Store c) a (λ t known. tt) there) is
@@ -250,7 +250,7 @@ module _ (s : Setting) where
   gifts_bear given registers (param.Reg x ∷ params) (e ∷ es) env actions is =
       chained AllBearNone (term registers e env) _ actions
       (λ t known there. mapped AllBearNone (data_arguments s given registers params es env)
-      (λ rest. Give (register_number s given x) t ∷ rest) actions
+      (λ rest. Give (slot given x) t ∷ rest) actions
       (λ rest known_rest. (tt, gifts_bear given registers params es env rest known_rest)) there) is
   gifts_bear given registers [] es env actions is = subst AllBearNone (ap (λ o. unwrap_or o []) is) tt
   gifts_bear given registers (param.Ctl x ∷ params) [] env actions is = subst AllBearNone (ap (λ o. unwrap_or o []) is) tt

@@ -19,14 +19,16 @@ use Rattle.task_ast.specs.Reached.{Reached, by_pass}
 use Rattle.task_ast.specs.meaning.Repeat.{Done, Move, Goes, Ends, go_on, state_after, state_from}
 use Rattle.task_ast.specs.Shaped.{IsAccepted}
 use Rattle.task_ast.specs.meaning.State.{State, RegistersOf, number_at}
-use Rattle.task_ast.specs.meaning.Table.{Table, next_of, learning}
-use Rattle.task_ast.specs.meaning.Turn.{Turn, Issue, Needs, Ended, turn, turns_left, child_of, next_issue}
+use Rattle.task_ast.specs.Table.{Table, next_of, learning}
+use Rattle.task_ast.specs.meaning.Turn.{child_of}
+use Rattle.task_ast.specs.Turn.{Turn, Issue, Needs, Ended, turn, turns_left, next_issue}
 use Rattle.task_ast.specs.Under.{KeepsToLocks}
 use Rattle.task_ast.specs.laws.Ends.{IsWhole}
 use Rattle.task_ast.specs.laws.Following.{Follows, InStep}
 use Rattle.task_ast.specs.laws.Standing.{PassesTo, at_once, by_turn}
 use Rattle.task_ast.specs.laws.Threads.{SameThreads, HasBegun, with_child}
-use Rattle.task_ast.specs.meaning.Plain.{Subthread, PlainOf, Plain, Machine, tree_machine, points_with, point_by, settled_by, from_by, on_turn_by, move}
+use Rattle.task_ast.specs.meaning.Plain.{Subthread}
+use Rattle.task_ast.specs.Plain.{PlainOf, Plain, Machine, tree_machine, points_with, point_by, settled_by, from_by, on_turn_by, move}
 use Rattle.task_ast.proofs.IssuedTables.{get_last, length_push, get_set_here, get_set_other, length_set, points_get, learnt_here, learnt_other, learnt_length}
 use Rattle.task_ast.proofs.LessTurns.{inside_of}
 use Rattle.task_ast.proofs.PlainRuns.{tables_from}

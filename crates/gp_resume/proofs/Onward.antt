@@ -7,7 +7,8 @@ use Rattle.gp_base.specs.meaning.Sinks.{AppendsPrefix}
 use Rattle.gp_base.specs.declared.ending.End.{End}
 use Rattle.gp_base.proofs.Written.{Appends-append, prefix_second, prefix_all}
 use Rattle.task_ast.specs.meaning.Repeat.{Goes, Ends, steps, steps_from, state_after, state_from}
-use Rattle.task_ast.specs.meaning.Plain.{Subthread, Plain, tree_machine, ending_of, move}
+use Rattle.task_ast.specs.meaning.Plain.{Subthread, ending_of}
+use Rattle.task_ast.specs.Plain.{Plain, tree_machine, move}
 use Rattle.task_ast.proofs.PlainSteps.{begins_of}
 use Rattle.restart_log.specs.meaning.Lines.{printed, printed_line}
 use Rattle.subthread.specs.Tasks.{program_in}

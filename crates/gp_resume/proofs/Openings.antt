@@ -9,9 +9,11 @@ use Rattle.task_ast.specs.meaning.Tree.{Program}
 use Rattle.task_ast.specs.meaning.Names.{locks_of, records_of, barriers_of, registers_of, cells_in}
 use Rattle.task_ast.specs.meaning.Layout.{layout, cells_under}
 use Rattle.task_ast.specs.Reached.{Reached, start_table}
-use Rattle.task_ast.specs.meaning.Table.{Table, numbers}
+use Rattle.task_ast.specs.meaning.Table.{numbers}
+use Rattle.task_ast.specs.Table.{Table}
 use Rattle.task_ast.specs.laws.Ends.{IsWhole}
-use Rattle.task_ast.specs.meaning.Plain.{Plain, tree_machine, opening, opening_by, move, main_task, main_number}
+use Rattle.task_ast.specs.meaning.Plain.{main_task, main_number}
+use Rattle.task_ast.specs.Plain.{Plain, tree_machine, opening, opening_by, move}
 use Rattle.task_ast.proofs.Layouts.{length-numbers, accepted_sizes}
 use Rattle.task_ast.proofs.PlainRuns.{tables_law}
 use Rattle.task_ast.proofs.Repeats.{state_after_none}

@@ -10,7 +10,7 @@ use Rattle.std.proofs.lemmas.Bool.{and_parts, cases_lt}
 use Rattle.std.proofs.lemmas.List.{take_all, take-append-le}
 use Rattle.std.proofs.lemmas.List.Elements.{All-nil, All-cons, All-append, All-take, All-contains}
 use Rattle.std.proofs.Math.Seq.{take-append-add}
-use Rattle.task_ast.specs.meaning.Plain.{order}
+use Rattle.task_ast.specs.Plain.{order}
 use Rattle.restart_log.specs.meaning.Lines.{spaced}
 use Rattle.crew.specs.meaning.Noted.{left_in_order}
 use Rattle.retirement_log.specs.meaning.Rows.{Retirement, group, cell_numbers, row_text, log_text}

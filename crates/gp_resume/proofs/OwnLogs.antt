@@ -5,7 +5,7 @@ use Rattle.std.proofs.lemmas.List.{take-append-drop}
 use Rattle.gp_base.specs.declared.limits.Limits.{Limits}
 use Rattle.gp_base.specs.declared.feed.Inputs.{Inputs}
 use Rattle.task_ast.specs.meaning.Tree.{Program}
-use Rattle.task_ast.specs.meaning.Plain.{order}
+use Rattle.task_ast.specs.Plain.{order}
 use Rattle.crew.specs.meaning.Noted.{left_in_order}
 use Rattle.retirement_log.specs.meaning.Rows.{Retirement}
 use Rattle.retirement_log.specs.meaning.Log.{log_rows, log}

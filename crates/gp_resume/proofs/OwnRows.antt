@@ -17,8 +17,9 @@ use Rattle.task_ast.specs.meaning.Layout.{layout}
 use Rattle.task_ast.specs.Shaped.{IsAccepted}
 use Rattle.task_ast.specs.meaning.State.{cell_value}
 use Rattle.task_ast.specs.meaning.Effect.{joined_ret}
-use Rattle.task_ast.specs.meaning.Plain.{Subthread, Plain, tree_machine, opening, move, order}
-use Rattle.task_ast.specs.meaning.Position.{before}
+use Rattle.task_ast.specs.meaning.Plain.{Subthread}
+use Rattle.task_ast.specs.Plain.{Plain, tree_machine, opening, move, order}
+use Rattle.task_ast.specs.Position.{before}
 use Rattle.task_ast.proofs.Repeats.{state_after_none, step_there}
 use Rattle.task_ast.proofs.Positions.{plain_stands, step_is}
 use Rattle.task_ast.proofs.Writes.{writes_rise}

@@ -19,9 +19,10 @@ use Rattle.task_ast.specs.meaning.Action.{Action}
 use Rattle.task_ast.specs.meaning.Effect.{effect, after}
 use Rattle.task_ast.specs.meaning.Repeat.{Move, Goes, Ends, steps_from, steps, state_from, state_after}
 use Rattle.task_ast.specs.meaning.Table.{numbers}
-use Rattle.task_ast.specs.meaning.Plain as plain
-use Rattle.task_ast.specs.meaning.Plain.{Subthread, Plain, tree_machine, ending_of, opening, move, order, last_state}
-use Rattle.task_ast.specs.meaning.Position.{before}
+use Rattle.task_ast.specs.Plain as plain
+use Rattle.task_ast.specs.meaning.Plain.{Subthread, ending_of}
+use Rattle.task_ast.specs.Plain.{Plain, tree_machine, opening, move, order, last_state}
+use Rattle.task_ast.specs.Position.{before}
 use Rattle.task_ast.proofs.Repeats.{state_after_none, step_there, step_reached}
 use Rattle.task_ast.proofs.PlainRuns.{count_law}
 use Rattle.task_ast.proofs.Positions.{step_is}

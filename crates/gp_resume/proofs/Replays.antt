@@ -10,9 +10,10 @@ use Rattle.task_ast.specs.meaning.Body.{Body}
 use Rattle.task_ast.specs.meaning.Control.{Point}
 use Rattle.task_ast.specs.meaning.State.{State}
 use Rattle.task_ast.specs.meaning.Effect.{after}
-use Rattle.task_ast.specs.meaning.Table.{learning}
+use Rattle.task_ast.specs.Table.{learning}
 use Rattle.task_ast.specs.meaning.Under.{is_under}
-use Rattle.task_ast.specs.meaning.Plain.{Subthread, Plain, tree_machine}
+use Rattle.task_ast.specs.meaning.Plain.{Subthread}
+use Rattle.task_ast.specs.Plain.{Plain, tree_machine}
 use Rattle.task_ast.specs.Position.{body_by}
 use Rattle.task_code.specs.Reading.{Place}
 use Rattle.task_code.specs.Relation.{Rests}

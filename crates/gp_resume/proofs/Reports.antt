@@ -13,7 +13,8 @@ use Rattle.task_ast.specs.meaning.Names.{records_of, cells_in}
 use Rattle.task_ast.specs.meaning.State.{cell_value}
 use Rattle.task_ast.specs.meaning.Repeat.{Move, Goes, Ends, steps, state_after}
 use Rattle.task_ast.specs.meaning.Table.{numbers}
-use Rattle.task_ast.specs.meaning.Plain.{Subthread, Plain, tree_machine, ending_of, move, opening}
+use Rattle.task_ast.specs.meaning.Plain.{Subthread, ending_of}
+use Rattle.task_ast.specs.Plain.{Plain, tree_machine, move, opening}
 use Rattle.task_ast.proofs.PlainSteps.{begins_of}
 use Rattle.dependence.specs.JournalTests.{same_attempt}
 use Rattle.dependence.proofs.Struck.{Contains-head, Contains-later}

@@ -8,7 +8,8 @@ use Rattle.gp_base.specs.declared.feed.Inputs.{Inputs}
 use Rattle.gp_base.specs.declared.ending.End.{End}
 use Rattle.task_ast.specs.meaning.Tree.{Program}
 use Rattle.task_ast.specs.meaning.Repeat.{Move, Goes, Ends}
-use Rattle.task_ast.specs.meaning.Plain.{Subthread, Plain, opening, move}
+use Rattle.task_ast.specs.meaning.Plain.{Subthread}
+use Rattle.task_ast.specs.Plain.{Plain, opening, move}
 use Rattle.retirement_log.specs.meaning.Rows.{Retirement, row_text, IsWideRow}
 use Rattle.subthread.specs.Tasks.{program_in}
 use Rattle.gp_resume.specs.declared.course.Plan.{Plan}

@@ -2,7 +2,7 @@
 use Rattle.std.proofs.Common.{◌≡◌, ◌⊎◌, inl, inr, ℕ, zero, suc, ◌+◌, ◌-◌, ◌<◌, ◌≤◌, true, List, [], ◌∷◌, ◌++◌, length, length-append, Contains, refl, sym, ap, ◌∙◌, subst, append_assoc, arith}
 use Rattle.std.specs.Prelude.{All}
 use Rattle.std.specs.List.Sorted.{IsStrictlyIncreasing}
-use Rattle.task_ast.specs.meaning.Plain.{Plain}
+use Rattle.task_ast.specs.Plain.{Plain}
 use Rattle.task_ast.specs.SyncOps.{IsNumbered}
 use Rattle.record_store.specs.Lent.{marked}
 use Rattle.record_store.specs.Stored.{IsAtHome}

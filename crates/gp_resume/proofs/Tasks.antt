@@ -10,11 +10,13 @@ use Rattle.task_ast.specs.declared.sync.SyncOp.TheVariants as sync
 use Rattle.task_ast.specs.meaning.Tree.{Program}
 use Rattle.task_ast.specs.meaning.Body.{Body}
 use Rattle.task_ast.specs.meaning.Control.{Point}
-use Rattle.task_ast.specs.meaning.Table.{Table, owned_from}
+use Rattle.task_ast.specs.meaning.Table.{owned_from}
+use Rattle.task_ast.specs.Table.{Table}
 use Rattle.task_ast.specs.meaning.Turn.{child_of}
 use Rattle.task_ast.specs.laws.Following.{Agrees, Follows}
 use Rattle.task_ast.specs.laws.Threads.{MayBegin, with_child}
-use Rattle.task_ast.specs.meaning.Plain.{Subthread, Plain, Machine, tree_machine}
+use Rattle.task_ast.specs.meaning.Plain.{Subthread}
+use Rattle.task_ast.specs.Plain.{Plain, Machine, tree_machine}
 use Rattle.task_ast.specs.Position.{body_by, from_in, IsStep}
 use Rattle.task_ast.specs.Reached.{Reached}
 use Rattle.task_ast.proofs.IssuedTables.{get_set_here, get_set_other}

@@ -11,8 +11,9 @@ use Rattle.task_ast.specs.declared.effect.Effect.{Effect}
 use Rattle.task_ast.specs.meaning.Tree.{Program}
 use Rattle.task_ast.specs.meaning.Names.{records_of}
 use Rattle.task_ast.specs.meaning.Layout.{cut}
-use Rattle.task_ast.specs.meaning.Plain as plain
-use Rattle.task_ast.specs.meaning.Plain.{Subthread, tree_machine, order}
+use Rattle.task_ast.specs.Plain as plain
+use Rattle.task_ast.specs.meaning.Plain.{Subthread}
+use Rattle.task_ast.specs.Plain.{tree_machine, order}
 use Rattle.task_ast.proofs.Positions.{step_is}
 use Rattle.restart_log.specs.meaning.Lines.{printed_line, printed}
 use Rattle.restart_log.specs.meaning.Tail.{tail_text}

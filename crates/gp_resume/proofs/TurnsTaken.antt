@@ -14,12 +14,14 @@ use Rattle.task_ast.specs.meaning.Control.{Point}
 use Rattle.task_ast.specs.meaning.Tree.{Program}
 use Rattle.task_ast.specs.meaning.Repeat.{Done}
 use Rattle.task_ast.specs.meaning.State.{State}
-use Rattle.task_ast.specs.meaning.Table.{Table, learning, owned}
-use Rattle.task_ast.specs.meaning.Turn.{Issue, Needs, Ended, child_of, turn}
+use Rattle.task_ast.specs.Table.{Table, learning, owned}
+use Rattle.task_ast.specs.meaning.Turn.{child_of}
+use Rattle.task_ast.specs.Turn.{Issue, Needs, Ended, turn}
 use Rattle.task_ast.specs.laws.Following.{Follows}
 use Rattle.task_ast.specs.laws.Standing.{PassesTo}
 use Rattle.task_ast.specs.laws.Threads.{with_child}
-use Rattle.task_ast.specs.meaning.Plain.{Subthread, Plain, Machine, tree_machine, points_with, settled_by, from_by}
+use Rattle.task_ast.specs.meaning.Plain.{Subthread}
+use Rattle.task_ast.specs.Plain.{Plain, Machine, tree_machine, points_with, settled_by, from_by}
 use Rattle.task_ast.specs.Position.{body_by}
 use Rattle.task_ast.proofs.IssuedTables.{get_last, get_past, length_push, points_get, learnt_length}
 use Rattle.task_ast.proofs.SeatLimits.{most_threads_law}

@@ -4,7 +4,7 @@ use Rattle.std.specs.Io.KnownBytes.{Appends}
 use Rattle.std.proofs.lemmas.List.{length-map}
 use Rattle.gp_base.specs.meaning.Sinks.{AppendsPrefix}
 use Rattle.gp_base.proofs.Written.{prefix_first}
-use Rattle.task_ast.specs.meaning.Plain.{Plain}
+use Rattle.task_ast.specs.Plain.{Plain}
 use Rattle.restart_log.specs.meaning.Lines.{printed}
 use Rattle.subthread.specs.declared.task.Work.{Work}
 use Rattle.subthread.specs.declared.task.Task.{Task}

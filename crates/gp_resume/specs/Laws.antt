@@ -6,8 +6,8 @@ use Rattle.task_ast.specs.meaning.Tree.{Program}
 use Rattle.task_ast.specs.meaning.Names.{records_of}
 use Rattle.task_ast.specs.meaning.Layout.{cut}
 use Rattle.task_ast.specs.Shaped.{IsAccepted}
-use Rattle.task_ast.specs.meaning.Plain as plain
-use Rattle.task_ast.specs.meaning.Position.{before}
+use Rattle.task_ast.specs.Plain as plain
+use Rattle.task_ast.specs.Position.{before}
 use Rattle.restart_log.specs.meaning.Lines.{printed}
 use Rattle.restart_log.specs.meaning.Tail.{tail_text}
 use Rattle.crew.specs.meaning.Noted.{left_in_order}

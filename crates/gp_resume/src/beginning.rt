@@ -3,7 +3,8 @@
 ghost use Rattle.std.specs.Prelude.{◌≡◌, [], length, IfOk};
 ghost use Rattle.task_ast.specs.meaning.Names.{registers_of};
 ghost use Rattle.task_ast.specs.meaning.Layout.{layout};
-ghost use Rattle.task_ast.specs.meaning.Plain.{opening, main_number, main_task, task_at};
+ghost use Rattle.task_ast.specs.meaning.Plain.{main_number, main_task, task_at};
+ghost use Rattle.task_ast.specs.Plain.{opening};
 ghost use Rattle.task_code.specs.Flat.{code_of};
 ghost use Rattle.task_code.specs.Reading.{start_place};
 ghost use Rattle.record_store.specs.Stored.{with_thread, without_threads};

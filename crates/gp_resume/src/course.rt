@@ -1,7 +1,7 @@
 // How far a run has come that goes on from a log.
 
 ghost use Rattle.std.specs.Prelude.{◌≡◌, ◌<◌, length, slice_set, IfOk};
-ghost use Rattle.task_ast.specs.meaning.Table.{learning};
+ghost use Rattle.task_ast.specs.Table.{learning};
 
 use gp_base::{At, End, Inputs, Limits, LockNo, Nums, Pos, Seq, ThreadNo};
 use record_store::Store;

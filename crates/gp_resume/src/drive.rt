@@ -4,7 +4,8 @@ ghost use Rattle.std.specs.Prelude.{◌≡◌, ◌⊎◌, ◌≤◌, ◌+◌, �
 ghost use Rattle.std.specs.Io.KnownBytes.{Appends};
 ghost use Rattle.gp_base.specs.meaning.Sinks.{AppendsPrefix};
 ghost use Rattle.gp_base.specs.declared.limits.TheConstants.{MOST_FILE_BYTES};
-ghost use Rattle.task_ast.specs.meaning.Plain.{Plain, Subthread};
+ghost use Rattle.task_ast.specs.meaning.Plain.{Subthread};
+ghost use Rattle.task_ast.specs.Plain.{Plain};
 ghost use Rattle.task_ast.specs.meaning.Layout.{layout};
 ghost use Rattle.record_store.specs.Stored.{IsAllHome};
 ghost use Rattle.subthread.specs.Tasks.{Suits, program_in};

@@ -3,7 +3,7 @@
 ghost use Rattle.std.specs.Prelude.{◌≡◌, ◌≤◌, length, IsTrue, Option, IfOk, IfErr};
 ghost use Rattle.std.specs.Bool.{Decides};
 ghost use Rattle.gp_base.specs.declared.limits.TheConstants.{MOST_FILE_BYTES};
-ghost use Rattle.task_ast.specs.meaning.Plain.{Plain, opening, move};
+ghost use Rattle.task_ast.specs.Plain.{Plain, opening, move};
 ghost use Rattle.subthread.specs.Tasks.{program_in};
 ghost use Rattle.retirement_log.specs.meaning.Rows.{Retirement};
 ghost use Rattle.gp_resume.specs.inner.Course.{IsSuited, Stands};

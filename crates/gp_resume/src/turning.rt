@@ -2,7 +2,7 @@
 
 ghost use Rattle.std.specs.Prelude.{◌≡◌, ◌<◌, ◌≤◌, ◌+◌, ◌^◌, false, List, length, option_map, IfOk, OnOk};
 ghost use Rattle.gp_base.specs.declared.limits.TheConstants.{MOST_THREADS};
-ghost use Rattle.task_ast.specs.meaning.Plain.{Plain};
+ghost use Rattle.task_ast.specs.Plain.{Plain};
 ghost use Rattle.record_store.specs.Stored.{state_of};
 ghost use Rattle.subthread.specs.Tasks.{machine_of};
 ghost use Rattle.gp_resume.specs.inner.Course.{spot_place, IsSuited, Gives};

@@ -2,7 +2,7 @@
 
 ghost use Rattle.std.specs.Prelude.{◌≡◌, ◌-◌, ◌<◌, ◌≤◌, ℕ, true, false, [], ◌∷◌, ◌++◌, List, length, slice_set, Some, All, Contains, OnOk, OnErr, IfOk};
 ghost use Rattle.std.specs.List.Sorted.{IsStrictlyIncreasing};
-ghost use Rattle.task_ast.specs.meaning.Plain.{Plain};
+ghost use Rattle.task_ast.specs.Plain.{Plain};
 ghost use Rattle.record_store.specs.Lent.{marked, MayComeHome};
 ghost use Rattle.record_store.specs.Stored.{FitsChild, IsAtHome};
 ghost use Rattle.task_ast.specs.SyncOps.{IsNumbered};

@@ -1,6 +1,7 @@
 -- What is held after statements, and their visits, depend on the members of a set of pairs alone.
 use Rattle.std.proofs.Common.{◌≡◌, ℕ, List, [], ◌∷◌, ◌++◌, true, Option, Some, None, refl, sym, ap, ◌∙◌, subst}
-use Rattle.std.specs.Prelude.{not, ◌||◌, is_none}
+use Rattle.std.specs.Prelude.{not, ◌||◌, is_none, length, zip, ◌==◌, false}
+use Rattle.std.specs.Option.{option_map_or}
 use Rattle.std.specs.List.{list_any}
 use Rattle.task_ast.specs.declared.check_kind.CheckKind.{CheckKind}
 use Rattle.task_ast.specs.declared.check_kind.CheckKind.TheVariants.{UnknownName, WrongCount, DataInControl, NotHeld, HeldTwice, BranchesDiffer, IndexChangedWhileHeld}
@@ -8,9 +9,9 @@ use Rattle.task_ast.specs.declared.tree.Atom.{Atom}
 use Rattle.task_ast.specs.meaning.Tree.{Name, Stmt, At, What, SetCtl, While, If, Lock, Unlock, Fork, Join, Barrier, Settle, SetReg, Read, Write, Print, When, Block, Nothing, Then, statements}
 use Rattle.task_ast.specs.meaning.Names.{task_named}
 use Rattle.task_ast.specs.meaning.Visit.{Visit, visit, fails_if, first_fault}
-use Rattle.task_ast.specs.meaning.Declarations.{Scope, is_control, is_register, is_lock, is_atom, has_unknown, has_data, has_data_index, counts_differ, any_misplaced}
-use Rattle.task_ast.specs.meaning.Held.{Pair, is_index, held_after, held_by, held_at_end}
-use Rattle.task_ast.specs.meaning.Check.{array_over, lacks, into_unknown, into_index, fails_at, fails_after, visits_of, visits_inside, visits_in}
+use Rattle.task_ast.specs.meaning.Declarations.{Scope, is_control, is_register, is_lock, is_atom, has_unknown, has_data, has_data_index, is_misplaced}
+use Rattle.task_ast.specs.meaning.Held.{Pair, is_index, held_after, held_by, held_at_end, has}
+use Rattle.task_ast.specs.meaning.Check.{array_over, fails_at, fails_after, visits_of, visits_inside, visits_in}
 use Rattle.task_ast.specs.Shaped.{is_shaped_stmt, is_shaped_block}
 use Rattle.lock_checker.proofs.SamePairs.{Same, nothing_same, any_same, same_pairs_same, same-append, same-without, and_parts}
 use Rattle.lock_checker.proofs.VisitLemmas.{or_later, first_fault-append}
@@ -39,11 +40,13 @@ mutual
   end_same Nothing same = same
   end_same (Then s b) same = end_same b (held_same s same)
 
-lacks_same : (o : Option Name) (i : Atom) (a b : List Pair) → Same a b → lacks o i a ≡ lacks o i b
+lacks_same : (o : Option Name) (i : Atom) (a b : List Pair) → Same a b
+    → option_map_or (λ l. not (has a (l, i))) o false ≡ option_map_or (λ l. not (has b (l, i))) o false
 lacks_same None i a b same = refl
 lacks_same (Some l) i a b same = ap not (same.members (l, i))
 
-into_same : (o : Option Name) (a b : List Pair) → Same a b → into_index a o ≡ into_index b o
+into_same : (o : Option Name) (a b : List Pair) → Same a b
+    → option_map_or (λ x. list_any (is_index x) a) o false ≡ option_map_or (λ x. list_any (is_index x) b) o false
 into_same None a b same = refl
 into_same (Some x) a b same = any_same (is_index x) a b same
 
@@ -59,9 +62,11 @@ module _ (s : Scope) where
   at_same (Unlock x i) a b same =
       ap (λ t. fails_if (not (is_lock s x) || not (is_atom s i)) UnknownName ++ fails_if (not t) NotHeld) (same.members (x, i))
   at_same (Fork t es x) a b same =
-      ap (λ u. fails_if (is_none (task_named s.program t) || (list_any (has_unknown s) es || into_unknown (is_control s) x)) UnknownName
-      ++ fails_if (counts_differ (task_named s.program t) es) WrongCount
-      ++ fails_if (any_misplaced (task_named s.program t) es) DataInControl ++ fails_if u IndexChangedWhileHeld)
+      ap (λ u. fails_if (is_none (task_named s.program t) || (list_any (has_unknown s) es
+      || option_map_or (λ y. not (is_control s y)) x false)) UnknownName
+      ++ fails_if (option_map_or (λ task. not (length task.params == length es)) (task_named s.program t) false) WrongCount
+      ++ fails_if (option_map_or (λ task. list_any is_misplaced (zip task.params es)) (task_named s.program t) false) DataInControl
+      ++ fails_if u IndexChangedWhileHeld)
       (into_same x a b same)
   at_same (Join e x) a b same = refl
   at_same (Barrier c) a b same = refl

@@ -4,6 +4,7 @@
 -- the record cells under it.
 use Rattle.std.proofs.Common.{◌≡◌, ◌≢◌, ℕ, zero, suc, ◌+◌, ◌-◌, ◌≤◌, ◌<◌, ◌==◌, Bool, true, false, not, cond, List, [], ◌∷◌, ◌++◌, map, length, Option, Some, None, is_none, refl, sym, ap, ◌∙◌, arith, option_map, add-one, zero-add, append_assoc, append-nil, subst, take, set, get_or}
 use Rattle.std.specs.Prelude.{pos, slice_get}
+use Rattle.std.specs.Option.{option_map_or}
 use Rattle.std.specs.List.{list_all, filter}
 use Rattle.std.proofs.lemmas.Bool.{ne_eqb, eq-eqb, lt-ltb, le-ltb, and_parts}
 use Rattle.std.proofs.lemmas.List.{map-append, length-append, length-map, length-take-le, take_more}
@@ -11,7 +12,6 @@ use Rattle.task_ast.specs.declared.tree.Head.{Head}
 use Rattle.task_ast.specs.declared.tree.Head.TheVariants.{LockHead, BarrierHead, RecHead, FeedHead}
 use Rattle.task_ast.specs.meaning.Tree.{Name}
 use Rattle.task_ast.specs.meaning.Names.{is_name, natural, named, place, locks_of, records_of, cell_number, cells_in}
-use Rattle.task_ast.specs.meaning.Declarations.{is_other_size}
 use Rattle.task_ast.specs.meaning.Layout.{lock_over, is_lock_cell, cells_under}
 use Rattle.task_ast.specs.Layout.{base_of, fits_array}
 use Rattle.task_ast.specs.meaning.Table.{numbers}
@@ -156,7 +156,8 @@ over_told all (RecHead name size by from line ∷ heads) fits =
     let m = cells_in (records_of heads) in
     let here = lock_over arrays (RecHead name size by from line ∷ heads) in
     let parts = and_parts (fits_array all (RecHead name size by from line)) (list_all (fits_array all) heads) fits in
-    let mine = and_parts (not (is_none (named by arrays))) (not (is_other_size n (named by arrays))) parts.0 in
+    let mine = and_parts (not (is_none (named by arrays)))
+    (not (option_map_or (λ other. not (n == other)) (named by arrays) false)) parts.0 in
     let there = has_base arrays by n (array_found n (named by arrays) mine.0 mine.1) in
     let first : map Some (numbers there.0 n) ≡ map here (numbers 0 n) =
     map_numbers Some here there.0 0 n (λ k less. sym (there.2 k less)

@@ -12,9 +12,9 @@ use Rattle.task_ast.specs.declared.env.Env.{Env}
 use Rattle.task_ast.specs.declared.tree.Atom.{Atom}
 use Rattle.task_ast.specs.declared.tree.Head.{Head}
 use Rattle.task_ast.specs.meaning.Tree.{Name, At, What, SetCtl, While, If, Lock, Unlock, Fork, Join, Barrier, Settle, SetReg, Read, Write, Print, When, Block, Nothing, Then}
-use Rattle.task_ast.specs.meaning.Names.{is_name, place, locks_of, records_of, cell_number, cells_in}
+use Rattle.task_ast.specs.meaning.Names.{is_name, place, locks_of, records_of, cell_number, cells_in, slot}
 use Rattle.task_ast.specs.meaning.Action.{Action, Load, Store, Choose, Arm, OneAction, term, Say, Set}
-use Rattle.task_ast.specs.meaning.Control.{Setting, action, arm, record_number, register_number, index_of, all_of}
+use Rattle.task_ast.specs.meaning.Control.{Setting, action, arm, record_number, index_of, all_of}
 use Rattle.task_ast.specs.meaning.Held.{same_pair, has}
 use Rattle.task_ast.specs.laws.Keeps.{NamesOnly, ArmNamesOnly}
 use Rattle.task_ast.specs.meaning.Layout.{lock_over, is_lock_cell, cells_under, layout}
@@ -155,10 +155,10 @@ module _ (heads : List Head) (laid : IsLaidOut heads) (locks : List ℕ) where
       pub action_names : (w : What) (a : Action) → action s registers w env ≡ Some a → TouchesHeld heads w (pairs_held held)
           → NamesOnly test a
       action_names (SetReg x e) a is touches =
-          let m = mapped (term registers e env) (λ t. Set (register_number s registers x) t) a is in
+          let m = mapped (term registers e env) (λ t. Set (slot registers x) t) a is in
           subst (NamesOnly test) m.2 tt
       action_names (Read r i x) a is touches =
-          let m = mapped (record_number s r i env) (λ c. Load c (register_number s registers x)) a is in
+          let m = mapped (record_number s r i env) (λ c. Load c (slot registers x)) a is in
           subst (NamesOnly test) m.2 (touched r i m.0 (numbered r i m.0 m.1) touches)
       action_names (Write r i e) a is touches =
           let c = chained (record_number s r i env) (λ c. option_map (Store c) (term registers e env)) a is in

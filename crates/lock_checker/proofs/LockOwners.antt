@@ -1,13 +1,14 @@
 -- Which thread owns the lock of each holding, and that no two holdings name one lock.
-use Rattle.std.proofs.Common.{◌≡◌, inl, inr, ℕ, zero, suc, ◌+◌, ◌<◌, Bool, true, false, cond, List, [], ◌∷◌, ◌++◌, length, Contains, Option, Some, None, unwrap_or, refl, sym, ap, ◌∙◌, subst, arith, option_and_then}
+use Rattle.std.proofs.Common.{◌≡◌, inl, inr, ℕ, zero, suc, ◌+◌, ◌<◌, Bool, true, false, cond, List, [], ◌∷◌, ◌++◌, length, Contains, Option, Some, None, unwrap_or, refl, sym, ap, ◌∙◌, subst, arith}
 use Rattle.std.specs.Prelude.{◌⊎◌, replicate, not, slice_set, nat_eq}
 use Rattle.std.proofs.lemmas.Bool.{eq-eqb}
 use Rattle.std.proofs.lemmas.List.Elements.{Contains-append_right}
+use Rattle.task_ast.specs.Table.{owner_in}
 use Rattle.task_ast.specs.declared.sync.SyncOp.{SyncOp}
 use Rattle.task_ast.specs.declared.sync.SyncOp.TheVariants as sync
 use Rattle.task_ast.specs.meaning.Held.{Pair, same_pair}
 use Rattle.task_ast.specs.meaning.Table.{owned_from}
-use Rattle.task_ast.specs.meaning.Turn.{owner_in, owners_after}
+use Rattle.task_ast.specs.meaning.Turn.{owners_after}
 use Rattle.lock_checker.specs.WalkLaw.{Holding, released}
 use Rattle.lock_checker.specs.Soundness.{Each, Apart, HasCell}
 use Rattle.task_ast.proofs.IssuedTables.{get_set_here, get_set_other, length_set}
@@ -88,10 +89,10 @@ first_free (suc n) (suc lock) t e = first_free n lock t e
 -- ---- owners after a lock or an unlock
 
 pub set_here : (owners : Owners) (l : ℕ) (o : Option ℕ) → l < length owners → owner_in (slice_set owners l o) l ≡ o
-set_here owners l o less = ap (λ x. option_and_then (λ o. o) x) (get_set_here owners l o less)
+set_here owners l o less = ap (λ x. unwrap_or x None) (get_set_here owners l o less)
 
 pub set_other : (owners : Owners) (l m : ℕ) (o : Option ℕ) → (m ≡ l → ⊥) → owner_in (slice_set owners l o) m ≡ owner_in owners m
-set_other owners l m o ne = ap (λ x. option_and_then (λ o. o) x) (get_set_other owners l m o ne)
+set_other owners l m o ne = ap (λ x. unwrap_or x None) (get_set_other owners l m o ne)
 
 pub owners_length : (op : SyncOp) (t : ℕ) (owners : Owners) → length (owners_after op t owners) ≡ length owners
 owners_length (sync.Lock l) t owners = length_set owners l (Some t)

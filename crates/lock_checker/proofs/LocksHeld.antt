@@ -29,14 +29,13 @@ use Rattle.task_ast.specs.Layout.{IsLaidOut}
 use Rattle.task_ast.specs.meaning.Under.{is_under}
 use Rattle.task_ast.specs.Under.{KeepsToLocks}
 use Rattle.task_ast.specs.meaning.Repeat.{Move, Goes, Ends, state_from, state_after}
-use Rattle.task_ast.specs.meaning.Table.{next_of, is_end, owned_from}
-use Rattle.task_ast.specs.Table.{is_known_end}
-use Rattle.task_ast.specs.meaning.Turn.{owner_in, child_of, owners_after}
+use Rattle.task_ast.specs.meaning.Table.{is_end, owned_from}
+use Rattle.task_ast.specs.Table.{next_of, is_known_end, owner_in}
+use Rattle.task_ast.specs.meaning.Turn.{child_of, owners_after}
 use Rattle.task_ast.specs.laws.Threads.{MayBegin, with_child}
-use Rattle.task_ast.specs.meaning.Plain.{Subthread, Plain, Machine, settled_by, from_by, no_task, main_number, tree_machine, move, opening, order}
-use Rattle.task_ast.specs.Plain.{setting}
-use Rattle.task_ast.specs.meaning.Position.{before}
-use Rattle.task_ast.specs.Position.{IsStep, body_by, point_in}
+use Rattle.task_ast.specs.meaning.Plain.{Subthread, no_task, main_number}
+use Rattle.task_ast.specs.Plain.{Plain, Machine, settled_by, from_by, tree_machine, move, opening, order, setting}
+use Rattle.task_ast.specs.Position.{before, IsStep, body_by, point_in}
 use Rattle.task_ast.proofs.Layouts.{laid_out, accepted_sizes}
 use Rattle.task_ast.proofs.LessTurns.{inside_of}
 use Rattle.task_ast.proofs.PlainSteps.{begins_of, is_step, points_kept}

@@ -2,12 +2,13 @@
 -- the statement in front of it, or at an index fault, by cases on that statement (Stops). The action at a point names
 -- cells under the locks of the pairs that are held. Of the synchronisations only a lock and an unlock change owners;
 -- what they change is what the holdings past the statement say.
-use Rattle.std.proofs.Common.{◌≡◌, inl, inr, ℕ, zero, suc, ◌<◌, false, true, List, [], ◌∷◌, length, Contains, Option, Some, None, unwrap_or, refl, sym, ap, ◌∙◌, subst, arith, option_map, option_and_then, true≢false}
+use Rattle.std.proofs.Common.{◌≡◌, inl, inr, ℕ, zero, suc, ◌<◌, false, true, List, [], ◌∷◌, length, Contains, Option, Some, None, unwrap_or, refl, sym, ap, ◌∙◌, subst, arith, option_map, option_and_then, true≢false, map}
 use Rattle.std.specs.Prelude.{⊤, ℤ, pos, negsuc, slice_get, position, Bool, cond}
 use Rattle.std.proofs.lemmas.Bool.{lt-ltb, cases_eq}
 use Rattle.std.proofs.lemmas.Option.{slice_get_within}
 use Rattle.std.proofs.lemmas.List.Folds.{find_at}
 use Rattle.std.specs.List.{position_or_len}
+use Rattle.task_ast.specs.Table.{owner_in, Table}
 use Rattle.task_ast.specs.declared.env.Env.{Env}
 use Rattle.task_ast.specs.declared.sync.SyncOp.{SyncOp}
 use Rattle.task_ast.specs.declared.sync.SyncOp.TheVariants as sync
@@ -16,16 +17,15 @@ use Rattle.task_ast.specs.declared.tree.Atom.{Atom}
 use Rattle.task_ast.specs.declared.tree.Param.{Param}
 use Rattle.task_ast.specs.declared.tree.Param.TheVariants as param
 use Rattle.task_ast.specs.meaning.Tree.{Name, Expr, Stmt, At, What, SetCtl, While, If, Lock, Unlock, Fork, Join, Barrier, Settle, SetReg, Read, Write, Print, When, TaskText, Program}
-use Rattle.task_ast.specs.meaning.Names.{is_name, slot, firsts, locks_of, barriers_of, cells_in, cell_number, registers_of, is_task, task_named, task_number}
-use Rattle.task_ast.specs.meaning.Value.{value}
+use Rattle.task_ast.specs.meaning.Names.{is_name, slot, locks_of, barriers_of, cells_in, cell_number, registers_of, is_task, task_named, task_number}
+use Rattle.task_ast.specs.meaning.Value.{value, branch}
 use Rattle.task_ast.specs.meaning.Action.{Action, Child, Give, term, Term}
 use Rattle.task_ast.specs.meaning.Body.{Step, Act, Stop, spent}
-use Rattle.task_ast.specs.meaning.Control.{Setting, Point, step_at, step_from, known, branch, action, env_at, index_of, lock_number, register_number, fork_named, control_arguments, data_arguments, first_actions, begin_actions, going, fork_arguments}
+use Rattle.task_ast.specs.meaning.Control.{Setting, Point, step_at, step_from, known, action, env_at, index_of, lock_number, fork_named, control_arguments, data_arguments, first_actions, begin_actions, going, fork_arguments}
 use Rattle.task_ast.specs.meaning.Held.{same_pair}
 use Rattle.task_ast.specs.laws.Keeps.{NamesOnly, AllName}
 use Rattle.task_ast.specs.Layout.{IsLaidOut}
-use Rattle.task_ast.specs.meaning.Table.{Table}
-use Rattle.task_ast.specs.meaning.Turn.{owner_in, owners_after}
+use Rattle.task_ast.specs.meaning.Turn.{owners_after}
 use Rattle.lock_checker.specs.WalkLaw.{Holding, pairs_held, held_past, NextTouchesHeld, StillNamed}
 use Rattle.task_ast.specs.laws.Threads.{MayBegin}
 use Rattle.lock_checker.proofs.LockOwners.{Owners, has_old, has_new, has_left, each_then, each_push, each_left, both, apart_push, apart_left, set_here, set_other}
@@ -126,7 +126,7 @@ module _ (s : Setting) where
       known_stops (env_at s p) _ next line (position (λ other. is_name b other.0) (barriers_of s.program.heads)) _
       (λ n known is. stops_so (env_at s p) _ next (sync.Barrier n) line (otherwise tt (λ held. refl)) is) is
   stops_at line (Settle x c) rest p next is =
-      stops_so (env_at s p) _ next (sync.Settle (register_number s (registers_of p.task) x) (slot (firsts p.names) c)) line
+      stops_so (env_at s p) _ next (sync.Settle (slot (registers_of p.task) x) (slot (map (λ n. n.0) p.names) c)) line
       (otherwise tt (λ held. refl)) is
   stops_at line (SetReg x e) rest p next is =
       known_stops (env_at s p) _ next line (action s (registers_of p.task) (SetReg x e) (env_at s p)) _
@@ -218,7 +218,7 @@ module _ (s : Setting) where
       (λ rest is. given_names test given registers params es env rest is) is
     where
       go : (t : Option Term) (o : Option (List Action)) → ((rest : List Action) → o ≡ Some rest → AllName test rest)
-          → option_and_then (λ t. option_map (λ rest. Give (register_number s given x) t ∷ rest) o) t ≡ Some actions → AllName test actions
+          → option_and_then (λ t. option_map (λ rest. Give (slot given x) t ∷ rest) o) t ≡ Some actions → AllName test actions
       go None o rest is = absurd (cc is)
       go (Some t) None rest is = absurd (cc is)
       go (Some t) (Some others) rest is = subst (AllName test) (ap (λ o. unwrap_or o []) is) (tt, rest others refl)

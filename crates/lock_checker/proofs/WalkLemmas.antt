@@ -4,6 +4,7 @@
 -- fits what is held past the synchronisation.
 use Rattle.std.proofs.Common.{◌≡◌, ◌≢◌, ℕ, zero, suc, List, [], ◌∷◌, ◌++◌, Bool, true, false, Option, Some, None, refl, sym, ap, ◌∙◌, subst, map, append-nil, true≢false}
 use Rattle.std.specs.Prelude.{ℤ, pos, negsuc, not, ◌&&◌, ◌||◌, cond, is_none, position, slice_get, unwrap_or}
+use Rattle.std.specs.Option.{option_map_or}
 use Rattle.std.specs.List.{list_any, list_all}
 use Rattle.std.specs.Map.{lookup}
 use Rattle.std.proofs.lemmas.List.{map-append}
@@ -17,15 +18,15 @@ use Rattle.task_ast.specs.declared.tree.Atom.{Atom}
 use Rattle.task_ast.specs.declared.tree.Atom.TheVariants as atom
 use Rattle.task_ast.specs.declared.tree.Head.{Head}
 use Rattle.task_ast.specs.meaning.Tree.{Name, Stmt, At, What, SetCtl, While, If, Lock, Unlock, Fork, Join, Barrier, Settle, SetReg, Read, Write, Print, When, Block, Nothing, Then, statements, TaskText, Program}
-use Rattle.task_ast.specs.meaning.Names.{is_name, slot, firsts, head_name, locks_of, cell_number, registers_of, barriers_of}
-use Rattle.task_ast.specs.meaning.Value.{value_at, value}
+use Rattle.task_ast.specs.meaning.Names.{is_name, slot, head_name, locks_of, cell_number, registers_of, barriers_of}
+use Rattle.task_ast.specs.meaning.Value.{value_at, value, branch}
 use Rattle.task_ast.specs.meaning.Action.{Action}
 use Rattle.task_ast.specs.meaning.Body.{Step, Silent, Iteration, Act, Stop}
-use Rattle.task_ast.specs.meaning.Control.{Setting, Point, step_at, step_from, known, branch, action, env_at, lock_number, fork_named, index_of, with_value, with_number, going, behind, beginning}
+use Rattle.task_ast.specs.meaning.Control.{Setting, Point, step_at, step_from, known, action, env_at, lock_number, fork_named, index_of, with_value, with_number, going, behind, beginning}
 use Rattle.task_ast.specs.meaning.Visit.{Visit, visit, fails_if, first_fault}
 use Rattle.task_ast.specs.meaning.Declarations.{Scope, is_lock, is_register, is_atom, has_unknown, has_data_index, head_visits, task_visits, main_visit}
 use Rattle.task_ast.specs.meaning.Held.{Pair, same_pair, has, without, same_pairs, is_index, held_by, held_at_end}
-use Rattle.task_ast.specs.meaning.Check.{array_over, lacks, fails_at, fails_after, held_fails, visits_of, visits_inside, visits_in, body_visits, bodies_visits}
+use Rattle.task_ast.specs.meaning.Check.{array_over, fails_at, fails_after, held_fails, visits_of, visits_inside, visits_in, body_visits, bodies_visits}
 use Rattle.task_ast.specs.Shaped.{is_data, all_data, is_shaped_what, is_shaped_stmt, is_shaped_block, is_shaped_head}
 use Rattle.lock_checker.specs.WalkLaw.{Holding, pair_in, pairs_held, released, held_past, Comes, begins, silently, by_turn, acting, past, by_settle, IsUnderHeld, TouchesHeld, TouchesAllHeld, NextTouchesHeld, StillNamed, none_held, one_held, WalkLaw}
 use Rattle.task_ast.proofs.Slots.{slot_sets}
@@ -344,7 +345,7 @@ module _ (s : Setting) (scope : Scope) (held : List Holding) where
           set_of (sync.Settle register control) = control
           set_of _ = control
 
-          number : control ≡ slot (firsts p.names) c
+          number : control ≡ slot (map (λ n. n.0) p.names) c
           number = sym (ap set_of (ap (λ step. (next_in step).sync) is ∙ settles))
 
           named : StillNamed s.program.heads (record (env_at s p) { names = with_number p.names control v }) held
@@ -411,7 +412,7 @@ data_holds (Print es) held data_statement = refl
 data_holds (When e a b) held data_statement = refl
 
 under : (scope : Scope) (r : Name) (i : Atom) (held : List Pair) (o : Option Name) → array_over scope r ≡ o → is_none o ≡ false
-    → lacks o i held ≡ false → IsUnderHeld scope.program.heads r i held
+    → option_map_or (λ a. not (has held (a, i))) o false ≡ false → IsUnderHeld scope.program.heads r i held
 under scope r i held None is some lacking = absurd (true≢false some)
 under scope r i held (Some a) is some lacking = (a, is, not_true (has held (a, i)) lacking)
 
@@ -441,19 +442,19 @@ module _ (scope : Scope) where
         let kinds = kinds_none scope line (Read r i x) held none in
         let unknown =
         or_parts (is_none (array_over scope r)) (not (is_atom scope i) || not (is_register scope x))
-        (first_kind _ UnknownName (fails_if (lacks (array_over scope r) i held) NotHeld) kinds) in
+        (first_kind _ UnknownName (fails_if (option_map_or (λ a. not (has held (a, i))) (array_over scope r) false) NotHeld) kinds) in
         under scope r i held (array_over scope r) refl unknown.0
         (last_kind (fails_if (is_none (array_over scope r) || (not (is_atom scope i) || not (is_register scope x))) UnknownName)
-        (lacks (array_over scope r) i held) NotHeld kinds)
+        (option_map_or (λ a. not (has held (a, i))) (array_over scope r) false) NotHeld kinds)
     touches line (Write r i e) held none shaped =
         let kinds = kinds_none scope line (Write r i e) held none in
         let unknown =
         or_parts (is_none (array_over scope r)) (not (is_atom scope i) || has_unknown scope e)
         (first_kind _ UnknownName (fails_if (has_data_index e) DataInControl)
-        (nil_left _ (fails_if (lacks (array_over scope r) i held) NotHeld) kinds)) in
+        (nil_left _ (fails_if (option_map_or (λ a. not (has held (a, i))) (array_over scope r) false) NotHeld) kinds)) in
         under scope r i held (array_over scope r) refl unknown.0
         (last_kind (fails_if (is_none (array_over scope r) || (not (is_atom scope i) || has_unknown scope e)) UnknownName
-        ++ fails_if (has_data_index e) DataInControl) (lacks (array_over scope r) i held) NotHeld kinds)
+        ++ fails_if (has_data_index e) DataInControl) (option_map_or (λ a. not (has held (a, i))) (array_over scope r) false) NotHeld kinds)
     touches line (Print es) held none shaped = tt
     touches line (When e a b) held none shaped =
         let parts =

@@ -12,13 +12,10 @@ use Rattle.task_ast.specs.meaning.Layout.{layout}
 use Rattle.task_ast.specs.Shaped.{IsAccepted}
 use Rattle.task_ast.specs.Under.{KeepsToLocks, NamesHeld}
 use Rattle.task_ast.specs.meaning.Repeat.{Goes}
-use Rattle.task_ast.specs.meaning.Table.{next_of}
-use Rattle.task_ast.specs.Table.{is_known_end}
-use Rattle.task_ast.specs.meaning.Turn.{owner_in, owner_of}
-use Rattle.task_ast.specs.meaning.Plain.{Subthread, Plain, opening, move, order}
-use Rattle.task_ast.specs.Plain.{setting}
-use Rattle.task_ast.specs.meaning.Position.{before}
-use Rattle.task_ast.specs.Position.{point_in}
+use Rattle.task_ast.specs.Table.{next_of, is_known_end, owner_in}
+use Rattle.task_ast.specs.meaning.Plain.{Subthread}
+use Rattle.task_ast.specs.Plain.{Plain, opening, move, order, setting}
+use Rattle.task_ast.specs.Position.{before, point_in}
 use Rattle.lock_checker.specs.WalkLaw.{Holding, Comes}
 
 -- each holding passes
@@ -88,7 +85,7 @@ abbrev pub EndedLaw : Type 0
 EndedLaw =
     (program : Program) (inputs : Inputs) (limits : Limits) → IsAccepted program
     → (x : Plain) → LocksStand program inputs limits x
-    → (t : ℕ) → is_known_end (next_of x.table t) ≡ true → (lock : ℕ) → owner_of x.table lock ≢ Some t
+    → (t : ℕ) → is_known_end (next_of x.table t) ≡ true → (lock : ℕ) → owner_in x.table.owners lock ≢ Some t
 
 -- so they stand before each position of the plain run
 abbrev pub HeldBeforeLaw : Type 0

@@ -1,9 +1,11 @@
 // The rules at the beginning of a statement.
-ghost use Rattle.std.specs.Prelude.{◌≡◌, [], zip, length};
+ghost use Rattle.std.specs.Prelude.{◌≡◌, [], zip, length, not, false};
+ghost use Rattle.std.specs.Option.{option_map_or};
 ghost use Rattle.std.specs.List.{list_any};
 ghost use Rattle.task_ast.specs.meaning.Tree as plain;
-ghost use Rattle.task_ast.specs.meaning.Check.{fails_at, into_unknown, into_index};
+ghost use Rattle.task_ast.specs.meaning.Check.{fails_at};
 ghost use Rattle.task_ast.specs.meaning.Declarations.{is_control, is_register, is_misplaced};
+ghost use Rattle.task_ast.specs.meaning.Held.{is_index};
 ghost use Rattle.task_ast.specs.View.{plain_expr, plain_exprs, plain_what};
 ghost use Rattle.lock_checker.specs.inner.Scopes.{scope_of, IsScope};
 ghost use Rattle.lock_checker.specs.inner.Pairs.{pairs_in};
@@ -111,7 +113,7 @@ fn any_misplaced(params: &[Param], arguments: &[Expr]) -> bool
 
 fn into_control_unknown(scope: &Scope, into: &Option<Name>) -> bool
     requires { IsScope scope.now }
-    ensures { result ≡ into_unknown (is_control (scope_of scope.now)) into.now }
+    ensures { result ≡ option_map_or (λ x. not (is_control (scope_of scope.now) x)) into.now false }
 {
     match into {
         Some(x) => !is_control(scope, x),
@@ -121,7 +123,7 @@ fn into_control_unknown(scope: &Scope, into: &Option<Name>) -> bool
 
 fn into_register_unknown(scope: &Scope, into: &Option<Name>) -> bool
     requires { IsScope scope.now }
-    ensures { result ≡ into_unknown (is_register (scope_of scope.now)) into.now }
+    ensures { result ≡ option_map_or (λ x. not (is_register (scope_of scope.now) x)) into.now false }
 {
     match into {
         Some(x) => !is_register(scope, x),
@@ -130,7 +132,7 @@ fn into_register_unknown(scope: &Scope, into: &Option<Name>) -> bool
 }
 
 fn into_held_index<'a>(held: &Pairs<'a>, into: &'a Option<Name>) -> bool
-    ensures { result ≡ into_index (pairs_in held.now) into.now }
+    ensures { result ≡ option_map_or (λ x. list_any (is_index x) (pairs_in held.now)) into.now false }
 {
     match into {
         Some(x) => held.has_index(x),

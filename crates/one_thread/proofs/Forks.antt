@@ -16,10 +16,10 @@ use Rattle.task_ast.specs.declared.tree.Param.TheVariants as param
 use Rattle.task_ast.specs.declared.tree.TaskText.{TaskText as CodeTask}
 use Rattle.task_ast.specs.declared.tree.Program.{Program as CodeProgram}
 use Rattle.task_ast.specs.meaning.Tree.{Name, Expr, TaskText}
-use Rattle.task_ast.specs.meaning.Names.{is_name, is_task, task_named, task_number, registers_of}
+use Rattle.task_ast.specs.meaning.Names.{is_name, is_task, task_named, task_number, registers_of, slot}
 use Rattle.task_ast.specs.meaning.Action.{Term, Action, Give, Child, term}
 use Rattle.task_ast.specs.meaning.Body.{Step}
-use Rattle.task_ast.specs.meaning.Control.{Setting, Point, known, stop, control_arguments, data_arguments, fork_arguments, fork_named, register_number}
+use Rattle.task_ast.specs.meaning.Control.{Setting, Point, known, stop, control_arguments, data_arguments, fork_arguments, fork_named}
 use Rattle.task_ast.specs.View.{plain_expr, plain_exprs, plain_task, plain_program}
 use Rattle.task_ast.proofs.Terms.{position-cons}
 use Rattle.one_thread.specs.declared.walk.Walk.{Walk}
@@ -335,11 +335,11 @@ module _ (joined : ℤ) (s : Setting) (given registers : List Name) (env : Env) 
   pub give-one : (params : List Param) (es : List CodeExpr) (k : ℕ) (p : Param) (e : CodeExpr) (x : Name) (now new : Data)
       → k < length params → p ≡ get_or params k p → true ≡ nat_lt k (length es) → e ≡ get_or es k e
       → p ≡ param.Reg x
-      → ((t : Term) → term registers (plain_expr e) env ≡ Some t → new ≡ worked joined (Give (register_number s given x) t) now)
+      → ((t : Term) → term registers (plain_expr e) env ≡ Some t → new ≡ worked joined (Give (slot given x) t) now)
       → AheadOf joined whole (rest_from params es k) now start → AheadOf joined whole (rest_from params es (k + 1)) new start
   give-one params es k p e x now new p_in p_is e_in e_is variable gives ahead actions is =
       let so_far = ahead actions is in
-      given_on joined (register_number s given x) (term registers (plain_expr e) env) (rest_from params es (k + 1)) now new
+      given_on joined (slot given x) (term registers (plain_expr e) env) (rest_from params es (k + 1)) now new
       (all_worked joined actions start) so_far.0 gives
       (sym (rest_here params es k p e p_in p_is e_in e_is
       ∙ ap (λ q. data_arguments s given registers (q ∷ drop (k + 1) params) (plain_expr e ∷ plain_exprs (drop (k + 1) es)) env)

@@ -7,13 +7,16 @@ use Rattle.std.specs.Prelude.{slice_get, pos, negsuc}
 use Rattle.std.proofs.lemmas.Bool.{ltb-true}
 use Rattle.std.proofs.lemmas.List.{length-map, length-append}
 use Rattle.std.proofs.lemmas.Option.{slice_get_within}
+use Rattle.gp_base.specs.declared.limits.TheConstants.{MOST_THREADS}
 use Rattle.gp_base.specs.declared.ending.End.TheVariants.{Finished}
+use Rattle.task_ast.specs.Table.{owner_in, Seat, Table, next_of, unpassed, waits_at}
 use Rattle.task_ast.specs.declared.sync.SyncOp.{SyncOp}
 use Rattle.task_ast.specs.declared.sync.SyncOp.TheVariants as sync
 use Rattle.task_ast.specs.declared.sync.Next.{Next}
 use Rattle.task_ast.specs.meaning.Repeat.{Again, More, Done, go_on, repeated, until_done}
-use Rattle.task_ast.specs.meaning.Table.{Stand, Away, Waits, Released, Seat, Table, ring, next_of, unpassed, with_nth, waits_at}
-use Rattle.task_ast.specs.meaning.Turn.{Turn, Issue, Needs, Ended, Look, To, Unknown, NoThread, look, at_look, tried, issuing, passing, at_join, at_barrier, come_to, met, arrived, stand_of, owner_of, child_of, seats_after, released_at, most_threads, has_passed, deadlocked, all_threads, turn, turns_left, next_issue}
+use Rattle.task_ast.specs.meaning.Table.{Stand, Away, Waits, Released, ring, with_nth, numbers}
+use Rattle.task_ast.specs.meaning.Turn.{child_of}
+use Rattle.task_ast.specs.Turn.{Turn, Issue, Needs, Ended, Look, To, Unknown, NoThread, look, at_look, tried, issuing, passing, at_join, at_barrier, come_to, met, arrived, stand_of, seats_after, released_at, has_passed, deadlocked, turn, turns_left, next_issue}
 use Rattle.task_ast.proofs.Counting.{length-with_nth}
 use Rattle.task_ast.proofs.Turns.{Known, known_to, look_known}
 
@@ -123,10 +126,10 @@ module _ (limit issued threads : ℕ) where
       → Leads limit issued threads (tried op table t next)
   tried_leads sync.Start table t next like inside = issuing_leads table t next like inside
   tried_leads (sync.Lock l) table t next like inside =
-      cond_leads (is_none (owner_of table l)) _ _ (λ e. issuing_leads table t next like inside) (λ e. passing_leads table t like)
+      cond_leads (is_none (owner_in table.owners l)) _ _ (λ e. issuing_leads table t next like inside) (λ e. passing_leads table t like)
   tried_leads (sync.Unlock l) table t next like inside = issuing_leads table t next like inside
   tried_leads (sync.Fork task arguments) table t next like inside =
-      cond_leads (nat_lt (length table.seats) most_threads) _ _ (λ e. issuing_leads table t next like inside) (λ e. ends)
+      cond_leads (nat_lt (length table.seats) MOST_THREADS) _ _ (λ e. issuing_leads table t next like inside) (λ e. ends)
   tried_leads (sync.Join (pos h)) table t next like inside =
       cond_leads (nat_lt h (length table.seats)) _ _ (λ e. joining_leads h (next_of table h) table t next like inside) (λ e. ends)
   tried_leads (sync.Join (negsuc h)) table t next like inside = ends
@@ -153,7 +156,7 @@ module _ (limit issued threads : ℕ) where
 
   look_leads : (table : Table) (l : Look) → Known table l → Like limit issued threads table → Leads limit issued threads (at_look l table)
   look_leads table (To t next) (known_to e live) like =
-      cond_leads (has_passed table t) _ _ (λ p. stuck_leads (look table (all_threads table)))
+      cond_leads (has_passed table t) _ _ (λ p. stuck_leads (look table (numbers 0 (length table.seats))))
       (λ p. tried_leads next.sync table t next like
       (let within = thread-inside table.seats t next e in let all = like.threads_are in omega arith))
   look_leads table (Unknown t) known like = needs

@@ -6,9 +6,10 @@ use Rattle.std.specs.FinMap.{put, find, nat_cmp-IsAntisymmetric}
 use Rattle.std.specs.FinMap.Entries.{find-put}
 use Rattle.std.proofs.lemmas.Cmp.{nat_cmp_total}
 use Rattle.std.proofs.lemmas.Bool.{false≢true, ltb-true, le-ltb, eq-eqb}
+use Rattle.task_ast.specs.meaning.Value.{branch}
 use Rattle.task_ast.specs.meaning.Action.{Term, Action, Set, Load, Store, Say, Choose, Child, Give, Bring, Arm, NoAction, OneAction}
 use Rattle.task_ast.specs.meaning.State.{number_at}
-use Rattle.task_ast.specs.meaning.Effect.{term_value, Doing, picked, done, arm_done, all_done}
+use Rattle.task_ast.specs.meaning.Effect.{term_value, Doing, done, arm_done, all_done}
 use Rattle.task_ast.specs.laws.Keeps.{NamesOnly, ArmNamesOnly, AllName}
 use Rattle.one_thread.specs.declared.data.Data.{Data}
 use Rattle.one_thread.specs.inner.Working.{first_unless, worked, arm_worked, recorded, all_worked}
@@ -60,7 +61,7 @@ found_after c v d xs q before within same =
     go false e = number_other xs c q v (λ is. absurd (false≢true (sym e ∙ ap (λ k. eq_by_cmp nat_cmp k c) is ∙ itself c))) ∙ same
 
 picked_mirrors : (found : ℕ → ℤ) (count : ℕ) (v : ℤ) (a b : Doing) (x y : Data) → Mirrors found count a x → Mirrors found count b y
-    → Mirrors found count (picked v a b) (first_unless v x y)
+    → Mirrors found count (branch v a b) (first_unless v x y)
 picked_mirrors found count (pos zero) a b x y f s = s
 picked_mirrors found count (pos (suc n)) a b x y f s = f
 picked_mirrors found count (negsuc n) a b x y f s = f

@@ -5,8 +5,8 @@ use Rattle.gp_base.specs.declared.limits.Limits.{Limits}
 use Rattle.gp_base.specs.declared.feed.Inputs.{Inputs}
 use Rattle.task_ast.specs.declared.tree.Program.{Program as Code}
 use Rattle.task_ast.specs.meaning.Repeat.{steps, state_after}
-use Rattle.task_ast.specs.meaning.Plain.{Plain, move, opening, order}
-use Rattle.task_ast.specs.meaning.Position.{before}
+use Rattle.task_ast.specs.Plain.{Plain, move, opening, order}
+use Rattle.task_ast.specs.Position.{before}
 use Rattle.task_ast.specs.View.{plain_program}
 use Rattle.one_thread.specs.declared.threads.Run.{Run}
 use Rattle.one_thread.specs.declared.run.Step.{Step}

@@ -13,7 +13,8 @@ use Rattle.task_ast.specs.meaning.Names.{is_name, is_task, registers_of, records
 use Rattle.task_ast.specs.meaning.Declarations.{main}
 use Rattle.task_ast.specs.meaning.State.{number_at}
 use Rattle.task_ast.specs.meaning.Table.{numbers}
-use Rattle.task_ast.specs.meaning.Plain.{no_task, task_at, main_number, start_point, opening}
+use Rattle.task_ast.specs.meaning.Plain.{no_task, task_at, main_number, start_point}
+use Rattle.task_ast.specs.Plain.{opening}
 use Rattle.task_ast.specs.View.{plain_task, plain_program}
 use Rattle.task_ast.proofs.Terms.{position-cons}
 use Rattle.task_ast.proofs.Arms.{some_is}

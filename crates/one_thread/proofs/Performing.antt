@@ -20,12 +20,13 @@ use Rattle.task_ast.specs.meaning.Action.{Action}
 use Rattle.task_ast.specs.meaning.Body.{Body}
 use Rattle.task_ast.specs.meaning.Control.{Point, with_number, beginning, first_actions, tree_body}
 use Rattle.task_ast.specs.meaning.State.{State, RegistersOf, CellOf, number_at, cell_value}
-use Rattle.task_ast.specs.meaning.Effect.{Doing, all_done, joined_ret, effect, after, left_to, one_number}
+use Rattle.task_ast.specs.meaning.Effect.{Doing, all_done, joined_ret, effect, after, left_to}
 use Rattle.task_ast.specs.meaning.Footprint.{named_by}
 use Rattle.task_ast.specs.laws.Keeps.{AllName}
-use Rattle.task_ast.specs.meaning.Table.{learning}
+use Rattle.task_ast.specs.Table.{learning}
 use Rattle.task_ast.specs.meaning.Turn.{child_of}
-use Rattle.task_ast.specs.meaning.Plain.{Plain, Machine, tree_machine, points_with, point_by, settled_by, from_by, task_at, start_point}
+use Rattle.task_ast.specs.meaning.Plain.{task_at, start_point}
+use Rattle.task_ast.specs.Plain.{Plain, Machine, tree_machine, points_with, point_by, settled_by, from_by}
 use Rattle.task_ast.specs.meaning.Plain as plain
 use Rattle.task_ast.specs.View.{plain_program}
 use Rattle.task_ast.proofs.Arms.{some_is}
@@ -60,7 +61,8 @@ joined-is sync.BadIndex walks state same = refl
 joined-is sync.Spent walks state same = refl
 
 -- a cell after an effect
-cell-after : (o : Option ℤ) (before : List ℤ) → number_at (unwrap_or (option_map one_number o) before) 0 ≡ unwrap_or o (number_at before 0)
+cell-after : (o : Option ℤ) (before : List ℤ)
+    → number_at (unwrap_or (option_map (λ v. v ∷ []) o) before) 0 ≡ unwrap_or o (number_at before 0)
 cell-after None before = refl
 cell-after (Some v) before = refl
 

@@ -16,9 +16,12 @@ use Rattle.task_ast.specs.meaning.State.{number_at, cell_value}
 use Rattle.task_ast.specs.meaning.Action.{Action}
 use Rattle.task_ast.specs.meaning.Footprint.{named_by}
 use Rattle.task_ast.specs.meaning.Repeat.{Move, Goes, Ends, steps, state_after, steps_from, state_from}
-use Rattle.task_ast.specs.meaning.Table.{Table as PlainTable, numbers, owned_from}
-use Rattle.task_ast.specs.meaning.Turn.{Turn as PlainTurn, Issue, next_issue, child_of}
-use Rattle.task_ast.specs.meaning.Plain.{Subthread, Plain, on_turn, move, opening, last_state, ending_of}
+use Rattle.task_ast.specs.meaning.Table.{numbers, owned_from}
+use Rattle.task_ast.specs.Table.{Table as PlainTable}
+use Rattle.task_ast.specs.meaning.Turn.{child_of}
+use Rattle.task_ast.specs.Turn.{Turn as PlainTurn, Issue, next_issue}
+use Rattle.task_ast.specs.meaning.Plain.{Subthread, ending_of}
+use Rattle.task_ast.specs.Plain.{Plain, on_turn, move, opening, last_state}
 use Rattle.task_ast.specs.View.{plain_program}
 use Rattle.task_ast.proofs.Counting.{length-with_nth}
 use Rattle.one_thread.specs.declared.seats.Table.{Table}

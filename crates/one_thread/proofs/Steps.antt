@@ -10,10 +10,10 @@ use Rattle.task_ast.specs.declared.tree.Stmt as code
 use Rattle.task_ast.specs.declared.sync.SyncOp.TheVariants as sync
 use Rattle.task_ast.specs.meaning.Tree.{Stmt, At, What, SetCtl, While, If, Lock, Unlock, Fork, Join, Barrier, Settle, SetReg, Read, Write, Print, When, Expr, block, statements}
 use Rattle.task_ast.specs.meaning.Names.{registers_of}
-use Rattle.task_ast.specs.meaning.Value.{value}
+use Rattle.task_ast.specs.meaning.Value.{value, branch}
 use Rattle.task_ast.specs.meaning.Action.{Action}
 use Rattle.task_ast.specs.meaning.Body.{Step, Silent, Iteration, Act}
-use Rattle.task_ast.specs.meaning.Control.{Setting, Point, known, branch, going, env_at, action, step_at}
+use Rattle.task_ast.specs.meaning.Control.{Setting, Point, known, going, env_at, action, step_at}
 use Rattle.task_ast.specs.Shaped.{is_data}
 use Rattle.task_ast.specs.View.{plain_stmts, plain_block}
 use Rattle.one_thread.specs.declared.walk.Walk.{Walk}

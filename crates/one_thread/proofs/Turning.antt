@@ -1,18 +1,19 @@
 -- One turn, by the thread that the token comes to.
-use Rattle.std.proofs.Common.{Result, Ok, Err, ℤ, IfOk, ◌≡◌, ℕ, ◌<◌, ◌≤◌, Bool, true, false, cond, nat_le, unwrap_or, count_by, List, map, Some, None, refl, sym, ap, ◌∙◌}
+use Rattle.std.proofs.Common.{Result, Ok, Err, ℤ, IfOk, ◌≡◌, ℕ, ◌<◌, ◌≤◌, Bool, true, false, cond, nat_le, unwrap_or, count_by, List, map, Some, None, refl, sym, ap, ◌∙◌, length}
 use Rattle.std.specs.Prelude.{slice_get}
 use Rattle.std.specs.declared.alloc.AllocError.{AllocError}
 use Rattle.gp_base.specs.declared.ending.End.{End}
 use Rattle.one_thread.specs.declared.turns.Turn.{Turn as TurnHere}
 use Rattle.one_thread.specs.declared.turns.Turn.TheVariants as here
-use Rattle.task_ast.specs.meaning.Turn.{next_issue, turns_left}
+use Rattle.task_ast.specs.Turn.{next_issue, turns_left, Turn, Needs, Ended, deadlocked, look, turn, tried, stand_of, met, arrived, come_to, at_barrier, released_at, issuing, passing}
 use Rattle.task_ast.specs.meaning.Repeat.{go_on}
 use Rattle.task_ast.specs.declared.sync.Next.{Next}
 use Rattle.task_ast.specs.declared.sync.SyncOp.TheVariants as sync_op
 use Rattle.task_ast.specs.meaning.Repeat.{Again, Done}
-use Rattle.task_ast.specs.meaning.Table.{Seat as SeatThere, Stand, Away, Waits, Released, Table, ring, next_of, waits_at}
+use Rattle.task_ast.specs.meaning.Table.{Stand, Away, Waits, Released, ring, numbers}
+use Rattle.task_ast.specs.Table.{Seat as SeatThere, Table, next_of, waits_at}
 use Rattle.gp_base.specs.declared.ending.End.TheVariants.{Finished}
-use Rattle.task_ast.specs.meaning.Turn.{Turn, Needs, Ended, deadlocked, all_threads, look, turn, tried, stand_of, met, arrived, come_to, at_barrier, released_at, issuing, passing, is_away}
+use Rattle.task_ast.specs.meaning.Turn.{is_away}
 use Rattle.std.proofs.lemmas.Bool.{false≢true, le-leb, lt-leb}
 use Rattle.one_thread.specs.declared.seats.Table.{Table as Ring}
 use Rattle.one_thread.specs.declared.seats.Seat.{Seat}
@@ -103,7 +104,7 @@ meets-waits before after t b seat next e at free =
 
 -- a thread that has passed ends the run
 pub turn-stuck : (table : Table) (t : ℕ) (seat : SeatThere) (next : Next) → LooksAt table (Some t) → slice_get table.seats t ≡ Some seat
-    → seat.next ≡ Some next → seat.passed ≡ true → turn table ≡ deadlocked (look table (all_threads table))
+    → seat.next ≡ Some next → seat.passed ≡ true → turn table ≡ deadlocked (look table (numbers 0 (length table.seats)))
 turn-stuck table t seat next looks at is passed = rw (looks, next-at table t seat at ∙ is, passed-at table t seat at, passed) refl
 
 -- an unknown thread is needed

@@ -3,6 +3,7 @@
 -- the actions with which a subthread begins.
 use Rattle.std.proofs.Common.{◌≡◌, ℕ, zero, suc, ◌+◌, ◌<◌, ℤ, pos, negsuc, Bool, true, false, cond, List, [], ◌∷◌, ◌++◌, Option, Some, None, refl, subst, arith, option_map, option_and_then, nat_lt, unwrap_or, length}
 use Rattle.std.proofs.lemmas.Bool.{lt-ltb, ltb-true}
+use Rattle.task_ast.specs.meaning.Value.{branch}
 use Rattle.task_ast.specs.declared.env.Env.{Env}
 use Rattle.task_ast.specs.declared.tree.Param.{Param}
 use Rattle.task_ast.specs.declared.tree.Param.TheVariants as param
@@ -10,10 +11,10 @@ use Rattle.task_ast.specs.declared.sync.Next.{Next}
 use Rattle.task_ast.specs.declared.sync.SyncOp.{SyncOp}
 use Rattle.task_ast.specs.declared.sync.SyncOp.TheVariants as sync
 use Rattle.task_ast.specs.meaning.Tree.{Name, Expr, Stmt, At, What, SetCtl, While, If, Lock, Unlock, Fork, Join, Barrier, Settle, SetReg, Read, Write, Print, When, Block, Nothing, Then, TaskText}
-use Rattle.task_ast.specs.meaning.Names.{is_name, place, cell_number, cells_in, records_of, registers_of, task_named}
+use Rattle.task_ast.specs.meaning.Names.{is_name, place, cell_number, cells_in, records_of, registers_of, task_named, slot}
 use Rattle.task_ast.specs.meaning.Action.{Term, Action, Store, Say, Choose, Child, Give, Arm, OneAction, term}
 use Rattle.task_ast.specs.meaning.Body.{Step, Silent, Iteration, Act, Stop, Body, follow, stretch, body}
-use Rattle.task_ast.specs.meaning.Control.{Setting, Point, known, branch, going, env_at, action, arm, action_of, record_number, data_arguments, control_arguments, register_number, fork_arguments, begin_actions, first_actions, step, step_at, step_from, size, tree_body}
+use Rattle.task_ast.specs.meaning.Control.{Setting, Point, known, going, env_at, action, arm, action_of, record_number, data_arguments, control_arguments, fork_arguments, begin_actions, first_actions, step, step_at, step_from, size, tree_body}
 use Rattle.task_ast.specs.laws.Keeps.{NamesOnly, ArmNamesOnly, AllName}
 use Rattle.task_ast.proofs.Arms.{some_is}
 
@@ -182,7 +183,7 @@ module _ (s : Setting) where
   datas_within given registers (param.Reg x ∷ params) [] env actions is = subst (AllName (is_cell s)) (some_is is) tt
   datas_within given registers (param.Ctl x ∷ params) (e ∷ es) env actions is = datas_within given registers params es env actions is
   datas_within given registers (param.Reg x ∷ params) (e ∷ es) env actions is =
-      gave (register_number s given x) (term registers e env) (data_arguments s given registers params es env) actions is
+      gave (slot given x) (term registers e env) (data_arguments s given registers params es env) actions is
       (λ more at. datas_within given registers params es env more at)
 
   none_within : AllName (is_cell s) []

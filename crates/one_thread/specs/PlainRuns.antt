@@ -4,8 +4,9 @@ use Rattle.gp_base.specs.declared.limits.Limits.{Limits}
 use Rattle.gp_base.specs.declared.feed.Inputs.{Inputs}
 use Rattle.task_ast.specs.meaning.Tree.{Program}
 use Rattle.task_ast.specs.meaning.Control.{Point}
-use Rattle.task_ast.specs.meaning.Table.{Table}
-use Rattle.task_ast.specs.meaning.Plain.{Subthread, foot_of, order, end, final_records}
+use Rattle.task_ast.specs.Table.{Table}
+use Rattle.task_ast.specs.meaning.Plain.{Subthread, foot_of}
+use Rattle.task_ast.specs.Plain.{order, end, final_records}
 use Rattle.one_thread.specs.declared.run.Step.{Step}
 use Rattle.one_thread.specs.declared.run.PlainRun.{PlainRun}
 use Rattle.one_thread.specs.declared.standing.Standing.{Standing}

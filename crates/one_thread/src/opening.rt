@@ -4,7 +4,7 @@ ghost use Rattle.task_ast.specs.meaning.Names.{feeds_of, is_name};
 ghost use Rattle.task_ast.specs.meaning.Declarations.{main};
 ghost use Rattle.task_ast.specs.meaning.State.{number_at};
 ghost use Rattle.task_ast.specs.meaning.Table.{numbers};
-ghost use Rattle.task_ast.specs.meaning.Plain.{opening};
+ghost use Rattle.task_ast.specs.Plain.{opening};
 ghost use Rattle.task_ast.specs.View.{plain_program};
 ghost use Rattle.one_thread.specs.inner.Runs.{slots_of, Holds, IsSmall};
 

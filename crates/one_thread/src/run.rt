@@ -2,7 +2,7 @@
 ghost use Rattle.std.specs.Prelude.{◌≡◌, ◌<◌, length, map, IfOk};
 ghost use Rattle.gp_base.specs.declared.limits.Limits.{Limits as LimitsThere};
 ghost use Rattle.gp_base.specs.declared.feed.Inputs.{Inputs as InputsThere};
-ghost use Rattle.task_ast.specs.meaning.Plain.{Plain};
+ghost use Rattle.task_ast.specs.Plain.{Plain};
 ghost use Rattle.task_ast.specs.View.{plain_program};
 ghost use Rattle.lock_checker.specs.Accepted.{program_of};
 ghost use Rattle.one_thread.specs.inner.Holding.{AreHeld};

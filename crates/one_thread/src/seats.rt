@@ -1,8 +1,9 @@
 // The threads of a run, and the thread that the token comes to.
 ghost use Rattle.std.specs.Prelude.{◌≡◌, ℕ, ◌<◌, ◌≤◌, ◌-◌, max, [], ◌∷◌, length, map, replicate, IfOk, IfSome, None};
 ghost use Rattle.task_ast.specs.Looking.{look_of};
-ghost use Rattle.task_ast.specs.meaning.Table.{numbers, ring, learning, unpassed};
-ghost use Rattle.task_ast.specs.meaning.Turn.{look};
+ghost use Rattle.task_ast.specs.meaning.Table.{numbers, ring};
+ghost use Rattle.task_ast.specs.Table.{learning, unpassed};
+ghost use Rattle.task_ast.specs.Turn.{look};
 ghost use Rattle.task_ast.specs.Table;
 ghost use Rattle.one_thread.specs.inner.Holding.{AreHeld};
 ghost use Rattle.ended_seats.specs.Idle.{IdleFrom, is_idle};
@@ -55,7 +56,7 @@ fn has_ended(seat: &Seat) -> bool
 
 /// A thread that stands at its start.
 pub fn new_seat() -> Seat
-    ensures { seat_of result ≡ Rattle.task_ast.specs.meaning.Table.new_seat }
+    ensures { seat_of result ≡ Rattle.task_ast.specs.Table.new_seat }
 {
     Seat {
         next: Some(Next {
@@ -97,7 +98,7 @@ impl Table {
         barriers: Vec<u64>,
         locks: usize,
     ) -> Result<Table, AllocError>
-        ensures table { IfOk result (λ t. table_of t ≡ record { limit = limit; barriers = barriers.items; seats = Rattle.task_ast.specs.meaning.Table.new_seat ∷ []; owners = replicate locks None; token = None; issued = 0 }) }
+        ensures table { IfOk result (λ t. table_of t ≡ record { limit = limit; barriers = barriers.items; seats = Rattle.task_ast.specs.Table.new_seat ∷ []; owners = replicate locks None; token = None; issued = 0 }) }
         ensures held { IfOk result (λ t. AreHeld t.owners.owners.items t.owners.held.items) }
         ensures mark { IfOk result MarkStands }
     {

@@ -1,8 +1,8 @@
 // Where the threads of a run stand before a position.
 ghost use Rattle.std.specs.Prelude.{◌≡◌, ◌<◌, map, length, IfOk, MatchOption};
 ghost use Rattle.task_ast.specs.View.{plain_program};
-ghost use Rattle.task_ast.specs.meaning.Plain.{order};
-ghost use Rattle.task_ast.specs.meaning.Position.{before};
+ghost use Rattle.task_ast.specs.Plain.{order};
+ghost use Rattle.task_ast.specs.Position.{before};
 ghost use Rattle.lock_checker.specs.Accepted.{program_of};
 ghost use Rattle.one_thread.specs.PlainRuns.{Stands};
 ghost use Rattle.one_thread.specs.inner.View.{seat_of, table_of};

@@ -4,8 +4,10 @@ ghost use Rattle.gp_base.specs.declared.ending.End.TheVariants.{Stuck};
 ghost use Rattle.task_ast.specs.Looking.{begun, joined_in, is_free_to_go};
 ghost use Rattle.task_ast.specs.declared.sync.Next.{Next as NextThere};
 ghost use Rattle.task_ast.specs.declared.sync.SyncOp.TheVariants as sync;
-ghost use Rattle.task_ast.specs.meaning.Table.{next_of, waits_at};
-ghost use Rattle.task_ast.specs.meaning.Turn.{turn, next_issue, tried, issuing, passing, look, seats_after, child_of, deadlocked, all_threads, met, arrived, released_at};
+ghost use Rattle.task_ast.specs.meaning.Table.{numbers};
+ghost use Rattle.task_ast.specs.Table.{next_of, waits_at};
+ghost use Rattle.task_ast.specs.meaning.Turn.{child_of};
+ghost use Rattle.task_ast.specs.Turn.{turn, next_issue, tried, issuing, passing, look, seats_after, deadlocked, met, arrived, released_at};
 ghost use Rattle.one_thread.specs.inner.Holding.{AreHeld};
 ghost use Rattle.one_thread.specs.inner.View.{table_of, seat_of, gives, gave, Halts, MarkStands};
 
@@ -225,7 +227,7 @@ impl Table {
 
     // Nobody can go on: the least-numbered thread that has not ended is told.
     fn deadlock(&self) -> Result<Turn, AllocError>
-        ensures { IfOk result (λ r. deadlocked (look (table_of self.now) (all_threads (table_of self.now))) ≡ gives r (table_of self.now)) }
+        ensures { IfOk result (λ r. deadlocked (look (table_of self.now) (numbers 0 (length (table_of self.now).seats))) ≡ gives r (table_of self.now)) }
     {
         let Some(t) = self.first_live(0, self.seats.len()) else {
             return Ok(Turn::Ended(End::Finished));

@@ -6,7 +6,8 @@ use Rattle.std.proofs.lemmas.Grind.{flat_map-append}
 use Rattle.gp_base.specs.declared.limits.Limits.{Limits}
 use Rattle.gp_base.specs.declared.feed.Inputs.{Inputs}
 use Rattle.task_ast.specs.meaning.Tree.{Program}
-use Rattle.task_ast.specs.meaning.Plain.{Subthread, order, tree_machine}
+use Rattle.task_ast.specs.meaning.Plain.{Subthread}
+use Rattle.task_ast.specs.Plain.{order, tree_machine}
 use Rattle.task_ast.proofs.Positions.{step_is}
 use Rattle.restart_log.specs.meaning.Lines.{printed, printed_line}
 use Rattle.crew.specs.meaning.Noted.{left_at, left_from, left_in_order}

@@ -3,7 +3,7 @@ use Rattle.std.specs.Prelude.{◌≡◌, ℕ, suc, pos, List, ◌++◌, length, 
 use Rattle.gp_base.specs.declared.limits.Limits.{Limits}
 use Rattle.gp_base.specs.declared.feed.Inputs.{Inputs}
 use Rattle.task_ast.specs.meaning.Tree.{Program}
-use Rattle.task_ast.specs.meaning.Plain.{order}
+use Rattle.task_ast.specs.Plain.{order}
 use Rattle.restart_log.specs.meaning.Lines.{printed}
 use Rattle.crew.specs.meaning.Noted.{left_in_order}
 use Rattle.retirement_log.specs.meaning.Rows.{Retirement}

@@ -13,8 +13,9 @@ use Rattle.task_ast.specs.meaning.Tree.{Program}
 use Rattle.task_ast.specs.meaning.State.{Location, State}
 use Rattle.task_ast.specs.Fold.{Member, applied, fold}
 use Rattle.task_ast.specs.Members.{member_of}
-use Rattle.task_ast.specs.meaning.Plain.{Subthread, tree_machine, order, opening, last_state}
-use Rattle.task_ast.specs.meaning.Position.{before}
+use Rattle.task_ast.specs.meaning.Plain.{Subthread}
+use Rattle.task_ast.specs.Plain.{tree_machine, order, opening, last_state}
+use Rattle.task_ast.specs.Position.{before}
 use Rattle.task_ast.proofs.Positions.{last_is}
 use Rattle.dependence.specs.meaning.Conflict.{foot_at, clash_in}
 use Rattle.dependence.specs.Conflict.{ClashIn}

@@ -10,8 +10,9 @@ use Rattle.task_ast.specs.meaning.Tree.{Program}
 use Rattle.task_ast.specs.meaning.State.{State}
 use Rattle.task_ast.specs.meaning.Effect.{after}
 use Rattle.task_ast.specs.Fold.{fold}
-use Rattle.task_ast.specs.meaning.Plain.{Subthread, order, opening, last_state}
-use Rattle.task_ast.specs.meaning.Position.{before}
+use Rattle.task_ast.specs.meaning.Plain.{Subthread}
+use Rattle.task_ast.specs.Plain.{order, opening, last_state}
+use Rattle.task_ast.specs.Position.{before}
 use Rattle.dependence.specs.meaning.Conflict.{foot_at}
 use Rattle.dependence.specs.Conflict.{ClashIn}
 use Rattle.dependence.specs.meaning.Restarts.{struck_next}

@@ -3,7 +3,7 @@ use Rattle.std.proofs.Common.{◌≡◌, ℕ, ◌+◌, ◌<◌, ◌∙◌, ℤ, 
 use Rattle.std.proofs.Math.Bool.{and_assoc}
 use Rattle.std.proofs.lemmas.List.{at_drop_more}
 use Rattle.task_ast.specs.meaning.Tree.{Name, Expr as PlainExpr, Neg, Chain, Links, Link}
-use Rattle.task_ast.specs.meaning.Declarations.{has_data_index, have_data_index}
+use Rattle.task_ast.specs.meaning.Declarations.{has_data_index, some_member, is_at_data}
 use Rattle.task_ast.specs.meaning.Value.{value, operate}
 use Rattle.task_ast.specs.meaning.Action.{Term, MoreTerms, OneTerm, term, terms}
 use Rattle.task_ast.specs.meaning.Effect.{term_value, terms_value}
@@ -19,12 +19,12 @@ use Rattle.run_counts.specs.Data.{with_data}
 
 -- what a member and the rest of a chain have of an index in data
 pub parts-from : (links : List (Op × Expr)) (i : ℕ) (m : Op × Expr) → i < length links → m ≡ get_or links i m
-    → have_data_index (plain_links (drop i links)) ≡ false
-    → (has_data_index (plain_expr m.1) ≡ false) × (have_data_index (plain_links (drop (i + 1) links)) ≡ false)
+    → some_member is_at_data (plain_links (drop i links)) ≡ false
+    → (has_data_index (plain_expr m.1) ≡ false) × (some_member is_at_data (plain_links (drop (i + 1) links)) ≡ false)
 parts-from links i m below is none =
-    or_false (has_data_index (plain_expr m.1)) (have_data_index (plain_links (drop (i + 1) links)))
-    (ap (λ (m : Op × Expr). have_data_index (Link m.0 (plain_expr m.1) (plain_links (drop (i + 1) links)))) is
-    ∙ sym (at_drop_more (λ (left : List (Op × Expr)). have_data_index (plain_links left)) links i m below) ∙ none)
+    or_false (has_data_index (plain_expr m.1)) (some_member is_at_data (plain_links (drop (i + 1) links)))
+    (ap (λ (m : Op × Expr). some_member is_at_data (Link m.0 (plain_expr m.1) (plain_links (drop (i + 1) links)))) is
+    ∙ sym (at_drop_more (λ (left : List (Op × Expr)). some_member is_at_data (plain_links left)) links i m below) ∙ none)
 
 module _ (names : List Name) (values : List ℤ) (env : Env) where
   abbrev Under : Env

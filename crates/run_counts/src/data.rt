@@ -1,6 +1,6 @@
 // The values of expressions that may name data variables.
 ghost use Rattle.std.specs.Prelude.{◌≡◌, ◌&&◌, false, Some, IfSome, option_map};
-ghost use Rattle.task_ast.specs.meaning.Declarations.{has_data_index, have_data_index};
+ghost use Rattle.task_ast.specs.meaning.Declarations.{has_data_index, some_member, is_at_data};
 ghost use Rattle.task_ast.specs.meaning.Action.{term, terms};
 ghost use Rattle.task_ast.specs.meaning.Effect.{term_value, terms_value};
 ghost use Rattle.task_ast.specs.View.{plain_expr, plain_links};
@@ -60,7 +60,7 @@ fn chain_data(
     exact: &mut bool,
 ) -> Option<i64>
     ensures value { result ≡ option_map (λ more. terms_value more registers.now first) (terms names.now (plain_links links.now) env.now) }
-    ensures flag { have_data_index (plain_links links.now) ≡ false → IfSome result (λ v. exact.new ≡ (exact.old && stays_on (plain_links links.now) (with_data names.now registers.now env.now) (Some first))) }
+    ensures flag { some_member is_at_data (plain_links links.now) ≡ false → IfSome result (λ v. exact.new ≡ (exact.old && stays_on (plain_links links.now) (with_data names.now registers.now env.now) (Some first))) }
 {
     let mut so_far = first;
     for link in links {

@@ -4,8 +4,8 @@ use Rattle.std.proofs.lemmas.List.{length-map}
 use Rattle.gp_base.specs.declared.feed.Inputs.{Inputs}
 use Rattle.gp_base.specs.declared.limits.Limits.{Limits}
 use Rattle.task_ast.specs.meaning.Tree.{Program}
-use Rattle.task_ast.specs.meaning.Plain.{Plain, tree_machine, move, opening, order, last_state}
-use Rattle.task_ast.specs.meaning.Position.{before}
+use Rattle.task_ast.specs.Plain.{Plain, tree_machine, move, opening, order, last_state}
+use Rattle.task_ast.specs.Position.{before}
 use Rattle.task_ast.specs.meaning.Repeat.{Move, Goes, Ends, steps_from, steps, state_from, state_after}
 use Rattle.task_ast.proofs.PlainRuns.{count_law}
 use Rattle.one_thread.specs.declared.run.PlainRun.{PlainRun}

@@ -11,7 +11,8 @@ use Rattle.gp_base.specs.declared.limits.Limits.{Limits}
 use Rattle.task_ast.specs.declared.tree.Head.{Head}
 use Rattle.task_ast.specs.meaning.Tree.{Program}
 use Rattle.task_ast.specs.meaning.Names.{records_of, cells_in}
-use Rattle.task_ast.specs.meaning.Plain.{Subthread, foot_of, order, last_state}
+use Rattle.task_ast.specs.meaning.Plain.{Subthread, foot_of}
+use Rattle.task_ast.specs.Plain.{order, last_state}
 use Rattle.task_ast.specs.meaning.State.{cell_value}
 use Rattle.task_ast.specs.meaning.Table.{numbers}
 use Rattle.one_thread.specs.declared.run.PlainRun.{PlainRun}

@@ -1,7 +1,7 @@
 // The text that shows the order of a run.
 ghost use Rattle.std.specs.Prelude.{◌≡◌, ◌≤◌, ◌++◌, codes, length, map, IfOk, OnOk};
 ghost use Rattle.task_ast.specs.View.{plain_program};
-ghost use Rattle.task_ast.specs.meaning.Plain.{order, last_state};
+ghost use Rattle.task_ast.specs.Plain.{order, last_state};
 ghost use Rattle.lock_checker.specs.Accepted.{program_of};
 ghost use Rattle.one_thread.specs.PlainRuns.{IsPlainRun};
 ghost use Rattle.restart_log.specs.meaning.Tail.{why_word};

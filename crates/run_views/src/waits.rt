@@ -1,6 +1,6 @@
 // The lines of the threads that have not ended.
 ghost use Rattle.std.specs.Prelude.{◌≡◌, ◌++◌, OnOk, codes};
-ghost use Rattle.task_ast.specs.meaning.Turn.{owner_in};
+ghost use Rattle.task_ast.specs.Table.{owner_in};
 ghost use Rattle.run_views.specs.meaning.Waits.{other_text, holder_text, cause_text, wait_line, wait_text, waits_text};
 
 use crate::names::{push_barrier, push_between, push_labelled, push_lock};

@@ -9,7 +9,7 @@ use Rattle.std.specs.FinMap.{find}
 use Rattle.std.proofs.lemmas.List.Elements.{All-nil, All-cons}
 use Rattle.task_ast.specs.declared.effect.Effect.{Effect}
 use Rattle.task_ast.specs.meaning.State.{State, CellOf, number_at}
-use Rattle.task_ast.specs.meaning.Effect.{after, one_number}
+use Rattle.task_ast.specs.meaning.Effect.{after}
 use Rattle.task_ast.specs.meaning.Under.{under_lock, is_under}
 use Rattle.record_store.specs.declared.effect.Effect as left
 use Rattle.record_store.specs.declared.given.Bundle.{Bundle}
@@ -71,7 +71,7 @@ written t new cell before value e under less state c =
     ∙ go (nat_eq c cell)
   where
     now : Option ℤ → ℤ
-    now o = number_at (unwrap_or (option_map one_number o) (number_at t.cells c ∷ [])) 0
+    now o = number_at (unwrap_or (option_map (λ v. v ∷ []) o) (number_at t.cells c ∷ [])) 0
 
     there : (n : ℕ) → n < 2 → value_in each_alone (one_bundle n value) n ≡ value
     there zero below = refl

@@ -10,9 +10,9 @@ use Rattle.task_ast.specs.meaning.Effect.{effect, effect_on}
 use Rattle.task_ast.specs.Damage.{damaged}
 use Rattle.task_ast.specs.meaning.Footprint.{footprint}
 use Rattle.task_ast.specs.laws.Following.{Agrees, Follows}
-use Rattle.task_ast.specs.meaning.Plain.{Subthread, Machine, tree_machine}
-use Rattle.task_ast.specs.meaning.Position.{before}
-use Rattle.task_ast.specs.Position.{body_at, IsStep, from_in}
+use Rattle.task_ast.specs.meaning.Plain.{Subthread}
+use Rattle.task_ast.specs.Plain.{Machine, tree_machine}
+use Rattle.task_ast.specs.Position.{before, body_at, IsStep, from_in}
 use Rattle.task_ast.proofs.Positions.{step_is}
 use Rattle.lock_checker.proofs.LocksHeld.{sound}
 use Rattle.task_ast.specs.SyncOps.{joined_by}

@@ -6,9 +6,9 @@ use Rattle.task_ast.specs.declared.layout.Layout.{Layout}
 use Rattle.task_ast.specs.meaning.State.{State}
 use Rattle.task_ast.specs.meaning.Effect.{effect, effect_on}
 use Rattle.task_ast.specs.Damage.{damaged}
-use Rattle.task_ast.specs.meaning.Plain.{Subthread, foot_of, order}
-use Rattle.task_ast.specs.meaning.Position.{before}
-use Rattle.task_ast.specs.Position.{from_in, body_at}
+use Rattle.task_ast.specs.meaning.Plain.{Subthread, foot_of}
+use Rattle.task_ast.specs.Plain.{order}
+use Rattle.task_ast.specs.Position.{before, from_in, body_at}
 use Rattle.task_ast.specs.SyncOps.{joined_by}
 use Rattle.record_store.specs.Given.{given_of, found_of}
 use Rattle.task_code.specs.Relation.{Rests}

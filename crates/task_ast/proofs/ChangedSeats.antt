@@ -1,8 +1,9 @@
 -- Changed seats.
 use Rattle.std.proofs.Common.{◌≡◌, ℕ, zero, suc, List, [], ◌∷◌, map, length, Some, refl, sym, ap, ◌∙◌, arith, set, true, false}
 use Rattle.std.specs.Prelude.{slice_get}
-use Rattle.task_ast.specs.meaning.Table.{Seat, Released, with_nth, waits_at}
-use Rattle.task_ast.specs.meaning.Turn.{released_at}
+use Rattle.task_ast.specs.meaning.Table.{Released, with_nth}
+use Rattle.task_ast.specs.Table.{Seat, waits_at}
+use Rattle.task_ast.specs.Turn.{released_at}
 
 -- one member is replaced
 pub map-replaced : {A B : Type 0} (v : A → B) (xs : List A) (i : ℕ) (f : B → B) (x y : A) → slice_get xs i ≡ Some x → v y ≡ f (v x)

@@ -5,13 +5,15 @@ use Rattle.std.proofs.Common.{◌≡◌, inl, inr, ℕ, zero, suc, ◌+◌, ◌-
 use Rattle.std.specs.Prelude.{slice_get, pos, negsuc}
 use Rattle.std.proofs.lemmas.Bool.{cases_lt, ltb-true}
 use Rattle.std.proofs.lemmas.List.{length-map, append-nil}
+use Rattle.gp_base.specs.declared.limits.TheConstants.{MOST_THREADS}
 use Rattle.gp_base.specs.declared.ending.End.{End}
+use Rattle.task_ast.specs.Table.{owner_in, Seat, Table, next_of, unpassed, new_seat, waits_at}
 use Rattle.task_ast.specs.declared.sync.SyncOp.{SyncOp}
 use Rattle.task_ast.specs.declared.sync.SyncOp.TheVariants as sync
 use Rattle.task_ast.specs.declared.sync.Next.{Next}
 use Rattle.task_ast.specs.meaning.Repeat.{Again, More, Done}
-use Rattle.task_ast.specs.meaning.Table.{Stand, Away, Waits, Released, Seat, Table, numbers, ring, next_of, is_end, unpassed, with_nth, new_seat, waits_at}
-use Rattle.task_ast.specs.meaning.Turn.{Turn, Issue, Ended, Look, To, Unknown, NoThread, look_at, look, passing, issuing, seats_after, stand_of, released_at, arrived, met, come_to, at_barrier, owner_of, at_join, tried, has_passed, at_look, deadlocked, all_threads, turn, most_threads}
+use Rattle.task_ast.specs.meaning.Table.{Stand, Away, Waits, Released, numbers, ring, is_end, with_nth}
+use Rattle.task_ast.specs.Turn.{Turn, Issue, Ended, Look, To, Unknown, NoThread, look_at, look, passing, issuing, seats_after, stand_of, released_at, arrived, met, come_to, at_barrier, at_join, tried, has_passed, at_look, deadlocked, turn}
 use Rattle.task_ast.specs.Reached.{Reached}
 use Rattle.task_ast.proofs.Counting.{length-with_nth, get-with_nth}
 use Rattle.task_ast.proofs.Rounds.{rounds_kept, keeps_nth, keeps_map, other_nth, there_nth, arrive, length_arrive, pass, wait}
@@ -203,11 +205,11 @@ tried_goes : (limit issued : ℕ) (op : SyncOp) (table : Table) (t : ℕ) (next 
 tried_goes limit issued sync.Start table t next whole t_in = issuing_goes limit issued table t next whole t_in
 tried_goes limit issued (sync.Settle register control) table t next whole t_in = issuing_goes limit issued table t next whole t_in
 tried_goes limit issued (sync.Lock l) table t next whole t_in =
-    cond_goes limit issued (is_none (owner_of table l)) _ _ (λ e. issuing_goes limit issued table t next whole t_in)
+    cond_goes limit issued (is_none (owner_in table.owners l)) _ _ (λ e. issuing_goes limit issued table t next whole t_in)
     (λ e. passing_goes limit issued table t whole)
 tried_goes limit issued (sync.Unlock l) table t next whole t_in = issuing_goes limit issued table t next whole t_in
 tried_goes limit issued (sync.Fork task arguments) table t next whole t_in =
-    cond_goes limit issued (nat_lt (length table.seats) most_threads) _ _
+    cond_goes limit issued (nat_lt (length table.seats) MOST_THREADS) _ _
     (λ e. issuing_goes limit issued table t next whole t_in) (λ e. done ends)
 tried_goes limit issued (sync.Join (pos h)) table t next whole t_in =
     cond_goes limit issued (nat_lt h (length table.seats)) _ _
@@ -264,7 +266,7 @@ stuck_goes NoThread met = done ends
 look_goes : (limit issued : ℕ) (table : Table) (l : Look) → Whole limit issued table → Met table l → Goes limit issued (at_look l table)
 look_goes limit issued table (To t next) whole (met_thread t_in) =
     cond_goes limit issued (has_passed table t) _ _
-    (λ e. stuck_goes (look table (all_threads table))
+    (λ e. stuck_goes (look table (numbers 0 (length table.seats)))
     (subst (λ ts. Met table (look table ts)) (append-nil _)
     (met_numbers table whole.known 0 (length table.seats) [] (omega arith) met_none)))
     (λ e. tried_goes limit issued next.sync table t next whole t_in)

@@ -4,14 +4,15 @@ use Rattle.std.specs.Prelude.{⊤, pos, negsuc}
 use Rattle.std.specs.List.{list_all}
 use Rattle.std.proofs.lemmas.Bool.{cases_lt}
 use Rattle.std.proofs.lemmas.List.{append-nil}
+use Rattle.gp_base.specs.declared.limits.TheConstants.{MOST_THREADS}
 use Rattle.gp_base.specs.declared.ending.End.TheVariants.{Finished}
 use Rattle.task_ast.specs.declared.sync.SyncOp.{SyncOp}
 use Rattle.task_ast.specs.declared.sync.SyncOp.TheVariants as sync
 use Rattle.task_ast.specs.declared.sync.Next.{Next}
 use Rattle.task_ast.specs.meaning.Repeat.{Again, Done}
-use Rattle.task_ast.specs.meaning.Table.{Stand, Away, Waits, Released, Table, numbers, ring, next_of, is_end}
-use Rattle.task_ast.specs.Table.{is_known_end, has_ended}
-use Rattle.task_ast.specs.meaning.Turn.{Turn, Ended, Look, To, Unknown, NoThread, look_at, look, issuing, stand_of, come_to, at_barrier, owner_of, at_join, tried, has_passed, deadlocked, all_threads, at_look, most_threads}
+use Rattle.task_ast.specs.meaning.Table.{Stand, Away, Waits, Released, numbers, ring, is_end}
+use Rattle.task_ast.specs.Table.{Table, next_of, is_known_end, has_ended, owner_in}
+use Rattle.task_ast.specs.Turn.{Turn, Ended, Look, To, Unknown, NoThread, look_at, look, issuing, stand_of, come_to, at_barrier, at_join, tried, has_passed, deadlocked, at_look}
 use Rattle.task_ast.specs.Reached.{FinishedLaw}
 use Rattle.task_ast.proofs.Rounds.{all_from, some_below}
 
@@ -39,9 +40,9 @@ joining_not h (Some other) table t next = cond_not (is_end other.sync) _ _ (issu
 tried_not : (op : SyncOp) (table : Table) (t : ℕ) (next : Next) → NotFinished (tried op table t next)
 tried_not sync.Start table t next = issuing_not table t next
 tried_not (sync.Settle register control) table t next = issuing_not table t next
-tried_not (sync.Lock l) table t next = cond_not (is_none (owner_of table l)) _ _ (issuing_not table t next) tt
+tried_not (sync.Lock l) table t next = cond_not (is_none (owner_in table.owners l)) _ _ (issuing_not table t next) tt
 tried_not (sync.Unlock l) table t next = issuing_not table t next
-tried_not (sync.Fork task arguments) table t next = cond_not (nat_lt (length table.seats) most_threads) _ _ (issuing_not table t next) tt
+tried_not (sync.Fork task arguments) table t next = cond_not (nat_lt (length table.seats) MOST_THREADS) _ _ (issuing_not table t next) tt
 tried_not (sync.Join (pos h)) table t next = cond_not (nat_lt h (length table.seats)) _ _ (joining_not h (next_of table h) table t next) tt
 tried_not (sync.Join (negsuc h)) table t next = tt
 tried_not (sync.Barrier b) table t next = let there = come_to (stand_of table t) table t b in barrier_not (stand_of there t) there t next
@@ -101,7 +102,7 @@ all_ended table each =
 abbrev IsFinished : Again Table Turn → Type 0
 IsFinished r = r ≡ Done (Ended Finished)
 
-stuck_finished : (table : Table) (l : Look) → look table (all_threads table) ≡ l → IsFinished (deadlocked l)
+stuck_finished : (table : Table) (l : Look) → look table (numbers 0 (length table.seats)) ≡ l → IsFinished (deadlocked l)
     → list_all has_ended table.seats ≡ true
 stuck_finished table (To t next) is e = absurd (cc e)
 stuck_finished table (Unknown t) is e = absurd (cc e)
@@ -113,9 +114,9 @@ look_finished table NoThread is e = all_ended table (none_in_ring table table.to
 look_finished table (Unknown t) is e = absurd (cc e)
 look_finished table (To t next) is e = go (has_passed table t) e
   where
-    go : (b : Bool) → IsFinished (cond b (deadlocked (look table (all_threads table))) (tried next.sync table t next))
+    go : (b : Bool) → IsFinished (cond b (deadlocked (look table (numbers 0 (length table.seats)))) (tried next.sync table t next))
         → list_all has_ended table.seats ≡ true
-    go true e = stuck_finished table (look table (all_threads table)) refl e
+    go true e = stuck_finished table (look table (numbers 0 (length table.seats))) refl e
     go false e = absurd (subst NotFinished e (tried_not next.sync table t next))
 
 pub finished_law : FinishedLaw

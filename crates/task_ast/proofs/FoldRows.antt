@@ -4,7 +4,7 @@ use Rattle.std.specs.Int.{int_wrap}
 use Rattle.task_ast.specs.meaning.Body.{body, stretch}
 use Rattle.task_ast.specs.meaning.Repeat.{steps, repeated, until_done}
 use Rattle.task_ast.specs.meaning.State.{cell_value}
-use Rattle.task_ast.specs.meaning.Plain.{order, opening}
+use Rattle.task_ast.specs.Plain.{order, opening}
 use Rattle.task_ast.specs.Fold.{fold}
 use Rattle.task_ast.specs.Members.{member_in}
 use Rattle.task_ast.proofs.RowPrograms.{two_adders}

@@ -8,9 +8,11 @@ use Rattle.std.proofs.lemmas.List.{length-map}
 use Rattle.task_ast.specs.declared.sync.SyncOp.{SyncOp}
 use Rattle.task_ast.specs.declared.sync.SyncOp.TheVariants as sync
 use Rattle.task_ast.specs.declared.sync.Next.{Next}
-use Rattle.task_ast.specs.meaning.Plain.{Machine, points_with}
-use Rattle.task_ast.specs.meaning.Table.{Away, Seat, Table, next_of, last_in, unpassed, with_nth, learning, new_seat}
-use Rattle.task_ast.specs.meaning.Turn.{seats_after, child_of}
+use Rattle.task_ast.specs.Plain.{Machine, points_with}
+use Rattle.task_ast.specs.meaning.Table.{Away, with_nth}
+use Rattle.task_ast.specs.Table.{Seat, Table, next_of, last_in, unpassed, learning, new_seat}
+use Rattle.task_ast.specs.meaning.Turn.{child_of}
+use Rattle.task_ast.specs.Turn.{seats_after}
 use Rattle.task_ast.proofs.Counting.{length-with_nth, get-map, get-with_nth}
 use Rattle.task_ast.proofs.Rounds.{keeps_map, other_nth, there_nth, keeps_nth}
 use Rattle.task_ast.specs.laws.Threads.{with_child}

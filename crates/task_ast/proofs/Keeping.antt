@@ -6,14 +6,15 @@ use Rattle.std.specs.FinMap.{find, put, nat_cmp-IsAntisymmetric}
 use Rattle.std.specs.FinMap.Entries.{find-put}
 use Rattle.std.proofs.lemmas.Cmp.{nat_cmp_total}
 use Rattle.std.proofs.lemmas.Bool.{false≢true}
+use Rattle.task_ast.specs.meaning.Value.{branch}
 use Rattle.task_ast.specs.declared.sync.SyncOp.{SyncOp}
 use Rattle.task_ast.specs.declared.effect.Effect.{Effect}
 use Rattle.task_ast.specs.meaning.Action.{Action, Set, Load, Store, Say, Choose, Child, Give, Bring, Arm, NoAction, OneAction}
 use Rattle.task_ast.specs.meaning.State.{State, RegistersOf, cell_value, number_at}
-use Rattle.task_ast.specs.meaning.Effect.{Doing, picked, done, arm_done, all_done, term_value, joined_ret, effect}
+use Rattle.task_ast.specs.meaning.Effect.{Doing, done, arm_done, all_done, term_value, joined_ret, effect}
 use Rattle.task_ast.specs.laws.Keeps.{NamesOnly, ArmNamesOnly, AllName, WritesOnly, ArmWritesOnly, AllWrite, AgreeAt}
 
-picked_same : (v : ℤ) {a b c d : Doing} → a ≡ c → b ≡ d → picked v a b ≡ picked v c d
+picked_same : (v : ℤ) {a b c d : Doing} → a ≡ c → b ≡ d → branch v a b ≡ branch v c d
 picked_same (pos zero) e f = f
 picked_same (pos (suc n)) e f = e
 picked_same (negsuc n) e f = e
@@ -60,7 +61,7 @@ reads_same test t begins child actions left right names agree =
 abbrev Within : (ℕ → Bool) → Doing → Type 0
 Within test d = (c : ℕ) → (find nat_cmp c d.written ≡ None → ⊥) → test c ≡ true
 
-picked_within : (test : ℕ → Bool) (v : ℤ) (a b : Doing) → Within test a → Within test b → Within test (picked v a b)
+picked_within : (test : ℕ → Bool) (v : ℤ) (a b : Doing) → Within test a → Within test b → Within test (branch v a b)
 picked_within test (pos zero) a b f s = s
 picked_within test (pos (suc n)) a b f s = f
 picked_within test (negsuc n) a b f s = f

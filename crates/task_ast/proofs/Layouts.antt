@@ -3,6 +3,7 @@
 -- is as far from the first one as its index says.
 use Rattle.std.proofs.Common.{◌≡◌, inl, inr, ℕ, zero, suc, ◌+◌, ◌-◌, ◌<◌, ◌==◌, Bool, true, false, not, cond, List, [], ◌∷◌, ◌++◌, map, length, get_or, Option, Some, None, is_none, refl, sym, ap, ◌∙◌, subst, arith, option_map, nat_lt}
 use Rattle.std.specs.Prelude.{ℤ, pos, negsuc}
+use Rattle.std.specs.Option.{option_map_or}
 use Rattle.std.specs.List.{list_all, filter, Contains}
 use Rattle.std.specs.List.Sorted.{IsStrictlyIncreasing}
 use Rattle.std.proofs.lemmas.Bool.{false≢true, cases_lt, lt-ltb, le-ltb, eqb-true, eq-eqb, and_parts, and_from, not-true, not-false}
@@ -15,7 +16,7 @@ use Rattle.task_ast.specs.meaning.Names.{is_name, is_among, head_name, natural, 
 use Rattle.task_ast.specs.declared.check_kind.CheckKind.{CheckKind}
 use Rattle.task_ast.specs.declared.check_kind.CheckKind.TheVariants.{UnknownName, DoubleName, WrongCount, SizesDiffer, TooMany}
 use Rattle.task_ast.specs.meaning.Visit.{Visit, fails_if, fault_at, first_fault}
-use Rattle.task_ast.specs.meaning.Declarations.{lacks_array, sizes_differ, is_other_size, head_line, count_of, passes_limit, head_visit, head_visits, task_visits, main_visit}
+use Rattle.task_ast.specs.meaning.Declarations.{lacks_array, sizes_differ, head_line, count_of, passes_limit, head_visit, head_visits, task_visits, main_visit}
 use Rattle.task_ast.specs.meaning.Check.{bodies_visits}
 use Rattle.task_ast.specs.Shaped.{IsAccepted}
 use Rattle.task_ast.specs.meaning.Table.{numbers}
@@ -36,7 +37,8 @@ cell_there (array ∷ arrays) name size k e less = go (is_name name array.0) e (
     go false found later = let there = later found in (array.1 + there.0, omega arith, ap (option_map (λ n. array.1 + n)) there.2)
 
 -- the array of a record that fits it has the record's size
-pub array_found : (size : ℕ) (o : Option ℕ) → not (is_none o) ≡ true → not (is_other_size size o) ≡ true → o ≡ Some size
+pub array_found : (size : ℕ) (o : Option ℕ) → not (is_none o) ≡ true
+    → not (option_map_or (λ other. not (size == other)) o false) ≡ true → o ≡ Some size
 array_found size None there same = absurd (false≢true there)
 array_found size (Some other) there same =
     ap Some (sym (eqb-true size other (not-false (size == other) (not-true (not (size == other)) same))))
@@ -50,7 +52,8 @@ over_lock all (BarrierHead name number line ∷ heads) fits c less = over_lock a
 over_lock all (FeedHead name fields from line ∷ heads) fits c less = over_lock all heads fits c less
 over_lock all (RecHead name size by from line ∷ heads) fits c less =
     let parts = and_parts (fits_array all (RecHead name size by from line)) (list_all (fits_array all) heads) fits in
-    let mine = and_parts (not (is_none (named by (locks_of all)))) (not (is_other_size (natural size) (named by (locks_of all)))) parts.0 in
+    let mine = and_parts (not (is_none (named by (locks_of all))))
+    (not (option_map_or (λ other. not (natural size == other)) (named by (locks_of all)) false)) parts.0 in
     let found = array_found (natural size) (named by (locks_of all)) mine.0 mine.1 in
     elim (cases_lt c (natural size)) [
       | inl l ↦

@@ -2,8 +2,9 @@
 use Rattle.std.proofs.Common.{◌≡◌, ℕ, zero, suc, ◌+◌, ◌<◌, Bool, not, List, [], ◌∷◌, refl, sym, ap, ◌∙◌, subst, count_by}
 use Rattle.gp_base.specs.declared.ending.End.TheVariants.{Finished}
 use Rattle.task_ast.specs.meaning.Repeat.{Again, go_on, repeated, until_done}
-use Rattle.task_ast.specs.meaning.Table.{Seat, Table}
-use Rattle.task_ast.specs.meaning.Turn.{Turn, Ended, turn, is_away, turns_left}
+use Rattle.task_ast.specs.Table.{Seat, Table}
+use Rattle.task_ast.specs.meaning.Turn.{is_away}
+use Rattle.task_ast.specs.Turn.{Turn, Ended, turn, turns_left}
 use Rattle.task_ast.specs.Reached.{Reached, by_pass}
 use Rattle.task_ast.specs.laws.Threads.{SameThreads}
 use Rattle.task_ast.specs.laws.Less.{SeatLess, SeatsLess, KnowsLess, Alike, IssuesAlike, NextLaw, passes, issues, needs, ends}

@@ -2,8 +2,9 @@
 use Rattle.std.proofs.Common.{◌≡◌, inl, inr, ℕ, zero, suc, ◌+◌, Bool, true, false, cond, List, [], ◌∷◌, ◌++◌, map, length, Option, Some, None, refl, sym, ap, ◌∙◌, count_by}
 use Rattle.std.specs.Prelude.{◌⊎◌, slice_get}
 use Rattle.task_ast.specs.declared.sync.Next.{Next}
-use Rattle.task_ast.specs.meaning.Table.{Released, Seat, unpassed, with_nth, meets, is_waiting, waits_at}
-use Rattle.task_ast.specs.meaning.Turn.{released_at}
+use Rattle.task_ast.specs.meaning.Table.{Released, with_nth, meets, is_waiting}
+use Rattle.task_ast.specs.Table.{Seat, unpassed, waits_at}
+use Rattle.task_ast.specs.Turn.{released_at}
 use Rattle.task_ast.proofs.Counting.{one, count-cons}
 use Rattle.task_ast.specs.laws.Less.{IsUnknown, SeatLess, SeatsLess}
 

@@ -5,14 +5,16 @@ use Rattle.std.proofs.Common.{◌≡◌, inl, ℕ, zero, suc, ◌+◌, ◌-◌, 
 use Rattle.std.specs.Prelude.{slice_get, pos, negsuc}
 use Rattle.std.proofs.lemmas.Bool.{ltb-true}
 use Rattle.std.proofs.lemmas.List.{append-nil}
+use Rattle.gp_base.specs.declared.limits.TheConstants.{MOST_THREADS}
 use Rattle.gp_base.specs.declared.ending.End.TheVariants.{Stuck}
 use Rattle.gp_base.specs.declared.ending.Why.TheVariants as why
+use Rattle.task_ast.specs.Table.{owner_in, Seat, Table, next_of, unpassed, new_seat, waits_at}
 use Rattle.task_ast.specs.declared.sync.SyncOp.{SyncOp}
 use Rattle.task_ast.specs.declared.sync.SyncOp.TheVariants as sync
 use Rattle.task_ast.specs.declared.sync.Next.{Next}
 use Rattle.task_ast.specs.meaning.Repeat.{Again, Done}
-use Rattle.task_ast.specs.meaning.Table.{Stand, Away, Waits, Released, Seat, Table, numbers, ring, next_of, is_end, unpassed, new_seat, waits_at}
-use Rattle.task_ast.specs.meaning.Turn.{Turn, Ended, Look, To, Unknown, NoThread, look_at, look, passing, issuing, seats_after, stand_of, released_at, arrived, come_to, at_barrier, at_join, tried, has_passed, at_look, turn, deadlocked, all_threads, most_threads, owner_of}
+use Rattle.task_ast.specs.meaning.Table.{Stand, Away, Waits, Released, numbers, ring, is_end}
+use Rattle.task_ast.specs.Turn.{Turn, Ended, Look, To, Unknown, NoThread, look_at, look, passing, issuing, seats_after, stand_of, released_at, arrived, come_to, at_barrier, at_join, tried, has_passed, at_look, turn, deadlocked}
 use Rattle.task_ast.specs.Reached.{Reached}
 use Rattle.task_ast.proofs.Rounds.{rounds_kept, keeps_nth, keeps_map, pass, wait, arrive}
 use Rattle.task_ast.proofs.Turns.{Known, known_to, look_known}
@@ -184,14 +186,14 @@ tried_alike : (op : SyncOp) (table : Table) (seats : List Seat) (t : ℕ) (next 
 tried_alike sync.Start table seats t next e h = issuing_alike table table seats t next h
 tried_alike (sync.Settle register control) table seats t next e h = issuing_alike table table seats t next h
 tried_alike (sync.Lock l) table seats t next e h =
-    cond_alike table (is_none (owner_of table l)) _ _ _ _ (λ b. issuing_alike table table seats t next h)
+    cond_alike table (is_none (owner_in table.owners l)) _ _ _ _ (λ b. issuing_alike table table seats t next h)
     (λ b. passing_alike table table seats t next e h)
 tried_alike (sync.Unlock l) table seats t next e h = issuing_alike table table seats t next h
 tried_alike (sync.Fork task arguments) table seats t next e h =
     subst (λ n. Alike table (tried (sync.Fork task arguments) table t next)
-    (cond (nat_lt n most_threads) (issuing (seated table seats) t next) (Done (Ended (Stuck why.Threads t next.line)))))
+    (cond (nat_lt n MOST_THREADS) (issuing (seated table seats) t next) (Done (Ended (Stuck why.Threads t next.line)))))
     (length_less table.seats seats h)
-    (cond_alike table (nat_lt (length table.seats) most_threads) _ _ _ _ (λ b. issuing_alike table table seats t next h) (λ b. ends))
+    (cond_alike table (nat_lt (length table.seats) MOST_THREADS) _ _ _ _ (λ b. issuing_alike table table seats t next h) (λ b. ends))
 tried_alike (sync.Join (pos h)) table seats t next e less =
     subst (λ n. Alike table (tried (sync.Join (pos h)) table t next)
     (cond (nat_lt h n) (at_join h (next_of (seated table seats) h) (seated table seats) t next)
@@ -264,7 +266,8 @@ at_look_alike table seats h here over known (to_unknown t_in none) = needs t_in 
 at_look_alike table seats h here over (known_to e live) (to_one {t = t} {next = next}) =
     rw (sym (got_passed (slice_get table.seats t) (slice_get seats t) (get_less table.seats seats t h)))
     (cond_alike table (has_passed table t) _ _ _ _
-    (λ b. stuck_alike table _ _ (subst (λ n. LooksAlike table (look table (all_threads table)) (look (seated table seats) (numbers 0 n)))
+    (λ b. stuck_alike table _ _
+    (subst (λ n. LooksAlike table (look table (numbers 0 (length table.seats))) (look (seated table seats) (numbers 0 n)))
     (length_less table.seats seats h) (first_alike table seats h (length table.seats) (omega arith))))
     (λ b. tried_alike next.sync table seats t next e h))
 

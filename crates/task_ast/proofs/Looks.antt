@@ -4,9 +4,9 @@ use Rattle.std.specs.Prelude.{slice_get}
 use Rattle.std.proofs.lemmas.Bool.{false≢true}
 use Rattle.std.proofs.lemmas.Option.{slice_get-get_or}
 use Rattle.task_ast.specs.declared.sync.Next.{Next}
-use Rattle.task_ast.specs.meaning.Table.{Table, numbers, next_of, is_end}
-use Rattle.task_ast.specs.Table.{is_known_end}
-use Rattle.task_ast.specs.meaning.Turn.{Look, To, Unknown, NoThread, look, look_at}
+use Rattle.task_ast.specs.meaning.Table.{numbers, is_end}
+use Rattle.task_ast.specs.Table.{Table, next_of, is_known_end}
+use Rattle.task_ast.specs.Turn.{Look, To, Unknown, NoThread, look, look_at}
 
 -- what is read at an index within the list
 pub get-at : {X : Type 0} (xs : List X) (i : ℕ) (x : X) → i < length xs → x ≡ get_or xs i x → slice_get xs i ≡ Some x

@@ -12,11 +12,12 @@ use Rattle.task_ast.specs.declared.sync.SyncOp.TheVariants as sync
 use Rattle.task_ast.specs.declared.sync.Next.{Next}
 use Rattle.task_ast.specs.meaning.Tree.{Program}
 use Rattle.task_ast.specs.meaning.Repeat.{Again, More, Done, go_on, repeated, until_done, steps, steps_from, state_after, state_from}
-use Rattle.task_ast.specs.meaning.Table.{with_nth, Seat, Table, learning, new_seat}
-use Rattle.task_ast.specs.meaning.Turn.{Turn, Issue, Needs, Ended, turn, turns_left, next_issue}
+use Rattle.task_ast.specs.meaning.Table.{with_nth}
+use Rattle.task_ast.specs.Table.{Seat, Table, learning, new_seat}
+use Rattle.task_ast.specs.Turn.{Turn, Issue, Needs, Ended, turn, turns_left, next_issue}
 use Rattle.task_ast.specs.Reached.{Reached, at_start, by_pass, by_issue, by_learning}
 use Rattle.task_ast.specs.laws.Ends.{IsWhole}
-use Rattle.task_ast.specs.meaning.Plain.{PlainOf, Machine, on_turn_by, move_by, opening_by, order_by, last_by}
+use Rattle.task_ast.specs.Plain.{PlainOf, Machine, on_turn_by, move_by, opening_by, order_by, last_by}
 use Rattle.task_ast.proofs.Counting.{length-with_nth, get-with_nth}
 use Rattle.task_ast.proofs.Rounds.{other_nth, there_nth}
 use Rattle.task_ast.proofs.Endings.{Whole, Begun, issues, ends, Goes, more, done, turn_goes}

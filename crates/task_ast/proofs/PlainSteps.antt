@@ -8,10 +8,12 @@ use Rattle.task_ast.specs.declared.sync.SyncOp.TheVariants as sync
 use Rattle.task_ast.specs.declared.sync.Next.{Next}
 use Rattle.task_ast.specs.meaning.Effect.{effect, after}
 use Rattle.task_ast.specs.meaning.Repeat.{Done, Move, Goes, Ends}
-use Rattle.task_ast.specs.meaning.Table.{Seat, Table, new_seat, next_of, owned, learning}
-use Rattle.task_ast.specs.meaning.Turn.{Turn, owners_after, seats_after, child_of, next_issue}
+use Rattle.task_ast.specs.Table.{Seat, Table, new_seat, next_of, owned, learning}
+use Rattle.task_ast.specs.meaning.Turn.{owners_after, child_of}
+use Rattle.task_ast.specs.Turn.{Turn, seats_after, next_issue}
 use Rattle.task_ast.specs.laws.Threads.{SameThreads, MayBegin, with_child}
-use Rattle.task_ast.specs.meaning.Plain.{Subthread, PlainOf, Machine, points_with, point_by, from_by, on_turn_by, move_by}
+use Rattle.task_ast.specs.meaning.Plain.{Subthread}
+use Rattle.task_ast.specs.Plain.{PlainOf, Machine, points_with, point_by, from_by, on_turn_by, move_by}
 use Rattle.task_ast.specs.Position.{body_by, IsStep}
 use Rattle.task_ast.proofs.TurnForms.{issued_table, Form, issues, needs, ends, next_form}
 use Rattle.task_ast.proofs.IssuedTables.{get_last, length_push, get_set_here, get_set_other, length_set, points_as_seats, points_get, grown_points, changed, changed_length, grown_is, grown_seat, issued_other, learnt_here, learnt_other, learnt_length}

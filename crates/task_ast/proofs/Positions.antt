@@ -2,8 +2,9 @@
 -- other. What holds at the opening and is kept by each move holds after any number of them, and the step at a position
 -- is the move from the run before it. From it come the last subthread of each thread, which threads there are, the
 -- state as the fold of those below, and the end.
-use Rattle.std.proofs.Common.{◌≡◌, inl, inr, ℕ, zero, suc, ◌-◌, ◌<◌, ◌≤◌, cond, List, [], ◌∷◌, length, Some, None, unwrap_or, refl, sym, ap, ◌∙◌, subst, arith, option_and_then}
+use Rattle.std.proofs.Common.{◌≡◌, inl, inr, ℕ, zero, suc, ◌-◌, ◌<◌, ◌≤◌, cond, List, [], ◌∷◌, length, Some, None, unwrap_or, refl, sym, ap, ◌∙◌, subst, arith, option_and_then, nat_eq, false}
 use Rattle.std.specs.Prelude.{ℤ, pos, negsuc, true, slice_get}
+use Rattle.std.specs.Option.{option_map_or}
 use Rattle.std.proofs.lemmas.Option.{slice_get_within}
 use Rattle.std.proofs.lemmas.Bool.{cases_lt, cases_eq, eq-eqb, ne_eqb}
 use Rattle.gp_base.specs.declared.limits.Limits.{Limits}
@@ -15,11 +16,13 @@ use Rattle.task_ast.specs.meaning.Tree.{Program}
 use Rattle.task_ast.specs.meaning.Effect.{effect, after}
 use Rattle.task_ast.specs.meaning.Repeat.{Move, Goes, Ends, state_after}
 use Rattle.task_ast.specs.Repeat.{step_of}
-use Rattle.task_ast.specs.meaning.Table.{Table, new_seat, last_in}
-use Rattle.task_ast.specs.meaning.Turn.{Ended, child_of, next_issue}
+use Rattle.task_ast.specs.Table.{Table, new_seat, last_in}
+use Rattle.task_ast.specs.meaning.Turn.{child_of}
+use Rattle.task_ast.specs.Turn.{Ended, next_issue}
 use Rattle.task_ast.specs.laws.Threads.{MayBegin}
-use Rattle.task_ast.specs.meaning.Plain.{Subthread, PlainOf, Machine, on_turn_by, move_by, opening_by, order_by, before_by, last_by, end_by, ending_of}
-use Rattle.task_ast.specs.meaning.Position.{is_of, last_below}
+use Rattle.task_ast.specs.meaning.Plain.{Subthread, ending_of}
+use Rattle.task_ast.specs.Plain.{PlainOf, Machine, on_turn_by, move_by, opening_by, order_by, before_by, last_by, end_by}
+use Rattle.task_ast.specs.meaning.Position.{last_below}
 use Rattle.task_ast.specs.Position.{LeftBy, IsStep, IsForked}
 use Rattle.task_ast.specs.Fold.{applied, fold}
 use Rattle.task_ast.specs.Members.{member_of, member_in}
@@ -108,7 +111,8 @@ module _ {P : Type 0} (machine : Machine P) (program : Program) (inputs : Inputs
 
     lasts_next : (u : ℕ) → last_below (order_by machine program inputs limits) u (suc p) ≡ last_in y.table u
     lasts_next u =
-        ap (λ o. cond (is_of u o) (Some p) (last_below (order_by machine program inputs limits) u p)) at_p
+        ap (λ o. cond (option_map_or (λ s. nat_eq s.thread u) o false) (Some p)
+        (last_below (order_by machine program inputs limits) u p)) at_p
         ∙ elim (cases_eq s.thread u) [
           | inl e ↦
               (ap (λ b. cond b (Some p) (last_below (order_by machine program inputs limits) u p)) (eq-eqb s.thread u e)

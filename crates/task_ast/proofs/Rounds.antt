@@ -7,14 +7,15 @@ use Rattle.std.specs.Prelude.{slice_get, pos, negsuc}
 use Rattle.std.specs.List.{list_all}
 use Rattle.std.proofs.lemmas.Bool.{cases_lt, cases_eq, false≢true, lt-ltb, le-ltb, and_parts}
 use Rattle.std.proofs.lemmas.List.{length-map, append-nil}
+use Rattle.gp_base.specs.declared.limits.TheConstants.{MOST_THREADS}
 use Rattle.gp_base.specs.declared.ending.End.{End}
 use Rattle.task_ast.specs.declared.sync.SyncOp.{SyncOp}
 use Rattle.task_ast.specs.declared.sync.SyncOp.TheVariants as sync
 use Rattle.task_ast.specs.declared.sync.Next.{Next}
 use Rattle.task_ast.specs.meaning.Repeat.{Again, More, Done}
-use Rattle.task_ast.specs.meaning.Table.{Stand, Away, Waits, Released, Seat, Table, numbers, ring, next_of, is_end, unpassed, with_nth, new_seat, learning, waits_at}
-use Rattle.task_ast.specs.Table.{is_known_end, has_ended, all_passed}
-use Rattle.task_ast.specs.meaning.Turn.{Turn, Issue, Needs, Ended, Look, To, Unknown, NoThread, look_at, look, passing, issuing, seats_after, stand_of, released_at, arrived, met, come_to, at_barrier, owner_of, at_join, tried, has_passed, at_look, deadlocked, all_threads, turn, most_threads}
+use Rattle.task_ast.specs.meaning.Table.{Stand, Away, Waits, Released, numbers, ring, is_end, with_nth}
+use Rattle.task_ast.specs.Table.{Seat, Table, next_of, unpassed, new_seat, learning, waits_at, is_known_end, has_ended, all_passed, owner_in}
+use Rattle.task_ast.specs.Turn.{Turn, Issue, Needs, Ended, Look, To, Unknown, NoThread, look_at, look, passing, issuing, seats_after, stand_of, released_at, arrived, met, come_to, at_barrier, at_join, tried, has_passed, at_look, deadlocked, turn}
 use Rattle.task_ast.specs.Reached.{Reached, at_start, by_pass, by_issue, by_learning, start_table}
 use Rattle.task_ast.proofs.Counting.{length-with_nth, get-with_nth}
 use Rattle.task_ast.proofs.Turns.{Known, known_to, look_known}
@@ -416,10 +417,10 @@ tried_keeps : (op : SyncOp) (table : Table) (t : ℕ) (next : Next) → Rounds t
 tried_keeps sync.Start table t next rounds nearest = issuing_keeps table t next nearest.here
 tried_keeps (sync.Settle register control) table t next rounds nearest = issuing_keeps table t next nearest.here
 tried_keeps (sync.Lock l) table t next rounds nearest =
-    cond_keeps (is_none (owner_of table l)) _ _ (issuing_keeps table t next nearest.here) (passing_keeps table t rounds nearest)
+    cond_keeps (is_none (owner_in table.owners l)) _ _ (issuing_keeps table t next nearest.here) (passing_keeps table t rounds nearest)
 tried_keeps (sync.Unlock l) table t next rounds nearest = issuing_keeps table t next nearest.here
 tried_keeps (sync.Fork task arguments) table t next rounds nearest =
-    cond_keeps (nat_lt (length table.seats) most_threads) _ _ (issuing_keeps table t next nearest.here) ends
+    cond_keeps (nat_lt (length table.seats) MOST_THREADS) _ _ (issuing_keeps table t next nearest.here) ends
 tried_keeps (sync.Join (pos h)) table t next rounds nearest =
     cond_keeps (nat_lt h (length table.seats)) _ _ (joining_keeps h (next_of table h) table t next rounds nearest) ends
 tried_keeps (sync.Join (negsuc h)) table t next rounds nearest = ends
@@ -435,7 +436,7 @@ stuck_keeps NoThread = ends
 
 look_keeps : (table : Table) (l : Look) → Rounds table → look table (ring table.token (length table.seats)) ≡ l → Keeps (at_look l table)
 look_keeps table (To t next) rounds e =
-    cond_keeps (has_passed table t) _ _ (stuck_keeps (look table (all_threads table)))
+    cond_keeps (has_passed table t) _ _ (stuck_keeps (look table (numbers 0 (length table.seats))))
     (tried_keeps next.sync table t next rounds (nearest table t next rounds e))
 look_keeps table (Unknown t) rounds e = needs
 look_keeps table NoThread rounds e = ends

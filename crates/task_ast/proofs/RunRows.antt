@@ -13,7 +13,8 @@ use Rattle.task_ast.specs.declared.sync.SyncOp.{SyncOp}
 use Rattle.task_ast.specs.declared.sync.SyncOp.TheVariants as sync
 use Rattle.task_ast.specs.meaning.Body.{body, stretch}
 use Rattle.task_ast.specs.meaning.Repeat.{steps, state_after, repeated, until_done}
-use Rattle.task_ast.specs.meaning.Plain.{Subthread, foot_of, order, end, final_records}
+use Rattle.task_ast.specs.meaning.Plain.{Subthread, foot_of}
+use Rattle.task_ast.specs.Plain.{order, end, final_records}
 use Rattle.task_ast.specs.meaning.Tree.{Program}
 use Rattle.task_ast.proofs.RowPrograms.{empty_batch, arithmetic, two_adders, reader_and_adder, crossed_locks, account, endless_loop, ten_turns, meeting, doubling, joining, settling}
 

@@ -1,8 +1,8 @@
 -- The plain run is the run of the general turn over the points of the tree.
-use Rattle.std.proofs.Common.{◌≡◌, ℕ, zero, suc, ◌+◌, ◌-◌, ◌*◌, ◌<◌, ◌≤◌, inl, inr, ℤ, pos, negsuc, Bool, true, false, not, cond, List, [], ◌∷◌, ◌++◌, length, map, Option, Some, None, nat_lt, nat_le, refl, sym, ap, ◌∙◌, subst, arith, slice_get, count_by}
+use Rattle.std.proofs.Common.{◌≡◌, ℕ, zero, suc, ◌+◌, ◌-◌, ◌*◌, ◌<◌, ◌≤◌, pos, negsuc, Bool, true, false, not, cond, List, [], ◌∷◌, ◌++◌, length, map, Option, Some, None, nat_lt, nat_le, refl, sym, ap, ◌∙◌, subst, arith, slice_get, count_by}
 use Rattle.std.specs.Prelude.{⊤, is_none, unwrap_or, slice_set}
 use Rattle.std.specs.Option.{option_map, option_and_then}
-use Rattle.std.proofs.lemmas.Bool.{ltb-true, cases_lt}
+use Rattle.std.proofs.lemmas.Bool.{ltb-true}
 use Rattle.std.proofs.lemmas.List.{map-append, set-append_left, length-map, length-append}
 use Rattle.std.proofs.lemmas.Option.{slice_get-map}
 use Rattle.gp_base.specs.declared.limits.TheConstants.{MOST_THREADS}
@@ -10,22 +10,25 @@ use Rattle.gp_base.specs.declared.limits.Limits.{Limits}
 use Rattle.gp_base.specs.declared.feed.Inputs.{Inputs}
 use Rattle.gp_base.specs.declared.ending.Why.TheVariants as why
 use Rattle.gp_base.specs.declared.ending.End.{End}
-use Rattle.gp_base.specs.declared.ending.End.TheVariants.{Finished, Stuck, Spent}
+use Rattle.gp_base.specs.declared.ending.End.TheVariants.{Finished, Spent}
 use Rattle.task_ast.specs.declared.sync.SyncOp.{SyncOp}
 use Rattle.task_ast.specs.declared.sync.SyncOp.TheVariants as sync
 use Rattle.task_ast.specs.declared.sync.Next.{Next}
 use Rattle.task_ast.specs.meaning.Tree.{Program}
 use Rattle.task_ast.specs.meaning.Names.{barriers_of, cells_in, records_of}
-use Rattle.task_ast.specs.meaning.Control.{Point, with_number, tree_body, beginning, first_actions}
-use Rattle.task_ast.specs.meaning.State.{State, RegistersOf, number_at, cell_value}
+use Rattle.task_ast.specs.meaning.Control.{Point, tree_body, beginning, first_actions}
+use Rattle.task_ast.specs.meaning.State.{State, RegistersOf, cell_value}
 use Rattle.task_ast.specs.meaning.Effect.{effect, after}
 use Rattle.task_ast.specs.meaning.Repeat.{Again, More, Done, Move, Goes, Ends, go_on, repeated, until_done, steps, state_after, state_from, steps_from}
-use Rattle.task_ast.specs.meaning.Table.{Stand, Away, Waits, Released, Seat, Table, numbers, ring, next_of, is_end, unpassed, with_nth, with_seat, learning, new_seat, meets, is_waiting, waits_at, owned_from}
-use Rattle.task_ast.specs.meaning.Turn.{Turn, Issue, Needs, Ended, Look, To, Unknown, NoThread, look, look_at, passing, owners_after, seats_after, child_of, issuing, stand_of, released_at, arrived, met, come_to, at_barrier, owner_of, at_join, last_of, stuck, tried, has_passed, deadlocked, at_look, turn, is_away, turns_left, next_issue}
-use Rattle.task_ast.specs.meaning.Plain.{Subthread, Plain, PlainOf, ending_of, points_with, point_by, settled_by, from_by, performed_by, on_turn_by, tree_machine, move, opening, order, last_state, end, task_at, start_point, setting_of}
-use Rattle.task_ast.specs.meaning.Position.{before}
-use Rattle.task_ast.specs.meaning.Run.{Thread, Run, unpassed_thread, with_thread, is_barrier_of, is_held_at, let_go, settled_point, stuck_at, passes_on, starting, thread_at, with_forked, begun_by, goes_on, all_met, comes_to, stands_at, has_finished, tries_by, first_up, dead_at, turn_of, one_turn, left_turns, plain_move, plain_opening, plain_order, plain_before, plain_end, plain_records}
-use Rattle.task_ast.specs.laws.Runs.{seat_for, table_for, plain_for, move_for, IsInside, RunMoveLaw, RunInsideLaw, RunOrderLaw, RunBeforeLaw, RunEndLaw}
+use Rattle.task_ast.specs.meaning.Table.{Stand, Away, Waits, Released, numbers, ring, with_nth, meets, is_waiting, owned_from}
+use Rattle.task_ast.specs.Table.{Seat, Table, next_of, unpassed, with_seat, learning, new_seat, waits_at}
+use Rattle.task_ast.specs.meaning.Turn.{owners_after, child_of, is_away}
+use Rattle.task_ast.specs.Turn.{Turn, Issue, Ended, Look, To, NoThread, look, look_at, passing, seats_after, issuing, stand_of, released_at, arrived, met, come_to, at_barrier, at_join, last_of, stuck, tried, has_passed, deadlocked, at_look, turn, turns_left, next_issue}
+use Rattle.task_ast.specs.meaning.Plain.{Subthread, ending_of, task_at, start_point, setting_of}
+use Rattle.task_ast.specs.Plain.{Plain, PlainOf, points_with, point_by, settled_by, from_by, performed_by, on_turn_by, tree_machine, move, order, end}
+use Rattle.task_ast.specs.Position.{before}
+use Rattle.task_ast.specs.meaning.Run.{Thread, Run, unpassed_thread, with_thread, is_barrier_of, is_held_at, let_go, settled_point, stuck_at, passes_on, starting, thread_at, with_forked, begun_by, goes_on, all_met, comes_to, stands_at, has_finished, tries_by, first_up, dead_at, turn_of, one_turn, left_turns, plain_move, plain_opening, plain_order, plain_before, plain_end}
+use Rattle.task_ast.specs.laws.Runs.{seat_for, table_for, plain_for, move_for, IsInside, RunMoveLaw, RunInsideLaw, RunEndLaw}
 use Rattle.task_ast.proofs.Counting.{count-cons, one}
 
 -- ---- lists
@@ -514,15 +517,13 @@ module _ (program : Program) (inputs : Inputs) (limits : Limits) where
     tries-alike sync.End x t l = issue-alike x t (there x t) l refl
     tries-alike sync.BadIndex x t l = (refl, tt)
     tries-alike sync.Spent x t l = (ap (λ n. Ends (Spent n)) (last-is x t), tt)
-    tries-alike (sync.Lock k) x t l = go (slice_get x.owners k)
+    tries-alike (sync.Lock k) x t l = go (unwrap_or (slice_get x.owners k) None)
       where
-        go : (o : Option (Option ℕ))
-            → AlikeTurn (points x) x.state
-            (cond (is_none (option_and_then (λ o. o) o)) (issuing (table x) t (there x t).next) (passing (table x) t))
-            (cond (is_none (unwrap_or o None)) (goes_on program inputs limits x t (there x t)) (passes_on x t))
+        go : (o : Option ℕ)
+            → AlikeTurn (points x) x.state (cond (is_none o) (issuing (table x) t (there x t).next) (passing (table x) t))
+            (cond (is_none o) (goes_on program inputs limits x t (there x t)) (passes_on x t))
         go None = issue-alike x t (there x t) l refl
-        go (Some None) = issue-alike x t (there x t) l refl
-        go (Some (Some owner)) = pass-alike x t l
+        go (Some owner) = pass-alike x t l
     tries-alike (sync.Fork task arguments) x t l =
         subst
         (λ n. AlikeTurn (points x) x.state
@@ -732,10 +733,10 @@ module _ (program : Program) (inputs : Inputs) (limits : Limits) where
 
   -- ---- the run
 
-  opening-inside : IsInside (plain_opening program inputs limits)
+  pub opening-inside : IsInside (plain_opening program inputs limits)
   opening-inside t e = absurd (cc e)
 
-  after-is : (n : ℕ) (x : Run) → IsInside x
+  pub after-is : (n : ℕ) (x : Run) → IsInside x
       → (plain_for program limits (state_after (plain_move program inputs limits) n x)
       ≡ state_after (move program inputs limits) n (plain_for program limits x))
       × IsInside (state_after (plain_move program inputs limits) n x)
@@ -765,7 +766,7 @@ module _ (program : Program) (inputs : Inputs) (limits : Limits) where
         inside,
       )
 
-  steps-are : (n : ℕ) (x : Run) → IsInside x
+  pub steps-are : (n : ℕ) (x : Run) → IsInside x
       → steps (plain_move program inputs limits) n x ≡ steps (move program inputs limits) n (plain_for program limits x)
   unfolding steps
   steps-are zero x inside = refl
@@ -792,12 +793,15 @@ module _ (program : Program) (inputs : Inputs) (limits : Limits) where
   end-for (Goes s y) = refl
   end-for (Ends e) = refl
 
+  pub ending-is : (x : Run) → IsInside x
+      → ending_of (plain_move program inputs limits x) ≡ ending_of (move program inputs limits (plain_for program limits x))
+  ending-is x inside = end-for (plain_move program inputs limits x) ∙ ap ending_of (sym (move-is x inside))
+
   pub end-is : plain_end program inputs limits ≡ end program inputs limits
   end-is =
       let last = after-is (suc limits.subthreads) (plain_opening program inputs limits) opening-inside in
-      end-for (plain_move program inputs limits (plain_before program inputs limits (suc limits.subthreads)))
-      ∙ (ap ending_of (sym (move-is (plain_before program inputs limits (suc limits.subthreads)) last.1))
-      ∙ ap (λ x. ending_of (move program inputs limits x)) last.0)
+      ending-is (plain_before program inputs limits (suc limits.subthreads)) last.1
+      ∙ ap (λ x. ending_of (move program inputs limits x)) last.0
 
 pub run-move : RunMoveLaw
 run-move program inputs limits x inside = move-is program inputs limits x inside

@@ -17,14 +17,14 @@ use Rattle.task_ast.specs.meaning.State.{State, RegistersOf, number_at}
 use Rattle.task_ast.specs.meaning.Effect.{effect, after}
 use Rattle.task_ast.specs.meaning.Repeat.{Move, Goes, Ends, steps, steps_from, state_after, state_from}
 use Rattle.task_ast.specs.Repeat.{step_of}
-use Rattle.task_ast.specs.meaning.Table.{Seat, Table, new_seat, next_of, owned, learning}
-use Rattle.task_ast.specs.meaning.Turn.{Turn, Issue, Needs, Ended, child_of, next_issue}
+use Rattle.task_ast.specs.Table.{Seat, Table, new_seat, next_of, owned, learning}
+use Rattle.task_ast.specs.meaning.Turn.{child_of}
+use Rattle.task_ast.specs.Turn.{Turn, Issue, Needs, Ended, next_issue}
 use Rattle.task_ast.specs.laws.Threads.{with_child}
-use Rattle.task_ast.specs.meaning.Plain.{Subthread, PlainOf, Machine, point_by, settled_by, from_by, main_number, on_turn_by, move_by, opening_by, order_by, before_by, last_by, ending_of}
-use Rattle.task_ast.specs.Position.{body_by, IsStep}
+use Rattle.task_ast.specs.meaning.Plain.{Subthread, main_number, ending_of}
+use Rattle.task_ast.specs.Plain.{PlainOf, Machine, point_by, settled_by, from_by, on_turn_by, move_by, opening_by, order_by, before_by, last_by, tree_machine}
+use Rattle.task_ast.specs.Position.{body_by, IsStep, SettlesAlike, plan_of, IsSameControl}
 use Rattle.task_ast.specs.meaning.Control.{Point}
-use Rattle.task_ast.specs.meaning.Plain.{tree_machine}
-use Rattle.task_ast.specs.Position.{SettlesAlike, plan_of, IsSameControl}
 use Rattle.task_ast.specs.laws.Following.{Follows, Agrees, InStep, IsSameRun}
 use Rattle.task_ast.proofs.Repeats.{step_at, stays_after}
 use Rattle.task_ast.proofs.PlainRuns.{end_law}

@@ -7,10 +7,11 @@ use Rattle.std.proofs.lemmas.Option.{slice_get-map, slice_get-get_or}
 use Rattle.task_ast.specs.declared.sync.SyncOp.{SyncOp}
 use Rattle.task_ast.specs.declared.sync.Next.{Next}
 use Rattle.task_ast.specs.Looking.{start_of, look_with, look_of, begun}
-use Rattle.task_ast.specs.Table.{is_known_end, has_ended}
+use Rattle.task_ast.specs.Table.{is_known_end, has_ended, Seat, Table, next_of, unpassed, waits_at}
 use Rattle.task_ast.specs.meaning.Repeat.{Done}
-use Rattle.task_ast.specs.meaning.Table.{Seat, Away, Waits, Released, Table, numbers, ring, next_of, unpassed, with_nth, waits_at}
-use Rattle.task_ast.specs.meaning.Turn.{Look, NoThread, Issue, look, turn, tried, issuing, has_passed, last_of, stand_of, arrived, released_at, owners_after, seats_after, child_of}
+use Rattle.task_ast.specs.meaning.Table.{Away, Waits, Released, numbers, ring, with_nth}
+use Rattle.task_ast.specs.meaning.Turn.{owners_after, child_of}
+use Rattle.task_ast.specs.Turn.{Look, NoThread, Issue, look, turn, tried, issuing, has_passed, last_of, stand_of, arrived, released_at, seats_after}
 use Rattle.task_ast.proofs.ChangedSeats.{map-replaced, first_mapped, first_mapped-more}
 use Rattle.task_ast.proofs.Looks.{numbers-first, skipped, or_look, look-append}
 use Rattle.task_ast.proofs.Rounds.{keeps_nth, keeps_map}

@@ -1,13 +1,14 @@
 -- Each step but a loop turn leaves fewer statements.
 use Rattle.std.proofs.Common.{◌≡◌, ℕ, zero, suc, ◌+◌, ◌<◌, List, [], ◌∷◌, ◌++◌, Option, Some, None, refl, subst, arith}
 use Rattle.std.specs.Prelude.{ℤ, pos, negsuc}
+use Rattle.task_ast.specs.meaning.Value.{branch}
 use Rattle.task_ast.specs.declared.sync.Next.{Next}
 use Rattle.task_ast.specs.meaning.Tree.{Stmt, At, What, SetCtl, While, If, Lock, Unlock, Fork, Join, Barrier, Settle, SetReg, Read, Write, Print, When, Block, Nothing, Then, statements}
 use Rattle.task_ast.specs.meaning.Action.{Action}
 use Rattle.task_ast.specs.meaning.Names.{registers_of}
 use Rattle.task_ast.specs.meaning.Body.{Step, Silent, Iteration, Act, Stop}
 use Rattle.task_ast.specs.Body.{IsSized}
-use Rattle.task_ast.specs.meaning.Control.{Setting, Point, step, step_at, step_from, known, branch, going, env_at, action, inner, weight_of, weights, size}
+use Rattle.task_ast.specs.meaning.Control.{Setting, Point, step, step_at, step_from, known, going, env_at, action, inner, weight_of, weights, size}
 
 weights-statements : (b : Block) (rest : List Stmt) → weights (statements b ++ rest) ≡ weight_of b + weights rest
 weights-statements Nothing rest = omega arith

@@ -14,12 +14,14 @@ use Rattle.task_ast.specs.declared.sync.Next.{Next}
 use Rattle.task_ast.specs.meaning.Tree.{Program}
 use Rattle.task_ast.specs.meaning.Repeat.{Again, Done, Move, Goes, Ends, go_on, steps_from, steps, state_from, state_after}
 use Rattle.task_ast.specs.Repeat.{step_of}
-use Rattle.task_ast.specs.meaning.Table.{Seat, Table, next_of, last_in, owned_from, learning}
-use Rattle.task_ast.specs.meaning.Turn.{Turn, Issue, Ended, turn, turns_left, next_issue}
+use Rattle.task_ast.specs.meaning.Table.{owned_from}
+use Rattle.task_ast.specs.Table.{Seat, Table, next_of, last_in, learning}
+use Rattle.task_ast.specs.Turn.{Turn, Issue, Ended, turn, turns_left, next_issue}
 use Rattle.task_ast.specs.Reached.{by_pass, by_issue, by_learning}
 use Rattle.task_ast.specs.laws.Threads.{SameThreads}
 use Rattle.task_ast.specs.laws.Less.{IsUnknown, KnowsLess, Alike, IssuesAlike, passes, issues, needs, ends}
-use Rattle.task_ast.specs.meaning.Plain.{Subthread, PlainOf, Machine, on_turn_by, move_by, opening_by, order_by, before_by, last_by, end_by, ending_of, tree_machine}
+use Rattle.task_ast.specs.meaning.Plain.{Subthread, ending_of}
+use Rattle.task_ast.specs.Plain.{PlainOf, Machine, on_turn_by, move_by, opening_by, order_by, before_by, last_by, end_by, tree_machine}
 use Rattle.task_ast.specs.Position.{body_by}
 use Rattle.task_ast.specs.laws.Standing.{PassesTo, at_once, by_turn, StandsBy, IsIssuedBy, TurnTellsBy, AgreesBy, OwnLaw, passes as tells_pass, issues as tells_issue, needs as tells_need, ends as tells_end}
 use Rattle.task_ast.proofs.Turns.{next_issue_step}

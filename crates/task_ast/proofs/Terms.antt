@@ -1,5 +1,5 @@
 -- An expression's term has its value.
-use Rattle.std.proofs.Common.{◌≡◌, inl, inr, ℕ, suc, ◌+◌, Bool, true, false, not, cond, List, [], ◌∷◌, length, Option, Some, None, refl, sym, ap, ◌∙◌, arith, option_map, option_and_then, unwrap_or, nat_lt, position, zip}
+use Rattle.std.proofs.Common.{◌≡◌, inl, inr, ℕ, suc, ◌+◌, Bool, true, false, not, cond, List, [], ◌∷◌, length, Option, Some, None, refl, sym, ap, ◌∙◌, arith, option_map, option_and_then, unwrap_or, nat_lt, position, zip, ◌||◌}
 use Rattle.std.specs.Prelude.{ℤ, pos}
 use Rattle.std.specs.List.{prefix_len}
 use Rattle.std.proofs.lemmas.Bool.{lt-ltb, le-ltb, cases_lt}
@@ -9,7 +9,7 @@ use Rattle.task_ast.specs.meaning.Tree.{Name, Expr, Num, Ctl, Reg, Me, Rows, Cel
 use Rattle.task_ast.specs.meaning.Names.{is_name, named}
 use Rattle.task_ast.specs.meaning.Value.{operate_on, value, value_on, value_at}
 use Rattle.task_ast.specs.meaning.Action.{Term, Constant, Negated, Inverted, Joined, MoreTerms, NoTerms, OneTerm, register, term, terms}
-use Rattle.task_ast.specs.meaning.Declarations.{has_data_index, have_data_index}
+use Rattle.task_ast.specs.meaning.Declarations.{has_data_index, some_member, is_at_data, has_data}
 use Rattle.task_ast.specs.meaning.State.{number_at}
 use Rattle.task_ast.specs.meaning.Effect.{term_value, terms_value}
 use Rattle.task_ast.proofs.Registers.{or_false, value-registers}
@@ -100,7 +100,9 @@ module _ (names : List Name) (values : List ℤ) where
     value_is Me env h = refl
     value_is (Rows f) env h = refl
     value_is (Cell f row field) env h =
-        value-registers (Cell f row field) env (zip names values) h ∙ constant values (value (Cell f row field) env)
+        value-registers (Cell f row field) env (zip names values)
+        (or_false (has_data row || has_data field) (has_data_index row || has_data_index field) h).0
+        ∙ constant values (value (Cell f row field) env)
     value_is (Neg e) env h =
         ap (option_map _) (value_is e env h) ∙ after_map (λ t. term_value t values) _ Negated (λ t. term_value t values)
         (λ t. refl) (term names e env)
@@ -108,15 +110,15 @@ module _ (names : List Name) (values : List ℤ) where
         ap (option_map _) (value_is e env h) ∙ after_map (λ t. term_value t values) _ Inverted (λ t. term_value t values)
         (λ t. refl) (term names e env)
     value_is (Chain e links) env h =
-        let parts = or_false (has_data_index e) (have_data_index links) h in
+        let parts = or_false (has_data_index e) (some_member is_at_data links) h in
         values_are links env (value e (with_data env)) parts.1
         ∙ ap (chained (terms names links env)) (value_is e env parts.0) ∙ chained-term (term names e env) (terms names links env)
 
-    values_are : (links : Links) (env : Env) (so_far : Option ℤ) → have_data_index links ≡ false
+    values_are : (links : Links) (env : Env) (so_far : Option ℤ) → some_member is_at_data links ≡ false
         → value_on links (with_data env) so_far ≡ chained (terms names links env) so_far
     values_are NoLinks env so_far h = chained-none so_far
     values_are (Link op e links) env so_far h =
-        let parts = or_false (has_data_index e) (have_data_index links) h in
+        let parts = or_false (has_data_index e) (some_member is_at_data links) h in
         values_are links env (operate_on op so_far (value e (with_data env))) parts.1
         ∙ ap (λ w. chained (terms names links env) (operate_on op so_far w)) (value_is e env parts.0)
         ∙ chained-one op (term names e env) (terms names links env) so_far

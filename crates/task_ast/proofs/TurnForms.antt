@@ -5,15 +5,17 @@ use Rattle.std.proofs.Common.{◌≡◌, ℕ, zero, suc, ◌<◌, Bool, true, fa
 use Rattle.std.specs.Prelude.{slice_get, pos, negsuc}
 use Rattle.std.proofs.lemmas.Bool.{ltb-true, false≢true}
 use Rattle.std.proofs.lemmas.List.{length-map}
+use Rattle.gp_base.specs.declared.limits.TheConstants.{MOST_THREADS}
 use Rattle.gp_base.specs.declared.ending.End.{End}
 use Rattle.gp_base.specs.declared.ending.End.TheVariants.{Finished}
 use Rattle.task_ast.specs.declared.sync.SyncOp.{SyncOp}
 use Rattle.task_ast.specs.declared.sync.SyncOp.TheVariants as sync
 use Rattle.task_ast.specs.declared.sync.Next.{Next}
 use Rattle.task_ast.specs.meaning.Repeat.{Again, More, Done, go_on, repeated, until_done}
-use Rattle.task_ast.specs.meaning.Table.{Stand, Away, Waits, Released, Seat, Table, ring, next_of, is_end, unpassed, with_seat, waits_at}
-use Rattle.task_ast.specs.Table.{is_known_end}
-use Rattle.task_ast.specs.meaning.Turn.{Turn, Issue, Needs, Ended, Look, To, Unknown, NoThread, look, passing, issuing, owners_after, seats_after, child_of, stand_of, released_at, arrived, met, come_to, at_barrier, owner_of, at_join, tried, has_passed, at_look, turn, turns_left, next_issue, most_threads, deadlocked, all_threads}
+use Rattle.task_ast.specs.meaning.Table.{Stand, Away, Waits, Released, ring, is_end, numbers}
+use Rattle.task_ast.specs.Table.{Seat, Table, next_of, unpassed, with_seat, waits_at, is_known_end, owner_in}
+use Rattle.task_ast.specs.meaning.Turn.{owners_after, child_of}
+use Rattle.task_ast.specs.Turn.{Turn, Issue, Needs, Ended, Look, To, Unknown, NoThread, look, passing, issuing, seats_after, stand_of, released_at, arrived, met, come_to, at_barrier, at_join, tried, has_passed, at_look, turn, turns_left, next_issue, deadlocked}
 use Rattle.task_ast.proofs.Counting.{length-with_nth}
 use Rattle.task_ast.proofs.Rounds.{keeps_nth, keeps_map, length_arrive, pass, wait, arrive}
 use Rattle.task_ast.proofs.Turns.{Known, known_to, look_known}
@@ -50,8 +52,8 @@ issued_table table t next =
 
 -- what may begin in a table with the same threads may begin
 may_same : {table there : Table} → SameThreads table there → (op : SyncOp) → MayBegin there op → MayBegin table op
-may_same same (sync.Lock l) may = ap (λ owners. option_and_then (λ o. o) (slice_get owners l)) (sym same.owners) ∙ may
-may_same same (sync.Fork task arguments) may = subst (λ n. n < most_threads) same.threads may
+may_same same (sync.Lock l) may = ap (λ owners. owner_in owners l) (sym same.owners) ∙ may
+may_same same (sync.Fork task arguments) may = subst (λ n. n < MOST_THREADS) same.threads may
 may_same same (sync.Join (pos h)) may = (subst (λ n. h < n) same.threads may.0, ap is_known_end (sym (same.next h)) ∙ may.1)
 may_same same (sync.Join (negsuc h)) may = may
 may_same same sync.Start may = tt
@@ -165,12 +167,12 @@ tried_form sync.Start table t next is live e = issuing_form table table t next (
 tried_form (sync.Settle register control) table t next is live e =
     issuing_form table table t next (same_threads table) e (subst (MayBegin table) is tt)
 tried_form (sync.Lock l) table t next is live e =
-    cond_form table (is_none (owner_of table l)) _ _
-    (λ b. issuing_form table table t next (same_threads table) e (subst (MayBegin table) is (none_is (owner_of table l) b)))
+    cond_form table (is_none (owner_in table.owners l)) _ _
+    (λ b. issuing_form table table t next (same_threads table) e (subst (MayBegin table) is (none_is (owner_in table.owners l) b)))
     (λ b. passing_form table table t (same_threads table))
 tried_form (sync.Unlock l) table t next is live e = issuing_form table table t next (same_threads table) e (subst (MayBegin table) is tt)
 tried_form (sync.Fork task arguments) table t next is live e =
-    cond_form table (nat_lt (length table.seats) most_threads) _ _
+    cond_form table (nat_lt (length table.seats) MOST_THREADS) _ _
     (λ b. issuing_form table table t next (same_threads table) e (subst (MayBegin table) is (ltb-true _ _ b))) (λ b. ends)
 tried_form (sync.Join (pos h)) table t next is live e =
     cond_form table (nat_lt h (length table.seats)) _ _
@@ -190,7 +192,7 @@ stuck_form table NoThread = ends
 
 look_form : (table : Table) (l : Look) → Known table l → Form table (at_look l table)
 look_form table (To t next) (known_to e live) =
-    cond_form table (has_passed table t) _ _ (λ b. stuck_form table (look table (all_threads table)))
+    cond_form table (has_passed table t) _ _ (λ b. stuck_form table (look table (numbers 0 (length table.seats))))
     (λ b. tried_form next.sync table t next refl live e)
 look_form table (Unknown t) known = needs
 look_form table NoThread known = ends

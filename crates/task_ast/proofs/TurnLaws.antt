@@ -1,12 +1,15 @@
 -- Laws of a turn and the threads.
 use Rattle.std.proofs.Common.{◌≡◌, ℕ, suc, ◌<◌, Bool, true, false, cond, length, Option, Some, None, is_none, nat_lt, unwrap_or, refl, sym, ap, ◌∙◌, subst, arith, option_and_then}
 use Rattle.std.specs.Prelude.{⊤, pos, negsuc}
+use Rattle.gp_base.specs.declared.limits.TheConstants.{MOST_THREADS}
+use Rattle.task_ast.specs.Table.{owner_in, Table, next_of}
 use Rattle.task_ast.specs.declared.sync.SyncOp.{SyncOp}
 use Rattle.task_ast.specs.declared.sync.SyncOp.TheVariants as sync
 use Rattle.task_ast.specs.declared.sync.Next.{Next}
 use Rattle.task_ast.specs.meaning.Repeat.{Again, More, Done}
-use Rattle.task_ast.specs.meaning.Table.{Stand, Away, Waits, Released, Table, ring, next_of, is_end}
-use Rattle.task_ast.specs.meaning.Turn.{Turn, Issue, Look, To, Unknown, NoThread, look, issuing, child_of, stand_of, come_to, at_barrier, owner_of, at_join, tried, has_passed, at_look, turn, most_threads, deadlocked, all_threads, owners_after}
+use Rattle.task_ast.specs.meaning.Table.{Stand, Away, Waits, Released, ring, is_end, numbers}
+use Rattle.task_ast.specs.meaning.Turn.{child_of, owners_after}
+use Rattle.task_ast.specs.Turn.{Turn, Issue, Look, To, Unknown, NoThread, look, issuing, stand_of, come_to, at_barrier, at_join, tried, has_passed, at_look, turn, deadlocked}
 use Rattle.task_ast.proofs.Turns.{Known, known_to, look_known}
 use Rattle.task_ast.specs.laws.Threads.{with_child, SameThreads, tries, ahead, HasBegun, AheadLaw, PassLaw, IssueLaw}
 use Rattle.task_ast.proofs.LessTurns.{inside_of}
@@ -38,10 +41,10 @@ joining_as h (Some other) table t next = cond_as t next (is_end other.sync) _ _ 
 tried_as : (op : SyncOp) (table : Table) (t : ℕ) (next : Next) → IssuesAs t next (tried op table t next)
 tried_as sync.Start table t next = issuing_as table t next
 tried_as (sync.Settle register control) table t next = issuing_as table t next
-tried_as (sync.Lock l) table t next = cond_as t next (is_none (owner_of table l)) _ _ (issuing_as table t next) tt
+tried_as (sync.Lock l) table t next = cond_as t next (is_none (owner_in table.owners l)) _ _ (issuing_as table t next) tt
 tried_as (sync.Unlock l) table t next = issuing_as table t next
 tried_as (sync.Fork task arguments) table t next =
-    cond_as t next (nat_lt (length table.seats) most_threads) _ _ (issuing_as table t next) tt
+    cond_as t next (nat_lt (length table.seats) MOST_THREADS) _ _ (issuing_as table t next) tt
 tried_as (sync.Join (pos h)) table t next =
     cond_as t next (nat_lt h (length table.seats)) _ _ (joining_as h (next_of table h) table t next) tt
 tried_as (sync.Join (negsuc h)) table t next = tt
@@ -64,9 +67,10 @@ look_tried table NoThread t next child after e = absurd (cc e)
 look_tried table (Unknown u) t next child after e = absurd (cc e)
 look_tried table (To u there) t next child after e = go (has_passed table u) e
   where
-    go : (b : Bool) → IsIssue t next child after (cond b (deadlocked (look table (all_threads table))) (tried there.sync table u there))
+    go : (b : Bool) → IsIssue t next child after
+        (cond b (deadlocked (look table (numbers 0 (length table.seats)))) (tried there.sync table u there))
         → cond {A = Option (ℕ × Next)} b None (Some (u, there)) ≡ Some (t, next)
-    go true e = absurd (stuck_issues (look table (all_threads table)) e)
+    go true e = absurd (stuck_issues (look table (numbers 0 (length table.seats))) e)
     go false e = let h = subst (IssuesAs u there) e (tried_as there.sync table u there) in rw (h.0, h.1) refl
 
 look_ahead : (table : Table) (l : Look) → Known table l → (t : ℕ) (next : Next) → tries l table ≡ Some (t, next)

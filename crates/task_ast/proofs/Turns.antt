@@ -5,14 +5,17 @@ use Rattle.std.proofs.Common.{◌≡◌, ℕ, suc, ◌+◌, ◌*◌, ◌<◌, �
 use Rattle.std.specs.Prelude.{slice_get, pos, negsuc}
 use Rattle.std.proofs.lemmas.List.{length-map}
 use Rattle.std.proofs.lemmas.List.Sums.{count_by-le-length}
+use Rattle.gp_base.specs.declared.limits.TheConstants.{MOST_THREADS}
 use Rattle.gp_base.specs.declared.ending.End.TheVariants.{Finished}
+use Rattle.task_ast.specs.Table.{owner_in, Seat, Table, next_of, unpassed, waits_at}
 use Rattle.task_ast.specs.declared.sync.SyncOp.{SyncOp}
 use Rattle.task_ast.specs.declared.sync.SyncOp.TheVariants as sync
 use Rattle.task_ast.specs.declared.sync.Next.{Next}
 use Rattle.task_ast.specs.meaning.Repeat.{Again, More, Done, go_on}
 use Rattle.task_ast.specs.Repeat.{IsFalling}
-use Rattle.task_ast.specs.meaning.Table.{Stand, Away, Waits, Released, Seat, Table, ring, next_of, is_end, unpassed, with_nth, waits_at, meets, is_waiting}
-use Rattle.task_ast.specs.meaning.Turn.{Turn, Ended, Look, To, Unknown, NoThread, look_at, look, passing, issuing, stand_of, released_at, arrived, met, come_to, at_barrier, owner_of, at_join, tried, has_passed, at_look, turn, is_away, turns_left, next_issue, most_threads, deadlocked, all_threads}
+use Rattle.task_ast.specs.meaning.Table.{Stand, Away, Waits, Released, ring, is_end, with_nth, meets, is_waiting, numbers}
+use Rattle.task_ast.specs.meaning.Turn.{is_away}
+use Rattle.task_ast.specs.Turn.{Turn, Ended, Look, To, Unknown, NoThread, look_at, look, passing, issuing, stand_of, released_at, arrived, met, come_to, at_barrier, at_join, tried, has_passed, at_look, turn, turns_left, next_issue, deadlocked}
 use Rattle.task_ast.proofs.Counting.{one, count-with_nth, count-with_nth-same, length-with_nth, count-map, get-map, less_second, less_first}
 use Rattle.task_ast.proofs.Repeats.{until_done_step}
 
@@ -166,10 +169,10 @@ tried_falls : (op : SyncOp) (table : Table) (t : ℕ) (next : Next) (seat : Seat
 tried_falls sync.Start table t next seat e unpassed_yet = issuing_falls _ table t next
 tried_falls (sync.Settle register control) table t next seat e unpassed_yet = issuing_falls _ table t next
 tried_falls (sync.Lock l) table t next seat e unpassed_yet =
-    cond_falls _ (is_none (owner_of table l)) _ _ (issuing_falls _ table t next) (passing_falls table t seat e unpassed_yet)
+    cond_falls _ (is_none (owner_in table.owners l)) _ _ (issuing_falls _ table t next) (passing_falls table t seat e unpassed_yet)
 tried_falls (sync.Unlock l) table t next seat e unpassed_yet = issuing_falls _ table t next
 tried_falls (sync.Fork task arguments) table t next seat e unpassed_yet =
-    cond_falls _ (nat_lt (length table.seats) most_threads) _ _ (issuing_falls _ table t next) ends
+    cond_falls _ (nat_lt (length table.seats) MOST_THREADS) _ _ (issuing_falls _ table t next) ends
 tried_falls (sync.Join (pos h)) table t next seat e unpassed_yet =
     cond_falls _ (nat_lt h (length table.seats)) _ _
     (joining_falls h (next_of table h) table t next (passing_falls table t seat e unpassed_yet)) ends
@@ -203,8 +206,8 @@ look_falls table (To t next) (known_to e live) = go (has_passed table t) refl
     there = seat_of table t next e
 
     go : (b : Bool) → has_passed table t ≡ b
-        → Falls (turns_left table) (cond b (deadlocked (look table (all_threads table))) (tried next.sync table t next))
-    go true is = stuck_falls (look table (all_threads table))
+        → Falls (turns_left table) (cond b (deadlocked (look table (numbers 0 (length table.seats)))) (tried next.sync table t next))
+    go true is = stuck_falls (look table (numbers 0 (length table.seats)))
     go false is =
         tried_falls next.sync table t next there.0 there.1 (sym (ap (λ o. unwrap_or (option_map (λ s. s.passed) o) false) there.1) ∙ is)
 look_falls table (Unknown t) known = ends

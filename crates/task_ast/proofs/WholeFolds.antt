@@ -10,8 +10,9 @@ use Rattle.task_ast.specs.meaning.State.{State}
 use Rattle.task_ast.specs.declared.effect.Effect.{Effect}
 use Rattle.task_ast.specs.meaning.Effect.{effect, after}
 use Rattle.task_ast.specs.Damage.{masked, all_masked, damaged}
-use Rattle.task_ast.specs.meaning.Turn.{Turn, Issue, Needs, Ended, next_issue}
-use Rattle.task_ast.specs.meaning.Plain.{Plain, Subthread, on_turn, move}
+use Rattle.task_ast.specs.Turn.{Turn, Issue, Needs, Ended, next_issue}
+use Rattle.task_ast.specs.meaning.Plain.{Subthread}
+use Rattle.task_ast.specs.Plain.{Plain, on_turn, move}
 use Rattle.task_ast.specs.Fold.{Member, applied, fold}
 use Rattle.task_ast.specs.Members.{member_in}
 

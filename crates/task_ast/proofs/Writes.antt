@@ -5,15 +5,16 @@ use Rattle.std.specs.Ordering.{nat_cmp}
 use Rattle.std.specs.Cmp.{nat_cmp_total}
 use Rattle.std.specs.FinMap.{is_sorted}
 use Rattle.std.specs.FinMap.Entries.{is_sorted-put}
+use Rattle.task_ast.specs.meaning.Value.{branch}
 use Rattle.task_ast.specs.declared.sync.SyncOp.{SyncOp}
 use Rattle.task_ast.specs.meaning.Action.{Action, Set, Load, Store, Say, Choose, Child, Give, Bring, Arm, NoAction, OneAction}
-use Rattle.task_ast.specs.meaning.Effect.{Doing, picked, done, arm_done, all_done, term_value, joined_ret, effect}
+use Rattle.task_ast.specs.meaning.Effect.{Doing, done, arm_done, all_done, term_value, joined_ret, effect}
 use Rattle.task_ast.specs.meaning.State.{State, RegistersOf, cell_value}
 
 abbrev Rising : Doing → Type 0
 Rising d = T (is_sorted nat_cmp d.written)
 
-picked_rises : (v : ℤ) (first second : Doing) → Rising first → Rising second → Rising (picked v first second)
+picked_rises : (v : ℤ) (first second : Doing) → Rising first → Rising second → Rising (branch v first second)
 picked_rises (pos zero) first second f s = s
 picked_rises (pos (suc n)) first second f s = f
 picked_rises (negsuc n) first second f s = f

@@ -1,11 +1,10 @@
 -- What an effect names, and the effect that undoes it: a history, as a history buffer keeps it (J. E. Smith and A. R. Pleszkun,
 -- Implementation of precise interrupts in pipelined processors, ISCA 1985).
-use Rattle.std.specs.Prelude.{◌≡◌, ℕ, ℤ, true, List, [], map, Option, Some, None, is_some, option_map, cond, nat_eq}
+use Rattle.std.specs.Prelude.{◌≡◌, ℕ, ℤ, true, List, [], map, Option, Some, None, is_some, option_map, cond, nat_eq, ◌∷◌}
 use Rattle.std.specs.Ordering.{nat_cmp}
 use Rattle.std.specs.FinMap.{find}
 use Rattle.task_ast.specs.declared.effect.Effect.{Effect}
 use Rattle.task_ast.specs.meaning.State.{Location, RegistersOf, CellOf, State, cell_value}
-use Rattle.task_ast.specs.meaning.Effect.{one_number}
 
 -- the registers that are left to a thread where it is the child
 abbrev pub named_child : Option (ℕ × List ℤ) → ℕ → Option (List ℤ)
@@ -15,7 +14,7 @@ named_child (Some child) t = cond (nat_eq t child.0) (Some child.1) None
 -- what an effect leaves at a place, where it names that place
 abbrev pub named : Effect → Location → Option (List ℤ)
 named e (RegistersOf t) = cond (nat_eq t e.thread) (Some e.regs) (named_child e.child t)
-named e (CellOf c) = option_map one_number (find nat_cmp c e.writes)
+named e (CellOf c) = option_map (λ v. v ∷ []) (find nat_cmp c e.writes)
 
 -- the effect names this place
 abbrev pub IsNamed : Effect → Location → Type 0

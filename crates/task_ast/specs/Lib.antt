@@ -16,6 +16,7 @@ pub mod Repeat
 pub mod Shaped
 pub mod SyncOps
 pub mod Table
+pub mod Turn
 pub mod Under
 pub mod View
 pub mod laws

@@ -1,8 +1,9 @@
 -- What code that moves the token asks of a thread table.
 use Rattle.std.specs.Prelude.{ℕ, suc, ℤ, pos, negsuc, Bool, true, false, cond, Option, Some, None, nat_lt}
 use Rattle.task_ast.specs.declared.sync.Next.{Next}
-use Rattle.task_ast.specs.meaning.Table.{Stand, Away, Released, Seat, Table, next_of}
-use Rattle.task_ast.specs.meaning.Turn.{Look, To, Unknown, NoThread}
+use Rattle.task_ast.specs.meaning.Table.{Stand, Away, Released}
+use Rattle.task_ast.specs.Table.{Seat, Table, next_of}
+use Rattle.task_ast.specs.Turn.{Look, To, Unknown, NoThread}
 
 -- where the token begins to look
 abbrev pub start_of : Option ℕ → ℕ

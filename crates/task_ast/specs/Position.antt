@@ -9,12 +9,17 @@ use Rattle.task_ast.specs.meaning.Tree.{Program}
 use Rattle.task_ast.specs.meaning.Body.{Body}
 use Rattle.task_ast.specs.meaning.Control.{Point}
 use Rattle.task_ast.specs.meaning.Effect.{effect, after}
-use Rattle.task_ast.specs.meaning.Table.{next_of, owned}
+use Rattle.task_ast.specs.Table.{next_of, owned}
 use Rattle.task_ast.specs.meaning.Turn.{owners_after, child_of}
 use Rattle.task_ast.specs.laws.Threads.{MayBegin, with_child}
 use Rattle.task_ast.specs.meaning.State.{RegistersOf, number_at}
-use Rattle.task_ast.specs.meaning.Plain.{Subthread, PlainOf, Machine, point_by, from_by, before_by, order_by, Plain, tree_machine, order, end}
-use Rattle.task_ast.specs.meaning.Position.{before}
+use Rattle.task_ast.specs.meaning.Plain.{Subthread}
+use Rattle.task_ast.specs.Plain.{PlainOf, Machine, point_by, from_by, before_by, order_by, Plain, tree_machine, order, end}
+
+module _ (program : Program) (inputs : Inputs) (limits : Limits) where
+  -- the plain run before the subthread at a position, or at its end where that comes before
+  abbrev pub before : (position : ℕ) → Plain
+  before p = before_by (tree_machine program inputs limits) program inputs limits p
 
 -- the body with which a subthread goes on, where its thread stands so
 abbrev pub body_by : {P : Type 0} → Machine P → PlainOf P → Subthread → Body P

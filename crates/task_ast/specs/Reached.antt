@@ -5,9 +5,9 @@ use Rattle.task_ast.specs.meaning.Repeat.{More, Done}
 use Rattle.std.specs.Prelude.{true}
 use Rattle.std.specs.List.{list_all}
 use Rattle.gp_base.specs.declared.ending.End.TheVariants.{Finished}
-use Rattle.task_ast.specs.meaning.Table.{Table, new_seat, ring, next_of, learning}
-use Rattle.task_ast.specs.Table.{all_passed, has_ended}
-use Rattle.task_ast.specs.meaning.Turn.{Issue, Ended, To, look, has_passed, turn}
+use Rattle.task_ast.specs.meaning.Table.{ring}
+use Rattle.task_ast.specs.Table.{Table, new_seat, next_of, learning, all_passed, has_ended}
+use Rattle.task_ast.specs.Turn.{Issue, Ended, To, look, has_passed, turn}
 
 -- there is one thread, whose next synchronisation is this, and nothing was issued
 abbrev pub start_table : (limit : ℕ) → (barriers : List ℕ) → (owners : List (Option ℕ)) → (main : Next) → Table

@@ -10,7 +10,7 @@ use Rattle.task_ast.specs.declared.tree.Param.{Param}
 use Rattle.task_ast.specs.declared.tree.Param.TheVariants as param
 use Rattle.task_ast.specs.meaning.Tree as tree
 use Rattle.task_ast.specs.meaning.Tree.{Name, Expr, Stmt, What, statements, TaskText, Program}
-use Rattle.task_ast.specs.meaning.Names.{is_name, slot, firsts, barriers_of, controls, declared_in, controls_of, task_named, task_number}
+use Rattle.task_ast.specs.meaning.Names.{is_name, slot, barriers_of, controls, declared_in, controls_of, task_named, task_number}
 use Rattle.task_ast.specs.meaning.Control.{Setting, Point, going, begin_actions, behind, beginning, first_actions}
 use Rattle.task_ast.specs.meaning.Plain.{no_task, task_at, given, setting_of, start_point}
 use Rattle.task_code.specs.Instructions.{Instr, At, GoOn, Unless}
@@ -224,11 +224,11 @@ module _ (program : Program) (inputs : Inputs) (child : Option ℕ) (p : Point) 
 
 -- ---- starts
 
-firsts-append : {T : Type 0} (a b : List (Name × T)) → firsts (a ++ b) ≡ firsts a ++ firsts b
+firsts-append : {T : Type 0} (a b : List (Name × T)) → map (λ n. n.0) (a ++ b) ≡ map (λ n. n.0) a ++ map (λ n. n.0) b
 firsts-append [] b = refl
 firsts-append (x ∷ a) b = ap (λ l. x.0 ∷ l) (firsts-append a b)
 
-firsts-given : (names : List Name) (values : List ℤ) → firsts (given names values) ≡ names
+firsts-given : (names : List Name) (values : List ℤ) → map (λ n. n.0) (given names values) ≡ names
 firsts-given [] values = refl
 firsts-given (x ∷ names) [] = ap (λ l. x ∷ l) (firsts-given names [])
 firsts-given (x ∷ names) (v ∷ values) = ap (λ l. x ∷ l) (firsts-given names values)
@@ -256,7 +256,7 @@ starts_alike program task thread arguments =
           (begins_block (scope_of program text) text.body);
       names =
           firsts-append (given (controls text.params) arguments) (given (controls (declared_in text.vars)) [])
-          ∙ ap (λ l. l ++ firsts (given (controls (declared_in text.vars)) [])) (firsts-given (controls text.params) arguments)
+          ∙ ap (λ l. l ++ map (λ n. n.0) (given (controls (declared_in text.vars)) [])) (firsts-given (controls text.params) arguments)
           ∙ ap (λ l. controls text.params ++ l) (firsts-given (controls (declared_in text.vars)) [])
           ∙ sym (controls-append text.params (declared_in text.vars));
       values = refl;

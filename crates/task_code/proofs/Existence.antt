@@ -3,6 +3,7 @@
 -- below their number; so, from expressions to statements to tasks, each variable of the code exists.
 use Rattle.std.proofs.Common.{◌≡◌, ℕ, zero, suc, ◌<◌, Bool, true, false, ◌||◌, not, cond, List, [], ◌∷◌, ◌++◌, map, length, Option, Some, None, unwrap_or, option_map, refl, sym, ap, ◌∙◌, subst, arith, position}
 use Rattle.std.specs.Prelude.{⊤, slice_get, is_none}
+use Rattle.std.specs.Option.{option_map_or}
 use Rattle.std.specs.List.{list_any}
 use Rattle.std.proofs.lemmas.Bool.{true≢false}
 use Rattle.std.proofs.lemmas.List.Folds.{list_any-append}
@@ -17,9 +18,9 @@ use Rattle.task_ast.specs.meaning.Tree.{Name, Expr, Links, What, Stmt, Block, Ta
 use Rattle.task_ast.specs.meaning.Names.{is_name, is_among, slot, ret, datas, declared_in, controls_of, registers_of, head_name, barriers_of, feeds_of, task_named, task_number}
 use Rattle.task_ast.specs.meaning.Visit.{Visit, visit, fails_if, fault_at, first_fault}
 use Rattle.task_ast.specs.meaning.Held.{Pair, held_after}
-use Rattle.task_ast.specs.meaning.Declarations.{Scope, is_control, is_register, is_feed, is_lock, is_atom, has_unknown, have_unknown, head_visits, task_visits, main_visit}
+use Rattle.task_ast.specs.meaning.Declarations.{Scope, is_control, is_register, is_feed, is_lock, is_atom, has_unknown, head_visits, task_visits, main_visit, some_member, is_undeclared}
 use Rattle.task_ast.specs.meaning.Plain.{no_task, task_at}
-use Rattle.task_ast.specs.meaning.Check.{array_over, into_unknown, fails_at, fails_after, visits_of, visits_inside, visits_in, body_visits, bodies_visits, check_fault}
+use Rattle.task_ast.specs.meaning.Check.{array_over, fails_at, fails_after, visits_of, visits_inside, visits_in, body_visits, bodies_visits, check_fault}
 use Rattle.task_ast.proofs.Registers.{or_false}
 use Rattle.task_ast.proofs.Terms.{position-cons}
 use Rattle.lock_checker.proofs.TableLemmas.{is_name-itself}
@@ -129,13 +130,13 @@ module _ (program : Program) (task : TaskText) where
     calc_exists (tree.Neg e) h = calc_exists e h
     calc_exists (tree.Not e) h = calc_exists e h
     calc_exists (tree.Chain e links) h =
-        let parts = or_false (has_unknown s e) (have_unknown s links) h in
+        let parts = or_false (has_unknown s e) (some_member (is_undeclared s) links) h in
         (calc_exists e parts.0, operands_exist links parts.1)
 
-    operands_exist : (links : Links) → have_unknown s links ≡ false → OperandsExist (shape_of task) (operands_of sc links)
+    operands_exist : (links : Links) → some_member (is_undeclared s) links ≡ false → OperandsExist (shape_of task) (operands_of sc links)
     operands_exist tree.NoLinks h = tt
     operands_exist (tree.Link op e links) h =
-        let parts = or_false (has_unknown s e) (have_unknown s links) h in
+        let parts = or_false (has_unknown s e) (some_member (is_undeclared s) links) h in
         (calc_exists e parts.0, operands_exist links parts.1)
 
   calcs_exist : (es : List Expr) → list_any (has_unknown s) es ≡ false → CalcsExist (shape_of task) (calcs sc es)
@@ -148,12 +149,12 @@ module _ (program : Program) (task : TaskText) where
   index_exists (atom.Num v) h = tt
   index_exists (atom.Var x) h = control_within x h
 
-  control_into : (x : Option Name) → into_unknown (is_control s) x ≡ false
+  control_into : (x : Option Name) → option_map_or (λ y. not (is_control s y)) x false ≡ false
       → IntoExists (length (controls_of task)) (option_map (slot (controls_of task)) x)
   control_into None h = tt
   control_into (Some x) h = control_within x (yes (is_control s x) h)
 
-  register_into : (x : Option Name) → into_unknown (is_register s) x ≡ false
+  register_into : (x : Option Name) → option_map_or (λ y. not (is_register s y)) x false ≡ false
       → IntoExists (length (registers_of task)) (option_map (slot (registers_of task)) x)
   register_into None h = tt
   register_into (Some x) h = register_within x (yes (is_register s x) h)
@@ -285,15 +286,15 @@ module _ (program : Program) (task : TaskText) where
     what_exists line (tree.Unlock a i) held fails inside =
         (index_exists i (yes _ (or_false (not (is_lock s a)) (not (is_atom s i)) (known _ _ fails)).1), tt)
     what_exists line (tree.Fork t es x) held fails inside =
-        let parts = or_false (list_any (has_unknown s) es) (into_unknown (is_control s) x)
-        (or_false (is_none (task_named program t)) (list_any (has_unknown s) es || into_unknown (is_control s) x)
+        let parts = or_false (list_any (has_unknown s) es) (option_map_or (λ y. not (is_control s y)) x false)
+        (or_false (is_none (task_named program t)) (list_any (has_unknown s) es || option_map_or (λ y. not (is_control s y)) x false)
         (known _ _ (known_left _ _ (known_left _ _ fails)))).1 in (
           fork_exists (task_named program t) (unwrap_or (task_number program t) 0) es (option_map (slot (controls_of task)) x) parts.0
               (control_into x parts.1),
           tt,
         )
     what_exists line (tree.Join e x) held fails inside =
-        let parts = or_false (has_unknown s e) (into_unknown (is_register s) x) (known _ _ fails) in
+        let parts = or_false (has_unknown s e) (option_map_or (λ y. not (is_register s y)) x false) (known _ _ fails) in
         ((calc_exists e parts.0, register_into x parts.1), tt)
     what_exists line (tree.Barrier b) held fails inside =
         (barrier_exists (position (λ other. is_name b other.0) (barriers_of program.heads)), tt)

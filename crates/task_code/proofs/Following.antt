@@ -10,9 +10,9 @@ use Rattle.task_ast.specs.meaning.Tree as tree
 use Rattle.task_ast.specs.meaning.Tree.{Name, Expr, Stmt, What, Block, statements, TaskText, Program}
 use Rattle.task_ast.specs.meaning.Names.{is_name, slot, locks_of, barriers_of, controls_of, registers_of, task_named, task_number}
 use Rattle.task_ast.specs.Names.{seconds}
-use Rattle.task_ast.specs.meaning.Value.{value}
+use Rattle.task_ast.specs.meaning.Value.{value, branch}
 use Rattle.task_ast.specs.meaning.Body.{Step, Silent, Act}
-use Rattle.task_ast.specs.meaning.Control.{Setting, Point, with_value, going, stop, known, branch, env_at, lock_number, action, fork_named, step_at, step_from, step}
+use Rattle.task_ast.specs.meaning.Control.{Setting, Point, with_value, going, stop, known, env_at, lock_number, action, fork_named, step_at, step_from, step}
 use Rattle.task_ast.specs.meaning.Plain.{setting_of}
 use Rattle.task_ast.specs.laws.Following.{Matches, both_silent, both_turn, both_act, both_stop, IsFollowing}
 use Rattle.task_ast.proofs.Slots.{sets_first}

@@ -5,7 +5,8 @@ use Rattle.gp_base.specs.declared.feed.Feed.{Feed}
 use Rattle.task_ast.specs.declared.sync.SyncOp.TheVariants as sync
 use Rattle.task_ast.specs.meaning.Tree.{Program}
 use Rattle.task_ast.specs.meaning.Control.{Point, with_number, beginning, size, step}
-use Rattle.task_ast.specs.meaning.Plain.{setting_of, tree_machine}
+use Rattle.task_ast.specs.meaning.Plain.{setting_of}
+use Rattle.task_ast.specs.Plain.{tree_machine}
 use Rattle.task_ast.proofs.Sizes.{tree_sized}
 use Rattle.task_ast.proofs.Following.{bodies_agree}
 use Rattle.task_ast.proofs.SameRuns.{same_run}

@@ -13,7 +13,7 @@ use Rattle.task_ast.specs.declared.tree.Param.{Param}
 use Rattle.task_ast.specs.declared.tree.Param.TheVariants as param
 use Rattle.task_ast.specs.meaning.Tree as tree
 use Rattle.task_ast.specs.meaning.Tree.{Name, Expr, Links, What, Stmt, Block, TaskText, Program}
-use Rattle.task_ast.specs.meaning.Names.{is_name, named, slot, place, firsts, cell_number, records_of, feeds_of, registers_of}
+use Rattle.task_ast.specs.meaning.Names.{is_name, named, slot, place, cell_number, records_of, feeds_of, registers_of}
 use Rattle.task_ast.specs.Names.{seconds}
 use Rattle.task_ast.specs.Layout.{base_of}
 use Rattle.task_ast.specs.meaning.State.{number_at}
@@ -31,21 +31,22 @@ use Rattle.task_code.specs.Lowering as lowering
 -- ---- names and numbers
 
 -- a control variable by its name has the value of its number
-pub value_by_number : (names : List (Name × ℤ)) (x : Name) → value_at names x ≡ number_at (seconds names) (slot (firsts names) x)
+pub value_by_number : (names : List (Name × ℤ)) (x : Name) → value_at names x ≡ number_at (seconds names) (slot (map (λ n. n.0) names) x)
 value_by_number [] x = refl
 value_by_number (n ∷ names) x = go (is_name x n.0) refl (value_by_number names x)
   where
     later : (o : Option ℕ)
-        → number_at (seconds names) (unwrap_or o (length (firsts names)))
-        ≡ number_at (n.1 ∷ seconds names) (unwrap_or (option_map suc o) (suc (length (firsts names))))
+        → number_at (seconds names) (unwrap_or o (length (map (λ n. n.0) names)))
+        ≡ number_at (n.1 ∷ seconds names) (unwrap_or (option_map suc o) (suc (length (map (λ n. n.0) names))))
     later None = refl
     later (Some k) = refl
 
-    go : (b : Bool) → is_name x n.0 ≡ b → value_at names x ≡ number_at (seconds names) (slot (firsts names) x)
+    go : (b : Bool) → is_name x n.0 ≡ b → value_at names x ≡ number_at (seconds names) (slot (map (λ n. n.0) names) x)
         → unwrap_or (cond (is_name x n.0) (Some n.1) (named x names)) (pos 0)
-        ≡ number_at (n.1 ∷ seconds names) (slot (n.0 ∷ firsts names) x)
-    go true e rest = rw (position-cons (is_name x) n.0 (firsts names), e) refl
-    go false e rest = rw (position-cons (is_name x) n.0 (firsts names), e) (rest ∙ later (position (is_name x) (firsts names)))
+        ≡ number_at (n.1 ∷ seconds names) (slot (n.0 ∷ map (λ n. n.0) names) x)
+    go true e rest = rw (position-cons (is_name x) n.0 (map (λ n. n.0) names), e) refl
+    go false e rest = rw (position-cons (is_name x) n.0 (map (λ n. n.0) names), e)
+        (rest ∙ later (position (is_name x) (map (λ n. n.0) names)))
 
 -- a feed by its name is that of its number
 pub feed_by_number : (names : List Name) (feeds : List Feed) (f : Name)
@@ -125,7 +126,7 @@ all_of-cons None os = refl
 all_of-cons (Some v) os = refl
 
 module _ (program : Program) (feeds : List Feed) (controls registers : List Name) (names : List (Name × ℤ)) (ctl : List ℤ) (me number : ℕ)
-    (names_are : firsts names ≡ controls) (values_are : ctl ≡ seconds names) (number_is : number ≡ me) where
+    (names_are : map (λ n. n.0) names ≡ controls) (values_are : ctl ≡ seconds names) (number_is : number ≡ me) where
   abbrev s : Setting
   s = record { program = program; feeds = zip (feeds_of program.heads) feeds }
 

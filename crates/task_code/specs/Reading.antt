@@ -14,7 +14,8 @@ use Rattle.task_ast.specs.meaning.Value.{truth, is_zero, operate_on, cell_in}
 use Rattle.task_ast.specs.meaning.Action.{Term, Constant, Register, Negated, Inverted, Joined, MoreTerms, NoTerms, OneTerm, Action, Set, Load, Store, Say, Choose, Child, Give, Bring, Arm, NoAction, OneAction}
 use Rattle.task_ast.specs.meaning.Body.{Step, Silent, Iteration, Act, Stop, Body, body}
 use Rattle.task_ast.specs.meaning.Control.{all_of}
-use Rattle.task_ast.specs.meaning.Plain.{Machine, task_at, start_point}
+use Rattle.task_ast.specs.meaning.Plain.{task_at, start_point}
+use Rattle.task_ast.specs.Plain.{Machine}
 use Rattle.lock_checker.specs.declared.cells.Cells.{Cells}
 use Rattle.task_code.specs.declared.instrs.Index.{Index}
 use Rattle.task_code.specs.declared.instrs.Index.TheVariants.{Number, Variable}

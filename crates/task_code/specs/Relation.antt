@@ -1,15 +1,16 @@
 -- Which points of the tree and which places of the code stand for each other.
-use Rattle.std.specs.Prelude.{◌≡◌, ⊤, ◌⊎◌, ℕ, ℤ, ◌+◌, List, [], ◌∷◌, Option, Some, None, slice_get, length}
+use Rattle.std.specs.Prelude.{◌≡◌, ⊤, ◌⊎◌, ℕ, ℤ, ◌+◌, List, [], ◌∷◌, Option, Some, None, slice_get, length, map}
 use Rattle.gp_base.specs.declared.limits.Limits.{Limits}
 use Rattle.gp_base.specs.declared.feed.Inputs.{Inputs}
 use Rattle.task_ast.specs.declared.sync.SyncOp.{SyncOp}
 use Rattle.task_ast.specs.declared.sync.SyncOp.TheVariants as sync
 use Rattle.task_ast.specs.meaning.Tree as tree
 use Rattle.task_ast.specs.meaning.Tree.{Stmt, What, While, Expr, Block, TaskText, Program}
-use Rattle.task_ast.specs.meaning.Names.{firsts, controls_of}
+use Rattle.task_ast.specs.meaning.Names.{controls_of}
 use Rattle.task_ast.specs.Names.{seconds}
 use Rattle.task_ast.specs.meaning.Control.{Point, beginning, first_actions, step, tree_body}
-use Rattle.task_ast.specs.meaning.Plain.{setting_of, task_at, start_point, tree_machine}
+use Rattle.task_ast.specs.meaning.Plain.{setting_of, task_at, start_point}
+use Rattle.task_ast.specs.Plain.{tree_machine}
 use Rattle.task_ast.specs.laws.Following.{IsFollowing, Agrees, Follows, IsSameRun}
 use Rattle.task_code.specs.Instructions.{Instr, At, GoOn, Again}
 use Rattle.task_code.specs.Lowering.{Scope, calc, what_code, block_code, scope_of, lowered}
@@ -36,7 +37,7 @@ module _ (s : Scope) (code : List Instr) where
 pub record Corresponds (program : Program) (p : Point) (q : Place) : Type 0 where
   pub task : p.task ≡ task_at program q.at.task
   pub left : Left (scope_of program p.task) (instrs_of (lowered program).tasks q.at.task) q.at.pc p.left
-  pub names : firsts p.names ≡ controls_of p.task
+  pub names : map (λ n. n.0) p.names ≡ controls_of p.task
   pub values : q.ctl ≡ seconds p.names
   pub me : q.me ≡ p.me
 

@@ -2,7 +2,7 @@
 
 ghost use Rattle.std.specs.Prelude.{◌≡◌, map, position, IfOk};
 ghost use Rattle.lock_checker.specs.Tables.{found};
-ghost use Rattle.task_ast.specs.meaning.Names.{is_name, barriers_of, feeds_of, firsts};
+ghost use Rattle.task_ast.specs.meaning.Names.{is_name, barriers_of, feeds_of};
 ghost use Rattle.task_ast.specs.meaning.Tree as plain;
 ghost use Rattle.task_ast.specs.View.{plain_task};
 ghost use Rattle.task_code.specs.inner.Tables.{targets};
@@ -14,7 +14,7 @@ use task_ast::{Head, TaskText};
 
 /// The names of the barriers, in declared order.
 pub fn barrier_names<'a>(alloc: Global, heads: &'a [Head]) -> Result<Vec<&'a Name>, AllocError>
-    ensures { IfOk result (λ names. targets names.items ≡ firsts (barriers_of heads.now)) }
+    ensures { IfOk result (λ names. targets names.items ≡ map (λ n. n.0) (barriers_of heads.now)) }
 {
     let mut names = Vec::new(alloc);
     for head in heads {

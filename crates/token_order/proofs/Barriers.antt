@@ -8,8 +8,10 @@ use Rattle.task_ast.specs.declared.sync.SyncOp.{SyncOp}
 use Rattle.task_ast.specs.declared.sync.SyncOp.TheVariants as sync
 use Rattle.task_ast.specs.declared.sync.Next.{Next}
 use Rattle.task_ast.specs.meaning.Repeat.{Done}
-use Rattle.task_ast.specs.meaning.Table.{Seat, Stand, Away, Waits, Released, Table, next_of, unpassed, meets, waits_at}
-use Rattle.task_ast.specs.meaning.Turn.{Ended, tried, stand_of, met, arrived, released_at, issuing, passing, is_away}
+use Rattle.task_ast.specs.meaning.Table.{Stand, Away, Waits, Released, meets}
+use Rattle.task_ast.specs.Table.{Seat, Table, next_of, unpassed, waits_at}
+use Rattle.task_ast.specs.meaning.Turn.{is_away}
+use Rattle.task_ast.specs.Turn.{Ended, tried, stand_of, met, arrived, released_at, issuing, passing}
 use Rattle.task_ast.proofs.Counting.{one, count-with_nth, count-map, get-map, get-with_nth}
 use Rattle.task_ast.proofs.SeenSeats.{opened}
 use Rattle.task_ast.specs.Looking.{is_free_to_go}

@@ -6,12 +6,14 @@ use Rattle.std.specs.Prelude.{slice_get, pos, negsuc}
 use Rattle.std.specs.Option.{option_and_then}
 use Rattle.std.proofs.lemmas.List.{length-map}
 use Rattle.std.proofs.lemmas.Option.{slice_get_within}
+use Rattle.gp_base.specs.declared.limits.TheConstants.{MOST_THREADS}
+use Rattle.task_ast.specs.Table.{owner_in, Seat, Table, next_of, unpassed, waits_at, learning}
 use Rattle.task_ast.specs.declared.sync.SyncOp.{SyncOp}
 use Rattle.task_ast.specs.declared.sync.SyncOp.TheVariants as sync
 use Rattle.task_ast.specs.declared.sync.Next.{Next}
 use Rattle.task_ast.specs.meaning.Repeat.{Again, More, Done}
-use Rattle.task_ast.specs.meaning.Table.{Seat, Stand, Away, Waits, Released, Table, ring, next_of, is_end, unpassed, with_nth, waits_at, learning}
-use Rattle.task_ast.specs.meaning.Turn.{Turn, Issue, Needs, Ended, Look, To, Unknown, NoThread, look, turn, tried, at_look, deadlocked, has_passed, stand_of, met, arrived, come_to, at_barrier, released_at, issuing, passing, at_join, owner_of, most_threads, all_threads}
+use Rattle.task_ast.specs.meaning.Table.{Stand, Away, Waits, Released, ring, is_end, with_nth, numbers}
+use Rattle.task_ast.specs.Turn.{Turn, Issue, Needs, Ended, Look, To, Unknown, NoThread, look, turn, tried, at_look, deadlocked, has_passed, stand_of, met, arrived, come_to, at_barrier, released_at, issuing, passing, at_join}
 use Rattle.task_ast.specs.laws.Threads.{table_after}
 use Rattle.task_ast.proofs.Counting.{length-with_nth}
 use Rattle.task_ast.proofs.IssuedTables.{learnt_length}
@@ -81,11 +83,12 @@ joining-token h (Some other) table t next l = cond-token (is_end other.sync) _ _
 
 tried-token : (op : SyncOp) (table : Table) (t : ℕ) (next : Next) → t < length table.seats → TokenAfter (tried op table t next)
 tried-token sync.Start table t next l = issue-token table t next l
-tried-token (sync.Lock k) table t next l = cond-token (is_none (owner_of table k)) _ _ (issue-token table t next l) (pass-token table t l)
+tried-token (sync.Lock k) table t next l =
+    cond-token (is_none (owner_in table.owners k)) _ _ (issue-token table t next l) (pass-token table t l)
 tried-token (sync.Settle register control) table t next l = issue-token table t next l
 tried-token (sync.Unlock k) table t next l = issue-token table t next l
 tried-token (sync.Fork task arguments) table t next l =
-    cond-token (nat_lt (length table.seats) most_threads) _ _ (issue-token table t next l) over
+    cond-token (nat_lt (length table.seats) MOST_THREADS) _ _ (issue-token table t next l) over
 tried-token (sync.Join (pos h)) table t next l =
     cond-token (nat_lt h (length table.seats)) _ _ (joining-token h (next_of table h) table t next l) over
 tried-token (sync.Join (negsuc h)) table t next l = over
@@ -110,7 +113,7 @@ deadlocked-token NoThread = over
 
 look-token : (table : Table) (l : Look) → Known table l → TokenAfter (at_look l table)
 look-token table (To t next) (known_to e live) =
-    cond-token (has_passed table t) _ _ (deadlocked-token (look table (all_threads table)))
+    cond-token (has_passed table t) _ _ (deadlocked-token (look table (numbers 0 (length table.seats))))
     (tried-token next.sync table t next (within table.seats t next e))
 look-token table (Unknown t) known = needs
 look-token table NoThread known = over
@@ -125,15 +128,15 @@ passed (passes token) = token
 issued : {t : ℕ} {next : Next} {child : Option ℕ} {after : Table} → TokenAfter (Done (Issue t next child after)) → HasToken after
 issued (issues token) = token
 
-few-table : (threads : Threads) → StandsInside threads → length (table threads).seats ≤ most_threads
-few-table threads inside = subst (λ n. n ≤ most_threads) (sym (length-map threads.seats.items seat_of)) inside.few
+few-table : (threads : Threads) → StandsInside threads → length (table threads).seats ≤ MOST_THREADS
+few-table threads inside = subst (λ n. n ≤ MOST_THREADS) (sym (length-map threads.seats.items seat_of)) inside.few
 
-stands : (threads : Threads) → length (table threads).seats ≤ most_threads → HasToken (table threads)
+stands : (threads : Threads) → length (table threads).seats ≤ MOST_THREADS → HasToken (table threads)
     → length threads.owners.items ≤ 4294967295 → MarkStands threads → StandsInside threads
 stands threads few token locks mark =
     let same = length-map threads.seats.items seat_of in
     record {
-      few = subst (λ n. n ≤ most_threads) same few;
+      few = subst (λ n. n ≤ MOST_THREADS) same few;
       token = subst (λ n. IsBelow n threads.token) same token;
       locks = locks;
       mark = mark;
@@ -145,7 +148,7 @@ same-locks before after inside same = subst (λ n. n ≤ 4294967295) (sym same) 
 
 still : (before after : Threads) → StandsInside before → MarkStands after → table after ≡ table before → StandsInside after
 still before after inside mark same =
-    stands after (subst (λ there. length there.seats ≤ most_threads) (sym same) (few-table before inside))
+    stands after (subst (λ there. length there.seats ≤ MOST_THREADS) (sym same) (few-table before inside))
     (subst HasToken (sym same) (subst (λ n. IsBelow n before.token) (sym (length-map before.seats.items seat_of)) inside.token))
     (same-locks before after inside (ap (λ there. length there.owners) same)) mark
 
@@ -168,7 +171,7 @@ pub learn-stands : (before after : Threads) (t : ℕ) (next : Next) → StandsIn
     → StandsInside after
 learn-stands before after t next inside mark e =
     let same = learnt_length (table before) t next in
-    stands after (subst (λ there. length there.seats ≤ most_threads) (sym e)
-    (subst (λ n. n ≤ most_threads) (sym same) (few-table before inside)))
+    stands after (subst (λ there. length there.seats ≤ MOST_THREADS) (sym e)
+    (subst (λ n. n ≤ MOST_THREADS) (sym same) (few-table before inside)))
     (subst HasToken (sym e) (subst (λ n. IsBelow n before.token) (sym (same ∙ length-map before.seats.items seat_of)) inside.token))
     (same-locks before after inside (ap (λ there. length there.owners) e)) mark

@@ -4,8 +4,8 @@ use Rattle.std.specs.Prelude.{ℤ, pos, negsuc}
 use Rattle.gp_base.specs.declared.ending.Why.TheVariants as why
 use Rattle.task_ast.specs.declared.sync.SyncOp.TheVariants as sync
 use Rattle.task_ast.specs.declared.sync.Next.{Next}
-use Rattle.task_ast.specs.meaning.Table.{Table, next_of}
-use Rattle.task_ast.specs.meaning.Turn.{tried, at_join, stuck}
+use Rattle.task_ast.specs.Table.{Table, next_of}
+use Rattle.task_ast.specs.Turn.{tried, at_join, stuck}
 use Rattle.task_ast.specs.Looking.{joined_in}
 
 pub join_there : (table : Table) (h : ℤ) (n other t : ℕ) (next : Next) → Some other ≡ joined_in h n → n ≡ length table.seats

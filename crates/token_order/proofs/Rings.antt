@@ -1,8 +1,8 @@
 -- What a ring keeps over a turn.
 use Rattle.std.proofs.Common.{◌≡◌, ◌∙◌, ◌-◌, ap, sym, refl, false, cond, is_none, length, vec_len, vec_capacity}
 use Rattle.std.proofs.lemmas.List.{length-map}
-use Rattle.task_ast.specs.meaning.Table.{Table}
-use Rattle.task_ast.specs.meaning.Turn.{turn}
+use Rattle.task_ast.specs.Table.{Table}
+use Rattle.task_ast.specs.Turn.{turn}
 use Rattle.task_ast.proofs.TurnLaws.{pass_law, issue_law}
 use Rattle.token_order.specs.declared.rules.Turn.{Turn}
 use Rattle.token_order.specs.declared.rules.Turn.TheVariants as here

@@ -6,8 +6,9 @@ use Rattle.task_ast.specs.declared.sync.SyncOp.{SyncOp}
 use Rattle.task_ast.specs.declared.sync.SyncOp.TheVariants as sync
 use Rattle.task_ast.specs.declared.sync.Next.{Next}
 use Rattle.task_ast.specs.meaning.Repeat.{Again, More, Done}
-use Rattle.task_ast.specs.meaning.Table.{Seat, Table, is_settle}
-use Rattle.task_ast.specs.meaning.Turn.{Turn, Issue, Needs, Ended, turn, tried}
+use Rattle.task_ast.specs.meaning.Table.{is_settle}
+use Rattle.task_ast.specs.Table.{Seat, Table}
+use Rattle.task_ast.specs.Turn.{Turn, Issue, Needs, Ended, turn, tried}
 use Rattle.task_ast.specs.laws.Threads.{tries, ahead}
 use Rattle.task_ast.specs.Looking.{look_with}
 use Rattle.task_ast.proofs.SeenSeats.{LooksAt, next-at, passed-at, turn-tries}

@@ -1,14 +1,15 @@
 -- A thread that is issued was not kept back.
 use Rattle.std.proofs.Common.{◌≡◌, ◌∙◌, ℕ, Bool, true, false, not, cond, is_none, length, Option, Some, None, refl, sym, ap}
 use Rattle.std.specs.Prelude.{pos, negsuc}
-use Rattle.std.specs.Option.{option_map}
 use Rattle.std.specs.Prelude.{unwrap_or}
+use Rattle.std.specs.Option.{option_map}
 use Rattle.task_ast.specs.declared.sync.SyncOp.{SyncOp}
 use Rattle.task_ast.specs.declared.sync.SyncOp.TheVariants as sync
 use Rattle.task_ast.specs.declared.sync.Next.{Next}
 use Rattle.task_ast.specs.meaning.Repeat.{Done}
-use Rattle.task_ast.specs.meaning.Table.{Stand, Away, Waits, Released, Table, ring, is_waiting}
-use Rattle.task_ast.specs.meaning.Turn.{Turn, Issue, Look, To, Unknown, NoThread, look, turn, tried, at_look, deadlocked, has_passed, stand_of, all_threads}
+use Rattle.task_ast.specs.meaning.Table.{Stand, Away, Waits, Released, ring, is_waiting, numbers}
+use Rattle.task_ast.specs.Table.{Table}
+use Rattle.task_ast.specs.Turn.{Turn, Issue, Look, To, Unknown, NoThread, look, turn, tried, at_look, deadlocked, has_passed, stand_of}
 use Rattle.task_ast.specs.laws.Threads.{MayBegin, tries}
 use Rattle.task_ast.proofs.TurnLaws.{issue_law}
 use Rattle.token_order.specs.Turned.{waits_found, waits_ahead, is_let}
@@ -29,7 +30,7 @@ not_waiting table (Unknown u) t b next answer tried_is is meets = absurd (cc tri
 not_waiting table (To u there) t b next answer tried_is is meets = go (has_passed table u) refl tried_is is
   where
     go : (passed : Bool) → has_passed table u ≡ passed → cond {A = Option (ℕ × Next)} passed None (Some (u, there)) ≡ Some (t, next)
-        → cond passed (deadlocked (look table (all_threads table))) (tried there.sync table u there) ≡ Done answer
+        → cond passed (deadlocked (look table (numbers 0 (length table.seats)))) (tried there.sync table u there) ≡ Done answer
         → is_waiting (stand_of table u) ≡ false
     go true e none done = absurd (cc none)
     go false e same done =

@@ -2,10 +2,10 @@
 use Rattle.std.specs.Prelude.{◌≡◌, ◌⊎◌, ⊤, ℕ, pos, negsuc, Bool, true, false, not, cond, length, Option, Some, None, is_none}
 use Rattle.task_ast.specs.declared.sync.SyncOp.{SyncOp}
 use Rattle.task_ast.specs.declared.sync.SyncOp.TheVariants as sync
-use Rattle.task_ast.specs.Table.{is_known_end}
+use Rattle.task_ast.specs.Table.{is_known_end, owner_in, Table, next_of}
 use Rattle.task_ast.specs.meaning.Repeat.{Again, More, Done}
-use Rattle.task_ast.specs.meaning.Table.{Table, ring, next_of, is_settle, is_waiting}
-use Rattle.task_ast.specs.meaning.Turn.{Turn, Issue, Needs, Ended, Look, To, Unknown, NoThread, look, owner_of, stand_of, turn}
+use Rattle.task_ast.specs.meaning.Table.{ring, is_settle, is_waiting}
+use Rattle.task_ast.specs.Turn.{Turn, Issue, Needs, Ended, Look, To, Unknown, NoThread, look, stand_of, turn}
 use Rattle.token_order.specs.declared.rules.Turn.{Turn as TurnHere}
 use Rattle.token_order.specs.declared.rules.Turn.TheVariants as here
 
@@ -53,7 +53,7 @@ waits_ahead table = waits_found (look table (ring table.token (length table.seat
 -- whether the thread that the token comes to, which stands at it, may go on, as far as the owner of a lock, the thread that
 -- is joined and a barrier at which it waits are concerned
 abbrev pub is_let : Table → SyncOp → Bool
-is_let table (sync.Lock l) = is_none (owner_of table l)
+is_let table (sync.Lock l) = is_none (owner_in table.owners l)
 is_let table (sync.Join (pos h)) = is_known_end (next_of table h)
 is_let table (sync.Join (negsuc h)) = false
 is_let table (sync.Barrier b) = not (waits_ahead table)

@@ -1,7 +1,8 @@
 -- How the fields stand for the thread table.
 use Rattle.std.specs.Prelude.{ℕ, Bool, ◌<◌, ◌≤◌, ⊤, cond, length, map, Option, Some, None, is_none}
 use Rattle.gp_base.specs.declared.limits.TheConstants.{MOST_THREADS}
-use Rattle.task_ast.specs.meaning.Table.{Stand, Away, Waits, Released, Seat, Table, next_of, last_in}
+use Rattle.task_ast.specs.meaning.Table.{Stand, Away, Waits, Released}
+use Rattle.task_ast.specs.Table.{Seat, Table, next_of, last_in}
 use Rattle.ended_seats.specs.Idle.{IdleFrom}
 use Rattle.token_order.specs.declared.threads.Stand.{Stand as StandHere}
 use Rattle.token_order.specs.declared.threads.Stand.TheVariants as stands

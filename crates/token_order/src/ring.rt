@@ -3,7 +3,8 @@
 ghost use Rattle.std.specs.Prelude.{◌≡◌, ◌<◌, ◌≤◌, true, false, length, None, IfOk, OnOk, replicate};
 ghost use Rattle.std.specs.Option.{option_map, option_copied};
 ghost use Rattle.task_ast.specs.Reached.{start_table};
-ghost use Rattle.task_ast.specs.meaning.Table.{next_of, learning, owned_from};
+ghost use Rattle.task_ast.specs.meaning.Table.{owned_from};
+ghost use Rattle.task_ast.specs.Table.{next_of, learning};
 ghost use Rattle.task_ast.specs.meaning.Turn.{owners_after};
 ghost use Rattle.task_ast.specs.laws.Threads.{ahead};
 ghost use Rattle.token_order.specs.Turned.{Turned, LeavesRoom, is_let, cleared_after};

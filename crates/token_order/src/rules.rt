@@ -6,10 +6,11 @@ ghost use Rattle.gp_base.specs.declared.ending.End.TheVariants as ends;
 ghost use Rattle.gp_base.specs.declared.limits.TheConstants.{MOST_THREADS};
 ghost use Rattle.task_ast.specs.Looking.{begun, joined_in, is_free_to_go};
 ghost use Rattle.task_ast.specs.declared.sync.SyncOp.TheVariants as sync;
-ghost use Rattle.task_ast.specs.Table.{is_known_end};
+ghost use Rattle.task_ast.specs.Table.{is_known_end, next_of, waits_at};
 ghost use Rattle.task_ast.specs.meaning.Repeat.{More};
-ghost use Rattle.task_ast.specs.meaning.Table.{Away, next_of, waits_at};
-ghost use Rattle.task_ast.specs.meaning.Turn.{tried, issuing, passing, look, owners_after, seats_after, child_of, deadlocked, all_threads, arrived, stand_of, released_at};
+ghost use Rattle.task_ast.specs.meaning.Table.{Away, numbers};
+ghost use Rattle.task_ast.specs.meaning.Turn.{owners_after, child_of};
+ghost use Rattle.task_ast.specs.Turn.{tried, issuing, passing, look, seats_after, deadlocked, arrived, stand_of, released_at};
 ghost use Rattle.token_order.specs.View.{table, seat_of, StandsInside, MarkStands};
 ghost use Rattle.token_order.specs.declared.rules.Turn.TheVariants as here;
 ghost use Rattle.token_order.specs.Turned.{Answered, is_let, waits_ahead};
@@ -334,7 +335,7 @@ impl Threads {
     // Every thread that has not ended has passed.
     fn deadlock(&self) -> Turn
         requires few { length self.now.seats.items ≤ MOST_THREADS }
-        ensures { Answered (deadlocked (look (table self.now) (all_threads (table self.now)))) (table self.now) result (table self.now) }
+        ensures { Answered (deadlocked (look (table self.now) (numbers 0 (length (table self.now).seats)))) (table self.now) result (table self.now) }
     {
         let Some(t) = self.first_live(0, self.seats.len()) else {
             return Turn::Ended(End::Finished);
@@ -348,7 +349,7 @@ impl Threads {
     /// The thread that the next turn would issue with a settle.
     pub fn settling(&self) -> Option<u32>
         requires inside { StandsInside self.now }
-        ensures { result ≡ Rattle.token_order.specs.Turned.settling_in (Rattle.task_ast.specs.meaning.Turn.turn (table self.now)) }
+        ensures { result ≡ Rattle.token_order.specs.Turned.settling_in (Rattle.task_ast.specs.Turn.turn (table self.now)) }
     {
         if self.limit <= self.issued {
             return None;
@@ -370,7 +371,7 @@ impl Threads {
     pub fn turn(&mut self) -> Turn
         requires inside { StandsInside self.old }
         requires spare { vec_len self.old.seats < vec_capacity self.old.seats }
-        ensures answer { Answered (Rattle.task_ast.specs.meaning.Turn.turn (table self.old)) (table self.old) result (table self.new) }
+        ensures answer { Answered (Rattle.task_ast.specs.Turn.turn (table self.old)) (table self.old) result (table self.new) }
         ensures capacity { vec_capacity self.new.seats ≡ vec_capacity self.old.seats }
         ensures mark { MarkStands self.new }
     {

@@ -4,8 +4,9 @@ ghost use Rattle.std.specs.Prelude.{◌≡◌, ℕ, ◌<◌, ◌≤◌, ◌-◌,
 ghost use Rattle.gp_base.specs.declared.limits.TheConstants.{MOST_THREADS};
 ghost use Rattle.task_ast.specs.Looking.{start_of, look_of};
 ghost use Rattle.task_ast.specs.Reached.{start_table};
-ghost use Rattle.task_ast.specs.meaning.Table.{numbers, ring, learning, unpassed};
-ghost use Rattle.task_ast.specs.meaning.Turn.{look};
+ghost use Rattle.task_ast.specs.meaning.Table.{numbers, ring};
+ghost use Rattle.task_ast.specs.Table.{learning, unpassed};
+ghost use Rattle.task_ast.specs.Turn.{look};
 ghost use Rattle.task_ast.specs.Table;
 ghost use Rattle.ended_seats.specs.Idle.{IdleFrom, is_idle};
 ghost use Rattle.token_order.specs.View.{table, seat_of, StandsInside, MarkStands};
@@ -47,7 +48,7 @@ pub struct Threads {
 
 /// A thread that has begun no subthread.
 pub fn new_seat(next: Next) -> Seat
-    ensures { seat_of result ≡ record (Rattle.task_ast.specs.meaning.Table.new_seat) { next = Some next } }
+    ensures { seat_of result ≡ record (Rattle.task_ast.specs.Table.new_seat) { next = Some next } }
 {
     Seat {
         next: Some(next),

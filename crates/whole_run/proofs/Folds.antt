@@ -7,8 +7,9 @@ use Rattle.gp_base.specs.declared.journal.Event.{Event}
 use Rattle.task_ast.specs.meaning.Tree.{Program}
 use Rattle.task_ast.specs.meaning.State.{State}
 use Rattle.task_ast.specs.Fold.{fold}
-use Rattle.task_ast.specs.meaning.Plain.{Subthread, order, opening, last_state}
-use Rattle.task_ast.specs.meaning.Position.{before}
+use Rattle.task_ast.specs.meaning.Plain.{Subthread}
+use Rattle.task_ast.specs.Plain.{order, opening, last_state}
+use Rattle.task_ast.specs.Position.{before}
 use Rattle.dependence.specs.meaning.Journal.{Stage, initial_stage, stage, Lawful, Complete}
 use Rattle.dependence.specs.meaning.Runs.{dependence_of}
 use Rattle.dependence.specs.Standing.{AreShort}

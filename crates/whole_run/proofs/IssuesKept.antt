@@ -4,7 +4,7 @@
 -- the place, is for the thread that is ahead, which is the one that is issued.
 use Rattle.std.proofs.Common.{◌≡◌, inl, inr, ℕ, suc, ◌+◌, ◌<◌, ◌≤◌, true, false, List, [], ◌∷◌, ◌++◌, length, Option, Some, None, is_some, option_map, get_or, refl, sym, ap, ◌∙◌, subst, arith, ◌⊎◌, Bool, cond, nat_eq}
 use Rattle.std.specs.Prelude.{IsSome, slice_get, pos, ℤ}
-use Rattle.std.specs.Option.{option_and_then}
+use Rattle.std.specs.Option.{option_and_then, option_map_or}
 use Rattle.std.proofs.lemmas.Option.{slice_get_within}
 use Rattle.std.proofs.lemmas.Bool.{eqb-true, eq-eqb, false≢true}
 use Rattle.gp_base.specs.declared.ending.End.{End}
@@ -17,14 +17,15 @@ use Rattle.task_ast.specs.declared.sync.SyncOp.TheVariants as sync
 use Rattle.task_ast.specs.declared.sync.Next.{Next}
 use Rattle.task_ast.specs.Footprint.{lock_footprint}
 use Rattle.task_ast.specs.meaning.Repeat.{Again, More, Done}
-use Rattle.task_ast.specs.meaning.Table.{Seat, Table, next_of, owned_from, is_settle}
+use Rattle.task_ast.specs.meaning.Table.{owned_from, is_settle}
+use Rattle.task_ast.specs.Table.{Seat, Table, next_of, is_known_end}
 use Rattle.token_order.specs.Turned.{settling_in, is_let}
-use Rattle.task_ast.specs.meaning.Turn.{Turn, Issue, Needs, Ended, child_of, turn}
-use Rattle.dependence.specs.meaning.Runs.{settles_one}
+use Rattle.task_ast.specs.meaning.Turn.{child_of}
+use Rattle.task_ast.specs.Turn.{Turn, Issue, Needs, Ended, turn}
 use Rattle.task_ast.specs.laws.Threads.{HasBegun, with_child, ahead}
 use Rattle.task_ast.specs.laws.Standing.{IsIssuedBy}
-use Rattle.task_ast.specs.meaning.Plain.{Subthread, tree_machine, start_point, task_at}
-use Rattle.task_ast.specs.Plain.{lock_foot_of}
+use Rattle.task_ast.specs.meaning.Plain.{Subthread, start_point, task_at}
+use Rattle.task_ast.specs.Plain.{tree_machine, lock_foot_of}
 use Rattle.task_code.specs.Reading.{start_place}
 use Rattle.task_code.proofs.Machines.{follows}
 use Rattle.task_ast.proofs.TurnLaws.{pass_law, ahead_law}
@@ -44,7 +45,6 @@ use Rattle.rollback.specs.States.{HeldStands}
 use Rattle.gp_base.specs.Reserved.{Reserved}
 use Rattle.token_order.specs.View.{Roomy}
 use Rattle.task_ast.specs.SyncOps.{IsNumbered}
-use Rattle.task_ast.specs.Table.{is_known_end}
 use Rattle.token_order.proofs.Waiting.{issue_lets}
 use Rattle.whole_run.specs.declared.parts.Parts.{Parts}
 use Rattle.whole_run.specs.declared.parts.Place.{Place}
@@ -260,7 +260,8 @@ module _ (batch : Batch) (table : Table) (places : List Place) (entries : List E
       go (More after) is f = absurd (none_some f)
       go (Done (Issue u next child after)) is f =
           let there = told batch (IsPlaceIn batch) at table places keeps.ring u next child after is in
-          ap settles_one there.position ∙ (ap (λ (n : Next). is_settle n.sync) there.begins ∙ is_one u (is_settle next.sync) f)
+          ap (λ o. option_map_or (λ (s : Subthread). is_settle s.begins.sync) o false) there.position
+          ∙ (ap (λ (n : Next). is_settle n.sync) there.begins ∙ is_one u (is_settle next.sync) f)
       go (Done (Needs u)) is f = absurd (none_some f)
       go (Done (Ended ending)) is f = absurd (none_some f)
 

@@ -2,7 +2,7 @@
 use Rattle.std.proofs.Common.{◌≡◌, ℕ, List, [], ◌∷◌, ◌++◌, Option, sym, ap, ◌∙◌, subst}
 use Rattle.gp_base.specs.declared.journal.Event.{Event}
 use Rattle.gp_base.specs.declared.journal.Restart.{Restart}
-use Rattle.task_ast.specs.meaning.Table.{Table}
+use Rattle.task_ast.specs.Table.{Table}
 use Rattle.dependence.specs.meaning.Journal.{Stage, initial_stage, happens, Allowed}
 use Rattle.dependence.specs.Standing.{StageStands, NamesIssued}
 use Rattle.dependence.proofs.Journals.{stage_from-push}

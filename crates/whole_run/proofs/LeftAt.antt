@@ -14,7 +14,8 @@ use Rattle.task_ast.specs.declared.effect.Effect.{Effect}
 use Rattle.task_ast.specs.meaning.Tree.{Program}
 use Rattle.task_ast.specs.meaning.State.{Location, State}
 use Rattle.task_ast.specs.meaning.Effect.{effect}
-use Rattle.task_ast.specs.meaning.Plain.{Subthread, tree_machine, order, opening}
+use Rattle.task_ast.specs.meaning.Plain.{Subthread}
+use Rattle.task_ast.specs.Plain.{tree_machine, order, opening}
 use Rattle.task_ast.specs.Fold.{Member, fold}
 use Rattle.task_ast.specs.Members.{member_of, member_in}
 use Rattle.task_ast.proofs.Positions.{fold_below}

@@ -11,8 +11,9 @@ use Rattle.std.proofs.lemmas.Option.{slice_get_within, slice_get-get_or, get_or_
 use Rattle.gp_base.specs.declared.fault.Fault.{Fault}
 use Rattle.gp_base.specs.declared.footprint.Loc.TheVariants as loc
 use Rattle.task_ast.specs.meaning.Names.{locks_of, cells_in}
-use Rattle.task_ast.specs.meaning.Plain.{Subthread, tree_machine}
-use Rattle.task_ast.specs.meaning.Position.{before}
+use Rattle.task_ast.specs.meaning.Plain.{Subthread}
+use Rattle.task_ast.specs.Plain.{tree_machine}
+use Rattle.task_ast.specs.Position.{before}
 use Rattle.task_ast.specs.meaning.Table.{owned_from}
 use Rattle.task_ast.proofs.Positions.{step_is}
 use Rattle.lock_checker.proofs.LocksHeld.{before_stands}

@@ -1,10 +1,11 @@
 -- The cut of a block of which none has retired, as the oldest entry tells it and as the run does.
 use Rattle.std.proofs.Common.{◌≡◌, ◌⊎◌, inl, inr, ℕ, ◌<◌, ◌≤◌, Bool, true, false, cond, nat_le, List, [], ◌∷◌, length, Option, Some, None, refl, sym, ap, subst, ◌∙◌, arith, slice_get}
+use Rattle.std.specs.Option.{option_map_or}
 use Rattle.std.proofs.lemmas.Bool.{leb-true, leb-false, eq-eqb}
 use Rattle.task_ast.specs.meaning.Table.{is_settle}
 use Rattle.task_ast.specs.meaning.Plain.{Subthread}
 use Rattle.dependence.specs.meaning.Journal.{Stage}
-use Rattle.dependence.specs.meaning.Runs.{settles_one, dependence_of}
+use Rattle.dependence.specs.meaning.Runs.{dependence_of}
 use Rattle.rollback.specs.meaning.Cuts.{cut_at, cuts_of}
 use Rattle.rollback.specs.Driving.{DrivingStands, multiple_at}
 use Rattle.rollback.proofs.Multiples.{cut-multiple, cut-oldest, cut-retired}
@@ -40,7 +41,8 @@ module _ (run : List Subthread) (at : Stage) (entries : List Entry) (stand : Ent
       settles-is : is_settle oldest.0.begins.sync ≡ (dependence_of run).settles at.retired
       settles-is =
           let is = stand.each at.retired oldest.0 oldest.3 in
-          ap (λ begins. is_settle begins.sync) is.is_of.begins ∙ ap settles_one (sym is.is_there)
+          ap (λ begins. is_settle begins.sync) is.is_of.begins
+          ∙ ap (λ o. option_map_or (λ (s : Subthread). is_settle s.begins.sync) o false) (sym is.is_there)
 
       by-multiple : (low settles : Bool) → nat_le oldest.0.pos (multiple_at every p) ≡ low → is_settle oldest.0.begins.sync ≡ settles
           → IsOpenOrPast p (cond low (Some (multiple_at every p)) (cond settles (Some oldest.0.pos) None))

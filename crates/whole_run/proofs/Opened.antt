@@ -14,8 +14,10 @@ use Rattle.task_ast.specs.meaning.Names.{locks_of, records_of, barriers_of, regi
 use Rattle.task_ast.specs.meaning.Layout.{cells_under}
 use Rattle.task_ast.specs.Reached.{start_table}
 use Rattle.task_ast.specs.meaning.State.{State}
-use Rattle.task_ast.specs.meaning.Table.{Table, numbers}
-use Rattle.task_ast.specs.meaning.Plain.{Subthread, opening, main_task, main_number, start_point}
+use Rattle.task_ast.specs.meaning.Table.{numbers}
+use Rattle.task_ast.specs.Table.{Table}
+use Rattle.task_ast.specs.meaning.Plain.{Subthread, main_task, main_number, start_point}
+use Rattle.task_ast.specs.Plain.{opening}
 use Rattle.task_ast.proofs.Layouts.{length-numbers, accepted_sizes}
 use Rattle.lock_checker.proofs.BaseLemmas.{accepted_small}
 use Rattle.dependence.specs.meaning.Journal.{initial_stage}

@@ -14,9 +14,9 @@ use Rattle.task_ast.specs.declared.sync.SyncOp.{SyncOp}
 use Rattle.task_ast.specs.declared.sync.SyncOp.TheVariants as sync
 use Rattle.task_ast.specs.declared.sync.Next.{Next}
 use Rattle.task_ast.specs.meaning.Layout.{layout}
-use Rattle.task_ast.specs.meaning.Plain.{Subthread, tree_machine}
-use Rattle.task_ast.specs.meaning.Position.{before}
-use Rattle.task_ast.specs.Position.{from_in}
+use Rattle.task_ast.specs.meaning.Plain.{Subthread}
+use Rattle.task_ast.specs.Plain.{tree_machine}
+use Rattle.task_ast.specs.Position.{before, from_in}
 use Rattle.task_ast.specs.Fold.{fold}
 use Rattle.task_ast.proofs.Positions.{forked_is}
 use Rattle.task_ast.proofs.SeatLimits.{most_threads_law}

@@ -5,7 +5,7 @@
 use Rattle.std.proofs.Common.{◌≡◌, ◌⊎◌, inl, inr, ℕ, zero, suc, ◌<◌, ◌≤◌, Bool, true, false, cond, ◌&&◌, nat_eq, List, [], ◌∷◌, Contains, Option, Some, None, is_some, IfSome, refl, sym, ap, subst, ◌∙◌, arith, slice_get}
 use Rattle.std.specs.Bool.{Decides}
 use Rattle.std.specs.List.{list_any}
-use Rattle.std.specs.Option.{option_or}
+use Rattle.std.specs.Option.{option_or, option_map_or}
 use Rattle.std.proofs.lemmas.Option.{slice_get_past}
 use Rattle.std.proofs.lemmas.Bool.{true≢false, eq-eqb, or_left, or_right, both_ways, false≢true, eqb-true, and_parts, or_cases, cases_lt}
 use Rattle.std.proofs.lemmas.List.Elements.{Contains-push, Contains-append_left}
@@ -13,6 +13,7 @@ use Rattle.gp_base.specs.declared.fault.Fault.{Fault}
 use Rattle.gp_base.specs.declared.ending.End.{End}
 use Rattle.gp_base.specs.declared.journal.Event.{Event}
 use Rattle.gp_base.specs.declared.journal.Event.TheVariants as event
+use Rattle.task_ast.specs.meaning.Table.{is_settle}
 use Rattle.task_ast.specs.meaning.Plain.{Subthread}
 use Rattle.dependence.specs.meaning.Dependents.{is_member}
 use Rattle.dependence.specs.meaning.Restarts.{Dependence, drains, is_live, is_due, least_struck, NoneDue, NoneLive, struck_next, restart_of}
@@ -20,7 +21,6 @@ use Rattle.dependence.specs.meaning.Journal.{Stage, initial_stage, WasTaken, hap
 use Rattle.dependence.specs.JournalTests.{same_attempt}
 use Rattle.dependence.specs.Standing.{present}
 use Rattle.dependence.proofs.Auditing.{contains-decides}
-use Rattle.dependence.specs.meaning.Runs.{settles_one}
 use Rattle.rollback.specs.meaning.Cuts.{cuts_of}
 use Rattle.rollback.proofs.Backs.{cut-low}
 use Rattle.whole_run.specs.declared.recovery.Recovery.{Recovery}
@@ -145,7 +145,7 @@ halts-drain batch front halt.Settling h = or_right (nat_eq front (dependence_in 
 none-settles : (batch : Batch) (front : ℕ) → front ≡ (dependence_in batch).count → (dependence_in batch).settles front ≡ true → ⊥
 none-settles batch front passed settles =
     let past : slice_get (run_in batch) front ≡ None = slice_get_past (run_in batch) front (let e = passed in omega arith) in
-    true≢false (sym settles ∙ ap settles_one past)
+    true≢false (sym settles ∙ ap (λ o. option_map_or (λ (s : Subthread). is_settle s.begins.sync) o false) past)
 
 known-ends : (view : View) → Stands view → is_known view ≡ true → drains (dependence_in view.batch) (now view).progress.front ≡ true
 known-ends view stands known = go view.ended known stands.ended

@@ -3,7 +3,8 @@
 -- whose last position was never taken; one that is issued stands where its place says, and a child's place comes at the
 -- end.
 use Rattle.std.proofs.Common.{◌≡◌, inl, inr, ℕ, suc, ◌+◌, ◌<◌, ◌≤◌, List, [], ◌∷◌, ◌++◌, length, Option, Some, None, refl, sym, ap, ◌∙◌, subst, arith, true}
-use Rattle.std.specs.Prelude.{◌≢◌, ℤ, slice_get}
+use Rattle.std.specs.Prelude.{◌≢◌, ℤ, slice_get, option_and_then, false}
+use Rattle.std.specs.Option.{option_map_or}
 use Rattle.std.proofs.lemmas.Bool.{cases_lt, cases_eq}
 use Rattle.std.proofs.lemmas.Option.{slice_get_within}
 use Rattle.gp_base.specs.declared.ending.End.{End}
@@ -13,11 +14,14 @@ use Rattle.task_ast.specs.declared.sync.SyncOp.TheVariants as sync
 use Rattle.task_ast.specs.declared.sync.Next.{Next}
 use Rattle.task_ast.specs.meaning.Control.{Point}
 use Rattle.task_ast.specs.meaning.Repeat.{Again, More, Done}
-use Rattle.task_ast.specs.meaning.Table.{is_settle, Table, next_of, last_in}
-use Rattle.task_ast.specs.meaning.Turn.{Turn, Issue, Needs, Ended, child_of, turn}
+use Rattle.task_ast.specs.meaning.Table.{is_settle}
+use Rattle.task_ast.specs.Table.{Table, next_of, last_in}
+use Rattle.task_ast.specs.meaning.Turn.{child_of}
+use Rattle.task_ast.specs.Turn.{Turn, Issue, Needs, Ended, turn}
 use Rattle.task_ast.specs.laws.Threads.{SameThreads, HasBegun, with_child}
 use Rattle.task_ast.specs.laws.Standing.{Agrees, IsIssuedBy, TurnTells, passes, issues, needs, ends}
-use Rattle.task_ast.specs.meaning.Plain.{tree_machine, start_point, task_at, end}
+use Rattle.task_ast.specs.meaning.Plain.{start_point, task_at, Subthread}
+use Rattle.task_ast.specs.Plain.{tree_machine, end}
 use Rattle.task_ast.specs.meaning.Position.{last_below}
 use Rattle.task_ast.specs.Position.{IsStep}
 use Rattle.task_ast.proofs.Standings.{agrees, turns_tell}
@@ -26,7 +30,6 @@ use Rattle.task_ast.proofs.TurnLaws.{pass_law, issue_law}
 use Rattle.task_ast.proofs.IssuedTables.{get_push, get_last, get_past, length_push, last_inside}
 use Rattle.dependence.specs.meaning.Restarts.{NoneDue}
 use Rattle.dependence.specs.meaning.Journal.{Stage, Allowed, MayFollow, WasTaken, happens}
-use Rattle.dependence.specs.meaning.Runs.{settles_one, before_one}
 use Rattle.dependence.specs.Standing.{NamesIssued}
 use Rattle.whole_run.specs.View.{Batch, program_in, run_in, dependence_in}
 use Rattle.whole_run.specs.inner.RingStands.{plain_before, point_before, IsLearnt, RingStands, StartIs, places_after}
@@ -134,10 +137,10 @@ module _ (batch : Batch) {Place : Type 0} (IsPlace : (thread : ℕ) → SyncOp �
           left = below;
           none_due = none_due;
           follows = subst (MayFollow at)
-              (sym (ap (before_one (run_in batch) p) told.position
+              (sym (ap (option_and_then (λ s. last_below (run_in batch) s.thread p)) told.position
               ∙ (ap (λ u. last_below (run_in batch) u p) told.thread ∙ same_run.lasts t))) follows;
           settled = λ settles. alone (ap (λ (n : Next). is_settle n.sync) (sym told.begins)
-              ∙ (ap settles_one (sym told.position) ∙ settles));
+              ∙ (ap (λ o. option_map_or (λ (s : Subthread). is_settle s.begins.sync) o false) (sym told.position) ∙ settles));
         }
 
     -- where the thread stood

@@ -6,8 +6,9 @@ use Rattle.task_ast.specs.declared.sync.SyncOp.TheVariants as sync
 use Rattle.task_ast.specs.declared.sync.Next.{Next}
 use Rattle.task_ast.specs.meaning.Control.{Point}
 use Rattle.task_ast.specs.Position.{point_in}
-use Rattle.task_ast.specs.meaning.Table.{new_seat}
-use Rattle.task_ast.specs.meaning.Plain.{opening, start_point, main_task, tree_machine, move_by}
+use Rattle.task_ast.specs.Table.{new_seat}
+use Rattle.task_ast.specs.meaning.Plain.{start_point, main_task}
+use Rattle.task_ast.specs.Plain.{opening, tree_machine, move_by}
 use Rattle.task_ast.proofs.Repeats.{state_after_none}
 use Rattle.task_ast.proofs.Standings.{own_stands}
 use Rattle.dependence.specs.meaning.Journal.{initial_stage, WasTaken}

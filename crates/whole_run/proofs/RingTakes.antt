@@ -9,9 +9,10 @@ use Rattle.gp_base.specs.declared.journal.Event.TheVariants as event
 use Rattle.task_ast.specs.declared.sync.SyncOp.{SyncOp}
 use Rattle.task_ast.specs.declared.sync.Next.{Next}
 use Rattle.task_ast.specs.meaning.Control.{Point}
-use Rattle.task_ast.specs.meaning.Table.{Table, next_of, last_in, learning}
+use Rattle.task_ast.specs.Table.{Table, next_of, last_in, learning}
 use Rattle.task_ast.specs.laws.Standing.{Stands}
-use Rattle.task_ast.specs.meaning.Plain.{Subthread, tree_machine}
+use Rattle.task_ast.specs.meaning.Plain.{Subthread}
+use Rattle.task_ast.specs.Plain.{tree_machine}
 use Rattle.task_ast.specs.Position.{LeftBy, body_at}
 use Rattle.task_ast.proofs.Standings.{learn_stands}
 use Rattle.task_ast.proofs.IssuedTables.{get_set_here, get_set_other, length_set, learnt_here, learnt_other, learnt_last, learnt_length, last_inside}

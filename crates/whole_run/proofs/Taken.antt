@@ -6,9 +6,10 @@ use Rattle.std.proofs.lemmas.Bool.{eqb-true, eq-eqb, false≢true, false_from_ne
 use Rattle.gp_base.specs.declared.journal.Event.{Event}
 use Rattle.gp_base.specs.declared.journal.Event.TheVariants as event
 use Rattle.task_ast.specs.declared.sync.Next.{Next}
-use Rattle.task_ast.specs.meaning.Table.{Table, learning}
+use Rattle.task_ast.specs.Table.{Table, learning}
 use Rattle.task_ast.specs.History.{old_of}
-use Rattle.task_ast.specs.meaning.Plain.{Subthread, tree_machine}
+use Rattle.task_ast.specs.meaning.Plain.{Subthread}
+use Rattle.task_ast.specs.Plain.{tree_machine}
 use Rattle.task_ast.specs.Position.{body_at}
 use Rattle.task_ast.proofs.IssuedTables.{learnt_length}
 use Rattle.task_ast.proofs.PlainRuns.{count_law}

@@ -1,8 +1,8 @@
 -- What each call leaves of the run, and several calls one after another. A call leaves the run as it was, or makes one
 -- event, after which less is left. Calls are put together by what they leave: the run further on, a crew that is ready,
 -- the same work, and the posts of the run (Leaves); with these the next call begins.
-use Rattle.std.proofs.Common.{◌≡◌, inl, inr, ℕ, zero, suc, cond, length, slice_get, Contains, ◌<◌, ◌≤◌, Bool, true, false, List, [], ◌∷◌, ◌++◌, Option, Some, None, IsSome, is_some, refl, sym, ap, subst, ◌∙◌, arith, Result, Ok, Err}
-use Rattle.std.specs.Option.{option_or}
+use Rattle.std.proofs.Common.{◌≡◌, inl, inr, ℕ, zero, suc, cond, length, slice_get, Contains, ◌<◌, ◌≤◌, Bool, true, false, List, [], ◌∷◌, ◌++◌, Option, Some, None, IsSome, is_some, refl, sym, ap, subst, ◌∙◌, arith, Result, Ok, Err, nat_eq}
+use Rattle.std.specs.Option.{option_or, option_map_or}
 use Rattle.std.specs.Result.{OnOk, OnErr}
 use Rattle.std.proofs.lemmas.Bool.{cases_lt, false≢true}
 use Rattle.std.proofs.lemmas.List.Elements.{Contains-push, Contains-append_left}
@@ -10,7 +10,7 @@ use Rattle.gp_base.specs.declared.ending.End.{End}
 use Rattle.gp_base.specs.declared.journal.Event.{Event}
 use Rattle.gp_base.specs.declared.journal.Event.TheVariants as event
 use Rattle.gp_base.specs.meaning.Sinks.{Rose}
-use Rattle.task_ast.specs.meaning.Position.{last_below, is_of}
+use Rattle.task_ast.specs.meaning.Position.{last_below}
 use Rattle.task_ast.specs.meaning.Plain.{Subthread}
 use Rattle.dependence.specs.meaning.Restarts.{Dependence, is_due, is_live, least_struck, struck_next}
 use Rattle.dependence.specs.meaning.Journal.{Stage, restarted, MayPost, happens}
@@ -180,7 +180,7 @@ retired-quiet before after none gives =
 -- a thread's last position below the front is below it
 last-is_below : (run : List Subthread) (t p q : ℕ) → last_below run t p ≡ Some q → q < p
 last-is_below run t zero q e = absurd (cc e)
-last-is_below run t (suc p) q e = go (is_of t (slice_get run p)) e (last-is_below run t p q)
+last-is_below run t (suc p) q e = go (option_map_or (λ s. nat_eq s.thread t) (slice_get run p) false) e (last-is_below run t p q)
   where
     go : (b : Bool) → cond b (Some p) (last_below run t p) ≡ Some q → (last_below run t p ≡ Some q → q < p) → q < suc p
     go true f rest = let same : p ≡ q = cc f in omega arith

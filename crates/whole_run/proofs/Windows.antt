@@ -20,8 +20,10 @@ use Rattle.task_ast.specs.Members.{member_of}
 use Rattle.task_ast.specs.laws.Keeps.{AllName}
 use Rattle.task_ast.specs.meaning.Under.{is_under}
 use Rattle.task_ast.specs.Under.{NamesHeld}
-use Rattle.task_ast.specs.meaning.Table.{Table, numbers}
-use Rattle.task_ast.specs.meaning.Plain.{Subthread, foot_of, tree_machine}
+use Rattle.task_ast.specs.meaning.Table.{numbers}
+use Rattle.task_ast.specs.Table.{Table}
+use Rattle.task_ast.specs.meaning.Plain.{Subthread, foot_of}
+use Rattle.task_ast.specs.Plain.{tree_machine}
 use Rattle.task_ast.specs.Position.{threads_before}
 use Rattle.task_ast.specs.laws.Threads.{with_child}
 use Rattle.task_ast.specs.laws.Standing.{Stands}

@@ -7,7 +7,8 @@ use Rattle.gp_base.specs.declared.fault.Faults.{Faults}
 use Rattle.gp_base.specs.declared.journal.Restart.{Restart}
 use Rattle.gp_base.specs.declared.journal.Journal.{Journal}
 use Rattle.gp_base.specs.meaning.Sinks.{Rose}
-use Rattle.task_ast.specs.meaning.Plain.{Subthread, final_records}
+use Rattle.task_ast.specs.meaning.Plain.{Subthread}
+use Rattle.task_ast.specs.Plain.{final_records}
 use Rattle.dependence.specs.meaning.Restarts.{restarts}
 use Rattle.dependence.specs.meaning.Journal.{Stage, stage, Lawful, Complete}
 use Rattle.dependence.specs.meaning.Counts.{is_restart}

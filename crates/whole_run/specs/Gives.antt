@@ -12,9 +12,10 @@ use Rattle.task_ast.specs.meaning.State.{cell_value}
 use Rattle.task_ast.specs.declared.sync.Next.{Next}
 use Rattle.task_ast.specs.meaning.Repeat.{Done}
 use Rattle.task_ast.specs.meaning.Plain.{Subthread}
-use Rattle.task_ast.specs.meaning.Table.{Table, numbers, is_settle}
-use Rattle.task_ast.specs.meaning.Turn.{Turn, turn}
-use Rattle.task_ast.specs.meaning.Turn as turns
+use Rattle.task_ast.specs.meaning.Table.{numbers, is_settle}
+use Rattle.task_ast.specs.Table.{Table}
+use Rattle.task_ast.specs.Turn.{Turn, turn}
+use Rattle.task_ast.specs.Turn as turns
 use Rattle.task_ast.specs.laws.Standing.{Stands as StandsAt}
 use Rattle.task_ast.specs.meaning.Position.{last_below}
 use Rattle.dependence.specs.meaning.Restarts.{is_live, is_due, least_struck, NoneDue, NoneLive}

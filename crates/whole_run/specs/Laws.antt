@@ -5,7 +5,7 @@ use Rattle.gp_base.specs.declared.journal.Event.TheVariants as event
 use Rattle.task_ast.specs.declared.sync.SyncOp.TheVariants as sync
 use Rattle.task_ast.specs.meaning.State.{RegistersOf, number_at}
 use Rattle.task_ast.specs.meaning.Plain.{Subthread}
-use Rattle.task_ast.specs.meaning.Position.{before}
+use Rattle.task_ast.specs.Position.{before}
 use Rattle.subthread.specs.declared.task.Task.{Task}
 use Rattle.dependence.specs.meaning.Journal.{Allowed}
 use Rattle.whole_run.specs.View.{View, program_in, run_in, now, state_in, Stands, dependence_in}

@@ -2,7 +2,8 @@
 use Rattle.std.specs.Prelude.{◌≡◌, ◌⊎◌, ℕ, suc, List, ◌++◌, length, take, flat_map, codes, count_by}
 use Rattle.gp_base.specs.declared.journal.Journal.{Journal}
 use Rattle.gp_base.specs.declared.journal.Restart.{Restart}
-use Rattle.task_ast.specs.meaning.Plain.{Subthread, order}
+use Rattle.task_ast.specs.meaning.Plain.{Subthread}
+use Rattle.task_ast.specs.Plain.{order}
 use Rattle.dependence.specs.meaning.Restarts.{Dependence}
 use Rattle.dependence.specs.meaning.Journal.{stage, Lawful, Complete}
 use Rattle.dependence.specs.meaning.Runs.{dependence_of}

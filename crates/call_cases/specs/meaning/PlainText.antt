@@ -4,7 +4,8 @@ use Rattle.gp_base.specs.declared.journal.Restart.{Restart}
 use Rattle.dependence.specs.meaning.Restarts.{restarts}
 use Rattle.task_ast.specs.meaning.Names.{records_of}
 use Rattle.task_ast.specs.meaning.Layout.{cut}
-use Rattle.task_ast.specs.meaning.Plain.{Subthread, order, end, final_records}
+use Rattle.task_ast.specs.meaning.Plain.{Subthread}
+use Rattle.task_ast.specs.Plain.{order, end, final_records}
 use Rattle.call_cases.specs.meaning.Recovering.{recovering_by}
 use Rattle.call_cases.specs.meaning.Texts.{Ran}
 use Rattle.call_cases.specs.meaning.Work.{ToDo}

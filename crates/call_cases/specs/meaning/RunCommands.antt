@@ -9,7 +9,7 @@ use Rattle.command_line.specs.meaning.Words.{asked_by, asked_among}
 use Rattle.command_line.specs.declared.asked.Command.{Command}
 use Rattle.command_line.specs.declared.asked.Command.TheVariants.{Run, One, Check, Soak, Ckpt, Log}
 use Rattle.command_line.specs.declared.asked.Asked.{Asked}
-use Rattle.call_cases.specs.meaning.Work.{ToDo, runs, is_traced, makes_files, is_journalled}
+use Rattle.call_cases.specs.meaning.Work.{ToDo, runs, makes_files, is_journalled}
 use Rattle.call_cases.specs.meaning.InputFiles.{supplied_by}
 use Rattle.call_cases.specs.meaning.SoakFiles.{files_for}
 use Rattle.call_cases.specs.meaning.Texts.{run_text, run_soak}
@@ -42,7 +42,7 @@ work_text Log work = run_text (plain_ran work) (restarts_in work) (length work.f
 
 -- the trace of the journal, where one is asked for
 abbrev pub trace_for : Asked → Journal → List ℕ
-trace_for asked journal = if is_traced asked then trace_text journal else []
+trace_for asked journal = if asked.trace then trace_text journal else []
 
 -- A file that may be read for what the words ask for: the program's, that of the faults, and, where the program is run,
 -- those that it names, which a shelf that does not tell its files leaves open.

@@ -36,10 +36,6 @@ abbrev pub runs : Command → Bool
 runs Check = false
 runs command = true
 
--- the words ask for a trace
-abbrev pub is_traced : Asked → Bool
-is_traced asked = asked.trace
-
 -- what is to be done for what is asked, on this program, from these inputs and with these faults
 abbrev pub work_for : Asked → Program → Inputs → List Fault → ToDo
 work_for asked program inputs faults = record {
@@ -48,7 +44,7 @@ work_for asked program inputs faults = record {
   inputs = inputs;
   faults = faults;
   limits = asked.limits;
-  trace = is_traced asked;
+  trace = asked.trace;
 }
 
 -- the command makes its files itself

@@ -5,8 +5,9 @@ use Rattle.gp_base.specs.declared.feed.Inputs.{Inputs}
 use Rattle.task_ast.specs.declared.effect.Effect.{Effect}
 use Rattle.task_ast.specs.meaning.Tree.{Program}
 use Rattle.task_ast.specs.meaning.Effect.{effect}
-use Rattle.task_ast.specs.meaning.Plain.{Subthread, order}
-use Rattle.task_ast.specs.meaning.Position.{before}
+use Rattle.task_ast.specs.meaning.Plain.{Subthread}
+use Rattle.task_ast.specs.Plain.{order}
+use Rattle.task_ast.specs.Position.{before}
 
 module _ (program : Program) (inputs : Inputs) (limits : Limits) where
   -- what a subthread leaves that stands at this position of the plain run

@@ -1,5 +1,6 @@
 -- What the plain run's order says of conflicts, restarts and journals.
-use Rattle.std.specs.Prelude.{ℕ, Bool, false, List, length, map, Option, Some, None, slice_get}
+use Rattle.std.specs.Prelude.{ℕ, false, List, length, map, slice_get}
+use Rattle.std.specs.Option.{option_and_then, option_map_or}
 use Rattle.gp_base.specs.declared.fault.Fault.{Fault}
 use Rattle.gp_base.specs.declared.journal.Restart.{Restart}
 use Rattle.gp_base.specs.declared.footprint.Footprint.{Footprint}
@@ -14,16 +15,6 @@ use Rattle.dependence.specs.meaning.Restarts.{Dependence, restarts}
 abbrev pub feet_of : List Subthread → List Footprint
 feet_of run = map foot_of run
 
--- the position of the thread's subthread before the one that may be there
-abbrev pub before_one : List Subthread → ℕ → Option Subthread → Option ℕ
-before_one run p None = None
-before_one run p (Some s) = last_below run s.thread p
-
--- whether the subthread that may be there begins with a settle
-abbrev pub settles_one : Option Subthread → Bool
-settles_one None = false
-settles_one (Some s) = is_settle s.begins.sync
-
 -- what the rules of restarts and journals read of a run
 abbrev pub dependence_of : List Subthread → Dependence
 dependence_of run =
@@ -31,8 +22,8 @@ dependence_of run =
       count = length run;
       clash = clash_in (feet_of run);
       redo = dependents (clash_in (feet_of run));
-      before = λ p. before_one run p (slice_get run p);
-      settles = λ p. settles_one (slice_get run p);
+      before = λ p. option_and_then (λ s. last_below run s.thread p) (slice_get run p);
+      settles = λ p. option_map_or (λ s. is_settle s.begins.sync) (slice_get run p) false;
       block = λ p. p;
     }
 

@@ -5,9 +5,9 @@ use Rattle.gp_base.specs.declared.ending.End.TheVariants.{Finished, Stuck, Spent
 use Rattle.gp_base.specs.declared.feed.Inputs.{Inputs}
 use Rattle.gp_base.specs.declared.limits.Limits.{Limits}
 use Rattle.task_ast.specs.meaning.Tree.{Name, Program}
-use Rattle.task_ast.specs.meaning.Table.{Table}
-use Rattle.task_ast.specs.meaning.Plain.{order, end}
-use Rattle.task_ast.specs.meaning.Position.{before}
+use Rattle.task_ast.specs.Table.{Table}
+use Rattle.task_ast.specs.Plain.{order, end}
+use Rattle.task_ast.specs.Position.{before}
 use Rattle.restart_log.specs.meaning.Tail.{why_word}
 use Rattle.run_views.specs.meaning.Deadlocks.{deadlock_text}
 use Rattle.call_cases.specs.meaning.Work.{ToDo}

@@ -3,14 +3,15 @@ use Rattle.std.specs.Prelude.{◌≡◌, ℕ, ◌≤◌, ◌<◌, List, length, 
 use Rattle.gp_base.specs.declared.ending.End.{End}
 use Rattle.task_ast.specs.meaning.Names.{records_of, locks_of, cells_in}
 use Rattle.task_ast.specs.meaning.State.{State}
-use Rattle.task_ast.specs.meaning.Table.{Table, learning}
+use Rattle.task_ast.specs.Table.{Table, learning}
 use Rattle.task_ast.specs.meaning.Layout.{layout}
 use Rattle.task_ast.specs.Under.{KeepsToLocks}
 use Rattle.task_ast.specs.Reached.{Reached}
 use Rattle.task_ast.specs.meaning.Repeat.{Goes, Ends}
 use Rattle.task_ast.specs.laws.Ends.{IsWhole}
 use Rattle.task_ast.specs.laws.Following.{InStep}
-use Rattle.task_ast.specs.meaning.Plain.{Subthread, Plain, PlainOf, tree_machine, move}
+use Rattle.task_ast.specs.meaning.Plain.{Subthread}
+use Rattle.task_ast.specs.Plain.{Plain, PlainOf, tree_machine, move}
 use Rattle.task_ast.specs.Position.{from_in, body_by}
 use Rattle.lock_checker.specs.Soundness.{LocksStand}
 use Rattle.task_code.specs.Reading.{Place}

@@ -1,12 +1,11 @@
 -- Subthreads that began beside one another. Each is out with a crew before what those before it leave is in the data.
 use Rattle.std.specs.Prelude.{◌≡◌, ◌≢◌, ◌⊎◌, ⊤, ℕ, pos, ◌≤◌, ◌<◌, Bool, false, ◌||◌, List, [], ◌∷◌, ◌++◌, length, map, Contains, Some, None, slice_get, unwrap_or}
+use Rattle.task_ast.specs.Table.{owner_in, Table, next_of}
 use Rattle.task_ast.specs.declared.sync.Next.{Next}
 use Rattle.task_ast.specs.declared.sync.SyncOp.TheVariants as sync
 use Rattle.task_ast.specs.meaning.Control.{Point}
 use Rattle.task_ast.specs.meaning.Names.{records_of, locks_of, cells_in}
 use Rattle.task_ast.specs.meaning.State.{State}
-use Rattle.task_ast.specs.meaning.Table.{Table, next_of}
-use Rattle.task_ast.specs.meaning.Turn.{owner_in}
 use Rattle.task_ast.specs.meaning.Layout.{layout}
 use Rattle.task_ast.specs.SyncOps.{joined_by}
 use Rattle.task_ast.specs.Under.{KeepsToLocks}
@@ -14,7 +13,8 @@ use Rattle.task_ast.specs.Reached.{Reached}
 use Rattle.task_ast.specs.meaning.Repeat.{Goes}
 use Rattle.task_ast.specs.laws.Less.{KnowsLess}
 use Rattle.task_ast.specs.laws.Standing.{PassesTo}
-use Rattle.task_ast.specs.meaning.Plain.{Subthread, Plain, Machine, tree_machine, move, point_by}
+use Rattle.task_ast.specs.meaning.Plain.{Subthread}
+use Rattle.task_ast.specs.Plain.{Plain, Machine, tree_machine, move, point_by}
 use Rattle.task_ast.specs.Position.{from_in, body_by}
 use Rattle.dependence.specs.meaning.Dependents.{is_member}
 use Rattle.task_code.specs.Reading.{Place}

@@ -4,7 +4,8 @@ use Rattle.std.specs.Io.KnownBytes.{Appends}
 use Rattle.gp_base.specs.declared.ending.End.{End}
 use Rattle.task_ast.specs.meaning.Repeat.{steps, state_after}
 use Rattle.task_ast.specs.meaning.Table.{numbers}
-use Rattle.task_ast.specs.meaning.Plain.{Subthread, Plain, ending_of, move}
+use Rattle.task_ast.specs.meaning.Plain.{Subthread, ending_of}
+use Rattle.task_ast.specs.Plain.{Plain, move}
 use Rattle.record_store.specs.Stored.{state_of}
 use Rattle.restart_log.specs.meaning.Lines.{printed}
 use Rattle.retirement_log.specs.meaning.Rows.{Retirement}

@@ -2,7 +2,7 @@
 use Rattle.std.specs.Prelude.{◌≡◌, pos, false, [], map, slice_set}
 use Rattle.task_ast.specs.meaning.State.{RegistersOf}
 use Rattle.task_ast.specs.meaning.Effect.{after}
-use Rattle.task_ast.specs.meaning.Table.{learning}
+use Rattle.task_ast.specs.Table.{learning}
 use Rattle.task_ast.specs.SyncOps.{joined_by}
 use Rattle.record_store.specs.Given.{joined_value}
 use Rattle.record_store.specs.Lent.{lock_in, marked, whole_effect}

@@ -1,6 +1,7 @@
 -- Rows that are replayed.
 use Rattle.std.specs.Prelude.{Option}
-use Rattle.task_ast.specs.meaning.Plain.{Subthread, Plain}
+use Rattle.task_ast.specs.meaning.Plain.{Subthread}
+use Rattle.task_ast.specs.Plain.{Plain}
 use Rattle.subthread.specs.Tasks.{program_in}
 use Rattle.retirement_log.specs.meaning.Rows.{Retirement}
 use Rattle.gp_resume.specs.declared.course.Plan.{Plan}

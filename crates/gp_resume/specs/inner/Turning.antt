@@ -4,9 +4,9 @@ use Rattle.task_ast.specs.declared.sync.SyncOp.{SyncOp}
 use Rattle.task_ast.specs.declared.sync.SyncOp.TheVariants as sync
 use Rattle.task_ast.specs.declared.sync.Next.{Next}
 use Rattle.task_ast.specs.meaning.State.{State, RegistersOf, number_at}
-use Rattle.task_ast.specs.meaning.Table.{owned}
+use Rattle.task_ast.specs.Table.{owned}
 use Rattle.task_ast.specs.laws.Standing.{PassesTo}
-use Rattle.task_ast.specs.meaning.Plain.{Machine, points_with}
+use Rattle.task_ast.specs.Plain.{Machine, points_with}
 use Rattle.task_code.specs.Reading.{Place}
 use Rattle.record_store.specs.Stored.{state_of}
 use Rattle.subthread.specs.declared.task.Work.{Work}

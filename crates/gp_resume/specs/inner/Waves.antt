@@ -1,7 +1,8 @@
 -- What goes out together, and what of it has come back.
 use Rattle.std.specs.Prelude.{◌≡◌, ◌⊎◌, ⊤, false, ℕ, ◌+◌, ◌<◌, List, [], ◌∷◌, ◌++◌, length, map, Contains, Option, Some, None, slice_get}
 use Rattle.std.specs.Io.KnownBytes.{Appends}
-use Rattle.task_ast.specs.meaning.Plain.{Subthread, Plain}
+use Rattle.task_ast.specs.meaning.Plain.{Subthread}
+use Rattle.task_ast.specs.Plain.{Plain}
 use Rattle.restart_log.specs.meaning.Lines.{printed}
 use Rattle.subthread.specs.declared.task.Work.{Work}
 use Rattle.subthread.specs.declared.task.Task.{Task}

@@ -15,7 +15,8 @@ use Rattle.task_ast.specs.meaning.Effect.{after}
 use Rattle.task_ast.specs.meaning.Layout.{layout}
 use Rattle.task_ast.specs.meaning.Under.{is_under}
 use Rattle.task_ast.specs.meaning.Repeat.{Move, Goes, Ends}
-use Rattle.task_ast.specs.meaning.Plain.{Subthread, Plain, task_at, opening, move}
+use Rattle.task_ast.specs.meaning.Plain.{Subthread, task_at}
+use Rattle.task_ast.specs.Plain.{Plain, opening, move}
 use Rattle.retirement_log.specs.meaning.Rows.{Retirement}
 
 -- the cells that a row names, each with its value

@@ -9,7 +9,8 @@ use Rattle.task_ast.specs.meaning.State.{cell_value}
 use Rattle.task_ast.specs.meaning.Repeat.{steps, state_after}
 use Rattle.task_ast.specs.meaning.Table.{numbers}
 use Rattle.task_ast.specs.meaning.Layout.{cut}
-use Rattle.task_ast.specs.meaning.Plain.{Subthread, Plain, ending_of, move}
+use Rattle.task_ast.specs.meaning.Plain.{Subthread, ending_of}
+use Rattle.task_ast.specs.Plain.{Plain, move}
 use Rattle.restart_log.specs.meaning.Lines.{printed}
 use Rattle.restart_log.specs.meaning.Tail.{tail_text}
 use Rattle.retirement_log.specs.meaning.Rows.{Retirement}

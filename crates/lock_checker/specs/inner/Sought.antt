@@ -1,7 +1,7 @@
 -- What is looked for in an expression, by the definitions that say whether it stands there.
 use Rattle.std.specs.Prelude.{Bool}
 use Rattle.task_ast.specs.meaning.Tree.{Expr, Links}
-use Rattle.task_ast.specs.meaning.Declarations.{has_unknown, have_unknown, has_data, have_data, has_data_index, have_data_index}
+use Rattle.task_ast.specs.meaning.Declarations.{has_unknown, has_data, has_data_index, some_member, is_undeclared, is_data_variable, is_at_data}
 use Rattle.lock_checker.specs.declared.expressions.Sought.{Sought}
 use Rattle.lock_checker.specs.declared.expressions.Sought.TheVariants.{Unknown, Data, DataIndex}
 use Rattle.lock_checker.specs.inner.Scopes.{scope_of, IsScope}
@@ -19,9 +19,9 @@ found_in DataIndex e = has_data_index e
 
 -- the same, among the operands of a chain after its first
 abbrev pub found_among : Sought → Links → Bool
-found_among (Unknown scope) links = have_unknown (scope_of scope.now) links
-found_among Data links = have_data links
-found_among DataIndex links = have_data_index links
+found_among (Unknown scope) links = some_member (is_undeclared (scope_of scope.now)) links
+found_among Data links = some_member is_data_variable links
+found_among DataIndex links = some_member is_at_data links
 
 -- what is looked for in the indexes of a cell
 abbrev pub inside_cell : Sought → Sought

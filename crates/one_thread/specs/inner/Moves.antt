@@ -11,7 +11,8 @@ use Rattle.task_ast.specs.declared.sync.Next.{Next}
 use Rattle.task_ast.specs.meaning.Footprint.{Named, joined_registers, child_registers}
 use Rattle.task_ast.specs.meaning.Repeat.{Goes, Ends, steps, state_after}
 use Rattle.task_ast.specs.meaning.Table.{owned_from}
-use Rattle.task_ast.specs.meaning.Plain.{Subthread, Plain, move, order, last_state}
+use Rattle.task_ast.specs.meaning.Plain.{Subthread}
+use Rattle.task_ast.specs.Plain.{Plain, move, order, last_state}
 use Rattle.task_ast.specs.View.{plain_program}
 use Rattle.one_thread.specs.declared.work.Told.{Told}
 use Rattle.one_thread.specs.declared.threads.Run.{Run}

@@ -10,8 +10,9 @@ use Rattle.task_ast.specs.declared.sync.Next.{Next}
 use Rattle.task_ast.specs.meaning.Tree.{Name}
 use Rattle.task_ast.specs.meaning.Names.{locks_of, records_of, feeds_of, cells_in, registers_of}
 use Rattle.task_ast.specs.meaning.State.{RegistersOf, number_at, cell_value}
-use Rattle.task_ast.specs.meaning.Table.{learning}
-use Rattle.task_ast.specs.meaning.Plain.{Plain, task_at, start_point}
+use Rattle.task_ast.specs.Table.{learning}
+use Rattle.task_ast.specs.meaning.Plain.{task_at, start_point}
+use Rattle.task_ast.specs.Plain.{Plain}
 use Rattle.task_ast.specs.View.{plain_task, plain_program}
 use Rattle.one_thread.specs.declared.walk.Walk.{Walk}
 use Rattle.one_thread.specs.declared.work.Told.{Told}

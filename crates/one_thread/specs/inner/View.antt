@@ -1,8 +1,9 @@
 -- The table of the code as the thread table that definitions see.
 use Rattle.std.specs.Prelude.{◌≡◌, ℕ, zero, suc, true, ◌≤◌, length, map, Option, Some, None, nat_lt}
 use Rattle.task_ast.specs.meaning.Repeat.{Again, More, Done}
-use Rattle.task_ast.specs.meaning.Table as plain
-use Rattle.task_ast.specs.meaning.Turn as there
+use Rattle.task_ast.specs.meaning.Table as meaning
+use Rattle.task_ast.specs.Table as plain
+use Rattle.task_ast.specs.Turn as there
 use Rattle.ended_seats.specs.Idle.{IdleFrom}
 use Rattle.one_thread.specs.declared.seats.Stand.{Stand}
 use Rattle.one_thread.specs.declared.seats.Stand.TheVariants as stands
@@ -11,10 +12,10 @@ use Rattle.one_thread.specs.declared.seats.Table.{Table}
 use Rattle.one_thread.specs.declared.turns.Turn.{Turn}
 use Rattle.one_thread.specs.declared.turns.Turn.TheVariants as here
 
-abbrev pub stand_view : Stand → plain.Stand
-stand_view stands.Away = plain.Away
-stand_view stands.Waits = plain.Waits
-stand_view stands.Released = plain.Released
+abbrev pub stand_view : Stand → meaning.Stand
+stand_view stands.Away = meaning.Away
+stand_view stands.Waits = meaning.Waits
+stand_view stands.Released = meaning.Released
 
 abbrev pub seat_of : Seat → plain.Seat
 seat_of seat = record { next = seat.next; last = seat.last; passed = seat.passed; stand = stand_view seat.stand }

@@ -7,7 +7,8 @@ use Rattle.task_ast.specs.declared.sync.Next.{Next}
 use Rattle.task_ast.specs.declared.tree.Head.{Head}
 use Rattle.task_ast.specs.meaning.Tree.{Name}
 use Rattle.task_ast.specs.meaning.Names.{barriers_of}
-use Rattle.task_ast.specs.meaning.Table.{Table, meets}
+use Rattle.task_ast.specs.meaning.Table.{meets}
+use Rattle.task_ast.specs.Table.{Table}
 use Rattle.run_views.specs.meaning.Waits.{waits_text}
 
 -- those of threads that stand at a barrier, where the first of them has this number

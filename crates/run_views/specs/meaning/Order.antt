@@ -1,5 +1,5 @@
 -- The lines that show the order of a run: one for each subthread, and one for the end.
-use Rattle.std.specs.Prelude.{ℕ, suc, ◌-◌, List, [], ◌∷◌, ◌++◌, Option, Some, None, length, codes, decimal, flat_map, nat_lt, slice_get, unwrap_or, if◌then◌else◌}
+use Rattle.std.specs.Prelude.{ℕ, suc, ◌-◌, List, [], ◌∷◌, ◌++◌, Option, Some, None, length, codes, decimal, flat_map, nat_lt, slice_get, unwrap_or, if◌then◌else◌, map}
 use Rattle.std.specs.Fmt.{signed_decimal}
 use Rattle.gp_base.specs.declared.ending.End.{End}
 use Rattle.gp_base.specs.declared.ending.End.TheVariants.{Finished, Stuck, Spent}
@@ -7,7 +7,7 @@ use Rattle.task_ast.specs.declared.sync.SyncOp.{SyncOp}
 use Rattle.task_ast.specs.declared.sync.SyncOp.TheVariants as sync
 use Rattle.task_ast.specs.declared.tree.Head.{Head}
 use Rattle.task_ast.specs.meaning.Tree.{Name}
-use Rattle.task_ast.specs.meaning.Names.{firsts, locks_of, barriers_of}
+use Rattle.task_ast.specs.meaning.Names.{locks_of, barriers_of}
 use Rattle.task_ast.specs.meaning.Plain.{Subthread}
 use Rattle.restart_log.specs.meaning.Tail.{why_word}
 
@@ -22,7 +22,7 @@ cell_name (array ∷ arrays) cell = if nat_lt cell array.1 then cell_text array.
 
 -- a barrier by its number
 abbrev pub barrier_name : List (Name × ℕ) → (barrier : ℕ) → List ℕ
-barrier_name barriers barrier = unwrap_or (slice_get (firsts barriers) barrier) []
+barrier_name barriers barrier = unwrap_or (slice_get (map (λ n. n.0) barriers) barrier) []
 
 -- the number of a thread, where there is one
 abbrev pub thread_text : Option ℕ → List ℕ

@@ -3,7 +3,7 @@ use Rattle.std.specs.Prelude.{ℕ, List, ◌++◌, codes}
 use Rattle.gp_base.specs.declared.feed.Inputs.{Inputs}
 use Rattle.gp_base.specs.declared.limits.Limits.{Limits}
 use Rattle.task_ast.specs.meaning.Tree.{Program}
-use Rattle.task_ast.specs.meaning.Plain.{order, end, last_state}
+use Rattle.task_ast.specs.Plain.{order, end, last_state}
 use Rattle.run_views.specs.meaning.Order.{order_lines, end_line}
 use Rattle.run_views.specs.meaning.Deadlocks.{deadlock_text}
 

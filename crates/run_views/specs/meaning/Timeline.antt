@@ -14,7 +14,8 @@ use Rattle.task_ast.specs.declared.sync.SyncOp.TheVariants as sync
 use Rattle.task_ast.specs.declared.tree.Head.{Head}
 use Rattle.task_ast.specs.meaning.Names.{locks_of, barriers_of}
 use Rattle.task_ast.specs.meaning.Tree.{Program}
-use Rattle.task_ast.specs.meaning.Plain.{Subthread, order, end}
+use Rattle.task_ast.specs.meaning.Plain.{Subthread}
+use Rattle.task_ast.specs.Plain.{order, end}
 use Rattle.dependence.specs.meaning.Dependents.{is_member}
 use Rattle.dependence.specs.meaning.Restarts.{redoes, attempt_of}
 use Rattle.dependence.specs.meaning.Runs.{restarts_of}

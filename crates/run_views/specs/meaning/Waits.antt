@@ -1,5 +1,5 @@
 -- Who waits for what where no thread can go on: a line for each thread that has not ended.
-use Rattle.std.specs.Prelude.{ℕ, suc, ◌==◌, List, [], ◌∷◌, ◌++◌, Option, Some, None, codes, decimal, if◌then◌else◌}
+use Rattle.std.specs.Prelude.{ℕ, suc, ◌==◌, List, [], ◌∷◌, ◌++◌, Option, Some, None, codes, decimal, if◌then◌else◌, unwrap_or, slice_get}
 use Rattle.std.specs.Fmt.{signed_decimal}
 use Rattle.task_ast.specs.declared.sync.SyncOp.{SyncOp}
 use Rattle.task_ast.specs.declared.sync.SyncOp.TheVariants as sync
@@ -7,7 +7,6 @@ use Rattle.task_ast.specs.declared.sync.Next.{Next}
 use Rattle.task_ast.specs.declared.tree.Head.{Head}
 use Rattle.task_ast.specs.meaning.Names.{locks_of, barriers_of}
 use Rattle.task_ast.specs.meaning.Table.{is_end}
-use Rattle.task_ast.specs.meaning.Turn.{owner_in}
 use Rattle.run_views.specs.meaning.Order.{cell_name, barrier_name}
 
 abbrev pub other_text : (thread : ℕ) → List ℕ
@@ -20,7 +19,7 @@ holder_text t (Some u) = if t == u then codes ", which it holds itself" else oth
 
 -- what thread t waits for; where no thread can go on, it is one of the first three
 abbrev pub cause_text : List Head → (owners : List (Option ℕ)) → (t : ℕ) → SyncOp → List ℕ
-cause_text heads owners t (sync.Lock l) = codes "lock " ++ cell_name (locks_of heads) l ++ holder_text t (owner_in owners l)
+cause_text heads owners t (sync.Lock l) = codes "lock " ++ cell_name (locks_of heads) l ++ holder_text t (unwrap_or (slice_get owners l) None)
 cause_text heads owners t (sync.Join h) = codes "thread " ++ signed_decimal h ++ codes " to end"
 cause_text heads owners t (sync.Barrier b) = codes "barrier " ++ barrier_name (barriers_of heads) b
 cause_text heads owners t _ = codes "its turn"

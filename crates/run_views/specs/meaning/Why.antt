@@ -9,7 +9,8 @@ use Rattle.gp_base.specs.declared.limits.Limits.{Limits}
 use Rattle.task_ast.specs.declared.tree.Head.{Head}
 use Rattle.task_ast.specs.meaning.Tree.{Program}
 use Rattle.task_ast.specs.meaning.Names.{records_of, cells_in}
-use Rattle.task_ast.specs.meaning.Plain.{Subthread, order}
+use Rattle.task_ast.specs.meaning.Plain.{Subthread}
+use Rattle.task_ast.specs.Plain.{order}
 use Rattle.dependence.specs.meaning.Restarts.{redoes, attempt_of}
 use Rattle.dependence.specs.meaning.Runs.{restarts_of}
 use Rattle.run_views.specs.declared.links.Link.{Link}

@@ -5,8 +5,8 @@ use Rattle.task_ast.specs.Body.{after_turn}
 use Rattle.task_ast.specs.meaning.Control.{Setting, Point, step, size, tree_body}
 use Rattle.task_ast.specs.meaning.Repeat.{steps, state_after, go_on}
 use Rattle.task_ast.specs.Repeat.{step_of}
-use Rattle.task_ast.specs.meaning.Table.{Table}
-use Rattle.task_ast.specs.meaning.Turn.{Ended, turn, turns_left, next_issue}
+use Rattle.task_ast.specs.Table.{Table}
+use Rattle.task_ast.specs.Turn.{Ended, turn, turns_left, next_issue}
 use Rattle.task_ast.specs.meaning.Tree.{Name, Expr, Program}
 use Rattle.gp_base.specs.declared.limits.Limits.{Limits}
 use Rattle.gp_base.specs.declared.feed.Inputs.{Inputs}
@@ -16,7 +16,7 @@ use Rattle.task_ast.specs.meaning.Value.{value}
 use Rattle.task_ast.specs.meaning.Action.{term}
 use Rattle.task_ast.specs.meaning.Effect.{term_value}
 use Rattle.task_ast.specs.meaning.Declarations.{has_data_index}
-use Rattle.task_ast.specs.meaning.Plain.{Plain, move}
+use Rattle.task_ast.specs.Plain.{Plain, move}
 
 -- an expression without data in an index has the value of its term
 abbrev pub ValueLaw : Type 0

@@ -6,10 +6,10 @@ use Rattle.gp_base.specs.declared.ending.End.{End}
 use Rattle.task_ast.specs.declared.sync.Next.{Next}
 use Rattle.task_ast.specs.meaning.Tree.{Program}
 use Rattle.task_ast.specs.meaning.Repeat.{steps, state_after}
-use Rattle.task_ast.specs.meaning.Table.{Table, next_of}
-use Rattle.task_ast.specs.meaning.Turn.{Ended, next_issue}
+use Rattle.task_ast.specs.Table.{Table, next_of}
+use Rattle.task_ast.specs.Turn.{Ended, next_issue}
 use Rattle.task_ast.specs.Reached.{Reached}
-use Rattle.task_ast.specs.meaning.Plain.{Plain, opening, move, order, last_state}
+use Rattle.task_ast.specs.Plain.{Plain, opening, move, order, last_state}
 
 -- a table of which all is known: no more was issued than its limit says, and each thread's next synchronisation is there
 pub record IsWhole (table : Table) : Type 0 where

@@ -12,7 +12,7 @@ use Rattle.task_ast.specs.meaning.Repeat.{steps, state_after}
 use Rattle.task_ast.specs.declared.effect.Effect.{Effect}
 use Rattle.task_ast.specs.meaning.Effect.{effect}
 use Rattle.task_ast.specs.Damage.{damaged}
-use Rattle.task_ast.specs.meaning.Plain.{Plain, move}
+use Rattle.task_ast.specs.Plain.{Plain, move}
 use Rattle.task_ast.specs.Fold.{fold}
 use Rattle.task_ast.specs.Members.{member_in}
 

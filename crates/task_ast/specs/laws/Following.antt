@@ -9,8 +9,8 @@ use Rattle.task_ast.specs.meaning.Action.{Action}
 use Rattle.task_ast.specs.meaning.Body.{Step, Silent, Iteration, Act, Stop, Body}
 use Rattle.task_ast.specs.meaning.Tree.{Program}
 use Rattle.task_ast.specs.meaning.State.{State}
-use Rattle.task_ast.specs.meaning.Table.{next_of}
-use Rattle.task_ast.specs.meaning.Plain.{PlainOf, Machine, point_by, order_by, before_by, last_by, end_by}
+use Rattle.task_ast.specs.Table.{next_of}
+use Rattle.task_ast.specs.Plain.{PlainOf, Machine, point_by, order_by, before_by, last_by, end_by}
 
 module _ {P Q : Type 0} (Stands : P → Q → Type 0) where
   -- the two steps do the same

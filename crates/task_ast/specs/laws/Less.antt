@@ -3,8 +3,9 @@ use Rattle.std.specs.Prelude.{◌≡◌, ◌⊎◌, ℕ, ◌<◌, ⊤, List, [],
 use Rattle.gp_base.specs.declared.ending.End.{End}
 use Rattle.task_ast.specs.declared.sync.Next.{Next}
 use Rattle.task_ast.specs.meaning.Repeat.{Again, More, Done}
-use Rattle.task_ast.specs.meaning.Table.{Away, Seat, Table, next_of}
-use Rattle.task_ast.specs.meaning.Turn.{Turn, Issue, Needs, Ended, turn, next_issue}
+use Rattle.task_ast.specs.meaning.Table.{Away}
+use Rattle.task_ast.specs.Table.{Seat, Table, next_of}
+use Rattle.task_ast.specs.Turn.{Turn, Issue, Needs, Ended, turn, next_issue}
 use Rattle.task_ast.specs.Reached.{Reached}
 
 -- the next synchronisation is unknown, so the thread has not arrived at it

@@ -6,11 +6,12 @@ use Rattle.task_ast.specs.meaning.Tree.{Program}
 use Rattle.task_ast.specs.meaning.Effect.{effect}
 use Rattle.task_ast.specs.Fold.{fold}
 use Rattle.task_ast.specs.Members.{member_in}
-use Rattle.task_ast.specs.meaning.Table.{last_in}
-use Rattle.task_ast.specs.meaning.Turn.{Ended, next_issue}
-use Rattle.task_ast.specs.meaning.Plain.{Subthread, tree_machine, opening, order, last_state, end}
-use Rattle.task_ast.specs.meaning.Position.{last_below, before}
-use Rattle.task_ast.specs.Position.{LeftBy, IsStep, IsForked, threads_before, SettlesAlike, IsSameControl}
+use Rattle.task_ast.specs.Table.{last_in}
+use Rattle.task_ast.specs.Turn.{Ended, next_issue}
+use Rattle.task_ast.specs.meaning.Plain.{Subthread}
+use Rattle.task_ast.specs.Plain.{tree_machine, opening, order, last_state, end}
+use Rattle.task_ast.specs.meaning.Position.{last_below}
+use Rattle.task_ast.specs.Position.{before, LeftBy, IsStep, IsForked, threads_before, SettlesAlike, IsSameControl}
 
 -- each subthread of the order leads from the run before its position to the run before the next one
 abbrev pub StepLaw : Type 0

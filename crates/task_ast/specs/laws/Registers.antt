@@ -1,8 +1,8 @@
 -- Control variables and registers: what reads them, and what sets them by name.
-use Rattle.std.specs.Prelude.{◌≡◌, ◌≤◌, ℕ, ℤ, false, List, length, slice_set, IsFalse}
+use Rattle.std.specs.Prelude.{◌≡◌, ◌≤◌, ℕ, ℤ, false, List, length, slice_set, IsFalse, map}
 use Rattle.task_ast.specs.declared.env.Env.{Env}
 use Rattle.task_ast.specs.meaning.Tree.{Name, Expr}
-use Rattle.task_ast.specs.meaning.Names.{is_among, slot, firsts}
+use Rattle.task_ast.specs.meaning.Names.{is_among, slot}
 use Rattle.task_ast.specs.Names.{seconds}
 use Rattle.task_ast.specs.meaning.Declarations.{has_data}
 use Rattle.task_ast.specs.meaning.Value.{value}
@@ -17,17 +17,17 @@ ControlValueLaw =
 abbrev pub FirstEntryLaw : Type 0
 FirstEntryLaw =
     (names : List (Name × ℤ)) (x : Name) (v : ℤ)
-    → (firsts (with_value names x v) ≡ firsts names)
-    × (seconds (with_value names x v) ≡ slice_set (seconds names) (slot (firsts names) x) v)
+    → (map (λ n. n.0) (with_value names x v) ≡ map (λ n. n.0) names)
+    × (seconds (with_value names x v) ≡ slice_set (seconds names) (slot (map (λ n. n.0) names) x) v)
 
 -- setting a variable by its number leaves the names, and the number of a name is that of its first entry
 abbrev pub NumberLaw : Type 0
 NumberLaw =
     (names : List (Name × ℤ)) (k : ℕ) (v : ℤ)
-    → (firsts (with_number names k v) ≡ firsts names) × (seconds (with_number names k v) ≡ slice_set (seconds names) k v)
+    → (map (λ n. n.0) (with_number names k v) ≡ map (λ n. n.0) names) × (seconds (with_number names k v) ≡ slice_set (seconds names) k v)
 
 abbrev pub SlotLaw : Type 0
-SlotLaw = (names : List (Name × ℤ)) (x : Name) (v : ℤ) → with_number names (slot (firsts names) x) v ≡ with_value names x v
+SlotLaw = (names : List (Name × ℤ)) (x : Name) (v : ℤ) → with_number names (slot (map (λ n. n.0) names) x) v ≡ with_value names x v
 
 -- a write to a register that isn't declared changes nothing
 abbrev pub UndeclaredLaw : Type 0

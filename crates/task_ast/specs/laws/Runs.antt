@@ -1,14 +1,15 @@
 -- The plain run is the run of the general turn over the points of the tree.
-use Rattle.std.specs.Prelude.{◌≡◌, ℕ, ◌<◌, List, map, length, Option, Some}
+use Rattle.std.specs.Prelude.{◌≡◌, ℕ, ◌<◌, map, length, Some}
 use Rattle.gp_base.specs.declared.limits.Limits.{Limits}
 use Rattle.gp_base.specs.declared.feed.Inputs.{Inputs}
 use Rattle.gp_base.specs.declared.ending.End.{End}
 use Rattle.task_ast.specs.meaning.Tree.{Program}
 use Rattle.task_ast.specs.meaning.Names.{barriers_of}
 use Rattle.task_ast.specs.meaning.Repeat.{Move, Goes, Ends}
-use Rattle.task_ast.specs.meaning.Table.{Seat, Table}
-use Rattle.task_ast.specs.meaning.Plain.{Subthread, Plain, move, order, end, final_records}
-use Rattle.task_ast.specs.meaning.Position.{before}
+use Rattle.task_ast.specs.Table.{Seat, Table}
+use Rattle.task_ast.specs.meaning.Plain.{Subthread}
+use Rattle.task_ast.specs.Plain.{Plain, move, order, end, final_records}
+use Rattle.task_ast.specs.Position.{before}
 use Rattle.task_ast.specs.meaning.Run.{Thread, Run, plain_opening, plain_move, plain_order, plain_before, plain_end, plain_records}
 
 -- the seat of a thread

@@ -6,13 +6,14 @@ use Rattle.gp_base.specs.declared.ending.End.{End}
 use Rattle.task_ast.specs.declared.sync.Next.{Next}
 use Rattle.task_ast.specs.meaning.Tree.{Program}
 use Rattle.task_ast.specs.meaning.Repeat.{Again, More, Done}
-use Rattle.task_ast.specs.meaning.Table.{Table, next_of, last_in, learning, owned}
-use Rattle.task_ast.specs.meaning.Turn.{Turn, Issue, Needs, Ended, turn, next_issue}
+use Rattle.task_ast.specs.Table.{Table, next_of, last_in, learning, owned}
+use Rattle.task_ast.specs.Turn.{Turn, Issue, Needs, Ended, turn, next_issue}
 use Rattle.task_ast.specs.Reached.{Reached}
 use Rattle.task_ast.specs.laws.Less.{KnowsLess, IssuesAlike}
-use Rattle.task_ast.specs.meaning.Plain.{Subthread, Machine, before_by, order_by, end_by, tree_machine, order}
-use Rattle.task_ast.specs.meaning.Position.{last_below, before}
-use Rattle.task_ast.specs.Position.{LeftBy, body_at}
+use Rattle.task_ast.specs.meaning.Plain.{Subthread}
+use Rattle.task_ast.specs.Plain.{Machine, before_by, order_by, end_by, tree_machine, order}
+use Rattle.task_ast.specs.meaning.Position.{last_below}
+use Rattle.task_ast.specs.Position.{before, LeftBy, body_at}
 
 -- the tables that passes lead to
 pub data PassesTo (start : Table) : Table → Type 0 where

@@ -1,12 +1,14 @@
 -- What a turn leaves of the threads.
 use Rattle.std.specs.Prelude.{◌≡◌, ℕ, suc, ◌<◌, ◌≤◌, ⊤, pos, negsuc, true, cond, Option, Some, None, length}
+use Rattle.gp_base.specs.declared.limits.TheConstants.{MOST_THREADS}
 use Rattle.task_ast.specs.declared.sync.SyncOp.{SyncOp}
 use Rattle.task_ast.specs.declared.sync.SyncOp.TheVariants as sync
 use Rattle.task_ast.specs.declared.sync.Next.{Next}
 use Rattle.task_ast.specs.meaning.Repeat.{Again, More, Done}
-use Rattle.task_ast.specs.meaning.Table.{Table, ring, next_of, last_in}
-use Rattle.task_ast.specs.Table.{is_known_end}
-use Rattle.task_ast.specs.meaning.Turn.{Turn, Look, To, Unknown, NoThread, Issue, Needs, look, has_passed, owner_of, owners_after, child_of, most_threads, turn}
+use Rattle.task_ast.specs.meaning.Table.{ring}
+use Rattle.task_ast.specs.Table.{Table, next_of, last_in, is_known_end, owner_in}
+use Rattle.task_ast.specs.meaning.Turn.{owners_after, child_of}
+use Rattle.task_ast.specs.Turn.{Turn, Look, To, Unknown, NoThread, Issue, Needs, look, has_passed, turn}
 use Rattle.task_ast.specs.Reached.{Reached}
 
 -- both tables have the same threads, with the same next synchronisations and last subthreads
@@ -31,8 +33,8 @@ ahead table = tries (look table (ring table.token (length table.seats))) table
 -- a subthread may begin so: the lock is free, there is room for a fork's child, the thread that is joined has ended, and
 -- the thread itself has not
 abbrev pub MayBegin : Table → SyncOp → Type 0
-MayBegin table (sync.Lock l) = owner_of table l ≡ None
-MayBegin table (sync.Fork task arguments) = length table.seats < most_threads
+MayBegin table (sync.Lock l) = owner_in table.owners l ≡ None
+MayBegin table (sync.Fork task arguments) = length table.seats < MOST_THREADS
 MayBegin table (sync.Join (pos h)) = (h < length table.seats) × (is_known_end (next_of table h) ≡ true)
 MayBegin table (sync.Join (negsuc h)) = ⊥
 MayBegin table sync.End = ⊥
@@ -97,8 +99,8 @@ table_after (Done _) = None
 -- no turn leaves more threads than may exist
 abbrev pub SeatsLaw : Type 0
 SeatsLaw =
-    (table after : Table) → length table.seats ≤ most_threads → table_after (turn table) ≡ Some after → length after.seats ≤ most_threads
+    (table after : Table) → length table.seats ≤ MOST_THREADS → table_after (turn table) ≡ Some after → length after.seats ≤ MOST_THREADS
 
 -- so no table of a run has more
 abbrev pub MostThreadsLaw : Type 0
-MostThreadsLaw = (table : Table) → Reached table → length table.seats ≤ most_threads
+MostThreadsLaw = (table : Table) → Reached table → length table.seats ≤ MOST_THREADS

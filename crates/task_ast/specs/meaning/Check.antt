@@ -1,13 +1,13 @@
 -- Which programs are accepted, and which fault is answered.
-use Rattle.std.specs.Prelude.{ℕ, Bool, false, not, ◌||◌, List, [], ◌∷◌, ◌++◌, map, Option, Some, None, is_none}
+use Rattle.std.specs.Prelude.{ℕ, Bool, false, not, ◌||◌, List, [], ◌∷◌, ◌++◌, map, Option, is_none, length, zip, ◌==◌}
+use Rattle.std.specs.Option.{option_map_or}
 use Rattle.std.specs.List.{list_any}
 use Rattle.task_ast.specs.declared.check_kind.CheckKind.{CheckKind}
 use Rattle.task_ast.specs.declared.check_kind.CheckKind.TheVariants.{UnknownName, WrongCount, DataInControl, NotHeld, HeldTwice, HeldAtEnd, BranchesDiffer, IndexChangedWhileHeld}
-use Rattle.task_ast.specs.declared.tree.Atom.{Atom}
 use Rattle.task_ast.specs.meaning.Tree.{Name, Stmt, At, What, SetCtl, While, If, Lock, Unlock, Fork, Join, Barrier, Settle, SetReg, Read, Write, Print, When, Block, Nothing, Then, TaskText, Program}
 use Rattle.task_ast.specs.meaning.Names.{named, arrays_over, barriers_of, head_name, task_named}
 use Rattle.task_ast.specs.meaning.Visit.{Visit, visit, fails_if, first_fault}
-use Rattle.task_ast.specs.meaning.Declarations.{Scope, is_control, is_register, is_lock, is_atom, has_unknown, has_data, has_data_index, counts_differ, any_misplaced, head_visits, task_visits, main_visit}
+use Rattle.task_ast.specs.meaning.Declarations.{Scope, is_control, is_register, is_lock, is_atom, has_unknown, has_data, has_data_index, is_misplaced, head_visits, task_visits, main_visit}
 use Rattle.task_ast.specs.meaning.Held.{Pair, has, same_pairs, is_index, held_after, held_at_end}
 
 -- the lock array that a record stands under
@@ -16,21 +16,6 @@ array_over s r = named r (arrays_over s.program.heads)
 
 abbrev pub is_barrier : Scope → Name → Bool
 is_barrier s b = not (is_none (named b (barriers_of s.program.heads)))
-
--- the pair that a record's cell stands under isn't held
-abbrev pub lacks : Option Name → Atom → List Pair → Bool
-lacks None i held = false
-lacks (Some a) i held = not (has held (a, i))
-
--- a variable that may be left out isn't declared
-abbrev pub into_unknown : (Name → Bool) → Option Name → Bool
-into_unknown is_variable None = false
-into_unknown is_variable (Some x) = not (is_variable x)
-
--- a variable that may be left out is the index of a held pair
-abbrev pub into_index : List Pair → Option Name → Bool
-into_index held None = false
-into_index held (Some x) = list_any (is_index x) held
 
 module _ (s : Scope) where
   -- the rules that fail at a statement's beginning
@@ -44,22 +29,22 @@ module _ (s : Scope) where
   fails_at (Lock a i) held = fails_if (not (is_lock s a) || not (is_atom s i)) UnknownName ++ fails_if (has held (a, i)) HeldTwice
   fails_at (Unlock a i) held = fails_if (not (is_lock s a) || not (is_atom s i)) UnknownName ++ fails_if (not (has held (a, i))) NotHeld
   fails_at (Fork t es x) held =
-      fails_if (is_none (task_named s.program t) || (list_any (has_unknown s) es || into_unknown (is_control s) x)) UnknownName
-      ++ fails_if (counts_differ (task_named s.program t) es) WrongCount
-      ++ fails_if (any_misplaced (task_named s.program t) es) DataInControl
-      ++ fails_if (into_index held x) IndexChangedWhileHeld
-  fails_at (Join e x) held = fails_if (has_unknown s e || into_unknown (is_register s) x) UnknownName ++ fails_if (has_data e) DataInControl
+      fails_if (is_none (task_named s.program t) || (list_any (has_unknown s) es || option_map_or (λ y. not (is_control s y)) x false)) UnknownName
+      ++ fails_if (option_map_or (λ task. not (length task.params == length es)) (task_named s.program t) false) WrongCount
+      ++ fails_if (option_map_or (λ task. list_any is_misplaced (zip task.params es)) (task_named s.program t) false) DataInControl
+      ++ fails_if (option_map_or (λ y. list_any (is_index y) held) x false) IndexChangedWhileHeld
+  fails_at (Join e x) held = fails_if (has_unknown s e || option_map_or (λ y. not (is_register s y)) x false) UnknownName ++ fails_if (has_data e) DataInControl
   fails_at (Barrier b) held = fails_if (not (is_barrier s b)) UnknownName
   fails_at (Settle x c) held =
       fails_if (not (is_register s x) || not (is_control s c)) UnknownName ++ fails_if (list_any (is_index c) held) IndexChangedWhileHeld
   fails_at (SetReg x e) held = fails_if (not (is_register s x) || has_unknown s e) UnknownName ++ fails_if (has_data_index e) DataInControl
   fails_at (Read r i x) held =
       fails_if (is_none (array_over s r) || (not (is_atom s i) || not (is_register s x))) UnknownName
-      ++ fails_if (lacks (array_over s r) i held) NotHeld
+      ++ fails_if (option_map_or (λ a. not (has held (a, i))) (array_over s r) false) NotHeld
   fails_at (Write r i e) held =
       fails_if (is_none (array_over s r) || (not (is_atom s i) || has_unknown s e)) UnknownName
       ++ fails_if (has_data_index e) DataInControl
-      ++ fails_if (lacks (array_over s r) i held) NotHeld
+      ++ fails_if (option_map_or (λ a. not (has held (a, i))) (array_over s r) false) NotHeld
   fails_at (Print es) held = fails_if (list_any (has_unknown s) es) UnknownName ++ fails_if (list_any has_data_index es) DataInControl
   fails_at (When e a b) held = fails_if (has_unknown s e) UnknownName ++ fails_if (has_data_index e) DataInControl
 

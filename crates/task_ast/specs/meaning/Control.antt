@@ -5,7 +5,7 @@
 -- to i = 1; at `while` a Silent step past it, as i < 1 is 0; at `fork` a Stop on line 2, before the fork of task 0 with
 -- the argument 2. Behind the fork, at `print` an Act, which says the constant 1; at `join` a Stop on line 2, before the
 -- join of thread 1. Behind the join no statement is left: a Stop on line 0, before the end.
-use Rattle.std.specs.Prelude.{ℕ, zero, suc, ℤ, pos, negsuc, ◌+◌, cond, List, [], ◌∷◌, ◌++◌, map, Option, Some, None, unwrap_or, option_map, option_and_then, position, length}
+use Rattle.std.specs.Prelude.{ℕ, suc, ℤ, pos, ◌+◌, cond, List, [], ◌∷◌, ◌++◌, map, Option, Some, None, unwrap_or, option_map, option_and_then, position, length}
 use Rattle.gp_base.specs.declared.feed.Feed.{Feed}
 use Rattle.task_ast.specs.declared.env.Env.{Env}
 use Rattle.task_ast.specs.declared.sync.SyncOp.{SyncOp}
@@ -15,8 +15,8 @@ use Rattle.task_ast.specs.declared.tree.Atom.TheVariants as atom
 use Rattle.task_ast.specs.declared.tree.Param.{Param}
 use Rattle.task_ast.specs.declared.tree.Param.TheVariants as param
 use Rattle.task_ast.specs.meaning.Tree.{Name, Expr, Stmt, At, What, SetCtl, While, If, Lock, Unlock, Fork, Join, Barrier, Settle, SetReg, Read, Write, Print, When, Block, Nothing, Then, statements, TaskText, Program}
-use Rattle.task_ast.specs.meaning.Names.{is_name, slot, firsts, locks_of, records_of, barriers_of, cell_number, registers_of, task_named, task_number}
-use Rattle.task_ast.specs.meaning.Value.{value_at, value}
+use Rattle.task_ast.specs.meaning.Names.{is_name, slot, locks_of, records_of, barriers_of, cell_number, registers_of, task_named, task_number}
+use Rattle.task_ast.specs.meaning.Value.{value_at, value, branch}
 use Rattle.task_ast.specs.meaning.Action.{term, Action, Set, Load, Store, Say, Choose, Child, Give, Bring, Arm, NoAction, OneAction}
 use Rattle.task_ast.specs.meaning.Table.{with_nth}
 use Rattle.task_ast.specs.meaning.Body.{Step, Silent, Iteration, Act, Stop, Body, body}
@@ -66,12 +66,6 @@ abbrev pub known : {A : Type 0} → ℕ → Option A → (A → Step Point) → 
 known line None go = stop sync.BadIndex line
 known line (Some v) go = go v
 
--- the first unless the value is 0
-abbrev pub branch : ℤ → Step Point → Step Point → Step Point
-branch (pos zero) first second = second
-branch (pos (suc n)) first second = first
-branch (negsuc n) first second = first
-
 -- the values of a fork's control arguments
 abbrev pub control_arguments : List Param → List Expr → Env → Option (List ℤ)
 control_arguments (param.Ctl x ∷ params) (e ∷ es) env =
@@ -92,15 +86,11 @@ module _ (s : Setting) where
   abbrev pub record_number : Name → Atom → Env → Option ℕ
   record_number r i env = cell_number (records_of s.program.heads) r (index_of i env)
 
-  -- the register of a data variable; where there is none of this name, one past the last, so that a write to it changes nothing
-  abbrev pub register_number : List Name → Name → ℕ
-  register_number registers x = slot registers x
-
   abbrev mutual
     -- a data statement's action, where the registers of its task have these names
     pub action : List Name → What → Env → Option Action
-    action registers (SetReg x e) env = option_map (Set (register_number registers x)) (term registers e env)
-    action registers (Read r i x) env = option_map (λ c. Load c (register_number registers x)) (record_number r i env)
+    action registers (SetReg x e) env = option_map (Set (slot registers x)) (term registers e env)
+    action registers (Read r i x) env = option_map (λ c. Load c (slot registers x)) (record_number r i env)
     action registers (Write r i e) env = option_and_then (λ c. option_map (Store c) (term registers e env)) (record_number r i env)
     action registers (Print es) env = option_map Say (all_of (map (λ e. term registers e env) es))
     action registers (When e a b) env =
@@ -121,7 +111,7 @@ module _ (s : Setting) where
   abbrev pub data_arguments : (given registers : List Name) → List Param → List Expr → Env → Option (List Action)
   data_arguments given registers (param.Ctl x ∷ params) (e ∷ es) env = data_arguments given registers params es env
   data_arguments given registers (param.Reg x ∷ params) (e ∷ es) env =
-      option_and_then (λ t. option_map (λ actions. Give (register_number given x) t ∷ actions)
+      option_and_then (λ t. option_map (λ actions. Give (slot given x) t ∷ actions)
       (data_arguments given registers params es env)) (term registers e env)
   data_arguments given registers _ _ env = Some []
 
@@ -152,7 +142,7 @@ module _ (s : Setting) where
   step_at line (Join e x) rest p = known line (value e (env_at p)) (λ h. stop (sync.Join h) line)
   step_at line (Barrier b) rest p =
       known line (position (λ other. is_name b other.0) (barriers_of s.program.heads)) (λ n. stop (sync.Barrier n) line)
-  step_at line (Settle x c) rest p = stop (sync.Settle (register_number (registers_of p.task) x) (slot (firsts p.names) c)) line
+  step_at line (Settle x c) rest p = stop (sync.Settle (slot (registers_of p.task) x) (slot (map (λ n. n.0) p.names) c)) line
   step_at line w rest p = known line (action (registers_of p.task) w (env_at p)) (λ a. Act a (going p rest))
 
   -- the step at the first of these statements; after the last one the task ends
@@ -167,7 +157,7 @@ module _ (s : Setting) where
   -- the actions of the synchronisation at a point, with which the next subthread begins
   abbrev pub begin_actions : List Stmt → Point → List Action
   begin_actions (At line (Fork t es x) ∷ rest) p = unwrap_or (option_map (λ arguments. arguments.1) (fork_named t es p)) []
-  begin_actions (At line (Join e (Some x)) ∷ rest) p = Bring (register_number (registers_of p.task) x) ∷ []
+  begin_actions (At line (Join e (Some x)) ∷ rest) p = Bring (slot (registers_of p.task) x) ∷ []
   begin_actions _ p = []
 
 -- behind the synchronisation at a point; a fork's variable then holds the child's number

@@ -1,6 +1,6 @@
 -- The check rules on names, counts and sizes.
-use Rattle.std.specs.Prelude.{ℕ, ◌+◌, ◌==◌, Bool, true, false, not, ◌&&◌, ◌||◌, List, [], ◌∷◌, ◌++◌, map, length, Option, Some, None, is_none, is_some, nat_lt, codes, zip}
-use Rattle.std.specs.List.{list_any}
+use Rattle.std.specs.Prelude.{ℕ, ◌+◌, ◌==◌, Bool, true, false, not, ◌&&◌, ◌||◌, List, [], ◌∷◌, ◌++◌, map, length, is_none, is_some, nat_lt, codes}
+use Rattle.std.specs.Option.{option_map_or}
 use Rattle.gp_base.specs.declared.limits.TheConstants.{MOST_CELLS, MOST_THREADS, MOST_FIELDS, MOST_VARIABLES}
 use Rattle.task_ast.specs.declared.check_kind.CheckKind.TheVariants.{UnknownName, DoubleName, WrongCount, SizesDiffer, TooMany}
 use Rattle.task_ast.specs.declared.tree.Atom.{Atom}
@@ -10,7 +10,7 @@ use Rattle.task_ast.specs.declared.tree.Head.TheVariants.{LockHead, BarrierHead,
 use Rattle.task_ast.specs.declared.tree.Param.{Param}
 use Rattle.task_ast.specs.declared.tree.Param.TheVariants as param
 use Rattle.task_ast.specs.declared.tree.VarLine.{VarLine}
-use Rattle.task_ast.specs.meaning.Tree.{Name, Expr, Num, Ctl, Reg, Me, Rows, Cell, Neg, Not, Chain, Links, NoLinks, Link, TaskText, Program}
+use Rattle.task_ast.specs.meaning.Tree.{Name, Expr, Ctl, Reg, Rows, Cell, Neg, Not, Chain, Links, NoLinks, Link, TaskText, Program}
 use Rattle.task_ast.specs.meaning.Names.{is_name, is_among, natural, named, locks_of, records_of, feeds_of, head_name, controls, datas, controls_of, registers_of, cells_in, ret, task_named}
 use Rattle.task_ast.specs.meaning.Visit.{Visit, visit, fails_if}
 
@@ -36,69 +36,51 @@ is_atom s (atom.Num v) = true
 is_atom s (atom.Var x) = is_control s x
 
 abbrev mutual
-  -- a name of the expression isn't declared as what its place needs
-  pub has_unknown : Scope → Expr → Bool
-  has_unknown s (Num v) = false
-  has_unknown s (Ctl x) = not (is_control s x)
-  has_unknown s (Reg x) = not (is_register s x)
-  has_unknown s Me = false
-  has_unknown s (Rows f) = not (is_feed s f)
-  has_unknown s (Cell f row field) = not (is_feed s f) || (has_unknown s row || has_unknown s field)
-  has_unknown s (Neg e) = has_unknown s e
-  has_unknown s (Not e) = has_unknown s e
-  has_unknown s (Chain e links) = has_unknown s e || have_unknown s links
+  -- a part of the expression passes the test: itself, or what it is made of
+  pub some_part : (Expr → Bool) → Expr → Bool
+  some_part test (Cell f row field) = test (Cell f row field) || (some_part test row || some_part test field)
+  some_part test (Neg e) = test (Neg e) || some_part test e
+  some_part test (Not e) = test (Not e) || some_part test e
+  some_part test (Chain e links) = test (Chain e links) || (some_part test e || some_member test links)
+  some_part test e = test e
 
-  pub have_unknown : Scope → Links → Bool
-  have_unknown s NoLinks = false
-  have_unknown s (Link op e links) = has_unknown s e || have_unknown s links
+  pub some_member : (Expr → Bool) → Links → Bool
+  some_member test NoLinks = false
+  some_member test (Link op e links) = some_part test e || some_member test links
 
-abbrev mutual
-  -- a data variable stands in the expression
-  pub has_data : Expr → Bool
-  has_data (Num v) = false
-  has_data (Ctl x) = false
-  has_data (Reg x) = true
-  has_data Me = false
-  has_data (Rows f) = false
-  has_data (Cell f row field) = has_data row || has_data field
-  has_data (Neg e) = has_data e
-  has_data (Not e) = has_data e
-  has_data (Chain e links) = has_data e || have_data links
+-- the name that stands here isn't declared as what its place needs
+abbrev pub is_undeclared : Scope → Expr → Bool
+is_undeclared s (Ctl x) = not (is_control s x)
+is_undeclared s (Reg x) = not (is_register s x)
+is_undeclared s (Rows f) = not (is_feed s f)
+is_undeclared s (Cell f row field) = not (is_feed s f)
+is_undeclared s e = false
 
-  pub have_data : Links → Bool
-  have_data NoLinks = false
-  have_data (Link op e links) = has_data e || have_data links
+-- a name in the expression isn't declared so
+abbrev pub has_unknown : Scope → Expr → Bool
+has_unknown s e = some_part (is_undeclared s) e
 
-abbrev mutual
-  -- a data variable stands in an index of a cell
-  pub has_data_index : Expr → Bool
-  has_data_index (Num v) = false
-  has_data_index (Ctl x) = false
-  has_data_index (Reg x) = false
-  has_data_index Me = false
-  has_data_index (Rows f) = false
-  has_data_index (Cell f row field) = has_data row || has_data field
-  has_data_index (Neg e) = has_data_index e
-  has_data_index (Not e) = has_data_index e
-  has_data_index (Chain e links) = has_data_index e || have_data_index links
+abbrev pub is_data_variable : Expr → Bool
+is_data_variable (Reg x) = true
+is_data_variable e = false
 
-  pub have_data_index : Links → Bool
-  have_data_index NoLinks = false
-  have_data_index (Link op e links) = has_data_index e || have_data_index links
+-- a data variable stands in the expression
+abbrev pub has_data : Expr → Bool
+has_data e = some_part is_data_variable e
+
+-- a data variable stands in the row or the field of this cell
+abbrev pub is_at_data : Expr → Bool
+is_at_data (Cell f row field) = has_data row || has_data field
+is_at_data e = false
+
+-- a data variable stands in an index of a cell
+abbrev pub has_data_index : Expr → Bool
+has_data_index e = some_part is_at_data e
 
 -- a control argument has data in it, or a data argument has data in an index
 abbrev pub is_misplaced : Param × Expr → Bool
 is_misplaced (param.Ctl x, e) = has_data e
 is_misplaced (param.Reg x, e) = has_data_index e
-
--- a fork has not as many arguments as its task has parameters
-abbrev pub counts_differ : Option TaskText → List Expr → Bool
-counts_differ None arguments = false
-counts_differ (Some task) arguments = not (length task.params == length arguments)
-
-abbrev pub any_misplaced : Option TaskText → List Expr → Bool
-any_misplaced None arguments = false
-any_misplaced (Some task) arguments = list_any is_misplaced (zip task.params arguments)
 
 abbrev pub head_line : Head → ℕ
 head_line (LockHead name size line) = line
@@ -118,13 +100,9 @@ abbrev pub lacks_array : List Head → Head → Bool
 lacks_array heads (RecHead name size by from line) = is_none (named by (locks_of heads))
 lacks_array heads head = false
 
-abbrev pub is_other_size : ℕ → Option ℕ → Bool
-is_other_size size None = false
-is_other_size size (Some other) = not (size == other)
-
 -- a record's size isn't that of its lock array
 abbrev pub sizes_differ : List Head → Head → Bool
-sizes_differ heads (RecHead name size by from line) = is_other_size (natural size) (named by (locks_of heads))
+sizes_differ heads (RecHead name size by from line) = option_map_or (λ other. not (natural size == other)) (named by (locks_of heads)) false
 sizes_differ heads head = false
 
 -- a limit is passed at this head, after those before it

@@ -1,5 +1,5 @@
 -- What a subthread's actions do to the data. It reads and writes within its footprint, in the sense of A. J. Bernstein's conditions (1966).
-use Rattle.std.specs.Prelude.{ℕ, zero, suc, ℤ, pos, negsuc, List, [], ◌∷◌, ◌++◌, Option, Some, None, unwrap_or, option_map, slice_set, map, replicate, cond, nat_eq}
+use Rattle.std.specs.Prelude.{ℕ, ℤ, pos, List, [], ◌∷◌, ◌++◌, Option, Some, None, unwrap_or, option_map, slice_set, map, replicate, cond, nat_eq}
 use Rattle.std.specs.Int.{int_wrap, w64}
 use Rattle.std.specs.Prelude.{neg_ℤ}
 use Rattle.std.specs.Ordering.{nat_cmp}
@@ -7,7 +7,7 @@ use Rattle.std.specs.FinMap.{put, find}
 use Rattle.task_ast.specs.declared.effect.Effect.{Effect}
 use Rattle.task_ast.specs.declared.sync.SyncOp.{SyncOp}
 use Rattle.task_ast.specs.declared.sync.SyncOp.TheVariants as sync
-use Rattle.task_ast.specs.meaning.Value.{operate, truth, is_zero}
+use Rattle.task_ast.specs.meaning.Value.{operate, truth, is_zero, branch}
 use Rattle.task_ast.specs.meaning.Action.{Term, Constant, Register, Negated, Inverted, Joined, MoreTerms, NoTerms, OneTerm, Action, Set, Load, Store, Say, Choose, Child, Give, Bring, Arm, NoAction, OneAction}
 use Rattle.task_ast.specs.meaning.State.{State, RegistersOf, CellOf, number_at, cell_value}
 
@@ -32,12 +32,6 @@ pub record Doing : Type 0 where
   pub written : List (ℕ × ℤ)
   pub lines : List (List ℤ)
 
--- the first unless the value is 0
-abbrev pub picked : ℤ → Doing → Doing → Doing
-picked (pos zero) first second = second
-picked (pos (suc n)) first second = first
-picked (negsuc n) first second = first
-
 -- a subthread that found these cells, and `$ret` of the thread that it joined
 module _ (cells : ℕ → ℤ) (joined : ℤ) where
   -- the value of a cell, as written so far
@@ -51,7 +45,7 @@ module _ (cells : ℕ → ℤ) (joined : ℤ) where
     done (Load c k) d = record d { registers = slice_set d.registers k (cell_now d c) }
     done (Store c t) d = record d { written = put nat_cmp c (term_value t d.registers) d.written }
     done (Say ts) d = record d { lines = d.lines ++ map (λ t. term_value t d.registers) ts ∷ [] }
-    done (Choose t a b) d = picked (term_value t d.registers) (arm_done a d) (arm_done b d)
+    done (Choose t a b) d = branch (term_value t d.registers) (arm_done a d) (arm_done b d)
     done (Child count) d = record d { child = replicate count (pos 0) }
     done (Give k t) d = record d { child = slice_set d.child k (term_value t d.registers) }
     done (Bring k) d = record d { registers = slice_set d.registers k joined }
@@ -96,11 +90,7 @@ abbrev pub left_to : Option (ℕ × List ℤ) → ℕ → List ℤ → List ℤ
 left_to None t before = before
 left_to (Some child) t before = cond (nat_eq t child.0) child.1 before
 
--- the numbers of a cell's place: its one value
-abbrev pub one_number : ℤ → List ℤ
-one_number v = v ∷ []
-
 -- the state after an effect
 abbrev pub after : Effect → State → State
 after e before (RegistersOf t) = cond (nat_eq t e.thread) e.regs (left_to e.child t (before (RegistersOf t)))
-after e before (CellOf c) = unwrap_or (option_map one_number (find nat_cmp c e.writes)) (before (CellOf c))
+after e before (CellOf c) = unwrap_or (option_map (λ v. v ∷ []) (find nat_cmp c e.writes)) (before (CellOf c))

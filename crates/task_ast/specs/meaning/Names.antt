@@ -60,14 +60,9 @@ head_name (FeedHead name fields from line) = name
 abbrev pub named : {T : Type 0} → Name → List (Name × T) → Option T
 named x pairs = lookup (is_name x) pairs
 
--- the place of a name among these, or their number where it isn't there
+-- the place of a name among these, or their number where it isn't there: so a write to a register that isn't there changes nothing
 abbrev pub slot : List Name → Name → ℕ
 slot names x = unwrap_or (position (is_name x) names) (length names)
-
--- the names of pairs, and what stands beside them
-abbrev pub firsts : {T : Type 0} → List (Name × T) → List Name
-firsts [] = []
-firsts (pair ∷ pairs) = pair.0 ∷ firsts pairs
 
 -- the place of an index, where it is below the size
 abbrev pub place : ℕ → ℤ → Option ℕ

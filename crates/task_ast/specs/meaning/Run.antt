@@ -1,5 +1,11 @@
 -- The order of subthreads and the plain run: one subthread after another, on one thread, as a token goes round the threads (after
--- G. Gupta, S. Sridharan and G. S. Sohi, Globally precise-restartable execution of parallel programs, PLDI 2014).
+-- G. Gupta, S. Sridharan and G. S. Sohi, Globally precise-restartable execution of parallel programs, PLDI 2014). For example, the text
+--     task tell(n) { print n; }
+--     task main() { var i; while i < 1 { i = i + 1; } fork tell(i + 1); print i; join 1; }
+-- has four subthreads, at the positions 0 to 3: thread 0 from its start, with the loop, which prints nothing; thread 0
+-- from the fork of thread 1, which prints 1; thread 1 from its start, which prints 2; thread 0 from the join of thread 1,
+-- which has ended, and it prints nothing. Then both threads have ended: the run is finished. A limit of no loop turn
+-- would end it Spent 0, behind position 0, and one of three subthreads Spent 3, behind position 2.
 use Rattle.std.specs.Prelude.{ℕ, suc, ℤ, pos, negsuc, ◌+◌, ◌*◌, ◌==◌, Bool, true, false, not, cond, List, [], ◌∷◌, ◌++◌, length, replicate, map, count_by, Option, Some, None, is_none, nat_lt, nat_le, slice_get, unwrap_or}
 use Rattle.gp_base.specs.declared.limits.TheConstants.{MOST_THREADS}
 use Rattle.gp_base.specs.declared.limits.Limits.{Limits}

@@ -1,5 +1,5 @@
 -- The values of expressions, which are 64-bit numbers.
-use Rattle.std.specs.Prelude.{ℤ, pos, Bool, cond, not, ◌&&◌, ◌||◌, List, Option, Some, None, unwrap_or, option_map, option_and_then, ◌+ℤ◌, ◌-ℤ◌, ◌*ℤ◌, neg_ℤ, int_lt, int_le, int_div, int_rem}
+use Rattle.std.specs.Prelude.{zero, suc, ℤ, pos, negsuc, Bool, cond, not, ◌&&◌, ◌||◌, List, Option, Some, None, unwrap_or, option_map, option_and_then, ◌+ℤ◌, ◌-ℤ◌, ◌*ℤ◌, neg_ℤ, int_lt, int_le, int_div, int_rem}
 use Rattle.std.specs.Int.{int_wrap, w64}
 use Rattle.std.specs.Ordering.{int_eq}
 use Rattle.gp_base.specs.meaning.Feeds.{rows_in, cell_at}
@@ -15,6 +15,12 @@ truth b = cond b (pos 1) (pos 0)
 
 abbrev pub is_zero : ℤ → Bool
 is_zero v = int_eq v (pos 0)
+
+-- the first unless the value is 0
+abbrev pub branch : {A : Type 0} → ℤ → A → A → A
+branch (pos zero) first second = second
+branch (pos (suc n)) first second = first
+branch (negsuc n) first second = first
 
 -- division rounds toward 0 and the remainder has the sign of the left side; by 0 both give 0
 abbrev pub operate : Op → ℤ → ℤ → ℤ

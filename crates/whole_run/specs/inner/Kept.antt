@@ -6,7 +6,7 @@ use Rattle.task_ast.specs.declared.sync.SyncOp.{SyncOp}
 use Rattle.task_ast.specs.meaning.Control.{Point}
 use Rattle.task_ast.specs.meaning.Names.{records_of, locks_of, cells_in}
 use Rattle.task_ast.specs.meaning.Layout.{layout}
-use Rattle.task_ast.specs.meaning.Table.{Table}
+use Rattle.task_ast.specs.Table.{Table}
 use Rattle.dependence.specs.meaning.Journal.{Stage, stage, Lawful}
 use Rattle.dependence.specs.Posting.{OutReady}
 use Rattle.dependence.specs.Standing.{AreShort}

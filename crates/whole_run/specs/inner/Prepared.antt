@@ -7,8 +7,10 @@ use Rattle.task_ast.specs.declared.sync.SyncOp.TheVariants as sync
 use Rattle.task_ast.specs.declared.sync.Next.{Next}
 use Rattle.task_ast.specs.Footprint.{lock_footprint}
 use Rattle.token_order.specs.Turned.{is_let}
-use Rattle.task_ast.specs.meaning.Table.{Table, owned_from}
-use Rattle.task_ast.specs.meaning.Turn.{owners_after, child_of, turns_left}
+use Rattle.task_ast.specs.meaning.Table.{owned_from}
+use Rattle.task_ast.specs.Table.{Table}
+use Rattle.task_ast.specs.meaning.Turn.{owners_after, child_of}
+use Rattle.task_ast.specs.Turn.{turns_left}
 use Rattle.task_ast.specs.laws.Threads.{ahead}
 use Rattle.record_store.specs.Stored.{Stored, with_thread}
 use Rattle.reorder_list.specs.declared.entry.Entry.{Entry}

@@ -4,11 +4,11 @@ use Rattle.task_ast.specs.declared.sync.SyncOp.{SyncOp}
 use Rattle.task_ast.specs.declared.sync.SyncOp.TheVariants as sync
 use Rattle.task_ast.specs.declared.sync.Next.{Next}
 use Rattle.task_ast.specs.meaning.Control.{Point}
-use Rattle.task_ast.specs.meaning.Table.{Table, next_of, last_in}
+use Rattle.task_ast.specs.Table.{Table, next_of, last_in}
 use Rattle.task_ast.specs.laws.Standing.{Stands}
-use Rattle.task_ast.specs.meaning.Plain.{Plain, start_point, task_at}
-use Rattle.task_ast.specs.meaning.Position.{before}
-use Rattle.task_ast.specs.Position.{point_in, from_in}
+use Rattle.task_ast.specs.meaning.Plain.{start_point, task_at}
+use Rattle.task_ast.specs.Plain.{Plain}
+use Rattle.task_ast.specs.Position.{before, point_in, from_in}
 use Rattle.dependence.specs.meaning.Journal.{Stage, WasTaken}
 use Rattle.whole_run.specs.View.{Batch, program_in}
 

@@ -4,7 +4,7 @@ use Rattle.task_ast.specs.declared.effect.Effect.{Effect}
 use Rattle.task_ast.specs.declared.sync.Next.{Next}
 use Rattle.task_ast.specs.meaning.Effect.{after}
 use Rattle.task_ast.specs.History.{old_of}
-use Rattle.task_ast.specs.meaning.Table.{Table, learning}
+use Rattle.task_ast.specs.Table.{Table, learning}
 use Rattle.token_order.specs.View.{awaited}
 use Rattle.record_store.specs.Lent.{marked}
 use Rattle.record_store.specs.Stored.{Stored, state_of, SameShape, Fits}

@@ -3,7 +3,8 @@
 ghost use Rattle.std.specs.Prelude.{◌≡◌, ◌<◌, ◌^◌, false, [], length, IfOk};
 ghost use Rattle.task_ast.specs.declared.sync.SyncOp.TheVariants as sync;
 ghost use Rattle.task_ast.specs.meaning.Names.{registers_of};
-ghost use Rattle.task_ast.specs.meaning.Plain.{opening, main_task, start_point, task_at};
+ghost use Rattle.task_ast.specs.meaning.Plain.{main_task, start_point, task_at};
+ghost use Rattle.task_ast.specs.Plain.{opening};
 ghost use Rattle.task_code.specs.Flat.{code_of};
 ghost use Rattle.record_store.specs.Stored.{with_thread, without_threads};
 ghost use Rattle.subthread.specs.Tasks.{Suits};

@@ -1,5 +1,5 @@
 use Rattle.std.proofs.Common.{◌≡◌, ◌≤◌, ◌-◌, []}
-use Rattle.task_ast.specs.meaning.Plain.{Plain}
+use Rattle.task_ast.specs.Plain.{Plain}
 use Rattle.gp_resume.specs.inner.Course.{Stands}
 use Rattle.gp_resume.specs.inner.Going.{Went}
 use Rattle.gp_resume.proofs.drive.go_on.Given as goal

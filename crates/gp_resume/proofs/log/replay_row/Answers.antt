@@ -1,7 +1,8 @@
 use Rattle.std.proofs.Common.{◌≡◌, false, pos, [], SFits, w64, rules, Option, Some, refl, sym, ◌∙◌, subst}
 use Rattle.std.proofs.lemmas.Bool.{false≢true}
 use Rattle.std.proofs.lemmas.Int.{to_z-of_z}
-use Rattle.task_ast.specs.meaning.Plain.{Subthread, Plain, move}
+use Rattle.task_ast.specs.meaning.Plain.{Subthread}
+use Rattle.task_ast.specs.Plain.{Plain, move}
 use Rattle.subthread.specs.Tasks.{program_in}
 use Rattle.retirement_log.specs.meaning.Rows.{Retirement}
 use Rattle.gp_resume.specs.declared.course.Plan.{Plan}

@@ -1,5 +1,5 @@
 use Rattle.std.proofs.Common.{◌≡◌, ◌-◌, false, []}
-use Rattle.task_ast.specs.meaning.Plain.{Plain}
+use Rattle.task_ast.specs.Plain.{Plain}
 use Rattle.gp_resume.specs.inner.Flights.{Flown, Joins}
 use Rattle.gp_resume.specs.inner.Waves.{Sent, AreEmpty}
 use Rattle.gp_resume.proofs.waves.send_all.Given as goal

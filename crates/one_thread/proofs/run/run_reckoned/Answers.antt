@@ -1,5 +1,5 @@
 use Rattle.std.proofs.Common.{◌∙◌, ap, sym, subst}
-use Rattle.task_ast.specs.meaning.Plain.{opening}
+use Rattle.task_ast.specs.Plain.{opening}
 use Rattle.task_ast.specs.View.{plain_program}
 use Rattle.lock_checker.proofs.BaseLemmas.{accepted_small}
 use Rattle.one_thread.specs.inner.Runs.{IsSmall, Holds}

@@ -1,6 +1,6 @@
 use Rattle.std.proofs.Common.{◌∙◌, sym, ap, arith, map}
 use Rattle.std.proofs.lemmas.List.{length-map}
-use Rattle.task_ast.specs.meaning.Turn.{released_at}
+use Rattle.task_ast.specs.Turn.{released_at}
 use Rattle.one_thread.specs.inner.View.{seat_of}
 use Rattle.task_ast.proofs.ChangedSeats.{first_mapped-all, released-waiting, released-other}
 use Rattle.task_ast.proofs.SeenSeats.{first_mapped-next}

@@ -1,5 +1,5 @@
 use Rattle.std.proofs.Common.{◌≡◌, map}
-use Rattle.task_ast.specs.meaning.Turn.{released_at}
+use Rattle.task_ast.specs.Turn.{released_at}
 use Rattle.one_thread.specs.inner.View.{seat_of}
 use Rattle.task_ast.proofs.ChangedSeats.{first_mapped}
 use Rattle.one_thread.proofs.turns.release.Given as goal

@@ -1,5 +1,5 @@
 use Rattle.std.proofs.Common.{◌≡◌, map, take, ◌≤◌, count_by}
-use Rattle.task_ast.specs.meaning.Table.{waits_at}
+use Rattle.task_ast.specs.Table.{waits_at}
 use Rattle.one_thread.specs.inner.View.{seat_of}
 use Rattle.one_thread.proofs.turns.waiting.Given as goal
 

@@ -1,7 +1,7 @@
 use Rattle.std.proofs.Common.{rules, ◌≡◌, ◌∙◌, ◌&&◌, false, IfSome, zip, sym, ap, subst, to_z, FitsSigned, w64}
 use Rattle.std.proofs.lemmas.Int.{to_z-of_z}
 use Rattle.task_ast.specs.meaning.Tree.{Neg, Chain}
-use Rattle.task_ast.specs.meaning.Declarations.{has_data, has_data_index, have_data_index}
+use Rattle.task_ast.specs.meaning.Declarations.{has_data, has_data_index, some_member, is_at_data}
 use Rattle.task_ast.specs.View.{plain_expr, plain_links}
 use Rattle.task_ast.proofs.Views.{expr_Neg, expr_Cell, expr_Chain}
 use Rattle.task_ast.proofs.Registers.{or_false}
@@ -62,7 +62,7 @@ reckon_data-returns-in_ok-first-in-Chain-clause-flag t c = λ none.
     ap plain_expr c.in-Chain.is ∙ expr_Chain c.in-Chain.first c.in-Chain.links
     ∙ ap (λ e. Chain (plain_expr e) (plain_links c.in-Chain.links)) (sym c.deref-in-Chain.ensures)
     ∙ ap (λ l. Chain a (plain_links l)) (sym c.as_slice.ensures) in
-    let parts = or_false (has_data_index a) (have_data_index links) (subst (λ e. has_data_index e ≡ false) is none) in
+    let parts = or_false (has_data_index a) (some_member is_at_data links) (subst (λ e. has_data_index e ≡ false) is none) in
     let flag = rw (to_z-of_z w64 c.in_ok-first-in-Chain.first fits) at c.chain_data.ensures.flag in
     subst (λ e. IfSome c.chain_data.result (λ v. c.chain_data.new.exact ≡ (c.args.exact.now && stays e under))) (sym is)
     (subst (λ x. IfSome c.chain_data.result (λ v. c.chain_data.new.exact ≡ x))

@@ -1,5 +1,5 @@
 use Rattle.std.proofs.Common.{◌≡◌, ◌&&◌, false, Some, drop, option_map}
-use Rattle.task_ast.specs.meaning.Declarations.{have_data_index}
+use Rattle.task_ast.specs.meaning.Declarations.{some_member, is_at_data}
 use Rattle.task_ast.specs.meaning.Action.{terms}
 use Rattle.task_ast.specs.meaning.Effect.{terms_value}
 use Rattle.task_ast.specs.View.{plain_links}
@@ -11,8 +11,8 @@ abbrev pub invariant-chain_data-loop-link : goal.invariant-chain_data-loop-link
 invariant-chain_data-loop-link l = record {
   value : option_map (λ more. terms_value more l.registers l.so_far) (terms l.names (plain_links (drop l.link-index l.links)) l.env)
       ≡ option_map (λ more. terms_value more l.registers l.fn.first) (terms l.names (plain_links l.links) l.env);
-  flag : have_data_index (plain_links l.links) ≡ false
-      → (have_data_index (plain_links (drop l.link-index l.links)) ≡ false)
+  flag : some_member is_at_data (plain_links l.links) ≡ false
+      → (some_member is_at_data (plain_links (drop l.link-index l.links)) ≡ false)
       × ((l.exact && stays_on (plain_links (drop l.link-index l.links)) (with_data l.names l.registers l.env) (Some l.so_far))
       ≡ (l.fn.exact && stays_on (plain_links l.links) (with_data l.names l.registers l.env) (Some l.fn.first)));
 }

@@ -3,8 +3,8 @@ use Rattle.std.specs.Prelude.{MatchOption}
 use Rattle.std.proofs.lemmas.Result.{on_ok_weaker}
 use Rattle.task_ast.specs.declared.tree.Program.{Program}
 use Rattle.task_ast.specs.View.{plain_program}
-use Rattle.task_ast.specs.meaning.Plain.{order}
-use Rattle.task_ast.specs.meaning.Position.{before}
+use Rattle.task_ast.specs.Plain.{order}
+use Rattle.task_ast.specs.Position.{before}
 use Rattle.lock_checker.specs.Accepted.{program_of}
 use Rattle.one_thread.specs.PlainRuns.{Stands}
 use Rattle.run_views.specs.meaning.Deadlocks.{standing_text}

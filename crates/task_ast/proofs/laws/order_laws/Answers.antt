@@ -1,4 +1,4 @@
-use Rattle.task_ast.specs.meaning.Plain.{move}
+use Rattle.task_ast.specs.Plain.{move}
 use Rattle.task_ast.proofs.Repeats.{steps_prefix, step_at}
 use Rattle.task_ast.proofs.laws.order_laws.Goals as goal
 

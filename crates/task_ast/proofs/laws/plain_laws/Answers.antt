@@ -1,4 +1,4 @@
-use Rattle.task_ast.specs.meaning.Plain.{tree_machine}
+use Rattle.task_ast.specs.Plain.{tree_machine}
 use Rattle.task_ast.proofs.PlainRuns.{end_law, count_law, tables_law}
 use Rattle.task_ast.proofs.laws.plain_laws.Goals as goal
 

@@ -1,4 +1,4 @@
-use Rattle.task_ast.specs.meaning.Plain.{tree_machine}
+use Rattle.task_ast.specs.Plain.{tree_machine}
 use Rattle.task_ast.proofs.Positions.{fold_below, lines_are}
 use Rattle.task_ast.proofs.position_laws.fold_below_laws.Goals as goal
 

@@ -1,4 +1,4 @@
-use Rattle.task_ast.specs.meaning.Plain.{tree_machine}
+use Rattle.task_ast.specs.Plain.{tree_machine}
 use Rattle.task_ast.proofs.PlainRuns.{end_from, count_from, tables_from}
 use Rattle.task_ast.proofs.position_laws.onward_laws.Goals as goal
 

@@ -1,4 +1,4 @@
-use Rattle.task_ast.specs.meaning.Plain.{tree_machine}
+use Rattle.task_ast.specs.Plain.{tree_machine}
 use Rattle.task_ast.proofs.Positions.{step_is, plain_stands, left_is}
 use Rattle.task_ast.proofs.position_laws.step_laws.Goals as goal
 

@@ -1,4 +1,4 @@
-use Rattle.task_ast.specs.meaning.Plain.{tree_machine}
+use Rattle.task_ast.specs.Plain.{tree_machine}
 use Rattle.task_ast.proofs.Positions.{forked_is}
 use Rattle.task_ast.proofs.position_laws.threads_law.Goals as goal
 

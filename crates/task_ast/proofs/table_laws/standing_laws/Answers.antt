@@ -1,4 +1,4 @@
-use Rattle.task_ast.specs.meaning.Plain.{tree_machine}
+use Rattle.task_ast.specs.Plain.{tree_machine}
 use Rattle.task_ast.proofs.Standings.{own_stands, agrees, turns_tell, front_alike, learn_stands}
 use Rattle.task_ast.proofs.table_laws.standing_laws.Goals as goal
 

@@ -1,5 +1,5 @@
 use Rattle.std.proofs.Common.{◌≡◌, map}
-use Rattle.task_ast.specs.meaning.Turn.{released_at}
+use Rattle.task_ast.specs.Turn.{released_at}
 use Rattle.token_order.specs.View.{seat_of}
 use Rattle.task_ast.proofs.ChangedSeats.{first_mapped}
 use Rattle.token_order.proofs.rules.release.Given as goal

@@ -1,5 +1,5 @@
 use Rattle.std.proofs.Common.{◌≡◌, map, take, ◌≤◌, count_by}
-use Rattle.task_ast.specs.meaning.Table.{waits_at}
+use Rattle.task_ast.specs.Table.{waits_at}
 use Rattle.token_order.specs.View.{seat_of}
 use Rattle.token_order.proofs.rules.waiting.Given as goal
 

@@ -1,5 +1,5 @@
 use Rattle.std.proofs.Common.{◌≡◌, map}
-use Rattle.task_ast.specs.meaning.Table.{unpassed}
+use Rattle.task_ast.specs.Table.{unpassed}
 use Rattle.token_order.specs.View.{seat_of}
 use Rattle.task_ast.proofs.ChangedSeats.{first_mapped}
 use Rattle.token_order.proofs.threads.unpass_all.Given as goal

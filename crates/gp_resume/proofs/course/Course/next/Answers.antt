@@ -1,5 +1,5 @@
 use Rattle.std.proofs.Common.{refl, sym, ap, ◌∙◌, arith}
-use Rattle.task_ast.specs.meaning.Turn.{turn}
+use Rattle.task_ast.specs.Turn.{turn}
 use Rattle.task_ast.specs.laws.Standing.{at_once, by_turn}
 use Rattle.task_ast.proofs.Turns.{turn-IsFalling}
 use Rattle.gp_resume.proofs.Besides.{keeps-on, past-on, first-joins}

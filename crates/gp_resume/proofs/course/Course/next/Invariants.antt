@@ -1,4 +1,4 @@
-use Rattle.task_ast.specs.meaning.Turn.{turns_left}
+use Rattle.task_ast.specs.Turn.{turns_left}
 use Rattle.gp_resume.specs.inner.Turning.{KeepsTurning}
 use Rattle.gp_resume.proofs.course.Course.next.Given as goal
 

@@ -1,6 +1,6 @@
 use Rattle.std.proofs.Common.{◌≡◌, ◌⊎◌, inl, inr, Bool, true, false, option_map, sym, ap, ◌∙◌, arith}
 use Rattle.std.proofs.lemmas.Bool.{false≢true}
-use Rattle.task_ast.specs.meaning.Turn.{turn}
+use Rattle.task_ast.specs.Turn.{turn}
 use Rattle.token_order.specs.Turned.{settling_in}
 use Rattle.task_ast.specs.laws.Threads.{ahead}
 use Rattle.task_ast.proofs.Turns.{turn-IsFalling}

@@ -1,6 +1,6 @@
 use Rattle.std.proofs.Common.{◌≡◌, false, List}
-use Rattle.task_ast.specs.meaning.Plain.{Plain}
-use Rattle.task_ast.specs.meaning.Turn.{turns_left}
+use Rattle.task_ast.specs.Plain.{Plain}
+use Rattle.task_ast.specs.Turn.{turns_left}
 use Rattle.gp_resume.specs.inner.Flights.{Flown, Flight}
 use Rattle.gp_resume.proofs.course.Course.next_beside.Given as goal
 

@@ -7,7 +7,7 @@ use Rattle.task_ast.proofs.Looks.{get-at}
 use Rattle.one_thread.proofs.Turning.{met-released, met-not}
 use Rattle.task_ast.proofs.SeenSeats.{arrived-is}
 use Rattle.one_thread.specs.declared.seats.Stand.TheVariants.{Waits}
-use Rattle.task_ast.specs.meaning.Table.{Table}
+use Rattle.task_ast.specs.Table.{Table}
 use Rattle.ended_seats.proofs.Idle.{idle_met, within_met}
 use Rattle.one_thread.proofs.seats.Table.arrive.Goals as goal
 

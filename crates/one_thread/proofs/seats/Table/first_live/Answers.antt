@@ -1,6 +1,6 @@
 use Rattle.std.proofs.Common.{◌≡◌, ◌∙◌, sym, ap, arith, suc, ◌+◌, ◌-◌}
 use Rattle.task_ast.specs.meaning.Table.{numbers}
-use Rattle.task_ast.specs.meaning.Turn.{look}
+use Rattle.task_ast.specs.Turn.{look}
 use Rattle.task_ast.proofs.SeenSeats.{look-past}
 use Rattle.one_thread.specs.inner.View.{table_of, seat_of}
 use Rattle.one_thread.proofs.Looking.{seen-get}

@@ -1,6 +1,6 @@
 use Rattle.std.proofs.Common.{◌≡◌, ◌-◌}
 use Rattle.task_ast.specs.meaning.Table.{numbers}
-use Rattle.task_ast.specs.meaning.Turn.{look}
+use Rattle.task_ast.specs.Turn.{look}
 use Rattle.one_thread.specs.inner.View.{table_of}
 use Rattle.one_thread.proofs.seats.Table.first_live.Given as goal
 

@@ -8,7 +8,7 @@ use Rattle.ended_seats.specs.Idle.{IdleFrom}
 use Rattle.one_thread.specs.inner.View.{table_of, seat_of}
 use Rattle.one_thread.proofs.Looking.{token-is}
 use Rattle.task_ast.specs.Looking.{begun}
-use Rattle.task_ast.specs.meaning.Table.{unpassed}
+use Rattle.task_ast.specs.Table.{unpassed}
 use Rattle.ended_seats.proofs.Idle.{idle_put, idle_unpassed, idle_issued, mark_within, grown_within}
 use Rattle.one_thread.proofs.seats.Table.issue.Goals as goal
 

@@ -1,5 +1,5 @@
 use Rattle.std.proofs.Common.{◌≡◌}
-use Rattle.task_ast.specs.meaning.Turn.{next_issue, turns_left}
+use Rattle.task_ast.specs.Turn.{next_issue, turns_left}
 use Rattle.one_thread.specs.inner.Holding.{AreHeld}
 use Rattle.one_thread.specs.inner.View.{table_of, MarkStands}
 use Rattle.one_thread.proofs.seats.Table.next_issue.Given as goal

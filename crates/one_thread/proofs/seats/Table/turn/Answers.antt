@@ -3,7 +3,7 @@ use Rattle.std.proofs.lemmas.Int.{to_z-of_z}
 use Rattle.gp_base.specs.declared.ending.End.TheVariants.{Spent}
 use Rattle.task_ast.specs.declared.sync.SyncOp.TheVariants as sync
 use Rattle.task_ast.specs.meaning.Repeat.{Done}
-use Rattle.task_ast.specs.meaning.Turn.{tried, issuing, Ended}
+use Rattle.task_ast.specs.Turn.{tried, issuing, Ended}
 use Rattle.one_thread.specs.inner.View.{table_of, seat_of}
 use Rattle.task_ast.proofs.SeenSeats.{turn-tries, next-at, last-at}
 use Rattle.one_thread.proofs.Looking.{seen-get}

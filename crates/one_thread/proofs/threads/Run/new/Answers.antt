@@ -3,7 +3,8 @@ use Rattle.task_ast.specs.declared.tree.TaskText.{TaskText}
 use Rattle.task_ast.specs.meaning.Names.{records_of, feeds_of, barriers_of, cells_in, locks_of, is_name}
 use Rattle.task_ast.specs.meaning.Declarations.{main}
 use Rattle.task_ast.specs.meaning.State.{number_at}
-use Rattle.task_ast.specs.meaning.Table.{numbers, new_seat}
+use Rattle.task_ast.specs.meaning.Table.{numbers}
+use Rattle.task_ast.specs.Table.{new_seat}
 use Rattle.one_thread.proofs.Looking.{at-get}
 use Rattle.one_thread.proofs.Openings.{opening-holds}
 use Rattle.one_thread.proofs.threads.Run.new.Goals as goal

@@ -1,5 +1,5 @@
 use Rattle.std.proofs.Common.{◌≡◌, ◌<◌, ◌∙◌, ap, sym, subst}
-use Rattle.task_ast.specs.meaning.Turn.{Issue, next_issue}
+use Rattle.task_ast.specs.Turn.{Issue, next_issue}
 use Rattle.one_thread.specs.inner.View.{table_of, gave}
 use Rattle.one_thread.proofs.Running.{issue-inside, issue-stays, issue-goes}
 use Rattle.one_thread.proofs.threads.Run.next.Goals as goal

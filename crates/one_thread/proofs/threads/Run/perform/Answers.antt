@@ -5,7 +5,7 @@ use Rattle.task_ast.specs.View.{plain_task}
 use Rattle.one_thread.specs.inner.Subthreads.{settled, RanWith}
 use Rattle.one_thread.specs.inner.Runs.{joined_of}
 use Rattle.one_thread.specs.inner.View.{table_of}
-use Rattle.task_ast.specs.meaning.Table.{learning}
+use Rattle.task_ast.specs.Table.{learning}
 use Rattle.task_ast.proofs.Looks.{get-at}
 use Rattle.one_thread.proofs.threads.Run.perform.Goals as goal
 

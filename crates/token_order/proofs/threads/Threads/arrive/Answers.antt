@@ -6,7 +6,7 @@ use Rattle.token_order.specs.View.{table, seat_of}
 use Rattle.task_ast.proofs.Looks.{get-at}
 use Rattle.task_ast.proofs.SeenSeats.{arrived-is}
 use Rattle.token_order.specs.declared.threads.Stand.TheVariants.{Waits}
-use Rattle.task_ast.specs.meaning.Table.{Table, unpassed}
+use Rattle.task_ast.specs.Table.{Table, unpassed}
 use Rattle.ended_seats.proofs.Idle.{mark_arrived, idle_nth, idle_unpassed}
 use Rattle.token_order.proofs.threads.Threads.arrive.Goals as goal
 

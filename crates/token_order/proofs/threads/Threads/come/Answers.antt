@@ -1,7 +1,7 @@
 use Rattle.std.proofs.Common.{◌<◌, ◌≤◌, ◌+◌, ◌∙◌, sym, ap, refl, rules, subst}
 use Rattle.std.proofs.lemmas.Bool.{le-ltb}
-use Rattle.task_ast.specs.meaning.Table.{next_of}
-use Rattle.task_ast.specs.meaning.Turn.{issuing, passing}
+use Rattle.task_ast.specs.Table.{next_of}
+use Rattle.task_ast.specs.Turn.{issuing, passing}
 use Rattle.token_order.specs.View.{table}
 use Rattle.token_order.specs.Turned.{Answered}
 use Rattle.token_order.proofs.Barriers.{comes, one_waits, last_goes, spent_issue}

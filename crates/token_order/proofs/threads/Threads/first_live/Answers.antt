@@ -1,6 +1,6 @@
 use Rattle.std.proofs.Common.{◌≡◌, ◌∙◌, sym, ap, arith, length, suc, ◌+◌, ◌-◌, ◌<◌}
 use Rattle.task_ast.specs.meaning.Table.{numbers}
-use Rattle.task_ast.specs.meaning.Turn.{look}
+use Rattle.task_ast.specs.Turn.{look}
 use Rattle.token_order.specs.View.{table, seat_of}
 use Rattle.task_ast.proofs.SeenSeats.{look-past}
 use Rattle.token_order.proofs.Turning.{seen}

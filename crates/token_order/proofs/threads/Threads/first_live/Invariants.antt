@@ -1,6 +1,6 @@
 use Rattle.std.proofs.Common.{◌≡◌, ◌-◌}
 use Rattle.task_ast.specs.meaning.Table.{numbers}
-use Rattle.task_ast.specs.meaning.Turn.{look}
+use Rattle.task_ast.specs.Turn.{look}
 use Rattle.token_order.specs.View.{table}
 use Rattle.token_order.proofs.threads.Threads.first_live.Given as goal
 

@@ -2,7 +2,7 @@ use Rattle.std.proofs.Common.{◌<◌, ap, cond, length, arith, rules}
 use Rattle.std.proofs.lemmas.List.{length-map}
 use Rattle.std.proofs.lemmas.Bool.{lt-ltb}
 use Rattle.gp_base.specs.declared.ending.Why.TheVariants as why
-use Rattle.task_ast.specs.meaning.Turn.{issuing, stuck}
+use Rattle.task_ast.specs.Turn.{issuing, stuck}
 use Rattle.token_order.specs.View.{table, seat_of}
 use Rattle.token_order.proofs.Turning.{by}
 use Rattle.token_order.proofs.threads.Threads.fork.Goals as goal

@@ -7,7 +7,7 @@ use Rattle.task_ast.proofs.SeenSeats.{issued-as}
 use Rattle.ended_seats.specs.Idle.{IdleFrom}
 use Rattle.token_order.specs.View.{table, seat_of}
 use Rattle.task_ast.specs.Looking.{begun}
-use Rattle.task_ast.specs.meaning.Table.{unpassed}
+use Rattle.task_ast.specs.Table.{unpassed}
 use Rattle.ended_seats.proofs.Idle.{idle_put, idle_unpassed, idle_issued, mark_within}
 use Rattle.token_order.proofs.threads.Threads.issue.Goals as goal
 

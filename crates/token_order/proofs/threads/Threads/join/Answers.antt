@@ -1,7 +1,7 @@
 use Rattle.std.proofs.Common.{◌≡◌, sym, ap, ◌∙◌, refl, cond, length, Some, rules, w64, SFits}
 use Rattle.std.proofs.lemmas.Int.{to_z-of_z}
 use Rattle.std.proofs.lemmas.List.{length-map}
-use Rattle.task_ast.specs.meaning.Turn.{issuing, passing, at_join}
+use Rattle.task_ast.specs.Turn.{issuing, passing, at_join}
 use Rattle.token_order.specs.View.{table, seat_of}
 use Rattle.task_ast.specs.Looking.{joined_in}
 use Rattle.task_ast.proofs.SeenSeats.{next-at}

@@ -1,7 +1,8 @@
 use Rattle.std.proofs.Common.{sym, ap, ◌∙◌, cond, is_none}
 use Rattle.std.specs.Prelude.{slice_get}
 use Rattle.std.specs.Option.{option_and_then}
-use Rattle.task_ast.specs.meaning.Turn.{issuing, passing}
+use Rattle.task_ast.specs.Table.{owner_in}
+use Rattle.task_ast.specs.Turn.{issuing, passing}
 use Rattle.token_order.specs.View.{table}
 use Rattle.token_order.proofs.Turning.{by}
 use Rattle.token_order.proofs.threads.Threads.lock.Goals as goal
@@ -10,6 +11,6 @@ pub returns-then-is_free-clause-answer : goal.returns-then-is_free-clause-answer
 returns-then-is_free-clause-answer c next known =
     by (table c.args.self.now) (table c.issue.new.self) c.issue.result
     (ap (λ b. cond b (issuing (table c.args.self.now) c.args.t next) (passing (table c.args.self.now) c.args.t))
-    (ap (λ owners. is_none (option_and_then (λ o. o) (slice_get owners c.args.lock))) (sym c.deref.ensures.value) ∙ sym c.is_free.ensures
+    (ap (λ owners. is_none (owner_in owners c.args.lock)) (sym c.deref.ensures.value) ∙ sym c.is_free.ensures
     ∙ c.if-is_free.true))
     (c.issue.ensures.answer next known)

@@ -1,6 +1,6 @@
 use Rattle.std.proofs.Common.{◌≡◌, sym, subst, map, rules}
 use Rattle.std.proofs.lemmas.List.{with_items_is}
-use Rattle.task_ast.specs.meaning.Turn.{released_at}
+use Rattle.task_ast.specs.Turn.{released_at}
 use Rattle.ended_seats.specs.Idle.{IdleFrom}
 use Rattle.token_order.specs.View.{seat_of}
 use Rattle.ended_seats.proofs.Idle.{idle_released}

@@ -4,8 +4,8 @@ use Rattle.gp_base.specs.declared.ending.End.TheVariants as ends
 use Rattle.task_ast.specs.declared.sync.SyncOp.TheVariants as sync
 use Rattle.task_ast.specs.declared.sync.Next.{Next}
 use Rattle.task_ast.specs.meaning.Repeat.{Done}
-use Rattle.task_ast.specs.meaning.Table.{next_of}
-use Rattle.task_ast.specs.meaning.Turn.{Ended, tried}
+use Rattle.task_ast.specs.Table.{next_of}
+use Rattle.task_ast.specs.Turn.{Ended, tried}
 use Rattle.token_order.specs.View.{table, seat_of}
 use Rattle.token_order.specs.Turned.{Answered}
 use Rattle.task_ast.proofs.SeenSeats.{turn-tries, next-at, last-at}

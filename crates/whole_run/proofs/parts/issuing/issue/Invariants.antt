@@ -1,4 +1,4 @@
-use Rattle.task_ast.specs.meaning.Turn.{turns_left}
+use Rattle.task_ast.specs.Turn.{turns_left}
 use Rattle.whole_run.specs.inner.Kept.{batch_in}
 use Rattle.whole_run.specs.inner.Prepared.{KeepsView}
 use Rattle.whole_run.proofs.parts.issuing.issue.Given as goal
