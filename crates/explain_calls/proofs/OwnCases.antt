@@ -1,5 +1,6 @@
 -- The case of a call that explains.
 use Rattle.std.proofs.Common.{◌≡◌, ◌∙◌, ◌++◌, ℕ, List, [], IfSome, refl, sym, subst, inl, inr, append-nil}
+use Rattle.std.specs.Prelude.{codes}
 use Rattle.std.specs.declared.option.Option.{Option}
 use Rattle.std.specs.declared.option.Option.TheVariants.{None, Some}
 use Rattle.std.specs.declared.result.Result.{Result}
@@ -18,7 +19,7 @@ use Rattle.call_cases.specs.Refusals.{AnswersCase, RefusesCase, RefusesShelf}
 use Rattle.call_cases.proofs.Answering.{answers_map, asked_case}
 use Rattle.explain_calls.specs.Endings.{IsOrShort, KeepsFor, LeavesShelf}
 use Rattle.explain_calls.specs.meaning.Commands.{asking, explained_by}
-use Rattle.explain_calls.specs.meaning.Fronts.{front, IsText}
+use Rattle.explain_calls.specs.meaning.Fronts.{front, unread_line, IsText}
 
 own_case : (asked : Asked) (files : Files) (case : Case ToDo) → IsCaseOf run.asking asked files case → IsCaseOf asking asked files case
 own_case asked files case (no_program absent) = no_program absent
@@ -40,8 +41,8 @@ words_answer words told asked result some is = asked_case asking words case_of t
 
 -- each case has a text
 pub some_text : (case : Case ToDo) → (text : List ℕ) × IsText case text
-some_text Usage = ([], refl)
-some_text (Missing names name) = ([], refl)
+some_text Usage = (codes "hint: ", ([], sym (append-nil (codes "hint: "))))
+some_text (Missing names name) = (unread_line name, ([], sym (append-nil (unread_line name))))
 some_text (BadProgram name line) = ([], tt)
 some_text (BadInput names line) = ([], tt)
 some_text (Go names work) =
