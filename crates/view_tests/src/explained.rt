@@ -248,6 +248,7 @@ task p(i, j) {
   unlock l[i];
 }
 task main() {
+  var k;
   fork p(0, 1);
   fork p(1, 2);
   fork p(2, 0);
