@@ -1,7 +1,7 @@
 // Why a program breaks a rule of the check.
 ghost use Rattle.std.specs.Prelude.{◌≡◌, ◌<◌, ◌⊎◌, ◌^◌, length, OnOk};
-ghost use Rattle.text_places.specs.meaning.Tokens.{BeginsAt};
-ghost use Rattle.refusal_texts.specs.meaning.Refusals.{kind_number, IsCheckRefusal};
+ghost use Rattle.text_places.specs.Tokens.{BeginsAt};
+ghost use Rattle.refusal_texts.specs.Refusals.{kind_number, IsCheckRefusal};
 
 use crate::front::{Rule, push_refusal};
 use crate::hints::check_hints;
