@@ -1,7 +1,8 @@
 -- The first row that breaks a rule, where rows were passed.
 use Rattle.std.proofs.Common.{◌≡◌, ◌∙◌, ◌+◌, List, [], ◌∷◌, ◌++◌, length, refl, sym, ap, append_assoc, Option, Some, None}
 use Rattle.std.proofs.lemmas.List.{append-nil}
-use Rattle.batch_files.specs.meaning.Rows.{Row, Rule, broken_or, first_broken}
+use Rattle.std.specs.Option.{option_map_or}
+use Rattle.batch_files.specs.meaning.Rows.{Row, Rule, first_broken}
 use Rattle.batch_files.specs.declared.fault.FileKind.{FileKind}
 
 pub broken_past : (rule : Rule) (before rows rest : List Row) → first_broken rule before rows ≡ None
@@ -12,8 +13,8 @@ broken_past rule before (row ∷ rows) rest e = go (rule before row) (broken_pas
   where
     go : (o : Option FileKind) → (first_broken rule (before ++ row ∷ []) rows ≡ None
         → first_broken rule (before ++ row ∷ []) (rows ++ rest) ≡ first_broken rule ((before ++ row ∷ []) ++ rows) rest)
-        → broken_or o (length before + 1) (first_broken rule (before ++ row ∷ []) rows) ≡ None
-        → broken_or o (length before + 1) (first_broken rule (before ++ row ∷ []) (rows ++ rest))
+        → option_map_or (λ kind. Some (kind, length before + 1)) o (first_broken rule (before ++ row ∷ []) rows) ≡ None
+        → option_map_or (λ kind. Some (kind, length before + 1)) o (first_broken rule (before ++ row ∷ []) (rows ++ rest))
         ≡ first_broken rule (before ++ row ∷ rows) rest
     go None later e = later e ∙ ap (λ passed. first_broken rule passed rest) (append_assoc before (row ∷ []) rows)
     go (Some kind) later e = cc e

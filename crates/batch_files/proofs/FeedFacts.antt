@@ -1,6 +1,7 @@
 -- The cells that the rows of a file of a feed write.
 use Rattle.std.proofs.Common.{◌≡◌, ◌∙◌, ◌+◌, ◌*◌, ◌<◌, ◌≤◌, ℕ, ℤ, zero, suc, true, false, List, [], ◌∷◌, ◌++◌, length, take, refl, sym, ap, arith, Option, Some, None, length-append, add-one}
-use Rattle.std.specs.Prelude.{◌==◌, nat_le, unwrap_or}
+use Rattle.std.specs.Prelude.{◌==◌, nat_le, option_map, unwrap_or}
+use Rattle.std.specs.Option.{option_zip}
 use Rattle.std.proofs.Math.Nat.{suc-mul}
 use Rattle.std.proofs.lemmas.Bool.Decides.{nat_tests}
 use Rattle.std.proofs.lemmas.Grind.{flat_map-append}
@@ -8,7 +9,7 @@ use Rattle.std.proofs.lemmas.List.{append-nil}
 use Rattle.csv.specs.Records.{field_at}
 use Rattle.batch_files.specs.meaning.Numbers.{field_number, signed_number}
 use Rattle.batch_files.specs.meaning.Rows.{Row}
-use Rattle.batch_files.specs.meaning.Feeds.{cells_of, feed_rule, number_before, numbers_of}
+use Rattle.batch_files.specs.meaning.Feeds.{cells_of, feed_rule, numbers_of}
 use Rattle.batch_files.specs.Feeds.{AreCells}
 use Rattle.batch_files.specs.declared.fault.FileKind.TheVariants.{Number, TooMany}
 
@@ -26,7 +27,7 @@ numbers_more (f ∷ fs) (suc i) number numbers e so_far =
   where
     go : (first : Option ℤ) (rest : Option (List ℤ)) → numbers_of (take i fs) ≡ rest
         → ((ns : List ℤ) → numbers_of (take i fs) ≡ Some ns → numbers_of (take (suc i) fs) ≡ Some (ns ++ number ∷ []))
-        → number_before first rest ≡ Some numbers → number_before first (numbers_of (take (suc i) fs)) ≡ Some (numbers ++ number ∷ [])
+        → option_map (λ both. both.0 ∷ both.1) (option_zip first rest) ≡ Some numbers → option_map (λ both. both.0 ∷ both.1) (option_zip first (numbers_of (take (suc i) fs))) ≡ Some (numbers ++ number ∷ [])
     go (Some n) (Some ns) is later e = let whole : n ∷ ns ≡ numbers = cc e in rw (later ns is, ← whole) refl
     go (Some n) None is later e = cc e
     go None rest is later e = cc e
@@ -38,7 +39,7 @@ no_numbers [] i lt e = absurd (omega (arith, lt))
 no_numbers (f ∷ fs) zero lt e = rw e refl
 no_numbers (f ∷ fs) (suc i) lt e = go (signed_number f) (no_numbers fs i (omega (arith, lt)) e)
   where
-    go : (first : Option ℤ) → numbers_of fs ≡ None → number_before first (numbers_of fs) ≡ None
+    go : (first : Option ℤ) → numbers_of fs ≡ None → option_map (λ both. both.0 ∷ both.1) (option_zip first (numbers_of fs)) ≡ None
     go (Some n) none = rw none refl
     go None none = refl
 
@@ -49,7 +50,7 @@ length-numbers (f ∷ fs) numbers e = go (signed_number f) (numbers_of fs) (λ n
   where
     go : (first : Option ℤ) (rest : Option (List ℤ)) → ((ns : List ℤ) → numbers_of fs ≡ Some ns → length ns ≡ length fs)
         → numbers_of fs ≡ rest
-        → number_before first rest ≡ Some numbers → length numbers ≡ length (f ∷ fs)
+        → option_map (λ both. both.0 ∷ both.1) (option_zip first rest) ≡ Some numbers → length numbers ≡ length (f ∷ fs)
     go (Some n) (Some ns) later is e =
         let whole : n ∷ ns ≡ numbers = cc e in
         rw (← whole) (ap suc (later ns is))

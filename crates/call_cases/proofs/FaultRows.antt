@@ -3,7 +3,7 @@ use Rattle.std.proofs.Common.{◌≡◌, ℕ, suc, ℤ, pos, negsuc, ◌+◌, �
 use Rattle.std.specs.Prelude.{IfSome, IfOk}
 use Rattle.std.specs.List.{All, cons_option, list_any}
 use Rattle.std.specs.Ordering.{int_eq}
-use Rattle.std.specs.Option.{ok_or}
+use Rattle.std.specs.Option.{ok_or, option_map_or}
 use Rattle.std.specs.Result.{result_ok}
 use Rattle.std.specs.declared.option.Option.{Option}
 use Rattle.std.specs.declared.option.Option.TheVariants.{None, Some}
@@ -15,7 +15,7 @@ use Rattle.gp_base.specs.meaning.Faults.{strikes_same}
 use Rattle.gp_base.specs.declared.fault.Fault.{Fault}
 use Rattle.gp_base.specs.declared.limits.TheConstants.{LONGEST_DELAY, MOST_FAULTS}
 use Rattle.batch_files.specs.meaning.Numbers.{natural_below, field_number}
-use Rattle.batch_files.specs.meaning.Rows.{Broken, Row, broken_or, first_broken, unless_broken}
+use Rattle.batch_files.specs.meaning.Rows.{Broken, Row, first_broken}
 use Rattle.batch_files.specs.meaning.Faults.{fault_in_range, fault_in, fault_with, fault_of, faults_of, strike_rule, fault_rule, faults_by}
 use Rattle.batch_files.specs.declared.fault.FileKind.{FileKind}
 use Rattle.batch_files.specs.declared.fault.FileKind.TheVariants.{Fields, Range, Twice, TooMany}
@@ -103,7 +103,7 @@ few_rows before (row ∷ rows) whole few = go (few_rows (before ++ row ∷ []) r
     go : (first_broken fault_rule (before ++ row ∷ []) rows ≡ None → length (before ++ row ∷ []) ≤ MOST_FAULTS
         → length (before ++ row ∷ []) + length rows ≤ MOST_FAULTS)
         → (o : Option FileKind) → fault_rule before row ≡ o
-        → broken_or o (length before + 1) (first_broken fault_rule (before ++ row ∷ []) rows) ≡ None
+        → option_map_or (λ kind. Some (kind, length before + 1)) o (first_broken fault_rule (before ++ row ∷ []) rows) ≡ None
         → length before + length (row ∷ rows) ≤ MOST_FAULTS
     go later (Some kind) same broken = cc broken
     go later None same rest =
@@ -116,7 +116,7 @@ few_rows before (row ∷ rows) whole few = go (few_rows (before ++ row ∷ []) r
 pub narrow_file : (rows : List Row) → IfOk (faults_by rows) (AreNarrow MOST_FAULTS)
 narrow_file rows = go (first_broken fault_rule [] rows) refl
   where
-    go : (broken : Option Broken) → first_broken fault_rule [] rows ≡ broken → IfOk (unless_broken broken (faults_of rows)) (AreNarrow MOST_FAULTS)
+    go : (broken : Option Broken) → first_broken fault_rule [] rows ≡ broken → IfOk (option_map_or Err broken (Ok (faults_of rows))) (AreNarrow MOST_FAULTS)
     go (Some broken) same = tt
     go None same =
         let are = narrow_rows rows in

@@ -1,12 +1,13 @@
 -- The inputs that are read have as many cells and feeds as the heads declare.
-use Rattle.std.proofs.Common.{◌≡◌, ◌∙◌, ℕ, ◌+◌, ◌<◌, ◌≤◌, zero, suc, ℤ, pos, List, [], ◌∷◌, ◌++◌, Ok, Option, None, Some, length, take, get_or, refl, sym, ap, subst, arith, add-one, unwrap_or}
+use Rattle.std.proofs.Common.{◌≡◌, ◌∙◌, ℕ, ◌+◌, ◌<◌, ◌≤◌, zero, suc, ℤ, pos, List, [], ◌∷◌, ◌++◌, Ok, Err, Option, None, Some, length, take, get_or, refl, sym, ap, subst, arith, add-one, unwrap_or}
 use Rattle.std.proofs.lemmas.List.{length-append, take_all}
+use Rattle.std.specs.Option.{option_map_or}
 use Rattle.gp_base.specs.declared.feed.Inputs.{Inputs}
 use Rattle.task_ast.specs.declared.tree.Head.{Head}
 use Rattle.task_ast.specs.declared.tree.Head.TheVariants.{LockHead, BarrierHead, RecHead, FeedHead}
 use Rattle.task_ast.specs.meaning.Names.{natural, records_of, cells_in}
 use Rattle.task_ast.specs.Inputs.{fields_of}
-use Rattle.batch_files.specs.meaning.Rows.{Broken, Row, csv_rows, unless_broken, first_broken}
+use Rattle.batch_files.specs.meaning.Rows.{Broken, Row, csv_rows, first_broken}
 use Rattle.batch_files.specs.meaning.Records.{cells_below, record_rule, indexed_value}
 use Rattle.call_cases.specs.meaning.InputFiles.{record_rows}
 use Rattle.call_cases.specs.inner.Loading.{Counts, Grows}
@@ -18,7 +19,7 @@ below_length size (suc n) rows =
     ∙ add-one n
 
 meant_length : (size : ℕ) (rows : List Row) (broken : Option Broken) (cells : List ℤ)
-    → unless_broken broken (cells_below size size rows) ≡ Ok cells → length cells ≡ size
+    → option_map_or Err broken (Ok (cells_below size size rows)) ≡ Ok cells → length cells ≡ size
 meant_length size rows None cells is =
     let same : cells_below size size rows ≡ cells = cc is in
     ap length (sym same) ∙ below_length size size rows

@@ -1,18 +1,15 @@
 -- What the rows of a file of a feed mean.
-use Rattle.std.specs.Prelude.{◌+◌, ◌*◌, ◌==◌, ℕ, ℤ, List, [], ◌∷◌, flat_map, if◌then◌else◌, nat_le, length, Option, Some, None, unwrap_or, Result}
+use Rattle.std.specs.Prelude.{◌+◌, ◌*◌, ◌==◌, ℕ, ℤ, List, [], ◌∷◌, flat_map, if◌then◌else◌, nat_le, length, Option, Some, None, option_map, unwrap_or, Result}
+use Rattle.std.specs.Option.{option_zip}
 use Rattle.batch_files.specs.meaning.Numbers.{signed_number}
 use Rattle.batch_files.specs.meaning.Rows.{Broken, Row, by_rule}
 use Rattle.batch_files.specs.declared.fault.FileKind.{FileKind}
 use Rattle.batch_files.specs.declared.fault.FileKind.TheVariants.{Fields, Number, TooMany}
 
-abbrev pub number_before : Option ℤ → Option (List ℤ) → Option (List ℤ)
-number_before (Some number) (Some numbers) = Some (number ∷ numbers)
-number_before number numbers = None
-
 -- the numbers that all fields of a row write, if each writes one
 abbrev pub numbers_of : Row → Option (List ℤ)
 numbers_of [] = Some []
-numbers_of (field ∷ rest) = number_before (signed_number field) (numbers_of rest)
+numbers_of (field ∷ rest) = option_map (λ both. both.0 ∷ both.1) (option_zip (signed_number field) (numbers_of rest))
 
 -- the rule that a row with as many fields as are asked for breaks
 abbrev pub cells_rule : (fields room : ℕ) → List Row → Option (List ℤ) → Option FileKind

@@ -1,5 +1,6 @@
 -- The rows of a file, and the first of them that breaks a rule.
 use Rattle.std.specs.Prelude.{ℕ, ◌+◌, List, [], ◌∷◌, ◌++◌, length, Option, Some, None, Result, Ok, Err}
+use Rattle.std.specs.Option.{option_map_or}
 use Rattle.csv.specs.Reading.{default_config, records, strip_bom}
 use Rattle.batch_files.specs.declared.fault.FileKind.{FileKind}
 
@@ -19,22 +20,12 @@ Broken = FileKind × ℕ
 abbrev pub Rule : Type 0
 Rule = List Row → Row → Option FileKind
 
--- the row of this number, if it breaks a rule, or else a later one
-abbrev pub broken_or : Option FileKind → ℕ → Option Broken → Option Broken
-broken_or None number later = later
-broken_or (Some kind) number later = Some (kind, number)
-
 -- the first row that breaks a rule; `before` are the rows that were passed
 unfoldable pub first_broken : Rule → (before rows : List Row) → Option Broken
 first_broken rule before [] = None
 first_broken rule before (row ∷ rest) =
-    broken_or (rule before row) (length before + 1) (first_broken rule (before ++ row ∷ []) rest)
-
--- the broken row, or else what the rows mean
-abbrev pub unless_broken : {T : Type 0} → Option Broken → T → Result T Broken
-unless_broken None meaning = Ok meaning
-unless_broken (Some broken) meaning = Err broken
+    option_map_or (λ kind. Some (kind, length before + 1)) (rule before row) (first_broken rule (before ++ row ∷ []) rest)
 
 -- what rows mean by this function, or the first of them that breaks a rule
 abbrev pub by_rule : {T : Type 0} → Rule → (List Row → T) → List Row → Result T Broken
-by_rule rule meaning rows = unless_broken (first_broken rule [] rows) (meaning rows)
+by_rule rule meaning rows = option_map_or Err (first_broken rule [] rows) (Ok (meaning rows))
