@@ -36,20 +36,18 @@ fn column(program: &[u8], at: u32) -> usize {
         .count()
 }
 
-// The first token of the line of this one.
+// The first token of the line of this one, by their numbers.
 fn line_start(tokens: &[Token], number: usize) -> usize {
-    let mut start = number;
-    while start > 0 && are_in_one_line(tokens, start - 1, number) {
-        start -= 1;
-    }
-    start
-}
-
-fn are_in_one_line(tokens: &[Token], one: usize, other: usize) -> bool {
-    match (tokens.get(one), tokens.get(other)) {
-        (Some(one), Some(other)) => one.line == other.line,
-        _ => false,
-    }
+    let (Some(token), Some(before)) = (tokens.get(number), tokens.get(..number)) else {
+        return number;
+    };
+    let line = token.line;
+    let beside = before
+        .iter()
+        .rev()
+        .take_while(|other| other.line == line)
+        .count();
+    number.saturating_sub(beside)
 }
 
 // Where the line of a token begins, in bytes from the line's first.
