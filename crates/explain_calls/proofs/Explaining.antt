@@ -22,7 +22,7 @@ use Rattle.view_calls.specs.Lines.{refusal_line, refusal_status}
 use Rattle.view_calls.specs.meaning.Lines.{read_fault_line, out_of_memory_line, write_fault_line, under_own_name, usage_line}
 use Rattle.view_calls.specs.meaning.Shows.{View, FailsToRead, IsLine}
 use Rattle.explain_calls.specs.meaning.Commands.{explained_by, asking, case_status, case_line}
-use Rattle.explain_calls.specs.meaning.Fronts.{IsText, TellsUnread}
+use Rattle.explain_calls.specs.meaning.Fronts.{IsHint, IsText}
 use Rattle.explain_calls.specs.meaning.Explains.{IsExplained, IsOwnText, Explains}
 use Rattle.explain_calls.specs.Endings.{TellEnds, RunTold, TextFor, LeavesShelf}
 use Rattle.explain_calls.proofs.Outcomes.{IsOwn, WriteFails, Outcome, done, failed, short, outcome, outcome_part, none_part}
@@ -180,7 +180,7 @@ module _ (words : List (List ℕ)) (files : Option Files) (before now : List Nam
   module _ (text : List ℕ) (due : ℕ) (line : List ℕ) (yields : (case : Case ToDo) → Yields (case_status case) (Grew before now) Faults due)
       (apart : (due ≡ 7) ⊎ (due ≡ 1)) (none : explained_by words ≡ None → Yields 2 ⊥ Faults due)
       (reads : (status : ℕ) → due ≡ 7 → (name : Name) × FailsToRead asking (view status) name × (line ≡ read_fault_line name)
-      × TellsUnread name text)
+      × IsHint text)
       (texts : (status : ℕ) → TakesPart out text → For (λ case. (told : List ℕ) × IsOwnText (view status) case told × TakesPart out told))
       (lines : For (λ case. IsLine (Grew before now) (case_line case) (names_read case) line)) where
     other_status : (status : ℕ) → Outcome text due line out err status
@@ -207,9 +207,9 @@ module _ (words : List (List ℕ)) (files : Option Files) (before now : List Nam
 
     other_read : (status : ℕ) → Outcome text due line out err status → status ≡ 7
         → (name : Name) × FailsToRead asking (view status) name × TakesAll err (read_fault_line name)
-        × (told : List ℕ) × TellsUnread name told × TakesAll out told
+        × (told : List ℕ) × IsHint told × TakesAll out told
     other_read status (done all taken) seven =
-        let found = reads due seven in (found.0, found.1, subst (TakesAll err) found.2.0 taken, text, found.2.1, all)
+        let found = reads due seven in (found.0, found.1, subst (TakesAll err) found.2 taken, text, found.3, all)
     other_read status (failed part l own taken fails) seven = absurd (omega (arith, seven))
     other_read status (short part l own taken) seven = absurd (omega (arith, seven))
 
@@ -286,11 +286,11 @@ module _ (words : List (List ℕ)) (files : Option Files) (before now : List Nam
       (λ _. tt) (inr (inr (inr refl))) (λ two. absurd (omega (arith, two))) (λ none. absurd (no_command none))
       (λ ran. absurd (grind (arith, ran))) (λ ran. absurd (grind (arith, ran))) unread status
       (outcome text 4 (under_own_name told) out err status ends)
-  refusal_explains (ReadFault name) text status tells no_command unread is shelf ends =
+  refusal_explains (ReadFault name) text status hint no_command unread is shelf ends =
       explains_other text 7 (read_fault_line name) (λ case. read_fault shelf.1) (inl refl) (λ none. absurd (no_command none))
-      (λ status seven. (name, fails_in status, refl, tells))
+      (λ status seven. (name, record { read = read_in files is; alone = shelf.0; grew = shelf.1 }, refl, hint))
       (λ status part. for_each asking words files (λ case. (told : List ℕ) × IsOwnText (view status) case told × TakesPart out told)
-      (λ case. (text, inr (name, fails_in status, tells), part)))
+      (λ case. (text, inr (shelf.1, hint), part)))
       (line_in files is) unread status (outcome text 7 (read_fault_line name) out err status ends)
     where
       read_in : (told : Option Files)
@@ -299,9 +299,6 @@ module _ (words : List (List ℕ)) (files : Option Files) (before now : List Nam
       read_in None one = tt
       read_in (Some some) (case, one, reads) =
           for_known asking words (Some some) case (λ c. Contains (names_read c) name) one reads
-
-      fails_in : (status : ℕ) → FailsToRead asking (view status) name
-      fails_in status = record { read = read_in files is; alone = shelf.0; grew = shelf.1 }
 
       line_in : (told : Option Files)
           → IfSome told (λ some. (case : Case ToDo) × IsCase asking words some case × Contains (names_read case) name)

@@ -19,7 +19,7 @@ use Rattle.call_cases.specs.Refusals.{AnswersCase, RefusesCase, RefusesShelf}
 use Rattle.call_cases.proofs.Answering.{answers_map, asked_case}
 use Rattle.explain_calls.specs.Endings.{IsOrShort, KeepsFor, LeavesShelf}
 use Rattle.explain_calls.specs.meaning.Commands.{asking, explained_by}
-use Rattle.explain_calls.specs.meaning.Fronts.{front, unread_line, IsText}
+use Rattle.explain_calls.specs.meaning.Fronts.{front, IsText}
 
 own_case : (asked : Asked) (files : Files) (case : Case ToDo) → IsCaseOf run.asking asked files case → IsCaseOf asking asked files case
 own_case asked files case (no_program absent) = no_program absent
@@ -42,7 +42,7 @@ words_answer words told asked result some is = asked_case asking words case_of t
 -- each case has a text
 pub some_text : (case : Case ToDo) → (text : List ℕ) × IsText case text
 some_text Usage = (codes "hint: ", ([], sym (append-nil (codes "hint: "))))
-some_text (Missing names name) = (unread_line name, ([], sym (append-nil (unread_line name))))
+some_text (Missing names name) = (codes "hint: ", ([], sym (append-nil (codes "hint: "))))
 some_text (BadProgram name line) = ([], tt)
 some_text (BadInput names line) = ([], tt)
 some_text (Go names work) =

@@ -17,7 +17,7 @@ use Rattle.call_cases.specs.Answers.{LineEnds}
 use Rattle.call_cases.specs.Refusals.{RefusesShelf}
 use Rattle.view_calls.specs.Lines.{fault_line, fault_status}
 use Rattle.explain_calls.specs.declared.reading.Explained.{Explained}
-use Rattle.explain_calls.specs.meaning.Fronts.{IsHint, IsText, TellsUnread}
+use Rattle.explain_calls.specs.meaning.Fronts.{IsHint, IsText}
 
 -- A text was written whole, and then the line that is due; or a part of it was written, and the line that tells why.
 pub data TellEnds (text : List ℕ) (due : ℕ) (line : List ℕ) (out err : Change) : ℕ → Type 0 where
@@ -48,7 +48,7 @@ abbrev pub TextFor : Refusal → List ℕ → Type 0
 TextFor Usage text = IsHint text
 TextFor (BadProgram line) text = ⊤
 TextFor (BadInput line) text = ⊤
-TextFor (ReadFault name) text = TellsUnread name text
+TextFor (ReadFault name) text = IsHint text
 TextFor OutOfMemory text = text ≡ []
 
 -- The reads failed as they do where a request is read, but for those of a refused file, which is read once more.

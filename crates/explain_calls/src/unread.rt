@@ -1,7 +1,7 @@
 // What is told of a file that could not be read.
 ghost use Rattle.std.specs.Prelude.{◌≤◌, length, IfOk};
 ghost use Rattle.gp_base.specs.declared.limits.TheConstants.{MOST_PROGRAM_BYTES};
-ghost use Rattle.explain_calls.specs.meaning.Fronts.{TellsUnread};
+ghost use Rattle.explain_calls.specs.meaning.Fronts.{IsHint};
 
 use crate::refused::program_of;
 use gp_base::{Name, Text};
@@ -78,14 +78,17 @@ fn push_naming(
 
 // A text on a file that could not be read, with these hints behind it.
 fn with_hints(alloc: Global, file: &Name, hints: &[u8]) -> Result<Vec<u8>, AllocError>
-    ensures { IfOk result (λ told. TellsUnread file.now told.items) }
+    ensures { IfOk result (λ told. IsHint told.items) }
 {
-    let mut told = Vec::new(alloc);
-    told.extend_from_slice(file.as_slice())?;
-    told.extend_from_slice(
+    let mut more = Vec::new(alloc);
+    more.extend_from_slice(file.as_slice())?;
+    more.extend_from_slice(
         b" cannot be read: there is no such file, or it is a folder, or it may not be read\n",
     )?;
-    told.extend_from_slice(hints)?;
+    more.extend_from_slice(hints)?;
+    let mut told = Vec::new(alloc);
+    told.extend_from_slice(b"hint: ")?;
+    told.extend_from_slice(&more)?;
     Ok(told)
 }
 
@@ -101,7 +104,7 @@ fn push_folder(hints: &mut Vec<u8>, file: &Name) -> Result<(), AllocError> {
 
 /// What is told of the program's file, which could not be read. The error is that memory is out.
 pub fn unread_program(alloc: Global, file: &Name) -> Result<Vec<u8>, AllocError>
-    ensures { IfOk result (λ told. TellsUnread file.now told.items) }
+    ensures { IfOk result (λ told. IsHint told.items) }
 {
     let mut hints = Vec::new(alloc);
     hints.extend_from_slice(b"hint: it is the program of this call\n")?;
@@ -118,7 +121,7 @@ pub fn unread_file(
     file: &Name,
 ) -> Result<Vec<u8>, AllocError>
     requires { length text.now ≤ MOST_PROGRAM_BYTES }
-    ensures { IfOk result (λ told. TellsUnread file.now told.items) }
+    ensures { IfOk result (λ told. IsHint told.items) }
 {
     let mut hints = Vec::new(alloc);
     push_naming(alloc, &mut hints, program, text, file)?;

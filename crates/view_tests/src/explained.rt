@@ -159,7 +159,7 @@ const WORDS: [Row; 18] = [
         EMPTY,
         "",
         7,
-        "q.gp cannot be read: there is no such file, or it is a folder, or it may not be read\nhint: it is the program of this call\nhint: names are looked for from the folder in which the call is made\n",
+        "hint: q.gp cannot be read: there is no such file, or it is a folder, or it may not be read\nhint: it is the program of this call\nhint: names are looked for from the folder in which the call is made\n",
         "gprs_view: read fault q.gp\n",
     ),
     (
@@ -167,7 +167,7 @@ const WORDS: [Row; 18] = [
         EMPTY,
         "",
         7,
-        "f.csv cannot be read: there is no such file, or it is a folder, or it may not be read\nhint: `--faults` names it\nhint: names are looked for from the folder in which the call is made\n",
+        "hint: f.csv cannot be read: there is no such file, or it is a folder, or it may not be read\nhint: `--faults` names it\nhint: names are looked for from the folder in which the call is made\n",
         "gprs_view: read fault f.csv\n",
     ),
     (
@@ -175,7 +175,7 @@ const WORDS: [Row; 18] = [
         LOST_RECORD,
         "",
         7,
-        "r.csv cannot be read: there is no such file, or it is a folder, or it may not be read\nhint: line 2 of p.gp names it, for record r\nhint: names are looked for from the folder in which the call is made\n",
+        "hint: r.csv cannot be read: there is no such file, or it is a folder, or it may not be read\nhint: line 2 of p.gp names it, for record r\nhint: names are looked for from the folder in which the call is made\n",
         "gprs_view: read fault r.csv\n",
     ),
     (
@@ -183,7 +183,7 @@ const WORDS: [Row; 18] = [
         LOST_FEED,
         "",
         7,
-        "/data/f.csv cannot be read: there is no such file, or it is a folder, or it may not be read\nhint: line 3 of p.gp names it, for feed f\n",
+        "hint: /data/f.csv cannot be read: there is no such file, or it is a folder, or it may not be read\nhint: line 3 of p.gp names it, for feed f\n",
         "gprs_view: read fault /data/f.csv\n",
     ),
 ];

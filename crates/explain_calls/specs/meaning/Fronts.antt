@@ -4,7 +4,7 @@ use Rattle.gp_base.specs.declared.ending.End.{End}
 use Rattle.gp_base.specs.declared.ending.End.TheVariants.{Finished, Stuck, Spent}
 use Rattle.gp_base.specs.declared.feed.Inputs.{Inputs}
 use Rattle.gp_base.specs.declared.limits.Limits.{Limits}
-use Rattle.task_ast.specs.meaning.Tree.{Name, Program}
+use Rattle.task_ast.specs.meaning.Tree.{Program}
 use Rattle.task_ast.specs.Table.{Table}
 use Rattle.task_ast.specs.Plain.{order, end}
 use Rattle.task_ast.specs.Position.{before}
@@ -29,21 +29,14 @@ module _ (program : Program) (inputs : Inputs) (limits : Limits) where
   unfoldable pub front : List ℕ
   front = ending_line (end program inputs limits) ++ deadlock_text program.heads last_table (end program inputs limits)
 
--- what is told of words of no command
+-- what is told of words of no command, and of a file that could not be read
 abbrev pub IsHint : List ℕ → Type 0
 IsHint text = (more : List ℕ) × (text ≡ codes "hint: " ++ more)
 
--- what is told of a file that could not be read
-abbrev pub unread_line : Name → List ℕ
-unread_line name = name ++ codes " cannot be read: there is no such file, or it is a folder, or it may not be read\n"
-
-abbrev pub TellsUnread : Name → List ℕ → Type 0
-TellsUnread name text = (more : List ℕ) × (text ≡ unread_line name ++ more)
-
--- The texts of a case. The words of a refusal are left open, but for their first ones, and what is told of a run behind its front.
+-- The texts of a case. The words of a refusal are left open, and what is told of a run behind its front.
 abbrev pub IsText : Case ToDo → List ℕ → Type 0
 IsText Usage text = IsHint text
-IsText (Missing names name) text = TellsUnread name text
+IsText (Missing names name) text = IsHint text
 IsText (BadProgram name line) text = ⊤
 IsText (BadInput names line) text = ⊤
 IsText (Go names work) text = (more : List ℕ) × (text ≡ front work.program work.inputs work.limits ++ more)
