@@ -11,7 +11,7 @@ use Rattle.rule_blame.specs.declared.entries.Entry.{Entry}
 use Rattle.rule_blame.specs.Uses.{Used, is_control_param}
 use Rattle.task_ast.specs.declared.tree.What.{What}
 use Rattle.rule_blame.specs.Points.{Point}
-use Rattle.rule_blame.specs.Declared as plain
+use Rattle.rule_blame.specs.DeclaredNames as plain
 
 abbrev pub used_by : Use → Used
 used_by u = record { role = u.role; name = u.name.now; decides = u.decides }
