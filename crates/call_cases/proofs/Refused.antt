@@ -11,7 +11,7 @@ use Rattle.task_parser.specs.declared.fault.LexFault.{LexFault}
 use Rattle.task_parser.specs.declared.fault.LexFault.TheVariants as lex
 use Rattle.task_parser.specs.declared.fault.ParseFault.{ParseFault}
 use Rattle.task_parser.specs.declared.fault.ParseFault.TheVariants as parse
-use Rattle.task_parser.specs.meaning.Lexing.{lexed, lexed_behind}
+use Rattle.task_parser.specs.meaning.Lexing.{lexed, lexed_after}
 use Rattle.task_parser.specs.Lexing.{IsFaultOf}
 use Rattle.task_parser.specs.meaning.Answer.{IsFirstFault}
 use Rattle.task_ast.specs.meaning.Tree.{Name, Program}
@@ -270,7 +270,7 @@ unread_answers (Some files) asked = let k = some_case_of asking asked files in (
 
 -- a text that is longer than a program may be
 lexed-long : (text : List ℕ) → MOST_PROGRAM_BYTES < length text → lexed text ≡ Err lex.TooLong
-lexed-long text long = ap (λ test. if test then Err lex.TooLong else lexed_behind [] 0 text) (lt-ltb MOST_PROGRAM_BYTES (length text) long)
+lexed-long text long = ap (λ test. if test then Err lex.TooLong else lexed_after [] 0 text) (lt-ltb MOST_PROGRAM_BYTES (length text) long)
 
 long_file : (files : Files) (asked : Asked) → (found : Option (List ℕ)) → bytes_of files asked.program ≡ found
     → IsSomeAnd found (λ text. MOST_PROGRAM_BYTES < length text)

@@ -1,6 +1,6 @@
 // Who owns each lock cell, and which lock cells each thread holds.
-ghost use Rattle.std.specs.Prelude.{◌≡◌, ℕ, replicate, IfOk, OnOk, is_none, slice_get, slice_set, None, Some};
-ghost use Rattle.std.specs.Option.{option_and_then};
+ghost use Rattle.std.specs.Prelude.{◌≡◌, ℕ, replicate, IfOk, OnOk, is_none, slice_set, None, Some};
+ghost use Rattle.task_ast.specs.Table.{owner_in};
 ghost use Rattle.task_ast.specs.LockLists.{with_lock, held_at};
 ghost use Rattle.task_ast.specs.meaning.Table.{owned_from};
 ghost use Rattle.task_ast.specs.meaning.Turn.{owners_after};
@@ -85,7 +85,7 @@ impl Owners {
 
     /// Whether nobody owns the lock.
     pub fn is_free(&self, lock: u32) -> bool
-        ensures { result ≡ is_none (option_and_then (λ o. o) (slice_get self.now.owners.items lock)) }
+        ensures { result ≡ is_none (owner_in self.now.owners.items lock) }
     {
         match self.owners.get(lock as usize) {
             Some(owner) => owner.is_none(),

@@ -60,7 +60,8 @@ fn chain_data(
     exact: &mut bool,
 ) -> Option<i64>
     ensures value { result ≡ option_map (λ more. terms_value more registers.now first) (terms names.now (plain_links links.now) env.now) }
-    ensures flag { some_member is_at_data (plain_links links.now) ≡ false → IfSome result (λ v. exact.new ≡ (exact.old && stays_on (plain_links links.now) (with_data names.now registers.now env.now) (Some first))) }
+    ensures flag { some_member is_at_data (plain_links links.now) ≡ false →
+        IfSome result (λ v. exact.new ≡ (exact.old && stays_on (plain_links links.now) (with_data names.now registers.now env.now) (Some first))) }
 {
     let mut so_far = first;
     for link in links {

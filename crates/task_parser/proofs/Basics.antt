@@ -23,9 +23,9 @@ pub same_refl : (ts : List Token) → Same ts ts
 same_refl [] = tt
 same_refl (t ∷ ts) = refl
 
-pub same_behind : (front a b : List Token) → Same a b → Same (front ++ a) (front ++ b)
-same_behind [] a b h = h
-same_behind (t ∷ front) a b h = refl
+pub same_after : (front a b : List Token) → Same a b → Same (front ++ a) (front ++ b)
+same_after [] a b h = h
+same_after (t ∷ front) a b h = refl
 
 pub same_sym : (a b : List Token) → Same a b → Same b a
 same_sym [] [] h = tt

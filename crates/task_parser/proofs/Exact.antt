@@ -5,11 +5,11 @@
 use Rattle.std.proofs.Common.{◌≡◌, ℕ, suc, ◌+◌, ◌≤◌, Bool, true, false, cond, leb, List, [], ◌∷◌, ◌++◌, Option, Some, None, Result, Ok, Err, refl, sym, ap, subst, ◌∙◌, inl, inr, append_assoc, arith}
 use Rattle.std.proofs.lemmas.Bool.{le-leb, lt-leb}
 use Rattle.task_parser.specs.declared.token.Token.{Token}
-use Rattle.task_parser.specs.meaning.Words.{Placed, Form, One, Both, Made, ◌∣◌, Opened, tokens_of}
+use Rattle.task_parser.specs.meaning.Words.{Placed, Form, One, Both, Made, ◌∣◌, tokens_of}
 use Rattle.task_parser.specs.inner.Reading.{Reader, begins, unexpected, ◌>>=◌, read_one, read_both, read_made, read_either, enter, read_opened}
 use Rattle.task_parser.specs.meaning.Promise.{Stop}
 use Rattle.task_parser.specs.inner.Laws.{Same, Took, Outcome, Sound, verdict, Complete, Starts, Inhabited, Parted}
-use Rattle.task_parser.proofs.Basics.{tokens-append, tokens_parts, Within-append, same_behind, begins_same, verdict-bind, verdict-append, GoesBeyond-append}
+use Rattle.task_parser.proofs.Basics.{tokens-append, tokens_parts, Within-append, same_after, begins_same, verdict-bind, verdict-append, GoesBeyond-append}
 
 -- ---- two in a row
 
@@ -25,7 +25,7 @@ both_second limit depth P Q p q ts x rest h (Ok (y, end)) k = record {
       rw (
         tokens_parts h.used k.used other,
         h.again (tokens_of k.used ++ other)
-            (subst (λ (t : List Token). Same t (tokens_of k.used ++ other)) (sym k.parts) (same_behind (tokens_of k.used) end other same)),
+            (subst (λ (t : List Token). Same t (tokens_of k.used ++ other)) (sym k.parts) (same_after (tokens_of k.used) end other same)),
         k.again other same,
       ) refl;
 }
@@ -43,7 +43,7 @@ both_second limit depth P Q p q ts x rest h (Err stop) k = record {
         tokens_parts h.used k.used other,
         h.again (tokens_of k.used ++ other)
             (subst (λ (t : List Token). Same t (tokens_of k.used ++ other)) (sym k.parts)
-            (same_behind (tokens_of k.used) stop.rest other same)),
+            (same_after (tokens_of k.used) stop.rest other same)),
         k.again other same,
       ) refl;
 }
@@ -140,8 +140,11 @@ inhabited_made make P ip depth = let a = ip depth in (a.0, make a.1, record { fr
 
 -- ---- one token
 
+abbrev pub Passes : (Token → Bool) → Token → Type 0
+Passes test t = test t ≡ true
+
 one_cases : (limit depth : ℕ) (test : Token → Bool) (t : Token) (ts : List Token) → depth ≤ limit → (x : Token) → test x ≡ true → (b : Bool)
-    → test t ≡ b → Outcome limit depth (One test) (read_one test) (t ∷ ts) (cond b (Ok (t, ts)) (unexpected (t ∷ ts)))
+    → test t ≡ b → Outcome limit depth (One (Passes test)) (read_one test) (t ∷ ts) (cond b (Ok (t, ts)) (unexpected (t ∷ ts)))
 one_cases limit depth test t ts room x fits true e = record {
   used = record { token = t; nesting = depth } ∷ [];
   parts = refl;
@@ -165,7 +168,7 @@ one_cases limit depth test t ts room x fits false e = record {
     again (y ∷ ys) same = rw (← same, e) refl
 
 -- a token passes
-pub sound_one : (room : ℕ) (test : Token → Bool) (x : Token) → test x ≡ true → Sound room (One test) (read_one test)
+pub sound_one : (room : ℕ) (test : Token → Bool) (x : Token) → test x ≡ true → Sound room (One (Passes test)) (read_one test)
 sound_one room test x fits depth [] = record {
   used = [];
   more = record { token = x; nesting = depth } ∷ [];
@@ -185,24 +188,32 @@ sound_one room test x fits depth (t ∷ ts) = one_cases (depth + room) depth tes
 abbrev pub no_token : Token → Bool
 no_token t = false
 
-pub complete_one : (room : ℕ) (test goes : Token → Bool) → Complete room (One test) goes (read_one test)
+pub complete_one : (room : ℕ) (test goes : Token → Bool) → Complete room (One (Passes test)) goes (read_one test)
 complete_one room test goes depth used value rest h end =
     rw (h.alone, h.passes, fits) refl
   where
     fits : leb depth (depth + room) ≡ true
     fits = le-leb depth (depth + room) (omega arith)
 
-pub starts_one : (test : Token → Bool) → Starts test (One test)
+pub starts_one : (test : Token → Bool) → Starts test (One (Passes test))
 starts_one test depth used value h = rw h.alone h.passes
 
-pub inhabited_one : (test : Token → Bool) (x : Token) → test x ≡ true → Inhabited (One test)
+pub inhabited_one : (test : Token → Bool) (x : Token) → test x ≡ true → Inhabited (One (Passes test))
 inhabited_one test x fits depth = (record { token = x; nesting = depth } ∷ [], x, record { passes = fits; alone = refl })
 
 -- ---- a construct that nests
 
+-- a token that passes the test opens the construct, and the P in it
+pub record OpenedBy {A : Type 0} (test : Token → Bool) (P : Form A) (depth : ℕ) (placed : List Placed) (value : A) : Type 0 where
+  pub token : Token
+  pub inner : List Placed
+  pub passes : test token ≡ true
+  pub parts : placed ≡ record { token = token; nesting = suc depth } ∷ inner
+  pub stands : P (suc depth) inner value
+
 opened_in : {A : Type 0} (limit depth : ℕ) (test : Token → Bool) (P : Form A) (p : Reader A) (t : Token) (ts : List Token)
     → suc depth ≤ limit → test t ≡ true → (r : Result (A × List Token) Stop) → Outcome limit (suc depth) P p ts r
-    → Outcome limit depth (Opened test P) (read_opened test (Some p)) (t ∷ ts) r
+    → Outcome limit depth (OpenedBy test P) (read_opened test (Some p)) (t ∷ ts) r
 opened_in limit depth test P p t ts room passes (Ok (x, rest)) h = record {
   used = record { token = t; nesting = suc depth } ∷ h.used;
   parts = ap (λ (l : List Token). t ∷ l) h.parts;
@@ -224,7 +235,7 @@ opened_in limit depth test P p t ts room passes (Err stop) h = record {
 -- no token, or one that doesn't open it
 opened_not : {A : Type 0} (limit depth : ℕ) (test : Token → Bool) (P : Form A) (inner : Option (Reader A)) (x : Token) → test x ≡ true
     → Inhabited P → (ts : List Token) → begins test ts ≡ false
-    → Outcome limit depth (Opened test P) (read_opened test inner) ts (unexpected ts)
+    → Outcome limit depth (OpenedBy test P) (read_opened test inner) ts (unexpected ts)
 opened_not limit depth test P inner x fits full ts e = let c = full (suc depth) in record {
   used = [];
   more = record { token = x; nesting = suc depth } ∷ c.0;
@@ -241,7 +252,7 @@ opened_not limit depth test P inner x fits full ts e = let c = full (suc depth) 
     again (y ∷ ys) e = rw e refl
 
 opened_deep : {A : Type 0} (depth : ℕ) (test : Token → Bool) (P : Form A) (t : Token) (ts : List Token) → test t ≡ true → Inhabited P
-    → Outcome depth depth (Opened test P) (read_opened test None) (t ∷ ts) (Err (record { deep = true; rest = t ∷ ts }))
+    → Outcome depth depth (OpenedBy test P) (read_opened test None) (t ∷ ts) (Err (record { deep = true; rest = t ∷ ts }))
 opened_deep {A = A} depth test P t ts passes full = let c = full (suc depth) in record {
   used = [];
   more = record { token = t; nesting = suc depth } ∷ c.0;
@@ -264,7 +275,7 @@ opening inner t ts b =
     opened >>= λ x. enter inner (t ∷ ts) x.1
 
 pub sound_opened : {A : Type 0} (room : ℕ) (test : Token → Bool) (P : Form A) (p : Reader A) (x : Token) → test x ≡ true → Inhabited P
-    → Sound room P p → Sound (suc room) (Opened test P) (read_opened test (Some p))
+    → Sound room P p → Sound (suc room) (OpenedBy test P) (read_opened test (Some p))
 sound_opened room test P p x fits full sp depth [] = opened_not (depth + suc room) depth test P (Some p) x fits full [] refl
 sound_opened {A = A} room test P p x fits full sp depth (t ∷ ts) = go (test t) refl
   where
@@ -272,27 +283,27 @@ sound_opened {A = A} room test P p x fits full sp depth (t ∷ ts) = go (test t)
     inside = subst (λ (limit : ℕ). Outcome limit (suc depth) P p ts (p ts)) (omega arith) (sp (suc depth) ts)
 
     go : (b : Bool) → test t ≡ b
-        → Outcome (depth + suc room) depth (Opened test P) (read_opened test (Some p)) (t ∷ ts) (opening (Some p) t ts b)
+        → Outcome (depth + suc room) depth (OpenedBy test P) (read_opened test (Some p)) (t ∷ ts) (opening (Some p) t ts b)
     go true e = opened_in (depth + suc room) depth test P p t ts (omega arith) e (p ts) inside
     go false e = opened_not (depth + suc room) depth test P (Some p) x fits full (t ∷ ts) e
 
 -- where there is no room for one more
 pub sound_opened_none : {A : Type 0} (test : Token → Bool) (P : Form A) (x : Token) → test x ≡ true → Inhabited P
-    → Sound 0 (Opened test P) (read_opened test None)
+    → Sound 0 (OpenedBy test P) (read_opened test None)
 sound_opened_none {A = A} test P x fits full depth ts =
-    subst (λ (limit : ℕ). Outcome limit depth (Opened test P) (read_opened test None) ts (read_opened test None ts)) (omega arith) (at ts)
+    subst (λ (limit : ℕ). Outcome limit depth (OpenedBy test P) (read_opened test None) ts (read_opened test None ts)) (omega arith) (at ts)
   where
     here : (t : Token) (ts : List Token) (b : Bool) → test t ≡ b
-        → Outcome depth depth (Opened test P) (read_opened test None) (t ∷ ts) (opening None t ts b)
+        → Outcome depth depth (OpenedBy test P) (read_opened test None) (t ∷ ts) (opening None t ts b)
     here t ts true e = opened_deep depth test P t ts e full
     here t ts false e = opened_not depth depth test P None x fits full (t ∷ ts) e
 
-    at : (ts : List Token) → Outcome depth depth (Opened test P) (read_opened test None) ts (read_opened test None ts)
+    at : (ts : List Token) → Outcome depth depth (OpenedBy test P) (read_opened test None) ts (read_opened test None ts)
     at [] = opened_not depth depth test P None x fits full [] refl
     at (t ∷ ts) = here t ts (test t) refl
 
 pub complete_opened : {A : Type 0} (room : ℕ) (test : Token → Bool) (P : Form A) (goes : Token → Bool) (p : Reader A)
-    → Complete room P goes p → Complete (suc room) (Opened test P) goes (read_opened test (Some p))
+    → Complete room P goes p → Complete (suc room) (OpenedBy test P) goes (read_opened test (Some p))
 complete_opened {A = A} room test P goes p cp depth used value rest h end =
     rw (h.parts, h.passes, fits, cp (suc depth) h.inner value rest h.stands end)
     (ap (λ (limit : ℕ). verdict limit h.inner rest ok) (omega arith))
@@ -304,16 +315,16 @@ complete_opened {A = A} room test P goes p cp depth used value rest h end =
     ok = Ok (value, rest)
 
 pub complete_opened_none : {A : Type 0} (test : Token → Bool) (P : Form A) (goes : Token → Bool)
-    → Complete 0 (Opened test P) goes (read_opened test None)
+    → Complete 0 (OpenedBy test P) goes (read_opened test None)
 complete_opened_none test P goes depth used value rest h end = rw (h.parts, h.passes, fits) refl
   where
     fits : leb (suc depth) (depth + 0) ≡ false
     fits = lt-leb (suc depth) (depth + 0) (omega arith)
 
-pub starts_opened : {A : Type 0} (test : Token → Bool) (P : Form A) → Starts test (Opened test P)
+pub starts_opened : {A : Type 0} (test : Token → Bool) (P : Form A) → Starts test (OpenedBy test P)
 starts_opened test P depth used value h = rw h.parts h.passes
 
-pub inhabited_opened : {A : Type 0} (test : Token → Bool) (P : Form A) (x : Token) → test x ≡ true → Inhabited P → Inhabited (Opened test P)
+pub inhabited_opened : {A : Type 0} (test : Token → Bool) (P : Form A) (x : Token) → test x ≡ true → Inhabited P → Inhabited (OpenedBy test P)
 inhabited_opened test P x fits full depth =
     let c = full (suc depth) in
     (record { token = x; nesting = suc depth } ∷ c.0, c.1, record { token = x; inner = c.0; passes = fits; parts = refl; stands = c.2 })
@@ -332,7 +343,7 @@ outcome_as limit depth P R p r ts more alike (Ok (x, rest)) h = record {
   stands = more h.used x h.stands;
   again =
       λ other same. alike (tokens_of h.used ++ other)
-      (subst (λ (t : List Token). Same t (tokens_of h.used ++ other)) (sym h.parts) (same_behind (tokens_of h.used) rest other same))
+      (subst (λ (t : List Token). Same t (tokens_of h.used ++ other)) (sym h.parts) (same_after (tokens_of h.used) rest other same))
       ∙ h.again other same;
 }
 outcome_as limit depth P R p r ts more alike (Err stop) h = record {
@@ -346,7 +357,7 @@ outcome_as limit depth P R p r ts more alike (Err stop) h = record {
   again =
       λ other same. alike (tokens_of h.used ++ other)
       (subst (λ (t : List Token). Same t (tokens_of h.used ++ other)) (sym h.parts)
-      (same_behind (tokens_of h.used) stop.rest other same)) ∙ h.again other same;
+      (same_after (tokens_of h.used) stop.rest other same)) ∙ h.again other same;
 }
 
 pub sound_either : {A : Type 0} (room : ℕ) (first : Token → Bool) (P Q : Form A) (p q : Reader A) → Sound room P p → Sound room Q q

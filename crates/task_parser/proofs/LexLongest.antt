@@ -12,7 +12,8 @@ use Rattle.task_parser.specs.declared.token.Kind.{Kind}
 use Rattle.task_parser.specs.declared.token.Kind.TheVariants.{Num, Name, Reg, Quoted, Word, Mark}
 use Rattle.task_parser.specs.declared.lexer.Piece.{Piece}
 use Rattle.task_parser.specs.declared.lexer.Piece.TheVariants.{Take}
-use Rattle.task_parser.specs.meaning.Pieces.{is_letter, is_name_byte, is_quoted_byte, begins, word_kind, row_of, words, marks}
+use Rattle.task_parser.specs.Pieces.{word_kind}
+use Rattle.task_parser.specs.meaning.Pieces.{is_letter, is_name_byte, is_quoted_byte, begins, row_of, words, marks}
 use Rattle.task_parser.specs.TokenTable.{IsToken, IsDigits, IsNameText, IsLongest}
 use Rattle.task_parser.proofs.LexPieces.{Stands, space, comment, number, too_big, word, register, no_name, quoted, no_end, pair, single, no_equals, stray, front_some, name_some}
 use Rattle.task_parser.proofs.LexTokens.{row_passes, prefix_longest, prefix_passes, class, class_of, class_digit, class_letter, class_dollar, class_quote, class_other, token_class}

@@ -9,8 +9,8 @@ use Rattle.std.proofs.lemmas.Bool.Decides.{nat_tests}
 use Rattle.task_parser.specs.declared.token.Kind.TheVariants.{Num, Reg, Quoted, Mark}
 use Rattle.task_parser.specs.declared.lexer.Piece.{Piece}
 use Rattle.task_parser.specs.declared.lexer.Piece.TheVariants.{Skip, Take, TooBig, Bad}
-use Rattle.task_parser.specs.meaning.Pieces.{decimal, number_limit, piece_of, is_space, is_comment_byte, is_letter, is_name_byte, is_quoted_byte, begins, word_kind, mark_piece, row_of, words, marks}
-use Rattle.task_parser.specs.Pieces.{FitsIn}
+use Rattle.task_parser.specs.meaning.Pieces.{decimal, number_limit, piece_of, is_space, is_comment_byte, is_letter, is_name_byte, is_quoted_byte, begins, mark_piece, row_of, words, marks}
+use Rattle.task_parser.specs.Pieces.{word_kind, FitsIn}
 
 -- a byte that begins neither a space or a comment, nor a token that is no mark
 pub record IsOther (b : ℕ) : Type 0 where

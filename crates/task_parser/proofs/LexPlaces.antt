@@ -6,7 +6,7 @@ use Rattle.std.proofs.Math.Seq.{take-append_seam, drop-append_seam}
 use Rattle.task_parser.specs.declared.token.Token.{Token}
 use Rattle.task_parser.specs.declared.token.Kind.{Kind}
 use Rattle.task_parser.specs.TokenTable.{IsToken, IsLongest}
-use Rattle.task_parser.specs.meaning.Lexing.{token_behind}
+use Rattle.task_parser.specs.meaning.Lexing.{token_after}
 use Rattle.task_parser.specs.Splitting.{Splits, nothing, gap, token, IsPlaced, AreInOrder, TokensArePlaced}
 use Rattle.task_parser.proofs.LexSplits.{lexings_split}
 
@@ -15,7 +15,7 @@ earlier [] place later le order = tt
 earlier (first ∷ tokens) place later le order = (omega (arith, order.0), order.1)
 
 placed : (before : List ℕ) (kind : Kind) (bytes rest : List ℕ) → IsToken kind bytes → IsLongest (length bytes) (bytes ++ rest)
-    → IsPlaced (before ++ (bytes ++ rest)) (token_behind before kind (length bytes))
+    → IsPlaced (before ++ (bytes ++ rest)) (token_after before kind (length bytes))
 placed before kind bytes rest is longest =
     let n : length before + length bytes - length before ≡ length bytes = omega arith in
     record {
@@ -30,7 +30,7 @@ all_placed nothing = λ k d lt. absurd (omega arith)
 all_placed {before} (gap {rest = rest} {tokens = tokens} skipped is splits) =
     subst (λ t. All (λ u. IsPlaced t u) tokens) (append_assoc before skipped rest) (all_placed splits)
 all_placed {before} (token {rest = rest} {tokens = tokens} kind bytes is range longest splits) =
-    All-cons (λ t. IsPlaced (before ++ (bytes ++ rest)) t) (token_behind before kind (length bytes)) tokens
+    All-cons (λ t. IsPlaced (before ++ (bytes ++ rest)) t) (token_after before kind (length bytes)) tokens
     (placed before kind bytes rest is longest)
     (subst (λ t. All (λ u. IsPlaced t u) tokens) (append_assoc before bytes rest) (all_placed splits))
 

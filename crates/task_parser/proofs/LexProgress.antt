@@ -13,7 +13,7 @@ use Rattle.task_parser.specs.declared.lexer.Piece.{Piece}
 use Rattle.task_parser.specs.declared.lexer.Piece.TheVariants.{Skip, Take, TooBig, Bad}
 use Rattle.task_parser.specs.meaning.Pieces.{piece_of}
 use Rattle.task_parser.specs.Pieces.{FitsIn}
-use Rattle.task_parser.specs.meaning.Lexing.{lexed_behind, followed_by, line_behind}
+use Rattle.task_parser.specs.meaning.Lexing.{lexed_after, followed_by, line_after}
 use Rattle.task_parser.specs.Lexing.{IsTokenOf, AreTokensOf}
 use Rattle.task_parser.proofs.LexPieces.{piece_fits}
 use Rattle.task_parser.proofs.LexSteps.{lexed_at, lexed_from, lexed_step, length_front}
@@ -25,8 +25,8 @@ with_tokens tokens (Err fault) = Err fault
 
 -- these tokens and the lexing from this place on are the lexing of the text, and this is the place's line
 pub record Progress (text : List ℕ) (tokens : List Token) (from line : ℕ) : Type 0 where
-  pub so_far : with_tokens tokens (lexed_at text from) ≡ lexed_behind [] 0 text
-  pub line_is : line ≡ line_behind (take from text)
+  pub so_far : with_tokens tokens (lexed_at text from) ≡ lexed_after [] 0 text
+  pub line_is : line ≡ line_after (take from text)
   pub within : from ≤ length text
   pub spans : AreTokensOf text tokens
 
@@ -41,23 +41,23 @@ with_one_more tokens token (Err fault) = refl
 
 pub begun : (text : List ℕ) → Progress text [] 0 1
 begun text =
-    record { so_far = with_none (lexed_behind [] 0 text); line_is = refl; within = omega arith; spans = (λ k d lt. absurd (omega arith)) }
+    record { so_far = with_none (lexed_after [] 0 text); line_is = refl; within = omega arith; spans = (λ k d lt. absurd (omega arith)) }
 
 line_more : (text : List ℕ) (from bytes : ℕ)
-    → line_behind (take from text) + count_by (λ b. eqb b 10) (slice_range text from (from + bytes))
-    ≡ line_behind (take (from + bytes) text)
+    → line_after (take from text) + count_by (λ b. eqb b 10) (slice_range text from (from + bytes))
+    ≡ line_after (take (from + bytes) text)
 line_more text from bytes =
     let e : from + bytes - from ≡ bytes = omega arith in
     rw (e, take-add from bytes text, sum_by-append (λ b. cond (eqb b 10) 1 0) (take from text) (take bytes (drop from text))) (omega arith)
 
 module _ (text : List ℕ) (tokens : List Token) (from line : ℕ) (progress : Progress text tokens from line) (more : from < length text) where
-  by_piece : (piece : Piece) → piece ≡ piece_of (drop from text) → with_tokens tokens (lexed_from text from piece) ≡ lexed_behind [] 0 text
+  by_piece : (piece : Piece) → piece ≡ piece_of (drop from text) → with_tokens tokens (lexed_from text from piece) ≡ lexed_after [] 0 text
   by_piece piece is = rw (is, ← lexed_step text from more) progress.so_far
 
   pub fits : (piece : Piece) → piece ≡ piece_of (drop from text) → FitsIn (length text - from) piece
   fits piece is = rw (is, ← length-drop from text) (piece_fits (drop from text) (omega (arith, length-drop from text)))
 
-  new_line : (bytes : ℕ) → line + count_by (λ b. eqb b 10) (slice_range text from (from + bytes)) ≡ line_behind (take (from + bytes) text)
+  new_line : (bytes : ℕ) → line + count_by (λ b. eqb b 10) (slice_range text from (from + bytes)) ≡ line_after (take (from + bytes) text)
   new_line bytes = rw progress.line_is (line_more text from bytes)
 
   pub skipped : (bytes : ℕ) → Skip bytes ≡ piece_of (drop from text)
@@ -82,16 +82,16 @@ module _ (text : List ℕ) (tokens : List Token) (from line : ℕ) (progress : P
         All-push (λ token. IsTokenOf text token) tokens _ progress.spans (record { whole = omega arith; within = omega arith }));
   }
 
-  pub too_big_at : TooBig ≡ piece_of (drop from text) → Err (NumberTooBig from) ≡ lexed_behind [] 0 text
+  pub too_big_at : TooBig ≡ piece_of (drop from text) → Err (NumberTooBig from) ≡ lexed_after [] 0 text
   too_big_at is = by_piece TooBig is
 
-  pub bad_at : (bytes : ℕ) → Bad bytes ≡ piece_of (drop from text) → Err (BadByte (from + bytes)) ≡ lexed_behind [] 0 text
+  pub bad_at : (bytes : ℕ) → Bad bytes ≡ piece_of (drop from text) → Err (BadByte (from + bytes)) ≡ lexed_after [] 0 text
   bad_at bytes is = by_piece (Bad bytes) is
 
 pub finished : (text : List ℕ) (tokens : List Token) (from line : ℕ) → Progress text tokens from line → length text ≤ from
-    → Ok tokens ≡ lexed_behind [] 0 text
+    → Ok tokens ≡ lexed_after [] 0 text
 finished text tokens from line progress over =
     let e : from ≡ length text = omega (arith, progress.within) in
-    let ended : with_tokens tokens (lexed_at text (length text)) ≡ lexed_behind [] 0 text =
-    subst (λ n. with_tokens tokens (lexed_at text n) ≡ lexed_behind [] 0 text) e progress.so_far in
+    let ended : with_tokens tokens (lexed_at text (length text)) ≡ lexed_after [] 0 text =
+    subst (λ n. with_tokens tokens (lexed_at text n) ≡ lexed_after [] 0 text) e progress.so_far in
     rw (drop-length, append-nil) at ended

@@ -13,10 +13,10 @@ use Rattle.task_parser.specs.declared.fault.LexFault.{LexFault}
 use Rattle.task_parser.specs.declared.fault.LexFault.TheVariants.{TooLong}
 use Rattle.task_parser.specs.declared.lexer.Piece.{Piece}
 use Rattle.task_parser.specs.declared.lexer.Piece.TheVariants.{Skip, Take, TooBig, Bad}
-use Rattle.task_parser.specs.meaning.Pieces.{word_kind, piece_of, is_comment_byte, is_quoted_byte}
-use Rattle.task_parser.specs.Pieces.{FitsIn}
+use Rattle.task_parser.specs.meaning.Pieces.{piece_of, is_comment_byte, is_quoted_byte}
+use Rattle.task_parser.specs.Pieces.{word_kind, FitsIn}
 use Rattle.task_parser.specs.TokenTable.{IsToken, IsInRange, IsLongest, IsGap, IsComment}
-use Rattle.task_parser.specs.meaning.Lexing.{lexed_behind, followed_by, token_behind}
+use Rattle.task_parser.specs.meaning.Lexing.{lexed_after, followed_by, token_after}
 use Rattle.task_parser.specs.Splitting.{Splits, nothing, gap, token, StopsShort, BeginsTooBig, StopsAt, LexingsSplit, FaultsStop}
 use Rattle.task_parser.proofs.LexPieces.{Stands, space, comment, number, too_big, word, register, no_name, quoted, no_end, pair, single, no_equals, stray, piece_stands, stands_fits, piece_fits, front_some, hash_is_comment_byte}
 use Rattle.task_parser.proofs.LexTokens.{prefix_passes, prefix_stops}
@@ -77,51 +77,51 @@ module _ (before text : List ℕ) where
   joined : (bytes : ℕ) → (before ++ take bytes text) ++ drop bytes text ≡ before ++ text
   joined bytes = append_assoc before (take bytes text) (drop bytes text) ∙ ap (λ t. before ++ t) (take-append-drop bytes text)
 
-  behind_gap : (bytes : ℕ) (tokens : List Token) (left : List ℕ) → IsGap (take bytes text) (drop bytes text)
+  after_gap : (bytes : ℕ) (tokens : List Token) (left : List ℕ) → IsGap (take bytes text) (drop bytes text)
       → Splits (before ++ take bytes text) (drop bytes text) tokens left → Splits before text tokens left
-  behind_gap bytes tokens left is splits =
+  after_gap bytes tokens left is splits =
       subst (λ t. Splits before t tokens left) (take-append-drop bytes text) (gap (take bytes text) is splits)
 
-  behind_token : (kind : Kind) (bytes : ℕ) (tokens : List Token) (left : List ℕ) → bytes ≤ length text
+  after_token : (kind : Kind) (bytes : ℕ) (tokens : List Token) (left : List ℕ) → bytes ≤ length text
       → IsToken kind (take bytes text) → IsInRange kind → IsLongest bytes text
       → Splits (before ++ take bytes text) (drop bytes text) tokens left
-      → Splits before text (token_behind before kind bytes ∷ tokens) left
-  behind_token kind bytes tokens left le is range longest splits =
+      → Splits before text (token_after before kind bytes ∷ tokens) left
+  after_token kind bytes tokens left le is range longest splits =
       let n : length (take bytes text) ≡ bytes = omega (arith, length-take bytes text) in
       let e : take bytes text ++ drop bytes text ≡ text = take-append-drop bytes text in
-      subst (λ t. Splits before t (token_behind before kind bytes ∷ tokens) left) e
-      (subst (λ k. Splits before (take bytes text ++ drop bytes text) (token_behind before kind k ∷ tokens) left) n
+      subst (λ t. Splits before t (token_after before kind bytes ∷ tokens) left) e
+      (subst (λ k. Splits before (take bytes text ++ drop bytes text) (token_after before kind k ∷ tokens) left) n
       (token kind (take bytes text) is range (rw (n, e) longest) splits))
 
   outcome_gap : (bytes : ℕ) (lexing : Result (List Token) LexFault) → IsGap (take bytes text) (drop bytes text)
       → Outcome (before ++ take bytes text) (drop bytes text) lexing → Outcome before text lexing
-  outcome_gap bytes (Ok tokens) is splits = behind_gap bytes tokens [] is splits
+  outcome_gap bytes (Ok tokens) is splits = after_gap bytes tokens [] is splits
   outcome_gap bytes (Err fault) is stops = record {
     front = stops.front;
     left = stops.left;
     tokens = stops.tokens;
     parts = sym (joined bytes) ∙ stops.parts;
-    splits = behind_gap bytes stops.tokens stops.left is stops.splits;
+    splits = after_gap bytes stops.tokens stops.left is stops.splits;
     stuck = stops.stuck;
   }
 
   outcome_token : (kind : Kind) (bytes : ℕ) (lexing : Result (List Token) LexFault) → bytes ≤ length text
       → IsToken kind (take bytes text) → IsInRange kind → IsLongest bytes text
       → Outcome (before ++ take bytes text) (drop bytes text) lexing
-      → Outcome before text (followed_by (token_behind before kind bytes) lexing)
-  outcome_token kind bytes (Ok tokens) le is range longest splits = behind_token kind bytes tokens [] le is range longest splits
+      → Outcome before text (followed_by (token_after before kind bytes) lexing)
+  outcome_token kind bytes (Ok tokens) le is range longest splits = after_token kind bytes tokens [] le is range longest splits
   outcome_token kind bytes (Err fault) le is range longest stops = record {
     front = stops.front;
     left = stops.left;
-    tokens = token_behind before kind bytes ∷ stops.tokens;
+    tokens = token_after before kind bytes ∷ stops.tokens;
     parts = sym (joined bytes) ∙ stops.parts;
-    splits = behind_token kind bytes stops.tokens stops.left le is range longest stops.splits;
+    splits = after_token kind bytes stops.tokens stops.left le is range longest stops.splits;
     stuck = stops.stuck;
   }
 
   outcome_by : (piece : Piece) → Explains text piece → FitsIn (length text) piece
       → ((bytes : ℕ) → 1 ≤ bytes → Outcome (before ++ take bytes text) (drop bytes text)
-      (lexed_behind (before ++ take bytes text) 0 (drop bytes text)))
+      (lexed_after (before ++ take bytes text) 0 (drop bytes text)))
       → Outcome before text (lexed_by before text piece)
   outcome_by _ (skip bytes is) fits rest = outcome_gap bytes _ is (rest bytes fits.0)
   outcome_by _ (take_token kind bytes le is range longest) fits rest =
@@ -131,7 +131,7 @@ module _ (before text : List ℕ) where
   outcome_by _ (bad bytes le short) fits rest =
       record { front = before; left = text; tokens = []; parts = refl; splits = nothing; stuck = (bytes, refl, le, short) }
 
-outcome : (fuel : ℕ) (before text : List ℕ) → length text ≤ fuel → Outcome before text (lexed_behind before 0 text)
+outcome : (fuel : ℕ) (before text : List ℕ) → length text ≤ fuel → Outcome before text (lexed_after before 0 text)
 outcome fuel before [] le = nothing
 outcome zero before (b ∷ bs) le = absurd (omega arith)
 outcome (suc fuel) before (b ∷ bs) le =
@@ -140,7 +140,7 @@ outcome (suc fuel) before (b ∷ bs) le =
     (λ bytes some. outcome fuel (before ++ take bytes (b ∷ bs)) (drop bytes (b ∷ bs)) (omega (arith, length-drop bytes (b ∷ bs)))))
 
 if_lexed : (text : List ℕ) (long : Bool) (lexing : Result (List Token) LexFault)
-    → (if long then Err TooLong else lexed_behind [] 0 text) ≡ lexing
+    → (if long then Err TooLong else lexed_after [] 0 text) ≡ lexing
     → long ≡ false → Outcome [] text lexing
 if_lexed text true lexing is short = cc
 if_lexed text false lexing is short = subst (Outcome [] text) is (outcome (length text) [] text (omega arith))
@@ -148,7 +148,7 @@ if_lexed text false lexing is short = subst (Outcome [] text) is (outcome (lengt
 pub lexings_split : LexingsSplit
 lexings_split text tokens is = go (ltb MOST_PROGRAM_BYTES (length text)) refl is
   where
-    go : (long : Bool) → ltb MOST_PROGRAM_BYTES (length text) ≡ long → (if long then Err TooLong else lexed_behind [] 0 text) ≡ Ok tokens
+    go : (long : Bool) → ltb MOST_PROGRAM_BYTES (length text) ≡ long → (if long then Err TooLong else lexed_after [] 0 text) ≡ Ok tokens
         → Splits [] text tokens []
     go true long lexing = cc
     go false long lexing = if_lexed text false (Ok tokens) lexing refl

@@ -15,7 +15,7 @@ use Rattle.task_parser.specs.declared.lexer.Piece.TheVariants.{Skip, Take}
 use Rattle.task_parser.specs.meaning.Pieces.{piece_of, is_comment_byte, is_quoted_byte, begins}
 use Rattle.task_parser.specs.Pieces.{FitsIn}
 use Rattle.task_parser.specs.TokenTable.{IsToken, IsInRange, IsLongest, IsGap, IsComment}
-use Rattle.task_parser.specs.meaning.Lexing.{lexed_behind, followed_by, token_behind}
+use Rattle.task_parser.specs.meaning.Lexing.{lexed_after, followed_by, token_after}
 use Rattle.task_parser.specs.Splitting.{Splits, nothing, gap, token, StopsShort, BeginsTooBig, SplittingsAreLexed}
 use Rattle.task_parser.proofs.LexPieces.{Stands, space, comment, number, too_big, word, register, no_name, quoted, no_end, pair, single, no_equals, stray, piece_stands, stands_fits}
 use Rattle.task_parser.proofs.LexTokens.{class_of, class_some, class_space, class_hash, class_quote, first_class}
@@ -155,24 +155,24 @@ token_some kind [] is = absurd (no_empty_token kind is)
 token_some kind (b ∷ more) is = omega arith
 
 lexed_gap : (before skipped rest : List ℕ) → IsGap skipped rest
-    → lexed_behind before 0 (skipped ++ rest) ≡ lexed_behind (before ++ skipped) 0 rest
+    → lexed_after before 0 (skipped ++ rest) ≡ lexed_after (before ++ skipped) 0 rest
 lexed_gap before skipped rest is =
     lexed_front before (skipped ++ rest) (omega (arith, gap_some skipped rest is, length-append skipped rest))
     ∙ ap (lexed_by before (skipped ++ rest)) (gap_piece skipped rest is) ∙ rw (take-append_seam, drop-append_seam) refl
 
 lexed_token : (before : List ℕ) (kind : Kind) (bytes rest : List ℕ) → IsToken kind bytes → IsInRange kind
     → IsLongest (length bytes) (bytes ++ rest)
-    → lexed_behind before 0 (bytes ++ rest) ≡ followed_by (token_behind before kind (length bytes)) (lexed_behind (before ++ bytes) 0 rest)
+    → lexed_after before 0 (bytes ++ rest) ≡ followed_by (token_after before kind (length bytes)) (lexed_after (before ++ bytes) 0 rest)
 lexed_token before kind bytes rest is range longest =
     lexed_front before (bytes ++ rest) (omega (arith, token_some kind bytes is, length-append bytes rest))
     ∙ ap (lexed_by before (bytes ++ rest)) (token_piece kind bytes rest is range longest) ∙ rw (take-append_seam, drop-append_seam) refl
 
 splitting_lexed : {before text left : List ℕ} {tokens : List Token} → Splits before text tokens left → left ≡ []
-    → lexed_behind before 0 text ≡ Ok tokens
+    → lexed_after before 0 text ≡ Ok tokens
 splitting_lexed nothing ended = rw ended refl
 splitting_lexed (gap skipped is splits) ended = lexed_gap _ skipped _ is ∙ splitting_lexed splits ended
 splitting_lexed (token kind bytes is range longest splits) ended =
-    lexed_token _ kind bytes _ is range longest ∙ ap (followed_by (token_behind _ kind (length bytes))) (splitting_lexed splits ended)
+    lexed_token _ kind bytes _ is range longest ∙ ap (followed_by (token_after _ kind (length bytes))) (splitting_lexed splits ended)
 
 pub splittings_are_lexed : SplittingsAreLexed
 splittings_are_lexed text tokens le splits =

@@ -5,7 +5,7 @@ use Rattle.task_parser.specs.declared.token.Token.{Token}
 use Rattle.task_parser.specs.meaning.Words.{Form}
 use Rattle.task_parser.specs.inner.Reading.{Reader, begins, ◌>>=◌, read_made, repeat}
 use Rattle.task_parser.specs.meaning.Promise.{Stop}
-use Rattle.task_parser.specs.meaning.Classes.{among}
+use Rattle.task_parser.specs.inner.Classes.{among}
 use Rattle.task_parser.proofs.Many.{Shortens, shortens_sound, repeat_more, repeat_none}
 use Rattle.task_parser.proofs.Forms.{Reads}
 

@@ -108,8 +108,8 @@ data Fronts (a : List Placed) (r : List Token) (b : List Placed) (s : List Token
   first_longer : Longer a r b s → Fronts a r b s
   second_longer : Longer b s a r → Fronts a r b s
 
-longer_behind : {a b : List Placed} {r s : List Token} (p q : Placed) → p.token ≡ q.token → Longer a r b s → Longer (p ∷ a) r (q ∷ b) s
-longer_behind p q e l =
+longer_after : {a b : List Placed} {r s : List Token} (p q : Placed) → p.token ≡ q.token → Longer a r b s → Longer (p ∷ a) r (q ∷ b) s
+longer_after p q e l =
     record {
       same = p ∷ l.same;
       next = l.next;
@@ -120,16 +120,16 @@ longer_behind p q e l =
       rest = l.rest;
     }
 
-fronts_behind : {a b : List Placed} {r s : List Token} (p q : Placed) → p.token ≡ q.token → Fronts a r b s → Fronts (p ∷ a) r (q ∷ b) s
-fronts_behind p q e (equal f g) = equal (cc) g
-fronts_behind p q e (first_longer l) = first_longer (longer_behind p q e l)
-fronts_behind p q e (second_longer l) = second_longer (longer_behind q p (sym e) l)
+fronts_after : {a b : List Placed} {r s : List Token} (p q : Placed) → p.token ≡ q.token → Fronts a r b s → Fronts (p ∷ a) r (q ∷ b) s
+fronts_after p q e (equal f g) = equal (cc) g
+fronts_after p q e (first_longer l) = first_longer (longer_after p q e l)
+fronts_after p q e (second_longer l) = second_longer (longer_after q p (sym e) l)
 
 fronts : (a b : List Placed) (r s : List Token) → tokens_of a ++ r ≡ tokens_of b ++ s → Fronts a r b s
 fronts [] [] r s e = equal refl e
 fronts [] (q ∷ b) r s e = second_longer (record { same = []; next = q; more = b; parts = refl; alike = refl; rest = e })
 fronts (p ∷ a) [] r s e = first_longer (record { same = []; next = p; more = a; parts = refl; alike = refl; rest = sym e })
-fronts (p ∷ a) (q ∷ b) r s e = fronts_behind p q (cc) (fronts a b r s (cc))
+fronts (p ∷ a) (q ∷ b) r s e = fronts_after p q (cc) (fronts a b r s (cc))
 
 -- ---- a first fault is what reading answers
 

@@ -1,57 +1,67 @@
 -- Heads, tasks and programs are read exactly.
+use Prim.Native.String.{String}
 use Rattle.std.proofs.Common.{ℕ, suc, List, [], ◌∷◌, refl}
+use Rattle.task_ast.specs.declared.tree.Param.TheVariants.{Ctl, Reg}
 use Rattle.task_ast.specs.meaning.Tree.{block, TaskText}
-use Rattle.task_parser.specs.declared.classes.TheConstants.{NUM, NAME, REG, QUOTED, LOCK, BARRIER, RECORD, BY, FROM, FEED, TASK, VAR, ELSE, OPEN_BRACKET, CLOSE_BRACKET, OPEN_PAREN, CLOSE_PAREN, OPEN_BRACE, CLOSE_BRACE, COMMA, SEMICOLON}
-use Rattle.task_parser.specs.meaning.Classes.{among}
-use Rattle.task_parser.specs.meaning.Words.{Form, Both, ◌▸◌, many, some, the, ◌◂◌, separated}
+use Rattle.task_parser.specs.declared.classes.TheConstants.{NAME, REG, QUOTED, LOCK, BARRIER, RECORD, BY, FROM, FEED, TASK, VAR, ELSE, OPEN_BRACKET, CLOSE_BRACKET, OPEN_PAREN, CLOSE_PAREN, OPEN_BRACE, CLOSE_BRACE, COMMA, SEMICOLON}
+use Rattle.task_parser.specs.inner.Classes.{among}
+use Rattle.task_parser.specs.meaning.Words.{Form, Both, ◌▸◌, Made, many, perhaps, some, the, ◌◂◌, preceded, separated}
 use Rattle.task_parser.specs.inner.Reading.{read_both, repeat, read_after, read_some, read_separated}
 use Rattle.task_parser.specs.inner.Laws.{Sound, Complete}
-use Rattle.task_parser.specs.meaning.Expressions.{Text}
-use Rattle.task_parser.specs.meaning.Statements.{or_empty, listed_in}
-use Rattle.task_parser.specs.inner.StatementReaders.{statement_starts, read_list}
-use Rattle.task_parser.specs.meaning.Programs.{lock_head_of, barrier_head_of, record_head_of, feed_head_of, file_in, ctl_param, reg_param, var_line_of, task_of, program_from, lock_head, barrier_head, from_file, record_head, feed_head, head, param, var_line, task, program}
-use Rattle.task_parser.specs.inner.ProgramReaders.{read_sized, read_lock_head, read_barrier_head, read_from_file, read_record_head, read_feed_head, head_starts, param_starts, read_head, read_param, read_var_line, read_task, read_program}
+use Rattle.task_parser.specs.meaning.Expressions.{Text, name, number}
+use Rattle.task_parser.specs.meaning.Statements.{listed_in}
+use Rattle.task_parser.specs.inner.StatementReaders.{or_empty, statement_starts, read_list}
+use Rattle.task_parser.specs.meaning.Programs.{lock_head_of, barrier_head_of, record_head_of, feed_head_of, file_of, var_line_of, task_of, program_from, file, head, param, var_line, task, program}
+use Rattle.task_parser.specs.inner.ProgramReaders.{read_file, read_sized, read_lock_head, read_barrier_head, read_from_file, read_record_head, read_feed_head, head_starts, param_starts, read_head, read_param, read_var_line, read_task, read_program}
 use Rattle.task_parser.proofs.Exact.{sound_both, complete_both, sound_made, complete_made, parted_starts}
-use Rattle.task_parser.proofs.ClassLists.{apart}
-use Rattle.task_parser.proofs.Forms.{Reads, MayRead, reads_the, reads_made, may_read_made, reads_both, reads_more, reads_many, reads_perhaps, reads_mark, reads_after, reads_some, reads_separated, reads_either}
+use Rattle.task_parser.proofs.ClassLists.{apart, IsOf}
+use Rattle.task_parser.proofs.Forms.{Reads, MayRead, reads_the, reads_kind, reads_name, reads_register, reads_number, reads_made, may_read_made, reads_both, reads_more, reads_many, reads_perhaps, reads_mark, reads_after, reads_some, reads_separated, reads_either}
 use Rattle.task_parser.proofs.Loop.{shortens_reads}
 use Rattle.task_parser.proofs.Many.{Shortens}
-use Rattle.task_parser.proofs.ReadStatements.{Plain, reads_statement}
+use Rattle.task_parser.proofs.ReadStatements.{Plain, reads_titled, reads_statement}
 
-reads_sized : {room : ℕ} (word : ℕ)
-    → Plain room (the word ▸ the NAME ◂ OPEN_BRACKET ▸ the NUM ◂ CLOSE_BRACKET) (read_sized word) (word ∷ [])
+reads_file : {room : ℕ} (text : Text) → Plain room (file text) (read_file text) (QUOTED ∷ [])
+reads_file text = reads_made (file_of text) (reads_kind QUOTED refl)
+
+reads_sized : {room : ℕ} (text : Text) (word : String) (n : ℕ) → IsOf word n
+    → Plain room (the word ▸ name text ◂ "[" ▸ number ◂ "]") (read_sized text n) (n ∷ [])
 unfolding read_sized
-reads_sized word =
-    reads_mark CLOSE_BRACKET refl (reads_both
-    (reads_mark OPEN_BRACKET refl (reads_both (reads_the word) (reads_the NAME) refl)) (reads_the NUM) refl)
+reads_sized text word n is =
+    reads_mark "]" CLOSE_BRACKET refl refl (reads_both (reads_titled text word n is "[" OPEN_BRACKET refl) reads_number refl)
 
-reads_lock_head : {room : ℕ} (text : Text) → Plain room (lock_head text) (read_lock_head text) (LOCK ∷ [])
+reads_lock_head : {room : ℕ} (text : Text)
+    → Plain room (Made lock_head_of (the "lock" ▸ name text ◂ "[" ▸ number ◂ "]" ◂ ";")) (read_lock_head text) (LOCK ∷ [])
 unfolding read_lock_head
-reads_lock_head text = reads_made (lock_head_of text) (reads_mark SEMICOLON refl (reads_sized LOCK))
+reads_lock_head text = reads_made lock_head_of (reads_mark ";" SEMICOLON refl refl (reads_sized text "lock" LOCK refl))
 
-reads_barrier_head : {room : ℕ} (text : Text) → Plain room (barrier_head text) (read_barrier_head text) (BARRIER ∷ [])
+reads_barrier_head : {room : ℕ} (text : Text)
+    → Plain room (Made barrier_head_of (the "barrier" ▸ name text ◂ "(" ▸ number ◂ ")" ◂ ";")) (read_barrier_head text) (BARRIER ∷ [])
 unfolding read_barrier_head
 reads_barrier_head text =
-    reads_made (barrier_head_of text) (reads_mark SEMICOLON refl
-    (reads_mark CLOSE_PAREN refl (reads_both
-    (reads_mark OPEN_PAREN refl (reads_both (reads_the BARRIER) (reads_the NAME) refl)) (reads_the NUM) refl)))
+    reads_made barrier_head_of (reads_mark ";" SEMICOLON refl refl (reads_mark ")" CLOSE_PAREN refl refl
+    (reads_both (reads_titled text "barrier" BARRIER refl "(" OPEN_PAREN refl) reads_number refl)))
 
-reads_from_file : {room : ℕ} (text : Text) → MayRead room (from_file text) (from_file text) (read_from_file text) (FROM ∷ []) []
+reads_from_file : {room : ℕ} (text : Text)
+    → MayRead room (perhaps (preceded "from" (file text))) (perhaps (preceded "from" (file text))) (read_from_file text) (FROM ∷ []) []
 unfolding read_from_file
-reads_from_file text = may_read_made (file_in text) (reads_perhaps (reads_after FROM refl (reads_the QUOTED)))
+reads_from_file text = reads_perhaps (reads_after "from" FROM refl refl (reads_file text))
 
-reads_record_head : {room : ℕ} (text : Text) → Plain room (record_head text) (read_record_head text) (RECORD ∷ [])
+reads_record_head : {room : ℕ} (text : Text)
+    → Plain room
+    (Made record_head_of (the "record" ▸ name text ◂ "[" ▸ number ◂ "]" ◂ "by" ▸ name text ▸ perhaps (preceded "from" (file text)) ◂ ";"))
+    (read_record_head text) (RECORD ∷ [])
 unfolding read_record_head
 reads_record_head text =
-    reads_made (record_head_of text) (reads_mark SEMICOLON refl
-    (reads_more (FROM ∷ []) (reads_both (reads_mark BY refl (reads_sized RECORD)) (reads_the NAME) refl)
+    reads_made record_head_of (reads_mark ";" SEMICOLON refl refl
+    (reads_more (FROM ∷ []) (reads_both (reads_mark "by" BY refl refl (reads_sized text "record" RECORD refl)) (reads_name text) refl)
     (reads_from_file text) refl refl refl refl))
 
-reads_feed_head : {room : ℕ} (text : Text) → Plain room (feed_head text) (read_feed_head text) (FEED ∷ [])
+reads_feed_head : {room : ℕ} (text : Text)
+    → Plain room (Made feed_head_of (the "feed" ▸ name text ◂ "[" ▸ number ◂ "]" ◂ "from" ▸ file text ◂ ";")) (read_feed_head text) (FEED ∷ [])
 unfolding read_feed_head
 reads_feed_head text =
-    reads_made (feed_head_of text) (reads_mark SEMICOLON refl
-    (reads_both (reads_mark FROM refl (reads_sized FEED)) (reads_the QUOTED) refl))
+    reads_made feed_head_of (reads_mark ";" SEMICOLON refl refl
+    (reads_both (reads_mark "from" FROM refl refl (reads_sized text "feed" FEED refl)) (reads_file text) refl))
 
 pub reads_head : {room : ℕ} (text : Text) → Plain room (head text) (read_head text) head_starts
 unfolding read_head
@@ -63,12 +73,12 @@ reads_head text =
 pub reads_param : {room : ℕ} (text : Text) → Plain room (param text) (read_param text) param_starts
 unfolding read_param
 reads_param text =
-    reads_either param_starts (reads_made (ctl_param text) (reads_the NAME)) (reads_made (reg_param text) (reads_the REG)) refl refl refl
+    reads_either param_starts (reads_made Ctl (reads_name text)) (reads_made Reg (reads_register text)) refl refl refl
 
 reads_params : {room : ℕ} (text : Text)
-    → Reads room (separated COMMA (param text)) (separated COMMA (param text))
+    → Reads room (separated "," (param text)) (separated "," (param text))
     (read_separated COMMA (read_param text)) param_starts (COMMA ∷ [])
-reads_params text = reads_separated COMMA (COMMA ∷ []) refl refl refl refl (reads_param text)
+reads_params text = reads_separated "," COMMA (COMMA ∷ []) refl refl refl refl refl (reads_param text)
 
 reads_list : {room : ℕ} (text : Text)
     → MayRead room (listed_in (param text)) (listed_in (param text)) (read_list param_starts (read_param text)) param_starts (COMMA ∷ [])
@@ -77,18 +87,18 @@ reads_list text = may_read_made or_empty (reads_perhaps (reads_params text))
 
 pub reads_var_line : {room : ℕ} (text : Text) → Plain room (var_line text) (read_var_line text) (VAR ∷ [])
 unfolding read_var_line
-reads_var_line text = reads_made var_line_of (reads_mark SEMICOLON refl (reads_both (reads_the VAR) (reads_params text) refl))
+reads_var_line text = reads_made var_line_of (reads_mark ";" SEMICOLON refl refl (reads_both (reads_the "var" VAR refl) (reads_params text) refl))
 
 pub reads_task : (text : Text) (room height : ℕ)
     → Reads room (task text (suc (suc room))) (task text height) (read_task text room) (TASK ∷ []) []
 unfolding read_task
 reads_task text room height =
-    let named = reads_mark OPEN_PAREN refl (reads_both (reads_the TASK) (reads_the NAME) refl) in
+    let named = reads_titled text "task" TASK refl "(" OPEN_PAREN refl in
     let headed =
-    reads_mark OPEN_BRACE refl (reads_mark CLOSE_PAREN refl
+    reads_mark "{" OPEN_BRACE refl refl (reads_mark ")" CLOSE_PAREN refl refl
     (reads_more (NAME ∷ REG ∷ COMMA ∷ []) named (reads_list text) refl refl refl refl)) in
     let declared = reads_more (VAR ∷ []) headed (reads_many (reads_var_line text) refl) refl refl refl refl in
-    reads_made (task_of text) (reads_mark CLOSE_BRACE refl
+    reads_made task_of (reads_mark "}" CLOSE_BRACE refl refl
     (reads_more (VAR ∷ ELSE ∷ statement_starts) declared
     (may_read_made block (reads_many (reads_statement text room height) refl)) refl refl refl refl))
 
@@ -130,7 +140,7 @@ pub head_shortens : (text : Text) → Shortens (read_head text)
 head_shortens text = shortens_reads (reads_head {room = 0} text)
 
 pub next_param_shortens : (text : Text) → Shortens (read_after COMMA (read_param text))
-next_param_shortens text = shortens_reads (reads_after {room = 0} COMMA refl (reads_param text))
+next_param_shortens text = shortens_reads (reads_after {room = 0} "," COMMA refl refl (reads_param text))
 
 pub var_line_shortens : (text : Text) → Shortens (read_var_line text)
 var_line_shortens text = shortens_reads (reads_var_line {room = 0} text)

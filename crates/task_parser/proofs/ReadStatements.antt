@@ -1,21 +1,24 @@
 -- Statements are read exactly. Each statement is a form by the words of the grammar, so each has one lemma by Forms,
 -- with the words that it may begin with. What a block holds is read with one less of the room for nesting, and by no
 -- reader where no room is left; the two main lemmas go by recursion on that room.
+use Prim.Native.String.{String}
 use Rattle.std.proofs.Common.{◌≡◌, ℕ, zero, suc, true, List, [], ◌∷◌, Option, Some, None, option_map, refl, inl, inr}
-use Rattle.task_ast.specs.meaning.Tree.{Expr, Stmt, block}
+use Rattle.task_ast.specs.declared.tree.Atom.TheVariants as atoms
+use Rattle.task_ast.specs.meaning.Tree.{Expr, Stmt, SetCtl, While, If, Lock, Unlock, Fork, Join, Barrier, Settle, SetReg, Read, Write, Print, When, block}
+use Rattle.task_parser.specs.declared.token.Kind.TheVariants as kinds
 use Rattle.task_parser.specs.declared.classes.TheConstants.{NUM, NAME, REG, LOCK, UNLOCK, BARRIER, WHILE, IF, ELSE, FORK, INTO, JOIN, READ, WRITE, PRINT, WHEN, SETTLE, NOT, SELF, ROWS, OPEN_BRACKET, CLOSE_BRACKET, OPEN_PAREN, CLOSE_PAREN, OPEN_BRACE, CLOSE_BRACE, COMMA, SEMICOLON, ASSIGN}
-use Rattle.task_parser.specs.meaning.Classes.{among}
-use Rattle.task_parser.specs.meaning.Words.{Form, ◌▸◌, ◌∣◌, Made, many, the, ◌◂◌, separated}
+use Rattle.task_parser.specs.inner.Classes.{among}
+use Rattle.task_parser.specs.meaning.Words.{Form, ◌▸◌, ◌∣◌, Made, many, perhaps, of_kind, the, ◌◂◌, preceded, separated}
 use Rattle.task_parser.specs.inner.Reading.{Reader, read_either, read_after, read_separated}
 use Rattle.task_parser.specs.inner.Laws.{Inhabited}
-use Rattle.task_parser.specs.meaning.Expressions.{Text}
+use Rattle.task_parser.specs.meaning.Expressions.{Text, name_of, reg_name, name, register}
 use Rattle.task_parser.specs.inner.ExpressionReaders.{starting, read_expression}
-use Rattle.task_parser.specs.meaning.Statements.{number_atom, name_atom, set_ctl_of, while_of, if_of, lock_of, unlock_of, fork_of, join_of, barrier_of, settle_of, set_reg_of, read_of, write_of, print_of, when_of, or_nothing, or_empty, named_in, reg_in, listed_in, into_name, into_reg, atom, block_of, else_block, set_ctl, looping, branching, locking, unlocking, forking, joining, waiting, settling, set_reg, reading, writing, printing, choosing, data_form, control_form, data_statement, statement}
-use Rattle.task_parser.specs.inner.StatementReaders.{data_starts, control_starts, statement_starts, read_atom, read_indexed, read_inner_block, read_block, read_else, read_set_ctl, read_looping, read_branching, read_locking, read_unlocking, read_list, read_into_name, read_into_reg, read_forking, read_joining, read_waiting, read_settling, read_set_reg, read_reading, read_writing, read_printing, read_choosing, read_data_form, read_control_form, read_data_statement, read_statement}
+use Rattle.task_parser.specs.meaning.Statements.{set_of, of_one, of_two, of_three, listed_in, atom, block_of, else_block, data_form, control_form, data_statement, statement}
+use Rattle.task_parser.specs.inner.StatementReaders.{or_empty, or_nothing, read_titled, data_starts, control_starts, statement_starts, read_atom, read_indexed, read_inner_block, read_block, read_else, read_set_ctl, read_looping, read_branching, read_locking, read_unlocking, read_list, read_into_name, read_into_reg, read_forking, read_joining, read_waiting, read_settling, read_set_reg, read_reading, read_writing, read_printing, read_choosing, read_data_form, read_control_form, read_data_statement, read_statement}
 use Rattle.task_parser.proofs.Exact.{inhabited_made}
 use Rattle.task_parser.proofs.Many.{inhabited_many}
-use Rattle.task_parser.proofs.ClassLists.{disjoint, subset}
-use Rattle.task_parser.proofs.Forms.{Reads, MayRead, Deeper, inside_with, reads_the, reads_made, may_read_made, reads_both, reads_more, reads_many, reads_perhaps, reads_mark, reads_after, reads_separated, reads_either, reads_opened, reads_wider, reads_shut}
+use Rattle.task_parser.proofs.ClassLists.{disjoint, subset, IsOf}
+use Rattle.task_parser.proofs.Forms.{Reads, MayRead, Deeper, inside_with, reads_the, reads_kind, reads_name, reads_register, reads_number, reads_made, may_read_made, reads_both, reads_more, reads_many, reads_perhaps, reads_mark, reads_after, reads_separated, reads_either, reads_opened, reads_wider, reads_shut}
 use Rattle.task_parser.specs.declared.statements.Allowed.{Allowed}
 use Rattle.task_parser.specs.declared.statements.Allowed.TheVariants.{All, Data}
 use Rattle.task_parser.specs.inner.Gives.{read_allowed}
@@ -33,14 +36,18 @@ Plain room P p first = Reads room P P p first []
 pub reads_atom : {room : ℕ} (text : Text) → Plain room (atom text) (read_atom text) (NUM ∷ NAME ∷ [])
 unfolding read_atom
 reads_atom text =
-    reads_either (NUM ∷ NAME ∷ []) (reads_made number_atom (reads_the NUM)) (reads_made (name_atom text) (reads_the NAME)) refl refl refl
+    reads_either (NUM ∷ NAME ∷ []) (reads_made atoms.Num reads_number) (reads_made atoms.Var (reads_name text)) refl refl refl
 
-reads_indexed : {room : ℕ} (text : Text) (word : ℕ)
-    → Plain room (the word ▸ the NAME ◂ OPEN_BRACKET ▸ atom text ◂ CLOSE_BRACKET) (read_indexed text word) (word ∷ [])
+-- a word, a name and a mark
+pub reads_titled : {room : ℕ} (text : Text) (word : String) (n : ℕ) → IsOf word n → (mark : String) (m : ℕ) → IsOf mark m
+    → Plain room (the word ▸ name text ◂ mark) (read_titled text n m) (n ∷ [])
+reads_titled text word n is mark m so = reads_mark mark m so refl (reads_both (reads_the word n is) (reads_name text) refl)
+
+reads_indexed : {room : ℕ} (text : Text) (word : String) (n : ℕ) → IsOf word n
+    → Plain room (the word ▸ name text ◂ "[" ▸ atom text ◂ "]") (read_indexed text n) (n ∷ [])
 unfolding read_indexed
-reads_indexed text word =
-    reads_mark CLOSE_BRACKET refl (reads_both
-    (reads_mark OPEN_BRACKET refl (reads_both (reads_the word) (reads_the NAME) refl)) (reads_atom text) refl)
+reads_indexed text word n is =
+    reads_mark "]" CLOSE_BRACKET refl refl (reads_both (reads_titled text word n is "[" OPEN_BRACKET refl) (reads_atom text) refl)
 
 -- ---- blocks
 
@@ -58,7 +65,7 @@ reads_block : (room : ℕ) (T P : Form Stmt) (inner : Option (Reader Stmt)) (sta
     → Reads room (block_of T) (block_of P) (read_block starts inner) (OPEN_BRACE ∷ []) []
 unfolding read_block
 reads_block room T P inner starts k h =
-    reads_mark CLOSE_BRACE k.closed (reads_opened room OPEN_BRACE (option_map (read_inner_block starts) inner)
+    reads_mark "}" CLOSE_BRACE refl k.closed (reads_opened "{" OPEN_BRACE refl room (option_map (read_inner_block starts) inner)
     (inside_with room T P (Made block (many T)) (Made block (many P)) (read_inner_block starts) inner (ELSE ∷ starts)
     (λ full. inhabited_made block (many T) (inhabited_many T))
     (λ r s reads. let m = may_read_made block (reads_many reads k.apart) in (m.sound, m.complete (ELSE ∷ starts) refl k.covered)) h))
@@ -67,7 +74,7 @@ reads_else : (room : ℕ) (T P : Form Stmt) (inner : Option (Reader Stmt)) (star
     → MayRead room (else_block T) (else_block P) (read_else starts inner) (ELSE ∷ []) []
 unfolding read_else
 reads_else room T P inner starts k h =
-    may_read_made or_nothing (reads_perhaps (reads_after ELSE refl (reads_block room T P inner starts k h)))
+    may_read_made or_nothing (reads_perhaps (reads_after "else" ELSE refl refl (reads_block room T P inner starts k h)))
 
 data_closes : Closes data_starts
 data_closes = record { apart = refl; covered = refl; closed = refl }
@@ -78,36 +85,42 @@ closes = record { apart = refl; covered = refl; closed = refl }
 -- ---- data statements
 
 reads_set_reg : {room : ℕ} {T P : Form Expr} {p : Reader Expr} (text : Text) → Expressions room T P p
-    → Reads room (set_reg text T) (set_reg text P) (read_set_reg text p) (REG ∷ []) []
+    → Reads room (Made (set_of (reg_name text) SetReg) (of_kind kinds.Reg ◂ "=" ▸ T ◂ ";"))
+    (Made (set_of (reg_name text) SetReg) (of_kind kinds.Reg ◂ "=" ▸ P ◂ ";")) (read_set_reg text p) (REG ∷ []) []
 unfolding read_set_reg
-reads_set_reg text e = reads_made (set_reg_of text) (reads_mark SEMICOLON refl (reads_both (reads_mark ASSIGN refl (reads_the REG)) e refl))
+reads_set_reg text e =
+    reads_made (set_of (reg_name text) SetReg)
+    (reads_mark ";" SEMICOLON refl refl (reads_both (reads_mark "=" ASSIGN refl refl (reads_kind REG refl)) e refl))
 
-reads_reading : {room : ℕ} (text : Text) → Plain room (reading text) (read_reading text) (READ ∷ [])
+reads_reading : {room : ℕ} (text : Text) → Plain room (Made (of_three Read) (the "read" ▸ name text ◂ "[" ▸ atom text ◂ "]" ◂ "into" ▸ register text ◂ ";")) (read_reading text) (READ ∷ [])
 unfolding read_reading
 reads_reading text =
-    reads_made (read_of text) (reads_mark SEMICOLON refl (reads_both (reads_mark INTO refl (reads_indexed text READ)) (reads_the REG) refl))
+    reads_made (of_three Read) (reads_mark ";" SEMICOLON refl refl (reads_both (reads_mark "into" INTO refl refl (reads_indexed text "read" READ refl)) (reads_register text) refl))
 
 reads_writing : {room : ℕ} {T P : Form Expr} {p : Reader Expr} (text : Text) → Expressions room T P p
-    → Reads room (writing text T) (writing text P) (read_writing text p) (WRITE ∷ []) []
+    → Reads room (Made (of_three Write) (the "write" ▸ name text ◂ "[" ▸ atom text ◂ "]" ◂ "=" ▸ T ◂ ";"))
+    (Made (of_three Write) (the "write" ▸ name text ◂ "[" ▸ atom text ◂ "]" ◂ "=" ▸ P ◂ ";")) (read_writing text p) (WRITE ∷ []) []
 unfolding read_writing
 reads_writing text e =
-    reads_made (write_of text) (reads_mark SEMICOLON refl (reads_both (reads_mark ASSIGN refl (reads_indexed text WRITE)) e refl))
+    reads_made (of_three Write) (reads_mark ";" SEMICOLON refl refl (reads_both (reads_mark "=" ASSIGN refl refl (reads_indexed text "write" WRITE refl)) e refl))
 
 reads_exprs : {room : ℕ} {T P : Form Expr} {p : Reader Expr} → Expressions room T P p
-    → Reads room (separated COMMA T) (separated COMMA P) (read_separated COMMA p) starting (COMMA ∷ going_on)
-reads_exprs e = reads_separated COMMA (COMMA ∷ going_on) refl refl refl refl e
+    → Reads room (separated "," T) (separated "," P) (read_separated COMMA p) starting (COMMA ∷ going_on)
+reads_exprs e = reads_separated "," COMMA (COMMA ∷ going_on) refl refl refl refl refl e
 
 reads_printing : {room : ℕ} {T P : Form Expr} {p : Reader Expr} → Expressions room T P p
-    → Reads room (printing T) (printing P) (read_printing p) (PRINT ∷ []) []
+    → Reads room (Made (of_one Print) (the "print" ▸ separated "," T ◂ ";"))
+    (Made (of_one Print) (the "print" ▸ separated "," P ◂ ";")) (read_printing p) (PRINT ∷ []) []
 unfolding read_printing
-reads_printing e = reads_made print_of (reads_mark SEMICOLON refl (reads_both (reads_the PRINT) (reads_exprs e) refl))
+reads_printing e = reads_made (of_one Print) (reads_mark ";" SEMICOLON refl refl (reads_both (reads_the "print" PRINT refl) (reads_exprs e) refl))
 
 reads_choosing : {T P : Form Expr} {p : Reader Expr} (room : ℕ) (U Q : Form Stmt) (inner : Option (Reader Stmt)) → Expressions room T P p
-    → Nested room U Q inner data_starts → Reads room (choosing T U) (choosing P Q) (read_choosing p inner) (WHEN ∷ []) (ELSE ∷ [])
+    → Nested room U Q inner data_starts → Reads room (Made (of_three When) (the "when" ▸ T ▸ block_of U ▸ else_block U))
+    (Made (of_three When) (the "when" ▸ P ▸ block_of Q ▸ else_block Q)) (read_choosing p inner) (WHEN ∷ []) (ELSE ∷ [])
 unfolding read_choosing
 reads_choosing room U Q inner e h =
-    reads_made when_of (reads_more (ELSE ∷ [])
-    (reads_both (reads_both (reads_the WHEN) e refl) (reads_block room U Q inner data_starts data_closes h) refl)
+    reads_made (of_three When) (reads_more (ELSE ∷ [])
+    (reads_both (reads_both (reads_the "when" WHEN refl) e refl) (reads_block room U Q inner data_starts data_closes h) refl)
     (reads_else room U Q inner data_starts data_closes h) refl refl refl refl)
 
 wide : {room : ℕ} {U Q : Form Stmt} {q : Reader Stmt} {first : List ℕ} → Reads room U Q q first [] → Reads room U Q q first (ELSE ∷ [])
@@ -126,7 +139,8 @@ reads_data_form text room U Q inner e h =
 
 inhabited_data : (text : Text) (height : ℕ) → Inhabited (data_statement text (suc height))
 inhabited_data text height =
-    λ depth. let r : Plain 0 (reading text) (read_reading text) (READ ∷ []) = reads_reading text in let a = r.inhabited depth in
+    λ depth. let r : Reads 0 _ (Made (of_three Read) (the "read" ▸ name text ◂ "[" ▸ atom text ◂ "]" ◂ "into" ▸ register text ◂ ";")) (read_reading text) (READ ∷ []) [] =
+    reads_reading text in let a = r.inhabited depth in
     (a.0, a.1, inr (inl a.2))
 
 pub reads_data_statement : (text : Text) (room height : ℕ)
@@ -148,72 +162,78 @@ reads_data_statement text (suc room) (suc height) =
 -- ---- other statements
 
 reads_set_ctl : {room : ℕ} {T P : Form Expr} {p : Reader Expr} (text : Text) → Expressions room T P p
-    → Reads room (set_ctl text T) (set_ctl text P) (read_set_ctl text p) (NAME ∷ []) []
+    → Reads room (Made (set_of (name_of text) SetCtl) (of_kind kinds.Name ◂ "=" ▸ T ◂ ";"))
+    (Made (set_of (name_of text) SetCtl) (of_kind kinds.Name ◂ "=" ▸ P ◂ ";")) (read_set_ctl text p) (NAME ∷ []) []
 unfolding read_set_ctl
 reads_set_ctl text e =
-    reads_made (set_ctl_of text) (reads_mark SEMICOLON refl (reads_both (reads_mark ASSIGN refl (reads_the NAME)) e refl))
+    reads_made (set_of (name_of text) SetCtl)
+    (reads_mark ";" SEMICOLON refl refl (reads_both (reads_mark "=" ASSIGN refl refl (reads_kind NAME refl)) e refl))
 
 reads_looping : {T P : Form Expr} {p : Reader Expr} (room : ℕ) (U Q : Form Stmt) (inner : Option (Reader Stmt)) → Expressions room T P p
-    → Nested room U Q inner statement_starts → Reads room (looping T U) (looping P Q) (read_looping p inner) (WHILE ∷ []) []
+    → Nested room U Q inner statement_starts → Reads room (Made (of_two While) (the "while" ▸ T ▸ block_of U)) (Made (of_two While) (the "while" ▸ P ▸ block_of Q))
+    (read_looping p inner) (WHILE ∷ []) []
 unfolding read_looping
 reads_looping room U Q inner e h =
-    reads_made while_of (reads_both (reads_both (reads_the WHILE) e refl) (reads_block room U Q inner statement_starts closes h) refl)
+    reads_made (of_two While) (reads_both (reads_both (reads_the "while" WHILE refl) e refl) (reads_block room U Q inner statement_starts closes h) refl)
 
 reads_branching : {T P : Form Expr} {p : Reader Expr} (room : ℕ) (U Q : Form Stmt) (inner : Option (Reader Stmt)) → Expressions room T P p
-    → Nested room U Q inner statement_starts → Reads room (branching T U) (branching P Q) (read_branching p inner) (IF ∷ []) (ELSE ∷ [])
+    → Nested room U Q inner statement_starts → Reads room (Made (of_three If) (the "if" ▸ T ▸ block_of U ▸ else_block U))
+    (Made (of_three If) (the "if" ▸ P ▸ block_of Q ▸ else_block Q)) (read_branching p inner) (IF ∷ []) (ELSE ∷ [])
 unfolding read_branching
 reads_branching room U Q inner e h =
-    reads_made if_of (reads_more (ELSE ∷ []) (reads_both (reads_both (reads_the IF) e refl)
+    reads_made (of_three If) (reads_more (ELSE ∷ []) (reads_both (reads_both (reads_the "if" IF refl) e refl)
     (reads_block room U Q inner statement_starts closes h) refl)
     (reads_else room U Q inner statement_starts closes h) refl refl refl refl)
 
-reads_locking : {room : ℕ} (text : Text) → Plain room (locking text) (read_locking text) (LOCK ∷ [])
+reads_locking : {room : ℕ} (text : Text) → Plain room (Made (of_two Lock) (the "lock" ▸ name text ◂ "[" ▸ atom text ◂ "]" ◂ ";")) (read_locking text) (LOCK ∷ [])
 unfolding read_locking
-reads_locking text = reads_made (lock_of text) (reads_mark SEMICOLON refl (reads_indexed text LOCK))
+reads_locking text = reads_made (of_two Lock) (reads_mark ";" SEMICOLON refl refl (reads_indexed text "lock" LOCK refl))
 
-reads_unlocking : {room : ℕ} (text : Text) → Plain room (unlocking text) (read_unlocking text) (UNLOCK ∷ [])
+reads_unlocking : {room : ℕ} (text : Text) → Plain room (Made (of_two Unlock) (the "unlock" ▸ name text ◂ "[" ▸ atom text ◂ "]" ◂ ";")) (read_unlocking text) (UNLOCK ∷ [])
 unfolding read_unlocking
-reads_unlocking text = reads_made (unlock_of text) (reads_mark SEMICOLON refl (reads_indexed text UNLOCK))
+reads_unlocking text = reads_made (of_two Unlock) (reads_mark ";" SEMICOLON refl refl (reads_indexed text "unlock" UNLOCK refl))
 
 reads_list : {room : ℕ} {T P : Form Expr} {p : Reader Expr} → Expressions room T P p
     → MayRead room (listed_in T) (listed_in P) (read_list starting p) starting (COMMA ∷ going_on)
 unfolding read_list
 reads_list e = may_read_made or_empty (reads_perhaps (reads_exprs e))
 
-reads_into_name : {room : ℕ} (text : Text) → MayRead room (into_name text) (into_name text) (read_into_name text) (INTO ∷ []) []
+reads_into_name : {room : ℕ} (text : Text) → MayRead room (perhaps (preceded "into" (name text))) (perhaps (preceded "into" (name text))) (read_into_name text) (INTO ∷ []) []
 unfolding read_into_name
-reads_into_name text = may_read_made (named_in text) (reads_perhaps (reads_after INTO refl (reads_the NAME)))
+reads_into_name text = reads_perhaps (reads_after "into" INTO refl refl (reads_name text))
 
-reads_into_reg : {room : ℕ} (text : Text) → MayRead room (into_reg text) (into_reg text) (read_into_reg text) (INTO ∷ []) []
+reads_into_reg : {room : ℕ} (text : Text) → MayRead room (perhaps (preceded "into" (register text))) (perhaps (preceded "into" (register text))) (read_into_reg text) (INTO ∷ []) []
 unfolding read_into_reg
-reads_into_reg text = may_read_made (reg_in text) (reads_perhaps (reads_after INTO refl (reads_the REG)))
+reads_into_reg text = reads_perhaps (reads_after "into" INTO refl refl (reads_register text))
 
 reads_forking : {room : ℕ} {T P : Form Expr} {p : Reader Expr} (text : Text) → Expressions room T P p
-    → Reads room (forking text T) (forking text P) (read_forking text p) (FORK ∷ []) []
+    → Reads room (Made (of_three Fork) (the "fork" ▸ name text ◂ "(" ▸ listed_in T ◂ ")" ▸ perhaps (preceded "into" (name text)) ◂ ";"))
+    (Made (of_three Fork) (the "fork" ▸ name text ◂ "(" ▸ listed_in P ◂ ")" ▸ perhaps (preceded "into" (name text)) ◂ ";")) (read_forking text p) (FORK ∷ []) []
 unfolding read_forking
 reads_forking text e =
-    let opened = reads_mark OPEN_PAREN refl (reads_both (reads_the FORK) (reads_the NAME) refl) in
+    let opened = reads_titled text "fork" FORK refl "(" OPEN_PAREN refl in
     let listed =
     reads_more (NOT ∷ NUM ∷ NAME ∷ REG ∷ SELF ∷ ROWS ∷ OPEN_PAREN ∷ COMMA ∷ going_on) opened (reads_list e) refl refl refl refl in
-    reads_made (fork_of text) (reads_mark SEMICOLON refl
-    (reads_more (INTO ∷ []) (reads_mark CLOSE_PAREN refl listed) (reads_into_name text) refl refl refl refl))
+    reads_made (of_three Fork) (reads_mark ";" SEMICOLON refl refl
+    (reads_more (INTO ∷ []) (reads_mark ")" CLOSE_PAREN refl refl listed) (reads_into_name text) refl refl refl refl))
 
 reads_joining : {room : ℕ} {T P : Form Expr} {p : Reader Expr} (text : Text) → Expressions room T P p
-    → Reads room (joining text T) (joining text P) (read_joining text p) (JOIN ∷ []) []
+    → Reads room (Made (of_two Join) (the "join" ▸ T ▸ perhaps (preceded "into" (register text)) ◂ ";"))
+    (Made (of_two Join) (the "join" ▸ P ▸ perhaps (preceded "into" (register text)) ◂ ";")) (read_joining text p) (JOIN ∷ []) []
 unfolding read_joining
 reads_joining text e =
-    reads_made join_of (reads_mark SEMICOLON refl
-    (reads_more (INTO ∷ going_on) (reads_both (reads_the JOIN) e refl) (reads_into_reg text) refl refl refl refl))
+    reads_made (of_two Join) (reads_mark ";" SEMICOLON refl refl
+    (reads_more (INTO ∷ going_on) (reads_both (reads_the "join" JOIN refl) e refl) (reads_into_reg text) refl refl refl refl))
 
-reads_waiting : {room : ℕ} (text : Text) → Plain room (waiting text) (read_waiting text) (BARRIER ∷ [])
+reads_waiting : {room : ℕ} (text : Text) → Plain room (Made (of_one Barrier) (the "barrier" ▸ name text ◂ ";")) (read_waiting text) (BARRIER ∷ [])
 unfolding read_waiting
-reads_waiting text = reads_made (barrier_of text) (reads_mark SEMICOLON refl (reads_both (reads_the BARRIER) (reads_the NAME) refl))
+reads_waiting text = reads_made (of_one Barrier) (reads_titled text "barrier" BARRIER refl ";" SEMICOLON refl)
 
-reads_settling : {room : ℕ} (text : Text) → Plain room (settling text) (read_settling text) (SETTLE ∷ [])
+reads_settling : {room : ℕ} (text : Text) → Plain room (Made (of_two Settle) (the "settle" ▸ register text ◂ "into" ▸ name text ◂ ";")) (read_settling text) (SETTLE ∷ [])
 unfolding read_settling
 reads_settling text =
-    reads_made (settle_of text) (reads_mark SEMICOLON refl
-    (reads_both (reads_mark INTO refl (reads_both (reads_the SETTLE) (reads_the REG) refl)) (reads_the NAME) refl))
+    reads_made (of_two Settle) (reads_mark ";" SEMICOLON refl refl
+    (reads_both (reads_mark "into" INTO refl refl (reads_both (reads_the "settle" SETTLE refl) (reads_register text) refl)) (reads_name text) refl))
 
 reads_control_form : {T P : Form Expr} {p : Reader Expr} (text : Text) (room : ℕ) (U Q : Form Stmt) (inner : Option (Reader Stmt))
     → Expressions room T P p → Nested room U Q inner statement_starts
@@ -264,7 +284,7 @@ reads_statement text (suc room) (suc height) =
 -- ---- what is read of a list leaves less
 
 pub next_shortens : (text : Text) (room : ℕ) → Shortens (read_after COMMA (read_expression text room))
-next_shortens text room = shortens_reads (reads_after COMMA refl (reads_expression text room 0))
+next_shortens text room = shortens_reads (reads_after "," COMMA refl refl (reads_expression text room 0))
 
 pub statement_shortens : (allowed : Allowed) (text : Text) (room : ℕ) → Shortens (read_allowed allowed text room)
 statement_shortens All text room = shortens_reads (reads_statement text room 0)

@@ -1,7 +1,8 @@
 -- A program that bytes stand for is shaped. A form yields only values of which something holds, where no number is
 -- negative (Yields): one lemma for each word of the grammar. With these, by recursion on the height, each statement and
 -- block is shaped, and so are heads, tasks and programs. In a lexing no number is negative.
-use Rattle.std.proofs.Common.{◌≡◌, ℕ, zero, suc, Bool, true, false, List, [], ◌∷◌, ◌++◌, Option, Some, None, refl, sym, ap, subst, ◌∙◌, inl, inr}
+use Prim.Native.String.{String}
+use Rattle.std.proofs.Common.{◌≡◌, ℕ, zero, suc, Bool, true, false, List, [], ◌∷◌, ◌++◌, Option, Some, None, ℤ, refl, sym, ap, subst, ◌∙◌, inl, inr}
 use Rattle.std.specs.Prelude.{◌&&◌}
 use Rattle.std.specs.List.{list_all}
 use Rattle.std.proofs.lemmas.Bool.{and_parts}
@@ -11,12 +12,14 @@ use Rattle.task_ast.specs.Shaped.{is_natural, is_shaped_head, is_data, all_data,
 use Rattle.task_parser.specs.declared.token.Token.{Token}
 use Rattle.task_parser.specs.declared.token.Kind.{Kind}
 use Rattle.task_parser.specs.declared.token.Kind.TheVariants.{Num}
-use Rattle.task_parser.specs.declared.classes.TheConstants.{NUM}
-use Rattle.task_parser.specs.meaning.Words.{Placed, Form, ◌▸◌, Made, ◌∣◌, many, perhaps, Opened, first_of, second_of, the, tokens_of}
+use Rattle.task_parser.specs.meaning.Words.{Placed, Form, ◌▸◌, Made, ◌∣◌, many, perhaps, Opened, first_of, second_of, tokens_of}
 use Rattle.task_parser.specs.TokenTable.{IsToken}
 use Rattle.task_parser.specs.Splitting.{Splits, nothing, gap, token}
-use Rattle.task_parser.specs.meaning.Expressions.{Text, number_in}
-use Rattle.task_parser.specs.meaning.Statements.{or_nothing, block_of, else_block, data_statement, statement}
+use Rattle.task_parser.specs.meaning.Expressions.{Text}
+use Rattle.task_parser.specs.meaning.Expressions as forms
+use Rattle.task_parser.specs.inner.ExpressionReaders.{number_in}
+use Rattle.task_parser.specs.meaning.Statements.{block_of, else_block, data_statement, statement}
+use Rattle.task_parser.specs.inner.StatementReaders.{or_nothing}
 use Rattle.task_parser.specs.meaning.Programs.{head, task, program}
 use Rattle.task_parser.specs.ShapedLaw.{SpelledIsShaped}
 use Rattle.task_parser.proofs.Basics.{tokens-append}
@@ -84,8 +87,8 @@ right h = both (λ x. Unit {0}) (any (λ x. tt)) (so h (λ y g x u. g x))
 before : {A B : Type 0} {P : Form A} {Q : Form B} {G : A → Type 0} → Yields P G → Yields (Made first_of (P ▸ Q)) G
 before h = made (left (so h (λ x g y. g)))
 
-behind : {A B : Type 0} {P : Form A} {Q : Form B} {G : A → Type 0} → Yields P G → Yields (Made second_of (Q ▸ P)) G
-behind h = made (right (so h (λ y g x. g)))
+after : {A B : Type 0} {P : Form A} {Q : Form B} {G : A → Type 0} → Yields P G → Yields (Made second_of (Q ▸ P)) G
+after h = made (right (so h (λ y g x. g)))
 
 either : {A : Type 0} {P Q : Form A} {G : A → Type 0} → Yields P G → Yields Q G → Yields (P ∣ Q) G
 either {A = A} {P = P} {Q = Q} {G = G} h k = record { all = go }
@@ -115,7 +118,7 @@ if_given {A = A} {P = P} T none given h = record { all = go }
     go depth placed None n s = none
     go depth placed (Some x) n s = given x (h.all depth placed x n s)
 
-opened : {A : Type 0} {test : Token → Bool} {P : Form A} {G : A → Type 0} → Yields P G → Yields (Opened test P) G
+opened : {A : Type 0} {text : String} {P : Form A} {G : A → Type 0} → Yields P G → Yields (Opened text P) G
 opened h = record { all = λ depth placed x n s. h.all (suc depth) s.inner x (and_parts _ _ (subst Natural s.parts n)).1 s.stands }
 
 -- ---- statements and blocks
@@ -133,7 +136,7 @@ module _ {S : Stmt → Type 0} {T : Block → Type 0} {P : Form Stmt} (blocks : 
   inner = before (opened body)
 
   otherwise : Yields (else_block P) T
-  otherwise = made (if_given (λ b. T (or_nothing b)) blocks.none (λ b t. t) (behind inner))
+  otherwise = made (if_given (λ b. T (or_nothing b)) blocks.none (λ b t. t) (after inner))
 
 abbrev IsShapedStmt : Stmt → Type 0
 IsShapedStmt s = is_shaped_stmt s ≡ true
@@ -189,8 +192,11 @@ statements_yield text (suc height) =
 
 -- ---- heads, tasks and programs
 
-number : {G : Token → Type 0} → ((t : Token) → has_natural t ≡ true → G t) → Yields (the NUM) G
-number {G = G} f = record { all = λ depth placed t n s. f t (and_parts _ _ (subst Natural s.alone n)).0 }
+number : {G : ℤ → Type 0} → ((value : ℤ) → is_natural value ≡ true → G value) → Yields forms.number G
+number {G = G} f = record {
+  all = λ depth placed value n s.
+      f value (ap (λ (kind : Kind). is_natural (number_in kind)) (sym s.1.passes) ∙ (and_parts _ _ (subst Natural s.1.alone n)).0);
+}
 
 head_yields : (text : Text) → Yields (head text) (λ h. is_shaped_head h ≡ true)
 head_yields text =

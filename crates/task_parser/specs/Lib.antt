@@ -1,5 +1,4 @@
 pub mod Answer
-pub mod ClassTable
 pub mod Lexing
 pub mod OneReading
 pub mod Pieces

@@ -8,9 +8,9 @@ use Rattle.task_parser.specs.declared.fault.LexFault.{LexFault}
 use Rattle.task_parser.specs.declared.fault.LexFault.TheVariants.{BadByte, NumberTooBig, TooLong, OutOfMemory}
 use Rattle.task_parser.specs.meaning.Pieces.{is_space, number_limit}
 use Rattle.task_parser.specs.TokenTable.{IsToken, IsInRange, IsLongest, IsGap}
-use Rattle.task_parser.specs.meaning.Lexing.{lexed, token_behind, line_behind}
+use Rattle.task_parser.specs.meaning.Lexing.{lexed, token_after, line_after}
 
--- Behind the bytes before it, a text splits into spaces, comments and tokens, the longest token at each place. They give
+-- After the bytes before it, a text splits into spaces, comments and tokens, the longest token at each place. They give
 -- the tokens, and something may be left.
 pub data Splits : List ℕ → List ℕ → List Token → List ℕ → Type 0 where
   nothing : {before text : List ℕ} → Splits before text [] text
@@ -18,7 +18,7 @@ pub data Splits : List ℕ → List ℕ → List Token → List ℕ → Type 0 w
       → Splits (before ++ skipped) rest tokens left → Splits before (skipped ++ rest) tokens left
   token : {before rest left : List ℕ} {tokens : List Token} (kind : Kind) (bytes : List ℕ)
       → IsToken kind bytes → IsInRange kind → IsLongest (length bytes) (bytes ++ rest)
-      → Splits (before ++ bytes) rest tokens left → Splits before (bytes ++ rest) (token_behind before kind (length bytes) ∷ tokens) left
+      → Splits (before ++ bytes) rest tokens left → Splits before (bytes ++ rest) (token_after before kind (length bytes) ∷ tokens) left
 
 -- the bytes begin a token, or are none
 abbrev pub CanBegin : List ℕ → Type 0
@@ -69,7 +69,7 @@ LexingsSplit = (text : List ℕ) (tokens : List Token) → lexed text ≡ Ok tok
 pub record IsPlaced (text : List ℕ) (token : Token) : Type 0 where
   pub is_token : IsToken token.kind (slice_range text token.from token.to)
   pub longest : IsLongest (token.to - token.from) (drop token.from text)
-  pub line_is : token.line ≡ line_behind (take token.from text)
+  pub line_is : token.line ≡ line_after (take token.from text)
 
 -- the tokens stand from a place on, one after the other
 abbrev pub AreInOrder : ℕ → List Token → Type 0

@@ -1,3 +1,4 @@
+pub mod Classes
 pub mod ExpressionReaders
 pub mod Gives
 pub mod Laws

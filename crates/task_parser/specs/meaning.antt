@@ -1,6 +1,5 @@
 -- What the top calls promise is said in the words of these definitions, and each of them is reached: so these have to be believed.
 pub mod Answer
-pub mod Classes
 pub mod Expressions
 pub mod Lexing
 pub mod Pieces

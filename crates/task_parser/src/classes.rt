@@ -1,4 +1,4 @@
-// The numbers of the kinds of tokens: each reserved word and each mark has its own.
+// The numbers of the kinds of tokens, by which the parser goes: each reserved word and each mark has its own.
 
 pub const NUM: u32 = 0;
 

@@ -1,9 +1,8 @@
 // Expressions from tokens, by recursive descent.
 ghost use Rattle.std.specs.Prelude.{◌≡◌};
 ghost use Rattle.task_ast.specs.View.{plain_expr, plain_members};
-ghost use Rattle.task_parser.specs.meaning.Classes.{among};
+ghost use Rattle.task_parser.specs.inner.Classes.{among, is, op_of};
 ghost use Rattle.task_parser.specs.inner.Reading.{begins, read_one, repeat, read_opened};
-ghost use Rattle.task_parser.specs.meaning.Expressions.{is, op_of};
 ghost use Rattle.task_parser.specs.inner.ExpressionReaders.{read_member, read_level, read_compared, read_pair, read_place, read_named, read_rows, read_group, read_unary, below, read_expression};
 ghost use Rattle.task_parser.specs.inner.Gives.{Gives, operators, read_part};
 

@@ -1,13 +1,14 @@
 // The declarations at the head of a program.
 ghost use Rattle.std.specs.Prelude.{◌≡◌, ◌<◌};
-ghost use Rattle.task_parser.specs.meaning.Classes.{among};
+ghost use Rattle.task_parser.specs.inner.Classes.{among};
 ghost use Rattle.task_parser.specs.inner.Reading.{begins, repeat};
+ghost use Rattle.task_parser.specs.inner.ExpressionReaders.{number_of};
 ghost use Rattle.task_parser.specs.inner.ProgramReaders.{read_sized, read_lock_head, read_barrier_head, read_from_file, read_record_head, read_feed_head, head_starts, read_head};
 ghost use Rattle.task_parser.specs.inner.Gives.{Gives};
 
 use crate::classes::*;
 use crate::halt::Read;
-use crate::next::{expect, expect_before, is_next, is_of};
+use crate::next::{expect, expect_titled, is_next, is_of};
 use crate::source::{Source, number};
 use crate::token::Token;
 use gp_base::{Name, Seq};
@@ -15,10 +16,10 @@ use task_ast::Head;
 
 // The word, a name, and a number in brackets.
 #[tactic(auto, unfolding(crate::specs::inner::ProgramReaders::read_sized))]
-fn sized(word: u32, tokens: &[Token]) -> Read<'_, ((Token, Token), Token)>
-    ensures { Gives (λ x. (x.0, x.1.now)) result (read_sized word tokens.now) }
+fn sized<'a>(source: Source<'_>, word: u32, tokens: &'a [Token]) -> Read<'a, ((Token, Name), Token)>
+    ensures { Gives (λ x. ((x.0.0, number_of x.0.1), x.1.now)) result (read_sized source.entry.text.now word tokens.now) }
 {
-    let (head, rest) = expect_before(tokens, word, NAME, OPEN_BRACKET)?;
+    let (head, rest) = expect_titled(source, word, OPEN_BRACKET, tokens)?;
     let (size, rest) = expect(rest, NUM)?;
     let (_, rest) = expect(rest, CLOSE_BRACKET)?;
     Ok(((head, size), rest))
@@ -29,9 +30,8 @@ fn sized(word: u32, tokens: &[Token]) -> Read<'_, ((Token, Token), Token)>
 fn lock_head<'a>(source: Source<'_>, tokens: &'a [Token]) -> Read<'a, Head>
     ensures { Gives (λ x. (x.0, x.1.now)) result (read_lock_head source.entry.text.now tokens.now) }
 {
-    let (((word, title), size), rest) = sized(LOCK, tokens)?;
+    let (((word, name), size), rest) = sized(source, LOCK, tokens)?;
     let (_, rest) = expect(rest, SEMICOLON)?;
-    let name = source.name(title)?;
     let size = number(size);
     let line = word.line;
     Ok((Head::LockHead { name, size, line }, rest))
@@ -42,11 +42,10 @@ fn lock_head<'a>(source: Source<'_>, tokens: &'a [Token]) -> Read<'a, Head>
 fn barrier_head<'a>(source: Source<'_>, tokens: &'a [Token]) -> Read<'a, Head>
     ensures { Gives (λ x. (x.0, x.1.now)) result (read_barrier_head source.entry.text.now tokens.now) }
 {
-    let ((word, title), rest) = expect_before(tokens, BARRIER, NAME, OPEN_PAREN)?;
+    let ((word, name), rest) = expect_titled(source, BARRIER, OPEN_PAREN, tokens)?;
     let (count, rest) = expect(rest, NUM)?;
     let (_, rest) = expect(rest, CLOSE_PAREN)?;
     let (_, rest) = expect(rest, SEMICOLON)?;
-    let name = source.name(title)?;
     let number = number(count);
     let line = word.line;
     Ok((Head::BarrierHead { name, number, line }, rest))
@@ -70,13 +69,12 @@ fn from_file<'a>(source: Source<'_>, tokens: &'a [Token]) -> Read<'a, Option<Nam
 fn record_head<'a>(source: Source<'_>, tokens: &'a [Token]) -> Read<'a, Head>
     ensures { Gives (λ x. (x.0, x.1.now)) result (read_record_head source.entry.text.now tokens.now) }
 {
-    let (((word, title), size), rest) = sized(RECORD, tokens)?;
+    let (((word, name), size), rest) = sized(source, RECORD, tokens)?;
     let (_, rest) = expect(rest, BY)?;
     let (array, rest) = expect(rest, NAME)?;
     let (from, rest) = from_file(source, rest)?;
     let (_, rest) = expect(rest, SEMICOLON)?;
     let by = source.name(array)?;
-    let name = source.name(title)?;
     let size = number(size);
     let line = word.line;
     Ok((
@@ -96,11 +94,10 @@ fn record_head<'a>(source: Source<'_>, tokens: &'a [Token]) -> Read<'a, Head>
 fn feed_head<'a>(source: Source<'_>, tokens: &'a [Token]) -> Read<'a, Head>
     ensures { Gives (λ x. (x.0, x.1.now)) result (read_feed_head source.entry.text.now tokens.now) }
 {
-    let (((word, title), count), rest) = sized(FEED, tokens)?;
+    let (((word, name), count), rest) = sized(source, FEED, tokens)?;
     let (_, rest) = expect(rest, FROM)?;
     let (quoted, rest) = expect(rest, QUOTED)?;
     let (_, rest) = expect(rest, SEMICOLON)?;
-    let name = source.name(title)?;
     let fields = number(count);
     let from = source.file(quoted)?;
     let line = word.line;

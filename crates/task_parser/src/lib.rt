@@ -1,7 +1,6 @@
 //! Reads the text of a batch program to its tree.
 #![tactic(auto)]
 
-mod class_laws;
 mod classes;
 mod expressions;
 mod fault;
@@ -19,7 +18,6 @@ mod statements;
 mod tasks;
 mod token;
 
-pub use class_laws::classes_by_text;
 pub use fault::{LexFault, ParseFault};
 pub use lex_laws::{faults_stop, lexings_split, splittings_are_lexed, tokens_are_placed};
 pub use lexer::lex;

@@ -1,11 +1,15 @@
 // What stands next in a list of tokens.
 ghost use Rattle.std.specs.Prelude.{◌≡◌, [], ◌∷◌};
-ghost use Rattle.task_parser.specs.meaning.Classes.{class, among};
+ghost use Rattle.task_parser.specs.inner.Classes.{class, among};
 ghost use Rattle.task_parser.specs.inner.Gives.{Gives};
-ghost use Rattle.task_parser.specs.inner.Reading.{begins, read_one, read_the, ◌▹◌, ◌◃◌};
+ghost use Rattle.task_parser.specs.inner.Reading.{begins, read_one};
+ghost use Rattle.task_parser.specs.inner.StatementReaders.{read_titled};
 
+use crate::classes::NAME;
 use crate::halt::{Halt, Read};
+use crate::source::Source;
 use crate::token::{Kind, Token};
+use gp_base::Name;
 
 // The number of a kind of token.
 fn class_of(kind: Kind) -> u32
@@ -51,17 +55,17 @@ pub fn expect(tokens: &[Token], class: u32) -> Read<'_, Token>
     Ok((*token, rest))
 }
 
-/// Tokens of two classes and a mark that are next, and what is after them.
-pub fn expect_before(
-    tokens: &[Token],
-    first: u32,
-    second: u32,
+/// The word, a name and the mark that are next, and what is after them.
+pub fn expect_titled<'a>(
+    source: Source<'_>,
+    word: u32,
     mark: u32,
-) -> Read<'_, (Token, Token)>
-    ensures { Gives (λ x. (x.0, x.1.now)) result ((read_the first ▹ read_the second ◃ mark) tokens.now) }
+    tokens: &'a [Token],
+) -> Read<'a, (Token, Name)>
+    ensures { Gives (λ x. (x.0, x.1.now)) result (read_titled source.entry.text.now word mark tokens.now) }
 {
-    let (first, rest) = expect(tokens, first)?;
-    let (second, rest) = expect(rest, second)?;
+    let (word, rest) = expect(tokens, word)?;
+    let (title, rest) = expect(rest, NAME)?;
     let (_, rest) = expect(rest, mark)?;
-    Ok(((first, second), rest))
+    Ok(((word, source.name(title)?), rest))
 }

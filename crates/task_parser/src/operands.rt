@@ -1,8 +1,7 @@
 // What statements are made of: indices, lists of expressions, and what stands after an `into`.
-ghost use Rattle.std.specs.Prelude.{◌≡◌, IfOk};
+ghost use Rattle.std.specs.Prelude.{◌≡◌};
 ghost use Rattle.task_ast.specs.View.{plain_expr, plain_exprs};
-ghost use Rattle.task_parser.specs.meaning.Classes.{among};
-ghost use Rattle.task_parser.specs.meaning.Expressions.{name_of};
+ghost use Rattle.task_parser.specs.inner.Classes.{among};
 ghost use Rattle.task_parser.specs.inner.Reading.{begins, read_after, read_separated};
 ghost use Rattle.task_parser.specs.inner.ExpressionReaders.{starting, read_expression};
 ghost use Rattle.task_parser.specs.inner.StatementReaders.{read_atom, read_indexed, read_list, read_into_name, read_into_reg};
@@ -10,8 +9,8 @@ ghost use Rattle.task_parser.specs.inner.Gives.{Gives};
 
 use crate::classes::*;
 use crate::expressions::expression;
-use crate::halt::{Halt, Read, discard};
-use crate::next::{expect, expect_before, is_next, is_of};
+use crate::halt::{Read, discard};
+use crate::next::{expect, expect_titled, is_next, is_of};
 use crate::source::{Source, number};
 use crate::token::Token;
 use gp_base::{Name, Seq};
@@ -30,16 +29,16 @@ fn atom<'a>(source: Source<'_>, tokens: &'a [Token]) -> Read<'a, Atom>
     Ok((Atom::Var(source.name(token)?), rest))
 }
 
-// The word, a name, and an index in brackets.
+/// The word, a name, and an index in brackets.
 #[tactic(auto, unfolding(crate::specs::inner::StatementReaders::read_indexed))]
-fn indexed<'a>(
+pub fn indexed<'a>(
     source: Source<'_>,
     word: u32,
     tokens: &'a [Token],
-) -> Read<'a, ((Token, Token), Atom)>
+) -> Read<'a, ((Token, Name), Atom)>
     ensures { Gives (λ x. (x.0, x.1.now)) result (read_indexed source.entry.text.now word tokens.now) }
 {
-    let (head, rest) = expect_before(tokens, word, NAME, OPEN_BRACKET)?;
+    let (head, rest) = expect_titled(source, word, OPEN_BRACKET, tokens)?;
     let (index, rest) = atom(source, rest)?;
     let (_, rest) = match expect(rest, CLOSE_BRACKET) {
         Ok(next) => next,
@@ -49,26 +48,6 @@ fn indexed<'a>(
         }
     };
     Ok(((head, index), rest))
-}
-
-/// The word, a name, and an index in brackets; and the bytes of the name.
-pub fn named_index<'a>(
-    source: Source<'_>,
-    word: u32,
-    tokens: &'a [Token],
-) -> Read<'a, (((Token, Token), Atom), Name)>
-    ensures reads { Gives (λ x. (x.0.0, x.1.now)) result (read_indexed source.entry.text.now word tokens.now) }
-    ensures name { IfOk result (λ x. x.0.1 ≡ name_of source.entry.text.now x.0.0.0.1) }
-{
-    let ((head, index), rest) = indexed(source, word, tokens)?;
-    let name = match source.name(head.1) {
-        Ok(name) => name,
-        Err(failed) => {
-            discard(index);
-            return Err(Halt::from(failed));
-        }
-    };
-    Ok((((head, index), name), rest))
 }
 
 // A comma and an expression.

@@ -7,8 +7,8 @@ ghost use Rattle.task_parser.specs.inner.Gives.{Gives};
 use crate::classes::*;
 use crate::expressions::expression;
 use crate::halt::{Halt, Read, discard};
-use crate::next::{expect, expect_before};
-use crate::operands::{arguments, exprs, into_name, into_register, named_index};
+use crate::next::{expect, expect_titled};
+use crate::operands::{arguments, exprs, indexed, into_name, into_register};
 use crate::source::Source;
 use crate::token::Token;
 use task_ast::{Stmt, What};
@@ -70,7 +70,7 @@ pub fn set_register<'a>(source: Source<'_>, room: u32, tokens: &'a [Token]) -> R
 pub fn locking<'a>(source: Source<'_>, tokens: &'a [Token]) -> Read<'a, Stmt>
     ensures { Gives (λ x. (plain_stmt x.0, x.1.now)) result (read_locking source.entry.text.now tokens.now) }
 {
-    let ((((word, _), index), name), rest) = named_index(source, LOCK, tokens)?;
+    let (((word, name), index), rest) = indexed(source, LOCK, tokens)?;
     let (_, rest) = match expect(rest, SEMICOLON) {
         Ok(next) => next,
         Err(halt) => {
@@ -93,7 +93,7 @@ pub fn locking<'a>(source: Source<'_>, tokens: &'a [Token]) -> Read<'a, Stmt>
 pub fn unlocking<'a>(source: Source<'_>, tokens: &'a [Token]) -> Read<'a, Stmt>
     ensures { Gives (λ x. (plain_stmt x.0, x.1.now)) result (read_unlocking source.entry.text.now tokens.now) }
 {
-    let ((((word, _), index), name), rest) = named_index(source, UNLOCK, tokens)?;
+    let (((word, name), index), rest) = indexed(source, UNLOCK, tokens)?;
     let (_, rest) = match expect(rest, SEMICOLON) {
         Ok(next) => next,
         Err(halt) => {
@@ -116,8 +116,7 @@ pub fn unlocking<'a>(source: Source<'_>, tokens: &'a [Token]) -> Read<'a, Stmt>
 pub fn forking<'a>(source: Source<'_>, room: u32, tokens: &'a [Token]) -> Read<'a, Stmt>
     ensures { Gives (λ x. (plain_stmt x.0, x.1.now)) result (read_forking source.entry.text.now (read_expression source.entry.text.now room) tokens.now) }
 {
-    let ((word, task), rest) = expect_before(tokens, FORK, NAME, OPEN_PAREN)?;
-    let name = source.name(task)?;
+    let ((word, name), rest) = expect_titled(source, FORK, OPEN_PAREN, tokens)?;
     let (arguments, rest) = arguments(source, room, rest)?;
     let (_, rest) = expect(rest, CLOSE_PAREN)?;
     let (into, rest) = into_name(source, rest)?;
@@ -174,8 +173,8 @@ pub fn joining<'a>(source: Source<'_>, room: u32, tokens: &'a [Token]) -> Read<'
 pub fn waiting<'a>(source: Source<'_>, tokens: &'a [Token]) -> Read<'a, Stmt>
     ensures { Gives (λ x. (plain_stmt x.0, x.1.now)) result (read_waiting source.entry.text.now tokens.now) }
 {
-    let ((word, barrier), rest) = expect_before(tokens, BARRIER, NAME, SEMICOLON)?;
-    let what = What::Barrier(source.name(barrier)?);
+    let ((word, name), rest) = expect_titled(source, BARRIER, SEMICOLON, tokens)?;
+    let what = What::Barrier(name);
     Ok((
         Stmt {
             what,
@@ -190,7 +189,9 @@ pub fn waiting<'a>(source: Source<'_>, tokens: &'a [Token]) -> Read<'a, Stmt>
 pub fn settling<'a>(source: Source<'_>, tokens: &'a [Token]) -> Read<'a, Stmt>
     ensures { Gives (λ x. (plain_stmt x.0, x.1.now)) result (read_settling source.entry.text.now tokens.now) }
 {
-    let ((word, from), rest) = expect_before(tokens, SETTLE, REG, INTO)?;
+    let (word, rest) = expect(tokens, SETTLE)?;
+    let (from, rest) = expect(rest, REG)?;
+    let (_, rest) = expect(rest, INTO)?;
     let (into, rest) = expect(rest, NAME)?;
     let (_, rest) = expect(rest, SEMICOLON)?;
     let what = What::Settle(source.register(from)?, source.name(into)?);
@@ -208,7 +209,7 @@ pub fn settling<'a>(source: Source<'_>, tokens: &'a [Token]) -> Read<'a, Stmt>
 pub fn reading<'a>(source: Source<'_>, tokens: &'a [Token]) -> Read<'a, Stmt>
     ensures { Gives (λ x. (plain_stmt x.0, x.1.now)) result (read_reading source.entry.text.now tokens.now) }
 {
-    let ((((word, _), index), name), rest) = named_index(source, READ, tokens)?;
+    let (((word, name), index), rest) = indexed(source, READ, tokens)?;
     let (_, rest) = match expect(rest, INTO) {
         Ok(next) => next,
         Err(halt) => {
@@ -252,7 +253,7 @@ pub fn reading<'a>(source: Source<'_>, tokens: &'a [Token]) -> Read<'a, Stmt>
 pub fn writing<'a>(source: Source<'_>, room: u32, tokens: &'a [Token]) -> Read<'a, Stmt>
     ensures { Gives (λ x. (plain_stmt x.0, x.1.now)) result (read_writing source.entry.text.now (read_expression source.entry.text.now room) tokens.now) }
 {
-    let ((((word, _), index), name), rest) = named_index(source, WRITE, tokens)?;
+    let (((word, name), index), rest) = indexed(source, WRITE, tokens)?;
     let (_, rest) = match expect(rest, ASSIGN) {
         Ok(next) => next,
         Err(halt) => {

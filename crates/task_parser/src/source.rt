@@ -1,6 +1,7 @@
 // What is read, and what the bytes of a token stand for.
 ghost use Rattle.std.specs.Prelude.{◌≡◌, IfOk};
-ghost use Rattle.task_parser.specs.meaning.Expressions.{between, name_of, reg_name, number_in};
+ghost use Rattle.task_parser.specs.meaning.Expressions.{between, name_of, reg_name};
+ghost use Rattle.task_parser.specs.inner.ExpressionReaders.{number_of};
 ghost use Rattle.task_parser.specs.meaning.Programs.{file_of};
 
 use crate::token::{Kind, Token};
@@ -54,7 +55,7 @@ impl Source<'_> {
 
 /// The value of a number.
 pub fn number(token: Token) -> i64
-    ensures { result ≡ number_in token.kind }
+    ensures { result ≡ number_of token }
 {
     match token.kind {
         Kind::Num(value) => value,

@@ -1,7 +1,7 @@
 // Statements from tokens, by recursive descent: blocks, and statements with blocks.
 ghost use Rattle.std.specs.Prelude.{◌≡◌, []};
 ghost use Rattle.task_ast.specs.View.{plain_stmt, plain_stmts, plain_block};
-ghost use Rattle.task_parser.specs.meaning.Classes.{among};
+ghost use Rattle.task_parser.specs.inner.Classes.{among};
 ghost use Rattle.task_parser.specs.inner.Reading.{begins, repeat};
 ghost use Rattle.task_parser.specs.inner.ExpressionReaders.{read_expression};
 ghost use Rattle.task_parser.specs.inner.StatementReaders.{control_starts, data_starts, read_looping, read_branching, read_choosing, read_data_form, read_control_form, read_data_statement, read_statement};

@@ -1,7 +1,7 @@
 // Tasks: parameters, lines of variables, and statements.
 ghost use Rattle.std.specs.Prelude.{◌≡◌, ◌<◌, [], ◌∷◌, map};
 ghost use Rattle.task_ast.specs.View.{plain_task};
-ghost use Rattle.task_parser.specs.meaning.Classes.{among};
+ghost use Rattle.task_parser.specs.inner.Classes.{among};
 ghost use Rattle.task_parser.specs.inner.Reading.{begins, repeat, read_after, read_some, read_separated};
 ghost use Rattle.task_parser.specs.inner.StatementReaders.{read_list};
 ghost use Rattle.task_parser.specs.inner.ProgramReaders.{param_starts, read_param, read_var_line, read_task};
@@ -9,7 +9,7 @@ ghost use Rattle.task_parser.specs.inner.Gives.{Gives};
 
 use crate::classes::*;
 use crate::halt::Read;
-use crate::next::{expect, expect_before, is_next, is_of};
+use crate::next::{expect, expect_titled, is_next, is_of};
 use crate::source::Source;
 use crate::statements::{Allowed, statements};
 use crate::token::Token;
@@ -105,14 +105,13 @@ fn var_lines<'a>(source: Source<'_>, tokens: &'a [Token]) -> Read<'a, Seq<VarLin
 fn task<'a>(source: Source<'_>, room: u32, tokens: &'a [Token]) -> Read<'a, TaskText>
     ensures { Gives (λ x. (plain_task x.0, x.1.now)) result (read_task source.entry.text.now room tokens.now) }
 {
-    let ((word, title), rest) = expect_before(tokens, TASK, NAME, OPEN_PAREN)?;
+    let ((word, name), rest) = expect_titled(source, TASK, OPEN_PAREN, tokens)?;
     let (params, rest) = param_list(source, rest)?;
     let (_, rest) = expect(rest, CLOSE_PAREN)?;
     let (_, rest) = expect(rest, OPEN_BRACE)?;
     let (vars, rest) = var_lines(source, rest)?;
     let (body, rest) = statements(source, Allowed::All, room, rest)?;
     let (_, rest) = expect(rest, CLOSE_BRACE)?;
-    let name = source.name(title)?;
     let line = word.line;
     Ok((
         TaskText {

@@ -1,7 +1,7 @@
 -- Lines and columns of a text.
 use Rattle.std.specs.Prelude.{ℕ, ◌+◌, ◌-◌, ◌==◌, Bool, not, List, length, take, drop, take_while}
 use Rattle.std.specs.List.{suffix_len}
-use Rattle.task_parser.specs.meaning.Lexing.{line_behind}
+use Rattle.task_parser.specs.meaning.Lexing.{line_after}
 use Rattle.text_places.specs.declared.place.Place.{Place}
 
 -- a byte that a line goes on with: all but LF
@@ -21,4 +21,4 @@ abbrev pub line_at : List ℕ → ℕ → List ℕ
 line_at text at = take_while is_line_byte (drop (length (take at text) - length (line_before text at)) text)
 
 abbrev pub place_of : List ℕ → ℕ → Place
-place_of text at = record { line = line_behind (take at text); column = length (line_before text at) + 1 }
+place_of text at = record { line = line_after (take at text); column = length (line_before text at) + 1 }

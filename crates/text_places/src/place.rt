@@ -1,6 +1,6 @@
 // The line and the column of a byte.
 ghost use Rattle.std.specs.Prelude.{◌≡◌, ◌<◌, ◌≤◌, ◌+◌, ◌^◌, length, take};
-ghost use Rattle.task_parser.specs.meaning.Lexing.{line_behind};
+ghost use Rattle.task_parser.specs.meaning.Lexing.{line_after};
 ghost use Rattle.text_places.specs.Places.{line_start, line_before, place_of};
 
 /// A line of a text and a column in it, both from 1. Columns count bytes.
@@ -24,7 +24,7 @@ fn line_start(before: &[u8]) -> usize
 
 // The line of what stands after these bytes.
 fn line_after(before: &[u8]) -> usize
-    ensures line { result ≡ line_behind before.now }
+    ensures line { result ≡ line_after before.now }
     ensures few { result ≤ length before.now + 1 }
 {
     1 + before.iter().filter(|byte| **byte == b'\n').count()

@@ -6,7 +6,7 @@ ghost use Rattle.gp_base.specs.declared.ending.End.TheVariants as ends;
 ghost use Rattle.gp_base.specs.declared.limits.TheConstants.{MOST_THREADS};
 ghost use Rattle.task_ast.specs.Looking.{begun, joined_in, is_free_to_go};
 ghost use Rattle.task_ast.specs.declared.sync.SyncOp.TheVariants as sync;
-ghost use Rattle.task_ast.specs.Table.{is_known_end, next_of, waits_at};
+ghost use Rattle.task_ast.specs.Table.{is_known_end, next_of, waits_at, owner_in};
 ghost use Rattle.task_ast.specs.meaning.Repeat.{More};
 ghost use Rattle.task_ast.specs.meaning.Table.{Away, numbers};
 ghost use Rattle.task_ast.specs.meaning.Turn.{owners_after, child_of};
@@ -94,7 +94,7 @@ fn live_after(live: usize, child: &Option<ThreadNo>, threads: usize) -> usize
 
 // Whether nobody owns the lock.
 fn is_free(owners: &[Option<u32>], lock: u32) -> bool
-    ensures { result ≡ is_none (option_and_then (λ o. o) (slice_get owners.now lock)) }
+    ensures { result ≡ is_none (owner_in owners.now lock) }
 {
     match owners.get(lock as usize) {
         Some(owner) => owner.is_none(),

@@ -6,13 +6,12 @@ use Rattle.task_ast.specs.declared.effect.Effect.{Effect}
 use Rattle.task_ast.specs.meaning.Tree.{Program}
 use Rattle.task_ast.specs.meaning.Effect.{effect}
 use Rattle.task_ast.specs.meaning.Plain.{Subthread}
-use Rattle.task_ast.specs.Plain.{order}
-use Rattle.task_ast.specs.Position.{before}
+use Rattle.task_ast.specs.meaning.Run.{plain_order, plain_before}
 
 module _ (program : Program) (inputs : Inputs) (limits : Limits) where
   -- what a subthread leaves that stands at this position of the plain run
   abbrev pub left_at : ℕ → Subthread → Effect
-  left_at p s = effect s.thread s.begins.sync s.child s.actions (before program inputs limits p).state
+  left_at p s = effect s.thread s.begins.sync s.child s.actions (plain_before program inputs limits p).state
 
   abbrev pub left_from : ℕ → List Subthread → List Effect
   left_from p [] = []
@@ -20,4 +19,4 @@ module _ (program : Program) (inputs : Inputs) (limits : Limits) where
 
   -- what each subthread of the plain run leaves, in order
   abbrev pub left_in_order : List Effect
-  left_in_order = left_from 0 (order program inputs limits)
+  left_in_order = left_from 0 (plain_order program inputs limits)

@@ -1,18 +1,43 @@
 -- Reading expressions, form by form.
-use Rattle.std.specs.Prelude.{ℕ, zero, suc, List, [], ◌∷◌, Option, Some, None, option_map}
+use Rattle.std.specs.Prelude.{ℕ, zero, suc, ℤ, pos, List, [], ◌∷◌, Option, Some, None, option_map}
 use Rattle.task_ast.specs.declared.tree.Op.{Op}
-use Rattle.task_ast.specs.meaning.Tree.{Expr, Neg, Not}
-use Rattle.task_parser.specs.declared.classes.TheConstants.{NUM, NAME, REG, AND, OR, NOT, SELF, ROWS, OPEN_BRACKET, CLOSE_BRACKET, OPEN_PAREN, CLOSE_PAREN, COMMA, ADD, SUB, MUL, DIV, REM}
-use Rattle.task_parser.specs.meaning.Classes.{among}
-use Rattle.task_parser.specs.inner.Reading.{Reader, read_one, ◌▹◌, read_made, read_either, repeat, read_perhaps, read_opened, read_the, ◌◃◌}
-use Rattle.task_parser.specs.meaning.Expressions.{Text, is, comparisons, member_of, chain_of, compared_of, num_of, reg_of, me_of, rows_of, named_of}
+use Rattle.task_ast.specs.meaning.Tree.{Expr, Num, Reg, Me, Rows, Neg, Not}
+use Rattle.task_parser.specs.declared.token.Kind.{Kind}
+use Rattle.task_parser.specs.declared.token.Kind.TheVariants as kinds
+use Rattle.task_parser.specs.declared.token.Token.{Token}
+use Rattle.task_parser.specs.declared.classes.TheConstants.{NUM, NAME, REG, AND, OR, NOT, SELF, ROWS, OPEN_BRACKET, CLOSE_BRACKET, OPEN_PAREN, CLOSE_PAREN, COMMA, EQ, NE, LT, LE, GT, GE, ADD, SUB, MUL, DIV, REM}
+use Rattle.task_parser.specs.inner.Classes.{among, is, op_of}
+use Rattle.task_parser.specs.inner.Reading.{Reader, read_one, ◌▹◌, read_made, read_either, repeat, read_perhaps, read_opened, read_the, ◌◃◌, read_after}
+use Rattle.task_parser.specs.meaning.Expressions.{Text, name_of, reg_name, chain_of, compared_of, named_of}
 
 -- what an operand begins with
 abbrev pub starting : List ℕ
 starting = SUB ∷ NOT ∷ NUM ∷ NAME ∷ REG ∷ SELF ∷ ROWS ∷ OPEN_PAREN ∷ []
 
+abbrev pub number_in : Kind → ℤ
+number_in (kinds.Num n) = n
+number_in _ = pos 0
+
+abbrev pub number_of : Token → ℤ
+number_of t = number_in t.kind
+
+abbrev pub read_name : Text → Reader Text
+read_name text = read_made (name_of text) (read_the NAME)
+
+abbrev pub read_register : Text → Reader Text
+read_register text = read_made (reg_name text) (read_the REG)
+
+abbrev pub read_number : Reader ℤ
+read_number = read_made number_of (read_the NUM)
+
+abbrev pub comparisons : List ℕ
+comparisons = EQ ∷ NE ∷ LT ∷ LE ∷ GT ∷ GE ∷ []
+
+abbrev pub read_operator : List ℕ → Reader Op
+read_operator operators = read_made op_of (read_one (among operators))
+
 abbrev pub read_member : List ℕ → Reader Expr → Reader (Op × Expr)
-read_member operators p = read_made member_of (read_one (among operators) ▹ p)
+read_member operators p = read_operator operators ▹ p
 
 unfoldable pub read_level : List ℕ → Reader Expr → Reader Expr
 read_level operators p = read_made chain_of (p ▹ repeat (among operators) (read_member operators p))
@@ -39,10 +64,10 @@ unfoldable pub read_place : Option (Reader Expr) → Reader (Expr × Expr)
 read_place inner = read_opened (is OPEN_BRACKET) (option_map (λ p. read_pair (read_disjunction p)) inner) ◃ CLOSE_BRACKET
 
 unfoldable pub read_named : Text → Option (Reader Expr) → Reader Expr
-read_named text inner = read_made (named_of text) (read_the NAME ▹ read_perhaps (is OPEN_BRACKET) (read_place inner))
+read_named text inner = read_made named_of (read_name text ▹ read_perhaps (is OPEN_BRACKET) (read_place inner))
 
 unfoldable pub read_rows : Text → Reader Expr
-read_rows text = read_made (rows_of text) (read_the ROWS ◃ OPEN_PAREN ▹ read_the NAME ◃ CLOSE_PAREN)
+read_rows text = read_made Rows (read_after ROWS (read_after OPEN_PAREN (read_name text ◃ CLOSE_PAREN)))
 
 unfoldable pub read_group : Option (Reader Expr) → Reader Expr
 read_group inner = read_opened (is OPEN_PAREN) (option_map read_disjunction inner) ◃ CLOSE_PAREN
@@ -51,10 +76,10 @@ unfoldable pub read_operand : Text → Option (Reader Expr) → Reader Expr
 read_operand text inner =
     read_either (is SUB) (read_made Neg (read_opened (is SUB) inner))
     (read_either (is NOT) (read_made Not (read_opened (is NOT) inner))
-    (read_either (is NUM) (read_made num_of (read_the NUM))
+    (read_either (is NUM) (read_made Num read_number)
     (read_either (is NAME) (read_named text inner)
-    (read_either (is REG) (read_made (reg_of text) (read_the REG))
-    (read_either (is SELF) (read_made me_of (read_the SELF))
+    (read_either (is REG) (read_made Reg (read_register text))
+    (read_either (is SELF) (read_made (λ t. Me) (read_the SELF))
     (read_either (is ROWS) (read_rows text)
     (read_group inner)))))))
 

@@ -11,8 +11,8 @@ use Rattle.task_parser.specs.declared.statements.Allowed.TheVariants.{All, Data}
 use Rattle.task_parser.specs.inner.StatementReaders.{data_starts, statement_starts, read_block, read_else, read_data_statement, read_statement}
 use Rattle.task_parser.specs.inner.Reading.{Reader}
 use Rattle.task_parser.specs.meaning.Promise.{Stop}
-use Rattle.task_parser.specs.meaning.Expressions.{Text, comparisons}
-use Rattle.task_parser.specs.inner.ExpressionReaders.{read_product, read_sum, read_compared, read_conjunction, read_unary}
+use Rattle.task_parser.specs.meaning.Expressions.{Text}
+use Rattle.task_parser.specs.inner.ExpressionReaders.{comparisons, read_product, read_sum, read_compared, read_conjunction, read_unary}
 
 -- Want of memory says nothing of the tokens.
 abbrev pub Fails : {Y : Type 0} → Halt → Result Y Stop → Type 0

@@ -1,7 +1,7 @@
 -- Reading from left to right, with one token of look-ahead.
 use Rattle.std.specs.Prelude.{ℕ, zero, suc, Bool, true, false, cond, List, [], ◌∷◌, length, Option, Some, None, Result, Ok, Err}
 use Rattle.task_parser.specs.declared.token.Token.{Token}
-use Rattle.task_parser.specs.meaning.Classes.{among}
+use Rattle.task_parser.specs.inner.Classes.{among}
 use Rattle.task_parser.specs.meaning.Promise.{Stop}
 use Rattle.task_parser.specs.meaning.Words.{first_of, second_of, put_first}
 

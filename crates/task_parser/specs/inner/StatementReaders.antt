@@ -1,14 +1,15 @@
 -- Reading statements, form by form.
-use Rattle.std.specs.Prelude.{ℕ, zero, suc, List, [], ◌∷◌, Option, Some, None, option_map}
+use Rattle.std.specs.Prelude.{ℕ, zero, suc, List, [], ◌∷◌, Option, Some, None, option_map, unwrap_or}
 use Rattle.task_ast.specs.declared.tree.Atom.{Atom}
-use Rattle.task_ast.specs.meaning.Tree.{Expr, Stmt, Block, block}
+use Rattle.task_ast.specs.declared.tree.Atom.TheVariants as atoms
+use Rattle.task_ast.specs.meaning.Tree.{Expr, Stmt, SetCtl, While, If, Lock, Unlock, Fork, Join, Barrier, Settle, SetReg, Read, Write, Print, When, Block, Nothing, block}
 use Rattle.task_parser.specs.declared.classes.TheConstants.{NUM, NAME, REG, LOCK, UNLOCK, BARRIER, WHILE, IF, ELSE, FORK, INTO, JOIN, READ, WRITE, PRINT, WHEN, SETTLE, OPEN_BRACKET, CLOSE_BRACKET, OPEN_PAREN, CLOSE_PAREN, OPEN_BRACE, CLOSE_BRACE, COMMA, SEMICOLON, ASSIGN}
 use Rattle.task_parser.specs.declared.token.Token.{Token}
-use Rattle.task_parser.specs.meaning.Classes.{among}
+use Rattle.task_parser.specs.inner.Classes.{among, is}
 use Rattle.task_parser.specs.inner.Reading.{Reader, ◌▹◌, read_made, read_either, repeat, read_perhaps, read_opened, read_the, ◌◃◌, read_after, read_separated}
-use Rattle.task_parser.specs.meaning.Expressions.{Text, is}
-use Rattle.task_parser.specs.inner.ExpressionReaders.{starting, read_expression}
-use Rattle.task_parser.specs.meaning.Statements.{number_atom, name_atom, set_ctl_of, while_of, if_of, lock_of, unlock_of, fork_of, join_of, barrier_of, settle_of, set_reg_of, read_of, write_of, print_of, when_of, or_empty, or_nothing, named_in, reg_in}
+use Rattle.task_parser.specs.meaning.Expressions.{Text, name_of, reg_name}
+use Rattle.task_parser.specs.inner.ExpressionReaders.{starting, read_name, read_register, read_number, read_expression}
+use Rattle.task_parser.specs.meaning.Statements.{set_of, of_one, of_two, of_three}
 
 -- what a data statement begins with
 abbrev pub data_starts : List ℕ
@@ -18,10 +19,20 @@ abbrev pub statement_starts : List ℕ
 statement_starts = NAME ∷ WHILE ∷ IF ∷ LOCK ∷ UNLOCK ∷ FORK ∷ JOIN ∷ BARRIER ∷ SETTLE ∷ REG ∷ READ ∷ WRITE ∷ PRINT ∷ WHEN ∷ []
 
 unfoldable pub read_atom : Text → Reader Atom
-read_atom text = read_either (is NUM) (read_made number_atom (read_the NUM)) (read_made (name_atom text) (read_the NAME))
+read_atom text = read_either (is NUM) (read_made atoms.Num read_number) (read_made atoms.Var (read_name text))
 
-unfoldable pub read_indexed : Text → ℕ → Reader ((Token × Token) × Atom)
-read_indexed text word = read_the word ▹ read_the NAME ◃ OPEN_BRACKET ▹ read_atom text ◃ CLOSE_BRACKET
+abbrev pub or_empty : {A : Type 0} → Option (List A) → List A
+or_empty xs = unwrap_or xs []
+
+abbrev pub or_nothing : Option Block → Block
+or_nothing b = unwrap_or b Nothing
+
+-- a word, a name and a mark
+abbrev pub read_titled : Text → ℕ → ℕ → Reader (Token × Text)
+read_titled text word mark = read_the word ▹ read_name text ◃ mark
+
+unfoldable pub read_indexed : Text → ℕ → Reader ((Token × Text) × Atom)
+read_indexed text word = read_titled text word OPEN_BRACKET ▹ read_atom text ◃ CLOSE_BRACKET
 
 abbrev pub read_inner_block : List ℕ → Reader Stmt → Reader Block
 read_inner_block starts s = read_made block (repeat (among starts) s)
@@ -33,57 +44,57 @@ unfoldable pub read_else : List ℕ → Option (Reader Stmt) → Reader Block
 read_else starts inner = read_made or_nothing (read_perhaps (is ELSE) (read_after ELSE (read_block starts inner)))
 
 unfoldable pub read_set_ctl : Text → Reader Expr → Reader Stmt
-read_set_ctl text e = read_made (set_ctl_of text) (read_the NAME ◃ ASSIGN ▹ e ◃ SEMICOLON)
+read_set_ctl text e = read_made (set_of (name_of text) SetCtl) (read_the NAME ◃ ASSIGN ▹ e ◃ SEMICOLON)
 
 unfoldable pub read_looping : Reader Expr → Option (Reader Stmt) → Reader Stmt
-read_looping e inner = read_made while_of (read_the WHILE ▹ e ▹ read_block statement_starts inner)
+read_looping e inner = read_made (of_two While) (read_the WHILE ▹ e ▹ read_block statement_starts inner)
 
 unfoldable pub read_branching : Reader Expr → Option (Reader Stmt) → Reader Stmt
-read_branching e inner = read_made if_of (read_the IF ▹ e ▹ read_block statement_starts inner ▹ read_else statement_starts inner)
+read_branching e inner = read_made (of_three If) (read_the IF ▹ e ▹ read_block statement_starts inner ▹ read_else statement_starts inner)
 
 unfoldable pub read_locking : Text → Reader Stmt
-read_locking text = read_made (lock_of text) (read_indexed text LOCK ◃ SEMICOLON)
+read_locking text = read_made (of_two Lock) (read_indexed text LOCK ◃ SEMICOLON)
 
 unfoldable pub read_unlocking : Text → Reader Stmt
-read_unlocking text = read_made (unlock_of text) (read_indexed text UNLOCK ◃ SEMICOLON)
+read_unlocking text = read_made (of_two Unlock) (read_indexed text UNLOCK ◃ SEMICOLON)
 
 unfoldable pub read_list : {A : Type 0} → List ℕ → Reader A → Reader (List A)
 read_list starts p = read_made or_empty (read_perhaps (among starts) (read_separated COMMA p))
 
 unfoldable pub read_into_name : Text → Reader (Option Text)
-read_into_name text = read_made (named_in text) (read_perhaps (is INTO) (read_after INTO (read_the NAME)))
+read_into_name text = read_perhaps (is INTO) (read_after INTO (read_name text))
 
 unfoldable pub read_into_reg : Text → Reader (Option Text)
-read_into_reg text = read_made (reg_in text) (read_perhaps (is INTO) (read_after INTO (read_the REG)))
+read_into_reg text = read_perhaps (is INTO) (read_after INTO (read_register text))
 
 unfoldable pub read_forking : Text → Reader Expr → Reader Stmt
 read_forking text e =
-    read_made (fork_of text) (read_the FORK ▹ read_the NAME ◃ OPEN_PAREN ▹ read_list starting e ◃ CLOSE_PAREN ▹
+    read_made (of_three Fork) (read_titled text FORK OPEN_PAREN ▹ read_list starting e ◃ CLOSE_PAREN ▹
     read_into_name text ◃ SEMICOLON)
 
 unfoldable pub read_joining : Text → Reader Expr → Reader Stmt
-read_joining text e = read_made join_of (read_the JOIN ▹ e ▹ read_into_reg text ◃ SEMICOLON)
+read_joining text e = read_made (of_two Join) (read_the JOIN ▹ e ▹ read_into_reg text ◃ SEMICOLON)
 
 unfoldable pub read_waiting : Text → Reader Stmt
-read_waiting text = read_made (barrier_of text) (read_the BARRIER ▹ read_the NAME ◃ SEMICOLON)
+read_waiting text = read_made (of_one Barrier) (read_titled text BARRIER SEMICOLON)
 
 unfoldable pub read_settling : Text → Reader Stmt
-read_settling text = read_made (settle_of text) (read_the SETTLE ▹ read_the REG ◃ INTO ▹ read_the NAME ◃ SEMICOLON)
+read_settling text = read_made (of_two Settle) (read_the SETTLE ▹ read_register text ◃ INTO ▹ read_name text ◃ SEMICOLON)
 
 unfoldable pub read_set_reg : Text → Reader Expr → Reader Stmt
-read_set_reg text e = read_made (set_reg_of text) (read_the REG ◃ ASSIGN ▹ e ◃ SEMICOLON)
+read_set_reg text e = read_made (set_of (reg_name text) SetReg) (read_the REG ◃ ASSIGN ▹ e ◃ SEMICOLON)
 
 unfoldable pub read_reading : Text → Reader Stmt
-read_reading text = read_made (read_of text) (read_indexed text READ ◃ INTO ▹ read_the REG ◃ SEMICOLON)
+read_reading text = read_made (of_three Read) (read_indexed text READ ◃ INTO ▹ read_register text ◃ SEMICOLON)
 
 unfoldable pub read_writing : Text → Reader Expr → Reader Stmt
-read_writing text e = read_made (write_of text) (read_indexed text WRITE ◃ ASSIGN ▹ e ◃ SEMICOLON)
+read_writing text e = read_made (of_three Write) (read_indexed text WRITE ◃ ASSIGN ▹ e ◃ SEMICOLON)
 
 unfoldable pub read_printing : Reader Expr → Reader Stmt
-read_printing e = read_made print_of (read_the PRINT ▹ read_separated COMMA e ◃ SEMICOLON)
+read_printing e = read_made (of_one Print) (read_the PRINT ▹ read_separated COMMA e ◃ SEMICOLON)
 
 unfoldable pub read_choosing : Reader Expr → Option (Reader Stmt) → Reader Stmt
-read_choosing e inner = read_made when_of (read_the WHEN ▹ e ▹ read_block data_starts inner ▹ read_else data_starts inner)
+read_choosing e inner = read_made (of_three When) (read_the WHEN ▹ e ▹ read_block data_starts inner ▹ read_else data_starts inner)
 
 unfoldable pub read_data_form : Text → Reader Expr → Option (Reader Stmt) → Reader Stmt
 read_data_form text e inner =

@@ -1,8 +1,8 @@
 -- What stands at the front of a text: a space, a comment, a token, or what can't stand there.
 use Rattle.std.specs.Prelude.{ℕ, pos, ◌+◌, ◌*◌, ◌-◌, Bool, false, not, ◌||◌, ◌&&◌, ◌==◌, nat_le, if◌then◌else◌, List, [], ◌∷◌, length, drop, take, Option, Some, None, fold, position, take_while, slice_index, bytes_eq, codes}
 use Rattle.std.specs.List.{prefix_len}
+use Rattle.std.specs.Option.{option_map_or}
 use Rattle.std.specs.Char.{is_ascii_digit, is_ascii_alphabetic}
-use Rattle.task_parser.specs.declared.token.Kind.{Kind}
 use Rattle.task_parser.specs.declared.token.Kind.TheVariants.{Num, Name, Reg, Quoted, Word, Mark}
 use Rattle.task_parser.specs.declared.lexer.Piece.{Piece}
 use Rattle.task_parser.specs.declared.lexer.Piece.TheVariants.{Skip, Take, TooBig, Bad}
@@ -62,12 +62,8 @@ abbrev pub number_piece : List ℕ → Piece
 number_piece digits = if nat_le (decimal digits) number_limit then Take (Num (pos (decimal digits))) (length digits) else TooBig
 
 -- a word that isn't reserved is a name
-abbrev pub word_kind : Option ℕ → Kind
-word_kind (Some number) = Word number
-word_kind None = Name
-
 abbrev pub word_piece : List ℕ → Piece
-word_piece word = Take (word_kind (row_of words word)) (length word)
+word_piece word = Take (option_map_or Word (row_of words word) Name) (length word)
 
 -- after a `$`
 abbrev pub register_piece : List ℕ → Piece

@@ -3,7 +3,7 @@
 --                                   task main() { x = 1; }, and no program goes on with `;` there
 --     task main() {                 Unexpected 13, the length: its tokens begin a program and are no whole one
 --     task main() { print ((.. 1    with 65 `(` in a row: TooDeep 84, the 65th, which could stand there if less deep
---     task main() { print 1 ! 2; }  BadByte 23, behind the lone `!`: that is a fault of lexing, so no token is looked at
+--     task main() { print 1 ! 2; }  BadByte 23, after the lone `!`: that is a fault of lexing, so no token is looked at
 use Rattle.std.specs.Prelude.{◌≡◌, ◌≤◌, ℕ, suc, Bool, true, false, List, [], ◌∷◌, ◌++◌}
 use Rattle.gp_base.specs.declared.limits.TheConstants.{DEEPEST_NESTING}
 use Rattle.task_ast.specs.meaning.Tree.{Program}

@@ -1,153 +1,67 @@
 -- The grammar of statements.
-use Rattle.std.specs.Prelude.{ℕ, zero, suc, List, [], Option, Some, None}
+use Rattle.std.specs.Prelude.{ℕ, zero, suc, List, [], unwrap_or}
 use Rattle.task_ast.specs.declared.tree.Atom.{Atom}
 use Rattle.task_ast.specs.declared.tree.Atom.TheVariants as atoms
-use Rattle.task_ast.specs.meaning.Tree.{Expr, Stmt, At, SetCtl, While, If, Lock, Unlock, Fork, Join, Barrier, Settle, SetReg, Read, Write, Print, When, Block, Nothing, block}
+use Rattle.task_ast.specs.meaning.Tree.{Expr, Stmt, At, What, SetCtl, While, If, Lock, Unlock, Fork, Join, Barrier, Settle, SetReg, Read, Write, Print, When, Block, Nothing, block}
+use Rattle.task_parser.specs.declared.token.Kind.TheVariants as kinds
 use Rattle.task_parser.specs.declared.token.Token.{Token}
-use Rattle.task_parser.specs.declared.classes.TheConstants.{NUM, NAME, REG, LOCK, UNLOCK, BARRIER, WHILE, IF, ELSE, FORK, INTO, JOIN, READ, WRITE, PRINT, WHEN, SETTLE, OPEN_BRACKET, CLOSE_BRACKET, OPEN_PAREN, CLOSE_PAREN, OPEN_BRACE, CLOSE_BRACE, COMMA, SEMICOLON, ASSIGN}
-use Rattle.task_parser.specs.meaning.Words.{Form, ◌▸◌, Made, ◌∣◌, many, perhaps, Opened, the, ◌◂◌, preceded, separated, nothing}
-use Rattle.task_parser.specs.meaning.Expressions.{Text, name_of, reg_name, number_in, is, expression}
+use Rattle.task_parser.specs.meaning.Words.{Form, ◌▸◌, Made, ◌∣◌, many, perhaps, Opened, of_kind, the, ◌◂◌, preceded, separated, nothing}
+use Rattle.task_parser.specs.meaning.Expressions.{Text, name_of, reg_name, name, register, number, expression}
 
--- ---- what the parts stand for
+-- ---- what the parts stand for: a statement stands on the line of its first token
 
-abbrev pub number_atom : Token → Atom
-number_atom t = atoms.Num (number_in t.kind)
+-- a variable, by its token, is set
+abbrev pub set_of : (Token → Text) → (Text → Expr → What) → Token × Expr → Stmt
+set_of called set (variable, e) = At variable.line (set (called variable) e)
 
-abbrev pub name_atom : Text → Token → Atom
-name_atom text t = atoms.Var (name_of text t)
+-- a word, and one, two or three parts after it
+abbrev pub of_one : {A : Type 0} → (A → What) → Token × A → Stmt
+of_one make (word, a) = At word.line (make a)
 
--- what is left out is the empty list
-abbrev pub or_empty : {A : Type 0} → Option (List A) → List A
-or_empty None = []
-or_empty (Some xs) = xs
+abbrev pub of_two : {A B : Type 0} → (A → B → What) → (Token × A) × B → Stmt
+of_two make ((word, a), b) = At word.line (make a b)
 
--- a missing `else` is an empty block
-abbrev pub or_nothing : Option Block → Block
-or_nothing None = Nothing
-or_nothing (Some b) = b
-
-abbrev pub named_in : Text → Option Token → Option Text
-named_in text None = None
-named_in text (Some t) = Some (name_of text t)
-
-abbrev pub reg_in : Text → Option Token → Option Text
-reg_in text None = None
-reg_in text (Some t) = Some (reg_name text t)
-
-abbrev pub set_ctl_of : Text → Token × Expr → Stmt
-set_ctl_of text (name, e) = At name.line (SetCtl (name_of text name) e)
-
-abbrev pub while_of : (Token × Expr) × Block → Stmt
-while_of ((word, e), body) = At word.line (While e body)
-
-abbrev pub if_of : ((Token × Expr) × Block) × Block → Stmt
-if_of (((word, e), body), otherwise) = At word.line (If e body otherwise)
-
-abbrev pub lock_of : Text → (Token × Token) × Atom → Stmt
-lock_of text ((word, name), index) = At word.line (Lock (name_of text name) index)
-
-abbrev pub unlock_of : Text → (Token × Token) × Atom → Stmt
-unlock_of text ((word, name), index) = At word.line (Unlock (name_of text name) index)
-
-abbrev pub fork_of : Text → ((Token × Token) × List Expr) × Option Text → Stmt
-fork_of text (((word, name), es), into) = At word.line (Fork (name_of text name) es into)
-
-abbrev pub join_of : (Token × Expr) × Option Text → Stmt
-join_of ((word, e), into) = At word.line (Join e into)
-
-abbrev pub barrier_of : Text → Token × Token → Stmt
-barrier_of text (word, name) = At word.line (Barrier (name_of text name))
-
-abbrev pub settle_of : Text → (Token × Token) × Token → Stmt
-settle_of text ((word, register), name) = At word.line (Settle (reg_name text register) (name_of text name))
-
-abbrev pub set_reg_of : Text → Token × Expr → Stmt
-set_reg_of text (register, e) = At register.line (SetReg (reg_name text register) e)
-
-abbrev pub read_of : Text → ((Token × Token) × Atom) × Token → Stmt
-read_of text (((word, name), index), register) = At word.line (Read (name_of text name) index (reg_name text register))
-
-abbrev pub write_of : Text → ((Token × Token) × Atom) × Expr → Stmt
-write_of text (((word, name), index), e) = At word.line (Write (name_of text name) index e)
-
-abbrev pub print_of : Token × List Expr → Stmt
-print_of (word, es) = At word.line (Print es)
-
-abbrev pub when_of : ((Token × Expr) × Block) × Block → Stmt
-when_of (((word, e), body), otherwise) = At word.line (When e body otherwise)
+abbrev pub of_three : {A B C : Type 0} → (A → B → C → What) → ((Token × A) × B) × C → Stmt
+of_three make (((word, a), b), c) = At word.line (make a b c)
 
 -- ---- the forms
 
 abbrev pub atom : Text → Form Atom
-atom text = Made number_atom (the NUM) ∣ Made (name_atom text) (the NAME)
+atom text = Made atoms.Num number ∣ Made atoms.Var (name text)
 
 -- statements in braces, which nest
 abbrev pub block_of : Form Stmt → Form Block
-block_of s = Opened (is OPEN_BRACE) (Made block (many s)) ◂ CLOSE_BRACE
+block_of s = Opened "{" (Made block (many s)) ◂ "}"
 
+-- a missing `else` is an empty block
 abbrev pub else_block : Form Stmt → Form Block
-else_block s = Made or_nothing (perhaps (preceded ELSE (block_of s)))
+else_block s = Made (λ b. unwrap_or b Nothing) (perhaps (preceded "else" (block_of s)))
 
 -- members with commas between them, or none
 abbrev pub listed_in : {A : Type 0} → Form A → Form (List A)
-listed_in P = Made or_empty (perhaps (separated COMMA P))
-
-abbrev pub into_name : Text → Form (Option Text)
-into_name text = Made (named_in text) (perhaps (preceded INTO (the NAME)))
-
-abbrev pub into_reg : Text → Form (Option Text)
-into_reg text = Made (reg_in text) (perhaps (preceded INTO (the REG)))
-
-abbrev pub set_ctl : Text → Form Expr → Form Stmt
-set_ctl text e = Made (set_ctl_of text) (the NAME ◂ ASSIGN ▸ e ◂ SEMICOLON)
-
-abbrev pub looping : Form Expr → Form Stmt → Form Stmt
-looping e s = Made while_of (the WHILE ▸ e ▸ block_of s)
-
-abbrev pub branching : Form Expr → Form Stmt → Form Stmt
-branching e s = Made if_of (the IF ▸ e ▸ block_of s ▸ else_block s)
-
-abbrev pub locking : Text → Form Stmt
-locking text = Made (lock_of text) (the LOCK ▸ the NAME ◂ OPEN_BRACKET ▸ atom text ◂ CLOSE_BRACKET ◂ SEMICOLON)
-
-abbrev pub unlocking : Text → Form Stmt
-unlocking text = Made (unlock_of text) (the UNLOCK ▸ the NAME ◂ OPEN_BRACKET ▸ atom text ◂ CLOSE_BRACKET ◂ SEMICOLON)
-
-abbrev pub forking : Text → Form Expr → Form Stmt
-forking text e = Made (fork_of text) (the FORK ▸ the NAME ◂ OPEN_PAREN ▸ listed_in e ◂ CLOSE_PAREN ▸ into_name text ◂ SEMICOLON)
-
-abbrev pub joining : Text → Form Expr → Form Stmt
-joining text e = Made join_of (the JOIN ▸ e ▸ into_reg text ◂ SEMICOLON)
-
-abbrev pub waiting : Text → Form Stmt
-waiting text = Made (barrier_of text) (the BARRIER ▸ the NAME ◂ SEMICOLON)
-
-abbrev pub settling : Text → Form Stmt
-settling text = Made (settle_of text) (the SETTLE ▸ the REG ◂ INTO ▸ the NAME ◂ SEMICOLON)
-
-abbrev pub set_reg : Text → Form Expr → Form Stmt
-set_reg text e = Made (set_reg_of text) (the REG ◂ ASSIGN ▸ e ◂ SEMICOLON)
-
-abbrev pub reading : Text → Form Stmt
-reading text = Made (read_of text) (the READ ▸ the NAME ◂ OPEN_BRACKET ▸ atom text ◂ CLOSE_BRACKET ◂ INTO ▸ the REG ◂ SEMICOLON)
-
-abbrev pub writing : Text → Form Expr → Form Stmt
-writing text e = Made (write_of text) (the WRITE ▸ the NAME ◂ OPEN_BRACKET ▸ atom text ◂ CLOSE_BRACKET ◂ ASSIGN ▸ e ◂ SEMICOLON)
-
-abbrev pub printing : Form Expr → Form Stmt
-printing e = Made print_of (the PRINT ▸ separated COMMA e ◂ SEMICOLON)
-
-abbrev pub choosing : Form Expr → Form Stmt → Form Stmt
-choosing e d = Made when_of (the WHEN ▸ e ▸ block_of d ▸ else_block d)
+listed_in P = Made (λ xs. unwrap_or xs []) (perhaps (separated "," P))
 
 -- a data statement, from the expressions and the data statements in it
 abbrev pub data_form : Text → Form Expr → Form Stmt → Form Stmt
-data_form text e d = set_reg text e ∣ reading text ∣ writing text e ∣ printing e ∣ choosing e d
+data_form text e d =
+    Made (set_of (reg_name text) SetReg) (of_kind kinds.Reg ◂ "=" ▸ e ◂ ";")
+    ∣ Made (of_three Read) (the "read" ▸ name text ◂ "[" ▸ atom text ◂ "]" ◂ "into" ▸ register text ◂ ";")
+    ∣ Made (of_three Write) (the "write" ▸ name text ◂ "[" ▸ atom text ◂ "]" ◂ "=" ▸ e ◂ ";")
+    ∣ Made (of_one Print) (the "print" ▸ separated "," e ◂ ";")
+    ∣ Made (of_three When) (the "when" ▸ e ▸ block_of d ▸ else_block d)
 
+-- any other statement, from the expressions and the statements in it
 abbrev pub control_form : Text → Form Expr → Form Stmt → Form Stmt
 control_form text e s =
-    set_ctl text e ∣ looping e s ∣ branching e s ∣ locking text ∣ unlocking text
-    ∣ forking text e ∣ joining text e ∣ waiting text ∣ settling text
+    Made (set_of (name_of text) SetCtl) (of_kind kinds.Name ◂ "=" ▸ e ◂ ";")
+    ∣ Made (of_two While) (the "while" ▸ e ▸ block_of s)
+    ∣ Made (of_three If) (the "if" ▸ e ▸ block_of s ▸ else_block s)
+    ∣ Made (of_two Lock) (the "lock" ▸ name text ◂ "[" ▸ atom text ◂ "]" ◂ ";")
+    ∣ Made (of_two Unlock) (the "unlock" ▸ name text ◂ "[" ▸ atom text ◂ "]" ◂ ";")
+    ∣ Made (of_three Fork) (the "fork" ▸ name text ◂ "(" ▸ listed_in e ◂ ")" ▸ perhaps (preceded "into" (name text)) ◂ ";")
+    ∣ Made (of_two Join) (the "join" ▸ e ▸ perhaps (preceded "into" (register text)) ◂ ";")
+    ∣ Made (of_one Barrier) (the "barrier" ▸ name text ◂ ";")
+    ∣ Made (of_two Settle) (the "settle" ▸ register text ◂ "into" ▸ name text ◂ ";")
 
 -- a data statement in which constructs nest less deep than the height
 abbrev pub data_statement : Text → ℕ → Form Stmt

@@ -1,7 +1,10 @@
 -- The words in which the grammar is written.
-use Rattle.std.specs.Prelude.{◌≡◌, ℕ, suc, Bool, true, List, [], ◌∷◌, ◌++◌, Option, None, Some, ◌⊎◌}
+use Prim.Native.String.{String}
+use Rattle.std.specs.Prelude.{◌≡◌, ℕ, suc, List, [], ◌∷◌, ◌++◌, length, Option, None, Some, ◌⊎◌, codes}
+use Rattle.task_parser.specs.declared.token.Kind.{Kind}
 use Rattle.task_parser.specs.declared.token.Token.{Token}
-use Rattle.task_parser.specs.meaning.Classes.{among}
+use Rattle.task_parser.specs.declared.lexer.Piece.TheVariants.{Take}
+use Rattle.task_parser.specs.meaning.Pieces.{piece_of}
 
 -- a token, and how many constructs that count as nesting are open there, one that it opens among them
 pub record Placed : Type 0 where
@@ -12,9 +15,9 @@ pub record Placed : Type 0 where
 abbrev pub Form : Type 0 → Type 1
 Form A = ℕ → List Placed → A → Type 0
 
--- a token that passes the test
-pub record One (test : Token → Bool) (depth : ℕ) (placed : List Placed) (token : Token) : Type 0 where
-  pub passes : test token ≡ true
+-- one token, which passes the test
+pub record One (test : Token → Type 0) (depth : ℕ) (placed : List Placed) (token : Token) : Type 0 where
+  pub passes : test token
   pub alone : placed ≡ record { token = token; nesting = depth } ∷ []
 
 -- a P and then a Q
@@ -51,14 +54,6 @@ abbrev pub perhaps : {A : Type 0} → Form A → Form (Option A)
 perhaps P depth placed None = placed ≡ []
 perhaps P depth placed (Some x) = P depth placed x
 
--- a token that opens a construct which counts as nesting, and the P in it
-pub record Opened {A : Type 0} (test : Token → Bool) (P : Form A) (depth : ℕ) (placed : List Placed) (value : A) : Type 0 where
-  pub token : Token
-  pub inner : List Placed
-  pub passes : test token ≡ true
-  pub parts : placed ≡ record { token = token; nesting = suc depth } ∷ inner
-  pub stands : P (suc depth) inner value
-
 -- no tokens fit
 abbrev pub nothing : {A : Type 0} → Form A
 nothing depth placed value = ⊥
@@ -72,26 +67,42 @@ second_of x = x.1
 abbrev pub put_first : {A : Type 0} → A × List A → List A
 put_first x = x.0 ∷ x.1
 
--- a token of the class
-abbrev pub the : ℕ → Form Token
-the class = One (among (class ∷ []))
+-- one token of the kind
+abbrev pub of_kind : Kind → Form Token
+of_kind kind = One (λ token. token.kind ≡ kind)
 
--- a P and a token of the class, which leaves no mark
+-- the text, as a whole, is a token of the same kind
+abbrev pub IsWritten : String → Token → Type 0
+IsWritten text token = piece_of (codes text) ≡ Take token.kind (length (codes text))
+
+-- the reserved word or the mark that is written so
+abbrev pub the : String → Form Token
+the text = One (IsWritten text)
+
+-- a word or a mark that opens a construct which counts as nesting, and the P in it
+pub record Opened {A : Type 0} (text : String) (P : Form A) (depth : ℕ) (placed : List Placed) (value : A) : Type 0 where
+  pub token : Token
+  pub inner : List Placed
+  pub opens : IsWritten text token
+  pub parts : placed ≡ record { token = token; nesting = suc depth } ∷ inner
+  pub stands : P (suc depth) inner value
+
+-- a P and a word or a mark after it; the value is that of the P
 infixl 10 ◌◂◌
-abbrev pub ◌◂◌ : {A : Type 0} → Form A → ℕ → Form A
-P ◂ class = Made first_of (P ▸ the class)
+abbrev pub ◌◂◌ : {A : Type 0} → Form A → String → Form A
+P ◂ text = Made first_of (P ▸ the text)
 
--- a P after a token of the class, which leaves no mark
-abbrev pub preceded : {A : Type 0} → ℕ → Form A → Form A
-preceded class P = Made second_of (the class ▸ P)
+-- a word or a mark and a P after it; the value is that of the P
+abbrev pub preceded : {A : Type 0} → String → Form A → Form A
+preceded text P = Made second_of (the text ▸ P)
 
 -- one P or more
 abbrev pub some : {A : Type 0} → Form A → Form (List A)
 some P = Made put_first (P ▸ many P)
 
 -- one P or more, with separators between them
-abbrev pub separated : {A : Type 0} → ℕ → Form A → Form (List A)
-separated class P = Made put_first (P ▸ many (preceded class P))
+abbrev pub separated : {A : Type 0} → String → Form A → Form (List A)
+separated text P = Made put_first (P ▸ many (preceded text P))
 
 abbrev pub tokens_of : List Placed → List Token
 tokens_of [] = []

@@ -3,7 +3,7 @@ use Rattle.task_ast.specs.declared.tree.Op.{Op}
 use Rattle.task_ast.specs.declared.tree.Expr.{Expr}
 use Rattle.task_ast.specs.View.{plain_expr}
 use Rattle.task_ast.proofs.Views.{expr_Chain}
-use Rattle.task_parser.specs.meaning.Classes.{among}
+use Rattle.task_parser.specs.inner.Classes.{among}
 use Rattle.task_parser.specs.inner.ExpressionReaders.{read_member, read_level}
 use Rattle.task_parser.specs.inner.Gives.{operators, read_part}
 use Rattle.task_parser.proofs.Levels.{member_shortens, chain_more}

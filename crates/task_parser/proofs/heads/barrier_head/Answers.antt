@@ -10,5 +10,4 @@ returns c =
       c.in_ok-count.ensures,
       c.in_ok-rest.ensures,
       c.in_ok-rest-2.ensures,
-      c.in_ok-name.ensures,
     ) (search (rules, c.number-number.ensures))

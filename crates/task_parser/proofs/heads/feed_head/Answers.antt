@@ -10,6 +10,5 @@ returns c =
       c.in_ok-rest.ensures,
       c.in_ok-quoted.ensures,
       c.in_ok-rest-2.ensures,
-      c.in_ok-name.ensures,
       c.in_ok-from.ensures,
     ) (search (rules, c.number-fields.ensures))

@@ -1,5 +1,5 @@
 use Rattle.std.proofs.Common.{◌≡◌, length}
-use Rattle.task_parser.specs.meaning.Classes.{among}
+use Rattle.task_parser.specs.inner.Classes.{among}
 use Rattle.task_parser.specs.inner.Reading.{repeat}
 use Rattle.task_parser.specs.inner.ProgramReaders.{head_starts, read_head}
 use Rattle.task_parser.proofs.Loop.{also}

@@ -12,5 +12,4 @@ returns c =
       c.in_ok-from.ensures,
       c.in_ok-rest-2.ensures,
       c.in_ok-by.ensures,
-      c.in_ok-name.ensures,
     ) (search (rules, c.number-size.ensures))

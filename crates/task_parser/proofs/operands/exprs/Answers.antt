@@ -1,7 +1,7 @@
 use Rattle.std.proofs.Common.{[], ◌∷◌, sym, ◌∙◌}
 use Rattle.task_ast.specs.View.{plain_expr}
 use Rattle.task_parser.specs.declared.classes.TheConstants.{COMMA}
-use Rattle.task_parser.specs.meaning.Classes.{among}
+use Rattle.task_parser.specs.inner.Classes.{among}
 use Rattle.task_parser.specs.inner.Reading.{read_after}
 use Rattle.task_parser.specs.inner.ExpressionReaders.{read_expression}
 use Rattle.task_parser.proofs.ReadStatements.{next_shortens}

@@ -1,7 +1,7 @@
 use Rattle.std.proofs.Common.{◌≡◌, [], ◌∷◌, length}
 use Rattle.task_ast.specs.View.{plain_exprs}
 use Rattle.task_parser.specs.declared.classes.TheConstants.{COMMA}
-use Rattle.task_parser.specs.meaning.Classes.{among}
+use Rattle.task_parser.specs.inner.Classes.{among}
 use Rattle.task_parser.specs.inner.Reading.{repeat, read_after, read_separated}
 use Rattle.task_parser.specs.inner.ExpressionReaders.{read_expression}
 use Rattle.task_parser.proofs.Loop.{also}

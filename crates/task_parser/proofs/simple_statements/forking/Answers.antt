@@ -14,5 +14,4 @@ returns c =
       c.in-Ok.ensures,
       stmt_At,
       what_Fork,
-      c.in_ok-name.ensures,
     ) refl

@@ -7,12 +7,11 @@ pub returns : goal.returns
 unfolding read_reading
 returns c =
     rw (
-      c.in_ok-word.ensures.reads,
+      c.in_ok-word.ensures,
       c.in-Ok.ensures,
       c.in-Ok-expect.ensures,
       c.in-Ok-expect-2.ensures,
       stmt_At,
       what_Read,
-      c.in_ok-word.ensures.name,
       c.in-Ok-register.ensures,
     ) refl

@@ -8,8 +8,10 @@ unfolding read_settling
 returns c =
     rw (
       c.in_ok-word.ensures,
-      c.in_ok-into.ensures,
+      c.in_ok-from.ensures,
       c.in_ok-rest.ensures,
+      c.in_ok-into.ensures,
+      c.in_ok-rest-2.ensures,
       stmt_At,
       what_Settle,
       c.in_ok-register.ensures,

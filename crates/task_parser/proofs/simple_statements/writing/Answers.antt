@@ -7,11 +7,10 @@ pub returns : goal.returns
 unfolding read_writing
 returns c =
     rw (
-      c.in_ok-word.ensures.reads,
+      c.in_ok-word.ensures,
       c.in-Ok.ensures,
       c.in-Ok-expression.ensures,
       c.in-Ok-expect.ensures,
       stmt_At,
       what_Write,
-      c.in_ok-word.ensures.name,
     ) refl

@@ -1,6 +1,6 @@
 use Rattle.std.proofs.Common.{sym, ◌∙◌}
 use Rattle.task_ast.specs.View.{plain_stmt}
-use Rattle.task_parser.specs.meaning.Classes.{among}
+use Rattle.task_parser.specs.inner.Classes.{among}
 use Rattle.task_parser.specs.inner.Gives.{starts, read_allowed}
 use Rattle.task_parser.proofs.ReadStatements.{statement_shortens}
 use Rattle.task_parser.proofs.Loop.{pushed}

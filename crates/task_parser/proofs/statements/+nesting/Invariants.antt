@@ -1,6 +1,6 @@
 use Rattle.std.proofs.Common.{◌≡◌, ◌+◌, ◌*◌, length}
 use Rattle.task_ast.specs.View.{plain_stmts}
-use Rattle.task_parser.specs.meaning.Classes.{among}
+use Rattle.task_parser.specs.inner.Classes.{among}
 use Rattle.task_parser.specs.inner.Reading.{repeat}
 use Rattle.task_parser.specs.inner.Gives.{starts, read_allowed}
 use Rattle.task_parser.proofs.Loop.{also}

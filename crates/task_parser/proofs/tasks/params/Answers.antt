@@ -1,6 +1,6 @@
 use Rattle.std.proofs.Common.{[], ◌∷◌, sym, ◌∙◌}
 use Rattle.task_parser.specs.declared.classes.TheConstants.{COMMA}
-use Rattle.task_parser.specs.meaning.Classes.{among}
+use Rattle.task_parser.specs.inner.Classes.{among}
 use Rattle.task_parser.specs.inner.Reading.{read_after}
 use Rattle.task_parser.specs.inner.ProgramReaders.{read_param}
 use Rattle.task_parser.proofs.ReadPrograms.{next_param_shortens}

@@ -13,5 +13,4 @@ returns c =
       c.in_ok-vars.ensures,
       c.in_ok-body.ensures,
       c.in_ok-rest-3.ensures,
-      c.in_ok-name.ensures,
     ) refl

@@ -1,7 +1,7 @@
 use Rattle.std.proofs.Common.{[], ◌∷◌, sym, ◌∙◌}
 use Rattle.task_ast.specs.View.{plain_task}
 use Rattle.task_parser.specs.declared.classes.TheConstants.{TASK}
-use Rattle.task_parser.specs.meaning.Classes.{among}
+use Rattle.task_parser.specs.inner.Classes.{among}
 use Rattle.task_parser.specs.inner.ProgramReaders.{read_task}
 use Rattle.task_parser.proofs.ReadPrograms.{task_shortens}
 use Rattle.task_parser.proofs.Loop.{pushed}

@@ -1,7 +1,7 @@
 use Rattle.std.proofs.Common.{◌≡◌, [], ◌∷◌, length, map}
 use Rattle.task_ast.specs.View.{plain_task}
 use Rattle.task_parser.specs.declared.classes.TheConstants.{TASK}
-use Rattle.task_parser.specs.meaning.Classes.{among}
+use Rattle.task_parser.specs.inner.Classes.{among}
 use Rattle.task_parser.specs.inner.Reading.{repeat, read_some}
 use Rattle.task_parser.specs.inner.ProgramReaders.{read_task}
 use Rattle.task_parser.proofs.Loop.{also}

@@ -1,6 +1,6 @@
 use Rattle.std.proofs.Common.{[], ◌∷◌, sym, ◌∙◌}
 use Rattle.task_parser.specs.declared.classes.TheConstants.{VAR}
-use Rattle.task_parser.specs.meaning.Classes.{among}
+use Rattle.task_parser.specs.inner.Classes.{among}
 use Rattle.task_parser.specs.inner.ProgramReaders.{read_var_line}
 use Rattle.task_parser.proofs.ReadPrograms.{var_line_shortens}
 use Rattle.task_parser.proofs.Loop.{pushed_item}

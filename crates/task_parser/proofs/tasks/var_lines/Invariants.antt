@@ -1,6 +1,6 @@
 use Rattle.std.proofs.Common.{◌≡◌, [], ◌∷◌, length}
 use Rattle.task_parser.specs.declared.classes.TheConstants.{VAR}
-use Rattle.task_parser.specs.meaning.Classes.{among}
+use Rattle.task_parser.specs.inner.Classes.{among}
 use Rattle.task_parser.specs.inner.Reading.{repeat}
 use Rattle.task_parser.specs.inner.ProgramReaders.{read_var_line}
 use Rattle.task_parser.proofs.Loop.{also}

@@ -1,6 +1,4 @@
 use Rattle.std.proofs.Common.{sym, ap, ◌∙◌, cond, is_none}
-use Rattle.std.specs.Prelude.{slice_get}
-use Rattle.std.specs.Option.{option_and_then}
 use Rattle.task_ast.specs.Table.{owner_in}
 use Rattle.task_ast.specs.Turn.{issuing, passing}
 use Rattle.token_order.specs.View.{table}
