@@ -7,8 +7,11 @@ use Rattle.gp_base.specs.declared.limits.Limits.{Limits}
 use Rattle.gp_base.specs.declared.feed.Inputs.{Inputs}
 use Rattle.task_ast.specs.meaning.Tree.{Program}
 use Rattle.task_ast.specs.meaning.Plain.{Subthread}
-use Rattle.task_ast.specs.Plain.{order, tree_machine}
+use Rattle.task_ast.specs.meaning.Effect.{effect}
+use Rattle.task_ast.specs.meaning.Run.{plain_order}
+use Rattle.task_ast.specs.Plain.{Plain, tree_machine}
 use Rattle.task_ast.proofs.Positions.{step_is}
+use Rattle.task_ast.proofs.Runs.{order-is, before-is}
 use Rattle.restart_log.specs.meaning.Lines.{printed, printed_line}
 use Rattle.crew.specs.meaning.Noted.{left_at, left_from, left_in_order}
 use Rattle.retirement_log.specs.meaning.Rows.{Retirement}
@@ -34,7 +37,7 @@ none_some y e = cc
 
 module _ (program : Program) (inputs : Inputs) (limits : Limits) where
   -- these subthreads, the first of which has this position, have the lines of what they leave
-  abbrev HaveLines : ℕ → List Subthread → Type 0
+  abbrev pub HaveLines : ℕ → List Subthread → Type 0
   HaveLines p run = (k : ℕ) (s : Subthread) → slice_get run k ≡ Some s → s.lines ≡ (left_at program inputs limits (p + k) s).prints
 
   have_rest : (p : ℕ) (s : Subthread) (run : List Subthread) → HaveLines p (s ∷ run) → HaveLines (suc p) run
@@ -84,20 +87,22 @@ module _ (program : Program) (inputs : Inputs) (limits : Limits) where
       (rest.0 ∙ ap pos at, rest.1 ∙ ap pos sum)
 
   -- the lines of the plain run are those of what its subthreads leave
-  plain_lines : HaveLines 0 (order program inputs limits)
+  pub plain_lines : HaveLines 0 (plain_order program inputs limits)
   plain_lines k s is =
+      let there = ap (λ run. slice_get run k) (sym (order-is program inputs limits)) ∙ is in
       subst (λ q. s.lines ≡ (left_at program inputs limits q s).prints) (sym (zero-add k))
-      (step_is (tree_machine program inputs limits) program inputs limits k s is).lines
+      ((step_is (tree_machine program inputs limits) program inputs limits k s there).lines
+      ∙ ap (λ (x : Plain). (effect s.thread s.begins.sync s.child s.actions x.state).prints) (sym (before-is program inputs limits k)))
 
-  pub count_is : length (log_rows (left_in_order program inputs limits)) ≡ length (order program inputs limits)
-  count_is = rows_count 0 (length (codes "output\n")) (order program inputs limits)
+  pub count_is : length (log_rows (left_in_order program inputs limits)) ≡ length (plain_order program inputs limits)
+  count_is = rows_count 0 (length (codes "output\n")) (plain_order program inputs limits)
 
   pub bytes_are : (p : ℕ) (row : Retirement) → slice_get (log_rows (left_in_order program inputs limits)) p ≡ Some row
       → (row.position ≡ pos p) × (row.bytes ≡ pos (length (text_of_first (suc p) program inputs limits)))
   bytes_are p row is =
-      let there = placed 0 (length (codes "output\n")) (order program inputs limits) plain_lines p row is in (
+      let there = placed 0 (length (codes "output\n")) (plain_order program inputs limits) plain_lines p row is in (
         there.0 ∙ ap pos (zero-add p),
         there.1 ∙ ap pos
             (sym (length-append (codes "output\n") (printed
-            (flat_map (λ (s : Subthread). s.lines) (take (suc p) (order program inputs limits)))))),
+            (flat_map (λ (s : Subthread). s.lines) (take (suc p) (plain_order program inputs limits)))))),
       )

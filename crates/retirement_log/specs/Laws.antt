@@ -3,7 +3,7 @@ use Rattle.std.specs.Prelude.{◌≡◌, ℕ, suc, pos, List, ◌++◌, length, 
 use Rattle.gp_base.specs.declared.limits.Limits.{Limits}
 use Rattle.gp_base.specs.declared.feed.Inputs.{Inputs}
 use Rattle.task_ast.specs.meaning.Tree.{Program}
-use Rattle.task_ast.specs.Plain.{order}
+use Rattle.task_ast.specs.meaning.Run.{plain_order}
 use Rattle.restart_log.specs.meaning.Lines.{printed}
 use Rattle.crew.specs.meaning.Noted.{left_in_order}
 use Rattle.retirement_log.specs.meaning.Rows.{Retirement}
@@ -12,13 +12,13 @@ use Rattle.retirement_log.specs.meaning.Log.{log_rows}
 -- the text of a run up to the end of the lines of its first positions
 abbrev pub text_of_first : (positions : ℕ) → Program → Inputs → Limits → List ℕ
 text_of_first count program inputs limits =
-    codes "output\n" ++ printed (flat_map (λ s. s.lines) (take count (order program inputs limits)))
+    codes "output\n" ++ printed (flat_map (λ s. s.lines) (take count (plain_order program inputs limits)))
 
 -- each position of a run has a row
 abbrev pub CountLaw : Type 0
 CountLaw =
     (program : Program) (inputs : Inputs) (limits : Limits)
-    → length (log_rows (left_in_order program inputs limits)) ≡ length (order program inputs limits)
+    → length (log_rows (left_in_order program inputs limits)) ≡ length (plain_order program inputs limits)
 
 -- a row has its position, and how many bytes the text has up to the end of the lines of that
 abbrev pub BytesLaw : Type 0

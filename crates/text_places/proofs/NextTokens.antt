@@ -78,7 +78,7 @@ module _ (text : Text) (tokens front : List Token) (kind : Kind) (first : IsFron
           → StopFirst text (front ++ token_past text kind ∷ []) (record { deep = false; rest = rest }) → ⊥
       go [] is h = absurd (omega arith)
       go (t ∷ ts) is h = elim (stands front (token_past text kind) (tokens_of h.front) t ts h.parts) [
-        | last f g k ↦ h.fault going.placed (going.same ∙ cc) going.begins
+        | last f g k ↦ h.fault (going.placed, going.same ∙ cc, going.begins)
         | before more f k ↦ earlier false t more ts h k
       ]
 

@@ -15,10 +15,11 @@ use Rattle.task_ast.specs.meaning.Tree.{Program}
 use Rattle.task_ast.specs.meaning.State.{Location, State}
 use Rattle.task_ast.specs.meaning.Effect.{effect}
 use Rattle.task_ast.specs.meaning.Plain.{Subthread}
-use Rattle.task_ast.specs.Plain.{tree_machine, order, opening}
+use Rattle.task_ast.specs.Plain.{Plain, tree_machine, order, opening}
 use Rattle.task_ast.specs.Fold.{Member, fold}
 use Rattle.task_ast.specs.Members.{member_of, member_in}
 use Rattle.task_ast.proofs.Positions.{fold_below}
+use Rattle.task_ast.proofs.Runs.{before-is}
 use Rattle.task_ast.proofs.WholeFolds.{undamaged}
 use Rattle.dependence.specs.meaning.Conflict.{foot_at}
 use Rattle.dependence.specs.Conflict.{ClashIn}
@@ -271,8 +272,9 @@ module _ (program : Program) (inputs : Inputs) (limits : Limits) where
       ∙ (ap (done_by (member_in order_of (λ q. pos 0) p)) (retired-fold order_of faults at stands start_of p (omega arith))
       ∙ (ap (λ o. done_by (member_of (pos 0) o) (fold (member_in order_of (λ q. pos 0)) start_of (λ q. true) p)) there
       ∙ (undamaged (effect s.thread s.begins.sync s.child s.actions (fold (member_in order_of (λ q. pos 0)) start_of (λ q. true) p))
-      ∙ ap (effect s.thread s.begins.sync s.child s.actions)
-      (fold_below (tree_machine program inputs limits) program inputs limits p (omega arith)))))
+      ∙ (ap (effect s.thread s.begins.sync s.child s.actions)
+      (fold_below (tree_machine program inputs limits) program inputs limits p (omega arith))
+      ∙ ap (λ (x : Plain). effect s.thread s.begins.sync s.child s.actions x.state) (sym (before-is program inputs limits p))))))
 
   -- with one position more, what it leaves comes last
   pub left-more : (k : ℕ) (run : List Subthread) (p n : ℕ) (s : Subthread) → slice_get run p ≡ Some s → n ≡ k + p

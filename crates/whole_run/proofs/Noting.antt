@@ -2,7 +2,7 @@
 -- selective restarts, and a history buffer stands beside them, so that LeftAt tells of what is applied that it left the same. Notes go
 -- along: a result that applies is noted with what its attempt left, all else applies nothing, and what retires is the next of what the
 -- plain run leaves.
-use Rattle.std.proofs.Common.{◌≡◌, inl, inr, ℕ, suc, ◌≤◌, Bool, true, false, cond, List, [], ◌∷◌, ◌++◌, length, Option, Some, refl, sym, ap, subst, ◌∙◌, arith, add-one, slice_get}
+use Rattle.std.proofs.Common.{◌≡◌, inl, inr, ℕ, suc, ◌≤◌, Bool, true, false, cond, List, [], ◌∷◌, ◌++◌, take, length, Option, Some, refl, sym, ap, subst, ◌∙◌, arith, add-one, slice_get}
 use Rattle.std.specs.Prelude.{Ok, Err}
 use Rattle.std.proofs.lemmas.Bool.{false≢true, cases_eq, eq-eqb, ne_eqb}
 use Rattle.gp_base.specs.declared.journal.Event.{Event}
@@ -16,6 +16,7 @@ use Rattle.task_ast.specs.Damage.{damaged}
 use Rattle.task_ast.specs.meaning.Layout.{layout}
 use Rattle.task_ast.specs.Members.{member_of}
 use Rattle.task_ast.specs.meaning.Plain.{Subthread}
+use Rattle.task_ast.proofs.Runs.{order-is}
 use Rattle.dependence.specs.Restarts.{mask_of}
 use Rattle.dependence.specs.meaning.Journal.{Stage, Allowed, MayRetire, happens, stage, Lawful}
 use Rattle.dependence.specs.meaning.Runs.{dependence_of}
@@ -28,7 +29,7 @@ use Rattle.subthread.specs.declared.task.Done.{Done}
 use Rattle.subthread.specs.Tasks.{task_of, effect_of, IsRun}
 use Rattle.subthread.specs.Joining.{Runs}
 use Rattle.subthread.proofs.Joined.{runs_law}
-use Rattle.crew.specs.meaning.Noted.{left_at}
+use Rattle.crew.specs.meaning.Noted.{left_at, left_from}
 use Rattle.crew.specs.Noted.{Telling, with_left, NotesNothing, NotesRetired, NotesPart}
 use Rattle.reorder_list.specs.declared.report.Report.{Report}
 use Rattle.reorder_list.specs.declared.report.EngineStop.{EngineStop}
@@ -279,6 +280,13 @@ retired-left before after p s stands selective did there =
     retired-plain (program_in before.batch) before.batch.inputs before.batch.limits before.batch.faults stands.short (now before) p s
     (stage-plain before stands selective) (allowed-plain before stands selective (event.Retire p) did.allowed) there
 
+-- what the plain run leaves, by the order of the general turn
+left-by-order : (batch : Batch) (p : ℕ)
+    → left_below batch p ≡ take p (left_from (program_in batch) batch.inputs batch.limits 0 (run_in batch))
+left-by-order batch p =
+    ap (λ run. take p (left_from (program_in batch) batch.inputs batch.limits 0 run))
+    (order-is (program_in batch) batch.inputs batch.limits)
+
 pub left-below-more : (before after : View) (p : ℕ) → Stands before → before.batch.recovery ≡ Selective → Did before (event.Retire p) after
     → left_below before.batch (suc p) ≡ left_below before.batch p ++ left_in before p ∷ []
 left-below-more before after p stands selective did =
@@ -287,8 +295,9 @@ left-below-more before after p stands selective did =
     let issued = may.issued in
     let low = (stage-plain before stands selective).front_low in
     let there = slice_get_inside (run_in before.batch) p (omega arith) in
-    left-more (program_in before.batch) before.batch.inputs before.batch.limits 0 (run_in before.batch) p p there.0 there.1 (omega arith)
-    ∙ ap (λ (e : Effect). left_below before.batch p ++ e ∷ []) (sym (retired-left before after p there.0 stands selective did there.1))
+    left-by-order before.batch (suc p)
+    ∙ (left-more (program_in before.batch) before.batch.inputs before.batch.limits 0 (run_in before.batch) p p there.0 there.1 (omega arith)
+    ∙ (λ i. sym (left-by-order before.batch p) i ++ sym (retired-left before after p there.0 stands selective did there.1) i ∷ []))
 
 module _ (before after : View) (p : ℕ) (stands : Stands before) (did : Did before (event.Retire p) after)
     (selective : before.batch.recovery ≡ Selective) where
@@ -308,7 +317,8 @@ module _ (before after : View) (p : ℕ) (stands : Stands before) (did : Did bef
       let low = (stage-plain before stands selective).retired_low in
       let front = (stage-plain before stands selective).front_low in
       may-retire.oldest
-      ∙ sym (length-left (program_in before.batch) before.batch.inputs before.batch.limits 0 (run_in before.batch)
+      ∙ sym (ap length (left-by-order before.batch (now before).retired)
+      ∙ length-left (program_in before.batch) before.batch.inputs before.batch.limits 0 (run_in before.batch)
       (now before).retired (omega arith))
 
   -- with it the log has what is below the next one
