@@ -38,6 +38,25 @@ const NO_SLIP: Slip = Slip {
     kept: None,
 };
 
+// Where an expression slipped: its line, the position of its subthread, and the control variables there.
+#[derive(Clone, Copy)]
+struct Place<'a> {
+    line: u32,
+    position: u32,
+    names: &'a [(Name, i64)],
+}
+
+// Notes a slip in its line, and where it was if it is the first.
+fn note(slips: &mut Vec<Slip>, values: &mut Values, place: Place<'_>) {
+    if let Some(slip) = slips.get_mut(place.line as usize) {
+        if slip.times == 0 {
+            slip.first = place.position;
+            slip.kept = values.keep(place.names);
+        }
+        slip.times = slip.times.saturating_add(1);
+    }
+}
+
 // The last line of a block in which a statement begins.
 fn last_line(block: &[Stmt]) -> u32 {
     let mut last = 0;
@@ -98,18 +117,15 @@ impl Counting {
 
     // A slip of an expression in this line.
     fn slipped(&mut self, e: &Expr, names: &[Name], env: &Env, registers: &[i64]) {
-        let first = self.begun.saturating_sub(1);
-        let slips = if self.may_divide() && divides_by_zero(e, names, env, registers) {
-            &mut self.divided
-        } else {
-            &mut self.left
+        let place = Place {
+            line: self.line,
+            position: self.begun.saturating_sub(1),
+            names: env.names.as_slice(),
         };
-        if let Some(slip) = slips.get_mut(self.line as usize) {
-            if slip.times == 0 {
-                slip.first = first;
-                slip.kept = self.values.keep(env.names.as_slice());
-            }
-            slip.times = slip.times.saturating_add(1);
+        if self.may_divide() && divides_by_zero(e, names, env, registers) {
+            note(&mut self.divided, &mut self.values, place);
+        } else {
+            note(&mut self.left, &mut self.values, place);
         }
     }
 }
