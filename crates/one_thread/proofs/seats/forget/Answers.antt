@@ -10,12 +10,11 @@ use Rattle.one_thread.proofs.seats.forget.Goals as goal
 
 pub loop-seat-preserved : goal.loop-seat-preserved
 loop-seat-preserved c =
-    let within : c.loop-seat.seat-index < length c.loop-seat.seats = omega arith in
-    (
+    let within : c.loop-seat.seat-index < length c.loop-seat.seats = omega arith in (
       map-kept seat_of c.loop-seat.seats c.loop-seat.seat-index _ _
-      (slice_get-get_or c.loop-seat.seats c.loop-seat.seat-index c.seat-item.result within) refl ∙ c.loop-seat.invariant.0,
+          (slice_get-get_or c.loop-seat.seats c.loop-seat.seat-index c.seat-item.result within) refl ∙ c.loop-seat.invariant.0,
       first_mapped-next onward_of (λ n. 0) c.args.seats.now c.loop-seat.seats c.loop-seat.seat-index c.seat-item.result _ within
-      c.loop-seat.invariant.1 refl,
+          c.loop-seat.invariant.1 refl,
     )
 
 pub returns-clause-onward : goal.returns-clause-onward

@@ -24,20 +24,22 @@ loop-t-preserved c =
     ∙ ap (λ n. first_mapped (released_at c.args.barrier) n old) (sym c.max-t.ensures) in
     elim c.if-is_waiting.branch [
       | then-is_waiting w ↦
-          (let at = slice_get-get_or items c.loop-t.t w.index-seats-t-then-is_waiting.result within in
-          (ap (map seat_of) w.seats-is
-          ∙ first_mapped-next seat_of (released_at c.args.barrier) c.args.seats.now items c.loop-t.t w.index-seats-t-then-is_waiting.result _
-          within c.loop-t.invariant.0
-          (released-waiting c.args.barrier _ (ap (λ s. waits_at c.args.barrier (seat_of s)) (same_read items c.loop-t.t _ _ at seen)
-          ∙ sym c.is_waiting.ensures ∙ w.if-is_waiting.true))
-          ∙ onward,
-          ap (map onward_of) w.seats-is ∙ map-kept onward_of items c.loop-t.t _ _ at refl ∙ c.loop-t.invariant.1))
-      | else-is_waiting w ↦
-          (ap (map seat_of) w.seats-is ∙ sym (map-kept seat_of items c.loop-t.t _ (get_or items c.loop-t.t c.index-seats-t-in-loop-t.result) seen refl)
-          ∙ first_mapped-next seat_of (released_at c.args.barrier) c.args.seats.now items c.loop-t.t c.index-seats-t-in-loop-t.result _ within
-          c.loop-t.invariant.0 (sym (released-other c.args.barrier _ (sym c.is_waiting.ensures ∙ w.if-is_waiting.false)))
-          ∙ onward,
-          ap (map onward_of) w.seats-is ∙ c.loop-t.invariant.1)
+          (let at = slice_get-get_or items c.loop-t.t w.index-seats-t-then-is_waiting.result within in (
+            ap (map seat_of) w.seats-is
+                ∙ first_mapped-next seat_of (released_at c.args.barrier) c.args.seats.now items c.loop-t.t w.index-seats-t-then-is_waiting.result _
+                within c.loop-t.invariant.0
+                (released-waiting c.args.barrier _ (ap (λ s. waits_at c.args.barrier (seat_of s)) (same_read items c.loop-t.t _ _ at seen)
+                ∙ sym c.is_waiting.ensures ∙ w.if-is_waiting.true))
+                ∙ onward,
+            ap (map onward_of) w.seats-is ∙ map-kept onward_of items c.loop-t.t _ _ at refl ∙ c.loop-t.invariant.1,
+          ))
+      | else-is_waiting w ↦ (
+        ap (map seat_of) w.seats-is ∙ sym (map-kept seat_of items c.loop-t.t _ (get_or items c.loop-t.t c.index-seats-t-in-loop-t.result) seen refl)
+            ∙ first_mapped-next seat_of (released_at c.args.barrier) c.args.seats.now items c.loop-t.t c.index-seats-t-in-loop-t.result _ within
+            c.loop-t.invariant.0 (sym (released-other c.args.barrier _ (sym c.is_waiting.ensures ∙ w.if-is_waiting.false)))
+            ∙ onward,
+        ap (map onward_of) w.seats-is ∙ c.loop-t.invariant.1,
+      )
     ]
 
 pub returns-clause-seats : goal.returns-clause-seats
