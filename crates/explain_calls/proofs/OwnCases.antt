@@ -1,5 +1,6 @@
 -- The case of a call that explains.
 use Rattle.std.proofs.Common.{◌≡◌, ◌∙◌, ◌++◌, ℕ, List, [], IfSome, refl, sym, subst, inl, inr, append-nil}
+use Rattle.std.specs.Prelude.{codes}
 use Rattle.std.specs.declared.option.Option.{Option}
 use Rattle.std.specs.declared.option.Option.TheVariants.{None, Some}
 use Rattle.std.specs.declared.result.Result.{Result}
@@ -40,7 +41,7 @@ words_answer words told asked result some is = asked_case asking words case_of t
 
 -- each case has a text
 pub some_text : (case : Case ToDo) → (text : List ℕ) × IsText case text
-some_text (Refused status names line) = ([], inr (inr refl))
+some_text (Refused status names line) = (codes "hint: ", inr (inr ([], sym (append-nil (codes "hint: ")))))
 some_text (Go names work) =
     (front work.program work.inputs work.limits, ([], sym (append-nil (front work.program work.inputs work.limits))))
 
