@@ -4,8 +4,8 @@ use Rattle.task_ast.specs.meaning.Tree.{Name}
 use Rattle.task_ast.specs.Plain.{tree_machine}
 use Rattle.task_ast.proofs.PlainRuns.{count_law}
 use Rattle.gp_traces.specs.Laws.{IsNarrowRun}
-use Rattle.call_cases.specs.meaning.Work.{Files, ToDo}
-use Rattle.call_cases.specs.meaning.Case.{Go, IsCase}
+use Rattle.call_cases.specs.meaning.Work.{Files, ToDo, Go}
+use Rattle.call_cases.specs.meaning.Case.{IsCase}
 use Rattle.call_cases.specs.meaning.Journals.{run_of}
 use Rattle.call_cases.specs.meaning.RunCommands.{asking_among}
 use Rattle.call_cases.proofs.AskedCases.{few_subthreads, narrow_faults}

@@ -28,7 +28,7 @@ use Rattle.gp_audit.proofs.Parts.{cancel}
 use Rattle.gp_audit.proofs.Traces.{few-lines}
 use Rattle.call_cases.specs.declared.reading.Refusal.{Refusal}
 use Rattle.call_cases.specs.declared.reading.Refusal.TheVariants.{Usage, BadProgram, BadInput, ReadFault, OutOfMemory}
-use Rattle.call_cases.specs.meaning.Work.{Files, ToDo, Spoils}
+use Rattle.call_cases.specs.meaning.Work.{Files, ToDo, Refused}
 use Rattle.call_cases.specs.meaning.Lines.{input_line}
 use Rattle.call_cases.specs.Refusals.{IsInputRefused, ReadsAmong, AnswersFile}
 use Rattle.call_cases.proofs.Loads.{only_one}
@@ -134,10 +134,10 @@ past_file text above = grind (arith, nat_tests, above)
 module _ (judge : Judge) (names : List Name) (file : Name) (work : ToDo) where
   -- a text that is short enough comes to what it is read as
   by_reading : (text : List ℕ) (read : Result (List TraceLine) ℕ) → length text ≤ MOST_FILE_BYTES → Reads text read
-      → (if nat_lt MOST_FILE_BYTES (length text) then Spoils (names ++ file ∷ [])
+      → (if nat_lt MOST_FILE_BYTES (length text) then Refused 4 (names ++ file ∷ [])
       (input_line file 6 0) else by_trace_rows judge names file work (judge.lines_of text)) ≡ by_trace_rows judge names file work read
   by_reading text read within is =
-      ap (λ b. if b then Spoils (names ++ file ∷ []) (input_line file 6 0) else by_trace_rows judge names file work (judge.lines_of text))
+      ap (λ b. if b then Refused 4 (names ++ file ∷ []) (input_line file 6 0) else by_trace_rows judge names file work (judge.lines_of text))
       (within_file text within)
       ∙ ap (by_trace_rows judge names file work) (one_reading text (judge.lines_of text) read (judge.reads text) is)
 
@@ -149,7 +149,7 @@ module _ (judge : Judge) (names : List Name) (file : Name) (work : ToDo) where
       → IsInputRefused (input_line file 9 row) refusal → AnswersLines judge names file work (Some text) (Err refusal)
   row_told text row Usage within broken is = is
   row_told text row (BadProgram line) within broken is = is
-  row_told text row (BadInput line) within broken is = by_reading text (Err row) within broken ∙ ap (Spoils (names ++ file ∷ [])) (sym is)
+  row_told text row (BadInput line) within broken is = by_reading text (Err row) within broken ∙ ap (Refused 4 (names ++ file ∷ [])) (sym is)
   row_told text row (ReadFault name) within broken is = absurd is
   row_told text row OutOfMemory within broken is = tt
 
@@ -165,8 +165,8 @@ module _ (judge : Judge) (names : List Name) (file : Name) (work : ToDo) where
       → IsSomeAnd bytes (λ text. MOST_FILE_BYTES < length text) → AnswersLines judge names file work bytes (Err (BadInput line))
   long_told None line is above = absurd above
   long_told (Some text) line is above =
-      ap (λ b. if b then Spoils (names ++ file ∷ []) (input_line file 6 0) else by_trace_rows judge names file work (judge.lines_of text))
-      (past_file text above) ∙ ap (Spoils (names ++ file ∷ [])) (sym is)
+      ap (λ b. if b then Refused 4 (names ++ file ∷ []) (input_line file 6 0) else by_trace_rows judge names file work (judge.lines_of text))
+      (past_file text above) ∙ ap (Refused 4 (names ++ file ∷ [])) (sym is)
 
   pub unread_told : (T : Type 0) (files : Option Files) (before now : List Name) (refusal : Refusal)
       → IfSome files (λ told. AnswersFile file (bytes_of told file) (Err refusal))

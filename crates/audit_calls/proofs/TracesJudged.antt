@@ -23,13 +23,13 @@ use Rattle.gp_audit.proofs.Orders.{order-is}
 use Rattle.gp_traces.proofs.WholeRuns.{audit-is-lawful}
 use Rattle.command_line.specs.declared.asked.Command.{Command}
 use Rattle.command_line.specs.declared.asked.Command.TheVariants as command
-use Rattle.call_cases.specs.meaning.Work.{Files, ToDo, is_journalled}
+use Rattle.call_cases.specs.meaning.Work.{Files, ToDo, is_journalled, Go}
 use Rattle.call_cases.specs.meaning.PlainText.{restarts_in}
 use Rattle.call_cases.specs.meaning.Recovering.{recovering_by}
 use Rattle.call_cases.specs.meaning.Journals.{run_of, dependence_for, IsJournalOf, IsCompleteOf}
-use Rattle.call_cases.specs.meaning.Case.{Go, IsCase, ForCase, ForRun, status_of, text_of}
+use Rattle.call_cases.specs.meaning.Case.{IsCase, ForCase, status_of, text_of}
 use Rattle.call_cases.specs.meaning.RunCommands as run
-use Rattle.call_cases.specs.meaning.Headline.{Call, Headline}
+use Rattle.call_cases.specs.meaning.Headline.{Call, MeetsCase, Headline}
 use Rattle.call_cases.proofs.OneCase.{one_case_of}
 use Rattle.audit_calls.specs.meaning.Tried.{Reads, Judge, tried_with}
 use Rattle.audit_calls.specs.meaning.AuditCommands.{asking, commands}
@@ -57,20 +57,19 @@ alone_first work alone = ap (λ d. restarts d work.faults) (sym (alone_recoverin
 module _ (waits : Bool) (call : Call) (files : Files) (names : List Name) (work : ToDo) (headline : Headline (run.commands_among waits) call)
     (known : call.files ≡ Some files)
     (is : IsCase (run.asking_among waits) call.words files (Go names work)) (runs : is_journalled work.command ≡ true) where
+  meets : MeetsCase (run.commands_among waits) call (Go names work)
+  meets =
+      subst (λ told. ForCase (run.asking_among waits) call.words told (MeetsCase (run.commands_among waits) call)) known
+      headline.by_case (Go names work) is
+
   journal_of : IsJournalOf work call.journal
-  journal_of =
-      subst (λ told. ForCase (run.asking_among waits) call.words told
-      (λ case. ForRun (run.commands_among waits) case (λ w. IsJournalOf w call.journal))) known
-      headline.lawful (Go names work) is runs
+  journal_of = meets.lawful runs
 
   alone : RestartsAlone work.command
   alone = restarts_alone waits call.words files names work is
 
   complete_of : run.IsWhole call.status → IsCompleteOf work call.journal
-  complete_of whole =
-      subst (λ told. ForCase (run.asking_among waits) call.words told
-      (λ case. ForRun (run.commands_among waits) case (λ w. IsCompleteOf w call.journal))) known
-      (headline.complete whole) (Go names work) is runs
+  complete_of whole = meets.complete whole runs
 
   whole_run : run.IsWhole call.status → IsWholeRun (run_of work) work.faults call.journal
   whole_run whole = record {

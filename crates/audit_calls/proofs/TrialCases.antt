@@ -17,11 +17,11 @@ use Rattle.command_line.specs.meaning.AuditWords.{audited_by}
 use Rattle.command_line.specs.declared.audit_words.Audited.{Audited}
 use Rattle.call_cases.specs.declared.reading.Refusal.{Refusal}
 use Rattle.call_cases.specs.declared.reading.Refusal.TheVariants as refused
-use Rattle.call_cases.specs.meaning.Work.{Files, ToDo, Supplied, Supplies, Lacks, Spoils}
+use Rattle.call_cases.specs.meaning.Work.{Files, ToDo, Case, Refused, Go, after_file}
 use Rattle.call_cases.specs.meaning.InputFiles.{supplied_by, then_load}
 use Rattle.call_cases.specs.meaning.Lines.{input_line}
 use Rattle.call_cases.specs.meaning.RunCommands as run
-use Rattle.call_cases.specs.meaning.Case.{Case, Missing, BadInput, Go, IsCaseOf, no_program, of_text, supplied_case, names_read}
+use Rattle.call_cases.specs.meaning.Case.{IsCaseOf, no_program, of_text, names_read}
 use Rattle.call_cases.specs.Refusals.{RefusesCase, RefusesShelf, ReadsAmong}
 use Rattle.call_cases.proofs.Answering.{refuses_map}
 use Rattle.call_cases.proofs.Further.{further_asking, further_case, further, refuses_further}
@@ -31,68 +31,61 @@ use Rattle.call_cases.specs.meaning.Headline.{ReadsNothing}
 use Rattle.audit_calls.specs.meaning.AuditCommands.{MayRead, of_run, the_trace, asking, commands}
 use Rattle.audit_calls.specs.inner.Trials.{AnswersLines}
 
--- the case of what the file of a trace comes to
-abbrev traced_case : Supplied Tried → Case Tried
-traced_case (Supplies names tried_with) = Go names tried_with
-traced_case (Lacks names name) = Missing names name
-traced_case (Spoils names line) = BadInput names line
-
 module _ (judge : Judge) (audited : Audited) where
   below_rows : (program : Name) (names : List Name) (work : ToDo) (rows : Result (List TraceLine) ℕ)
-      → supplied_case program (by_trace_rows judge names audited.trace work rows)
-      ≡ traced_case (by_trace_rows judge (program ∷ names) audited.trace work rows)
+      → after_file program (by_trace_rows judge names audited.trace work rows)
+      ≡ (by_trace_rows judge (program ∷ names) audited.trace work rows)
   below_rows program names work (Ok lines) = refl
   below_rows program names work (Err row) = refl
 
   below_long : (program : Name) (names : List Name) (work : ToDo) (long : Bool) (rows : Result (List TraceLine) ℕ)
-      → supplied_case program (if long then Spoils (names ++ audited.trace ∷ [])
+      → after_file program (if long then Refused 4 (names ++ audited.trace ∷ [])
       (input_line audited.trace 6 0) else by_trace_rows judge names audited.trace work rows)
-      ≡ traced_case (if long then Spoils ((program ∷ names) ++ audited.trace ∷ []) (input_line audited.trace 6 0) else by_trace_rows judge
+      ≡ (if long then Refused 4 ((program ∷ names) ++ audited.trace ∷ []) (input_line audited.trace 6 0) else by_trace_rows judge
       (program ∷ names) audited.trace work rows)
   below_long program names work true rows = refl
   below_long program names work false rows = below_rows program names work rows
 
   below_bytes : (program : Name) (names : List Name) (work : ToDo) (bytes : Option (List ℕ))
-      → supplied_case program (by_trace judge names audited.trace work bytes)
-      ≡ traced_case (by_trace judge (program ∷ names) audited.trace work bytes)
+      → after_file program (by_trace judge names audited.trace work bytes)
+      ≡ (by_trace judge (program ∷ names) audited.trace work bytes)
   below_bytes program names work None = refl
   below_bytes program names work (Some text) = below_long program names work (nat_lt MOST_FILE_BYTES (length text)) (judge.lines_of text)
 
   -- what was read before the trace, and the trace, were read
   keeps_rows : (names : List Name) (work : ToDo) (rows : Result (List TraceLine) ℕ) (name : Name)
       → Contains (names ++ audited.trace ∷ []) name
-      → Contains (names_read (traced_case (by_trace_rows judge names audited.trace work rows))) name
+      → Contains (names_read ((by_trace_rows judge names audited.trace work rows))) name
   keeps_rows names work (Ok lines) name is = is
   keeps_rows names work (Err row) name is = is
 
   keeps_long : (names : List Name) (work : ToDo) (long : Bool) (rows : Result (List TraceLine) ℕ) (name : Name)
       → Contains (names ++ audited.trace ∷ []) name
-      → Contains (names_read (traced_case (if long then Spoils (names ++ audited.trace ∷ [])
+      → Contains (names_read ((if long then Refused 4 (names ++ audited.trace ∷ [])
       (input_line audited.trace 6 0) else by_trace_rows judge names audited.trace work rows))) name
   keeps_long names work true rows name is = is
   keeps_long names work false rows name is = keeps_rows names work rows name is
 
   keeps_bytes : (names : List Name) (work : ToDo) (bytes : Option (List ℕ)) (name : Name) → Contains (names ++ audited.trace ∷ []) name
-      → Contains (names_read (traced_case (by_trace judge names audited.trace work bytes))) name
+      → Contains (names_read ((by_trace judge names audited.trace work bytes))) name
   keeps_bytes names work None name is = is
   keeps_bytes names work (Some text) name is = keeps_long names work (nat_lt MOST_FILE_BYTES (length text)) (judge.lines_of text) name is
 
   module _ (files : Files) where
     abbrev after : List Name → ToDo → Case Tried
-    after names work = traced_case (by_trace judge names audited.trace work (bytes_of files audited.trace))
+    after names work = (by_trace judge names audited.trace work (bytes_of files audited.trace))
 
     goes_on : (program : Program)
-        → supplied_case audited.run.program (supplied judge audited program files)
-        ≡ further_case after (supplied_case audited.run.program (supplied_by audited.run program files))
+        → after_file audited.run.program (supplied judge audited program files)
+        ≡ further_case after (after_file audited.run.program (supplied_by audited.run program files))
     goes_on program = go (supplied_by audited.run program files)
       where
-        go : (given : Supplied ToDo)
-            → supplied_case audited.run.program (then_load given
+        go : (given : Case ToDo)
+            → after_file audited.run.program (then_load given
             (λ names work. by_trace judge names audited.trace work (bytes_of files audited.trace)))
-            ≡ further_case after (supplied_case audited.run.program given)
-        go (Supplies names work) = below_bytes audited.run.program names work (bytes_of files audited.trace)
-        go (Lacks names name) = refl
-        go (Spoils names line) = refl
+            ≡ further_case after (after_file audited.run.program given)
+        go (Go names work) = below_bytes audited.run.program names work (bytes_of files audited.trace)
+        go (Refused status names line) = refl
 
     to_audit : (case : Case Tried)
         → IsCaseOf (further_asking run.asking (λ (a : Audited). a.run) audited_by (supplied judge)) audited files case
@@ -122,7 +115,7 @@ module _ (judge : Judge) (audited : Audited) where
         → AnswersLines judge names audited.trace work (bytes_of files audited.trace) (Ok lines)
         → IsCaseOf (asking judge) audited files (Go (names ++ audited.trace ∷ []) (tried_with judge work lines))
     lines_case names work lines is answers =
-        subst (λ given. IsCaseOf (asking judge) audited files (traced_case given)) answers (case_after names work is)
+        subst (λ given. IsCaseOf (asking judge) audited files (given)) answers (case_after names work is)
 
     trace_refused : (names : List Name) (work : ToDo) (refusal : Refusal) → IsCaseOf run.asking audited.run files (Go names work)
         → AnswersLines judge names audited.trace work (bytes_of files audited.trace) (Err refusal)
@@ -131,7 +124,7 @@ module _ (judge : Judge) (audited : Audited) where
     trace_refused names work (refused.BadProgram line) is answers = absurd answers
     trace_refused names work (refused.BadInput line) is answers = (
       names ++ audited.trace ∷ [],
-      subst (λ given. IsCaseOf (asking judge) audited files (traced_case given)) answers
+      subst (λ given. IsCaseOf (asking judge) audited files (given)) answers
           (case_after names work is),
     )
     trace_refused names work (refused.ReadFault name) is answers = (

@@ -1,22 +1,23 @@
 -- What an answer tells of the case of a call, whatever its words may ask for.
-use Rattle.std.proofs.Common.{◌≡◌, ℕ, List, IfSome}
+use Rattle.std.proofs.Common.{◌≡◌, ℕ, List, [], ◌∷◌, IfSome}
 use Rattle.std.specs.declared.option.Option.{Option}
 use Rattle.std.specs.declared.option.Option.TheVariants.{None, Some}
 use Rattle.std.specs.declared.result.Result.{Result}
 use Rattle.std.specs.declared.result.Result.TheVariants.{Ok, Err}
 use Rattle.call_cases.specs.declared.reading.Refusal.{Refusal}
 use Rattle.call_cases.specs.declared.reading.Refusal.TheVariants.{Usage as RefusedUsage, BadProgram as RefusedProgram, BadInput as RefusedInput, ReadFault, OutOfMemory}
-use Rattle.call_cases.specs.meaning.Work.{Files}
+use Rattle.call_cases.specs.meaning.Work.{Files, Case, Refused}
+use Rattle.call_cases.specs.meaning.Lines.{usage_line}
 use Rattle.call_cases.specs.meaning.Commands.{Asking}
-use Rattle.call_cases.specs.meaning.Case.{Case, Usage, BadProgram, BadInput, IsCaseOf, no_program, of_text, IsCase, no_command, asks}
+use Rattle.call_cases.specs.meaning.Case.{IsCaseOf, no_program, of_text, IsCase, no_command, asks}
 use Rattle.call_cases.specs.Refusals.{RefusesCase, AnswersCase}
 
 -- an answer tells one case where it tells another
 pub refuses_map : {T : Type 0} (Is Js : Case T → Type 0) → ((case : Case T) → Is case → Js case) → (refusal : Refusal)
     → RefusesCase Is refusal → RefusesCase Js refusal
-refuses_map Is Js to RefusedUsage is = to Usage is
-refuses_map Is Js to (RefusedProgram line) (name, is) = (name, to (BadProgram name line) is)
-refuses_map Is Js to (RefusedInput line) (names, is) = (names, to (BadInput names line) is)
+refuses_map Is Js to RefusedUsage is = to (Refused 2 [] usage_line) is
+refuses_map Is Js to (RefusedProgram line) (name, is) = (name, to (Refused 3 (name ∷ []) line) is)
+refuses_map Is Js to (RefusedInput line) (names, is) = (names, to (Refused 4 names line) is)
 refuses_map Is Js to (ReadFault name) (case, is, reads) = (case, to case is, reads)
 refuses_map Is Js to OutOfMemory is = tt
 

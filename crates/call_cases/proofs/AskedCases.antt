@@ -9,8 +9,8 @@ use Rattle.command_line.specs.declared.asked.Asked.{Asked}
 use Rattle.command_line.specs.meaning.Words.{asked_among}
 use Rattle.command_line.proofs.NamedCommands.{named_command}
 use Rattle.command_line.proofs.RestartsAlone.{RestartsAlone}
-use Rattle.call_cases.specs.meaning.Work.{Files, ToDo}
-use Rattle.call_cases.specs.meaning.Case.{Go, IsCase, asks}
+use Rattle.call_cases.specs.meaning.Work.{Files, ToDo, Go}
+use Rattle.call_cases.specs.meaning.Case.{IsCase, asks}
 use Rattle.call_cases.specs.meaning.RunCommands.{asking_among}
 use Rattle.call_cases.proofs.FaultRows.{AreNarrow}
 use Rattle.call_cases.proofs.AskedWork.{IsAskedWork, asked_work, few_among}

@@ -28,9 +28,9 @@ use Rattle.command_line.specs.declared.asked.Asked.{Asked}
 use Rattle.command_line.specs.declared.asked.Command.{Command}
 use Rattle.command_line.specs.declared.asked.CrewKind.{CrewKind}
 use Rattle.command_line.specs.declared.asked.Verb.{Verb}
-use Rattle.call_cases.specs.meaning.Work.{Files, Supplied, Supplies, Lacks, Spoils, ToDo, work_for}
+use Rattle.call_cases.specs.meaning.Work.{Files, ToDo, work_for, Case, Refused, Go, after_file}
 use Rattle.call_cases.specs.meaning.InputFiles.{by_rows, by_file, fault_rows, load_faults, supplied_for, then_load, with_faults, supplied_by}
-use Rattle.call_cases.specs.meaning.Case.{Case, Go, IsCaseOf, no_program, of_text, supplied_case, program_case, meant_case}
+use Rattle.call_cases.specs.meaning.Case.{IsCaseOf, no_program, of_text, program_case, meant_case}
 use Rattle.call_cases.specs.meaning.Lines.{input_line}
 use Rattle.call_cases.specs.meaning.RunCommands.{asking_among}
 use Rattle.call_cases.proofs.FaultRows.{IsNarrow, AreNarrow, narrow_file}
@@ -94,22 +94,21 @@ few_among waits (word ∷ words) = go (named_verb word)
         few_taken waits verb (matches_of (app_for verb) (word ∷ words)) (is_faultless (fault_of (app_for verb) (word ∷ words)))
 
 -- the faults of a file
-abbrev SuppliesNarrow : Supplied (List Fault) → Type 0
-SuppliesNarrow (Supplies names faults) = AreNarrow MOST_FAULTS faults
-SuppliesNarrow (Lacks names name) = ⊤
-SuppliesNarrow (Spoils names line) = ⊤
+abbrev SuppliesNarrow : Case (List Fault) → Type 0
+SuppliesNarrow (Go names faults) = AreNarrow MOST_FAULTS faults
+SuppliesNarrow (Refused status names line) = ⊤
 
 narrow_rows : (names : List Name) (file : Name) (rows : Result (List Fault) Broken) → IfOk rows (AreNarrow MOST_FAULTS)
-    → SuppliesNarrow (by_rows names file rows Supplies)
+    → SuppliesNarrow (by_rows names file rows Go)
 narrow_rows names file (Ok faults) is = is
 narrow_rows names file (Err broken) is = tt
 
-narrow_bytes : (names : List Name) (file : Name) (bytes : Option (List ℕ)) → SuppliesNarrow (by_file names file bytes fault_rows Supplies)
+narrow_bytes : (names : List Name) (file : Name) (bytes : Option (List ℕ)) → SuppliesNarrow (by_file names file bytes fault_rows Go)
 narrow_bytes names file None = tt
 narrow_bytes names file (Some bytes) = go (nat_lt MOST_FILE_BYTES (length bytes))
   where
-    go : (b : Bool) → SuppliesNarrow (if b then Spoils (names ++ file ∷ [])
-        (input_line file 6 0) else by_rows names file (fault_rows bytes) Supplies)
+    go : (b : Bool) → SuppliesNarrow (if b then Refused 4 (names ++ file ∷ [])
+        (input_line file 6 0) else by_rows names file (fault_rows bytes) Go)
     go true = tt
     go false = narrow_rows names file (fault_rows bytes) (narrow_file (csv_rows bytes))
 
@@ -123,33 +122,29 @@ pub record IsAskedWork (asked : Asked) (work : ToDo) : Type 0 where
   pub limits : work.limits ≡ asked.limits
   pub faults : AreNarrow MOST_FAULTS work.faults
 
-abbrev SuppliesAsked : Asked → Supplied ToDo → Type 0
-SuppliesAsked asked (Supplies names work) = IsAskedWork asked work
-SuppliesAsked asked (Lacks names name) = ⊤
-SuppliesAsked asked (Spoils names line) = ⊤
+abbrev SuppliesAsked : Asked → Case ToDo → Type 0
+SuppliesAsked asked (Go names work) = IsAskedWork asked work
+SuppliesAsked asked (Refused status names line) = ⊤
 
 abbrev GoesAsked : Asked → Case ToDo → Type 0
 GoesAsked asked (Go names work) = IsAskedWork asked work
 GoesAsked asked case = ⊤
 
 module _ (asked : Asked) (files : Files) where
-  faults_supply : (program : Program) (inputs : Inputs) (supplied : Supplied (List Fault)) → SuppliesNarrow supplied
-      → SuppliesAsked asked (then_load supplied (λ names faults. Supplies names (work_for asked program inputs faults)))
-  faults_supply program inputs (Supplies names faults) narrow = record { command = refl; limits = refl; faults = narrow }
-  faults_supply program inputs (Lacks names name) narrow = tt
-  faults_supply program inputs (Spoils names line) narrow = tt
+  faults_supply : (program : Program) (inputs : Inputs) (supplied : Case (List Fault)) → SuppliesNarrow supplied
+      → SuppliesAsked asked (then_load supplied (λ names faults. Go names (work_for asked program inputs faults)))
+  faults_supply program inputs (Go names faults) narrow = record { command = refl; limits = refl; faults = narrow }
+  faults_supply program inputs (Refused status names line) narrow = tt
 
-  inputs_supply : (program : Program) (supplied : Supplied Inputs)
+  inputs_supply : (program : Program) (supplied : Case Inputs)
       → SuppliesAsked asked (then_load supplied (with_faults files asked program))
-  inputs_supply program (Supplies names inputs) =
+  inputs_supply program (Go names inputs) =
       faults_supply program inputs (load_faults files names asked.faults) (narrow_load files names asked.faults)
-  inputs_supply program (Lacks names name) = tt
-  inputs_supply program (Spoils names line) = tt
+  inputs_supply program (Refused status names line) = tt
 
-  supplied_goes : (supplied : Supplied ToDo) → SuppliesAsked asked supplied → GoesAsked asked (supplied_case asked.program supplied)
-  supplied_goes (Supplies names work) is = is
-  supplied_goes (Lacks names name) is = tt
-  supplied_goes (Spoils names line) is = tt
+  supplied_goes : (supplied : Case ToDo) → SuppliesAsked asked supplied → GoesAsked asked (after_file asked.program supplied)
+  supplied_goes (Go names work) is = is
+  supplied_goes (Refused status names line) is = tt
 
   module _ (waits : Bool) where
     checked_goes : (program : Program) (fault : Option (CheckKind × ℕ))

@@ -3,7 +3,7 @@
 -- A call refuses, or begins what is asked. What begins ends in one of a few ways, each with its status: RunEnds where
 -- no log is kept, LogEnds where one is. Each fact of the promise goes by these ways; both come to Ended, from which the
 -- promise follows once. A refusal goes by its kinds, and writes the same whether a log would be kept or not.
-use Rattle.std.proofs.Common.{◌≡◌, ◌⊎◌, ℕ, true, false, List, [], take, IfSome, refl, sym, subst, inl, inr, arith, append-nil}
+use Rattle.std.proofs.Common.{◌≡◌, ◌⊎◌, ℕ, true, false, List, [], ◌∷◌, take, IfSome, refl, sym, subst, inl, inr, arith, append-nil}
 use Rattle.std.specs.List.{Contains}
 use Rattle.std.specs.declared.option.Option.{Option}
 use Rattle.std.specs.declared.option.Option.TheVariants.{None, Some}
@@ -19,15 +19,15 @@ use Rattle.gp_base.proofs.Written.{prefix_whole, prefix_none, Keeps-same}
 use Rattle.task_ast.specs.meaning.Tree.{Name}
 use Rattle.call_cases.specs.declared.reading.Refusal.{Refusal}
 use Rattle.call_cases.specs.declared.reading.Refusal.TheVariants.{Usage as RefusedUsage, BadProgram as RefusedProgram, BadInput as RefusedInput, ReadFault, OutOfMemory}
-use Rattle.call_cases.specs.meaning.Work.{Files}
+use Rattle.call_cases.specs.meaning.Work.{Files, Case, Refused, Go}
 use Rattle.call_cases.specs.meaning.Commands.{Commands, Log, MayLog, Unlogged, Logged}
 use Rattle.call_cases.specs.Commands.{AreSound, IsApart}
-use Rattle.call_cases.specs.meaning.Case.{Case, Usage, Missing, BadProgram, BadInput, Go, IsCase, ForCase, ForRun, HasWork, IsMissing, names_read, status_of, text_of, line_of}
-use Rattle.call_cases.specs.meaning.Lines.{out_of_memory_line, write_fault_line}
+use Rattle.call_cases.specs.meaning.Case.{IsCase, ForCase, ForRun, HasWork, names_read, status_of, text_of, due_of}
+use Rattle.call_cases.specs.meaning.Lines.{usage_line, out_of_memory_line, write_fault_line}
 use Rattle.call_cases.specs.Refusals.{RefusesCase, RefusesWords, RefusesShelf, TakesRefusal, RefusalEnds, usage_told, program_told, input_told, read_told, refusal_no_memory, refusal_failed}
 use Rattle.call_cases.specs.meaning.Answers.{Change, TakesAll, TakesPart, IsUntouched, Fails, Grew, IsEmpty, IsStopLine, TakesStop, Yields, due_status, no_memory, read_fault, write_fault}
 use Rattle.call_cases.specs.Answers.{unwritten, LineEnds, whole, line_failed, line_no_memory, RunEnds, finished, run_no_memory, output_failed, error_failed, LogEnds, log_finished, log_no_memory, log_write_failed, log_unbegun, PutFor, StopsBy}
-use Rattle.call_cases.specs.meaning.Headline.{Call, IsQuiet, TellsWrite, TellsStop, TellsCase, IsRefusal, HasCaseLine, error_for, RunsNothing, TellsReadFault, TellsWriteFault, IsStop, IsDue, TakesStopLines, ReadsNothing, Headline}
+use Rattle.call_cases.specs.meaning.Headline.{Call, IsQuiet, TellsWrite, TellsStop, TellsCase, IsRefusal, HasCaseLine, error_for, RunsNothing, TellsReadFault, TellsWriteFault, IsStop, IsDue, TakesStopLines, ReadsNothing, MeetsCase, Headline}
 use Rattle.call_cases.proofs.OneCase.{for_known, for_each, for_map, none_some}
 
 -- a prefix of the line that tells the stop, after nothing else
@@ -145,13 +145,13 @@ module _ (text trace : List ℕ) (due : ℕ) (out err : Change) where
   run_not_refused status is_apart (output_failed part fails told) is = grind (arith, is)
   run_not_refused status is_apart (error_failed part fails stop) is = grind (arith, is)
 
-  run_stopped : (is_due : List ℕ → Type 0) (line : List ℕ) → is_due line → is_due trace → (status : ℕ) → IsApart due
+  run_stopped : (is_due : List ℕ → Type 0) → is_due trace → (status : ℕ) → IsApart due
       → RunEnds text trace due out err status → IsStop status → TakesStopLines is_due err
-  run_stopped is_due line for_case for_trace status is_apart (finished all traced) is = absurd (grind (arith, is_apart, is))
-  run_stopped is_due line for_case for_trace status is_apart (run_no_memory part stop) is = (trace, for_trace, stop)
-  run_stopped is_due line for_case for_trace status is_apart (output_failed part fails told) is =
-      stop_lines is_due err line write_fault_line for_case (inr refl) (prefix_whole err.written err.written' write_fault_line told)
-  run_stopped is_due line for_case for_trace status is_apart (error_failed part fails stop) is = (trace, for_trace, stop)
+  run_stopped is_due for_trace status is_apart (finished all traced) is = absurd (grind (arith, is_apart, is))
+  run_stopped is_due for_trace status is_apart (run_no_memory part stop) is = (trace, for_trace, stop)
+  run_stopped is_due for_trace status is_apart (output_failed part fails told) is =
+      stop_lines is_due err trace write_fault_line for_trace (inr refl) (prefix_whole err.written err.written' write_fault_line told)
+  run_stopped is_due for_trace status is_apart (error_failed part fails stop) is = (trace, for_trace, stop)
 
 -- what was begun to be done, and of which a log is kept
 module _ (text rows : List ℕ) (taken : Change → Type 0) (due : ℕ) (out err : Change) (journal : Journal) where
@@ -221,7 +221,7 @@ module _ (text rows : List ℕ) (taken : Change → Type 0) (due : ℕ) (out err
       inl (untouched, empty, stop_lines is_due err line out_of_memory_line for_case (inl refl) (line_part status told))
 
 -- How what was begun to be done ended: what its status says of what the streams took, whether a log is kept or not.
-record Ended {A T : Type 0} (commands : Commands A T) (call : Call) (work : T) : Type 0 where
+record Ended {A T : Type 0} (commands : Commands A T) (call : Call) (names : List Name) (work : T) : Type 0 where
   yields : Yields (commands.status work) (Grew call.failed call.failed') (Fails call.out ⊎ Fails call.err) call.status
   all : IsApart call.status → TakesAll call.out (commands.text work) × (commands.status work ≡ call.status)
   part : TakesPart call.out (commands.text work)
@@ -229,7 +229,7 @@ record Ended {A T : Type 0} (commands : Commands A T) (call : Call) (work : T) :
   not_refused : IsRefusal call.status → ⊥
   quiet : commands.whole call.status → IsQuiet commands call commands.log
   write_fault : call.status ≡ 8 → TellsWrite commands call commands.log
-  stopped : IsStop call.status → ForCase commands.asking call.words call.files (TellsStop commands call commands.log)
+  stopped : IsStop call.status → TellsStop commands call commands.log (Go names work)
 
 -- the case of what is done to its end
 told_work : {A T : Type 0} (commands : Commands A T) (words : List (List ℕ)) (files : Option Files)
@@ -249,14 +249,23 @@ begun_headline : {A T : Type 0} (commands : Commands A T) (sound : AreSound comm
     → (commands.has_journal work ≡ true
     → commands.lawful work call.journal × (commands.whole call.status → commands.complete work call.journal)
     × commands.retired work call.journal call.out)
-    → Ended commands call work → Headline commands call
+    → Ended commands call names work → Headline commands call
 begun_headline {A} {T} commands sound call names work asked some known same empty run ended =
     let words = call.words in
     let files = call.files in
     record {
-      status =
-          here (λ case. Yields (status_of commands case) (Grew call.failed call.failed') (Fails call.out ⊎ Fails call.err) call.status)
-          ended.yields;
+      by_case = for_known commands.asking words files (Go names work) (MeetsCase commands call) known (record {
+        status = ended.yields;
+        text = λ is. (ended.all (sound.apart call.status is)).0;
+        prefix = ended.part;
+        line = λ is. absurd (ended.not_refused (inl is));
+        stopped = ended.stopped;
+        missing = λ is. absurd (never_missing is);
+        unbegun = inl tt;
+        lawful = λ is. (run is).0;
+        complete = λ is_whole is. (run is).1 is_whole;
+        retired = λ is. (run is).2;
+      });
       told = λ tells. elim tells [
         | inl is ↦ told_work commands words files names work call.status known (ended.all (sound.apart call.status is)).1
         | inr is ↦ absurd (ended.not_refused (inl is))
@@ -267,34 +276,20 @@ begun_headline {A} {T} commands sound call names work asked some known same empt
       ];
       usage = λ is. absurd (ended.not_refused (inl (inl is)));
       no_command = λ none. absurd (none_some (commands.asking.reading words) asked none some);
-      text =
-          here (λ case. commands.whole call.status → TakesAll call.out (text_of commands case))
-          (λ is. (ended.all (sound.apart call.status is)).0);
-      prefix = here (λ case. TakesPart call.out (text_of commands case)) ended.part;
       refused = λ is. absurd (ended.not_refused is);
       quiet = ended.quiet;
-      line =
-          for_each commands.asking words files (λ case. HasCaseLine call.status → TakesAll call.err (line_of case))
-          (λ case is. absurd (ended.not_refused (inl is)));
       read_fault = λ is. absurd (ended.not_refused (inr is));
       write_fault = ended.write_fault;
-      stopped = ended.stopped;
       untouched = λ tells. same;
       unread = λ none. same;
-      missing =
-          here (λ case. IsMissing case → Grew call.failed call.failed' ⊎ (call.status ≡ 1) ⊎ Fails call.err) (λ missing. absurd missing);
       journal = λ unbegun. elim unbegun [
         | inl is ↦ absurd (ended.not_refused is)
         | inr nothing ↦ empty (subst (RunsNothing commands) some nothing)
       ];
-      unbegun = here (λ case. HasWork case ⊎ IsEmpty call.journal) (inl tt);
-      lawful = here (λ case. ForRun commands case (λ w. commands.lawful w call.journal)) (λ is. (run is).0);
-      complete = λ is_whole. here (λ case. ForRun commands case (λ w. commands.complete w call.journal)) (λ is. (run is).1 is_whole);
-      retired = here (λ case. ForRun commands case (λ w. commands.retired w call.journal call.out)) (λ is. (run is).2);
     }
   where
-    here : (P : Case T → Type 0) → P (Go names work) → ForCase commands.asking call.words call.files P
-    here P holds = for_known commands.asking call.words call.files (Go names work) P known holds
+    never_missing : commands.status work ≡ 7 → ⊥
+    never_missing is = let apart = sound.apart (commands.status work) (sound.ends work) in grind (arith, apart, is)
 
 -- what was begun to be done meets the promise where no log is kept
 pub run_headline : {A T : Type 0} (commands : Commands A T) (sound : AreSound commands) (words : List (List ℕ)) (files : Option Files)
@@ -344,10 +339,9 @@ run_headline {A} {T} commands sound words files failed failed' out err status jo
       not_refused = run_not_refused text error due out err status apart ends;
       quiet = λ is. subst (IsQuiet commands call) (sym unlogged) (run_whole text error due out err status ends (sound.apart status is)).1;
       write_fault = λ is. subst (TellsWrite commands call) (sym unlogged) (run_fault text error due out err status apart ends is);
-      stopped = λ is. for_known commands.asking words files (Go names work) (TellsStop commands call commands.log) known
-          (subst (λ log. TellsStop commands call log (Go names work)) (sym unlogged)
-          (run_stopped text error due out err (IsDue {T = T} (Grew failed failed') (Go names work) error) [] (inl refl)
-          (inr (inl (tt, refl))) status apart ends is));
+      stopped = λ is. subst (λ log. TellsStop commands call log (Go names work)) (sym unlogged)
+          (run_stopped text error due out err (IsDue {T = T} (Grew failed failed') (Go names work) error) (inl refl) status apart
+          ends is);
     })
 
 -- what a stop tells of the case where this log is kept
@@ -409,11 +403,10 @@ log_headline {A} {T} commands sound log words files failed failed' out err statu
           (λ _. (log_whole text rows taken due out err journal status ends (sound.apart status is)).1));
       write_fault =
           λ is. subst (TellsWrite commands call) (sym logged) (log_fault text rows taken due out err journal status apart ends is);
-      stopped = λ is. for_known commands.asking words files (Go names work) (TellsStop commands call commands.log) known
-          (subst (λ kept. TellsStop commands call kept (Go names work)) (sym logged)
+      stopped = λ is. subst (λ kept. TellsStop commands call kept (Go names work)) (sym logged)
           (log_told commands call log names work
           (log_stopped text rows taken due out err journal (IsDue {T = T} (Grew failed failed') (Go names work) []) []
-          (inl refl) status apart ends is)));
+          (inl refl) status apart ends is));
     })
 
 -- what holds of a case that is known but for a part
@@ -438,13 +431,13 @@ module _ {A T : Type 0} (commands : Commands A T) (words : List (List ℕ)) (fil
       → RefusalEnds err refusal status
       → ForCase commands.asking words files (λ case. Yields (status_of commands case) (Grew before now) (Fails out ⊎ Fails err) status)
   refused_status refusal status known shelf (usage_told line) =
-      for_known commands.asking words files Usage
+      for_known commands.asking words files (Refused 2 [] usage_line)
       (λ case. Yields (status_of commands case) (Grew before now) (Fails out ⊎ Fails err) 2) known due_status
   refused_status refusal status known shelf (program_told {line} all) =
-      for_some commands words files Name (λ name. BadProgram name line)
+      for_some commands words files Name (λ name. Refused 3 (name ∷ []) line)
       (λ case. Yields (status_of commands case) (Grew before now) (Fails out ⊎ Fails err) 3) known (λ name. due_status)
   refused_status refusal status known shelf (input_told {line} all) =
-      for_some commands words files (List Name) (λ names. BadInput names line)
+      for_some commands words files (List Name) (λ names. Refused 4 names line)
       (λ case. Yields (status_of commands case) (Grew before now) (Fails out ⊎ Fails err) 4) known (λ names. due_status)
   refused_status refusal status known shelf (read_told {name} all) =
       for_each commands.asking words files (λ case. Yields (status_of commands case) (Grew before now) (Fails out ⊎ Fails err) 7)
@@ -458,30 +451,30 @@ module _ {A T : Type 0} (commands : Commands A T) (words : List (List ℕ)) (fil
 
   refused_line : (refusal : Refusal) (status : ℕ) → IfSome files (λ told. RefusesCase (IsCase commands.asking words told) refusal)
       → RefusalEnds err refusal status
-      → ForCase commands.asking words files (λ case. HasCaseLine status → TakesAll err (line_of case))
+      → ForCase commands.asking words files (λ case. HasCaseLine status → TakesAll err (due_of case []))
   refused_line refusal status known (usage_told all) =
-      for_known commands.asking words files Usage (λ case. HasCaseLine 2 → TakesAll err (line_of case)) known (λ _. all)
+      for_known commands.asking words files (Refused 2 [] usage_line) (λ case. HasCaseLine 2 → TakesAll err (due_of case [])) known (λ _. all)
   refused_line refusal status known (program_told {line} all) =
-      for_some commands words files Name (λ name. BadProgram name line)
-      (λ case. HasCaseLine 3 → TakesAll err (line_of case)) known (λ name _. all)
+      for_some commands words files Name (λ name. Refused 3 (name ∷ []) line)
+      (λ case. HasCaseLine 3 → TakesAll err (due_of case [])) known (λ name _. all)
   refused_line refusal status known (input_told {line} all) =
-      for_some commands words files (List Name) (λ names. BadInput names line)
-      (λ case. HasCaseLine 4 → TakesAll err (line_of case)) known (λ names _. all)
+      for_some commands words files (List Name) (λ names. Refused 4 names line)
+      (λ case. HasCaseLine 4 → TakesAll err (due_of case [])) known (λ names _. all)
   refused_line refusal status known (read_told all) =
-      for_each commands.asking words files (λ case. HasCaseLine 7 → TakesAll err (line_of case)) (λ case is. absurd (grind (arith, is)))
+      for_each commands.asking words files (λ case. HasCaseLine 7 → TakesAll err (due_of case [])) (λ case is. absurd (grind (arith, is)))
   refused_line refusal status known (refusal_no_memory taken) =
-      for_each commands.asking words files (λ case. HasCaseLine 1 → TakesAll err (line_of case)) (λ case is. absurd (grind (arith, is)))
+      for_each commands.asking words files (λ case. HasCaseLine 1 → TakesAll err (due_of case [])) (λ case is. absurd (grind (arith, is)))
   refused_line refusal status known (refusal_failed fails taken) =
-      for_each commands.asking words files (λ case. HasCaseLine 8 → TakesAll err (line_of case)) (λ case is. absurd (grind (arith, is)))
+      for_each commands.asking words files (λ case. HasCaseLine 8 → TakesAll err (due_of case [])) (λ case is. absurd (grind (arith, is)))
 
   refused_told : (refusal : Refusal) (status : ℕ) → IfSome files (λ told. RefusesCase (IsCase commands.asking words told) refusal)
       → RefusalEnds err refusal status → IsApart status ⊎ HasCaseLine status
       → IfSome files (λ told. (case : Case T) × IsCase commands.asking words told case × (status_of commands case ≡ status))
-  refused_told refusal status known (usage_told all) tells = told_case commands words files Usage known
+  refused_told refusal status known (usage_told all) tells = told_case commands words files (Refused 2 [] usage_line) known
   refused_told refusal status known (program_told {line} all) tells =
-      told_some commands words files Name (λ name. BadProgram name line) 3 known (λ name. refl)
+      told_some commands words files Name (λ name. Refused 3 (name ∷ []) line) 3 known (λ name. refl)
   refused_told refusal status known (input_told {line} all) tells =
-      told_some commands words files (List Name) (λ names. BadInput names line) 4 known (λ names. refl)
+      told_some commands words files (List Name) (λ names. Refused 4 names line) 4 known (λ names. refl)
   refused_told refusal status known (read_told all) tells = absurd (grind (arith, tells))
   refused_told refusal status known (refusal_no_memory taken) tells = absurd (grind (arith, tells))
   refused_told refusal status known (refusal_failed fails taken) tells = absurd (grind (arith, tells))
@@ -490,24 +483,24 @@ module _ {A T : Type 0} (commands : Commands A T) (words : List (List ℕ)) (fil
   refused_missing : (refusal : Refusal) (status : ℕ) → IfSome files (λ told. RefusesCase (IsCase commands.asking words told) refusal)
       → RefusesShelf commands.may_read (commands.asking.reading words) before now refusal
       → RefusalEnds err refusal status
-      → ForCase commands.asking words files (λ case. IsMissing case → Grew before now ⊎ (status ≡ 1) ⊎ Fails err)
+      → ForCase commands.asking words files (λ case. status_of commands case ≡ 7 → Grew before now ⊎ (status ≡ 1) ⊎ Fails err)
   refused_missing refusal status known shelf (usage_told all) =
-      for_known commands.asking words files Usage (λ case. IsMissing case → Grew before now ⊎ ◌≡◌ {A = ℕ} 2 1 ⊎ Fails err) known
-      (λ missing. absurd missing)
+      for_known commands.asking words files (Refused 2 [] usage_line) (λ case. status_of commands case ≡ 7 → Grew before now ⊎ ◌≡◌ {A = ℕ} 2 1 ⊎ Fails err) known
+      (λ is. absurd (omega (arith, is)))
   refused_missing refusal status known shelf (program_told {line} all) =
-      for_some commands words files Name (λ name. BadProgram name line)
-      (λ case. IsMissing case → Grew before now ⊎ ◌≡◌ {A = ℕ} 3 1 ⊎ Fails err) known (λ name missing. absurd missing)
+      for_some commands words files Name (λ name. Refused 3 (name ∷ []) line)
+      (λ case. status_of commands case ≡ 7 → Grew before now ⊎ ◌≡◌ {A = ℕ} 3 1 ⊎ Fails err) known (λ name is. absurd (omega (arith, is)))
   refused_missing refusal status known shelf (input_told {line} all) =
-      for_some commands words files (List Name) (λ names. BadInput names line)
-      (λ case. IsMissing case → Grew before now ⊎ ◌≡◌ {A = ℕ} 4 1 ⊎ Fails err) known (λ names missing. absurd missing)
+      for_some commands words files (List Name) (λ names. Refused 4 names line)
+      (λ case. status_of commands case ≡ 7 → Grew before now ⊎ ◌≡◌ {A = ℕ} 4 1 ⊎ Fails err) known (λ names is. absurd (omega (arith, is)))
   refused_missing refusal status known shelf (read_told all) =
-      for_each commands.asking words files (λ case. IsMissing case → Grew before now ⊎ ◌≡◌ {A = ℕ} 7 1 ⊎ Fails err)
+      for_each commands.asking words files (λ case. status_of commands case ≡ 7 → Grew before now ⊎ ◌≡◌ {A = ℕ} 7 1 ⊎ Fails err)
       (λ case missing. inl shelf.1)
   refused_missing refusal status known shelf (refusal_no_memory taken) =
-      for_each commands.asking words files (λ case. IsMissing case → Grew before now ⊎ ◌≡◌ {A = ℕ} 1 1 ⊎ Fails err)
+      for_each commands.asking words files (λ case. status_of commands case ≡ 7 → Grew before now ⊎ ◌≡◌ {A = ℕ} 1 1 ⊎ Fails err)
       (λ case missing. inr (inl refl))
   refused_missing refusal status known shelf (refusal_failed fails taken) =
-      for_each commands.asking words files (λ case. IsMissing case → Grew before now ⊎ ◌≡◌ {A = ℕ} 8 1 ⊎ Fails err)
+      for_each commands.asking words files (λ case. status_of commands case ≡ 7 → Grew before now ⊎ ◌≡◌ {A = ℕ} 8 1 ⊎ Fails err)
       (λ case missing. inr (inr fails))
 
   -- a refusal whose line was not written whole
@@ -519,16 +512,16 @@ module _ {A T : Type 0} (commands : Commands A T) (words : List (List ℕ)) (fil
       → TakesRefusal refusal err → ForCase commands.asking words files (λ case. TakesStopLines (Due case) err)
   refused_stop refusal known shelf (line, inr for_stop, part) =
       for_each commands.asking words files (λ case. TakesStopLines (Due case) err)
-      (λ case. stop_lines (Due case) err (line_of case) line (inl refl) for_stop part)
+      (λ case. stop_lines (Due case) err (due_of case error) line (inl refl) for_stop part)
   refused_stop RefusedUsage known shelf (line, inl tells, part) =
-      for_known commands.asking words files Usage (λ case. TakesStopLines (Due case) err) known
-      (due_lines (Due Usage) err line (inl tells) part)
+      for_known commands.asking words files (Refused 2 [] usage_line) (λ case. TakesStopLines (Due case) err) known
+      (due_lines (Due (Refused 2 [] usage_line)) err line (inl tells) part)
   refused_stop (RefusedProgram told) known shelf (line, inl tells, part) =
-      for_some commands words files Name (λ name. BadProgram name told) (λ case. TakesStopLines (Due case) err) known
-      (λ name. due_lines (Due (BadProgram name told)) err line (inl tells) part)
+      for_some commands words files Name (λ name. Refused 3 (name ∷ []) told) (λ case. TakesStopLines (Due case) err) known
+      (λ name. due_lines (Due (Refused 3 (name ∷ []) told)) err line (inl tells) part)
   refused_stop (RefusedInput told) known shelf (line, inl tells, part) =
-      for_some commands words files (List Name) (λ names. BadInput names told) (λ case. TakesStopLines (Due case) err) known
-      (λ names. due_lines (Due (BadInput names told)) err line (inl tells) part)
+      for_some commands words files (List Name) (λ names. Refused 4 names told) (λ case. TakesStopLines (Due case) err) known
+      (λ names. due_lines (Due (Refused 4 names told)) err line (inl tells) part)
   refused_stop (ReadFault name) known shelf (line, inl tells, part) = for_read files known
     where
       for_read : (files : Option Files)
@@ -537,7 +530,7 @@ module _ {A T : Type 0} (commands : Commands A T) (words : List (List ℕ)) (fil
       for_read None is = tt
       for_read (Some files) (case, is, reads) =
           for_known commands.asking words (Some files) case (λ c. TakesStopLines (Due c) err) is
-          (due_lines (Due case) err line (inr (inr (shelf.1, name, reads, tells))) part)
+          (due_lines (Due case) err line (inr (shelf.1, name, reads, tells)) part)
   refused_stop OutOfMemory known shelf (line, inl tells, part) = absurd tells
 
   refused_stopped : (refusal : Refusal) (status : ℕ) → IfSome files (λ told. RefusesCase (IsCase commands.asking words told) refusal)
@@ -647,18 +640,12 @@ module _ {A T : Type 0} (commands : Commands A T) where
   -- a journal of no event is one of each case
   empty_lawful : AreSound commands → (case : Case T) (journal : Journal) → IsEmpty journal
       → ForRun commands case (λ work. commands.lawful work journal)
-  empty_lawful sound Usage journal empty = tt
-  empty_lawful sound (Missing names name) journal empty = tt
-  empty_lawful sound (BadProgram name line) journal empty = tt
-  empty_lawful sound (BadInput names line) journal empty = tt
+  empty_lawful sound (Refused status names line) journal empty = tt
   empty_lawful sound (Go names work) journal empty = λ is. sound.begins work journal empty
 
   empty_retired : AreSound commands → (case : Case T) (journal : Journal) (written : Option (List ℕ)) (faults : ℕ) → IsEmpty journal
       → ForRun commands case (λ work. commands.retired work journal (unwritten written faults))
-  empty_retired sound Usage journal written faults empty = tt
-  empty_retired sound (Missing names name) journal written faults empty = tt
-  empty_retired sound (BadProgram name line) journal written faults empty = tt
-  empty_retired sound (BadInput names line) journal written faults empty = tt
+  empty_retired sound (Refused status names line) journal written faults empty = tt
   empty_retired sound (Go names work) journal written faults empty = λ is. sound.unbegun work journal written faults empty
 
   -- where a log is kept, a refusal tells what it tells where none is, with nothing else due
@@ -675,6 +662,54 @@ module _ {A T : Type 0} (commands : Commands A T) where
   refused_tells (Logged log) call untouched empty tells =
       for_map commands.asking call.words call.files (λ case. TakesStopLines (IsDue (Grew call.failed call.failed') case []) call.err)
       (TellsStop commands call (Logged log)) (λ case stops. inl (untouched, empty, stops)) (tells [])
+
+-- a refusal meets what holds by the case
+refused_meets : {A T : Type 0} (commands : Commands A T) (sound : AreSound commands) (words : List (List ℕ)) (files : Option Files)
+    (failed failed' : List Name) (written : Option (List ℕ)) (faults : ℕ) (err : Change) (status : ℕ)
+    (journal : Journal) (refusal : Refusal)
+    → IfSome files (λ told. RefusesCase (IsCase commands.asking words told) refusal)
+    → RefusesShelf commands.may_read (commands.asking.reading words) failed failed' refusal → IsEmpty journal
+    → RefusalEnds err refusal status
+    → ForCase commands.asking words files (MeetsCase commands (record {
+      words = words;
+      files = files;
+      failed = failed;
+      failed' = failed';
+      out = unwritten written faults;
+      err = err;
+      status = status;
+      journal = journal;
+    }))
+refused_meets commands sound words None failed failed' written faults err status journal refusal known shelf empty ends = tt
+refused_meets commands sound words (Some files) failed failed' written faults err status journal refusal known shelf empty ends =
+    λ case is.
+    let out : Change = unwritten written faults in
+    let call : Call =
+    record {
+      words = words;
+      files = Some files;
+      failed = failed;
+      failed' = failed';
+      out = out;
+      err = err;
+      status = status;
+      journal = journal;
+    } in
+    let not_whole : commands.whole status → ⊥ = λ is. refused_not_apart err refusal status ends (sound.apart status is) in
+    record {
+      status = refused_status commands words (Some files) failed failed' out err [] refusal status known shelf ends case is;
+      text = λ is_whole. absurd (not_whole is_whole);
+      prefix = prefix_none written (text_of commands case);
+      line = refused_line commands words (Some files) failed failed' out err [] refusal status known ends case is;
+      stopped =
+          λ stop. refused_tells commands commands.log call (record { written = refl; faults = refl }) empty
+          (λ error. refused_stopped commands words (Some files) failed failed' out err error refusal status known shelf ends stop) case is;
+      missing = refused_missing commands words (Some files) failed failed' out err [] refusal status known shelf ends case is;
+      unbegun = inr empty;
+      lawful = empty_lawful commands sound case journal empty;
+      complete = λ is_whole. absurd (not_whole is_whole);
+      retired = empty_retired commands sound case journal written faults empty;
+    }
 
 -- a refusal meets the promise
 pub refused_headline : {A T : Type 0} (commands : Commands A T) (sound : AreSound commands) (words : List (List ℕ)) (files : Option Files)
@@ -711,39 +746,21 @@ refused_headline commands sound words files failed failed' written faults err st
     } in
     let not_whole : commands.whole status → ⊥ = λ is. refused_not_apart err refusal status ends (sound.apart status is) in
     record {
-      status = refused_status commands words files failed failed' out err [] refusal status known shelf ends;
+      by_case =
+          refused_meets commands sound words files failed failed' written faults err status journal refusal known shelf empty ends;
       told =
           λ tells. refused_told commands words files failed failed' out err [] refusal status known ends
           (tells_apart commands sound status tells);
       among = inr (refused_among err refusal status ends);
       usage = refused_usage commands.may_read (commands.asking.reading words) failed failed' err refusal status shelf ends;
       no_command = λ none. refused_words err refusal status (no_command none) ends;
-      text =
-          for_each commands.asking words files (λ case. commands.whole status → TakesAll out (text_of commands case))
-          (λ case is. absurd (not_whole is));
-      prefix =
-          for_each commands.asking words files (λ case. TakesPart out (text_of commands case))
-          (λ case. prefix_none written (text_of commands case));
       refused = λ is. Keeps-same written;
       quiet = λ is. absurd (not_whole is);
-      line = refused_line commands words files failed failed' out err [] refusal status known ends;
       read_fault = refused_read commands words files failed failed' out err refusal status journal known shelf ends;
       write_fault = λ is. refused_write commands commands.log call (refused_fault out err refusal status ends is);
-      stopped =
-          λ is. refused_tells commands commands.log call (record { written = refl; faults = refl }) empty
-          (λ error. refused_stopped commands words files failed failed' out err error refusal status known shelf ends is);
       untouched =
           λ tells. refused_untouched commands.may_read (commands.asking.reading words) failed failed' err refusal status shelf ends
           (tells_apart commands sound status tells);
       unread = unread;
-      missing = refused_missing commands words files failed failed' out err [] refusal status known shelf ends;
       journal = λ unbegun. empty;
-      unbegun = for_each commands.asking words files (λ case. HasWork case ⊎ IsEmpty journal) (λ case. inr empty);
-      lawful =
-          for_each commands.asking words files (λ case. ForRun commands case (λ work. commands.lawful work journal))
-          (λ case. empty_lawful commands sound case journal empty);
-      complete = λ is. absurd (not_whole is);
-      retired =
-          for_each commands.asking words files (λ case. ForRun commands case (λ work. commands.retired work journal out))
-          (λ case. empty_retired commands sound case journal written faults empty);
     }

@@ -27,11 +27,12 @@ use Rattle.batch_files.specs.meaning.Records.{records_by}
 use Rattle.batch_files.specs.meaning.Feeds.{feed_by}
 use Rattle.call_cases.specs.declared.reading.Refusal.{Refusal}
 use Rattle.call_cases.specs.declared.reading.Refusal.TheVariants as refused
-use Rattle.call_cases.specs.meaning.Work.{Files, Supplied, Supplies, Lacks, Spoils}
+use Rattle.call_cases.specs.meaning.Work.{Files, Case, Refused, Go}
+use Rattle.call_cases.specs.meaning.Case.{names_read}
 use Rattle.call_cases.specs.meaning.Lines.{input_line}
 use Rattle.call_cases.specs.meaning.InputFiles.{no_inputs, are_rows, feed_where, feed_with, with_cells, with_feed, room_after, record_rows, feed_rows, fault_rows, more_cells, more_feed, by_rows, by_file, load_faults, by_record, load_head, then_load, load}
 use Rattle.call_cases.specs.InputFiles.{named, names_in, file_names}
-use Rattle.call_cases.specs.inner.Loading.{IsReadable, AreReadable, IsRefusedBy, AnswersRows, names_of, StepsTo, AnswersLoad, AnswersFaults}
+use Rattle.call_cases.specs.inner.Loading.{IsReadable, AreReadable, IsRefusedBy, AnswersRows, StepsTo, AnswersLoad, AnswersFaults}
 use Rattle.call_cases.specs.Refusals.{ReadsAmong}
 
 -- a feed by its parts; the facts that it keeps have one proof each
@@ -71,65 +72,65 @@ inputs_of records feeds = record { records = records; feeds = feeds }
 
 -- a file whose rows mean something
 ok_file : {S T : Type 0} (names : List Name) (file : Name) (bytes : Option (List ℕ)) (meant : List ℕ → Result S Broken)
-    (next : List Name → S → Supplied T) (value : S)
+    (next : List Name → S → Case T) (value : S)
     → IsSomeAnd bytes (λ text. (length text ≤ MOST_FILE_BYTES) × (meant text ≡ Ok value))
     → by_file names file bytes meant next ≡ next (names ++ file ∷ []) value
 ok_file names file None meant next value is = absurd is
 ok_file names file (Some text) meant next value is =
-    ap (λ b. if b then Spoils (names ++ file ∷ []) (input_line file 6 0) else by_rows names file (meant text) next) (fits text is.0)
+    ap (λ b. if b then Refused 4 (names ++ file ∷ []) (input_line file 6 0) else by_rows names file (meant text) next) (fits text is.0)
     ∙ ap (λ r. by_rows names file r next) is.1
 
 -- a file that is refused with a line
-spoils : {S T : Type 0} (names : List Name) (file : Name) (text line : List ℕ) (next : List Name → S → Supplied T) (meant : Result S Broken)
+spoils : {S T : Type 0} (names : List Name) (file : Name) (text line : List ℕ) (next : List Name → S → Case T) (meant : Result S Broken)
     → IsRefusedBy file line text meant
-    → (if nat_lt MOST_FILE_BYTES (length text) then Spoils (names ++ file ∷ []) (input_line file 6 0) else by_rows names file meant next)
-    ≡ Spoils (names ++ file ∷ []) line
+    → (if nat_lt MOST_FILE_BYTES (length text) then Refused 4 (names ++ file ∷ []) (input_line file 6 0) else by_rows names file meant next)
+    ≡ Refused 4 (names ++ file ∷ []) line
 spoils names file text line next (Ok value) (told, above) =
-    ap (λ b. if b then Spoils (names ++ file ∷ []) (input_line file 6 0) else by_rows names file (Ok value) next) (passes text above)
-    ∙ ap (Spoils (names ++ file ∷ [])) (sym told)
+    ap (λ b. if b then Refused 4 (names ++ file ∷ []) (input_line file 6 0) else by_rows names file (Ok value) next) (passes text above)
+    ∙ ap (Refused 4 (names ++ file ∷ [])) (sym told)
 spoils names file text line next (Err broken) (inl (told, above)) =
-    ap (λ b. if b then Spoils (names ++ file ∷ []) (input_line file 6 0) else by_rows names file (Err broken) next) (passes text above)
-    ∙ ap (Spoils (names ++ file ∷ [])) (sym told)
+    ap (λ b. if b then Refused 4 (names ++ file ∷ []) (input_line file 6 0) else by_rows names file (Err broken) next) (passes text above)
+    ∙ ap (Refused 4 (names ++ file ∷ [])) (sym told)
 spoils names file text line next (Err broken) (inr (told, within)) =
-    ap (λ b. if b then Spoils (names ++ file ∷ []) (input_line file 6 0) else by_rows names file (Err broken) next) (fits text within)
-    ∙ ap (Spoils (names ++ file ∷ [])) (sym told)
+    ap (λ b. if b then Refused 4 (names ++ file ∷ []) (input_line file 6 0) else by_rows names file (Err broken) next) (fits text within)
+    ∙ ap (Refused 4 (names ++ file ∷ [])) (sym told)
 
 pub bad_file : {S T : Type 0} (names : List Name) (file line : Name) (bytes : Option (List ℕ)) (meant : List ℕ → Result S Broken)
-    (next : List Name → S → Supplied T)
+    (next : List Name → S → Case T)
     → IsSomeAnd bytes (λ text. IsRefusedBy file line text (meant text))
-    → by_file names file bytes meant next ≡ Spoils (names ++ file ∷ []) line
+    → by_file names file bytes meant next ≡ Refused 4 (names ++ file ∷ []) line
 bad_file names file line None meant next is = absurd is
 bad_file names file line (Some text) meant next is = spoils names file text line next (meant text) is
 
 -- the files that are read stay among those that are read
 module _ (name : Name) where
-  keeps_rows : {R S T : Type 0} (names : List Name) (file : Name) (rows : Result R Broken) (first : List Name → R → Supplied S)
-      (next : List Name → S → Supplied T)
-      → ((n : List Name) (value : R) → Contains n name → Contains (names_of (then_load (first n value) next)) name)
-      → Contains (names ++ file ∷ []) name → Contains (names_of (then_load (by_rows names file rows first) next)) name
+  keeps_rows : {R S T : Type 0} (names : List Name) (file : Name) (rows : Result R Broken) (first : List Name → R → Case S)
+      (next : List Name → S → Case T)
+      → ((n : List Name) (value : R) → Contains n name → Contains (names_read (then_load (first n value) next)) name)
+      → Contains (names ++ file ∷ []) name → Contains (names_read (then_load (by_rows names file rows first) next)) name
   keeps_rows names file (Ok value) first next keeps is = keeps (names ++ file ∷ []) value is
   keeps_rows names file (Err broken) first next keeps is = is
 
   keeps_long : {R S T : Type 0} (names : List Name) (file : Name) (long : Bool) (rows : Result R Broken)
-      (first : List Name → R → Supplied S) (next : List Name → S → Supplied T)
-      → ((n : List Name) (value : R) → Contains n name → Contains (names_of (then_load (first n value) next)) name)
+      (first : List Name → R → Case S) (next : List Name → S → Case T)
+      → ((n : List Name) (value : R) → Contains n name → Contains (names_read (then_load (first n value) next)) name)
       → Contains (names ++ file ∷ []) name
-      → Contains (names_of (then_load (if long then Spoils (names ++ file ∷ []) (input_line file 6 0) else by_rows names file rows first)
+      → Contains (names_read (then_load (if long then Refused 4 (names ++ file ∷ []) (input_line file 6 0) else by_rows names file rows first)
       next)) name
   keeps_long names file true rows first next keeps is = is
   keeps_long names file false rows first next keeps is = keeps_rows names file rows first next keeps is
 
   pub keeps_file : {R S T : Type 0} (names : List Name) (file : Name) (bytes : Option (List ℕ)) (meant : List ℕ → Result R Broken)
-      (first : List Name → R → Supplied S) (next : List Name → S → Supplied T)
-      → ((n : List Name) (value : R) → Contains n name → Contains (names_of (then_load (first n value) next)) name)
-      → Contains (names ++ file ∷ []) name → Contains (names_of (then_load (by_file names file bytes meant first) next)) name
+      (first : List Name → R → Case S) (next : List Name → S → Case T)
+      → ((n : List Name) (value : R) → Contains n name → Contains (names_read (then_load (first n value) next)) name)
+      → Contains (names ++ file ∷ []) name → Contains (names_read (then_load (by_file names file bytes meant first) next)) name
   keeps_file names file None meant first next keeps is = is
   keeps_file names file (Some text) meant first next keeps is =
       keeps_long names file (nat_lt MOST_FILE_BYTES (length text)) (meant text) first next keeps is
 
-  keeps_head : (files : Files) (names : List Name) (inputs : Inputs) (head : Head) (next : List Name → Inputs → Supplied Inputs)
-      → ((n : List Name) (i : Inputs) → Contains n name → Contains (names_of (next n i)) name)
-      → Contains (names ++ names_in head) name → Contains (names_of (then_load (load_head files names inputs head) next)) name
+  keeps_head : (files : Files) (names : List Name) (inputs : Inputs) (head : Head) (next : List Name → Inputs → Case Inputs)
+      → ((n : List Name) (i : Inputs) → Contains n name → Contains (names_read (next n i)) name)
+      → Contains (names ++ names_in head) name → Contains (names_read (then_load (load_head files names inputs head) next)) name
   keeps_head files names inputs (LockHead x size line) next keeps is =
       keeps names inputs (subst (λ l. Contains l name) (append-nil names) is)
   keeps_head files names inputs (BarrierHead x number line) next keeps is =
@@ -144,7 +145,7 @@ module _ (name : Name) where
       (more_feed inputs (natural fields)) next (λ n cells. keeps n (with_feed inputs (feed_with (natural fields) cells))) is
 
   keeps_all : (files : Files) (heads : List Head) (names : List Name) (inputs : Inputs) → Contains names name
-      → Contains (names_of (load files names inputs heads)) name
+      → Contains (names_read (load files names inputs heads)) name
   keeps_all files [] names inputs is = is
   keeps_all files (head ∷ heads) names inputs is =
       keeps_head files names inputs head (λ n i. load files n i heads) (λ n i. keeps_all files heads n i)
@@ -152,7 +153,7 @@ module _ (name : Name) where
 
   -- the file of the next head is read
   pub reads_next : (files : Files) (heads : List Head) (names : List Name) (inputs : Inputs) (head : Head) → Contains (names_in head) name
-      → Contains (names_of (load files names inputs (head ∷ heads))) name
+      → Contains (names_read (load files names inputs (head ∷ heads))) name
   reads_next files heads names inputs head is =
       keeps_head files names inputs head (λ n i. load files n i heads) (λ n i. keeps_all files heads n i)
       (Contains-append_right names (names_in head) name is)
@@ -182,7 +183,7 @@ file_among (h ∷ heads) (suc i) head name below is file =
 -- the steps of a record's file
 pub record_ok : (names : List Name) (file : Name) (size : ℕ) (bytes : Option (List ℕ)) (inputs : Inputs) (cells : List ℤ)
     → IsSomeAnd bytes (λ text. (length text ≤ MOST_FILE_BYTES) × (records_by size (csv_rows text) ≡ Ok cells))
-    → by_file names file bytes (record_rows size) (more_cells inputs) ≡ Supplies (names ++ file ∷ []) (with_cells inputs cells)
+    → by_file names file bytes (record_rows size) (more_cells inputs) ≡ Go (names ++ file ∷ []) (with_cells inputs cells)
 record_ok names file size bytes inputs cells is = ok_file names file bytes (record_rows size) (more_cells inputs) cells is
 
 pub record_bad : (names : List Name) (file : Name) (size : ℕ) (bytes : Option (List ℕ)) (inputs : Inputs) (refusal : Refusal)
@@ -200,10 +201,10 @@ pub feed_ok : (names : List Name) (file : Name) (bytes : Option (List ℕ)) (inp
     → IsSomeAnd bytes (λ text. (length text ≤ MOST_FILE_BYTES)
     × (feed_by feed.fields (room_after inputs.feeds) (csv_rows text) ≡ Ok feed.cells))
     → by_file names file bytes (feed_rows feed.fields (room_after inputs.feeds)) (more_feed inputs feed.fields)
-    ≡ Supplies (names ++ file ∷ []) (with_feed inputs (Some feed))
+    ≡ Go (names ++ file ∷ []) (with_feed inputs (Some feed))
 feed_ok names file bytes inputs feed is =
     ok_file names file bytes (feed_rows feed.fields (room_after inputs.feeds)) (more_feed inputs feed.fields) feed.cells is
-    ∙ ap (λ f. Supplies (names ++ file ∷ []) (with_feed inputs f)) (feed_with-of feed)
+    ∙ ap (λ f. Go (names ++ file ∷ []) (with_feed inputs f)) (feed_with-of feed)
 
 pub feed_bad : (names : List Name) (file : Name) (fields : ℕ) (bytes : Option (List ℕ)) (inputs : Inputs) (refusal : Refusal)
     → AnswersRows {A = Feed} (λ feed. feed.cells) file (feed_rows fields (room_after inputs.feeds)) bytes (Err refusal)
@@ -243,7 +244,7 @@ pub feeds_ok : (told : Option Files) (file : Name) (fields room : ℕ) (inputs a
     (λ text. (length text ≤ MOST_FILE_BYTES) × (feed_by fields room (csv_rows text) ≡ Ok feed.cells)))
     → IfSome told (λ files. (names : List Name)
     → by_file names file (bytes_of files file) (feed_rows fields (room_after inputs.feeds)) (more_feed inputs fields)
-    ≡ Supplies (names ++ file ∷ []) after)
+    ≡ Go (names ++ file ∷ []) after)
 feeds_ok None file fields room inputs after feed same_room same_fields records feeds is = tt
 feeds_ok (Some files) file fields room inputs after feed same_room same_fields records feeds is =
     let meant =
@@ -255,13 +256,13 @@ feeds_ok (Some files) file fields room inputs after feed same_room same_fields r
     λ names.
     ap (λ f. by_file names file (bytes_of files file) (feed_rows f (room_after inputs.feeds)) (more_feed inputs f)) (sym same_fields)
     ∙ feed_ok names file (bytes_of files file) inputs feed meant
-    ∙ ap (λ i. Supplies (names ++ file ∷ []) i) grown
+    ∙ ap (λ i. Go (names ++ file ∷ []) i) grown
 
 -- one step of the loop, where it goes on
-pub load-more : (files : Files) (heads : List Head) (i : ℕ) (head : Head) (before after : Inputs) (all : Supplied Inputs) → i < length heads
+pub load-more : (files : Files) (heads : List Head) (i : ℕ) (head : Head) (before after : Inputs) (all : Case Inputs) → i < length heads
     → head ≡ get_or heads i head
     → load files (file_names (take i heads)) before (drop i heads) ≡ all
-    → load_head files (file_names (take i heads)) before head ≡ Supplies (file_names (take i heads) ++ names_in head) after
+    → load_head files (file_names (take i heads)) before head ≡ Go (file_names (take i heads) ++ names_in head) after
     → load files (file_names (take (i + 1) heads)) after (drop (i + 1) heads) ≡ all
 load-more files heads i head before after all below is so_far step =
     ap (λ names. load files names after (drop (i + 1) heads)) (file_names-more heads i head below is)
@@ -271,7 +272,7 @@ load-more files heads i head before after all below is so_far step =
     ∙ so_far
 
 -- what all heads give is what is left of them gives
-at_head : (files : Files) (heads : List Head) (i : ℕ) (head : Head) (names : List Name) (before : Inputs) (all : Supplied Inputs)
+at_head : (files : Files) (heads : List Head) (i : ℕ) (head : Head) (names : List Name) (before : Inputs) (all : Case Inputs)
     → i < length heads → head ≡ get_or heads i head
     → load files names before (drop i heads) ≡ all → load files names before (head ∷ drop (i + 1) heads) ≡ all
 at_head files heads i head names before all below is so_far =
@@ -279,7 +280,7 @@ at_head files heads i head names before all below is so_far =
     ∙ sym (at_drop_more (λ (left : List Head). load files names before left) heads i head below) ∙ so_far
 
 -- where the loop ends at a head
-pub load-stops : (files : Files) (heads : List Head) (i : ℕ) (head : Head) (before after : Inputs) (all : Supplied Inputs)
+pub load-stops : (files : Files) (heads : List Head) (i : ℕ) (head : Head) (before after : Inputs) (all : Case Inputs)
     (failed failed' : List Name) (refusal : Refusal) → i < length heads → head ≡ get_or heads i head
     → load files (file_names (take i heads)) before (drop i heads) ≡ all
     → StepsTo {T = Unit {0}} (file_names (take i heads)) (names_in head)
@@ -293,7 +294,7 @@ load-stops files heads i head before after all failed failed' (refused.BadInput 
       ∙ ap (λ s. then_load s (λ n x. load files n x (drop (i + 1) heads))) step,
 )
 load-stops files heads i head before after all failed failed' (refused.ReadFault name) below is so_far step among =
-    subst (λ s. Contains (names_of s) name) (at_head files heads i head (file_names (take i heads)) before all below is so_far)
+    subst (λ s. Contains (names_read s) name) (at_head files heads i head (file_names (take i heads)) before all below is so_far)
     (reads_next name files (drop (i + 1) heads) (file_names (take i heads)) before head among.0)
 load-stops files heads i head before after all failed failed' refused.OutOfMemory below is so_far step among = tt
 
@@ -317,12 +318,12 @@ room_after-more feeds feed = let sums = sum_by-append (λ (f : Feed). length f.c
 pub loads_more : (known told : Option Files) (heads : List Head) (i : ℕ) (head : Head) (before after : Inputs) → known ≡ told
     → i < length heads → head ≡ get_or heads i head
     → IfSome told (λ files. load files (file_names (take i heads)) before (drop i heads) ≡ load files [] no_inputs heads)
-    → IfSome known (λ files. (names : List Name) → load_head files names before head ≡ Supplies (names ++ names_in head) after)
+    → IfSome known (λ files. (names : List Name) → load_head files names before head ≡ Go (names ++ names_in head) after)
     → IfSome told (λ files. load files (file_names (take (i + 1) heads)) after (drop (i + 1) heads) ≡ load files [] no_inputs heads)
 loads_more known None heads i head before after same below is so_far step = tt
 loads_more known (Some files) heads i head before after same below is so_far step =
     let steps =
-    subst (λ k. IfSome k (λ files. (names : List Name) → load_head files names before head ≡ Supplies (names ++ names_in head) after))
+    subst (λ k. IfSome k (λ files. (names : List Name) → load_head files names before head ≡ Go (names ++ names_in head) after))
     same step in
     load-more files heads i head before after (load files [] no_inputs heads) below is so_far (steps (file_names (take i heads)))
 
@@ -344,11 +345,11 @@ loads_stop known (Some files) heads i head before after failed failed' refusal s
 -- all heads were read
 pub loads_all : (told : Option Files) (heads : List Head) (n : ℕ) (after : Inputs) → length heads ≤ n
     → IfSome told (λ files. load files (file_names (take n heads)) after (drop n heads) ≡ load files [] no_inputs heads)
-    → IfSome told (λ files. load files [] no_inputs heads ≡ Supplies (file_names heads) after)
+    → IfSome told (λ files. load files [] no_inputs heads ≡ Go (file_names heads) after)
 loads_all None heads n after past is = tt
 loads_all (Some files) heads n after past is =
     sym is ∙ ap (λ l. load files (file_names (take n heads)) after l) (drop_all n heads past)
-    ∙ ap (λ l. Supplies (file_names l) after) (take_all n heads past)
+    ∙ ap (λ l. Go (file_names l) after) (take_all n heads past)
 
 -- a head that is left can be read
 pub readable_at : (heads : List Head) (i : ℕ) (head : Head) → i < length heads → head ≡ get_or heads i head → AreReadable (drop i heads)
@@ -360,12 +361,12 @@ readable_at heads i head below is all =
 -- the steps of a record without a file and of one with
 pub zeros_step : (told : Option Files) (from : Option Name) (size : ℕ) (inputs after : Inputs) → from ≡ None
     → after.records ≡ inputs.records ++ replicate size (pos 0) → after.feeds ≡ inputs.feeds
-    → IfSome told (λ files. (names : List Name) → by_record files names inputs size from ≡ Supplies (names ++ named from) after)
+    → IfSome told (λ files. (names : List Name) → by_record files names inputs size from ≡ Go (names ++ named from) after)
 zeros_step None from size inputs after is records feeds = tt
 zeros_step (Some files) from size inputs after is records feeds = λ names.
     let grown : with_cells inputs (replicate size (pos 0)) ≡ after = ap₂ inputs_of (sym records) (sym feeds) in
-    ap (by_record files names inputs size) is ∙ ap (λ i. Supplies names i) grown ∙ ap (λ l. Supplies l after) (sym (append-nil names))
-    ∙ ap (λ f. Supplies (names ++ named f) after) (sym is)
+    ap (by_record files names inputs size) is ∙ ap (λ i. Go names i) grown ∙ ap (λ l. Go l after) (sym (append-nil names))
+    ∙ ap (λ f. Go (names ++ named f) after) (sym is)
 
 pub cells_step : {T : Type 0} (told : Option Files) (from : Option Name) (file : Name) (size : ℕ) (inputs after : Inputs)
     (result : Result T Refusal) → from ≡ Some file
@@ -407,21 +408,20 @@ pub only_one : (file name : Name) → Contains (file ∷ []) name → file ≡ n
 only_one file name (zero, below, is) = is
 only_one file name (suc k, below, is) = absurd (omega (arith, below))
 
-pub then_names : {S T : Type 0} (made : S → T) (supplied : Supplied S)
-    → names_of (then_load supplied (λ n x. Supplies n (made x))) ≡ names_of supplied
-then_names made (Supplies names value) = refl
-then_names made (Lacks names name) = refl
-then_names made (Spoils names line) = refl
+pub then_names : {S T : Type 0} (made : S → T) (supplied : Case S)
+    → names_read (then_load supplied (λ n x. Go n (made x))) ≡ names_read supplied
+then_names made (Go names value) = refl
+then_names made (Refused status names line) = refl
 
 -- what was read before the file of faults, and that file, were read
 reads_faults : (name : Name) (files : Files) (names : List Name) (file : Name) → Contains (names ++ file ∷ []) name
-    → Contains (names_of (load_faults files names (Some file))) name
+    → Contains (names_read (load_faults files names (Some file))) name
 reads_faults name files names file is =
     subst (λ l. Contains l name) (then_names (λ (faults : List Fault). faults) (load_faults files names (Some file)))
-    (keeps_file name names file (bytes_of files file) fault_rows Supplies (λ n faults. Supplies n faults) (λ n faults keeps. keeps) is)
+    (keeps_file name names file (bytes_of files file) fault_rows Go (λ n faults. Go n faults) (λ n faults keeps. keeps) is)
 
 pub keeps_faults : (name : Name) (files : Files) (names : List Name) (from : Option Name) → Contains names name
-    → Contains (names_of (load_faults files names from)) name
+    → Contains (names_read (load_faults files names from)) name
 keeps_faults name files names None is = is
 keeps_faults name files names (Some file) is = reads_faults name files names file (Contains-append_left names (file ∷ []) name is)
 
@@ -431,11 +431,11 @@ module _ (files : Files) (names : List Name) (file : Name) (before now : List Na
       → AnswersRows (λ (faults : Faults). faults.list) file fault_rows (bytes_of files file) result
       → ReadsAmong (file ∷ []) before now result
       → AnswersFaults names (file ∷ []) (load_faults files names (Some file)) result
-  faults_answer (Ok faults) is among = ok_file names file (bytes_of files file) fault_rows Supplies faults.list is
+  faults_answer (Ok faults) is among = ok_file names file (bytes_of files file) fault_rows Go faults.list is
   faults_answer (Err refused.Usage) is among = is
   faults_answer (Err (refused.BadProgram line)) is among = is
   faults_answer (Err (refused.BadInput line)) is among =
-      (names ++ file ∷ [], bad_file names file line (bytes_of files file) fault_rows Supplies is)
+      (names ++ file ∷ [], bad_file names file line (bytes_of files file) fault_rows Go is)
   faults_answer (Err (refused.ReadFault told)) is among =
       reads_faults told files names file (Contains-append_right names (file ∷ []) told among.0)
   faults_answer (Err refused.OutOfMemory) is among = tt

@@ -5,9 +5,9 @@ use Rattle.std.specs.declared.option.Option.TheVariants.{None, Some}
 use Rattle.gp_base.specs.meaning.Files.{bytes_of}
 use Rattle.task_parser.specs.meaning.Spelling.{Means}
 use Rattle.task_parser.proofs.OneSpelling.{one_meaning, some_meaning}
-use Rattle.call_cases.specs.meaning.Work.{Files}
+use Rattle.call_cases.specs.meaning.Work.{Files, Case, absent_case}
 use Rattle.call_cases.specs.meaning.Commands.{Asking}
-use Rattle.call_cases.specs.meaning.Case.{Case, Missing, IsCaseOf, no_program, of_text, IsCase, no_command, asks, ForCase, meant_case}
+use Rattle.call_cases.specs.meaning.Case.{IsCaseOf, no_program, of_text, IsCase, no_command, asks, ForCase, meant_case}
 use Rattle.call_cases.specs.meaning.Laws.{OneCase, SomeCase}
 
 value_of : {A : Type 0} → A → Option A → A
@@ -46,7 +46,7 @@ pub some_case_of : {A T : Type 0} (asking : Asking A T) (asked : A) (files : Fil
 some_case_of {T} asking asked files = found (bytes_of files (asking.program asked)) refl
   where
     found : (bytes : Option (List ℕ)) → bytes_of files (asking.program asked) ≡ bytes → (case : Case T) × IsCaseOf asking asked files case
-    found None absent = (Missing [] (asking.program asked), no_program absent)
+    found None absent = (absent_case [] (asking.program asked), no_program absent)
     found (Some text) there = let m = some_meaning text in (meant_case asking files asked m.0, of_text m.0 there m.1)
 
 pub some_case : (A T : Type 0) → SomeCase A T

@@ -7,17 +7,16 @@ use Rattle.task_ast.specs.meaning.Tree.{Name, Program}
 use Rattle.task_ast.specs.meaning.Check.{check_fault}
 use Rattle.task_ast.specs.declared.check_kind.CheckKind.{CheckKind}
 use Rattle.task_parser.specs.meaning.Spelling.{Meaning, Stands, LexFails, ParseFails}
-use Rattle.call_cases.specs.meaning.Work.{Files, Supplied, Supplies, Lacks, Spoils}
+use Rattle.call_cases.specs.meaning.Work.{Files, Case, Refused, Go, after_file}
 use Rattle.call_cases.specs.meaning.Commands.{Asking}
-use Rattle.call_cases.specs.meaning.Case.{Case, IsCaseOf, no_program, of_text, supplied_case, program_case, meant_case, names_read}
+use Rattle.call_cases.specs.meaning.Case.{IsCaseOf, no_program, of_text, program_case, meant_case, names_read}
 
 pub first : (name : Name) (names : List Name) → Contains (name ∷ names) name
 first name names = (0, omega arith, refl)
 
-reads_supplied : {T : Type 0} (program : Name) (supplied : Supplied T) → Contains (names_read (supplied_case program supplied)) program
-reads_supplied program (Supplies names work) = first program names
-reads_supplied program (Lacks names name) = first program (names ++ name ∷ [])
-reads_supplied program (Spoils names line) = first program names
+reads_supplied : {T : Type 0} (program : Name) (supplied : Case T) → Contains (names_read (after_file program supplied)) program
+reads_supplied program (Go names work) = first program names
+reads_supplied program (Refused status names line) = first program names
 
 module _ {A T : Type 0} (asking : Asking A T) (files : Files) (asked : A) where
   reads_checked : (program : Program) (fault : Option (CheckKind × ℕ))

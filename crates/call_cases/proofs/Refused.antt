@@ -37,10 +37,10 @@ use Rattle.std.proofs.lemmas.List.Elements.{Contains-append_right}
 use Rattle.gp_base.specs.declared.fault.Fault.{Fault}
 use Rattle.gp_base.specs.declared.fault.Faults.{Faults}
 use Rattle.gp_base.specs.declared.feed.Inputs.{Inputs}
-use Rattle.call_cases.specs.meaning.Work.{Files, Supplied, Supplies, Lacks, Spoils, ToDo, work_for, runs}
+use Rattle.call_cases.specs.meaning.Work.{Files, ToDo, work_for, runs, Case, Refused, Go, after_file}
 use Rattle.call_cases.specs.meaning.InputFiles.{supplied_for, then_load, load_faults, with_faults}
 use Rattle.call_cases.specs.InputFiles.{names_for, named, file_names}
-use Rattle.call_cases.specs.inner.Loading.{AnswersLoad, AnswersFaults, names_of}
+use Rattle.call_cases.specs.inner.Loading.{AnswersLoad, AnswersFaults}
 use Rattle.call_cases.specs.Refusals.{AnswersCase, RefusesCase, RefusesShelf, ReadsAmong}
 use Rattle.call_cases.proofs.Loads.{keeps_faults, then_names, only_one}
 use Rattle.call_cases.specs.meaning.RunCommands.{MayRead, an_input, the_faults, asking}
@@ -48,15 +48,15 @@ use Rattle.call_cases.proofs.OneCase.{some_case_of}
 use Rattle.call_cases.proofs.Answering.{answers_map}
 use Rattle.call_cases.proofs.ReadsProgram.{reads_program}
 use Rattle.call_cases.specs.meaning.Lines.{lex_line, parse_line, check_line}
-use Rattle.call_cases.specs.meaning.Case.{BadProgram as BadCase, Go, IsCaseOf, of_text, supplied_case, program_case, names_read}
+use Rattle.call_cases.specs.meaning.Case.{IsCaseOf, of_text, program_case, names_read}
 use Rattle.call_cases.specs.Decided.{ComesTo, IsAcceptedIn, IsRefusedWith, RefusesLexing, RefusesParsing, RefusesChecking, accepted_case, files_read, case_of}
 use Rattle.gp_base.specs.meaning.Files.{bytes_of, AnswersRead}
 
 pub decided_by_line : (asked : Asked) (text line : List ℕ) (refusal : Refusal) → IsRefusedWith line refusal
-    → ComesTo asked text (BadCase asked.program line) → IsAcceptedIn asked text (Err refusal)
+    → ComesTo asked text (Refused 3 (asked.program ∷ []) line) → IsAcceptedIn asked text (Err refusal)
 decided_by_line asked text line RefusedUsage with_line is = with_line
 decided_by_line asked text line (RefusedProgram told) with_line is =
-    subst (λ l. ComesTo asked text (BadCase asked.program l)) (sym with_line) is
+    subst (λ l. ComesTo asked text (Refused 3 (asked.program ∷ []) l)) (sym with_line) is
 decided_by_line asked text line (RefusedInput told) with_line is = with_line
 decided_by_line asked text line (ReadFault name) with_line is = with_line
 decided_by_line asked text line OutOfMemory with_line is = tt
@@ -100,11 +100,10 @@ decided_checking asked text program check.OutOfMemory refusal refuses stands tol
     subst (λ r. IsAcceptedIn asked text (Err r)) (sym refuses) tt
 
 -- the files that are read are those of the case
-reads_supplied : (program name : Name) (supplied : Supplied ToDo) → Contains (names_of supplied) name
-    → Contains (names_read (supplied_case program supplied)) name
-reads_supplied program name (Supplies names work) is = Contains-append_right (program ∷ []) names name is
-reads_supplied program name (Lacks names missing) is = Contains-append_right (program ∷ []) (names ++ missing ∷ []) name is
-reads_supplied program name (Spoils names line) is = Contains-append_right (program ∷ []) names name is
+reads_supplied : (program name : Name) (supplied : Case ToDo) → Contains (names_read supplied) name
+    → Contains (names_read (after_file program supplied)) name
+reads_supplied program name (Go names work) is = Contains-append_right (program ∷ []) names name is
+reads_supplied program name (Refused status names line) is = Contains-append_right (program ∷ []) names name is
 
 pub loaded_ok : (asked : Asked) (program : Program) (told known : Option Files) (inputs : Inputs) (faults : Faults) → known ≡ told
     → IfSome told (λ files. AnswersLoad (supplied_for asked.command program.heads files)
@@ -117,19 +116,18 @@ loaded_ok asked program (Some files) known inputs faults same is struck =
     let more =
     subst (λ k. IfSome k (λ files. (names : List Name)
     → AnswersFaults names (named asked.faults) (load_faults files names asked.faults) (Ok faults))) same struck in
-    ap (λ s. supplied_case asked.program (then_load s (with_faults files asked program))) is
-    ∙ ap (λ s. supplied_case asked.program (then_load s (λ names list. Supplies names (work_for asked program inputs list))))
+    ap (λ s. after_file asked.program (then_load s (with_faults files asked program))) is
+    ∙ ap (λ s. after_file asked.program (then_load s (λ names list. Go names (work_for asked program inputs list))))
     (more (names_for asked.command program.heads))
 
 -- a file that was read before that of the faults
-keeps_names : (files : Files) (asked : Asked) (program : Program) (supplied : Supplied Inputs) (name : Name)
-    → Contains (names_of supplied) name
-    → Contains (names_of (then_load supplied (with_faults files asked program))) name
-keeps_names files asked program (Supplies names inputs) name is =
+keeps_names : (files : Files) (asked : Asked) (program : Program) (supplied : Case Inputs) (name : Name)
+    → Contains (names_read supplied) name
+    → Contains (names_read (then_load supplied (with_faults files asked program))) name
+keeps_names files asked program (Go names inputs) name is =
     subst (λ l. Contains l name) (sym (then_names (work_for asked program inputs) (load_faults files names asked.faults)))
     (keeps_faults name files names asked.faults is)
-keeps_names files asked program (Lacks names missing) name is = is
-keeps_names files asked program (Spoils names line) name is = is
+keeps_names files asked program (Refused status names line) name is = is
 
 pub loaded_err : (asked : Asked) (program : Program) (files : Option Files) (refusal : Refusal)
     → IfSome files (λ files. AnswersLoad (supplied_for asked.command program.heads files)
@@ -139,10 +137,10 @@ loaded_err asked program None refusal is = tt
 loaded_err asked program (Some files) RefusedUsage is = absurd is
 loaded_err asked program (Some files) (RefusedProgram line) is = absurd is
 loaded_err asked program (Some files) (RefusedInput line) (read, is) =
-    (asked.program ∷ read, ap (λ s. supplied_case asked.program (then_load s (with_faults files asked program))) is)
+    (asked.program ∷ read, ap (λ s. after_file asked.program (then_load s (with_faults files asked program))) is)
 loaded_err asked program (Some files) (ReadFault name) is =
     let supplied = asking.supplied asked program files in (
-      supplied_case asked.program supplied,
+      after_file asked.program supplied,
       refl,
       reads_supplied asked.program name supplied
           (keeps_names files asked program (supplied_for asked.command program.heads files) name is),
@@ -163,11 +161,11 @@ struck_err asked program (Some files) known inputs refusal same is struck =
     → AnswersFaults names (named asked.faults) (load_faults files names asked.faults) (Err refusal))) same struck in
     go refusal (more (names_for asked.command program.heads))
   where
-    faults_there : Supplied (List Fault)
+    faults_there : Case (List Fault)
     faults_there = load_faults files (names_for asked.command program.heads) asked.faults
 
-    all : Supplied (List Fault) → Supplied ToDo
-    all given = then_load given (λ names list. Supplies names (work_for asked program inputs list))
+    all : Case (List Fault) → Case ToDo
+    all given = then_load given (λ names list. Go names (work_for asked program inputs list))
 
     here : asking.supplied asked program files ≡ all faults_there
     here = ap (λ s. then_load s (with_faults files asked program)) is
@@ -176,10 +174,10 @@ struck_err asked program (Some files) known inputs refusal same is struck =
         → RefusesCase (λ case. accepted_case asked program files ≡ case) r
     go RefusedUsage never = absurd never
     go (RefusedProgram line) never = absurd never
-    go (RefusedInput line) (read, spoils) = (asked.program ∷ read, ap (supplied_case asked.program) (here ∙ ap all spoils))
+    go (RefusedInput line) (read, spoils) = (asked.program ∷ read, ap (after_file asked.program) (here ∙ ap all spoils))
     go (ReadFault name) reads = (
-      supplied_case asked.program (all faults_there),
-      ap (supplied_case asked.program) here,
+      after_file asked.program (all faults_there),
+      ap (after_file asked.program) here,
       reads_supplied asked.program name (all faults_there)
           (subst (λ l. Contains l name) (sym (then_names (work_for asked program inputs) faults_there)) reads),
     )
@@ -274,15 +272,15 @@ lexed-long text long = ap (λ test. if test then Err lex.TooLong else lexed_afte
 
 long_file : (files : Files) (asked : Asked) → (found : Option (List ℕ)) → bytes_of files asked.program ≡ found
     → IsSomeAnd found (λ text. MOST_PROGRAM_BYTES < length text)
-    → IsCaseOf asking asked files (BadCase asked.program (lex_line lex.TooLong))
+    → IsCaseOf asking asked files (Refused 3 (asked.program ∷ []) (lex_line lex.TooLong))
 long_file files asked None is long = absurd long
 long_file files asked (Some text) is long = of_text (LexFails lex.TooLong) is (lexed-long text long)
 
 long_answer : (asked : Asked) (files : Files) (name line : List ℕ) (refusal : Refusal) → IsRefusedWith line refusal
-    → IsCaseOf asking asked files (BadCase name line) → RefusesCase (IsCaseOf asking asked files) refusal
+    → IsCaseOf asking asked files (Refused 3 (name ∷ []) line) → RefusesCase (IsCaseOf asking asked files) refusal
 long_answer asked files name line RefusedUsage with_line is = absurd with_line
 long_answer asked files name line (RefusedProgram told) with_line is =
-    (name, subst (λ l. IsCaseOf asking asked files (BadCase name l)) (sym with_line) is)
+    (name, subst (λ l. IsCaseOf asking asked files (Refused 3 (name ∷ []) l)) (sym with_line) is)
 long_answer asked files name line (RefusedInput told) with_line is = absurd with_line
 long_answer asked files name line (ReadFault other) with_line is = absurd with_line
 long_answer asked files name line OutOfMemory with_line is = tt

@@ -1,5 +1,5 @@
 -- What is known of the case of a call once its words and its program were read.
-use Rattle.std.specs.Prelude.{◌≡◌, ◌≤◌, List, ℕ, ◌∷◌, ◌++◌, true, Result, None, ⊤}
+use Rattle.std.specs.Prelude.{◌≡◌, ◌≤◌, List, [], ℕ, ◌∷◌, ◌++◌, true, Result, None, ⊤}
 use Rattle.std.specs.declared.result.Result.TheVariants.{Ok, Err}
 use Rattle.task_ast.specs.meaning.Tree.{Name, Program}
 use Rattle.gp_base.specs.declared.limits.TheConstants.{MOST_WORKERS}
@@ -20,10 +20,10 @@ use Rattle.command_line.specs.declared.asked.Asked.{Asked}
 use Rattle.call_cases.specs.declared.work.Request.{Request}
 use Rattle.call_cases.specs.declared.reading.Refusal.{Refusal}
 use Rattle.call_cases.specs.declared.reading.Refusal.TheVariants.{BadProgram as RefusedProgram, OutOfMemory}
-use Rattle.call_cases.specs.meaning.Work.{Files, ToDo, work_for, runs}
+use Rattle.call_cases.specs.meaning.Work.{Files, ToDo, work_for, runs, Case, Refused, Go}
 use Rattle.call_cases.specs.InputFiles.{names_for, named}
 use Rattle.call_cases.specs.meaning.RunCommands.{asking}
-use Rattle.call_cases.specs.meaning.Case.{Case, BadProgram, Go, program_case, meant_case}
+use Rattle.call_cases.specs.meaning.Case.{program_case, meant_case}
 use Rattle.call_cases.specs.meaning.Lines.{lex_line, parse_line, check_line}
 
 -- the program of a request, what is to be done with it, and the files that were read for it
@@ -47,7 +47,7 @@ ComesTo asked text case = (meaning : Meaning) × Means text meaning × ((files :
 -- the program of a text, where it is accepted, or the line of the text
 abbrev pub IsAcceptedIn : Asked → List ℕ → Result Checked Refusal → Type 0
 IsAcceptedIn asked text (Ok checked) = Spells text (plain_program (program_of checked))
-IsAcceptedIn asked text (Err (RefusedProgram line)) = ComesTo asked text (BadProgram asked.program line)
+IsAcceptedIn asked text (Err (RefusedProgram line)) = ComesTo asked text (Refused 3 (asked.program ∷ []) line)
 IsAcceptedIn asked text (Err OutOfMemory) = ⊤
 IsAcceptedIn asked text (Err refusal) = ⊥
 

@@ -1,20 +1,21 @@
 -- How a refusal, as any top call reads one, stands to the case of the call, and how it ends.
-use Rattle.std.specs.Prelude.{◌≡◌, ◌⊎◌, ◌<◌, ◌≤◌, List, ℕ, length, Option, Some, None, Result, IsSomeAnd, Contains, ⊤}
+use Rattle.std.specs.Prelude.{◌≡◌, ◌⊎◌, ◌<◌, ◌≤◌, List, [], ◌∷◌, ℕ, length, Option, Some, None, Result, IsSomeAnd, Contains, ⊤}
 use Rattle.std.specs.declared.result.Result.TheVariants.{Ok, Err}
 use Rattle.gp_base.specs.meaning.Files.{GrowsByOnly}
 use Rattle.gp_base.specs.declared.limits.TheConstants.{MOST_FILE_BYTES}
 use Rattle.task_ast.specs.meaning.Tree.{Name}
 use Rattle.call_cases.specs.declared.reading.Refusal.{Refusal}
 use Rattle.call_cases.specs.declared.reading.Refusal.TheVariants.{Usage as RefusedUsage, BadProgram as RefusedProgram, BadInput as RefusedInput, ReadFault, OutOfMemory}
-use Rattle.call_cases.specs.meaning.Case.{Case, Usage, BadProgram, BadInput, names_read}
+use Rattle.call_cases.specs.meaning.Work.{Case, Refused}
+use Rattle.call_cases.specs.meaning.Case.{names_read}
 use Rattle.call_cases.specs.meaning.Lines.{usage_line, read_fault_line, input_line}
 use Rattle.call_cases.specs.meaning.Answers.{Change, TakesAll, TakesPart, Fails, Grew, IsStopLine}
 
 -- a refusal tells this case; a fault of reading tells that the case reads the file
 abbrev pub RefusesCase : {T : Type 0} → (Case T → Type 0) → Refusal → Type 0
-RefusesCase Is RefusedUsage = Is Usage
-RefusesCase Is (RefusedProgram line) = (name : Name) × Is (BadProgram name line)
-RefusesCase Is (RefusedInput line) = (names : List Name) × Is (BadInput names line)
+RefusesCase Is RefusedUsage = Is (Refused 2 [] usage_line)
+RefusesCase Is (RefusedProgram line) = (name : Name) × Is (Refused 3 (name ∷ []) line)
+RefusesCase Is (RefusedInput line) = (names : List Name) × Is (Refused 4 names line)
 RefusesCase {T} Is (ReadFault name) = (case : Case T) × Is case × Contains (names_read case) name
 RefusesCase Is OutOfMemory = ⊤
 

@@ -29,13 +29,13 @@ use Rattle.gp_resume.proofs.LogAnswers.{one-answer}
 use Rattle.gp_resume.proofs.Texts.{joined}
 use Rattle.command_line.specs.declared.asked.Asked.{Asked}
 use Rattle.command_line.specs.declared.asked.Command.TheVariants.{One, Log}
-use Rattle.call_cases.specs.meaning.Work.{Files, ToDo, is_journalled, work_for, Supplied, Supplies, Lacks, Spoils}
+use Rattle.call_cases.specs.meaning.Work.{Files, ToDo, is_journalled, work_for, Case, Refused, Go, after_file}
 use Rattle.call_cases.specs.meaning.Answers.{Change, TakesAll}
-use Rattle.call_cases.specs.meaning.Case.{Case, Go, IsCaseOf, IsCase, no_program, of_text, program_case, meant_case, supplied_case, ForCase, ForRun, HasWork, text_of}
+use Rattle.call_cases.specs.meaning.Case.{IsCaseOf, IsCase, no_program, of_text, program_case, meant_case, ForCase, ForRun, HasWork, text_of}
 use Rattle.call_cases.specs.meaning.InputFiles.{supplied_by, supplied_for, then_load, with_faults, load_faults}
 use Rattle.call_cases.specs.meaning.Journals.{run_of, retired_in, lines_before, HoldsRetired, TakesRetiredFor}
 use Rattle.call_cases.specs.meaning.RunCommands as run
-use Rattle.call_cases.specs.meaning.Headline.{Call, TellsStop, Headline}
+use Rattle.call_cases.specs.meaning.Headline.{Call, TellsStop, MeetsCase, Headline}
 use Rattle.call_cases.proofs.OneCase.{one_case_of}
 use Rattle.batch_calls.specs.meaning.LogCommands as log
 use Rattle.batch_calls.specs.meaning.LogCommands.{TakesLog}
@@ -52,27 +52,24 @@ abbrev GoesAccepted : Case ToDo → Type 0
 GoesAccepted (Go names work) = IsAccepted work.program
 GoesAccepted case = ⊤
 
-abbrev SuppliesFor : Program → Supplied ToDo → Type 0
-SuppliesFor program (Supplies names work) = work.program ≡ program
+abbrev SuppliesFor : Program → Case ToDo → Type 0
+SuppliesFor program (Go names work) = work.program ≡ program
 SuppliesFor program given = ⊤
 
 module _ (asked : Asked) (files : Files) where
-  faults_for : (program : Program) (inputs : Inputs) (given : Supplied (List Fault))
-      → SuppliesFor program (then_load given (λ names faults. Supplies names (work_for asked program inputs faults)))
-  faults_for program inputs (Supplies names faults) = refl
-  faults_for program inputs (Lacks names name) = tt
-  faults_for program inputs (Spoils names line) = tt
+  faults_for : (program : Program) (inputs : Inputs) (given : Case (List Fault))
+      → SuppliesFor program (then_load given (λ names faults. Go names (work_for asked program inputs faults)))
+  faults_for program inputs (Go names faults) = refl
+  faults_for program inputs (Refused status names line) = tt
 
-  inputs_for : (program : Program) (given : Supplied Inputs) → SuppliesFor program (then_load given (with_faults files asked program))
-  inputs_for program (Supplies names inputs) = faults_for program inputs (load_faults files names asked.faults)
-  inputs_for program (Lacks names name) = tt
-  inputs_for program (Spoils names line) = tt
+  inputs_for : (program : Program) (given : Case Inputs) → SuppliesFor program (then_load given (with_faults files asked program))
+  inputs_for program (Go names inputs) = faults_for program inputs (load_faults files names asked.faults)
+  inputs_for program (Refused status names line) = tt
 
-  goes : (program : Program) (given : Supplied ToDo) → IsAccepted program → SuppliesFor program given
-      → GoesAccepted (supplied_case asked.program given)
-  goes program (Supplies names work) accepted same = subst IsAccepted (sym same) accepted
-  goes program (Lacks names name) accepted same = tt
-  goes program (Spoils names line) accepted same = tt
+  goes : (program : Program) (given : Case ToDo) → IsAccepted program → SuppliesFor program given
+      → GoesAccepted (after_file asked.program given)
+  goes program (Go names work) accepted same = subst IsAccepted (sym same) accepted
+  goes program (Refused status names line) accepted same = tt
 
   checked : (program : Program) (fault : Option (CheckKind × ℕ)) → IsTrue (is_shaped program) → check_fault program ≡ fault
       → GoesAccepted (program_case run.asking files asked program fault)
@@ -104,20 +101,18 @@ module _ (call : Call) (files : Files) (names : List Name) (work : ToDo) (headli
   runs : is_journalled work.command ≡ true
   runs = ap is_journalled command
 
+  meets : MeetsCase log.commands call (Go names work)
+  meets = subst (λ told. ForCase log.asking call.words told (MeetsCase log.commands call)) known headline.by_case (Go names work) is
+
   held : HoldsRetired work call.journal call.out
-  held =
-      (subst (λ c. TakesRetiredFor c work call.journal call.out) command
-      (subst (λ told. ForCase log.asking call.words told
-      (λ case. ForRun log.commands case (λ w. TakesRetiredFor w.command w call.journal call.out))) known headline.retired (Go names work) is runs)).0
+  held = (subst (λ c. TakesRetiredFor c work call.journal call.out) command (meets.retired runs)).0
 
   logged_of : HasBegun call → TakesLog work call.journal call.err
   logged_of (inl whole) =
       (subst (λ told. ForCase log.asking call.words told
       (λ case. ForRun log.commands case (λ w. TakesAll call.err (log.log_for w) × TakesLog w call.journal call.err))) known
       (headline.quiet whole) (Go names work) is runs).1
-  logged_of (inr stopped) =
-      go (subst (λ told. ForCase log.asking call.words told (TellsStop log.commands call log.commands.log)) known
-      (headline.stopped stopped.0) (Go names work) is)
+  logged_of (inr stopped) = go (meets.stopped stopped.0)
     where
       go : TellsStop log.commands call log.commands.log (Go names work) → TakesLog work call.journal call.err
       go (inl unbegun) = absurd (stopped.1 unbegun.0)

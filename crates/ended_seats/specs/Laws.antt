@@ -1,40 +1,31 @@
--- Laws of a mark from which each thread is idle.
-use Rattle.std.specs.Prelude.{◌≡◌, ℕ, ◌-◌, ◌<◌, ◌≤◌, true, List, length, map, if◌then◌else◌, Some, is_some, slice_get}
+-- Laws of threads that are idle.
+use Rattle.std.specs.Prelude.{◌≡◌, ℕ, ◌-◌, ◌≤◌, false, List, map, Some, slice_get}
 use Rattle.task_ast.specs.declared.sync.SyncOp.{SyncOp}
-use Rattle.task_ast.specs.meaning.Table.{numbers}
 use Rattle.task_ast.specs.Table.{Seat, Table, unpassed}
-use Rattle.task_ast.specs.meaning.Turn.{child_of}
-use Rattle.task_ast.specs.Turn.{NoThread, look, released_at, seats_after}
-use Rattle.ended_seats.specs.Idle.{is_idle, IdleFrom}
+use Rattle.task_ast.specs.meaning.Table.{numbers, with_nth}
+use Rattle.task_ast.specs.Turn.{look, released_at, seats_after}
+use Rattle.ended_seats.specs.Idle.{is_idle, IdleBetween}
 
--- a look that begins before the mark and goes beyond it finds what it finds up to it
-abbrev pub UpToLaw : Type 0
-UpToLaw =
-    (table : Table) (live from to : ℕ) → IdleFrom live table.seats → from ≤ live → live ≤ to → to ≤ length table.seats
-    → look table (numbers from (to - from)) ≡ look table (numbers from (live - from))
+-- a look finds what it finds from the first thread on that is not idle
+abbrev pub PastLaw : Type 0
+PastLaw =
+    (table : Table) (from to onward : ℕ) → IdleBetween from onward table.seats → from ≤ onward
+    → look table (numbers from (to - from)) ≡ look table (numbers onward (to - onward))
 
--- a look that begins beyond it finds no thread
-abbrev pub BeyondLaw : Type 0
-BeyondLaw =
-    (table : Table) (live from : ℕ) → IdleFrom live table.seats → live ≤ from → from ≤ length table.seats
-    → look table (numbers from (length table.seats - from)) ≡ NoThread
+-- idle threads stay so where another is changed
+abbrev pub ChangedLaw : Type 0
+ChangedLaw =
+    (from to : ℕ) (seats : List Seat) (t : ℕ) (seat : Seat) (f : Seat → Seat) → slice_get seats t ≡ Some seat → is_idle seat ≡ false
+    → IdleBetween from to seats → IdleBetween from to (with_nth seats t f)
 
--- the mark goes back over an idle thread
-abbrev pub EarlierLaw : Type 0
-EarlierLaw =
-    (live : ℕ) (seats : List Seat) (last : Seat) → 0 < live → slice_get seats (live - 1) ≡ Some last → is_idle last ≡ true
-    → IdleFrom live seats → IdleFrom (live - 1) seats
-
--- it stays where no thread has passed any more
+-- they do where no thread has passed any more
 abbrev pub UnpassedLaw : Type 0
-UnpassedLaw = (live : ℕ) (seats : List Seat) → IdleFrom live seats → IdleFrom live (map unpassed seats)
+UnpassedLaw = (from to : ℕ) (seats : List Seat) → IdleBetween from to seats → IdleBetween from to (map unpassed seats)
 
--- it stays where those are released that wait at a barrier
+-- they do where those are released that wait at a barrier
 abbrev pub ReleasedLaw : Type 0
-ReleasedLaw = (live : ℕ) (seats : List Seat) (b : ℕ) → IdleFrom live seats → IdleFrom live (map (released_at b) seats)
+ReleasedLaw = (from to : ℕ) (seats : List Seat) (b : ℕ) → IdleBetween from to seats → IdleBetween from to (map (released_at b) seats)
 
--- after an issue it stands after the child, if there is one
+-- they do after an issue
 abbrev pub IssuedLaw : Type 0
-IssuedLaw =
-    (op : SyncOp) (live : ℕ) (seats : List Seat) → IdleFrom live seats
-    → IdleFrom (if is_some (child_of op (length seats)) then length (seats_after op seats) else live) (seats_after op seats)
+IssuedLaw = (from to : ℕ) (op : SyncOp) (seats : List Seat) → IdleBetween from to seats → IdleBetween from to (seats_after op seats)

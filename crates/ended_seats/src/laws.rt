@@ -1,18 +1,16 @@
-// The laws of the mark, each on a function with an empty body.
+// The laws of idle threads, each on a function with an empty body.
 
-ghost use Rattle.ended_seats.specs.Laws.{UpToLaw, BeyondLaw, EarlierLaw, UnpassedLaw, ReleasedLaw, IssuedLaw};
+ghost use Rattle.ended_seats.specs.Laws.{PastLaw, ChangedLaw, UnpassedLaw, ReleasedLaw, IssuedLaw};
 
-/// A look finds nothing from the mark on: one that begins before it finds what it finds up to it, and one that begins
-/// beyond it finds no thread.
+/// A look that begins at idle threads finds what it finds from the first one on that is not.
 pub fn look_laws()
-    ensures before { UpToLaw }
-    ensures beyond { BeyondLaw }
+    ensures past { PastLaw }
 {}
 
-/// The mark goes back over a thread before it that has ended and has not passed. It stays where passes are forgotten and
-/// where a barrier is opened; after an issue it stays too, or stands after the child.
+/// Idle threads stay so where another thread is changed, where passes are forgotten, where a barrier is opened, and after an
+/// issue.
 pub fn keep_laws()
-    ensures earlier { EarlierLaw }
+    ensures changed { ChangedLaw }
     ensures unpassed { UnpassedLaw }
     ensures released { ReleasedLaw }
     ensures issued { IssuedLaw }

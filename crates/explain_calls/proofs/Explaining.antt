@@ -1,5 +1,5 @@
 -- From what the parts of the call ensure to what is promised of it.
-use Rattle.std.proofs.Common.{◌≡◌, ◌⊎◌, ◌∙◌, ℕ, List, [], IfSome, refl, sym, subst, inl, inr, arith}
+use Rattle.std.proofs.Common.{◌≡◌, ◌⊎◌, ◌∙◌, ℕ, List, [], ◌∷◌, IfSome, refl, sym, subst, inl, inr, arith}
 use Rattle.std.specs.Prelude.{IsSomeAnd}
 use Rattle.std.specs.List.{Contains}
 use Rattle.std.specs.declared.option.Option.{Option}
@@ -10,10 +10,11 @@ use Rattle.task_ast.specs.meaning.Tree.{Name}
 use Rattle.command_line.specs.declared.asked.Asked.{Asked}
 use Rattle.call_cases.specs.declared.reading.Refusal.{Refusal}
 use Rattle.call_cases.specs.declared.reading.Refusal.TheVariants.{Usage as RefusedUsage, BadProgram as RefusedProgram, BadInput as RefusedInput, ReadFault, OutOfMemory}
-use Rattle.call_cases.specs.meaning.Work.{Files, ToDo}
+use Rattle.call_cases.specs.meaning.Work.{Files, ToDo, Case, Refused, Go}
 use Rattle.call_cases.specs.meaning.RunCommands.{IsWhole, end_status}
 use Rattle.call_cases.specs.meaning.PlainText.{plain_ran}
-use Rattle.call_cases.specs.meaning.Case.{Case, Usage, BadProgram, BadInput, Go, IsCase, ForCase, names_read}
+use Rattle.call_cases.specs.meaning.Case.{IsCase, ForCase, names_read}
+use Rattle.call_cases.specs.meaning.Lines as gprs
 use Rattle.call_cases.specs.Refusals.{RefusesCase, RefusesWords}
 use Rattle.call_cases.specs.meaning.Answers.{Change, TakesAll, TakesPart, Fails, Grew, Yields, due_status, no_memory, read_fault, write_fault}
 use Rattle.call_cases.specs.meaning.Headline.{HasCaseLine, IsStop}
@@ -22,8 +23,8 @@ use Rattle.view_calls.specs.Lines.{refusal_line, refusal_status}
 use Rattle.view_calls.specs.meaning.Lines.{read_fault_line, out_of_memory_line, write_fault_line, under_own_name, usage_line}
 use Rattle.view_calls.specs.meaning.Shows.{View, FailsToRead, IsLine}
 use Rattle.explain_calls.specs.meaning.Commands.{explained_by, asking, case_status, case_line}
-use Rattle.explain_calls.specs.meaning.Fronts.{IsText}
-use Rattle.explain_calls.specs.meaning.Explains.{IsExplained, Explains}
+use Rattle.explain_calls.specs.meaning.Fronts.{IsHint, IsText}
+use Rattle.explain_calls.specs.meaning.Explains.{IsExplained, IsOwnText, Explains}
 use Rattle.explain_calls.specs.Endings.{TellEnds, RunTold, TextFor, LeavesShelf}
 use Rattle.explain_calls.proofs.Outcomes.{IsOwn, WriteFails, Outcome, done, failed, short, outcome, outcome_part, none_part}
 use Rattle.explain_calls.proofs.OwnCases.{some_text}
@@ -165,8 +166,8 @@ module _ (words : List (List ℕ)) (files : Option Files) (before now : List Nam
           usage = known_usage usage status ends;
           no_command = known_none two status ends;
           text = known_text status ends;
-          prefix = for_one X known (λ case. (told : List ℕ) × IsText case told × TakesPart out told) is
-              (λ x. (text, texts x, outcome_part text due line out err status ends));
+          prefix = for_one X known (λ case. (told : List ℕ) × IsOwnText (view status) case told × TakesPart out told) is
+              (λ x. (text, inl (texts x), outcome_part text due line out err status ends));
           quiet = known_quiet none status ends;
           line = known_line status ends;
           read_fault = λ seven. absurd (known_read status ends seven);
@@ -176,12 +177,14 @@ module _ (words : List (List ℕ)) (files : Option Files) (before now : List Nam
           unread = unread;
         }
 
-  -- a file could not be read, or memory is out: the case is not told, and no text is written
-  module _ (due : ℕ) (line : List ℕ) (yields : (case : Case ToDo) → Yields (case_status case) (Grew before now) Faults due)
+  -- a file could not be read, or memory is out: the case is not told
+  module _ (text : List ℕ) (due : ℕ) (line : List ℕ) (yields : (case : Case ToDo) → Yields (case_status case) (Grew before now) Faults due)
       (apart : (due ≡ 7) ⊎ (due ≡ 1)) (none : explained_by words ≡ None → Yields 2 ⊥ Faults due)
-      (reads : (status : ℕ) → due ≡ 7 → (name : Name) × FailsToRead asking (view status) name × (line ≡ read_fault_line name))
+      (reads : (status : ℕ) → due ≡ 7 → (name : Name) × FailsToRead asking (view status) name × (line ≡ read_fault_line name)
+      × IsHint text)
+      (texts : (status : ℕ) → TakesPart out text → For (λ case. (told : List ℕ) × IsOwnText (view status) case told × TakesPart out told))
       (lines : For (λ case. IsLine (Grew before now) (case_line case) (names_read case) line)) where
-    other_status : (status : ℕ) → Outcome [] due line out err status
+    other_status : (status : ℕ) → Outcome text due line out err status
         → For (λ case. Yields (case_status case) (Grew before now) Faults status)
     other_status status (done all taken) =
         for_each asking words files (λ case. Yields (case_status case) (Grew before now) Faults due) yields
@@ -190,7 +193,7 @@ module _ (words : List (List ℕ)) (files : Option Files) (before now : List Nam
     other_status status (short part l own taken) =
         for_each asking words files (λ case. Yields (case_status case) (Grew before now) Faults 1) (λ case. no_memory)
 
-    other_apart : (status : ℕ) → Outcome [] due line out err status → (status ≡ 7) ⊎ (status ≡ 1) ⊎ (status ≡ 8)
+    other_apart : (status : ℕ) → Outcome text due line out err status → (status ≡ 7) ⊎ (status ≡ 1) ⊎ (status ≡ 8)
     other_apart status (done all taken) = grind (arith, apart)
     other_apart status (failed part l own taken fails) = inr (inr refl)
     other_apart status (short part l own taken) = inr (inl refl)
@@ -198,26 +201,20 @@ module _ (words : List (List ℕ)) (files : Option Files) (before now : List Nam
     other_among : (status : ℕ) → (status ≡ 7) ⊎ (status ≡ 1) ⊎ (status ≡ 8) → IsExplained status ⊎ (status ≡ 7) ⊎ IsStop status
     other_among status is = inr is
 
-    other_none : (status : ℕ) → Outcome [] due line out err status → explained_by words ≡ None → Yields 2 ⊥ Faults status
+    other_none : (status : ℕ) → Outcome text due line out err status → explained_by words ≡ None → Yields 2 ⊥ Faults status
     other_none status (done all taken) unread = none unread
     other_none status (failed part l own taken fails) unread = write_fault (faulty fails)
     other_none status (short part l own taken) unread = no_memory
 
-    other_prefix : (status : ℕ) → Outcome [] due line out err status
-        → For (λ case. (told : List ℕ) × IsText case told × TakesPart out told)
-    other_prefix status ends =
-        for_each asking words files (λ case. (told : List ℕ) × IsText case told × TakesPart out told)
-        (λ case. let some = some_text case in
-        (some.0, some.1, none_part out some.0 (outcome_part [] due line out err status ends)))
-
-    other_read : (status : ℕ) → Outcome [] due line out err status → status ≡ 7
+    other_read : (status : ℕ) → Outcome text due line out err status → status ≡ 7
         → (name : Name) × FailsToRead asking (view status) name × TakesAll err (read_fault_line name)
+        × (told : List ℕ) × IsHint told × TakesAll out told
     other_read status (done all taken) seven =
-        let found = reads due seven in (found.0, found.1, subst (TakesAll err) found.2 taken)
+        let found = reads due seven in (found.0, found.1, subst (TakesAll err) found.2 taken, text, found.3, all)
     other_read status (failed part l own taken fails) seven = absurd (omega (arith, seven))
     other_read status (short part l own taken) seven = absurd (omega (arith, seven))
 
-    other_write : (status : ℕ) → Outcome [] due line out err status → status ≡ 8 → WriteFails out err
+    other_write : (status : ℕ) → Outcome text due line out err status → status ≡ 8 → WriteFails out err
     other_write status (done all taken) eight = absurd (grind (arith, apart, eight))
     other_write status (failed part l own taken fails) eight = fails
     other_write status (short part l own taken) eight = absurd (omega (arith, eight))
@@ -235,12 +232,12 @@ module _ (words : List (List ℕ)) (files : Option Files) (before now : List Nam
     for_line l (inr (inl is)) part = for_each asking words files Halted (λ case. (l, inr (inl is), part))
     for_line l (inr (inr is)) part = for_each asking words files Halted (λ case. (l, inr (inr (inl is)), part))
 
-    other_stopped : (status : ℕ) → Outcome [] due line out err status → For Halted
+    other_stopped : (status : ℕ) → Outcome text due line out err status → For Halted
     other_stopped status (done all taken) = for_line line (inl refl) (outcome_part line due line err err due (done taken taken))
     other_stopped status (failed part l own taken fails) = for_line l own taken
     other_stopped status (short part l own taken) = for_line l own taken
 
-    explains_other : (explained_by words ≡ None → now ≡ before) → (status : ℕ) → Outcome [] due line out err status
+    explains_other : (explained_by words ≡ None → now ≡ before) → (status : ℕ) → Outcome text due line out err status
         → Explains (view status)
     explains_other unread status ends =
         let is : (status ≡ 7) ⊎ (status ≡ 1) ⊎ (status ≡ 8) = other_apart status ends in
@@ -252,7 +249,7 @@ module _ (words : List (List ℕ)) (files : Option Files) (before now : List Nam
           no_command = other_none status ends;
           text = for_each asking words files (λ case. IsExplained status → (told : List ℕ) × IsText case told × TakesAll out told)
               (λ case told. absurd (grind (arith, is, told)));
-          prefix = other_prefix status ends;
+          prefix = texts status (outcome_part text due line out err status ends);
           quiet = λ ran. absurd (grind (arith, is, ran));
           line = for_each asking words files (λ case. HasCaseLine status → TakesAll err (case_line case))
               (λ case told. absurd (grind (arith, is, told)));
@@ -276,25 +273,26 @@ module _ (words : List (List ℕ)) (files : Option Files) (before now : List Nam
       → IfSome files (λ told. RefusesCase (IsCase asking words told) refusal)
       → LeavesShelf (explained_by words) before now refusal
       → TellEnds text (refusal_status refusal) (refusal_line refusal) out err status → Explains (view status)
-  refusal_explains RefusedUsage text status no_text no_command unread is shelf ends =
-      explains_known (Unit {0}) (λ _. Usage) text 2 usage_line (alone (λ told. IsCase asking words told Usage) is) (λ _. refl) (λ _. refl)
-      (λ _. no_text) (inr (inl refl)) (λ _. shelf.0) (λ _. refl) (λ ran. absurd (grind (arith, ran))) (λ _. shelf.1) unread status
+  refusal_explains RefusedUsage text status hint no_command unread is shelf ends =
+      explains_known (Unit {0}) (λ _. Refused 2 [] gprs.usage_line) text 2 usage_line (alone (λ told. IsCase asking words told (Refused 2 [] gprs.usage_line)) is) (λ _. refl) (λ _. refl)
+      (λ _. inr (inr hint)) (inr (inl refl)) (λ _. shelf.0) (λ _. refl) (λ ran. absurd (grind (arith, ran))) (λ _. shelf.1) unread status
       (outcome text 2 usage_line out err status ends)
   refusal_explains (RefusedProgram told) text status some_words no_command unread is shelf ends =
-      explains_known Name (λ name. BadProgram name told) text 3 (under_own_name told) is (λ _. refl) (λ _. refl)
-      (λ _. tt) (inr (inr (inl refl))) (λ two. absurd (omega (arith, two))) (λ none. absurd (no_command none))
+      explains_known Name (λ name. Refused 3 (name ∷ []) told) text 3 (under_own_name told) is (λ _. refl) (λ _. refl)
+      (λ _. inl refl) (inr (inr (inl refl))) (λ two. absurd (omega (arith, two))) (λ none. absurd (no_command none))
       (λ ran. absurd (grind (arith, ran))) (λ _. shelf) unread status
       (outcome text 3 (under_own_name told) out err status ends)
   refusal_explains (RefusedInput told) text status some_words no_command unread is shelf ends =
-      explains_known (List Name) (λ names. BadInput names told) text 4 (under_own_name told) is (λ _. refl) (λ _. refl)
-      (λ _. tt) (inr (inr (inr refl))) (λ two. absurd (omega (arith, two))) (λ none. absurd (no_command none))
+      explains_known (List Name) (λ names. Refused 4 names told) text 4 (under_own_name told) is (λ _. refl) (λ _. refl)
+      (λ _. inr (inl refl)) (inr (inr (inr refl))) (λ two. absurd (omega (arith, two))) (λ none. absurd (no_command none))
       (λ ran. absurd (grind (arith, ran))) (λ ran. absurd (grind (arith, ran))) unread status
       (outcome text 4 (under_own_name told) out err status ends)
-  refusal_explains (ReadFault name) text status no_text no_command unread is shelf ends =
-      explains_other 7 (read_fault_line name) (λ case. read_fault shelf.1) (inl refl) (λ none. absurd (no_command none))
-      (λ status seven. (name, record { read = read_in files is; alone = shelf.0; grew = shelf.1 }, refl)) (line_in files is) unread status
-      (outcome [] 7 (read_fault_line name) out err status
-      (subst (λ t. TellEnds t 7 (read_fault_line name) out err status) no_text ends))
+  refusal_explains (ReadFault name) text status hint no_command unread is shelf ends =
+      explains_other text 7 (read_fault_line name) (λ case. read_fault shelf.1) (inl refl) (λ none. absurd (no_command none))
+      (λ status seven. (name, record { read = read_in files is; alone = shelf.0; grew = shelf.1 }, refl, hint))
+      (λ status part. for_each asking words files (λ case. (told : List ℕ) × IsOwnText (view status) case told × TakesPart out told)
+      (λ case. (text, inr (shelf.1, hint), part)))
+      (line_in files is) unread status (outcome text 7 (read_fault_line name) out err status ends)
     where
       read_in : (told : Option Files)
           → IfSome told (λ some. (case : Case ToDo) × IsCase asking words some case × Contains (names_read case) name)
@@ -312,7 +310,9 @@ module _ (words : List (List ℕ)) (files : Option Files) (before now : List Nam
           (λ c. IsLine (Grew before now) (case_line c) (names_read c) (read_fault_line name)) one
           (inr (inr (inr (shelf.1, name, reads, refl))))
   refusal_explains OutOfMemory text status no_text no_command unread is shelf ends =
-      explains_other 1 out_of_memory_line (λ case. no_memory) (inr refl) (λ none. no_memory) (λ status seven. absurd (omega (arith, seven)))
+      explains_other [] 1 out_of_memory_line (λ case. no_memory) (inr refl) (λ none. no_memory) (λ status seven. absurd (omega (arith, seven)))
+      (λ status part. for_each asking words files (λ case. (told : List ℕ) × IsOwnText (view status) case told × TakesPart out told)
+      (λ case. let some = some_text case in (some.0, inl some.1, none_part out some.0 part)))
       (for_each asking words files (λ case. IsLine (Grew before now) (case_line case) (names_read case) out_of_memory_line)
       (λ case. inr (inl refl))) unread status
       (outcome [] 1 out_of_memory_line out err status

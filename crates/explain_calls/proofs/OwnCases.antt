@@ -1,5 +1,6 @@
 -- The case of a call that explains.
 use Rattle.std.proofs.Common.{◌≡◌, ◌∙◌, ◌++◌, ℕ, List, [], IfSome, refl, sym, subst, inl, inr, append-nil}
+use Rattle.std.specs.Prelude.{codes}
 use Rattle.std.specs.declared.option.Option.{Option}
 use Rattle.std.specs.declared.option.Option.TheVariants.{None, Some}
 use Rattle.std.specs.declared.result.Result.{Result}
@@ -9,10 +10,10 @@ use Rattle.call_cases.specs.declared.work.Request.{Request}
 use Rattle.task_ast.specs.meaning.Tree.{Name}
 use Rattle.call_cases.specs.declared.reading.Refusal.{Refusal}
 use Rattle.call_cases.specs.declared.reading.Refusal.TheVariants.{Usage as RefusedUsage, BadProgram as RefusedProgram, BadInput as RefusedInput, ReadFault, OutOfMemory}
-use Rattle.call_cases.specs.meaning.Work.{Files, ToDo}
+use Rattle.call_cases.specs.meaning.Work.{Files, ToDo, Case, Refused, Go}
 use Rattle.call_cases.specs.meaning.RunCommands as run
 use Rattle.call_cases.specs.meaning.RunCommands.{MayRead}
-use Rattle.call_cases.specs.meaning.Case.{Case, Usage, Missing, BadProgram, BadInput, Go, IsCaseOf, no_program, of_text, IsCase}
+use Rattle.call_cases.specs.meaning.Case.{IsCaseOf, no_program, of_text, IsCase}
 use Rattle.call_cases.specs.Decided.{case_of}
 use Rattle.call_cases.specs.Refusals.{AnswersCase, RefusesCase, RefusesShelf}
 use Rattle.call_cases.proofs.Answering.{answers_map, asked_case}
@@ -40,10 +41,7 @@ words_answer words told asked result some is = asked_case asking words case_of t
 
 -- each case has a text
 pub some_text : (case : Case ToDo) → (text : List ℕ) × IsText case text
-some_text Usage = ([], refl)
-some_text (Missing names name) = ([], refl)
-some_text (BadProgram name line) = ([], tt)
-some_text (BadInput names line) = ([], tt)
+some_text (Refused status names line) = (codes "hint: ", inr (inr ([], sym (append-nil (codes "hint: ")))))
 some_text (Go names work) =
     (front work.program work.inputs work.limits, ([], sym (append-nil (front work.program work.inputs work.limits))))
 

@@ -10,14 +10,13 @@ use Rattle.call_cases.specs.declared.reading.Refusal.{Refusal}
 use Rattle.call_cases.specs.declared.reading.Refusal.TheVariants.{Usage, BadProgram, BadInput, ReadFault, OutOfMemory}
 use Rattle.call_cases.specs.meaning.RunCommands.{MayRead, end_status}
 use Rattle.call_cases.specs.meaning.PlainText.{plain_ran}
-use Rattle.call_cases.specs.meaning.Work.{ToDo}
-use Rattle.call_cases.specs.meaning.Case.{Go}
+use Rattle.call_cases.specs.meaning.Work.{ToDo, Go}
 use Rattle.call_cases.specs.meaning.Answers.{Change, TakesAll, TakesPart, Fails}
 use Rattle.call_cases.specs.Answers.{LineEnds}
 use Rattle.call_cases.specs.Refusals.{RefusesShelf}
 use Rattle.view_calls.specs.Lines.{fault_line, fault_status}
 use Rattle.explain_calls.specs.declared.reading.Explained.{Explained}
-use Rattle.explain_calls.specs.meaning.Fronts.{IsText}
+use Rattle.explain_calls.specs.meaning.Fronts.{IsHint, IsText}
 
 -- A text was written whole, and then the line that is due; or a part of it was written, and the line that tells why.
 pub data TellEnds (text : List ℕ) (due : ℕ) (line : List ℕ) (out err : Change) : ℕ → Type 0 where
@@ -43,11 +42,13 @@ abbrev pub KeepsFor : Refusal → Type 0 → Type 0
 KeepsFor (BadInput line) same = ⊤
 KeepsFor refusal same = same
 
--- a refusal of a program or of a file has some text, and no other has any
+-- the texts of a refusal; there is none where memory is out
 abbrev pub TextFor : Refusal → List ℕ → Type 0
+TextFor Usage text = IsHint text
 TextFor (BadProgram line) text = ⊤
 TextFor (BadInput line) text = ⊤
-TextFor refusal text = text ≡ []
+TextFor (ReadFault name) text = IsHint text
+TextFor OutOfMemory text = text ≡ []
 
 -- The reads failed as they do where a request is read, but for those of a refused file, which is read once more.
 abbrev pub LeavesShelf : Option Asked → (before now : List Name) → Refusal → Type 0

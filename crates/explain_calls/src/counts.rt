@@ -1,11 +1,11 @@
 // How much a run did, how much of it side by side, and in which lines its arithmetic was not exact.
 
-use gp_base::{Loc, ThreadNo};
+use crate::threads::{Tasks, child_of, push_values};
 use one_thread::{PlainRun, Step};
 use run_counts::{Counting, Slip};
-use run_views::{push_between, push_number};
+use run_views::{push_between, push_labelled, push_number};
 use std::alloc::{AllocError, Global};
-use task_ast::SyncOp;
+use task_ast::{Program, SyncOp};
 
 // The levels of subthreads: one more than that of the last of its thread, of each lock that it holds, and of the thread
 // that it joins or whose fork it is. `next` has for each thread, and each lock, the level that comes next.
@@ -34,14 +34,6 @@ fn put(numbers: &mut Vec<u32>, place: usize, number: u32) -> Result<(), AllocErr
         *slot = number;
     }
     Ok(())
-}
-
-// The thread that a subthread forked, whose registers it writes beside its own.
-fn child_of(step: &Step) -> Option<ThreadNo> {
-    match step.foot.writes.get(1) {
-        Some(Loc::Regs(child)) => Some(*child),
-        _ => None,
-    }
 }
 
 impl Levels {
@@ -110,8 +102,8 @@ fn counted(order: &[Step]) -> (usize, usize) {
     (threads, locks)
 }
 
-// Appends how many of a thing there are.
-fn push_many(text: &mut Vec<u8>, count: usize, thing: &[u8]) -> Result<(), AllocError> {
+/// Appends how many of a thing there are.
+pub fn push_many(text: &mut Vec<u8>, count: u64, thing: &[u8]) -> Result<(), AllocError> {
     push_number(text, count)?;
     text.extend_from_slice(thing)?;
     if count != 1 {
@@ -120,33 +112,72 @@ fn push_many(text: &mut Vec<u8>, count: usize, thing: &[u8]) -> Result<(), Alloc
     Ok(())
 }
 
-// Appends the line of a slip.
-fn push_slip(text: &mut Vec<u8>, line: usize, slip: &Slip) -> Result<(), AllocError> {
-    push_between(
-        text,
-        b"line ",
-        line,
-        b": arithmetic left 64 bits or divided by 0, ",
-    )?;
-    if slip.times == 1 {
-        text.extend_from_slice(b"once")?;
-    } else {
-        push_between(text, b"", slip.times, b" times")?;
+// A run of a program, with what was noted of it, and the tasks of its threads.
+#[derive(Clone, Copy)]
+struct Noted<'a> {
+    program: &'a Program,
+    order: &'a [Step],
+    counting: &'a Counting,
+    tasks: &'a Tasks,
+}
+
+// Appends where a slip was first: its position, the thread, and its control variables there.
+fn push_first(
+    alloc: Global,
+    text: &mut Vec<u8>,
+    noted: Noted<'_>,
+    slip: &Slip,
+) -> Result<(), AllocError> {
+    push_labelled(text, b", first at position ", slip.first)?;
+    let Some(step) = noted.order.get(slip.first as usize) else {
+        return Ok(());
+    };
+    push_labelled(text, b", thread ", step.thread.0)?;
+    let Some(task) = noted.tasks.task_of(noted.program, step.thread) else {
+        return Ok(());
+    };
+    if let Some(kept) = slip.kept {
+        if let Some(values) = noted.counting.values.get(kept) {
+            push_values(alloc, text, task, values)?;
+        }
     }
-    push_between(text, b", first at position ", slip.first, b"\n")
+    Ok(())
+}
+
+// Appends the line of a slip, where there is one.
+fn push_slip(
+    alloc: Global,
+    text: &mut Vec<u8>,
+    noted: Noted<'_>,
+    line: usize,
+    way: &[u8],
+    slip: &Slip,
+) -> Result<(), AllocError> {
+    if slip.times == 0 {
+        return Ok(());
+    }
+    push_between(text, b"line ", line, b": arithmetic ")?;
+    text.extend_from_slice(way)?;
+    if slip.times == 1 {
+        text.extend_from_slice(b", once")?;
+    } else {
+        push_between(text, b", ", slip.times, b" times")?;
+    }
+    push_first(alloc, text, noted, slip)?;
+    text.extend_from_slice(b"\n")
 }
 
 // Appends the lines whose arithmetic was not exact.
-fn push_slips(text: &mut Vec<u8>, counting: &Counting) -> Result<(), AllocError> {
+fn push_slips(alloc: Global, text: &mut Vec<u8>, noted: Noted<'_>) -> Result<(), AllocError> {
     let mut exact = true;
-    for (line, slip) in counting.slips.iter().enumerate() {
-        if slip.times != 0 {
-            exact = false;
-            push_slip(text, line, slip)?;
-        }
+    let counting = noted.counting;
+    for (line, (left, divided)) in counting.left.iter().zip(&counting.divided).enumerate() {
+        push_slip(alloc, text, noted, line, b"left 64 bits", left)?;
+        push_slip(alloc, text, noted, line, b"divided by 0", divided)?;
+        exact = exact && left.times == 0 && divided.times == 0;
     }
     if exact {
-        text.extend_from_slice(b"arithmetic: exact in every line\n")?;
+        text.extend_from_slice(b"arithmetic: exact in every line that ran\n")?;
     }
     Ok(())
 }
@@ -156,18 +187,26 @@ fn push_slips(text: &mut Vec<u8>, counting: &Counting) -> Result<(), AllocError>
 pub fn push_counts(
     alloc: Global,
     text: &mut Vec<u8>,
+    program: &Program,
     run: &PlainRun,
     counting: &Counting,
+    tasks: &Tasks,
 ) -> Result<(), AllocError> {
     let order = run.order.as_slice();
     let (threads, locks) = counted(order);
-    push_many(text, order.len(), b" subthread")?;
+    push_many(text, order.len() as u64, b" subthread")?;
     text.extend_from_slice(b", ")?;
-    push_many(text, threads, b" thread")?;
+    push_many(text, threads as u64, b" thread")?;
     text.extend_from_slice(b", ")?;
-    push_many(text, locks, b" lock")?;
+    push_many(text, locks as u64, b" lock")?;
     text.extend_from_slice(b" taken; at most ")?;
-    push_many(text, widest(alloc, order)? as usize, b" subthread")?;
+    push_many(text, u64::from(widest(alloc, order)?), b" subthread")?;
     text.extend_from_slice(b" side by side\n")?;
-    push_slips(text, counting)
+    let noted = Noted {
+        program,
+        order,
+        counting,
+        tasks,
+    };
+    push_slips(alloc, text, noted)
 }

@@ -1,68 +1,60 @@
 // What is told of a run that is stuck or has spent its limits, after its front.
 
+use crate::counts::push_many;
 use crate::indices::push_index;
+use crate::threads::{Tasks, push_names};
 use call_cases::Request;
 use gp_base::limits::{MOST_SUBTHREADS, MOST_TURNS};
 use gp_base::{End, Limits, ThreadNo, Why};
-use one_thread::{PlainRun, Standing, run_plain};
+use one_thread::{PlainRun, Standing, Step, run_plain, stand_before};
 use run_counts::Counting;
-use run_views::{push_barrier, push_between, push_labelled};
+use run_views::{push_between, push_labelled};
 use std::alloc::{AllocError, Global};
-use task_ast::{Head, Next, SyncOp};
+use task_ast::{Next, SyncOp};
 
-// Whether a thread stands at this barrier.
-fn is_at(next: &Option<Next>, barrier: u32) -> bool {
+// How many threads have their control variables told.
+const MOST_TOLD: usize = 100;
+
+// Appends the control variables of a thread, where it has any.
+fn push_names_of(
+    text: &mut Vec<u8>,
+    thread: ThreadNo,
+    standing: &Standing,
+) -> Result<(), AllocError> {
+    match standing.names.get(thread.0 as usize) {
+        Some(names) => push_names(text, thread, names.as_slice()),
+        None => Ok(()),
+    }
+}
+
+// Whether a thread waits for something.
+fn waits(next: &Option<Next>) -> bool {
     match next {
-        Some(next) => matches!(&next.sync, SyncOp::Barrier(at) if *at == barrier),
+        Some(next) => !next.sync.is_end(),
         None => false,
     }
 }
 
-// Appends who is at a barrier, where somebody is.
-fn push_meeting(
-    text: &mut Vec<u8>,
-    heads: &[Head],
-    barrier: u32,
-    wanted: i64,
-    nexts: &[Option<Next>],
-) -> Result<(), AllocError> {
-    let there = nexts.iter().filter(|next| is_at(next, barrier)).count();
-    if there == 0 {
+// Appends the control variables of the threads that have not ended, or of the first of them.
+fn push_waiting(text: &mut Vec<u8>, standing: &Standing) -> Result<(), AllocError> {
+    let mut told: usize = 0;
+    let mut left: u64 = 0;
+    let mut thread: u32 = 0;
+    for next in standing.nexts.as_slice() {
+        if waits(next) && told < MOST_TOLD {
+            push_names_of(text, ThreadNo(thread), standing)?;
+            told = told.saturating_add(1);
+        } else if waits(next) {
+            left = left.saturating_add(1);
+        }
+        thread = thread.saturating_add(1);
+    }
+    if left == 0 {
         return Ok(());
     }
-    text.extend_from_slice(b"barrier ")?;
-    push_barrier(text, heads, barrier)?;
-    push_labelled(text, b": ", there)?;
-    push_between(text, b" of ", wanted, b" threads ")?;
-    text.extend_from_slice(if there == 1 {
-        b"is there"
-    } else {
-        b"are there"
-    })?;
-    let mut between: &[u8] = b": ";
-    for (thread, next) in nexts.iter().enumerate() {
-        if is_at(next, barrier) {
-            push_labelled(text, between, thread)?;
-            between = b", ";
-        }
-    }
-    text.extend_from_slice(b"\n")
-}
-
-// Appends a line for each barrier at which somebody is.
-fn push_meetings(
-    text: &mut Vec<u8>,
-    heads: &[Head],
-    nexts: &[Option<Next>],
-) -> Result<(), AllocError> {
-    let mut barrier: u32 = 0;
-    for head in heads {
-        if let Head::BarrierHead { number, .. } = head {
-            push_meeting(text, heads, barrier, *number, nexts)?;
-            barrier = barrier.saturating_add(1);
-        }
-    }
-    Ok(())
+    text.extend_from_slice(b"the variables of ")?;
+    push_many(text, left, b" more thread")?;
+    text.extend_from_slice(b" are not told\n")
 }
 
 // What the thread does next.
@@ -97,9 +89,8 @@ pub fn push_stuck_details(
     line: u32,
     standing: &Standing,
 ) -> Result<(), AllocError> {
-    let program = request.checked.program();
     match why {
-        Why::Deadlock => push_meetings(text, program.heads.as_slice(), &standing.nexts),
+        Why::Deadlock => push_waiting(text, standing),
         Why::Index => push_index(alloc, text, request, thread, line, standing),
         Why::Join => push_join(text, thread, standing),
         Why::Threads => push_between(
@@ -111,21 +102,71 @@ pub fn push_stuck_details(
     }
 }
 
+// Appends how many of a thing are allowed, where that is more than was given, or else what to do.
+fn push_limit(
+    text: &mut Vec<u8>,
+    option: &[u8],
+    given: u64,
+    most: u64,
+    instead: &[u8],
+) -> Result<(), AllocError> {
+    text.extend_from_slice(b"hint: ")?;
+    text.extend_from_slice(option)?;
+    if given < most {
+        push_between(text, b" allows up to ", most, b"\n")
+    } else {
+        push_between(text, b" allows no more than ", most, b": ")?;
+        text.extend_from_slice(instead)
+    }
+}
+
 // Appends that a subthread took all loop turns that it may.
 fn push_turns(
     text: &mut Vec<u8>,
     request: &Request,
     run: &PlainRun,
     counting: &Counting,
+    standing: &Standing,
     position: usize,
 ) -> Result<(), AllocError> {
+    let given = request.asked.limits.turns;
     if let Some(step) = run.order.get(position) {
         push_labelled(text, b"thread ", step.thread.0)?;
-        push_labelled(text, b" took ", request.asked.limits.turns)?;
-        text.extend_from_slice(b" loop turns in one subthread, last at the loop in line ")?;
+        push_labelled(text, b" took ", given)?;
+        text.extend_from_slice(if given == 1 {
+            b" loop turn"
+        } else {
+            b" loop turns"
+        })?;
+        text.extend_from_slice(b" in one subthread, last at the loop in line ")?;
         push_between(text, b"", counting.control_line(position), b"\n")?;
+        push_names_of(text, step.thread, standing)?;
     }
-    push_between(text, b"hint: --turns allows up to ", MOST_TURNS, b"\n")
+    push_limit(
+        text,
+        b"--turns",
+        given,
+        MOST_TURNS,
+        b"a long loop that ends is cut by a barrier of one\n",
+    )
+}
+
+// Appends where a thread would begin one subthread more.
+fn push_one_more(
+    text: &mut Vec<u8>,
+    request: &Request,
+    step: &Step,
+    tasks: &Tasks,
+) -> Result<(), AllocError> {
+    push_labelled(text, b"; thread ", step.thread.0)?;
+    if !matches!(step.begins.sync, SyncOp::Start) {
+        return push_between(text, b" line ", step.begins.line, b" would begin one more");
+    }
+    text.extend_from_slice(b" would begin one more, at the beginning of task ")?;
+    match tasks.task_of(request.checked.program(), step.thread) {
+        Some(task) => text.extend_from_slice(task.name.as_slice()),
+        None => Ok(()),
+    }
 }
 
 // Appends which thread would begin a subthread more than there may be.
@@ -133,24 +174,36 @@ fn push_subthreads(
     alloc: Global,
     text: &mut Vec<u8>,
     request: &Request,
+    tasks: &Tasks,
+    standing: &Standing,
     position: usize,
 ) -> Result<(), AllocError> {
+    let given = request.asked.limits.subthreads;
     let limits = Limits {
         turns: request.asked.limits.turns,
-        subthreads: request.asked.limits.subthreads.saturating_add(1),
+        subthreads: given.saturating_add(1),
     };
     let more = run_plain(alloc, &request.checked, &request.inputs, limits)?;
-    push_between(text, b"", position, b" subthreads were begun")?;
-    if let Some(step) = more.order.get(position) {
-        push_labelled(text, b"; thread ", step.thread.0)?;
-        push_between(text, b" line ", step.begins.line, b" would begin one more")?;
+    push_many(text, position as u64, b" subthread")?;
+    text.extend_from_slice(if position == 1 {
+        b" was begun"
+    } else {
+        b" were begun"
+    })?;
+    let next = more.order.get(position);
+    if let Some(step) = next {
+        push_one_more(text, request, step, tasks)?;
     }
     text.extend_from_slice(b"\n")?;
-    push_between(
+    if let Some(step) = next {
+        push_names_of(text, step.thread, standing)?;
+    }
+    push_limit(
         text,
-        b"hint: --subthreads allows up to ",
-        MOST_SUBTHREADS,
-        b"\n",
+        b"--subthreads",
+        u64::from(given),
+        u64::from(MOST_SUBTHREADS),
+        b"cut the batch into parts\n",
     )
 }
 
@@ -169,13 +222,22 @@ pub fn push_spent_details(
     request: &Request,
     run: &PlainRun,
     counting: &Counting,
+    tasks: &Tasks,
 ) -> Result<(), AllocError> {
     let Some(at) = spent_at(run.end) else {
         return Ok(());
     };
+    let limits = request.asked.limits;
+    let Ok(last) = u32::try_from(run.order.len()) else {
+        return Err(AllocError);
+    };
+    let Some(standing) = stand_before(alloc, &request.checked, &request.inputs, limits, last)?
+    else {
+        return Ok(());
+    };
     if at < run.order.len() {
-        push_turns(text, request, run, counting, at)
+        push_turns(text, request, run, counting, &standing, at)
     } else {
-        push_subthreads(alloc, text, request, at)
+        push_subthreads(alloc, text, request, tasks, &standing, at)
     }
 }

@@ -1,5 +1,7 @@
 // Which cell is not there, where a run is stuck at an index.
 
+use crate::counts::push_many;
+use crate::threads::push_names;
 use call_cases::{Request, copied_feeds};
 use gp_base::{Feed, Name, Seq, ThreadNo};
 use one_thread::Standing;
@@ -70,9 +72,23 @@ fn push_outside(
     }
     text.extend_from_slice(b"; ")?;
     text.extend_from_slice(array.as_slice())?;
-    push_between(text, b" has ", size, b" cells, 0 to ")?;
-    push_between(text, b"", size.saturating_sub(1), b"\n")?;
+    text.extend_from_slice(b" has ")?;
+    push_many(text, size.unsigned_abs(), b" cell")?;
+    push_between(text, b", 0 to ", size.saturating_sub(1), b"\n")?;
     Ok(true)
+}
+
+// Appends how many rows and fields a feed has.
+fn push_size(text: &mut Vec<u8>, feed: &Feed) -> Result<(), AllocError> {
+    let (rows, fields) = (feed.rows(), feed.fields);
+    text.extend_from_slice(b" has ")?;
+    push_many(text, rows.unsigned_abs(), b" row")?;
+    if 0 < rows {
+        push_labelled(text, b", 0 to ", rows.saturating_sub(1))?;
+    }
+    text.extend_from_slice(b", of ")?;
+    push_many(text, u64::from(fields), b" field")?;
+    push_labelled(text, b", 0 to ", fields.saturating_sub(1))
 }
 
 // Appends a cell of a feed that is not there.
@@ -89,13 +105,7 @@ fn push_no_cell(
     text.extend_from_slice(feed.as_slice())?;
     for pair in here.env.feeds.as_slice() {
         if pair.0.as_slice() == feed.as_slice() {
-            let rows = pair.1.rows();
-            push_between(text, b" has ", rows, b" rows")?;
-            if 0 < rows {
-                push_labelled(text, b", 0 to ", rows.saturating_sub(1))?;
-            }
-            push_between(text, b", of ", pair.1.fields, b" fields, 0 to ")?;
-            push_between(text, b"", pair.1.fields.saturating_sub(1), b"")?;
+            push_size(text, &pair.1)?;
         }
     }
     text.extend_from_slice(b"\n")
@@ -228,26 +238,6 @@ fn named_feeds(
         }
     }
     Ok(named)
-}
-
-// Appends the control variables of a thread.
-fn push_names(
-    text: &mut Vec<u8>,
-    thread: ThreadNo,
-    names: &[(Name, i64)],
-) -> Result<(), AllocError> {
-    if names.is_empty() {
-        return Ok(());
-    }
-    push_labelled(text, b"thread ", thread.0)?;
-    let mut between: &[u8] = b": ";
-    for pair in names {
-        text.extend_from_slice(between)?;
-        text.extend_from_slice(pair.0.as_slice())?;
-        push_labelled(text, b" = ", pair.1)?;
-        between = b", ";
-    }
-    text.extend_from_slice(b"\n")
 }
 
 // The same control variables again.

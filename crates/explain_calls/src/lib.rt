@@ -8,7 +8,10 @@ mod indices;
 mod reading;
 mod refused;
 mod running;
+mod threads;
 mod top;
+mod unread;
+mod usage;
 mod words;
 
 pub use top::explain_run;

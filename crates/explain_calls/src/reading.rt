@@ -4,6 +4,7 @@ ghost use Rattle.gp_base.specs.declared.limits.TheConstants.{MOST_PROGRAM_BYTES}
 ghost use Rattle.command_line.specs.meaning.Words.{texts};
 ghost use Rattle.command_line.specs.Words.{IsWithinLimits};
 ghost use Rattle.call_cases.specs.meaning.Case.{IsCase, IsCaseOf};
+ghost use Rattle.call_cases.specs.declared.reading.Refusal.TheVariants.{Usage as RefusedUsage};
 ghost use Rattle.call_cases.specs.meaning.RunCommands as run;
 ghost use Rattle.call_cases.specs.Decided.{case_of};
 ghost use Rattle.call_cases.specs.Refusals.{AnswersCase, AnswersNoCommand};
@@ -11,6 +12,8 @@ ghost use Rattle.explain_calls.specs.meaning.Commands.{asking, explained_by};
 ghost use Rattle.explain_calls.specs.Endings.{plainly, IsOrShort, KeepsFor, ReadsShelf, TextFor};
 
 use crate::refused::{input_text, long_program, program_text};
+use crate::unread::{unread_file, unread_program};
+use crate::usage::usage_text;
 use crate::words::read_words;
 use call_cases::{Refusal, Request, read_beside, read_program};
 use command_line::Asked;
@@ -63,9 +66,15 @@ fn told_by<H: Shelf>(
             },
             Err(_) => bare(alloc, Refusal::OutOfMemory),
         },
-        Refusal::Usage => bare(alloc, Refusal::Usage),
-        Refusal::ReadFault(name) => bare(alloc, Refusal::ReadFault(name)),
-        Refusal::OutOfMemory => bare(alloc, Refusal::OutOfMemory),
+        Refusal::ReadFault(file) => match unread_file(alloc, name, text, &file) {
+            Ok(text) => Explained {
+                refusal: Refusal::ReadFault(file),
+                text: Text::from_vec(text),
+            },
+            Err(_) => bare(alloc, Refusal::OutOfMemory),
+        },
+        // The words were taken before the program was read.
+        Refusal::Usage | Refusal::OutOfMemory => bare(alloc, Refusal::OutOfMemory),
     }
 }
 
@@ -82,10 +91,31 @@ fn unread(alloc: Global, name: &Name, refusal: Refusal) -> Explained
             },
             Err(_) => bare(alloc, Refusal::OutOfMemory),
         },
-        Refusal::Usage => bare(alloc, Refusal::Usage),
-        Refusal::BadInput(_) => bare(alloc, Refusal::OutOfMemory),
-        Refusal::ReadFault(name) => bare(alloc, Refusal::ReadFault(name)),
-        Refusal::OutOfMemory => bare(alloc, Refusal::OutOfMemory),
+        Refusal::ReadFault(file) => match unread_program(alloc, &file) {
+            Ok(text) => Explained {
+                refusal: Refusal::ReadFault(file),
+                text: Text::from_vec(text),
+            },
+            Err(_) => bare(alloc, Refusal::OutOfMemory),
+        },
+        // The words were taken, and no file beside the program is read yet.
+        Refusal::Usage | Refusal::BadInput(_) | Refusal::OutOfMemory => {
+            bare(alloc, Refusal::OutOfMemory)
+        }
+    }
+}
+
+// A refusal of words, with what is told of them.
+fn untaken(alloc: Global, words: &[String]) -> Explained
+    ensures same { IsOrShort RefusedUsage result.refusal }
+    ensures text { TextFor result.refusal result.text }
+{
+    match usage_text(alloc, words) {
+        Ok(text) => Explained {
+            refusal: Refusal::Usage,
+            text: Text::from_vec(text),
+        },
+        Err(_) => bare(alloc, Refusal::OutOfMemory),
     }
 }
 
@@ -127,7 +157,7 @@ pub fn read_explained<H: Shelf>(
 {
     match read_words(alloc, words) {
         Ok(Some(asked)) => read_run(alloc, asked, shelf),
-        Ok(None) => Err(bare(alloc, Refusal::Usage)),
+        Ok(None) => Err(untaken(alloc, words)),
         Err(_) => Err(bare(alloc, Refusal::OutOfMemory)),
     }
 }

@@ -151,8 +151,8 @@ fn use_of<'a>(heads: &'a [Head], file: &[u8]) -> FileUse<'a> {
     FileUse::Faults
 }
 
-// The program of a text, where there is one.
-fn program_of(alloc: Global, text: &[u8]) -> Option<Program>
+/// The program of a text, where there is one.
+pub fn program_of(alloc: Global, text: &[u8]) -> Option<Program>
     requires { length text.now ≤ MOST_PROGRAM_BYTES }
 {
     let Ok(tokens) = lex(alloc, text) else {

@@ -5,20 +5,21 @@ ghost use Rattle.task_ast.specs.Table.{Table};
 ghost use Rattle.task_ast.specs.meaning.Control.{Point};
 ghost use Rattle.task_ast.specs.Plain.{order, end};
 ghost use Rattle.task_ast.specs.Position.{before};
-ghost use Rattle.restart_log.specs.meaning.Tail.{why_word};
+ghost use Rattle.run_views.specs.meaning.Deadlocks.{deadlock_text};
 ghost use Rattle.one_thread.specs.PlainRuns.{IsPlainRun, Stands};
 ghost use Rattle.command_line.specs.Words.{IsWithinLimits};
 ghost use Rattle.call_cases.specs.Decided.{work_of, program_in};
-ghost use Rattle.call_cases.specs.meaning.Case.{Go};
-ghost use Rattle.explain_calls.specs.meaning.Fronts.{ending_line, stuck_waits, front, last_table, IsText};
+ghost use Rattle.call_cases.specs.meaning.Work.{Go};
+ghost use Rattle.explain_calls.specs.meaning.Fronts.{ending_line, front, last_table, IsText};
 
 use crate::counts::push_counts;
 use crate::details::{push_spent_details, push_stuck_details};
+use crate::threads::Tasks;
 use call_cases::Request;
 use gp_base::{End, Seq, Text, Why};
 use one_thread::{PlainRun, Standing, run_reckoned, stand_before};
 use run_counts::Counting;
-use run_views::{push_between, push_labelled, push_waits};
+use run_views::{push_between, push_labelled, push_standing, why_word};
 use std::alloc::{AllocError, Global};
 use task_ast::Head;
 
@@ -27,17 +28,6 @@ use task_ast::Head;
 pub struct Told {
     pub text: Text,
     pub end: End,
-}
-
-fn why_word(why: Why) -> &'static str
-    ensures { result.now ≡ why_word why }
-{
-    match why {
-        Why::Deadlock => "deadlock",
-        Why::Index => "index",
-        Why::Join => "join",
-        Why::Threads => "threads",
-    }
 }
 
 // Appends the line that tells how a run ends.
@@ -58,17 +48,21 @@ fn push_ending(text: &mut Vec<u8>, end: End) -> Result<(), AllocError>
 
 // Appends what the threads wait for, where no one can go on.
 fn push_stuck(
+    alloc: Global,
     text: &mut Vec<u8>,
     heads: &[Head],
-    why: Why,
+    end: End,
     standing: &Standing,
 ) -> Result<(), AllocError>
     ensures { (table : Table) (points : List Point) → Stands table points standing.now
-        → OnOk result (text.new.items ≡ text.old.items ++ stuck_waits heads.now why table) }
+        → OnOk result (text.new.items ≡ text.old.items ++ deadlock_text heads.now table end) }
 {
-    match why {
-        Why::Deadlock => push_waits(text, heads, &standing.owners, &standing.nexts),
-        Why::Index | Why::Join | Why::Threads => Ok(()),
+    match end {
+        End::Stuck {
+            why: Why::Deadlock,
+            ..
+        } => push_standing(alloc, text, heads, standing),
+        End::Stuck { .. } | End::Finished | End::Spent(_) => Ok(()),
     }
 }
 
@@ -106,7 +100,7 @@ fn front_of(
         End::Spent(_) => Ok(text),
         End::Stuck { why, thread, line } => {
             let standing = last_standing(alloc, request, run.order.len())?;
-            push_stuck(&mut text, heads, why, &standing)?;
+            push_stuck(alloc, &mut text, heads, run.end, &standing)?;
             push_stuck_details(alloc, rest, request, why, thread, line, &standing)?;
             Ok(text)
         }
@@ -128,10 +122,12 @@ pub fn tell_of(alloc: Global, request: &Request) -> Result<Told, AllocError>
         limits,
         &mut counting,
     )?;
+    let program = request.checked.program();
+    let tasks = Tasks::new(alloc, program, run.order.as_slice())?;
     let mut rest = Vec::new(alloc);
     let mut text = front_of(alloc, request, &run, &mut rest)?;
-    push_spent_details(alloc, &mut rest, request, &run, &counting)?;
-    push_counts(alloc, &mut rest, &run, &counting)?;
+    push_spent_details(alloc, &mut rest, request, &run, &counting, &tasks)?;
+    push_counts(alloc, &mut rest, program, &run, &counting, &tasks)?;
     text.extend_from_slice(&rest)?;
     Ok(Told {
         text: Seq::from_vec(text),

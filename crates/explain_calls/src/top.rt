@@ -49,8 +49,8 @@ fn tell_refusal<O: Sink, E: Sink>(explained: &Explained, out: &mut O, err: &mut 
 /// where the words are not those of `explain`, 3 where the program is refused, 4 where a file beside it is refused, 7
 /// where a file could not be read, and 8 where a write failed.
 ///
-/// At 0, 3, 4, 5 and 6 `out` took what is told, and at each status a part of it. At 2, 3, 4 and 7 `err` took one line
-/// that tells why; at 8 it took such a line, unless it failed itself.
+/// At 0 and 2 to 7 `out` took what is told, and at each status a part of it. At 2, 3, 4 and 7 `err` took one line that
+/// tells why; at 8 it took such a line, unless it failed itself.
 pub fn explain_run<H: Shelf, O: Sink, E: Sink>(
     alloc: Global,
     words: &[String],

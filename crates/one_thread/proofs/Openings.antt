@@ -21,7 +21,7 @@ use Rattle.task_ast.proofs.Arms.{some_is}
 use Rattle.one_thread.specs.declared.walk.Walk.{Walk}
 use Rattle.one_thread.specs.declared.threads.Run.{Run}
 use Rattle.one_thread.specs.inner.Holding.{AreHeld}
-use Rattle.one_thread.specs.inner.View.{table_of, MarkStands}
+use Rattle.one_thread.specs.inner.View.{table_of, WalksStand}
 use Rattle.one_thread.specs.inner.Walking.{point_of}
 use Rattle.one_thread.specs.inner.Runs.{slots_of, registers_at, IsSound, AreSound, IsNew, Holds}
 
@@ -105,18 +105,18 @@ pub opening-holds : (code : Code) (inputs : Inputs) (limits : Limits) (run : Run
     → slice_get run.slots.now k ≡ Some names → registers ≡ replicate (length names) (pos 0) → IsNew code k 0 [] registers w
     → run.threads.items ≡ w ∷ []
     → table_of run.table ≡ (opening (plain_program code) inputs limits).table
-    → AreHeld run.table.owners.owners.items run.table.owners.held.items → MarkStands run.table
+    → AreHeld run.table.owners.owners.items run.table.owners.held.items → WalksStand run.table
     → run.shared.cells ≡ map (number_at inputs.records) (numbers 0 (cells_in (records_of code.heads)))
     → run.shared.feeds ≡ zip (feeds_of code.heads) inputs.feeds
     → Holds code inputs limits run (opening (plain_program code) inputs limits)
-opening-holds code inputs limits run k names registers w program slots turns main_is at registers_are new threads table held mark cells feeds =
+opening-holds code inputs limits run k names registers w program slots turns main_is at registers_are new threads table held walks cells feeds =
     record {
       program = program;
       slots = slots;
       turns = turns;
       feeds = feeds;
       held = held;
-      mark = mark;
+      walks = walks;
       table = table;
       sound = subst (AreSound code) (sym threads) (one-sound code w new.sound);
       points =

@@ -403,7 +403,7 @@ module _ (code : Code) (inputs : Inputs) (limits : Limits) (old : Run) (p : Plai
         turns = performed.turns ∙ holds.turns;
         feeds = performed.ran.feeds_are ∙ holds.feeds;
         held = subst (λ o. AreHeld o.owners.items o.held.items) (sym performed.owners) holds.held;
-        mark = performed.mark;
+        walks = performed.walks;
         table =
             performed.table ∙ ap (learning (table_of old.table) t) (performed.ran.next_is ∙ ap (λ b. b.next) body-is)
             ∙ ap (λ tb. learning tb t body.next) holds.table;

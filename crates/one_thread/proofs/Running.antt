@@ -29,7 +29,7 @@ use Rattle.one_thread.specs.declared.threads.Run.{Run}
 use Rattle.one_thread.specs.declared.run.Step.{Step}
 use Rattle.one_thread.specs.declared.run.Move.{Move as Found}
 use Rattle.one_thread.specs.inner.Holding.{AreHeld}
-use Rattle.one_thread.specs.inner.View.{table_of, seat_of, MarkStands}
+use Rattle.one_thread.specs.inner.View.{table_of, seat_of, WalksStand}
 use Rattle.one_thread.specs.inner.Walking.{point_of}
 use Rattle.one_thread.specs.inner.Runs.{Holds, grown}
 use Rattle.one_thread.specs.PlainRuns.{shown, IsPlainRun}
@@ -82,10 +82,10 @@ module _ (code : Code) (inputs : Inputs) (limits : Limits) (old : Run) (plain : 
     abbrev plain_mid : Plain
     plain_mid = record plain { table = table_of after }
 
-    pub issue-goes : AreHeld after.owners.owners.items after.owners.held.items → MarkStands after → length old.threads.items ≡ length old.table.seats.items
+    pub issue-goes : AreHeld after.owners.owners.items after.owners.held.items → WalksStand after → length old.threads.items ≡ length old.table.seats.items
         → next_issue (table_of old.table) ≡ Issue t begins child (table_of after)
         → Stepped mid t begins child step new → Went code inputs limits plain step new
-    issue-goes held mark alike is stepped =
+    issue-goes held walks alike is stepped =
         record {
           subthread = _;
           then = after_it code inputs limits mid plain_mid holds_mid t begins child stepped.told new stepped.performed;
@@ -131,7 +131,7 @@ module _ (code : Code) (inputs : Inputs) (limits : Limits) (old : Run) (plain : 
               turns = holds.turns;
               feeds = holds.feeds;
               held = held;
-              mark = mark;
+              walks = walks;
               table = refl;
               sound = holds.sound;
               points = holds.points;

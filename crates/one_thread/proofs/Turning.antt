@@ -64,7 +64,7 @@ come-not before after t b seat at away e =
     ap table_of e ∙ sym (ap (λ s. come_to s (table_of before) t b) (stand-at (table_of before) t seat at)
     ∙ come-there seat.stand (table_of before) t b away)
 
-met-next : (table : Table) (t b : ℕ) → next_of (met (arrived table t) b) t ≡ next_of table t
+pub met-next : (table : Table) (t b : ℕ) → next_of (met (arrived table t) b) t ≡ next_of table t
 met-next table t b = go (nat_le (unwrap_or (slice_get table.barriers b) 0) (count_by (waits_at b) (arrived table t).seats))
   where
     go : (all : Bool) → next_of (cond all (opened table t b) (arrived table t)) t ≡ next_of table t

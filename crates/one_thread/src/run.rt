@@ -6,7 +6,7 @@ ghost use Rattle.task_ast.specs.Plain.{Plain};
 ghost use Rattle.task_ast.specs.View.{plain_program};
 ghost use Rattle.lock_checker.specs.Accepted.{program_of};
 ghost use Rattle.one_thread.specs.inner.Holding.{AreHeld};
-ghost use Rattle.one_thread.specs.inner.View.{MarkStands};
+ghost use Rattle.one_thread.specs.inner.View.{WalksStand};
 ghost use Rattle.one_thread.specs.inner.Runs.{slots_of, AreSound, Holds, IsSmall};
 ghost use Rattle.one_thread.specs.PlainRuns.{IsPlainRun};
 ghost use Rattle.one_thread.specs.inner.Moves.{Stepped, Follows};
@@ -75,7 +75,7 @@ impl Run<'_> {
         requires slots { self.old.slots.now ≡ map slots_of self.old.program.now.tasks }
         requires sound { AreSound self.old.program.now self.old.threads.items }
         requires held { AreHeld self.old.table.owners.owners.items self.old.table.owners.held.items }
-        requires mark { MarkStands self.old.table }
+        requires walks { WalksStand self.old.table }
         ensures { IfOk result (λ step. Stepped self.old t begins child step self.new) }
     {
         let held = locks_of(alloc, self.table.owners.held_by(t))?;
@@ -99,7 +99,7 @@ impl Run<'_> {
         requires slots { self.old.slots.now ≡ map slots_of self.old.program.now.tasks }
         requires sound { AreSound self.old.program.now self.old.threads.items }
         requires held { AreHeld self.old.table.owners.owners.items self.old.table.owners.held.items }
-        requires mark { MarkStands self.old.table }
+        requires walks { WalksStand self.old.table }
         requires alike { length self.old.threads.items ≡ length self.old.table.seats.items }
         ensures { IfOk result (λ m. (inputs : InputsThere) (limits : LimitsThere) (plain : Plain) → Holds self.old.program.now inputs limits self.old plain → Follows self.old.program.now inputs limits self.old plain m self.new) }
     {

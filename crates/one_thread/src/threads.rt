@@ -3,7 +3,7 @@ ghost use Rattle.std.specs.Prelude.{◌≡◌, ◌<◌, ◌≤◌, map, length, 
 ghost use Rattle.task_ast.specs.declared.sync.Next.{Next as NextThere};
 ghost use Rattle.task_ast.specs.meaning.State;
 ghost use Rattle.one_thread.specs.inner.Subthreads.{settled};
-ghost use Rattle.one_thread.specs.inner.View.{MarkStands};
+ghost use Rattle.one_thread.specs.inner.View.{WalksStand};
 ghost use Rattle.one_thread.specs.inner.Runs.{slots_of, registers_at, joined_of, AreSound, IsNew, Forks, Performed, IsSmall};
 
 use crate::data::Data;
@@ -166,7 +166,7 @@ impl Run<'_> {
     ) -> Result<Told, AllocError>
         requires exists { t < length self.old.threads.items }
         requires seated { t < length self.old.table.seats.items }
-        requires mark { MarkStands self.old.table }
+        requires walks { WalksStand self.old.table }
         requires small { IsSmall self.old.program.now }
         requires slots { self.old.slots.now ≡ map slots_of self.old.program.now.tasks }
         requires sound { AreSound self.old.program.now self.old.threads.items }

@@ -19,7 +19,7 @@ enum Used {
 type Case = (Used, &'static [u8], FileKind, u32, &'static [u8]);
 
 // Records of 40 cells, feeds of three fields, faults.
-const FILES: [Case; 16] = [
+const FILES: [Case; 22] = [
     (
         Used::Feed,
         b"0,1,2\n0,1,3\n\n0,1,4\n0,1,5\n0,1,12.50\n",
@@ -88,7 +88,7 @@ const FILES: [Case; 16] = [
         b"\xef\xbb\xbfa,1\n",
         Number,
         1,
-        b"f.csv:1: field 1: \"a\" is no whole number (kind 2 row 1)\na,1\nhint: a header has to go\n",
+        b"f.csv:1: field 1: \"a\" is no whole number (kind 2 row 1)\na,1\n",
     ),
     (
         Used::Record,
@@ -132,6 +132,48 @@ const FILES: [Case; 16] = [
         1,
         b"f.csv:1: field 4: 0 is no mask: it flips no bit (kind 3 row 1)\n1,0,0,0\n",
     ),
+    (
+        Used::Feed,
+        b"4,x,5\n",
+        Number,
+        1,
+        b"f.csv:1: field 2: \"x\" is no whole number (kind 2 row 1)\n4,x,5\n",
+    ),
+    (
+        Used::Feed,
+        b"account,net.1,\n",
+        Number,
+        1,
+        b"f.csv:1: field 1: \"account\" is no whole number (kind 2 row 1)\naccount,net.1,\nhint: a header has to go\n",
+    ),
+    (
+        Used::Feed,
+        b"1,12345678901234567890,3\n",
+        Number,
+        1,
+        b"f.csv:1: field 2: \"12345678901234567890\" leaves 64 bits (kind 2 row 1)\n1,12345678901234567890,3\n",
+    ),
+    (
+        Used::Record,
+        b"0,1\n1,-9223372036854775809\n",
+        Number,
+        2,
+        b"f.csv:2: field 2: \"-9223372036854775809\" leaves 64 bits (kind 2 row 2)\n1,-9223372036854775809\n",
+    ),
+    (
+        Used::Record,
+        b"-,b\n",
+        Number,
+        1,
+        b"f.csv:1: field 1: \"-\" is no whole number (kind 2 row 1)\n-,b\nhint: a header has to go\n",
+    ),
+    (
+        Used::Record,
+        b"0,+5\n",
+        Number,
+        1,
+        b"f.csv:1: field 2: \"+5\" is no whole number (kind 2 row 1)\n0,+5\n",
+    ),
 ];
 
 // Whether what is wanted is told of the file.
@@ -152,7 +194,7 @@ fn is_told(alloc: Global, case: &Case) -> Result<bool, AllocError> {
 
 #[test]
 fn files_that_are_refused(rt: HostRuntime) -> Result<(), Fail> {
-    let table: [Case; 16] = FILES;
+    let table: [Case; 22] = FILES;
     for case in &table {
         assert!(rt; is_told(rt.alloc(), case)?);
     }

@@ -72,7 +72,7 @@ const LEXING: [Case; 10] = [
 ];
 
 // Tokens that cannot stand where they do.
-const PARSING: [Case; 13] = [
+const PARSING: [Case; 17] = [
     (
         b"task main() {\n  var i, $x;\n  i = ;\n}\n",
         UnknownName,
@@ -83,7 +83,7 @@ const PARSING: [Case; 13] = [
         b"task main() {\n  i = 1;\n",
         UnknownName,
         1,
-        b"p.gp:2:9: the text ends here; `}` or a statement was expected\n  i = 1;\n        ^\nparse 1: the first token that no program goes on with (parse 1 at byte 23)\n",
+        b"p.gp:2:9: the text ends here; `}` or a statement was expected\n  i = 1;\n        ^\nparse 1: the first token that no program goes on with (parse 1 at byte 23)\nhint: the block is open that begins in line 1\n",
     ),
     (
         b"task main() {\n  var i, $x;\n  i = 1\n  i = 2;\n}\n",
@@ -125,7 +125,7 @@ const PARSING: [Case; 13] = [
         b"task main() {\n  var i, $x;\n  lock l[$x];\n}\n",
         UnknownName,
         1,
-        b"p.gp:3:10: `$x` cannot stand here; a number or a control variable was expected\n  lock l[$x];\n         ^\nparse 1: the first token that no program goes on with (parse 1 at byte 36)\nhint: an index here is control: `settle $x into c;` makes it that\n",
+        b"p.gp:3:10: `$x` cannot stand here; a number or a control variable was expected\n  lock l[$x];\n         ^\nparse 1: the first token that no program goes on with (parse 1 at byte 36)\nhint: an index here is control: `settle $x into c;` makes it that; `when $x == 0 { .. }` goes by data among cells that are named\n",
     ),
     (
         b"",
@@ -150,6 +150,30 @@ const PARSING: [Case; 13] = [
         UnknownName,
         1,
         b"p.gp:1:85: 65 levels of nesting here; there may be 64\ntask main() { print (((((((((((((((((((((((((((((((((((((((((((((((((((((((((((((((((1\n                                                                                    ^\nparse 2: the token that would be the 65th level of nesting (parse 2 at byte 84)\n",
+    ),
+    (
+        b"task main() {\n  var i;\n  while i < 3 {\n    i = i + 1;\n}\n",
+        UnknownName,
+        1,
+        b"p.gp:5:2: the text ends here; `}` or a statement was expected\n}\n ^\nparse 1: the first token that no program goes on with (parse 1 at byte 56)\nhint: the block is open that begins in line 1\nhint: the `}` in line 5 closes the block that begins in line 3\n",
+    ),
+    (
+        b"task t() {\n  while 1 {\n  }\ntask main() {\n}\n",
+        UnknownName,
+        1,
+        b"p.gp:4:1: `task` cannot stand here; `}` or a statement was expected\ntask main() {\n^\nparse 1: the first token that no program goes on with (parse 1 at byte 27)\nhint: the block is open that begins in line 1\n",
+    ),
+    (
+        b"task main() {\n  var i;\n  i = 1;\n  }\n}\n",
+        UnknownName,
+        1,
+        b"p.gp:5:1: `}` cannot stand here; `task` was expected\n}\n^\nparse 1: the first token that no program goes on with (parse 1 at byte 36)\nhint: no block is open here\nhint: the `}` in line 4 closes the block that begins in line 1\n",
+    ),
+    (
+        b"task main() {\n  while 1 {\n    print 1;\n",
+        UnknownName,
+        1,
+        b"p.gp:3:13: the text ends here; `}` or a statement was expected\n    print 1;\n            ^\nparse 1: the first token that no program goes on with (parse 1 at byte 39)\nhint: the blocks are open that begin in the lines 1, 2\n",
     ),
 ];
 
@@ -271,7 +295,7 @@ fn bytes_that_cannot_stand(rt: HostRuntime) -> Result<(), Fail> {
 
 #[test]
 fn tokens_that_cannot_stand(rt: HostRuntime) -> Result<(), Fail> {
-    let table: [Case; 13] = PARSING;
+    let table: [Case; 17] = PARSING;
     for (program, kind, line, wanted) in &table {
         let text = told(rt.alloc(), program, *kind, *line)?;
         assert_eq!(rt; text.as_slice(), *wanted);

@@ -1,10 +1,11 @@
 // Why a program breaks a rule of the check.
 ghost use Rattle.std.specs.Prelude.{◌≡◌, ◌<◌, ◌⊎◌, ◌^◌, length, OnOk};
-ghost use Rattle.text_places.specs.meaning.Tokens.{BeginsAt};
-ghost use Rattle.refusal_texts.specs.meaning.Refusals.{kind_number, IsCheckRefusal};
+ghost use Rattle.text_places.specs.Tokens.{BeginsAt};
+ghost use Rattle.refusal_texts.specs.Refusals.{kind_number, IsCheckRefusal};
 
 use crate::front::{Rule, push_refusal};
 use crate::hints::check_hints;
+use crate::ifs::first_if;
 use crate::messages::push_message;
 use crate::spelling::push_name;
 use gp_base::{Name, Seq};
@@ -118,11 +119,24 @@ fn shown_at(
     }
 }
 
+// Whether the first `if` of a line has one block alone.
+fn has_one_block(program: &Program, line: u32) -> bool {
+    match first_if(program, line) {
+        Some(found) => found.second.is_empty(),
+        None => false,
+    }
+}
+
 // The message of a blame, or what can be said without one.
-fn message_of(alloc: Global, told: &Option<Told<'_>>) -> Result<Vec<u8>, AllocError> {
+fn message_of(
+    alloc: Global,
+    program: &Program,
+    told: &Option<Told<'_>>,
+    line: u32,
+) -> Result<Vec<u8>, AllocError> {
     let mut text = Vec::new(alloc);
     match told {
-        Some(told) => push_message(&mut text, &told.blame)?,
+        Some(told) => push_message(&mut text, &told.blame, has_one_block(program, line))?,
         None => text.extend_from_slice(b"a rule of the check is broken in this line")?,
     }
     Ok(text)
@@ -153,9 +167,9 @@ pub fn push_check_refusal(
 {
     let (bytes, tokens) = source;
     let told = blame(alloc, program, kind, line);
-    let message = message_of(alloc, &told)?;
+    let message = message_of(alloc, program, &told, line)?;
     let subject = subject_of(alloc, &told)?;
-    let hints = check_hints(alloc, program, kind, &told)?;
+    let hints = check_hints(alloc, program, kind, &told, line)?;
     let at = shown_at(bytes, tokens.as_slice(), line, &subject, &told);
     let rule = Rule {
         kind: b"check",

@@ -29,12 +29,18 @@ fn fields_of(used: FileUse<'_>) -> u64 {
     }
 }
 
-// The bytes of a field, as many as are told.
-fn field_of(row: &ByteRecord, field: usize) -> &[u8] {
+// The bytes of a field.
+fn bytes_in(row: &ByteRecord, field: usize) -> &[u8] {
     match row.get(field) {
-        Some(bytes) => &bytes[..bytes.len().min(LONGEST_FIELD)],
+        Some(bytes) => bytes,
         None => &[],
     }
+}
+
+// The bytes of a field, as many as are told.
+fn field_of(row: &ByteRecord, field: usize) -> &[u8] {
+    let bytes = bytes_in(row, field);
+    &bytes[..bytes.len().min(LONGEST_FIELD)]
 }
 
 // Appends the number of a field, from 1.
@@ -53,7 +59,16 @@ fn push_count(text: &mut Vec<u8>, row: &ByteRecord, used: FileUse<'_>) -> Result
     push_number(text, fields_of(used))
 }
 
-// Appends that a field writes no number.
+// Whether a field is a whole number, also where it is one that leaves 64 bits: digits, behind a minus or not.
+fn is_whole(field: &[u8]) -> bool {
+    let digits = match field {
+        [b'-', digits @ ..] => digits,
+        _ => field,
+    };
+    !digits.is_empty() && digits.iter().all(|byte| byte.is_ascii_digit())
+}
+
+// Appends that a field writes no number of 64 bits.
 fn push_no_number(text: &mut Vec<u8>, row: &ByteRecord) -> Result<(), AllocError> {
     let Some(field) = bad_field(row) else {
         return text.extend_from_slice(b"a field is no whole number");
@@ -61,7 +76,12 @@ fn push_no_number(text: &mut Vec<u8>, row: &ByteRecord) -> Result<(), AllocError
     push_field(text, field)?;
     text.extend_from_slice(b"\"")?;
     push_shown(text, field_of(row, field))?;
-    text.extend_from_slice(b"\" is no whole number")
+    let wrong: &[u8] = if is_whole(bytes_in(row, field)) {
+        b"\" leaves 64 bits"
+    } else {
+        b"\" is no whole number"
+    };
+    text.extend_from_slice(wrong)
 }
 
 // Appends that a number is outside of its range.
@@ -178,14 +198,26 @@ fn push_separator(text: &mut Vec<u8>, marks: u64, word: &[u8]) -> Result<(), All
     push_words(text, plural, b": fields stand between commas", b"\n")
 }
 
-// Whether a field has a digit and a point.
-fn has_point(field: &[u8]) -> bool {
-    count(field, b'.') > 0 && field.iter().any(|byte| byte.is_ascii_digit())
-}
-
 // Whether a field has a letter.
 fn has_letter(field: &[u8]) -> bool {
     field.iter().any(|byte| byte.is_ascii_alphabetic())
+}
+
+// Whether a field has a digit and a point, and no letter.
+fn has_point(field: &[u8]) -> bool {
+    count(field, b'.') > 0 && field.iter().any(|byte| byte.is_ascii_digit()) && !has_letter(field)
+}
+
+// Whether a row names its fields: none of them is a number, and some field has a letter.
+fn names_fields(row: &ByteRecord) -> bool {
+    let mut letters = false;
+    for field in 0..row.len() {
+        if is_whole(bytes_in(row, field)) {
+            return false;
+        }
+        letters = letters || has_letter(bytes_in(row, field));
+    }
+    letters
 }
 
 // Appends a hint on a row with another number of fields.
@@ -200,10 +232,15 @@ fn push_fields_hint(text: &mut Vec<u8>, line: &[u8]) -> Result<(), AllocError> {
 }
 
 // Appends a hint on a field that is no number, in the row of this number.
-fn push_number_hint(text: &mut Vec<u8>, field: &[u8], number: u32) -> Result<(), AllocError> {
-    if has_point(field) {
+fn push_number_hint(
+    text: &mut Vec<u8>,
+    row: &ByteRecord,
+    field: usize,
+    number: u32,
+) -> Result<(), AllocError> {
+    if has_point(bytes_in(row, field)) {
         text.extend_from_slice(b"hint: amounts in cents\n")
-    } else if number == 1 && has_letter(field) {
+    } else if number == 1 && names_fields(row) {
         text.extend_from_slice(b"hint: a header has to go\n")
     } else {
         Ok(())
@@ -220,7 +257,7 @@ fn push_hint(
 ) -> Result<(), AllocError> {
     match (kind, bad_field(row)) {
         (FileKind::Fields, _) => push_fields_hint(text, line),
-        (FileKind::Number, Some(field)) => push_number_hint(text, field_of(row, field), number),
+        (FileKind::Number, Some(field)) => push_number_hint(text, row, field, number),
         _ => Ok(()),
     }
 }

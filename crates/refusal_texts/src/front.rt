@@ -1,6 +1,6 @@
 // The front of a refusal: the place, what is at fault there, the line with the mark, and the rule.
 ghost use Rattle.std.specs.Prelude.{◌≡◌, ◌<◌, ◌++◌, ◌^◌, length, codes, decimal, OnOk};
-ghost use Rattle.refusal_texts.specs.meaning.Fronts.{place_text, rule_text, front_text, IsRefusal};
+ghost use Rattle.refusal_texts.specs.Fronts.{place_text, rule_text, front_text, IsRefusal};
 
 use crate::pieces::{push_between, push_words};
 use gp_base::Name;

@@ -2,6 +2,8 @@
 
 ghost use Rattle.std.specs.Prelude.{◌≤◌, length};
 
+use crate::blocks::block_hints;
+use crate::ifs::{first_if, names_data};
 use crate::kinds::has;
 use crate::parsing::{bytes_of, token_number};
 use crate::pieces::{push_between, push_words};
@@ -223,7 +225,9 @@ impl<'a> Spot<'a> {
             && has(self.kinds, Kind::Num(1))
             && !has(self.kinds, Kind::Reg)
         {
-            Some(b"an index here is control: `settle $x into c;` makes it that")
+            Some(
+                b"an index here is control: `settle $x into c;` makes it that; `when $x == 0 { .. }` goes by data among cells that are named",
+            )
         } else {
             None
         }
@@ -260,7 +264,10 @@ pub fn parse_hints(
         after: tokens.get(number.saturating_add(1)).copied(),
         kinds,
     };
-    hint_line(alloc, spot.hint())
+    match spot.hint() {
+        Some(hint) => hint_line(alloc, Some(hint)),
+        None => block_hints(alloc, program, tokens, number),
+    }
 }
 
 // Appends a line that tells a name which is declared.
@@ -421,12 +428,42 @@ fn push_held(text: &mut Vec<u8>, told: &Told<'_>) -> Result<(), AllocError> {
     text.extend_from_slice(b"\n")
 }
 
+// Whether the data variable stands in the condition of the first `if` of a line.
+fn is_condition(program: &Program, name: &Name, line: u32) -> bool {
+    match first_if(program, line) {
+        Some(found) => names_data(found.condition, name),
+        None => false,
+    }
+}
+
+// Appends how data may decide: by a `when`, where it stands in the condition of an `if`, and by a settle.
+fn push_ways(
+    text: &mut Vec<u8>,
+    program: &Program,
+    name: &Name,
+    line: u32,
+) -> Result<(), AllocError> {
+    text.extend_from_slice(b"hint: ")?;
+    if is_condition(program, name, line) {
+        text.extend_from_slice(
+            b"`when` in place of `if` decides by data about statements on data; ",
+        )?;
+    }
+    push_words(
+        text,
+        b"`settle $",
+        name.as_slice(),
+        b" into c;` makes it a control value\n",
+    )
+}
+
 /// The hints on a line that breaks a rule of the check, and before them what is held where a lock is missing.
 pub fn check_hints(
     alloc: Global,
     program: &Program,
     kind: CheckKind,
     told: &Option<Told<'_>>,
+    line: u32,
 ) -> Result<Vec<u8>, AllocError> {
     let mut text = Vec::new(alloc);
     let Some(told) = told else {
@@ -443,14 +480,7 @@ pub fn check_hints(
             Role::LockArray,
             array,
         )?,
-        Blame::Data { name } => {
-            push_words(
-                &mut text,
-                b"hint: `settle $",
-                name.as_slice(),
-                b" into c;` makes it a control value\n",
-            )?
-        }
+        Blame::Data { name } => push_ways(&mut text, program, name, line)?,
         _ => {}
     }
     Ok(text)

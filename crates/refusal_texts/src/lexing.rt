@@ -1,8 +1,8 @@
 // Why a text is no list of tokens.
 ghost use Rattle.std.specs.Prelude.{◌≡◌, ◌<◌, ◌≤◌, ◌++◌, ◌^◌, length, OnOk, codes};
-ghost use Rattle.text_places.specs.meaning.Faults.{lex_place};
-ghost use Rattle.refusal_texts.specs.meaning.Fronts.{rule_text, IsRefusal};
-ghost use Rattle.refusal_texts.specs.meaning.Refusals.{IsLexRefusal};
+ghost use Rattle.text_places.specs.Faults.{lex_place};
+ghost use Rattle.refusal_texts.specs.Fronts.{rule_text, IsRefusal};
+ghost use Rattle.refusal_texts.specs.Refusals.{IsLexRefusal};
 
 use crate::front::{Rule, push_refusal};
 use crate::hints::lex_hints;

@@ -1,10 +1,12 @@
 //! The texts that tell why a program or a file is refused: the place, the line with a mark under it, the rule, and hints.
 #![tactic(auto)]
 
+mod blocks;
 mod checking;
 mod files;
 mod front;
 mod hints;
+mod ifs;
 mod kinds;
 mod lexing;
 mod messages;

@@ -73,14 +73,20 @@ fn push_many(text: &mut Vec<u8>, what: Many, name: &Name, count: u64) -> Result<
     push_between(text, b"; there may be ", most, b"")
 }
 
-// Appends in which of two blocks a lock is held.
-fn push_branch(text: &mut Vec<u8>, taken: &Taken<'_>, first: bool) -> Result<(), AllocError> {
+// Appends in which of two blocks a lock is held, or on which way where the second has no statement.
+fn push_branch(
+    text: &mut Vec<u8>,
+    taken: &Taken<'_>,
+    first: bool,
+    one_block: bool,
+) -> Result<(), AllocError> {
     push_taken(text, taken)?;
-    if first {
-        text.extend_from_slice(b" is held after the first block, and not after the second")
-    } else {
-        text.extend_from_slice(b" is held after the second block, and not after the first")
-    }
+    text.extend_from_slice(match (first, one_block) {
+        (true, false) => b" is held after the first block, and not after the second",
+        (false, false) => b" is held after the second block, and not after the first",
+        (true, true) => b" is held after the block, and not where the condition is 0",
+        (false, true) => b" is held where the condition is 0, and not after the block",
+    })
 }
 
 // Appends at which end of a block a lock is held.
@@ -93,8 +99,12 @@ fn push_turn(text: &mut Vec<u8>, taken: &Taken<'_>, before: bool) -> Result<(), 
     }
 }
 
-// Appends what is said of locks.
-fn push_lock_message(text: &mut Vec<u8>, blame: &Blame<'_>) -> Result<(), AllocError> {
+// Appends what is said of locks, in a line whose first `if` has one block alone, or not.
+fn push_lock_message(
+    text: &mut Vec<u8>,
+    blame: &Blame<'_>,
+    one_block: bool,
+) -> Result<(), AllocError> {
     match blame {
         Blame::Unguarded {
             cells,
@@ -126,7 +136,7 @@ fn push_lock_message(text: &mut Vec<u8>, blame: &Blame<'_>) -> Result<(), AllocE
             )?;
             text.extend_from_slice(task.as_slice())
         }
-        Blame::OneBranch { taken, first } => push_branch(text, taken, *first),
+        Blame::OneBranch { taken, first } => push_branch(text, taken, *first, one_block),
         Blame::OneTurn { taken, before } => push_turn(text, taken, *before),
         Blame::IndexSet { name, taken } => {
             text.extend_from_slice(name.as_slice())?;
@@ -142,8 +152,12 @@ fn push_lock_message(text: &mut Vec<u8>, blame: &Blame<'_>) -> Result<(), AllocE
     }
 }
 
-// Appends what is said of names, counts and sizes.
-fn push_name_message(text: &mut Vec<u8>, blame: &Blame<'_>) -> Result<(), AllocError> {
+/// Appends what is said of a line that breaks a rule, whose first `if` has one block alone, or not.
+pub fn push_message(
+    text: &mut Vec<u8>,
+    blame: &Blame<'_>,
+    one_block: bool,
+) -> Result<(), AllocError> {
     match blame {
         Blame::NoMain => text.extend_from_slice(b"there is no task main"),
         Blame::NoArray { array } => push_words(text, array.as_slice(), b" is no lock array", b""),
@@ -185,11 +199,6 @@ fn push_name_message(text: &mut Vec<u8>, blame: &Blame<'_>) -> Result<(), AllocE
             push_between(text, b" ", *other, b"")
         }
         Blame::TooMany { what, name, count } => push_many(text, *what, name, *count),
-        _ => push_lock_message(text, blame),
+        _ => push_lock_message(text, blame, one_block),
     }
-}
-
-/// Appends what is said of a line that breaks a rule.
-pub fn push_message(text: &mut Vec<u8>, blame: &Blame<'_>) -> Result<(), AllocError> {
-    push_name_message(text, blame)
 }

@@ -3,9 +3,9 @@ ghost use Rattle.std.specs.Prelude.{◌≡◌, ◌<◌, ◌^◌, length, Ok, OnO
 ghost use Rattle.task_parser.specs.meaning.Lexing.{lexed};
 ghost use Rattle.task_parser.specs.meaning.Answer.{IsFirstFault};
 ghost use Rattle.task_parser.specs.Lexing.{AreTokensOf};
-ghost use Rattle.text_places.specs.meaning.Faults.{parse_place};
-ghost use Rattle.refusal_texts.specs.meaning.Fronts.{rule_text, IsRefusal};
-ghost use Rattle.refusal_texts.specs.meaning.Refusals.{IsParseRefusal};
+ghost use Rattle.text_places.specs.Faults.{parse_place};
+ghost use Rattle.refusal_texts.specs.Fronts.{rule_text, IsRefusal};
+ghost use Rattle.refusal_texts.specs.Refusals.{IsParseRefusal};
 
 use crate::front::{Rule, push_refusal};
 use crate::hints::parse_hints;

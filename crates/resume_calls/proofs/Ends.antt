@@ -16,10 +16,10 @@ use Rattle.gp_resume.specs.meaning.Reading.{LogAnswer, Rows, Broken, Unfit, IsAn
 use Rattle.command_line.specs.meaning.ResumeWords.{resumed_by}
 use Rattle.call_cases.specs.declared.reading.Refusal.{Refusal}
 use Rattle.call_cases.specs.declared.reading.Refusal.TheVariants as refused
-use Rattle.call_cases.specs.meaning.Work.{Files, ToDo}
+use Rattle.call_cases.specs.meaning.Work.{Files, ToDo, Case, Refused}
 use Rattle.call_cases.specs.meaning.Answers.{Change, IsEmpty}
 use Rattle.call_cases.specs.Answers.{unwritten, LineEnds, whole, line_failed, line_no_memory, RunEnds, finished}
-use Rattle.call_cases.specs.meaning.Case.{Case, BadInput, IsCase}
+use Rattle.call_cases.specs.meaning.Case.{IsCase}
 use Rattle.call_cases.specs.Decided.{work_of}
 use Rattle.call_cases.specs.meaning.Headline.{Headline}
 use Rattle.call_cases.specs.meaning.Lines.{input_line, out_of_memory_line}
@@ -28,7 +28,7 @@ use Rattle.call_cases.proofs.Headlines.{none_taken, run_of_failed, run_of_memory
 use Rattle.resume_calls.specs.declared.halted.Halted.{Halted}
 use Rattle.resume_calls.specs.meaning.Resumption.{Reader, answer_for, by_answer}
 use Rattle.resume_calls.specs.meaning.ResumeCommands.{MayRead, rest_status, rest_text, asking, commands}
-use Rattle.resume_calls.specs.inner.Halting.{resumed_in, logged_case, files_before, case_of}
+use Rattle.resume_calls.specs.inner.Halting.{resumed_in, files_before, case_of}
 use Rattle.resume_calls.specs.inner.Resting.{Resumes, EndsSo, EndsRest}
 use Rattle.resume_calls.proofs.Sound.{commands_sound}
 
@@ -43,13 +43,13 @@ memory_refuses err status (line_no_memory part) = refusal_no_memory (out_of_memo
 file_refuses : {A T : Type 0} (may_read : A → Name → Type 0) (asked : Option A) (Is : Option Files) (of : Files → Case T → Type 0)
     (names : List Name) (line : List ℕ)
     (failed failed' : List Name) (refusal : Refusal)
-    → IfSome Is (λ told. of told (BadInput names line)) → failed' ≡ failed → IsInputRefused line refusal
+    → IfSome Is (λ told. of told (Refused 4 names line)) → failed' ≡ failed → IsInputRefused line refusal
     → IfSome Is (λ told. RefusesCase (of told) refusal) × RefusesShelf may_read asked failed failed' refusal
 file_refuses may_read asked files of names line failed failed' refused.Usage known kept is = absurd is
 file_refuses may_read asked files of names line failed failed' (refused.BadProgram told) known kept is = absurd is
 file_refuses may_read asked None of names line failed failed' (refused.BadInput told) known kept is = (tt, kept)
 file_refuses may_read asked (Some files) of names line failed failed' (refused.BadInput told) known kept is =
-    ((names, subst (λ l. of files (BadInput names l)) (sym is) known), kept)
+    ((names, subst (λ l. of files (Refused 4 names l)) (sym is) known), kept)
 file_refuses may_read asked files of names line failed failed' (refused.ReadFault name) known kept is = absurd is
 file_refuses may_read asked None of names line failed failed' refused.OutOfMemory known kept is = (tt, tt)
 file_refuses may_read asked (Some files) of names line failed failed' refused.OutOfMemory known kept is = (tt, tt)
@@ -81,7 +81,7 @@ module _ (one : OneAnswerLaw) (reader : Reader) (words : List (List ℕ)) (files
 
   abbrev Known : LogAnswer → Type 0
   Known answer =
-      IfSome files (λ told. IsCase (asking reader) words told (logged_case (by_answer (files_before halted) halted.log work answer)))
+      IfSome files (λ told. IsCase (asking reader) words told ((by_answer (files_before halted) halted.log work answer)))
 
   abbrev Answered : LogAnswer → Type 0
   Answered answer = IsAnswer work.program work.inputs work.limits halted.text answer
@@ -129,7 +129,7 @@ module _ (one : OneAnswerLaw) (reader : Reader) (words : List (List ℕ)) (files
 
   -- the log is refused with this line
   log_refused : (line : List ℕ) (refusal : Refusal)
-      → IfSome files (λ told. IsCase (asking reader) words told (BadInput (files_before halted ++ halted.log ∷ []) line))
+      → IfSome files (λ told. IsCase (asking reader) words told (Refused 4 (files_before halted ++ halted.log ∷ []) line))
       → out.written' ≡ out.written → out.faults' ≡ out.faults → IsInputRefused line refusal → RefusalEnds err refusal status → Promised
   log_refused line refusal known written faults is ends =
       let refuses =

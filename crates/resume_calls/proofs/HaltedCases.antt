@@ -16,11 +16,11 @@ use Rattle.command_line.specs.meaning.ResumeWords.{resumed_by}
 use Rattle.command_line.specs.declared.resume_words.Resumed.{Resumed}
 use Rattle.call_cases.specs.declared.reading.Refusal.{Refusal}
 use Rattle.call_cases.specs.declared.reading.Refusal.TheVariants as refused
-use Rattle.call_cases.specs.meaning.Work.{Files, ToDo, Supplied, Supplies, Lacks, Spoils}
+use Rattle.call_cases.specs.meaning.Work.{Files, ToDo, Case, Refused, Go, after_file}
 use Rattle.call_cases.specs.meaning.InputFiles.{supplied_by, then_load}
 use Rattle.call_cases.specs.meaning.Lines.{input_line}
 use Rattle.call_cases.specs.meaning.RunCommands as run
-use Rattle.call_cases.specs.meaning.Case.{Case, BadInput, Go, IsCaseOf, no_program, of_text, supplied_case, names_read}
+use Rattle.call_cases.specs.meaning.Case.{IsCaseOf, no_program, of_text, names_read}
 use Rattle.call_cases.specs.Refusals.{RefusesCase, RefusesShelf, ReadsAmong, AnswersFile}
 use Rattle.call_cases.specs.meaning.Headline.{ReadsNothing}
 use Rattle.call_cases.proofs.Answering.{refuses_map}
@@ -28,7 +28,6 @@ use Rattle.call_cases.proofs.Further.{further_asking, further_case, further, ref
 use Rattle.call_cases.proofs.Loads.{only_one}
 use Rattle.resume_calls.specs.meaning.Resumption.{Reader, Resumption, answer_for, by_answer, by_log, supplied}
 use Rattle.resume_calls.specs.meaning.ResumeCommands.{MayRead, of_run, the_log, asking, commands}
-use Rattle.resume_calls.specs.inner.Halting.{logged_case}
 
 within_file : (text : List ℕ) → length text ≤ MOST_FILE_BYTES → nat_lt MOST_FILE_BYTES (length text) ≡ false
 within_file text within = grind (arith, nat_tests, within)
@@ -37,63 +36,62 @@ past_file : (text : List ℕ) → MOST_FILE_BYTES < length text → nat_lt MOST_
 past_file text above = grind (arith, nat_tests, above)
 
 module _ (reader : Reader) (resumed : Resumed) where
-  abbrev too_long : List Name → Supplied Resumption
-  too_long names = Spoils (names ++ resumed.log ∷ []) (input_line resumed.log 6 0)
+  abbrev too_long : List Name → Case Resumption
+  too_long names = Refused 4 (names ++ resumed.log ∷ []) (input_line resumed.log 6 0)
 
   below_answer : (program : Name) (names : List Name) (work : ToDo) (answer : LogAnswer)
-      → supplied_case program (by_answer names resumed.log work answer) ≡ logged_case (by_answer (program ∷ names) resumed.log work answer)
+      → after_file program (by_answer names resumed.log work answer) ≡ (by_answer (program ∷ names) resumed.log work answer)
   below_answer program names work (Rows rows) = refl
   below_answer program names work (Broken number) = refl
   below_answer program names work (Unfit number) = refl
 
   below_long : (program : Name) (names : List Name) (work : ToDo) (long : Bool) (answer : LogAnswer)
-      → supplied_case program (if long then too_long names else by_answer names resumed.log work answer)
-      ≡ logged_case (if long then too_long (program ∷ names) else by_answer (program ∷ names) resumed.log work answer)
+      → after_file program (if long then too_long names else by_answer names resumed.log work answer)
+      ≡ (if long then too_long (program ∷ names) else by_answer (program ∷ names) resumed.log work answer)
   below_long program names work true answer = refl
   below_long program names work false answer = below_answer program names work answer
 
   below_bytes : (program : Name) (names : List Name) (work : ToDo) (bytes : Option (List ℕ))
-      → supplied_case program (by_log reader names resumed.log work bytes)
-      ≡ logged_case (by_log reader (program ∷ names) resumed.log work bytes)
+      → after_file program (by_log reader names resumed.log work bytes)
+      ≡ (by_log reader (program ∷ names) resumed.log work bytes)
   below_bytes program names work None = refl
   below_bytes program names work (Some text) =
       below_long program names work (nat_lt MOST_FILE_BYTES (length text)) (answer_for reader work text)
 
   -- what was read before the log, and the log, were read
   keeps_answer : (names : List Name) (work : ToDo) (answer : LogAnswer) (name : Name) → Contains (names ++ resumed.log ∷ []) name
-      → Contains (names_read (logged_case (by_answer names resumed.log work answer))) name
+      → Contains (names_read ((by_answer names resumed.log work answer))) name
   keeps_answer names work (Rows rows) name is = is
   keeps_answer names work (Broken number) name is = is
   keeps_answer names work (Unfit number) name is = is
 
   keeps_long : (names : List Name) (work : ToDo) (long : Bool) (answer : LogAnswer) (name : Name)
       → Contains (names ++ resumed.log ∷ []) name
-      → Contains (names_read (logged_case (if long then too_long names else by_answer names resumed.log work answer))) name
+      → Contains (names_read ((if long then too_long names else by_answer names resumed.log work answer))) name
   keeps_long names work true answer name is = is
   keeps_long names work false answer name is = keeps_answer names work answer name is
 
   keeps_bytes : (names : List Name) (work : ToDo) (bytes : Option (List ℕ)) (name : Name) → Contains (names ++ resumed.log ∷ []) name
-      → Contains (names_read (logged_case (by_log reader names resumed.log work bytes))) name
+      → Contains (names_read ((by_log reader names resumed.log work bytes))) name
   keeps_bytes names work None name is = is
   keeps_bytes names work (Some text) name is =
       keeps_long names work (nat_lt MOST_FILE_BYTES (length text)) (answer_for reader work text) name is
 
   module _ (files : Files) where
     abbrev after : List Name → ToDo → Case Resumption
-    after names work = logged_case (by_log reader names resumed.log work (bytes_of files resumed.log))
+    after names work = (by_log reader names resumed.log work (bytes_of files resumed.log))
 
     goes_on : (program : Program)
-        → supplied_case resumed.run.program (supplied reader resumed program files)
-        ≡ further_case after (supplied_case resumed.run.program (supplied_by resumed.run program files))
+        → after_file resumed.run.program (supplied reader resumed program files)
+        ≡ further_case after (after_file resumed.run.program (supplied_by resumed.run program files))
     goes_on program = go (supplied_by resumed.run program files)
       where
-        go : (given : Supplied ToDo)
-            → supplied_case resumed.run.program (then_load given
+        go : (given : Case ToDo)
+            → after_file resumed.run.program (then_load given
             (λ names work. by_log reader names resumed.log work (bytes_of files resumed.log)))
-            ≡ further_case after (supplied_case resumed.run.program given)
-        go (Supplies names work) = below_bytes resumed.run.program names work (bytes_of files resumed.log)
-        go (Lacks names name) = refl
-        go (Spoils names line) = refl
+            ≡ further_case after (after_file resumed.run.program given)
+        go (Go names work) = below_bytes resumed.run.program names work (bytes_of files resumed.log)
+        go (Refused status names line) = refl
 
     to_resume : (case : Case Resumption)
         → IsCaseOf (further_asking run.asking (λ (r : Resumed). r.run) resumed_by (supplied reader)) resumed files case
@@ -122,12 +120,12 @@ module _ (reader : Reader) (resumed : Resumed) where
     -- the case of a text of the log
     text_case : (names : List Name) (work : ToDo) (text : List ℕ) → IsCaseOf run.asking resumed.run files (Go names work)
         → AnswersFile resumed.log (bytes_of files resumed.log) (Ok text)
-        → IsCaseOf (asking reader) resumed files (logged_case (by_answer names resumed.log work (answer_for reader work text)))
+        → IsCaseOf (asking reader) resumed files ((by_answer names resumed.log work (answer_for reader work text)))
     text_case names work text is told =
         subst (λ long. IsCaseOf (asking reader) resumed files
-        (logged_case (if long then too_long names else by_answer names resumed.log work (answer_for reader work text))))
+        ((if long then too_long names else by_answer names resumed.log work (answer_for reader work text))))
         (within_file text told.1)
-        (subst (λ bytes. IsCaseOf (asking reader) resumed files (logged_case (by_log reader names resumed.log work bytes))) told.0
+        (subst (λ bytes. IsCaseOf (asking reader) resumed files ((by_log reader names resumed.log work bytes))) told.0
         (case_after names work is))
 
     -- and where that comes to rows, they are what there is to go on from
@@ -135,16 +133,16 @@ module _ (reader : Reader) (resumed : Resumed) where
         → AnswersFile resumed.log (bytes_of files resumed.log) (Ok text) → answer_for reader work text ≡ Rows rows
         → IsCaseOf (asking reader) resumed files (Go (names ++ resumed.log ∷ []) (record { work = work; rows = rows }))
     rows_case names work text rows is told answer =
-        subst (λ a. IsCaseOf (asking reader) resumed files (logged_case (by_answer names resumed.log work a))) answer (text_case names work text is told)
+        subst (λ a. IsCaseOf (asking reader) resumed files ((by_answer names resumed.log work a))) answer (text_case names work text is told)
 
     long_case : (names : List Name) (work : ToDo) (bytes : Option (List ℕ))
-        → IsCaseOf (asking reader) resumed files (logged_case (by_log reader names resumed.log work bytes))
+        → IsCaseOf (asking reader) resumed files ((by_log reader names resumed.log work bytes))
         → IsSomeAnd bytes (λ text. MOST_FILE_BYTES < length text)
-        → IsCaseOf (asking reader) resumed files (BadInput (names ++ resumed.log ∷ []) (input_line resumed.log 6 0))
+        → IsCaseOf (asking reader) resumed files (Refused 4 (names ++ resumed.log ∷ []) (input_line resumed.log 6 0))
     long_case names work None is above = absurd above
     long_case names work (Some text) is above =
         subst (λ long. IsCaseOf (asking reader) resumed files
-        (logged_case (if long then too_long names else by_answer names resumed.log work (answer_for reader work text))))
+        ((if long then too_long names else by_answer names resumed.log work (answer_for reader work text))))
         (past_file text above) is
 
     -- a refusal of the file of the log
@@ -157,7 +155,7 @@ module _ (reader : Reader) (resumed : Resumed) where
     file_refused T names work before now (refused.BadProgram line) is told among = absurd told
     file_refused T names work before now (refused.BadInput line) is told among = (
       names ++ resumed.log ∷ [],
-      subst (λ l. IsCaseOf (asking reader) resumed files (BadInput (names ++ resumed.log ∷ []) l)) (sym told.0)
+      subst (λ l. IsCaseOf (asking reader) resumed files (Refused 4 (names ++ resumed.log ∷ []) l)) (sym told.0)
           (long_case names work (bytes_of files resumed.log) (case_after names work is) told.1),
     )
     file_refused T names work before now (refused.ReadFault name) is told among = (
@@ -180,7 +178,7 @@ module _ (reader : Reader) (resumed : Resumed) where
       → IfSome files (λ told. IsCaseOf run.asking resumed.run told (Go names work))
       → IfSome known (λ told. AnswersFile resumed.log (bytes_of told resumed.log) (Ok text))
       → IfSome files (λ told. IsCaseOf (asking reader) resumed told
-      (logged_case (by_answer names resumed.log work (answer_for reader work text))))
+      ((by_answer names resumed.log work (answer_for reader work text))))
   text_read None known names work text same is answers = tt
   text_read (Some files) known names work text same is answers =
       text_case files names work text is (subst

@@ -8,7 +8,7 @@ use Rattle.csv.specs.declared.parser.State.TheVariants as st
 use Rattle.csv.proofs.ReadFacts.{rows-end, rows-more}
 use Rattle.batch_files.specs.meaning.Rows.{Row, csv_rows}
 use Rattle.batch_files.proofs.RowFacts.{no_more, reached_records, records_after}
-use Rattle.row_places.specs.meaning.Fields.{row_at}
+use Rattle.row_places.specs.Fields.{row_at}
 
 -- so many rows were read from the start of a text to a state
 pub record HasRead (text : List ℕ) (state : State) (left : Option (List ℕ)) (count : ℕ) : Type 0 where

@@ -2,7 +2,7 @@
 ghost use Rattle.std.specs.Prelude.{◌≡◌, ◌==◌, IsTrue, IfSome, length, slice_index};
 ghost use Rattle.csv.specs.Records.{fields_of};
 ghost use Rattle.batch_files.specs.meaning.Numbers.{signed_number, field_number};
-ghost use Rattle.row_places.specs.meaning.Fields.{IsBadField, AreAlike};
+ghost use Rattle.row_places.specs.Fields.{IsBadField, AreAlike};
 
 use csv::ByteRecord;
 use gp_base::limits::LONGEST_DELAY;

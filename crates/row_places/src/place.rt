@@ -1,7 +1,7 @@
 // Where a row of a file stands.
 ghost use Rattle.std.specs.Prelude.{◌≡◌, ◌<◌, ◌≤◌, ◌+◌, ◌^◌, ◌==◌, not, length, take_while, IfSome};
 ghost use Rattle.std.specs.List.{list_any, prefix_len};
-ghost use Rattle.row_places.specs.meaning.Places.{is_line_end, line_end, line_of, line_from, IsRowPlace};
+ghost use Rattle.row_places.specs.Places.{is_line_end, line_end, line_of, line_from, IsRowPlace};
 
 use crate::rows::count_rows;
 use crate::scan::{is_line_end, row_start};

@@ -2,7 +2,7 @@
 ghost use Rattle.std.specs.Prelude.{◌≡◌, ◌<◌, length, IfSome};
 ghost use Rattle.csv.specs.Records.{fields_of};
 ghost use Rattle.batch_files.specs.meaning.Rows.{csv_rows};
-ghost use Rattle.row_places.specs.meaning.Fields.{AreAlike, row_at};
+ghost use Rattle.row_places.specs.Fields.{AreAlike, row_at};
 
 use crate::fields::are_alike;
 use csv::{ByteRecord, ReaderBuilder};

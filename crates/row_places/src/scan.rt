@@ -1,6 +1,6 @@
 // Where rows begin, by a scan of a file's bytes. What it finds is looked up by who calls it.
 ghost use Rattle.std.specs.Prelude.{◌≡◌, ◌≤◌, length};
-ghost use Rattle.row_places.specs.meaning.Places.{is_line_end};
+ghost use Rattle.row_places.specs.Places.{is_line_end};
 
 // Where a byte of a file stands.
 #[derive(Clone, Copy, PartialEq, Eq)]

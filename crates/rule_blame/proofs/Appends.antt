@@ -9,8 +9,8 @@ use Rattle.task_ast.specs.meaning.Tree.{Name, Expr}
 use Rattle.task_ast.specs.View.{plain_expr, plain_exprs}
 use Rattle.task_ast.specs.meaning.Names.{is_name}
 use Rattle.rule_blame.specs.declared.entries.Entry.{Entry}
-use Rattle.rule_blame.specs.meaning.Uses.{Used, names_of, argument_names}
-use Rattle.rule_blame.specs.meaning.Declared as plain
+use Rattle.rule_blame.specs.Uses.{Used, names_of, argument_names}
+use Rattle.rule_blame.specs.DeclaredNames as plain
 use Rattle.rule_blame.specs.Views.{entry_of, entries_in, decides_at}
 
 pub ruleset appends = (append_assoc, append-nil)

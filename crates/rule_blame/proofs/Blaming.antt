@@ -15,10 +15,10 @@ use Rattle.rule_blame.specs.declared.entries.Entry.{Entry}
 use Rattle.rule_blame.specs.declared.blames.Many.TheVariants as many
 use Rattle.rule_blame.specs.declared.blames.Blame.{Blame}
 use Rattle.rule_blame.specs.declared.blames.Blame.TheVariants as blame
-use Rattle.rule_blame.specs.meaning.Points.{points_in}
-use Rattle.rule_blame.specs.meaning.Blames.{IsTrue, IsManyTrue, many_of, limit_of, count_with}
+use Rattle.rule_blame.specs.Points.{points_in}
+use Rattle.rule_blame.specs.Blames.{IsTrue, IsManyTrue, many_of, limit_of, count_with}
 use Rattle.rule_blame.specs.Told.{IsTrueAmong, IsTrueOfTask}
-use Rattle.rule_blame.specs.meaning.Declared.{IsTwice}
+use Rattle.rule_blame.specs.DeclaredNames.{IsTwice}
 use Rattle.rule_blame.specs.Views.{entry_of, entries_in}
 
 -- a list is what stands before an element, the element, and what stands after it

@@ -11,8 +11,8 @@ use Rattle.task_ast.proofs.Views.{stmt_At}
 use Rattle.rule_blame.specs.declared.blames.Blame.{Blame}
 use Rattle.rule_blame.specs.declared.blames.Blame.TheVariants as blame
 use Rattle.rule_blame.specs.declared.held.Taken.{Taken}
-use Rattle.rule_blame.specs.meaning.Points.{Point, points_of, points_inside, points_in}
-use Rattle.rule_blame.specs.meaning.Blames.{IsTrueOf, IsApart, lock_of}
+use Rattle.rule_blame.specs.Points.{Point, points_of, points_inside, points_in}
+use Rattle.rule_blame.specs.Blames.{IsTrueOf, IsApart, lock_of}
 use Rattle.rule_blame.specs.Told.{IsTrueAmong}
 
 pub Contains-left : (a b : List Point) (p : Point) → Contains a p → Contains (a ++ b) p

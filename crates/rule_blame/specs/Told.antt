@@ -6,9 +6,9 @@ use Rattle.task_ast.specs.meaning.Held.{Pair, held_after, held_by, held_at_end}
 use Rattle.rule_blame.specs.declared.blames.Blame.{Blame}
 use Rattle.rule_blame.specs.declared.blames.Blame.TheVariants as blame
 use Rattle.rule_blame.specs.declared.blames.Many.TheVariants as many
-use Rattle.rule_blame.specs.meaning.Points.{Point, points_of, points_in, points_inside}
-use Rattle.rule_blame.specs.meaning.Declared.{variables, IsTwice}
-use Rattle.rule_blame.specs.meaning.Blames.{IsTrueOf, HasVariables}
+use Rattle.rule_blame.specs.Points.{Point, points_of, points_in, points_inside}
+use Rattle.rule_blame.specs.DeclaredNames.{variables, IsTwice}
+use Rattle.rule_blame.specs.Blames.{IsTrueOf, HasVariables}
 
 -- it is true of the variables of a task
 abbrev pub IsTrueOfTask : TaskText → (line : ℕ) → Blame → Type 0

@@ -8,10 +8,10 @@ use Rattle.rule_blame.specs.declared.scope.Scope.{Scope}
 use Rattle.rule_blame.specs.declared.uses.Use.{Use}
 use Rattle.rule_blame.specs.declared.held.Taken.{Taken}
 use Rattle.rule_blame.specs.declared.entries.Entry.{Entry}
-use Rattle.rule_blame.specs.meaning.Uses.{Used, is_control_param}
+use Rattle.rule_blame.specs.Uses.{Used, is_control_param}
 use Rattle.task_ast.specs.declared.tree.What.{What}
-use Rattle.rule_blame.specs.meaning.Points.{Point}
-use Rattle.rule_blame.specs.meaning.Declared as plain
+use Rattle.rule_blame.specs.Points.{Point}
+use Rattle.rule_blame.specs.DeclaredNames as plain
 
 abbrev pub used_by : Use → Used
 used_by u = record { role = u.role; name = u.name.now; decides = u.decides }

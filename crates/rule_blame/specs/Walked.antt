@@ -4,7 +4,7 @@ use Rattle.task_ast.specs.meaning.Tree.{Block}
 use Rattle.task_ast.specs.meaning.Declarations.{Scope}
 use Rattle.task_ast.specs.meaning.Held.{Pair, held_at_end}
 use Rattle.rule_blame.specs.declared.points.Walked.{Walked}
-use Rattle.rule_blame.specs.meaning.Points.{points_in}
+use Rattle.rule_blame.specs.Points.{points_in}
 use Rattle.rule_blame.specs.Views.{pairs_of}
 use Rattle.rule_blame.specs.Told.{Walks}
 

@@ -6,7 +6,7 @@ ghost use Rattle.task_ast.specs.meaning.Tree.{TaskText as PlainTask};
 ghost use Rattle.task_ast.specs.meaning.Names.{head_name};
 ghost use Rattle.task_ast.specs.meaning.Declarations.{head_line};
 ghost use Rattle.task_ast.specs.View.{plain_task, plain_program};
-ghost use Rattle.rule_blame.specs.meaning.Declared.{globals, entries_of, line_entries, variables, IsTwice};
+ghost use Rattle.rule_blame.specs.DeclaredNames.{globals, entries_of, line_entries, variables, IsTwice};
 ghost use Rattle.rule_blame.specs.Views.{entries_in};
 
 use crate::scope::same_name;

@@ -3,7 +3,7 @@ ghost use Rattle.std.specs.Prelude.{◌≡◌, IfSome};
 ghost use Rattle.task_ast.specs.meaning.Names.{locks_of, records_of, cells_in};
 ghost use Rattle.task_ast.specs.meaning.Declarations.{count_of};
 ghost use Rattle.task_ast.specs.View.{plain_program};
-ghost use Rattle.rule_blame.specs.meaning.Blames.{IsTrue, many_of, limit_of, count_with};
+ghost use Rattle.rule_blame.specs.Blames.{IsTrue, many_of, limit_of, count_with};
 
 use crate::blames::{Blame, Many};
 use crate::entries::{head_line, head_name};

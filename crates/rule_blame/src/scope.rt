@@ -4,7 +4,7 @@ ghost use Rattle.std.specs.Option.{option_copied};
 ghost use Rattle.task_ast.specs.meaning.Tree.{Name as PlainName};
 ghost use Rattle.task_ast.specs.meaning.Names.{is_name, is_among, named, locks_of, arrays_over, barriers_of, feeds_of, controls, datas, controls_of, registers_of, declared_in, task_named};
 ghost use Rattle.task_ast.specs.View.{plain_task, plain_program};
-ghost use Rattle.rule_blame.specs.meaning.Uses.{is_declared, params_of};
+ghost use Rattle.rule_blame.specs.Uses.{is_declared, params_of};
 ghost use Rattle.rule_blame.specs.Views.{scope_of};
 
 use crate::uses::Role;

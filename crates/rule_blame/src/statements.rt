@@ -3,8 +3,8 @@ ghost use Rattle.std.specs.Prelude.{◌≡◌, ℕ, List, Some, IfOk, IfSome};
 ghost use Rattle.task_ast.specs.View.{plain_what, plain_program};
 ghost use Rattle.task_ast.specs.meaning.Tree as plain;
 ghost use Rattle.task_ast.specs.meaning.Held.{Pair};
-ghost use Rattle.rule_blame.specs.meaning.Uses.{names_in};
-ghost use Rattle.rule_blame.specs.meaning.Blames.{IsTrueOf, Touches, Sets};
+ghost use Rattle.rule_blame.specs.Uses.{names_in};
+ghost use Rattle.rule_blame.specs.Blames.{IsTrueOf, Touches, Sets};
 ghost use Rattle.rule_blame.specs.Views.{scope_of, pairs_of, used_in, point_at};
 
 use crate::blames::Blame;

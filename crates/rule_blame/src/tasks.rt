@@ -3,7 +3,7 @@ ghost use Rattle.std.specs.Prelude.{◌≡◌, ◌+◌, ◌≤◌, ℕ, IfOk, If
 ghost use Rattle.task_ast.specs.meaning.Names.{is_name, declared_in};
 ghost use Rattle.task_ast.specs.meaning.Declarations.{main};
 ghost use Rattle.task_ast.specs.View.{plain_task, plain_program};
-ghost use Rattle.rule_blame.specs.meaning.Blames.{IsTrue};
+ghost use Rattle.rule_blame.specs.Blames.{IsTrue};
 ghost use Rattle.rule_blame.specs.Told.{IsTrueOfTask};
 
 use crate::blames::{Blame, Many};

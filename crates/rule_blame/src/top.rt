@@ -1,7 +1,7 @@
 // What a rule of the check is about in a line of a program.
 ghost use Rattle.std.specs.Prelude.{Contains, IfOk, IfSome};
 ghost use Rattle.task_ast.specs.View.{plain_program};
-ghost use Rattle.rule_blame.specs.meaning.Blames.{IsTrue};
+ghost use Rattle.rule_blame.specs.Blames.{IsTrue};
 
 use crate::blames::{Blame, Told};
 use crate::heads::head_blame;

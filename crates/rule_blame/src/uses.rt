@@ -2,7 +2,7 @@
 ghost use Rattle.std.specs.Prelude.{◌≡◌, ◌++◌, false, OnOk};
 ghost use Rattle.task_ast.specs.meaning.Tree as plain;
 ghost use Rattle.task_ast.specs.View.{plain_expr, plain_exprs, plain_links, plain_what, plain_program};
-ghost use Rattle.rule_blame.specs.meaning.Uses.{use_of, names_of, names_among, atom_names, into_names, argument_names, printed_names, names_in};
+ghost use Rattle.rule_blame.specs.Uses.{use_of, names_of, names_among, atom_names, into_names, argument_names, printed_names, names_in};
 ghost use Rattle.rule_blame.specs.Views.{used_in, decides_at};
 
 use crate::scope::params_of;

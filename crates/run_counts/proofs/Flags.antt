@@ -2,10 +2,10 @@
 use Rattle.std.proofs.Common.{◌≡◌, ℕ, ◌+◌, ◌<◌, ◌∙◌, ℤ, List, length, drop, get_or, Option, Some, None, option_map, option_and_then, unwrap_or, Bool, false, ◌&&◌, refl, sym, ap}
 use Rattle.std.proofs.Math.Bool.{and_assoc}
 use Rattle.std.proofs.lemmas.List.{at_drop_more}
-use Rattle.task_ast.specs.meaning.Tree.{Name, Expr as PlainExpr, Neg, Chain, Links, Link}
+use Rattle.task_ast.specs.meaning.Tree.{Name, Expr as PlainExpr, Neg, Not, Chain, Links, Link}
 use Rattle.task_ast.specs.meaning.Declarations.{has_data_index, some_member, is_at_data}
-use Rattle.task_ast.specs.meaning.Value.{value, operate}
-use Rattle.task_ast.specs.meaning.Action.{Term, MoreTerms, OneTerm, term, terms}
+use Rattle.task_ast.specs.meaning.Value.{truth, is_zero, value, operate}
+use Rattle.task_ast.specs.meaning.Action.{Term, Inverted, Joined, MoreTerms, OneTerm, term, terms}
 use Rattle.task_ast.specs.meaning.Effect.{term_value, terms_value}
 use Rattle.task_ast.specs.View.{plain_expr, plain_links}
 use Rattle.task_ast.specs.declared.env.Env.{Env}
@@ -48,6 +48,29 @@ module _ (names : List Name) (values : List ℤ) (env : Env) where
   chain-flag a links exact one v none side first =
       ap (λ x. x && stays_on links Under (Some v)) first ∙ and_assoc exact (stays a Under) (stays_on links Under (Some v))
       ∙ ap (λ w. exact && (stays a Under && stays_on links Under w)) (side_is a v none side)
+
+  inverted-one : (o : Option Term) (v : ℤ) → Some v ≡ option_map (λ t. term_value t values) o
+      → Some (truth (is_zero v)) ≡ option_map (λ t. term_value t values) (option_map Inverted o)
+  inverted-one None v side = absurd (cc side)
+  inverted-one (Some t) v side = ap (λ o. Some (truth (is_zero (unwrap_or o v)))) side
+
+  -- the value of an inverted operand
+  pub not-value : (a : PlainExpr) (v : ℤ) → Some v ≡ option_map (λ t. term_value t values) (term names a env)
+      → Some (truth (is_zero v)) ≡ option_map (λ t. term_value t values) (term names (Not a) env)
+  not-value a v side = inverted-one (term names a env) v side
+
+  joined-one : (o : Option Term) (more : Option MoreTerms) (v : ℤ) → Some v ≡ option_map (λ t. term_value t values) o
+      → option_map (λ m. terms_value m values v) more
+      ≡ option_map (λ t. term_value t values) (option_and_then (λ t. option_map (Joined t) more) o)
+  joined-one None more v side = absurd (cc side)
+  joined-one (Some t) None v side = refl
+  joined-one (Some t) (Some m) v side = ap (λ o. Some (terms_value m values (unwrap_or o v))) side
+
+  -- the value of a chain from that of its first operand on
+  pub chain-value : (a : PlainExpr) (links : Links) (v : ℤ) → Some v ≡ option_map (λ t. term_value t values) (term names a env)
+      → option_map (λ m. terms_value m values v) (terms names links env)
+      ≡ option_map (λ t. term_value t values) (term names (Chain a links) env)
+  chain-value a links v side = joined-one (term names a env) (terms names links env) v side
 
   value-one : (op : Op) (o : Option Term) (more : Option MoreTerms) (a b : ℤ) → Some b ≡ option_map (λ t. term_value t values) o
       → option_map (λ m. terms_value m values (operate op a b)) more

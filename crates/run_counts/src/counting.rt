@@ -1,28 +1,60 @@
 // What is noted of a run.
 
 use crate::data::reckon_data;
+use crate::divisions::{divides_by_zero, dividing_lines};
+use crate::values::{Kept, Values};
 use exact_arithmetic::reckon;
 use gp_base::{Limits, Name};
 use one_thread::Reckon;
 use std::alloc::{AllocError, Global};
 use task_ast::{Env, Expr, Program, Stmt, What};
 
-/// How often the arithmetic of a line was not exact, and at which position first.
+/// How often the arithmetic of a line went wrong in one way, at which position first, and the control variables there.
 #[derive(Clone, Copy)]
 pub struct Slip {
     pub times: u64,
     pub first: u32,
+    pub kept: Option<Kept>,
 }
 
-/// The slips of each line, by its number; and by position the line in which a control value was last asked for, which
-/// is that of its loop where a subthread has spent its turns.
+/// The slips of each line, by its number: those that left 64 bits and divided by no 0, and those that divided by 0. And by
+/// position the line in which a control value was last asked for, which is that of its loop where a subthread has spent
+/// its turns.
 #[derive(Drop)]
 pub struct Counting {
-    pub slips: Vec<Slip>,
+    pub left: Vec<Slip>,
+    pub divided: Vec<Slip>,
+    pub values: Values,
+    dividing: Vec<bool>,
     lines: Vec<u32>,
     begun: u32,
     line: u32,
     control: u32,
+}
+
+const NO_SLIP: Slip = Slip {
+    times: 0,
+    first: 0,
+    kept: None,
+};
+
+// Where an expression slipped: its line, the position of its subthread, and the control variables there.
+#[derive(Clone, Copy)]
+struct Place<'a> {
+    line: u32,
+    position: u32,
+    names: &'a [(Name, i64)],
+}
+
+// Notes a slip in its line, and where it was if it is the first.
+fn note(slips: &mut Vec<Slip>, values: &mut Values, place: Place<'_>) {
+    if let Some(slip) = slips.get_mut(place.line as usize) {
+        if slip.times == 0 {
+            slip.first = place.position;
+            slip.kept = values.keep(place.names);
+        }
+        slip.times = slip.times.saturating_add(1);
+    }
 }
 
 // The last line of a block in which a statement begins.
@@ -53,7 +85,10 @@ impl Counting {
         }
         let lines = (last as usize).saturating_add(1);
         Ok(Counting {
-            slips: Vec::from_elem(alloc, Slip { times: 0, first: 0 }, lines)?,
+            left: Vec::from_elem(alloc, NO_SLIP, lines)?,
+            divided: Vec::from_elem(alloc, NO_SLIP, lines)?,
+            values: Values::new(alloc)?,
+            dividing: dividing_lines(alloc, program, lines)?,
             lines: Vec::from_elem(alloc, 0, limits.subthreads as usize)?,
             begun: 0,
             line: 0,
@@ -72,14 +107,25 @@ impl Counting {
         }
     }
 
-    // A slip in this line.
-    fn slipped(&mut self) {
-        let first = self.begun.saturating_sub(1);
-        if let Some(slip) = self.slips.get_mut(self.line as usize) {
-            if slip.times == 0 {
-                slip.first = first;
-            }
-            slip.times = slip.times.saturating_add(1);
+    // Whether a slip in this line may be a division by 0.
+    fn may_divide(&self) -> bool {
+        match self.dividing.get(self.line as usize) {
+            Some(dividing) => *dividing,
+            None => false,
+        }
+    }
+
+    // A slip of an expression in this line.
+    fn slipped(&mut self, e: &Expr, names: &[Name], env: &Env, registers: &[i64]) {
+        let place = Place {
+            line: self.line,
+            position: self.begun.saturating_sub(1),
+            names: env.names.as_slice(),
+        };
+        if self.may_divide() && divides_by_zero(e, names, env, registers) {
+            note(&mut self.divided, &mut self.values, place);
+        } else {
+            note(&mut self.left, &mut self.values, place);
         }
     }
 }
@@ -103,7 +149,7 @@ impl Reckon for Counting {
         let mut exact = true;
         let value = reckon(e, env, &mut exact);
         if !exact {
-            self.slipped();
+            self.slipped(e, &[], env, &[]);
         }
         value
     }
@@ -112,7 +158,7 @@ impl Reckon for Counting {
         let mut exact = true;
         let value = reckon_data(e, names, env, registers, &mut exact);
         if !exact {
-            self.slipped();
+            self.slipped(e, names, env, registers);
         }
         value
     }

@@ -14,8 +14,8 @@ mod told;
 mod waits;
 mod why;
 
-pub use names::{push_barrier, push_between, push_labelled, push_lock, push_number, push_record};
-pub use order::order_text;
+pub use deadlocks::push_standing;
+pub use names::{push_between, push_labelled, push_lock, push_number, push_record};
+pub use order::{order_text, why_word};
 pub use timeline::timeline_text;
-pub use waits::push_waits;
 pub use why::why_text;

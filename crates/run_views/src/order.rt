@@ -101,7 +101,8 @@ fn push_order(text: &mut Vec<u8>, heads: &[Head], order: &[Step]) -> Result<(), 
     Ok(())
 }
 
-fn why_word(why: Why) -> &'static str
+/// The word for why a run is stuck.
+pub fn why_word(why: Why) -> &'static str
     ensures { result.now ≡ why_word why }
 {
     match why {

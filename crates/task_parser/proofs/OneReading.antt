@@ -142,8 +142,11 @@ not_longer : (text : Text) (front : List Placed) (rest : List Token) (other : Li
     → Begins text other → Longer other left front rest → ⊥
 not_longer text front rest other left cannot begun l =
     let stuck : CannotGoOn text front (l.next.token ∷ (tokens_of l.more ++ left)) = subst (CannotGoOn text front) l.rest cannot in
-    stuck (l.same ++ l.next ∷ []) (tokens-append l.same (l.next ∷ []) ∙ ap (λ (ts : List Token). ts ++ l.next.token ∷ []) l.alike)
-    (begins_less text (l.same ++ l.next ∷ []) l.more (subst (Begins text) (l.parts ∙ sym (append_assoc l.same (l.next ∷ []) l.more)) begun))
+    stuck (
+      l.same ++ l.next ∷ [],
+      tokens-append l.same (l.next ∷ []) ∙ ap (λ (ts : List Token). ts ++ l.next.token ∷ []) l.alike,
+      begins_less text (l.same ++ l.next ∷ []) l.more (subst (Begins text) (l.parts ∙ sym (append_assoc l.same (l.next ∷ []) l.more)) begun),
+    )
 
 -- reading stops at no token of a program's beginning that is within the limit
 not_within : (text : Text) (front : List Placed) (rest : List Token) (before : List Placed) (stop : Stop) → Within DEEPEST_NESTING front
@@ -179,7 +182,7 @@ not_deep : (text : Text) (front : List Placed) (rest : List Token) (other : List
 not_deep text front rest other [] cannot same e beyond = beyond
 not_deep text front rest other (next ∷ left) cannot same e beyond =
     let stuck : CannotGoOn text front (next ∷ left) = subst (CannotGoOn text front) (sym e) cannot in
-    stuck (other ++ at ∷ []) (tokens-append other (at ∷ []) ∙ ap (λ (ts : List Token). ts ++ next ∷ []) same) beyond
+    stuck (other ++ at ∷ [], tokens-append other (at ∷ []) ∙ ap (λ (ts : List Token). ts ++ next ∷ []) same, beyond)
   where
     at : Placed
     at = record { token = next; nesting = suc DEEPEST_NESTING }
@@ -202,7 +205,7 @@ module _ (text : Text) (tokens rest : List Token) (h : StopFirst text tokens (re
       go : Fronts k.placed [] h.front rest → ⊥
       go (equal e f) =
           let stuck : CannotGoOn text h.front [] = subst (CannotGoOn text h.front) (sym f) h.fault in
-          stuck p k.placed e k.spelled
+          stuck (p, k.placed, e, k.spelled)
       go (first_longer l) =
           not_longer text h.front rest k.placed [] h.fault
           (record { more = []; p = p; spelled = subst (Spelled text p) (sym (append-nil k.placed)) k.spelled }) l

@@ -62,7 +62,7 @@ verdict_expects {A = A} limit (p ∷ placed) rest other v e = go (leb p.nesting 
 halts_there : (text : Text) (front : List Placed) (next : Token) (rest : List Token)
     → ((other : List Token) → Same (next ∷ rest) other → read_all text (tokens_of front ++ other) ≡ unexpected other)
     → CannotGoOn text front (next ∷ rest)
-halts_there text front next rest again other same begun =
+halts_there text front next rest again (other, same, begun) =
     verdict_expects DEEPEST_NESTING (other ++ begun.more) [] (next ∷ tokens_of begun.more) begun.p
     (sym (read_spelled text begun.p (other ++ begun.more) begun.spelled) ∙ ap (read_all text) line
     ∙ again (next ∷ tokens_of begun.more) refl)
@@ -73,7 +73,7 @@ halts_there text front next rest again other same begun =
         ∙ append_assoc (tokens_of front) (next ∷ []) (tokens_of begun.more)
 
 halts_at_end : (text : Text) (front : List Placed) → read_all text (tokens_of front ++ []) ≡ unexpected [] → CannotGoOn text front []
-halts_at_end text front again p other same spelled =
+halts_at_end text front again (p, other, same, spelled) =
     verdict_expects DEEPEST_NESTING other [] [] p
     (sym (read_spelled text p other spelled) ∙ ap (read_all text) (same ∙ sym (append-nil (tokens_of front))) ∙ again)
 

@@ -19,7 +19,7 @@ use Rattle.task_parser.specs.Lexing.{AreTokensOf}
 use Rattle.task_parser.specs.Splitting.{AreInOrder}
 use Rattle.task_parser.proofs.Basics.{tokens-append}
 use Rattle.task_parser.proofs.OneReading.{one_fault}
-use Rattle.text_places.specs.meaning.Expected.{token_past, GoesOn, IsFront, AreExpected, kind_of}
+use Rattle.text_places.specs.Expected.{token_past, GoesOn, IsFront, AreExpected, kind_of}
 
 -- the token is the last one, or stands before it
 data Stands (a : List Token) (x : Token) (b : List Token) (t : Token) (ts : List Token) : Type 0 where
@@ -78,7 +78,7 @@ module _ (text : Text) (tokens front : List Token) (kind : Kind) (first : IsFron
           → StopFirst text (front ++ token_past text kind ∷ []) (record { deep = false; rest = rest }) → ⊥
       go [] is h = absurd (omega arith)
       go (t ∷ ts) is h = elim (stands front (token_past text kind) (tokens_of h.front) t ts h.parts) [
-        | last f g k ↦ h.fault going.placed (going.same ∙ cc) going.begins
+        | last f g k ↦ h.fault (going.placed, going.same ∙ cc, going.begins)
         | before more f k ↦ earlier false t more ts h k
       ]
 

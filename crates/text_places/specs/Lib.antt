@@ -1,1 +1,5 @@
-pub mod meaning
+pub mod Expected
+pub mod Faults
+pub mod Places
+pub mod Shown
+pub mod Tokens

@@ -1,6 +1,6 @@
 // Where a fault of lexing or of parsing is shown.
 ghost use Rattle.std.specs.Prelude.{◌≡◌, ◌-◌, slice_index};
-ghost use Rattle.text_places.specs.meaning.Faults.{is_quoted_at, is_opener, lex_place, end_of, parse_place};
+ghost use Rattle.text_places.specs.Faults.{is_quoted_at, is_opener, lex_place, end_of, parse_place};
 
 use crate::place::line_before;
 use task_parser::Token;

@@ -5,7 +5,7 @@ ghost use Rattle.task_parser.specs.declared.token.Token.{Token as PlainToken};
 ghost use Rattle.task_parser.specs.meaning.Lexing.{lexed};
 ghost use Rattle.task_parser.specs.meaning.Answer.{IsFirstFault};
 ghost use Rattle.task_parser.specs.Lexing.{AreTokensOf};
-ghost use Rattle.text_places.specs.meaning.Expected.{GoesOn, IsFront, AreExpected, IsExpected, kind_of};
+ghost use Rattle.text_places.specs.Expected.{GoesOn, IsFront, AreExpected, IsExpected, kind_of};
 
 use gp_base::Seq;
 use std::alloc::{AllocError, Global};

@@ -2,8 +2,8 @@
 ghost use Rattle.std.specs.Prelude.{◌≡◌, ◌≤◌, ◌++◌, length, map, take_while, OnOk};
 ghost use Rattle.std.specs.List.{prefix_len};
 ghost use Rattle.std.specs.Str.Lines.{strip_carriage_return};
-ghost use Rattle.text_places.specs.meaning.Places.{is_line_byte, line_at};
-ghost use Rattle.text_places.specs.meaning.Shown.{shown_byte, shown, blank_byte, mark, marked};
+ghost use Rattle.text_places.specs.Places.{is_line_byte, line_at};
+ghost use Rattle.text_places.specs.Shown.{shown_byte, shown, blank_byte, mark, marked};
 
 use crate::place::{bytes_before, line_before};
 use std::alloc::AllocError;

@@ -1,6 +1,6 @@
 // Where a name stands in a line of a text.
 ghost use Rattle.std.specs.Prelude.{◌≡◌, IfSome};
-ghost use Rattle.text_places.specs.meaning.Tokens.{bytes_of, BeginsAt, SpellsAt};
+ghost use Rattle.text_places.specs.Tokens.{bytes_of, BeginsAt, SpellsAt};
 
 use task_parser::Token;
 

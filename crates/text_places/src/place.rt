@@ -1,7 +1,7 @@
 // The line and the column of a byte.
 ghost use Rattle.std.specs.Prelude.{◌≡◌, ◌<◌, ◌≤◌, ◌+◌, ◌^◌, length, take};
 ghost use Rattle.task_parser.specs.meaning.Lexing.{line_after};
-ghost use Rattle.text_places.specs.meaning.Places.{line_start, line_before, place_of};
+ghost use Rattle.text_places.specs.Places.{line_start, line_before, place_of};
 
 /// A line of a text and a column in it, both from 1. Columns count bytes.
 #[derive(Clone, Copy, Debug, PartialEq, Eq)]

@@ -8,12 +8,12 @@ use Rattle.std.proofs.lemmas.List.{length-map}
 use Rattle.std.proofs.lemmas.Option.{slice_get_within}
 use Rattle.gp_base.specs.declared.limits.TheConstants.{MOST_THREADS}
 use Rattle.task_ast.specs.Table.{owner_in, Seat, Table, next_of, unpassed, waits_at, learning}
+use Rattle.task_ast.specs.meaning.Table.{Stand, Away, Waits, Released, ring, is_end, with_nth, numbers}
+use Rattle.task_ast.specs.Turn.{Turn, Issue, Needs, Ended, Look, To, Unknown, NoThread, look, turn, tried, at_look, deadlocked, has_passed, stand_of, met, arrived, come_to, at_barrier, released_at, issuing, passing, at_join}
 use Rattle.task_ast.specs.declared.sync.SyncOp.{SyncOp}
 use Rattle.task_ast.specs.declared.sync.SyncOp.TheVariants as sync
 use Rattle.task_ast.specs.declared.sync.Next.{Next}
 use Rattle.task_ast.specs.meaning.Repeat.{Again, More, Done}
-use Rattle.task_ast.specs.meaning.Table.{Stand, Away, Waits, Released, ring, is_end, with_nth, numbers}
-use Rattle.task_ast.specs.Turn.{Turn, Issue, Needs, Ended, Look, To, Unknown, NoThread, look, turn, tried, at_look, deadlocked, has_passed, stand_of, met, arrived, come_to, at_barrier, released_at, issuing, passing, at_join}
 use Rattle.task_ast.specs.laws.Threads.{table_after}
 use Rattle.task_ast.proofs.Counting.{length-with_nth}
 use Rattle.task_ast.proofs.IssuedTables.{learnt_length}
@@ -25,7 +25,7 @@ use Rattle.ended_seats.proofs.Idle.{grows}
 use Rattle.token_order.specs.declared.threads.Threads.{Threads}
 use Rattle.token_order.specs.declared.rules.Turn.{Turn as TurnHere}
 use Rattle.token_order.specs.declared.rules.Turn.TheVariants as here
-use Rattle.token_order.specs.View.{IsBelow, StandsInside, MarkStands, table, seat_of}
+use Rattle.token_order.specs.View.{IsBelow, StandsInside, WalksStand, table, seat_of}
 use Rattle.token_order.specs.Turned.{Answered}
 
 -- the thread whose turn was last is there
@@ -132,46 +132,46 @@ few-table : (threads : Threads) → StandsInside threads → length (table threa
 few-table threads inside = subst (λ n. n ≤ MOST_THREADS) (sym (length-map threads.seats.items seat_of)) inside.few
 
 stands : (threads : Threads) → length (table threads).seats ≤ MOST_THREADS → HasToken (table threads)
-    → length threads.owners.items ≤ 4294967295 → MarkStands threads → StandsInside threads
-stands threads few token locks mark =
+    → length threads.owners.items ≤ 4294967295 → WalksStand threads → StandsInside threads
+stands threads few token locks walks =
     let same = length-map threads.seats.items seat_of in
     record {
       few = subst (λ n. n ≤ MOST_THREADS) same few;
       token = subst (λ n. IsBelow n threads.token) same token;
       locks = locks;
-      mark = mark;
+      walks = walks;
     }
 
 same-locks : (before after : Threads) → StandsInside before → length after.owners.items ≡ length before.owners.items
     → length after.owners.items ≤ 4294967295
 same-locks before after inside same = subst (λ n. n ≤ 4294967295) (sym same) inside.locks
 
-still : (before after : Threads) → StandsInside before → MarkStands after → table after ≡ table before → StandsInside after
-still before after inside mark same =
+still : (before after : Threads) → StandsInside before → WalksStand after → table after ≡ table before → StandsInside after
+still before after inside walks same =
     stands after (subst (λ there. length there.seats ≤ MOST_THREADS) (sym same) (few-table before inside))
     (subst HasToken (sym same) (subst (λ n. IsBelow n before.token) (sym (length-map before.seats.items seat_of)) inside.token))
-    (same-locks before after inside (ap (λ there. length there.owners) same)) mark
+    (same-locks before after inside (ap (λ there. length there.owners) same)) walks
 
-pub turn-stands : (before after : Threads) (r : TurnHere) → StandsInside before → MarkStands after
+pub turn-stands : (before after : Threads) (r : TurnHere) → StandsInside before → WalksStand after
     → Answered (turn (table before)) (table before) r (table after) → StandsInside after
-turn-stands before after (here.Issue t next child) inside mark e =
+turn-stands before after (here.Issue t next child) inside walks e =
     stands after (seats_law (table before) (table after) (few-table before inside) (ap table_after e))
     (issued (subst TokenAfter e (turn-token (table before))))
     (same-locks before after inside (ap length (issue_law (table before) t next child (table after) e).owners
-    ∙ length-after next.sync t before.owners.items)) mark
-turn-stands before after here.Pass inside mark e =
+    ∙ length-after next.sync t before.owners.items)) walks
+turn-stands before after here.Pass inside walks e =
     stands after (seats_law (table before) (table after) (few-table before inside) (ap table_after e))
     (passed (subst TokenAfter e (turn-token (table before))))
-    (same-locks before after inside (ap length (pass_law (table before) (table after) e).owners)) mark
-turn-stands before after (here.Settles t) inside mark h = absurd h
-turn-stands before after (here.Needs t) inside mark h = still before after inside mark (h.1)
-turn-stands before after (here.Ended e) inside mark h = still before after inside mark (h.1)
+    (same-locks before after inside (ap length (pass_law (table before) (table after) e).owners)) walks
+turn-stands before after (here.Settles t) inside walks h = absurd h
+turn-stands before after (here.Needs t) inside walks h = still before after inside walks (h.1)
+turn-stands before after (here.Ended e) inside walks h = still before after inside walks (h.1)
 
-pub learn-stands : (before after : Threads) (t : ℕ) (next : Next) → StandsInside before → MarkStands after → table after ≡ learning (table before) t next
+pub learn-stands : (before after : Threads) (t : ℕ) (next : Next) → StandsInside before → WalksStand after → table after ≡ learning (table before) t next
     → StandsInside after
-learn-stands before after t next inside mark e =
+learn-stands before after t next inside walks e =
     let same = learnt_length (table before) t next in
     stands after (subst (λ there. length there.seats ≤ MOST_THREADS) (sym e)
     (subst (λ n. n ≤ MOST_THREADS) (sym same) (few-table before inside)))
     (subst HasToken (sym e) (subst (λ n. IsBelow n before.token) (sym (same ∙ length-map before.seats.items seat_of)) inside.token))
-    (same-locks before after inside (ap (λ there. length there.owners) e)) mark
+    (same-locks before after inside (ap (λ there. length there.owners) e)) walks

@@ -1,10 +1,10 @@
 -- What a turn answers, by the rules of turns.
-use Rattle.std.specs.Prelude.{◌≡◌, ◌⊎◌, ⊤, ℕ, pos, negsuc, Bool, true, false, not, cond, length, Option, Some, None, is_none}
+use Rattle.std.specs.Prelude.{◌≡◌, ◌⊎◌, ⊤, ℕ, pos, negsuc, Bool, true, false, not, cond, length, Option, Some, None, is_none, ◌+◌, nat_lt, unwrap_or, count_by, slice_get}
 use Rattle.task_ast.specs.declared.sync.SyncOp.{SyncOp}
 use Rattle.task_ast.specs.declared.sync.SyncOp.TheVariants as sync
-use Rattle.task_ast.specs.Table.{is_known_end, owner_in, Table, next_of}
+use Rattle.task_ast.specs.Table.{is_known_end, owner_in, Table, next_of, waits_at}
 use Rattle.task_ast.specs.meaning.Repeat.{Again, More, Done}
-use Rattle.task_ast.specs.meaning.Table.{ring, is_settle, is_waiting}
+use Rattle.task_ast.specs.meaning.Table.{Stand, Away, Waits, Released, ring, is_settle}
 use Rattle.task_ast.specs.Turn.{Turn, Issue, Needs, Ended, Look, To, Unknown, NoThread, look, stand_of, turn}
 use Rattle.token_order.specs.declared.rules.Turn.{Turn as TurnHere}
 use Rattle.token_order.specs.declared.rules.Turn.TheVariants as here
@@ -40,21 +40,27 @@ is_issue _ = false
 abbrev pub cleared_after : TurnHere → Bool → Bool
 cleared_after turn cleared = cond (is_issue turn) false cleared
 
--- whether the thread that is found waits at a barrier
-abbrev pub waits_found : Look → Table → Bool
-waits_found (To t next) table = is_waiting (stand_of table t)
-waits_found (Unknown t) table = is_waiting (stand_of table t)
-waits_found NoThread table = false
+-- whether a thread that stands so goes on at this barrier: it was released, or is the last of the stated number
+abbrev pub goes_on : (barrier : ℕ) → Stand → Table → Bool
+goes_on b Released table = true
+goes_on b Waits table = false
+goes_on b Away table = not (nat_lt (count_by (waits_at b) table.seats + 1) (unwrap_or (slice_get table.barriers b) 0))
 
--- whether the thread that the token comes to waits at a barrier
-abbrev pub waits_ahead : Table → Bool
-waits_ahead table = waits_found (look table (ring table.token (length table.seats))) table
+-- whether the thread that is found goes on at this barrier
+abbrev pub found_goes_on : (barrier : ℕ) → Look → Table → Bool
+found_goes_on b (To t next) table = goes_on b (stand_of table t) table
+found_goes_on b (Unknown t) table = goes_on b (stand_of table t) table
+found_goes_on b NoThread table = true
+
+-- whether the thread that the token comes to goes on at this barrier
+abbrev pub goes_ahead : (barrier : ℕ) → Table → Bool
+goes_ahead b table = found_goes_on b (look table (ring table.token (length table.seats))) table
 
 -- whether the thread that the token comes to, which stands at it, may go on, as far as the owner of a lock, the thread that
--- is joined and a barrier at which it waits are concerned
+-- is joined and a barrier are concerned
 abbrev pub is_let : Table → SyncOp → Bool
 is_let table (sync.Lock l) = is_none (owner_in table.owners l)
 is_let table (sync.Join (pos h)) = is_known_end (next_of table h)
 is_let table (sync.Join (negsuc h)) = false
-is_let table (sync.Barrier b) = not (waits_ahead table)
+is_let table (sync.Barrier b) = goes_ahead b table
 is_let table _ = true

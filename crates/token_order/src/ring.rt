@@ -3,8 +3,8 @@
 ghost use Rattle.std.specs.Prelude.{◌≡◌, ◌<◌, ◌≤◌, true, false, length, None, IfOk, OnOk, replicate};
 ghost use Rattle.std.specs.Option.{option_map, option_copied};
 ghost use Rattle.task_ast.specs.Reached.{start_table};
-ghost use Rattle.task_ast.specs.meaning.Table.{owned_from};
 ghost use Rattle.task_ast.specs.Table.{next_of, learning};
+ghost use Rattle.task_ast.specs.meaning.Table.{owned_from};
 ghost use Rattle.task_ast.specs.meaning.Turn.{owners_after};
 ghost use Rattle.task_ast.specs.laws.Threads.{ahead};
 ghost use Rattle.token_order.specs.Turned.{Turned, LeavesRoom, is_let, cleared_after};
@@ -104,6 +104,9 @@ impl Ring {
         ensures cleared { self.new.cleared ≡ cleared_after result self.old.cleared }
         ensures spare { LeavesRoom result self.old.spare self.new.spare }
     {
+        let start = self.threads.start();
+        self.threads.shorten(0);
+        self.threads.shorten(start);
         if !self.cleared {
             if let Some(thread) = self.threads.settling() {
                 return Turn::Settles(ThreadNo(thread));
@@ -139,7 +142,8 @@ impl Ring {
     }
 
     /// Whether the thread that the token comes to, which stands at it, isn't kept back: nobody owns its lock, the thread
-    /// that it joins is known to have ended, and it does not wait at a barrier. A turn issues no thread that is kept back.
+    /// that it joins is known to have ended, and at a barrier it was released, or is the last of the stated number. A turn
+    /// issues no thread that is kept back.
     pub fn lets(&self, sync: &SyncOp) -> bool
         ensures { result ≡ is_let self.now.table sync.now }
     {

@@ -1,21 +1,22 @@
 // The rules of a turn.
 
-ghost use Rattle.std.specs.Prelude.{◌≡◌, ℕ, ◌<◌, ◌≤◌, ◌+◌, length, map, List, Option, Some, None, ℤ, vec_len, vec_capacity, is_none, slice_get, slice_set, unwrap_or, count_by, is_some, if◌then◌else◌};
+ghost use Rattle.std.specs.Prelude.{◌≡◌, ℕ, ◌<◌, ◌≤◌, ◌+◌, length, map, List, Option, Some, None, ℤ, vec_len, vec_capacity, is_none, slice_get, slice_set, unwrap_or, count_by, nat_lt, false};
 ghost use Rattle.std.specs.Option.{option_and_then};
 ghost use Rattle.gp_base.specs.declared.ending.End.TheVariants as ends;
 ghost use Rattle.gp_base.specs.declared.limits.TheConstants.{MOST_THREADS};
 ghost use Rattle.task_ast.specs.Looking.{begun, joined_in, is_free_to_go};
 ghost use Rattle.task_ast.specs.declared.sync.SyncOp.TheVariants as sync;
 ghost use Rattle.task_ast.specs.Table.{is_known_end, next_of, waits_at, owner_in};
-ghost use Rattle.task_ast.specs.meaning.Repeat.{More};
 ghost use Rattle.task_ast.specs.meaning.Table.{Away, numbers};
-ghost use Rattle.task_ast.specs.meaning.Turn.{owners_after, child_of};
 ghost use Rattle.task_ast.specs.Turn.{tried, issuing, passing, look, seats_after, deadlocked, arrived, stand_of, released_at};
-ghost use Rattle.token_order.specs.View.{table, seat_of, StandsInside, MarkStands};
+ghost use Rattle.task_ast.specs.meaning.Turn.{owners_after, child_of};
+ghost use Rattle.task_ast.specs.meaning.Repeat.{More};
+ghost use Rattle.ended_seats.specs.Idle.{IdleOver, onward_after};
+ghost use Rattle.token_order.specs.View.{table, seat_of, onward_of, StandsInside, WalksStand};
 ghost use Rattle.token_order.specs.declared.rules.Turn.TheVariants as here;
-ghost use Rattle.token_order.specs.Turned.{Answered, is_let, waits_ahead};
+ghost use Rattle.token_order.specs.Turned.{Answered, is_let, goes_ahead};
 
-use crate::threads::{Seat, Stand, Threads, has_ended, new_seat, unpass_all};
+use crate::threads::{Passed, Seat, Stand, Threads, has_ended, new_seat, unpass_all};
 use gp_base::limits::MOST_THREADS;
 use gp_base::{End, Pos, ThreadNo, Why};
 use task_ast::{Next, SyncOp};
@@ -40,6 +41,7 @@ pub enum Turn {
 fn begin(seat: &mut Seat, issued: u32) -> Option<Next>
     ensures next { result ≡ seat.old.next }
     ensures seat { seat_of seat.new ≡ begun issued (seat_of seat.old) }
+    ensures onward { onward_of seat.new ≡ onward_of seat.old }
 {
     seat.last = Some(issued);
     seat.passed = false;
@@ -73,6 +75,7 @@ fn add_child(seats: &mut Vec<Seat>, sync: &SyncOp) -> Option<ThreadNo>
     requires few { length seats.old.items ≤ MOST_THREADS }
     ensures seats { map seat_of seats.new.items ≡ seats_after sync.now (map seat_of seats.old.items) }
     ensures child { result ≡ child_of sync.now (length seats.old.items) }
+    ensures onward { map onward_of seats.new.items ≡ onward_after sync.now (map onward_of seats.old.items) }
     ensures capacity { vec_capacity seats.new ≡ vec_capacity seats.old }
 {
     let child = sync.child_of(seats.len());
@@ -83,13 +86,6 @@ fn add_child(seats: &mut Vec<Seat>, sync: &SyncOp) -> Option<ThreadNo>
         }));
     }
     child
-}
-
-// The mark after an issue: a child has not ended.
-fn live_after(live: usize, child: &Option<ThreadNo>, threads: usize) -> usize
-    ensures { result ≡ (if is_some child.now then threads else live) }
-{
-    if child.is_some() { threads } else { live }
 }
 
 // Whether nobody owns the lock.
@@ -129,19 +125,23 @@ fn joined(h: i64, threads: usize) -> Option<u32>
 }
 
 impl Threads {
-    // Whether the thread that the token comes to waits at a barrier.
-    fn waits_ahead(&self) -> bool
+    // Whether the thread that the token comes to goes on at this barrier.
+    fn goes_ahead(&self, barrier: u32) -> bool
         requires inside { StandsInside self.now }
-        ensures { result ≡ waits_ahead (table self.now) }
+        ensures { result ≡ goes_ahead barrier (table self.now) }
     {
-        match self.token_at() {
-            Some(t) => stands_waiting(&self.seats[t as usize]),
-            None => false,
+        let Some(t) = self.token_at() else {
+            return true;
+        };
+        let seat = &self.seats[t as usize];
+        if is_away(seat) {
+            return !self.waits_for_more(barrier);
         }
+        is_released(seat)
     }
 
     /// Whether the thread that the token comes to, which stands at it, isn't kept back: nobody owns its lock, the thread
-    /// that it joins is known to have ended, and it does not wait at a barrier.
+    /// that it joins is known to have ended, and at a barrier it was released, or is the last of the stated number.
     pub fn lets(&self, sync: &SyncOp) -> bool
         requires inside { StandsInside self.now }
         ensures { result ≡ is_let (table self.now) sync.now }
@@ -149,7 +149,7 @@ impl Threads {
         match sync {
             SyncOp::Lock(lock) => is_free(&self.owners, lock.0),
             SyncOp::Join(thread) => *thread >= 0 && is_over(&self.seats, *thread as usize),
-            SyncOp::Barrier(_) => !self.waits_ahead(),
+            SyncOp::Barrier(barrier) => self.goes_ahead(*barrier),
             _ => true,
         }
     }
@@ -157,26 +157,27 @@ impl Threads {
     // The thread passes.
     fn pass(&mut self, t: u32)
         requires exists { t < length self.old.seats.items }
-        requires live { t < self.old.live }
-        requires mark { MarkStands self.old }
+        requires live { is_known_end (next_of (table self.old) t) ≡ false }
+        requires walks { WalksStand self.old }
         ensures passes { passing (table self.old) t ≡ More (table self.new) }
         ensures capacity { vec_capacity self.new.seats ≡ vec_capacity self.old.seats }
-        ensures mark { MarkStands self.new }
+        ensures walks { WalksStand self.new }
     {
         self.seats[t as usize].passed = true;
+        self.passed = self.passed.with(t as usize);
         self.token = Some(t);
     }
 
     // The thread performs its next synchronisation and begins a subthread, unless the limit is reached.
     fn issue(&mut self, t: u32) -> Turn
         requires exists { t < length self.old.seats.items }
-        requires live { t < self.old.live }
-        requires mark { MarkStands self.old }
+        requires live { is_known_end (next_of (table self.old) t) ≡ false }
+        requires walks { WalksStand self.old }
         requires few { length self.old.seats.items ≤ MOST_THREADS }
         requires spare { vec_len self.old.seats < vec_capacity self.old.seats }
         ensures answer { (next : Next) → next_of (table self.old) t ≡ Some next → Answered (issuing (table self.old) t next) (table self.old) result (table self.new) }
         ensures capacity { vec_capacity self.new.seats ≡ vec_capacity self.old.seats }
-        ensures mark { MarkStands self.new }
+        ensures walks { WalksStand self.new }
     {
         if self.issued >= self.limit {
             return Turn::Ended(End::Spent(Pos(self.limit)));
@@ -184,10 +185,10 @@ impl Threads {
         let Some(next) = begin(&mut self.seats[t as usize], self.issued) else {
             return Turn::Needs(ThreadNo(t));
         };
-        unpass_all(&mut self.seats, self.live);
+        unpass_all(&mut self.seats, self.passed);
+        self.passed = Passed::none();
         hand_over(&mut self.owners, &next.sync, t);
         let child = add_child(&mut self.seats, &next.sync);
-        self.live = live_after(self.live, &child, self.seats.len());
         self.token = Some(t);
         self.issued += 1;
         Turn::Issue {
@@ -200,13 +201,13 @@ impl Threads {
     // A lock is taken where nobody owns it.
     fn lock(&mut self, t: u32, lock: u32) -> Turn
         requires exists { t < length self.old.seats.items }
-        requires live { t < self.old.live }
-        requires mark { MarkStands self.old }
+        requires live { is_known_end (next_of (table self.old) t) ≡ false }
+        requires walks { WalksStand self.old }
         requires few { length self.old.seats.items ≤ MOST_THREADS }
         requires spare { vec_len self.old.seats < vec_capacity self.old.seats }
         ensures answer { (next : Next) → next_of (table self.old) t ≡ Some next → Answered (tried (sync.Lock lock) (table self.old) t next) (table self.old) result (table self.new) }
         ensures capacity { vec_capacity self.new.seats ≡ vec_capacity self.old.seats }
-        ensures mark { MarkStands self.new }
+        ensures walks { WalksStand self.new }
     {
         if is_free(&self.owners, lock) {
             return self.issue(t);
@@ -218,13 +219,13 @@ impl Threads {
     // A join waits for the end of its thread.
     fn join(&mut self, t: u32, h: i64, line: u32) -> Turn
         requires exists { t < length self.old.seats.items }
-        requires live { t < self.old.live }
-        requires mark { MarkStands self.old }
+        requires live { is_known_end (next_of (table self.old) t) ≡ false }
+        requires walks { WalksStand self.old }
         requires few { length self.old.seats.items ≤ MOST_THREADS }
         requires spare { vec_len self.old.seats < vec_capacity self.old.seats }
         ensures answer { (next : Next) → next_of (table self.old) t ≡ Some next → next.line ≡ line → Answered (tried (sync.Join h) (table self.old) t next) (table self.old) result (table self.new) }
         ensures capacity { vec_capacity self.new.seats ≡ vec_capacity self.old.seats }
-        ensures mark { MarkStands self.new }
+        ensures walks { WalksStand self.new }
     {
         let Some(other) = joined(h, self.seats.len()) else {
             return stuck(Why::Join, t, line);
@@ -244,13 +245,13 @@ impl Threads {
     // A fork finds a seat while there are fewer threads than may exist.
     fn fork(&mut self, t: u32, line: u32) -> Turn
         requires exists { t < length self.old.seats.items }
-        requires live { t < self.old.live }
-        requires mark { MarkStands self.old }
+        requires live { is_known_end (next_of (table self.old) t) ≡ false }
+        requires walks { WalksStand self.old }
         requires few { length self.old.seats.items ≤ MOST_THREADS }
         requires spare { vec_len self.old.seats < vec_capacity self.old.seats }
         ensures answer { (next : Next) (task : ℕ) (arguments : List ℤ) → next_of (table self.old) t ≡ Some next → next.line ≡ line → Answered (tried (sync.Fork task arguments) (table self.old) t next) (table self.old) result (table self.new) }
         ensures capacity { vec_capacity self.new.seats ≡ vec_capacity self.old.seats }
-        ensures mark { MarkStands self.new }
+        ensures walks { WalksStand self.new }
     {
         if self.seats.len() < MOST_THREADS as usize {
             return self.issue(t);
@@ -261,45 +262,58 @@ impl Threads {
     // The thread arrives at a barrier, which counts as a change.
     fn arrive(&mut self, t: u32)
         requires exists { t < length self.old.seats.items }
-        requires live { t < self.old.live }
-        requires mark { MarkStands self.old }
+        requires live { is_known_end (next_of (table self.old) t) ≡ false }
+        requires walks { WalksStand self.old }
         ensures table { table self.new ≡ arrived (table self.old) t }
         ensures length { length self.new.seats.items ≡ length self.old.seats.items }
         ensures spare { (vec_len self.new.seats ≡ vec_len self.old.seats) × (vec_capacity self.new.seats ≡ vec_capacity self.old.seats) }
-        ensures live { self.new.live ≡ self.old.live }
-        ensures mark { MarkStands self.new }
+        ensures live { is_known_end (next_of (table self.new) t) ≡ false }
+        ensures walks { WalksStand self.new }
     {
-        unpass_all(&mut self.seats, self.live);
+        unpass_all(&mut self.seats, self.passed);
+        self.passed = Passed::none();
         self.seats[t as usize].stand = Stand::Waits;
+        self.waits = self.waits.saturating_add(1);
     }
 
     // The last thread arrives at a barrier, and all that wait there are released.
     fn open(&mut self, t: u32, barrier: u32)
         requires exists { t < length self.old.seats.items }
-        requires live { t < self.old.live }
-        requires mark { MarkStands self.old }
+        requires live { is_known_end (next_of (table self.old) t) ≡ false }
+        requires walks { WalksStand self.old }
         ensures table { table self.new ≡ record (arrived (table self.old) t) { seats = map (released_at barrier) (arrived (table self.old) t).seats } }
         ensures length { length self.new.seats.items ≡ length self.old.seats.items }
         ensures spare { (vec_len self.new.seats ≡ vec_len self.old.seats) × (vec_capacity self.new.seats ≡ vec_capacity self.old.seats) }
-        ensures live { self.new.live ≡ self.old.live }
-        ensures mark { MarkStands self.new }
+        ensures live { is_known_end (next_of (table self.new) t) ≡ false }
+        ensures walks { WalksStand self.new }
     {
         self.arrive(t);
+        let there = waiting(&self.seats, barrier);
         release(&mut self.seats, barrier);
+        self.waits = self.waits.saturating_sub(there);
+    }
+
+    // Whether a thread that comes to this barrier is not the last of the stated number.
+    fn waits_for_more(&self, barrier: u32) -> bool
+        requires walks { WalksStand self.now }
+        ensures { result ≡ nat_lt (count_by (waits_at barrier) (table self.now).seats + 1) (unwrap_or (slice_get (table self.now).barriers barrier) 0) }
+    {
+        let stated = stated(&self.barriers, barrier) as usize;
+        self.waits.saturating_add(1) < stated || waiting(&self.seats, barrier) + 1 < stated
     }
 
     // A thread comes to a barrier. Where the stated number of threads are there, it goes on and all others may.
     fn come(&mut self, t: u32, barrier: u32) -> Turn
         requires exists { t < length self.old.seats.items }
-        requires live { t < self.old.live }
-        requires mark { MarkStands self.old }
+        requires live { is_known_end (next_of (table self.old) t) ≡ false }
+        requires walks { WalksStand self.old }
         requires few { length self.old.seats.items ≤ MOST_THREADS }
         requires spare { vec_len self.old.seats < vec_capacity self.old.seats }
         ensures answer { (next : Next) → next_of (table self.old) t ≡ Some next → next.sync ≡ sync.Barrier barrier → stand_of (table self.old) t ≡ Away → Answered (tried (sync.Barrier barrier) (table self.old) t next) (table self.old) result (table self.new) }
         ensures capacity { vec_capacity self.new.seats ≡ vec_capacity self.old.seats }
-        ensures mark { MarkStands self.new }
+        ensures walks { WalksStand self.new }
     {
-        if waiting(&self.seats, barrier) + 1 < stated(&self.barriers, barrier) as usize {
+        if self.waits_for_more(barrier) {
             self.arrive(t);
             self.pass(t);
             return Turn::Pass;
@@ -314,13 +328,13 @@ impl Threads {
     // A released thread goes on, and one that has arrived waits.
     fn meet(&mut self, t: u32, barrier: u32) -> Turn
         requires exists { t < length self.old.seats.items }
-        requires live { t < self.old.live }
-        requires mark { MarkStands self.old }
+        requires live { is_known_end (next_of (table self.old) t) ≡ false }
+        requires walks { WalksStand self.old }
         requires few { length self.old.seats.items ≤ MOST_THREADS }
         requires spare { vec_len self.old.seats < vec_capacity self.old.seats }
         ensures answer { (next : Next) → next_of (table self.old) t ≡ Some next → next.sync ≡ sync.Barrier barrier → Answered (tried (sync.Barrier barrier) (table self.old) t next) (table self.old) result (table self.new) }
         ensures capacity { vec_capacity self.new.seats ≡ vec_capacity self.old.seats }
-        ensures mark { MarkStands self.new }
+        ensures walks { WalksStand self.new }
     {
         if is_released(&self.seats[t as usize]) {
             return self.issue(t);
@@ -334,6 +348,7 @@ impl Threads {
 
     // Every thread that has not ended has passed.
     fn deadlock(&self) -> Turn
+        requires walks { WalksStand self.now }
         requires few { length self.now.seats.items ≤ MOST_THREADS }
         ensures { Answered (deadlocked (look (table self.now) (numbers 0 (length (table self.now).seats)))) (table self.now) result (table self.now) }
     {
@@ -373,7 +388,7 @@ impl Threads {
         requires spare { vec_len self.old.seats < vec_capacity self.old.seats }
         ensures answer { Answered (Rattle.task_ast.specs.Turn.turn (table self.old)) (table self.old) result (table self.new) }
         ensures capacity { vec_capacity self.new.seats ≡ vec_capacity self.old.seats }
-        ensures mark { MarkStands self.new }
+        ensures walks { WalksStand self.new }
     {
         let Some(t) = self.token_at() else {
             return Turn::Ended(End::Finished);
@@ -442,13 +457,6 @@ fn stated(barriers: &[u32], barrier: u32) -> u32
     }
 }
 
-// Whether the thread has arrived and isn't released.
-fn stands_waiting(seat: &Seat) -> bool
-    ensures { result ≡ Rattle.task_ast.specs.meaning.Table.is_waiting (seat_of seat.now).stand }
-{
-    matches!(seat.stand, Stand::Waits)
-}
-
 // Whether the thread waits at this barrier.
 fn is_waiting(seat: &Seat, barrier: u32) -> bool
     ensures { result ≡ waits_at barrier (seat_of seat.now) }
@@ -471,26 +479,35 @@ fn is_waiting(seat: &Seat, barrier: u32) -> bool
 
 // How many threads wait at this barrier.
 fn waiting(seats: &[Seat], barrier: u32) -> usize
+    requires idle { IdleOver (map onward_of seats.now) (map seat_of seats.now) }
     ensures number { result ≡ count_by (waits_at barrier) (map seat_of seats.now) }
     ensures most { result ≤ length seats.now }
 {
     let mut number: usize = 0;
-    for seat in seats {
+    let mut t = 0;
+    while t < seats.len() {
+        let seat = &seats[t];
         if is_waiting(seat, barrier) {
             number += 1;
         }
+        t = (t + 1).max(seat.onward);
     }
     number
 }
 
 // The threads that wait at this barrier are released.
 fn release(seats: &mut [Seat], barrier: u32)
-    ensures { map seat_of seats.new ≡ map (released_at barrier) (map seat_of seats.old) }
+    requires idle { IdleOver (map onward_of seats.old) (map seat_of seats.old) }
+    ensures seats { map seat_of seats.new ≡ map (released_at barrier) (map seat_of seats.old) }
+    ensures onward { map onward_of seats.new ≡ map onward_of seats.old }
 {
-    for seat in seats.iter_mut() {
-        if is_waiting(seat, barrier) {
-            seat.stand = Stand::Released;
+    let mut t = 0;
+    while t < seats.len() {
+        let onward = seats[t].onward;
+        if is_waiting(&seats[t], barrier) {
+            seats[t].stand = Stand::Released;
         }
+        t = (t + 1).max(onward);
     }
 }
 

@@ -14,7 +14,7 @@ use Rattle.gp_audit.specs.meaning.Reading.{IsBrokenAt}
 use Rattle.gp_audit.specs.Reading.{AnswersTrace}
 use Rattle.call_cases.specs.declared.reading.Refusal.{Refusal}
 use Rattle.call_cases.specs.declared.reading.Refusal.TheVariants.{Usage, BadProgram, BadInput, ReadFault, OutOfMemory}
-use Rattle.call_cases.specs.meaning.Work.{Files, ToDo, Supplied, Spoils}
+use Rattle.call_cases.specs.meaning.Work.{Files, ToDo, Case, Refused}
 use Rattle.call_cases.specs.meaning.Journals.{dependence_for}
 use Rattle.call_cases.specs.meaning.Lines.{input_line}
 use Rattle.call_cases.specs.Refusals.{IsInputRefused, ReadsAmong, AnswersFile}
@@ -36,8 +36,8 @@ pub read_judged : (judge : Judge) (text : List ℕ) (lines : List TraceLine) →
 read_judged judge text lines is = one_reading text (judge.lines_of text) (Ok lines) (judge.reads text) is
 
 module _ (judge : Judge) (names : List Name) (file : Name) (position : Option ℕ) (work : ToDo) where
-  abbrev short_or : (long : Bool) → Result (List TraceLine) ℕ → Supplied Sight
-  short_or long rows = if long then Spoils (names ++ file ∷ []) (input_line file 6 0) else by_trace_rows judge names file position work rows
+  abbrev short_or : (long : Bool) → Result (List TraceLine) ℕ → Case Sight
+  short_or long rows = if long then Refused 4 (names ++ file ∷ []) (input_line file 6 0) else by_trace_rows judge names file position work rows
 
   -- a text that is short enough comes to what it is read as
   by_reading : (text : List ℕ) (read : Result (List TraceLine) ℕ) → length text ≤ MOST_FILE_BYTES → judge.lines_of text ≡ read
@@ -62,7 +62,7 @@ module _ (judge : Judge) (names : List Name) (file : Name) (position : Option �
   unlawful_told text lines row Usage within is judged refused = refused
   unlawful_told text lines row (BadProgram line) within is judged refused = refused
   unlawful_told text lines row (BadInput line) within is judged refused =
-      by_line text lines (Some row) within is judged ∙ ap (Spoils (names ++ file ∷ [])) (sym refused)
+      by_line text lines (Some row) within is judged ∙ ap (Refused 4 (names ++ file ∷ [])) (sym refused)
   unlawful_told text lines row (ReadFault name) within is judged refused = absurd refused
   unlawful_told text lines row OutOfMemory within is judged refused = tt
 
@@ -72,7 +72,7 @@ module _ (judge : Judge) (names : List Name) (file : Name) (position : Option �
   row_told text row (BadProgram line) within broken is = is
   row_told text row (BadInput line) within broken is =
       by_reading text (Err row) within (one_reading text (judge.lines_of text) (Err row) (judge.reads text) broken)
-      ∙ ap (Spoils (names ++ file ∷ [])) (sym is)
+      ∙ ap (Refused 4 (names ++ file ∷ [])) (sym is)
   row_told text row (ReadFault name) within broken is = absurd is
   row_told text row OutOfMemory within broken is = tt
 
@@ -89,7 +89,7 @@ module _ (judge : Judge) (names : List Name) (file : Name) (position : Option �
       → IsSomeAnd bytes (λ text. MOST_FILE_BYTES < length text) → AnswersLines judge names file position work bytes (Err (BadInput line))
   long_told None line is above = absurd above
   long_told (Some text) line is above =
-      ap (λ b. short_or b (judge.lines_of text)) (past_file text above) ∙ ap (Spoils (names ++ file ∷ [])) (sym is)
+      ap (λ b. short_or b (judge.lines_of text)) (past_file text above) ∙ ap (Refused 4 (names ++ file ∷ [])) (sym is)
 
   pub unread_told : (T : Type 0) (files : Option Files) (before now : List Name) (refusal : Refusal)
       → IfSome files (λ told. AnswersFile file (bytes_of told file) (Err refusal))

@@ -1,5 +1,5 @@
 -- From what the parts of the call ensure to what is promised of it.
-use Rattle.std.proofs.Common.{◌≡◌, ◌⊎◌, ℕ, List, [], IfSome, refl, sym, ap, subst, inl, inr, arith}
+use Rattle.std.proofs.Common.{◌≡◌, ◌⊎◌, ℕ, List, [], ◌∷◌, IfSome, refl, sym, ap, subst, inl, inr, arith}
 use Rattle.std.specs.List.{Contains}
 use Rattle.std.specs.declared.option.Option.{Option}
 use Rattle.std.specs.declared.option.Option.TheVariants.{None, Some}
@@ -10,10 +10,10 @@ use Rattle.gp_base.proofs.Written.{prefix_whole}
 use Rattle.task_ast.specs.meaning.Tree.{Name}
 use Rattle.call_cases.specs.declared.reading.Refusal.{Refusal}
 use Rattle.call_cases.specs.declared.reading.Refusal.TheVariants.{Usage as RefusedUsage, BadProgram as RefusedProgram, BadInput as RefusedInput, ReadFault, OutOfMemory}
-use Rattle.call_cases.specs.meaning.Work.{Files}
+use Rattle.call_cases.specs.meaning.Work.{Files, Case, Refused, Go}
 use Rattle.call_cases.specs.Commands.{IsApart, AreSound}
 use Rattle.call_cases.specs.meaning.Lines as gprs_lines
-use Rattle.call_cases.specs.meaning.Case.{Case, Usage, BadProgram, BadInput, Go, IsCase, ForCase, names_read}
+use Rattle.call_cases.specs.meaning.Case.{IsCase, ForCase, names_read}
 use Rattle.call_cases.specs.Refusals.{RefusesCase, RefusesWords, RefusesShelf, RefusalEnds, usage_told, program_told, input_told, read_told, refusal_no_memory, refusal_failed}
 use Rattle.call_cases.specs.meaning.Answers.{Change, TakesAll, TakesPart, Fails, Grew}
 use Rattle.call_cases.specs.Answers.{unwritten, LineEnds, whole, line_failed, line_no_memory, RunEnds, finished}
@@ -95,12 +95,12 @@ module _ (judge : Judge) where
       refusal_told refusal status known (line_no_memory part) =
           for_each (asking judge) words files (λ case. HasOwnLine 1 → TakesAll err (own_line case)) (λ case is. absurd (grind (arith, is)))
       refusal_told RefusedUsage status known (whole all) =
-          for_known (asking judge) words files Usage (λ case. HasOwnLine 2 → TakesAll err (own_line case)) known (λ _. all)
+          for_known (asking judge) words files (Refused 2 [] gprs_lines.usage_line) (λ case. HasOwnLine 2 → TakesAll err (own_line case)) known (λ _. all)
       refusal_told (RefusedProgram told) status known (whole all) =
-          for_some (commands judge) words files Name (λ name. BadProgram name told)
+          for_some (commands judge) words files Name (λ name. Refused 3 (name ∷ []) told)
           (λ case. HasOwnLine 3 → TakesAll err (own_line case)) known (λ name _. all)
       refusal_told (RefusedInput told) status known (whole all) =
-          for_some (commands judge) words files (List Name) (λ names. BadInput names told)
+          for_some (commands judge) words files (List Name) (λ names. Refused 4 names told)
           (λ case. HasOwnLine 4 → TakesAll err (own_line case)) known (λ names _. all)
       refusal_told (ReadFault name) status known (whole all) =
           for_each (asking judge) words files (λ case. HasOwnLine 7 → TakesAll err (own_line case)) (λ case is. absurd (grind (arith, is)))
@@ -116,12 +116,12 @@ module _ (judge : Judge) where
             → RefusesShelf MayRead reading failed failed' refusal → TakesPart err (refusal_line refusal)
             → ForCase (asking judge) words files TakesLine
         refusal_part RefusedUsage known shelf part =
-            for_known (asking judge) words files Usage TakesLine known (usage_line, inl refl, part)
+            for_known (asking judge) words files (Refused 2 [] gprs_lines.usage_line) TakesLine known (usage_line, inl refl, part)
         refusal_part (RefusedProgram told) known shelf part =
-            for_some (commands judge) words files Name (λ name. BadProgram name told) TakesLine known
+            for_some (commands judge) words files Name (λ name. Refused 3 (name ∷ []) told) TakesLine known
             (λ name. (under_own_name told, inl refl, part))
         refusal_part (RefusedInput told) known shelf part =
-            for_some (commands judge) words files (List Name) (λ names. BadInput names told) TakesLine known
+            for_some (commands judge) words files (List Name) (λ names. Refused 4 names told) TakesLine known
             (λ names. (under_own_name told, inl refl, part))
         refusal_part (ReadFault name) known shelf part = for_read files known
           where

@@ -12,12 +12,12 @@ use Rattle.task_ast.specs.meaning.Tree.{Name, Program}
 use Rattle.gp_audit.specs.declared.line.TraceLine.{TraceLine}
 use Rattle.call_cases.specs.declared.reading.Refusal.{Refusal}
 use Rattle.call_cases.specs.declared.reading.Refusal.TheVariants as refused
-use Rattle.call_cases.specs.meaning.Work.{Files, ToDo, Supplied, Supplies, Lacks, Spoils}
+use Rattle.call_cases.specs.meaning.Work.{Files, ToDo, Case, Refused, Go, after_file}
 use Rattle.call_cases.specs.meaning.InputFiles.{supplied_by, then_load}
 use Rattle.call_cases.specs.meaning.Journals.{dependence_for}
 use Rattle.call_cases.specs.meaning.Lines.{input_line}
 use Rattle.call_cases.specs.meaning.RunCommands as run
-use Rattle.call_cases.specs.meaning.Case.{Case, Missing, BadInput, Go, IsCaseOf, no_program, of_text, supplied_case, names_read}
+use Rattle.call_cases.specs.meaning.Case.{IsCaseOf, no_program, of_text, names_read}
 use Rattle.call_cases.specs.Refusals.{RefusesCase, RefusesShelf, ReadsAmong}
 use Rattle.call_cases.specs.meaning.Headline.{ReadsNothing}
 use Rattle.call_cases.proofs.Answering.{refuses_map}
@@ -30,71 +30,65 @@ use Rattle.view_calls.specs.meaning.Commands.{MayRead, of_run, the_trace, viewed
 use Rattle.view_calls.specs.meaning.Sights.{Sight, by_lines, by_trace_rows, by_bytes, by_trace, supplied}
 use Rattle.view_calls.specs.inner.Answers.{AnswersLines}
 
--- the case of what a trace comes to
-abbrev traced_case : Supplied Sight → Case Sight
-traced_case (Supplies names sight) = Go names sight
-traced_case (Lacks names name) = Missing names name
-traced_case (Spoils names line) = BadInput names line
-
 module _ (judge : Judge) (file : Name) (position : Option ℕ) where
   below_lines : (program : Name) (names : List Name) (work : ToDo) (lines : List TraceLine) (unlawful : Option ℕ)
-      → supplied_case program (by_lines names file position work lines unlawful)
-      ≡ traced_case (by_lines (program ∷ names) file position work lines unlawful)
+      → after_file program (by_lines names file position work lines unlawful)
+      ≡ (by_lines (program ∷ names) file position work lines unlawful)
   below_lines program names work lines None = refl
   below_lines program names work lines (Some row) = refl
 
   below_rows : (program : Name) (names : List Name) (work : ToDo) (rows : Result (List TraceLine) ℕ)
-      → supplied_case program (by_trace_rows judge names file position work rows)
-      ≡ traced_case (by_trace_rows judge (program ∷ names) file position work rows)
+      → after_file program (by_trace_rows judge names file position work rows)
+      ≡ (by_trace_rows judge (program ∷ names) file position work rows)
   below_rows program names work (Ok lines) =
       below_lines program names work lines (unlawful_in (judge.verdict_of (dependence_for work) work.faults lines))
   below_rows program names work (Err row) = refl
 
   below_long : (program : Name) (names : List Name) (work : ToDo) (long : Bool) (rows : Result (List TraceLine) ℕ)
-      → supplied_case program (if long then Spoils (names ++ file ∷ []) (input_line file 6 0)
+      → after_file program (if long then Refused 4 (names ++ file ∷ []) (input_line file 6 0)
       else by_trace_rows judge names file position work rows)
-      ≡ traced_case (if long then Spoils ((program ∷ names) ++ file ∷ []) (input_line file 6 0)
+      ≡ (if long then Refused 4 ((program ∷ names) ++ file ∷ []) (input_line file 6 0)
       else by_trace_rows judge (program ∷ names) file position work rows)
   below_long program names work true rows = refl
   below_long program names work false rows = below_rows program names work rows
 
   below_bytes : (program : Name) (names : List Name) (work : ToDo) (bytes : Option (List ℕ))
-      → supplied_case program (by_bytes judge names file position work bytes)
-      ≡ traced_case (by_bytes judge (program ∷ names) file position work bytes)
+      → after_file program (by_bytes judge names file position work bytes)
+      ≡ (by_bytes judge (program ∷ names) file position work bytes)
   below_bytes program names work None = refl
   below_bytes program names work (Some text) = below_long program names work (nat_lt MOST_FILE_BYTES (length text)) (judge.lines_of text)
 
   -- what was read before the trace, and the trace, were read
   keeps_lines : (names : List Name) (work : ToDo) (lines : List TraceLine) (unlawful : Option ℕ) (name : Name)
       → Contains (names ++ file ∷ []) name
-      → Contains (names_read (traced_case (by_lines names file position work lines unlawful))) name
+      → Contains (names_read ((by_lines names file position work lines unlawful))) name
   keeps_lines names work lines None name is = is
   keeps_lines names work lines (Some row) name is = is
 
   keeps_rows : (names : List Name) (work : ToDo) (rows : Result (List TraceLine) ℕ) (name : Name) → Contains (names ++ file ∷ []) name
-      → Contains (names_read (traced_case (by_trace_rows judge names file position work rows))) name
+      → Contains (names_read ((by_trace_rows judge names file position work rows))) name
   keeps_rows names work (Ok lines) name is =
       keeps_lines names work lines (unlawful_in (judge.verdict_of (dependence_for work) work.faults lines)) name is
   keeps_rows names work (Err row) name is = is
 
   keeps_long : (names : List Name) (work : ToDo) (long : Bool) (rows : Result (List TraceLine) ℕ) (name : Name)
       → Contains (names ++ file ∷ []) name
-      → Contains (names_read (traced_case (if long then Spoils (names ++ file ∷ []) (input_line file 6 0)
+      → Contains (names_read ((if long then Refused 4 (names ++ file ∷ []) (input_line file 6 0)
       else by_trace_rows judge names file position work rows))) name
   keeps_long names work true rows name is = is
   keeps_long names work false rows name is = keeps_rows names work rows name is
 
   keeps_bytes : (names : List Name) (work : ToDo) (bytes : Option (List ℕ)) (name : Name) → Contains (names ++ file ∷ []) name
-      → Contains (names_read (traced_case (by_bytes judge names file position work bytes))) name
+      → Contains (names_read ((by_bytes judge names file position work bytes))) name
   keeps_bytes names work None name is = is
   keeps_bytes names work (Some text) name is = keeps_long names work (nat_lt MOST_FILE_BYTES (length text)) (judge.lines_of text) name is
 
 module _ (judge : Judge) (viewed : Viewed) (files : Files) where
   abbrev traced : (trace : Option Name) → List Name → ToDo → Case Sight
-  traced trace names work = traced_case (by_trace judge trace files names viewed.position work)
+  traced trace names work = (by_trace judge trace files names viewed.position work)
 
   below_trace : (trace : Option Name) (program : Name) (names : List Name) (work : ToDo)
-      → supplied_case program (by_trace judge trace files names viewed.position work) ≡ traced trace (program ∷ names) work
+      → after_file program (by_trace judge trace files names viewed.position work) ≡ traced trace (program ∷ names) work
   below_trace None program names work = refl
   below_trace (Some file) program names work = below_bytes judge file viewed.position program names work (bytes_of files file)
 
@@ -108,16 +102,15 @@ module _ (judge : Judge) (viewed : Viewed) (files : Files) where
   after names work = traced viewed.trace names work
 
   goes_on : (program : Program)
-      → supplied_case viewed.run.program (supplied judge viewed program files)
-      ≡ further_case after (supplied_case viewed.run.program (supplied_by viewed.run program files))
+      → after_file viewed.run.program (supplied judge viewed program files)
+      ≡ further_case after (after_file viewed.run.program (supplied_by viewed.run program files))
   goes_on program = go (supplied_by viewed.run program files)
     where
-      go : (given : Supplied ToDo)
-          → supplied_case viewed.run.program (then_load given (λ names work. by_trace judge viewed.trace files names viewed.position work))
-          ≡ further_case after (supplied_case viewed.run.program given)
-      go (Supplies names work) = below_trace viewed.trace viewed.run.program names work
-      go (Lacks names name) = refl
-      go (Spoils names line) = refl
+      go : (given : Case ToDo)
+          → after_file viewed.run.program (then_load given (λ names work. by_trace judge viewed.trace files names viewed.position work))
+          ≡ further_case after (after_file viewed.run.program given)
+      go (Go names work) = below_trace viewed.trace viewed.run.program names work
+      go (Refused status names line) = refl
 
   to_view : (case : Case Sight) → IsCaseOf (further_asking run.asking (λ (v : Viewed). v.run) viewed_by (supplied judge)) viewed files case
       → IsCaseOf (asking judge) viewed files case
@@ -151,7 +144,7 @@ module _ (judge : Judge) (viewed : Viewed) (files : Files) where
         → IsCaseOf (asking judge) viewed files (Go (names ++ file ∷ [])
         (record { work = work; position = viewed.position; trace = Some lines }))
     lines_case lines answers =
-        subst (λ given. IsCaseOf (asking judge) viewed files (traced_case given)) answers (case_with (Some file) same names work is)
+        subst (λ given. IsCaseOf (asking judge) viewed files (given)) answers (case_with (Some file) same names work is)
 
     trace_refused : (refusal : Refusal) → AnswersLines judge names file viewed.position work (bytes_of files file) (Err refusal)
         → RefusesCase (IsCaseOf (asking judge) viewed files) refusal
@@ -159,7 +152,7 @@ module _ (judge : Judge) (viewed : Viewed) (files : Files) where
     trace_refused (refused.BadProgram line) answers = absurd answers
     trace_refused (refused.BadInput line) answers = (
       names ++ file ∷ [],
-      subst (λ given. IsCaseOf (asking judge) viewed files (traced_case given)) answers
+      subst (λ given. IsCaseOf (asking judge) viewed files (given)) answers
           (case_with (Some file) same names work is),
     )
     trace_refused (refused.ReadFault name) answers = (

@@ -2,7 +2,7 @@
 use Rattle.std.specs.Prelude.{List, [], ◌∷◌, ◌++◌, Option, Some, None, option_map}
 use Rattle.task_ast.specs.meaning.Tree.{Name}
 use Rattle.gp_audit.specs.declared.line.TraceLine.{TraceLine}
-use Rattle.call_cases.specs.meaning.Case.{Case, Go}
+use Rattle.call_cases.specs.meaning.Work.{Case, Go}
 use Rattle.call_cases.specs.Decided.{program_in, work_of, files_read}
 use Rattle.view_calls.specs.declared.words.Viewed.{Viewed}
 use Rattle.view_calls.specs.declared.reading.Trace.{Trace}

@@ -23,19 +23,129 @@ const EMPTY: &str = "task main() { }";
 
 const EMPTY_TOLD: &str = "ok
 1 subthread, 1 thread, 0 locks taken; at most 1 subthread side by side
-arithmetic: exact in every line
+arithmetic: exact in every line that ran
 ";
 
 const FEED: &str = "feed moves[2] from \"moves.csv\";
 task main() { print rows(moves); }
 ";
 
-const WORDS: [Row; 8] = [
-    ("explain p.gp --trace", EMPTY, "", 2, "", USAGE),
-    ("explain", EMPTY, "", 2, "", USAGE),
-    ("explain p.gp --turns 0", EMPTY, "", 2, "", USAGE),
-    ("explain p.gp q.gp", EMPTY, "", 2, "", USAGE),
-    ("explain p.gp --crew two", EMPTY, "", 2, "", USAGE),
+const LOST_RECORD: &str = "lock l[1];
+record r[1] by l from \"r.csv\";
+task main() { }
+";
+
+const LOST_FEED: &str = "feed moves[2] from \"moves.csv\";
+
+feed f[1] from \"/data/f.csv\";
+task main() { }
+";
+
+const WORDS: [Row; 18] = [
+    (
+        "explain p.gp --trace",
+        EMPTY,
+        "",
+        2,
+        "hint: `--trace` is no option of explain, which writes no trace\nhint: gprs_view explain PROGRAM [--faults FILE] [--turns N] [--subthreads N]\n",
+        USAGE,
+    ),
+    (
+        "explain",
+        EMPTY,
+        "",
+        2,
+        "hint: the name of a program is missing\nhint: gprs_view explain PROGRAM [--faults FILE] [--turns N] [--subthreads N]\n",
+        USAGE,
+    ),
+    (
+        "explain p.gp --turns 0",
+        EMPTY,
+        "",
+        2,
+        "hint: `--turns` takes a whole number from 1 to 10000000, and not `0`\nhint: gprs_view explain PROGRAM [--faults FILE] [--turns N] [--subthreads N]\n",
+        USAGE,
+    ),
+    (
+        "explain p.gp q.gp",
+        EMPTY,
+        "",
+        2,
+        "hint: `q.gp` is one word too many: one program is explained\nhint: gprs_view explain PROGRAM [--faults FILE] [--turns N] [--subthreads N]\n",
+        USAGE,
+    ),
+    (
+        "explain p.gp --crew two",
+        EMPTY,
+        "",
+        2,
+        "hint: `--crew` takes one, wave, board, steal or pipe, and not `two`\nhint: gprs_view explain PROGRAM [--faults FILE] [--turns N] [--subthreads N]\n",
+        USAGE,
+    ),
+    (
+        "explain p.gp --subthreads 500000",
+        EMPTY,
+        "",
+        2,
+        "hint: `--subthreads` takes a whole number from 1 to 200000, and not `500000`\nhint: gprs_view explain PROGRAM [--faults FILE] [--turns N] [--subthreads N]\n",
+        USAGE,
+    ),
+    (
+        "explain --workers=many p.gp",
+        EMPTY,
+        "",
+        2,
+        "hint: `--workers` takes a whole number from 1 to 64, and not `many`\nhint: gprs_view explain PROGRAM [--faults FILE] [--turns N] [--subthreads N]\n",
+        USAGE,
+    ),
+    (
+        "explain p.gp --turns",
+        EMPTY,
+        "",
+        2,
+        "hint: `--turns` has no value\nhint: gprs_view explain PROGRAM [--faults FILE] [--turns N] [--subthreads N]\n",
+        USAGE,
+    ),
+    (
+        "explain p.gp --turns -5",
+        EMPTY,
+        "",
+        2,
+        "hint: `--turns` has no value\nhint: gprs_view explain PROGRAM [--faults FILE] [--turns N] [--subthreads N]\n",
+        USAGE,
+    ),
+    (
+        "explain p.gp --trun 5",
+        EMPTY,
+        "",
+        2,
+        "hint: `--trun` is no option of explain\nhint: gprs_view explain PROGRAM [--faults FILE] [--turns N] [--subthreads N]\n",
+        USAGE,
+    ),
+    (
+        "explain -t 5 p.gp",
+        EMPTY,
+        "",
+        2,
+        "hint: `-t` is no option of explain\nhint: gprs_view explain PROGRAM [--faults FILE] [--turns N] [--subthreads N]\n",
+        USAGE,
+    ),
+    (
+        "explain p.gp --faults f.csv --faults g.csv",
+        EMPTY,
+        "",
+        2,
+        "hint: `--faults` stands twice\nhint: gprs_view explain PROGRAM [--faults FILE] [--turns N] [--subthreads N]\n",
+        USAGE,
+    ),
+    (
+        "explain --turns 5",
+        EMPTY,
+        "",
+        2,
+        "hint: the name of a program is missing\nhint: gprs_view explain PROGRAM [--faults FILE] [--turns N] [--subthreads N]\n",
+        USAGE,
+    ),
     (
         "explain p.gp --crew board --workers 2",
         EMPTY,
@@ -49,7 +159,7 @@ const WORDS: [Row; 8] = [
         EMPTY,
         "",
         7,
-        "",
+        "hint: q.gp cannot be read: there is no such file, or it is a folder, or it may not be read\nhint: it is the program of this call\nhint: names are looked for from the folder in which the call is made\n",
         "gprs_view: read fault q.gp\n",
     ),
     (
@@ -57,8 +167,24 @@ const WORDS: [Row; 8] = [
         EMPTY,
         "",
         7,
-        "",
+        "hint: f.csv cannot be read: there is no such file, or it is a folder, or it may not be read\nhint: `--faults` names it\nhint: names are looked for from the folder in which the call is made\n",
         "gprs_view: read fault f.csv\n",
+    ),
+    (
+        "explain p.gp",
+        LOST_RECORD,
+        "",
+        7,
+        "hint: r.csv cannot be read: there is no such file, or it is a folder, or it may not be read\nhint: line 2 of p.gp names it, for record r\nhint: names are looked for from the folder in which the call is made\n",
+        "gprs_view: read fault r.csv\n",
+    ),
+    (
+        "explain p.gp",
+        LOST_FEED,
+        "",
+        7,
+        "hint: /data/f.csv cannot be read: there is no such file, or it is a folder, or it may not be read\nhint: line 3 of p.gp names it, for feed f\n",
+        "gprs_view: read fault /data/f.csv\n",
     ),
 ];
 
@@ -74,8 +200,9 @@ task main() {
 
 const ALONE_TOLD: &str = "stuck deadlock thread 0 line 5
 thread 0 line 5 waits for lock l[0], which it holds itself
+thread 0: i = 0, j = 0
 2 subthreads, 1 thread, 1 lock taken; at most 1 subthread side by side
-arithmetic: exact in every line
+arithmetic: exact in every line that ran
 ";
 
 const TWO: &str = "lock x[2];
@@ -108,7 +235,7 @@ thread 0 line 22 waits for thread 1 to end
 thread 1 line 7 waits for lock y[1] of thread 2
 thread 2 line 15 waits for lock x[1] of thread 1
 8 subthreads, 3 threads, 3 locks taken; at most 2 subthreads side by side
-arithmetic: exact in every line
+arithmetic: exact in every line that ran
 ";
 
 const THREE: &str = "lock l[3];
@@ -121,6 +248,7 @@ task p(i, j) {
   unlock l[i];
 }
 task main() {
+  var k;
   fork p(0, 1);
   fork p(1, 2);
   fork p(2, 0);
@@ -131,8 +259,11 @@ const THREE_TOLD: &str = "stuck deadlock thread 1 line 6
 thread 1 line 6 waits for lock l[1] of thread 2
 thread 2 line 6 waits for lock l[2] of thread 3
 thread 3 line 6 waits for lock l[0] of thread 1
+thread 1: i = 0, j = 1
+thread 2: i = 1, j = 2
+thread 3: i = 2, j = 0
 13 subthreads, 4 threads, 3 locks taken; at most 3 subthreads side by side
-arithmetic: exact in every line
+arithmetic: exact in every line that ran
 ";
 
 const BARRIER: &str = "barrier step(3);
@@ -146,9 +277,9 @@ task main() {
 const BARRIER_TOLD: &str = "stuck deadlock thread 0 line 5
 thread 0 line 5 waits for barrier step
 thread 1 line 2 waits for barrier step
-barrier step: 2 of 3 threads are there: 0, 1
+barrier step: 2 of 3 threads are there: 0 1
 3 subthreads, 2 threads, 0 locks taken; at most 1 subthread side by side
-arithmetic: exact in every line
+arithmetic: exact in every line that ran
 ";
 
 const ITSELF: &str = "task main() { join 0; }";
@@ -156,7 +287,7 @@ const ITSELF: &str = "task main() { join 0; }";
 const ITSELF_TOLD: &str = "stuck deadlock thread 0 line 1
 thread 0 line 1 waits for thread 0 to end
 1 subthread, 1 thread, 0 locks taken; at most 1 subthread side by side
-arithmetic: exact in every line
+arithmetic: exact in every line that ran
 ";
 
 const LONE: &str = "barrier a(1);
@@ -171,7 +302,7 @@ const LONE_TOLD: &str = "stuck deadlock thread 0 line 5
 thread 0 line 5 waits for barrier b
 barrier b: 1 of 2 threads is there: 0
 2 subthreads, 1 thread, 0 locks taken; at most 1 subthread side by side
-arithmetic: exact in every line
+arithmetic: exact in every line that ran
 ";
 
 const NOBODY: &str = "task t() { }
@@ -184,7 +315,7 @@ task main() {
 const NOBODY_TOLD: &str = "stuck join thread 0 line 4
 thread 7 is joined; there are 2 threads, 0 to 1
 3 subthreads, 2 threads, 0 locks taken; at most 1 subthread side by side
-arithmetic: exact in every line
+arithmetic: exact in every line that ran
 ";
 
 const NEGATIVE: &str = "task main() { join 0 - 1; }";
@@ -192,7 +323,7 @@ const NEGATIVE: &str = "task main() { join 0 - 1; }";
 const NEGATIVE_TOLD: &str = "stuck join thread 0 line 1
 thread -1 is joined; there is 1 thread, 0
 1 subthread, 1 thread, 0 locks taken; at most 1 subthread side by side
-arithmetic: exact in every line
+arithmetic: exact in every line that ran
 ";
 
 const STUCK: [Row; 8] = [
@@ -219,7 +350,7 @@ const LOCK_TOLD: &str = "stuck index thread 0 line 5
 bank[i] with i = 2; bank has 2 cells, 0 to 1
 thread 0: i = 2
 1 subthread, 1 thread, 0 locks taken; at most 1 subthread side by side
-arithmetic: exact in every line
+arithmetic: exact in every line that ran
 ";
 
 const LITERAL: &str = "lock bank[2];
@@ -232,7 +363,7 @@ task main() {
 const LITERAL_TOLD: &str = "stuck index thread 0 line 3
 bank[5]; bank has 2 cells, 0 to 1
 1 subthread, 1 thread, 0 locks taken; at most 1 subthread side by side
-arithmetic: exact in every line
+arithmetic: exact in every line that ran
 ";
 
 const BELOW: &str = "lock bank[2];
@@ -249,7 +380,7 @@ const BELOW_TOLD: &str = "stuck index thread 1 line 3
 bank[i] with i = -1; bank has 2 cells, 0 to 1
 thread 1: i = -1, k = 3
 3 subthreads, 2 threads, 0 locks taken; at most 1 subthread side by side
-arithmetic: exact in every line
+arithmetic: exact in every line that ran
 ";
 
 const PAST: &str = "feed moves[2] from \"moves.csv\";
@@ -266,7 +397,7 @@ const PAST_TOLD: &str = "stuck index thread 0 line 5
 moves[2, 1]; moves has 2 rows, 0 to 1, of 2 fields, 0 to 1
 thread 0: i = 2
 1 subthread, 1 thread, 0 locks taken; at most 1 subthread side by side
-arithmetic: exact in every line
+arithmetic: exact in every line that ran
 ";
 
 const FIELD: &str = "feed moves[2] from \"moves.csv\";
@@ -277,10 +408,10 @@ task main() {
 ";
 
 const FIELD_TOLD: &str = "stuck index thread 0 line 4
-moves[0, 2]; moves has 1 rows, 0 to 0, of 2 fields, 0 to 1
+moves[0, 2]; moves has 1 row, 0 to 0, of 2 fields, 0 to 1
 thread 0: x = 0
 1 subthread, 1 thread, 0 locks taken; at most 1 subthread side by side
-arithmetic: exact in every line
+arithmetic: exact in every line that ran
 ";
 
 const NO_ROW: &str = "feed moves[2] from \"moves.csv\";
@@ -293,7 +424,7 @@ task main() {
 const NO_ROW_TOLD: &str = "stuck index thread 0 line 4
 moves[0, 0]; moves has 0 rows, of 2 fields, 0 to 1
 1 subthread, 1 thread, 0 locks taken; at most 1 subthread side by side
-arithmetic: exact in every line
+arithmetic: exact in every line that ran
 ";
 
 const ARM: &str = "feed moves[2] from \"moves.csv\";
@@ -308,9 +439,9 @@ task main() {
 ";
 
 const ARM_TOLD: &str = "stuck index thread 0 line 4
-moves[4, 1]; moves has 1 rows, 0 to 0, of 2 fields, 0 to 1
+moves[4, 1]; moves has 1 row, 0 to 0, of 2 fields, 0 to 1
 1 subthread, 1 thread, 0 locks taken; at most 1 subthread side by side
-arithmetic: exact in every line
+arithmetic: exact in every line that ran
 ";
 
 const INDICES: [Row; 7] = [
@@ -329,7 +460,7 @@ const LOOP_TOLD: &str = "spent 0
 thread 0 took 10 loop turns in one subthread, last at the loop in line 1
 hint: --turns allows up to 10000000
 1 subthread, 1 thread, 0 locks taken; at most 1 subthread side by side
-arithmetic: exact in every line
+arithmetic: exact in every line that ran
 ";
 
 const NESTED: &str = "task main() {
@@ -343,9 +474,10 @@ const NESTED: &str = "task main() {
 
 const NESTED_TOLD: &str = "spent 0
 thread 0 took 10 loop turns in one subthread, last at the loop in line 5
+thread 0: i = 2
 hint: --turns allows up to 10000000
 1 subthread, 1 thread, 0 locks taken; at most 1 subthread side by side
-arithmetic: exact in every line
+arithmetic: exact in every line that ran
 ";
 
 const OTHER: &str = "task t() { while 1 { } }
@@ -359,7 +491,7 @@ const OTHER_TOLD: &str = "spent 2
 thread 1 took 3 loop turns in one subthread, last at the loop in line 1
 hint: --turns allows up to 10000000
 3 subthreads, 2 threads, 0 locks taken; at most 1 subthread side by side
-arithmetic: exact in every line
+arithmetic: exact in every line that ran
 ";
 
 const MANY: &str = "lock l[1];
@@ -375,10 +507,41 @@ const MANY_TOLD: &str = "spent 5
 5 subthreads were begun; thread 0 line 4 would begin one more
 hint: --subthreads allows up to 200000
 5 subthreads, 1 thread, 2 locks taken; at most 1 subthread side by side
-arithmetic: exact in every line
+arithmetic: exact in every line that ran
 ";
 
-const SPENT: [Row; 4] = [
+const BEGINS: &str = "task t(n) { print n; }
+task main() {
+  fork t(7);
+  join 1;
+}
+";
+
+const BEGINS_TOLD: &str = "spent 2
+2 subthreads were begun; thread 1 would begin one more, at the beginning of task t
+thread 1: n = 7
+hint: --subthreads allows up to 200000
+2 subthreads, 1 thread, 0 locks taken; at most 1 subthread side by side
+arithmetic: exact in every line that ran
+";
+
+const FORKS_TOLD: &str = "spent 1
+1 subthread was begun; thread 0 line 3 would begin one more
+hint: --subthreads allows up to 200000
+1 subthread, 1 thread, 0 locks taken; at most 1 subthread side by side
+arithmetic: exact in every line that ran
+";
+
+const SPENT: [Row; 6] = [
+    (
+        "explain p.gp --subthreads 2",
+        BEGINS,
+        "",
+        6,
+        BEGINS_TOLD,
+        "",
+    ),
+    ("explain p.gp --subthreads 1", BEGINS, "", 6, FORKS_TOLD, ""),
     ("explain p.gp --turns 10", LOOP, "", 6, LOOP_TOLD, ""),
     ("explain p.gp --turns 10", NESTED, "", 6, NESTED_TOLD, ""),
     ("explain --turns 3 p.gp", OTHER, "", 6, OTHER_TOLD, ""),
@@ -400,11 +563,11 @@ const CONTROL: &str = "task main() {
 
 const CONTROL_TOLD: &str = "ok
 1 subthread, 1 thread, 0 locks taken; at most 1 subthread side by side
-line 4: arithmetic left 64 bits or divided by 0, once, first at position 0
-line 5: arithmetic left 64 bits or divided by 0, once, first at position 0
-line 6: arithmetic left 64 bits or divided by 0, once, first at position 0
-line 7: arithmetic left 64 bits or divided by 0, once, first at position 0
-line 8: arithmetic left 64 bits or divided by 0, once, first at position 0
+line 4: arithmetic left 64 bits, once, first at position 0, thread 0: m = -9223372036854775808, x = 0
+line 5: arithmetic left 64 bits, once, first at position 0, thread 0: m = -9223372036854775808, x = -9223372036854775808
+line 6: arithmetic divided by 0, once, first at position 0, thread 0: m = -9223372036854775808, x = -9223372036854775808
+line 7: arithmetic left 64 bits, once, first at position 0, thread 0: m = -9223372036854775808, x = 0
+line 8: arithmetic left 64 bits, once, first at position 0, thread 0: m = -9223372036854775808, x = 9223372036854775807
 ";
 
 const DATA: &str = "lock l[1];
@@ -431,9 +594,9 @@ task main() {
 // second by 1, and the third, 3037000500 * 3037000500 + 3037000500, leaves 64 bits at its product.
 const DATA_TOLD: &str = "ok
 7 subthreads, 1 thread, 3 locks taken; at most 1 subthread side by side
-line 8: arithmetic left 64 bits or divided by 0, once, first at position 5
-line 9: arithmetic left 64 bits or divided by 0, once, first at position 1
-line 16: arithmetic left 64 bits or divided by 0, once, first at position 6
+line 8: arithmetic left 64 bits, once, first at position 5, thread 0: i = 2
+line 9: arithmetic divided by 0, once, first at position 1, thread 0: i = 0
+line 16: arithmetic divided by 0, once, first at position 6, thread 0: i = 3
 ";
 
 const GIVEN: &str = "task t(n, $d) { print n, $d; }
@@ -448,11 +611,35 @@ task main() {
 
 const GIVEN_TOLD: &str = "ok
 6 subthreads, 3 threads, 0 locks taken; at most 2 subthreads side by side
-line 5: arithmetic left 64 bits or divided by 0, 2 times, first at position 1
-line 7: arithmetic left 64 bits or divided by 0, once, first at position 3
+line 5: arithmetic left 64 bits, 2 times, first at position 1, thread 0: k = 9223372036854775807
+line 7: arithmetic divided by 0, once, first at position 3, thread 0: k = 9223372036854775807
 ";
 
-const EXACT: [Row; 4] = [
+const BOTH: &str = "task t(n, $d) {
+  var x, $e;
+  x = 9223372036854775807 + n; x = n / (n - n);
+}
+task main() {
+  fork t(5, 6);
+}
+";
+
+const BOTH_TOLD: &str = "ok
+3 subthreads, 2 threads, 0 locks taken; at most 1 subthread side by side
+line 3: arithmetic left 64 bits, once, first at position 2, thread 1: n = 5, x = 0
+line 3: arithmetic divided by 0, once, first at position 2, thread 1: n = 5, x = -9223372036854775804
+";
+
+const NO_NAMES: &str = "task main() { print 7 / 0; }";
+
+const NO_NAMES_TOLD: &str = "ok
+1 subthread, 1 thread, 0 locks taken; at most 1 subthread side by side
+line 1: arithmetic divided by 0, once, first at position 0, thread 0
+";
+
+const EXACT: [Row; 6] = [
+    ("explain p.gp", BOTH, "", 0, BOTH_TOLD, ""),
+    ("explain p.gp", NO_NAMES, "", 0, NO_NAMES_TOLD, ""),
     ("explain p.gp", CONTROL, "", 0, CONTROL_TOLD, ""),
     ("explain p.gp", DATA, "", 0, DATA_TOLD, ""),
     ("explain p.gp", GIVEN, "", 0, GIVEN_TOLD, ""),

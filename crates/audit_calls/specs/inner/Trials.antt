@@ -6,8 +6,7 @@ use Rattle.gp_audit.specs.declared.line.TraceLine.{TraceLine}
 use Rattle.command_line.specs.declared.audit_words.Audited.{Audited}
 use Rattle.call_cases.specs.declared.reading.Refusal.{Refusal}
 use Rattle.call_cases.specs.declared.reading.Refusal.TheVariants.{BadInput, ReadFault, OutOfMemory}
-use Rattle.call_cases.specs.meaning.Work.{ToDo, Supplies, Spoils}
-use Rattle.call_cases.specs.meaning.Case.{Case, Go}
+use Rattle.call_cases.specs.meaning.Work.{ToDo, Case, Refused, Go}
 use Rattle.call_cases.specs.Decided.{program_in, files_read, work_of}
 use Rattle.audit_calls.specs.declared.trial.Trial.{Trial}
 use Rattle.audit_calls.specs.meaning.Tried.{Judge, Tried, tried_with, by_trace}
@@ -34,8 +33,8 @@ pub record IsShort (trial : Trial) : Type 0 where
 -- the answer to the file of a trace with these bytes, after these files
 abbrev pub AnswersLines : Judge → (names : List Name) → (file : Name) → ToDo → Option (List ℕ) → Result (List TraceLine) Refusal → Type 0
 AnswersLines judge names file work bytes (Ok lines) =
-    by_trace judge names file work bytes ≡ Supplies (names ++ file ∷ []) (tried_with judge work lines)
-AnswersLines judge names file work bytes (Err (BadInput line)) = by_trace judge names file work bytes ≡ Spoils (names ++ file ∷ []) line
+    by_trace judge names file work bytes ≡ Go (names ++ file ∷ []) (tried_with judge work lines)
+AnswersLines judge names file work bytes (Err (BadInput line)) = by_trace judge names file work bytes ≡ Refused 4 (names ++ file ∷ []) line
 AnswersLines judge names file work bytes (Err (ReadFault name)) = file ≡ name
 AnswersLines judge names file work bytes (Err OutOfMemory) = ⊤
 AnswersLines judge names file work bytes (Err refusal) = ⊥

@@ -8,8 +8,8 @@ use Rattle.dependence.specs.meaning.Restarts.{Dependence}
 use Rattle.restart_log.specs.meaning.Trace.{trace_text}
 use Rattle.gp_audit.specs.declared.line.TraceLine.{TraceLine}
 use Rattle.command_line.specs.declared.audit_words.Audited.{Audited}
-use Rattle.call_cases.specs.meaning.Work.{Files, ToDo, is_journalled}
-use Rattle.call_cases.specs.meaning.Case.{Case, Go, IsCaseOf, IsCase, status_of, text_of}
+use Rattle.call_cases.specs.meaning.Work.{Files, ToDo, is_journalled, Case, Go}
+use Rattle.call_cases.specs.meaning.Case.{IsCaseOf, IsCase, status_of, text_of}
 use Rattle.call_cases.specs.meaning.RunCommands as run
 use Rattle.call_cases.specs.meaning.Headline.{Call, Headline}
 use Rattle.audit_calls.specs.meaning.Tried.{Judge, Tried}

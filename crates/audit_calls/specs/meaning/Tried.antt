@@ -1,8 +1,7 @@
 -- What an audit comes to by the files of a call: the run that is said to have been, the lines of its trace, and the verdict on them.
-use Rattle.std.specs.Prelude.{◌≡◌, ℕ, List, [], ◌∷◌, ◌++◌, length, All, Option, None, Some, Result, Ok, Err, nat_lt, if◌then◌else◌}
+use Rattle.std.specs.Prelude.{◌≡◌, ℕ, List, [], ◌∷◌, ◌++◌, All, Option, Result, Ok, Err}
 use Rattle.gp_base.specs.meaning.Files.{bytes_of}
 use Rattle.gp_base.specs.declared.fault.Fault.{Fault}
-use Rattle.gp_base.specs.declared.limits.TheConstants.{MOST_FILE_BYTES}
 use Rattle.task_ast.specs.meaning.Tree.{Name, Program}
 use Rattle.dependence.specs.meaning.Restarts.{Dependence}
 use Rattle.gp_audit.specs.declared.line.TraceLine.{TraceLine}
@@ -11,8 +10,8 @@ use Rattle.gp_audit.specs.meaning.Lines.{lines_text, IsNarrowLine}
 use Rattle.gp_audit.specs.meaning.Reading.{IsBrokenAt}
 use Rattle.gp_audit.specs.meaning.Verdicts.{IsVerdict}
 use Rattle.command_line.specs.declared.audit_words.Audited.{Audited}
-use Rattle.call_cases.specs.meaning.Work.{Files, ToDo, Supplied, Supplies, Lacks, Spoils}
-use Rattle.call_cases.specs.meaning.InputFiles.{supplied_by, then_load}
+use Rattle.call_cases.specs.meaning.Work.{Files, ToDo, Case, Refused, Go}
+use Rattle.call_cases.specs.meaning.InputFiles.{supplied_by, then_load, by_content}
 use Rattle.call_cases.specs.meaning.Journals.{dependence_for}
 use Rattle.call_cases.specs.meaning.Lines.{input_line}
 
@@ -40,18 +39,15 @@ module _ (judge : Judge) where
   tried_with work lines = record { work = work; lines = lines; verdict = judge.verdict_of (dependence_for work) work.faults lines }
 
   -- what comes of the rows of a trace, after these files
-  abbrev pub by_trace_rows : (names : List Name) → (file : Name) → ToDo → Result (List TraceLine) ℕ → Supplied Tried
-  by_trace_rows names file work (Ok lines) = Supplies (names ++ file ∷ []) (tried_with work lines)
-  by_trace_rows names file work (Err row) = Spoils (names ++ file ∷ []) (input_line file 9 row)
+  abbrev pub by_trace_rows : (names : List Name) → (file : Name) → ToDo → Result (List TraceLine) ℕ → Case Tried
+  by_trace_rows names file work (Ok lines) = Go (names ++ file ∷ []) (tried_with work lines)
+  by_trace_rows names file work (Err row) = Refused 4 (names ++ file ∷ []) (input_line file 9 row)
 
   -- what comes of the file of a trace with these bytes, or of none
-  abbrev pub by_trace : (names : List Name) → (file : Name) → ToDo → Option (List ℕ) → Supplied Tried
-  by_trace names file work None = Lacks names file
-  by_trace names file work (Some bytes) =
-      if nat_lt MOST_FILE_BYTES (length bytes) then Spoils (names ++ file ∷ [])
-      (input_line file 6 0) else by_trace_rows names file work (judge.lines_of bytes)
+  abbrev pub by_trace : (names : List Name) → (file : Name) → ToDo → Option (List ℕ) → Case Tried
+  by_trace names file work bytes = by_content names file bytes (λ bytes. by_trace_rows names file work (judge.lines_of bytes))
 
   -- what there is to be judged, by the files beside a program: those that its run would read, and then that of the trace
-  abbrev pub supplied : Audited → Program → Files → Supplied Tried
+  abbrev pub supplied : Audited → Program → Files → Case Tried
   supplied audited program files =
       then_load (supplied_by audited.run program files) (λ names work. by_trace names audited.trace work (bytes_of files audited.trace))

@@ -15,7 +15,8 @@ use Rattle.batch_files.specs.meaning.Rows.{Broken}
 use Rattle.call_cases.specs.declared.reading.Refusal.{Refusal}
 use Rattle.call_cases.specs.declared.reading.Refusal.TheVariants as refused
 use Rattle.call_cases.specs.declared.inputs.Loading.{Loading}
-use Rattle.call_cases.specs.meaning.Work.{Supplied, Supplies, Lacks, Spoils}
+use Rattle.call_cases.specs.meaning.Work.{Case, Refused, Go}
+use Rattle.call_cases.specs.meaning.Case.{names_read}
 use Rattle.call_cases.specs.meaning.Lines.{input_line, kind_number}
 use Rattle.call_cases.specs.Refusals.{IsInputRefused}
 
@@ -54,32 +55,26 @@ AreReadable [] = ⊤
 AreReadable (head ∷ heads) = IsReadable head × AreReadable heads
 
 -- the answer to one head, after these files, where this comes of it
-abbrev pub StepsTo : {T : Type 0} → (names named : List Name) → Supplied Inputs → Inputs → Result T Refusal → Type 0
-StepsTo names named step after (Ok done) = step ≡ Supplies (names ++ named) after
-StepsTo names named step after (Err (refused.BadInput line)) = (read : List Name) × (step ≡ Spoils read line)
+abbrev pub StepsTo : {T : Type 0} → (names named : List Name) → Case Inputs → Inputs → Result T Refusal → Type 0
+StepsTo names named step after (Ok done) = step ≡ Go (names ++ named) after
+StepsTo names named step after (Err (refused.BadInput line)) = (read : List Name) × (step ≡ Refused 4 read line)
 StepsTo names named step after (Err (refused.ReadFault name)) = ⊤
 StepsTo names named step after (Err refused.OutOfMemory) = ⊤
 StepsTo names named step after (Err refusal) = ⊥
 
--- the files that were read
-abbrev pub names_of : {T : Type 0} → Supplied T → List Name
-names_of (Supplies names value) = names
-names_of (Lacks names name) = names ++ name ∷ []
-names_of (Spoils names line) = names
-
 -- the answer to all heads, which name these files
-abbrev pub AnswersLoad : Supplied Inputs → List Name → Result Inputs Refusal → Type 0
-AnswersLoad supplied names (Ok inputs) = supplied ≡ Supplies names inputs
-AnswersLoad supplied names (Err (refused.BadInput line)) = (read : List Name) × (supplied ≡ Spoils read line)
-AnswersLoad supplied names (Err (refused.ReadFault name)) = Contains (names_of supplied) name
+abbrev pub AnswersLoad : Case Inputs → List Name → Result Inputs Refusal → Type 0
+AnswersLoad supplied names (Ok inputs) = supplied ≡ Go names inputs
+AnswersLoad supplied names (Err (refused.BadInput line)) = (read : List Name) × (supplied ≡ Refused 4 read line)
+AnswersLoad supplied names (Err (refused.ReadFault name)) = Contains (names_read supplied) name
 AnswersLoad supplied names (Err refused.OutOfMemory) = ⊤
 AnswersLoad supplied names (Err refusal) = ⊥
 
 -- the answer to the file of faults, after these files
-abbrev pub AnswersFaults : (names named : List Name) → Supplied (List Fault) → Result Faults Refusal → Type 0
-AnswersFaults names named supplied (Ok faults) = supplied ≡ Supplies (names ++ named) faults.list
-AnswersFaults names named supplied (Err (refused.BadInput line)) = (read : List Name) × (supplied ≡ Spoils read line)
-AnswersFaults names named supplied (Err (refused.ReadFault name)) = Contains (names_of supplied) name
+abbrev pub AnswersFaults : (names named : List Name) → Case (List Fault) → Result Faults Refusal → Type 0
+AnswersFaults names named supplied (Ok faults) = supplied ≡ Go (names ++ named) faults.list
+AnswersFaults names named supplied (Err (refused.BadInput line)) = (read : List Name) × (supplied ≡ Refused 4 read line)
+AnswersFaults names named supplied (Err (refused.ReadFault name)) = Contains (names_read supplied) name
 AnswersFaults names named supplied (Err refused.OutOfMemory) = ⊤
 AnswersFaults names named supplied (Err refusal) = ⊥
 

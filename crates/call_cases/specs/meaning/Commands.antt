@@ -4,7 +4,7 @@
 use Rattle.std.specs.Prelude.{ℕ, Bool, List, Option}
 use Rattle.gp_base.specs.declared.journal.Journal.{Journal}
 use Rattle.task_ast.specs.meaning.Tree.{Name, Program}
-use Rattle.call_cases.specs.meaning.Work.{Files, Supplied}
+use Rattle.call_cases.specs.meaning.Work.{Files, Case}
 use Rattle.call_cases.specs.meaning.Answers.{Change}
 
 -- what words ask for, and what that comes to by the files
@@ -16,7 +16,7 @@ pub record Asking (A T : Type 0) : Type 0 where
   -- the files that it is done over, where the shelf has these
   pub files : A → Files → Files
   -- what is to be done with an accepted program, by the files beside it
-  pub supplied : A → Program → Files → Supplied T
+  pub supplied : A → Program → Files → Case T
 
 -- a log that the error stream takes while a run goes on, a row for each position that retires: the whole log of what is
 -- to be done, and what of it was taken where this is the journal of the run

@@ -3,9 +3,9 @@ use Rattle.std.specs.Prelude.{◌≡◌, ◌⊎◌, ℕ, true, false, [], List, 
 use Rattle.gp_base.specs.declared.journal.Journal.{Journal}
 use Rattle.gp_base.specs.meaning.Files.{GrowsByOnly}
 use Rattle.task_ast.specs.meaning.Tree.{Name}
-use Rattle.call_cases.specs.meaning.Work.{Files}
+use Rattle.call_cases.specs.meaning.Work.{Files, Case}
 use Rattle.call_cases.specs.meaning.Commands.{Commands, MayLog, Unlogged, Logged}
-use Rattle.call_cases.specs.meaning.Case.{Case, IsCase, ForCase, ForRun, HasWork, IsMissing, status_of, text_of, line_of, names_read}
+use Rattle.call_cases.specs.meaning.Case.{IsCase, ForCase, ForRun, HasWork, status_of, text_of, due_of, names_read}
 use Rattle.call_cases.specs.meaning.Lines.{read_fault_line, write_fault_line}
 use Rattle.call_cases.specs.meaning.Answers.{Change, TakesAll, TakesPart, TakesNothing, IsUntouched, Fails, Grew, Yields, TakesStop, IsEmpty}
 
@@ -32,12 +32,10 @@ IsRefusal status = HasCaseLine status ⊎ (status ≡ 7)
 abbrev pub IsStop : ℕ → Type 0
 IsStop status = (status ≡ 1) ⊎ (status ≡ 8)
 
--- what the error stream is to take for the case: the line of the case, or, where a read failed, of a file that it reads, or, where there
--- is something to be done, what it takes at the end of that
+-- what the error stream is to take for the case, or, where a read failed, the line of a file that it reads
 abbrev pub IsDue : {T : Type 0} → (grew : Type 0) → Case T → (error : List ℕ) → List ℕ → Type 0
 IsDue grew case error due =
-    (due ≡ line_of case) ⊎ HasWork case × (due ≡ error)
-    ⊎ grew × (name : Name) × Contains (names_read case) name × (due ≡ read_fault_line name)
+    (due ≡ due_of case error) ⊎ grew × (name : Name) × Contains (names_read case) name × (due ≡ read_fault_line name)
 
 -- the error stream took a prefix of what is due, and then a prefix of the line that tells the stop
 abbrev pub TakesStopLines : (is_due : List ℕ → Type 0) → Change → Type 0
@@ -99,44 +97,47 @@ pub record TellsReadFault {A T : Type 0} (commands : Commands A T) (call : Call)
   pub grew : Grew call.failed call.failed'
   pub line : TakesAll call.err (read_fault_line name)
 
+-- what holds of a call with these commands whose case is this
+pub record MeetsCase {A T : Type 0} (commands : Commands A T) (call : Call) (case : Case T) : Type 0 where
+  -- The status is that of the case. It yields to running out of memory, and to a fault that was counted in this call.
+  pub status : Yields (status_of commands case) (Grew call.failed call.failed') (Fails call.out ⊎ Fails call.err) call.status
+  -- The output grew by the text of the case where it is whole, and at each status by a prefix of it.
+  pub text : commands.whole call.status → TakesAll call.out (text_of commands case)
+  pub prefix : TakesPart call.out (text_of commands case)
+  -- The error stream grew by the line that tells a refusal, and where the call stopped by what is due then.
+  pub line : HasCaseLine call.status → TakesAll call.err (due_of case [])
+  pub stopped : IsStop call.status → TellsStop commands call commands.log case
+  -- Where a file that is read is not there, a read of it failed, or memory ran out before; status 8 then says that the line of that could
+  -- not be written.
+  pub missing : status_of commands case ≡ 7 → Grew call.failed call.failed' ⊎ (call.status ≡ 1) ⊎ Fails call.err
+  -- The journal is empty where nothing is to be done. Else it is a journal of the run, and complete where the text is whole.
+  pub unbegun : HasWork case ⊎ IsEmpty call.journal
+  pub lawful : ForRun commands case (λ work. commands.lawful work call.journal)
+  pub complete : commands.whole call.status → ForRun commands case (λ work. commands.complete work call.journal)
+  -- The output holds all lines of each subthread that has retired; where the journal is not complete, it holds nothing
+  -- past those of the next one.
+  pub retired : ForRun commands case (λ work. commands.retired work call.journal call.out)
+
 -- what holds of each call of a top call with these commands
 pub record Headline {A T : Type 0} (commands : Commands A T) (call : Call) : Type 0 where
-  -- The status is that of the case. It yields to running out of memory, and to a fault that was counted in this call.
-  pub status : ForCase commands.asking call.words call.files
-      (λ case. Yields (status_of commands case) (Grew call.failed call.failed') (Fails call.out ⊎ Fails call.err) call.status)
-  -- There is a case, where the status is one of those that tell it.
+  -- What holds by its case. There is one, where the status is one of those that tell it. All else holds of a shelf that does not tell its
+  -- files, too.
+  pub by_case : ForCase commands.asking call.words call.files (MeetsCase commands call)
   pub told : TellsCase commands call.status
       → IfSome call.files (λ files. (case : Case T) × IsCase commands.asking call.words files case
       × (status_of commands case ≡ call.status))
-  -- These three hold of a shelf that does not tell its files, too: which statuses there are, and when one is that of no command.
+  -- which statuses there are, and when one is that of no command
   pub among : commands.whole call.status ⊎ IsRefusal call.status ⊎ IsStop call.status
   pub usage : call.status ≡ 2 → commands.asking.reading call.words ≡ None
   pub no_command : commands.asking.reading call.words ≡ None → Yields 2 ⊥ (Fails call.err) call.status
-  -- The output grew by the text of the case where it is whole, and at each status by a prefix of it.
-  pub text : ForCase commands.asking call.words call.files (λ case. commands.whole call.status → TakesAll call.out (text_of commands case))
-  pub prefix : ForCase commands.asking call.words call.files (λ case. TakesPart call.out (text_of commands case))
+  -- A refusal writes nothing to the output.
   pub refused : IsRefusal call.status → TakesNothing call.out
-  -- The error stream grew by what is due at a whole text, as a trace, or by the line that tells the refusal or the
-  -- fault; or by the log, where one is kept.
+  -- The error stream grew by what is due at a whole text, as a trace, or by the log, where one is kept; or by the line that tells the fault.
   pub quiet : commands.whole call.status → IsQuiet commands call commands.log
-  pub line : ForCase commands.asking call.words call.files (λ case. HasCaseLine call.status → TakesAll call.err (line_of case))
   pub read_fault : call.status ≡ 7 → TellsReadFault commands call
   pub write_fault : call.status ≡ 8 → TellsWrite commands call commands.log
-  pub stopped : IsStop call.status → ForCase commands.asking call.words call.files (TellsStop commands call commands.log)
-  -- No read failed where the status tells the case, and none was made where nothing is read. Where a file that is read
-  -- is not there, a read of it failed, or memory ran out before; status 8 then says that the line of that could not be
-  -- written.
+  -- No read failed where the status tells the case, and none was made where nothing is read.
   pub untouched : TellsCase commands call.status → call.failed' ≡ call.failed
   pub unread : ReadsNothing commands (commands.asking.reading call.words) → call.failed' ≡ call.failed
-  pub missing : ForCase commands.asking call.words call.files
-      (λ case. IsMissing case → Grew call.failed call.failed' ⊎ (call.status ≡ 1) ⊎ Fails call.err)
-  -- The journal is empty where no run begins. Else it is a journal of the run, and complete where the text is whole.
+  -- The journal is empty where no run begins.
   pub journal : IsRefusal call.status ⊎ RunsNothing commands (commands.asking.reading call.words) → IsEmpty call.journal
-  pub unbegun : ForCase commands.asking call.words call.files (λ case. HasWork case ⊎ IsEmpty call.journal)
-  pub lawful : ForCase commands.asking call.words call.files (λ case. ForRun commands case (λ work. commands.lawful work call.journal))
-  pub complete : commands.whole call.status
-      → ForCase commands.asking call.words call.files (λ case. ForRun commands case (λ work. commands.complete work call.journal))
-  -- The output holds all lines of each subthread that has retired; where the journal is not complete, it holds nothing
-  -- past those of the next one.
-  pub retired : ForCase commands.asking call.words call.files
-      (λ case. ForRun commands case (λ work. commands.retired work call.journal call.out))

@@ -18,7 +18,7 @@ use Rattle.batch_files.specs.meaning.Feeds.{feed_by}
 use Rattle.batch_files.specs.meaning.Faults.{faults_by}
 use Rattle.command_line.specs.declared.asked.Asked.{Asked}
 use Rattle.command_line.specs.declared.asked.Command.{Command}
-use Rattle.call_cases.specs.meaning.Work.{Files, Supplied, Supplies, Lacks, Spoils, ToDo, work_for, runs}
+use Rattle.call_cases.specs.meaning.Work.{Files, Case, Refused, Go, absent_case, ToDo, work_for, runs}
 use Rattle.call_cases.specs.meaning.Lines.{input_line, kind_number}
 
 -- these are whole rows of at least one field, and few enough
@@ -57,74 +57,76 @@ with_feed inputs (Some feed) = record inputs { feeds = inputs.feeds ++ feed ∷ 
 abbrev pub room_after : List Feed → ℕ
 room_after feeds = MOST_FEED_CELLS - sum_by (λ (feed : Feed). length feed.cells) feeds
 
--- what comes of the rows of a file, after these files: the next of what they mean, or the line of the first that breaks a rule
-abbrev pub by_rows : {S T : Type 0} → List Name → Name → Result S Broken → (List Name → S → Supplied T) → Supplied T
-by_rows names file (Ok value) next = next (names ++ file ∷ []) value
-by_rows names file (Err broken) next = Spoils (names ++ file ∷ []) (input_line file (kind_number broken.0) broken.1)
+-- what comes of a file with these bytes, or of none, after these files, by what its bytes come to where they are not too many
+abbrev pub by_content : {T : Type 0} → List Name → Name → Option (List ℕ) → (List ℕ → Case T) → Case T
+by_content names file None comes = absent_case names file
+by_content names file (Some bytes) comes =
+    if nat_lt MOST_FILE_BYTES (length bytes) then Refused 4 (names ++ file ∷ []) (input_line file 6 0) else comes bytes
 
--- what comes of a file with these bytes, or of none, after these files
-abbrev pub by_file : {S T : Type 0} → List Name → Name → Option (List ℕ) → (List ℕ → Result S Broken) → (List Name → S → Supplied T)
-    → Supplied T
-by_file names file None meant next = Lacks names file
-by_file names file (Some bytes) meant next =
-    if nat_lt MOST_FILE_BYTES (length bytes) then Spoils (names ++ file ∷ [])
-    (input_line file 6 0) else by_rows names file (meant bytes) next
+-- what comes of the rows of a file, after these files: the next of what they mean, or the line of the first that breaks a rule
+abbrev pub by_rows : {S T : Type 0} → List Name → Name → Result S Broken → (List Name → S → Case T) → Case T
+by_rows names file (Ok value) next = next (names ++ file ∷ []) value
+by_rows names file (Err broken) next = Refused 4 (names ++ file ∷ []) (input_line file (kind_number broken.0) broken.1)
+
+-- the same of the file with these bytes
+abbrev pub by_file : {S T : Type 0} → List Name → Name → Option (List ℕ) → (List ℕ → Result S Broken) → (List Name → S → Case T)
+    → Case T
+by_file names file bytes meant next = by_content names file bytes (λ bytes. by_rows names file (meant bytes) next)
 
 -- the cells of a record of this size, by the bytes of its file, and the inputs with them
 abbrev pub record_rows : (size : ℕ) → List ℕ → Result (List ℤ) Broken
 record_rows size bytes = records_by size (csv_rows bytes)
 
-abbrev pub more_cells : Inputs → List Name → List ℤ → Supplied Inputs
-more_cells inputs names cells = Supplies names (with_cells inputs cells)
+abbrev pub more_cells : Inputs → List Name → List ℤ → Case Inputs
+more_cells inputs names cells = Go names (with_cells inputs cells)
 
 -- the cells of a feed of so many fields, for which there is so much room, by the bytes of its file, and the inputs with it
 abbrev pub feed_rows : (fields room : ℕ) → List ℕ → Result (List ℤ) Broken
 feed_rows fields room bytes = feed_by fields room (csv_rows bytes)
 
-abbrev pub more_feed : Inputs → (fields : ℕ) → List Name → List ℤ → Supplied Inputs
-more_feed inputs fields names cells = Supplies names (with_feed inputs (feed_with fields cells))
+abbrev pub more_feed : Inputs → (fields : ℕ) → List Name → List ℤ → Case Inputs
+more_feed inputs fields names cells = Go names (with_feed inputs (feed_with fields cells))
 
 -- the faults of a file, by its bytes
 abbrev pub fault_rows : List ℕ → Result (List Fault) Broken
 fault_rows bytes = faults_by (csv_rows bytes)
 
 -- what comes of a record of this size, which has cells of 0 where it names no file
-abbrev pub by_record : Files → List Name → Inputs → (size : ℕ) → Option Name → Supplied Inputs
-by_record files names inputs size None = Supplies names (with_cells inputs (replicate size (pos 0)))
+abbrev pub by_record : Files → List Name → Inputs → (size : ℕ) → Option Name → Case Inputs
+by_record files names inputs size None = Go names (with_cells inputs (replicate size (pos 0)))
 by_record files names inputs size (Some file) = by_file names file (bytes_of files file) (record_rows size) (more_cells inputs)
 
 -- what comes of a head, after these files and inputs
-abbrev pub load_head : Files → List Name → Inputs → Head → Supplied Inputs
+abbrev pub load_head : Files → List Name → Inputs → Head → Case Inputs
 load_head files names inputs (RecHead name size by from line) = by_record files names inputs (natural size) from
 load_head files names inputs (FeedHead name fields file line) =
     by_file names file (bytes_of files file) (feed_rows (natural fields) (room_after inputs.feeds)) (more_feed inputs (natural fields))
-load_head files names inputs head = Supplies names inputs
+load_head files names inputs head = Go names inputs
 
 -- what comes after it, where nothing is wrong
-abbrev pub then_load : {S T : Type 0} → Supplied S → (List Name → S → Supplied T) → Supplied T
-then_load (Supplies names value) next = next names value
-then_load (Lacks names name) next = Lacks names name
-then_load (Spoils names line) next = Spoils names line
+abbrev pub then_load : {S T : Type 0} → Case S → (List Name → S → Case T) → Case T
+then_load (Go names value) next = next names value
+then_load (Refused status names line) next = Refused status names line
 
 -- what comes of heads, one after another
-abbrev pub load : Files → List Name → Inputs → List Head → Supplied Inputs
-load files names inputs [] = Supplies names inputs
+abbrev pub load : Files → List Name → Inputs → List Head → Case Inputs
+load files names inputs [] = Go names inputs
 load files names inputs (head ∷ heads) = then_load (load_head files names inputs head) (λ names inputs. load files names inputs heads)
 
 -- what comes of the file of faults, after these files, where one is named
-abbrev pub load_faults : Files → List Name → Option Name → Supplied (List Fault)
-load_faults files names None = Supplies names []
-load_faults files names (Some file) = by_file names file (bytes_of files file) fault_rows Supplies
+abbrev pub load_faults : Files → List Name → Option Name → Case (List Fault)
+load_faults files names None = Go names []
+load_faults files names (Some file) = by_file names file (bytes_of files file) fault_rows Go
 
 -- what they give
-abbrev pub supplied_for : Command → List Head → Files → Supplied Inputs
-supplied_for command heads files = if runs command then load files [] no_inputs heads else Supplies [] no_inputs
+abbrev pub supplied_for : Command → List Head → Files → Case Inputs
+supplied_for command heads files = if runs command then load files [] no_inputs heads else Go [] no_inputs
 
 -- what is to be done for what is asked on a program, after these files, from these inputs
-abbrev pub with_faults : Files → Asked → Program → List Name → Inputs → Supplied ToDo
+abbrev pub with_faults : Files → Asked → Program → List Name → Inputs → Case ToDo
 with_faults files asked program names inputs =
-    then_load (load_faults files names asked.faults) (λ names faults. Supplies names (work_for asked program inputs faults))
+    then_load (load_faults files names asked.faults) (λ names faults. Go names (work_for asked program inputs faults))
 
 -- what is to be done for what is asked on a program, by the files beside it: those that it names, and then that of the faults
-abbrev pub supplied_by : Asked → Program → Files → Supplied ToDo
+abbrev pub supplied_by : Asked → Program → Files → Case ToDo
 supplied_by asked program files = then_load (supplied_for asked.command program.heads files) (with_faults files asked program)

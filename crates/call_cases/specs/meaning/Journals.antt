@@ -3,7 +3,7 @@ use Rattle.std.specs.Prelude.{◌≡◌, ◌⊎◌, ℕ, suc, List, ◌++◌, le
 use Rattle.gp_base.specs.declared.journal.Journal.{Journal}
 use Rattle.gp_base.specs.declared.journal.Restart.{Restart}
 use Rattle.task_ast.specs.meaning.Plain.{Subthread}
-use Rattle.task_ast.specs.Plain.{order}
+use Rattle.task_ast.specs.meaning.Run.{plain_order}
 use Rattle.dependence.specs.meaning.Restarts.{Dependence}
 use Rattle.dependence.specs.meaning.Journal.{stage, Lawful, Complete}
 use Rattle.dependence.specs.meaning.Runs.{dependence_of}
@@ -18,7 +18,7 @@ use Rattle.call_cases.specs.meaning.Answers.{Change, TakesAll, TakesPart, TakesN
 
 -- the subthreads of the plain run, and what they say of dependence
 unfoldable pub run_of : ToDo → List Subthread
-run_of work = order work.program work.inputs work.limits
+run_of work = plain_order work.program work.inputs work.limits
 
 unfoldable pub dependence_for : ToDo → Dependence
 dependence_for work = dependence_of (run_of work)

@@ -1,8 +1,8 @@
 -- That a call has one case.
 use Rattle.std.specs.Prelude.{◌≡◌, ℕ, List}
-use Rattle.call_cases.specs.meaning.Work.{Files}
+use Rattle.call_cases.specs.meaning.Work.{Files, Case}
 use Rattle.call_cases.specs.meaning.Commands.{Asking}
-use Rattle.call_cases.specs.meaning.Case.{Case, IsCase}
+use Rattle.call_cases.specs.meaning.Case.{IsCase}
 
 -- a call has one case at most
 abbrev pub OneCase : (A T : Type 0) → Type 0

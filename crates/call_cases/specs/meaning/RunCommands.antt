@@ -11,7 +11,7 @@ use Rattle.command_line.specs.declared.asked.Command.TheVariants.{Run, One, Chec
 use Rattle.command_line.specs.declared.asked.Asked.{Asked}
 use Rattle.call_cases.specs.meaning.Work.{ToDo, runs, makes_files, is_journalled}
 use Rattle.call_cases.specs.meaning.InputFiles.{supplied_by}
-use Rattle.call_cases.specs.meaning.SoakFiles.{files_for}
+use Rattle.call_cases.specs.meaning.SoakFiles.{files_of}
 use Rattle.call_cases.specs.meaning.Texts.{run_text, run_soak}
 use Rattle.call_cases.specs.meaning.PlainText.{plain_ran, restarts_in}
 use Rattle.call_cases.specs.meaning.Journals.{IsJournalOf, IsCompleteOf, TakesRetired}
@@ -53,7 +53,7 @@ pub data MayRead (asked : Asked) : Name → Type 0 where
 
 -- what words ask for, and what that comes to by the files
 abbrev pub asking : Asking Asked ToDo
-asking = record { reading = asked_by; program = λ asked. asked.program; files = files_for; supplied = supplied_by }
+asking = record { reading = asked_by; program = λ asked. asked.program; files = λ asked. files_of asked.command; supplied = supplied_by }
 
 -- the promises
 abbrev pub commands : Commands Asked ToDo

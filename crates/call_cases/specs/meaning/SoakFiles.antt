@@ -1,6 +1,5 @@
 -- The files of a call.
 use Rattle.soak_batch.specs.meaning.Files.{soak_files}
-use Rattle.command_line.specs.declared.asked.Asked.{Asked}
 use Rattle.command_line.specs.declared.asked.Command.{Command}
 use Rattle.command_line.specs.declared.asked.Command.TheVariants.{Soak}
 use Rattle.call_cases.specs.meaning.Work.{Files}
@@ -9,6 +8,3 @@ use Rattle.call_cases.specs.meaning.Work.{Files}
 abbrev pub files_of : Command → Files → Files
 files_of (Soak batch) files = soak_files batch.moves batch.start
 files_of command files = files
-
-abbrev pub files_for : Asked → Files → Files
-files_for asked files = files_of asked.command files

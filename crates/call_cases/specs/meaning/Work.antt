@@ -1,5 +1,5 @@
--- What there is to be done for a call of the program, and what the files beside its program give.
-use Rattle.std.specs.Prelude.{ℕ, Bool, true, false, List}
+-- What there is to be done for a call, or with what line it is refused.
+use Rattle.std.specs.Prelude.{ℕ, Bool, true, false, List, [], ◌∷◌, ◌++◌}
 use Rattle.gp_base.specs.declared.fault.Fault.{Fault}
 use Rattle.gp_base.specs.declared.feed.Inputs.{Inputs}
 use Rattle.gp_base.specs.declared.limits.Limits.{Limits}
@@ -12,14 +12,21 @@ use Rattle.command_line.specs.declared.asked.Asked.{Asked}
 abbrev pub Files : Type 0
 Files = List (Name × List ℕ)
 
--- what the files beside a program give, as a value of T
-pub data Supplied (T : Type 0) : Type 0 where
-  -- this, from the files of these names, in the order of reading
-  Supplies : List Name → T → Supplied T
-  -- after these files there is none of the next name
-  Lacks : List Name → Name → Supplied T
-  -- the last of these files is refused with this line
-  Spoils : List Name → List ℕ → Supplied T
+-- what a call comes to, or a part of it, where what there may be to do is a value of T
+pub data Case (T : Type 0) : Type 0 where
+  -- refused with this status and this line, after these files were read
+  Refused : (status : ℕ) → List Name → (line : List ℕ) → Case T
+  -- this is to be done, after these files were read, in this order
+  Go : List Name → T → Case T
+
+-- after these files the next is not there; its line is due once a read of it failed
+abbrev pub absent_case : {T : Type 0} → List Name → Name → Case T
+absent_case names name = Refused 7 (names ++ name ∷ []) []
+
+-- the same where this file is read before
+abbrev pub after_file : {T : Type 0} → Name → Case T → Case T
+after_file name (Refused status names line) = Refused status (name ∷ names) line
+after_file name (Go names work) = Go (name ∷ names) work
 
 -- What is to be done: a command on an accepted program, from these inputs, with these faults, under these limits, and
 -- whether the run is traced.

@@ -5,9 +5,9 @@ use Rattle.gp_base.specs.declared.limits.TheConstants.{MOST_FILE_BYTES}
 use Rattle.task_ast.specs.meaning.Tree.{Name}
 use Rattle.command_line.specs.declared.asked.Command.TheVariants.{One, Log}
 use Rattle.command_line.specs.declared.resume_words.Resumed.{Resumed}
-use Rattle.call_cases.specs.meaning.Work.{Files, ToDo}
+use Rattle.call_cases.specs.meaning.Work.{Files, ToDo, Case, Go}
 use Rattle.call_cases.specs.meaning.Answers.{Change, IsUntouched}
-use Rattle.call_cases.specs.meaning.Case.{Case, Go, IsCaseOf, IsCase, HasWork, text_of}
+use Rattle.call_cases.specs.meaning.Case.{IsCaseOf, IsCase, HasWork, text_of}
 use Rattle.call_cases.specs.meaning.RunCommands as run
 use Rattle.call_cases.specs.meaning.Headline.{Call, IsStop, Headline}
 use Rattle.batch_calls.specs.meaning.LogCommands as log

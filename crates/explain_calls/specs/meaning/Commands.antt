@@ -4,13 +4,12 @@ use Rattle.std.specs.Str.{bytes_eq}
 use Rattle.command_line.specs.meaning.Words.{asked_of}
 use Rattle.command_line.specs.declared.asked.Asked.{Asked}
 use Rattle.command_line.specs.declared.asked.Verb.TheVariants.{Run}
-use Rattle.call_cases.specs.meaning.Work.{ToDo}
+use Rattle.call_cases.specs.meaning.Work.{ToDo, Case, Refused, Go}
 use Rattle.call_cases.specs.meaning.InputFiles.{supplied_by}
 use Rattle.call_cases.specs.meaning.Commands.{Asking}
 use Rattle.call_cases.specs.meaning.RunCommands.{end_status}
 use Rattle.call_cases.specs.meaning.PlainText.{plain_ran}
-use Rattle.call_cases.specs.meaning.Case.{Case, Usage, Missing, BadProgram, BadInput, Go}
-use Rattle.view_calls.specs.meaning.Lines.{usage_line, read_fault_line, under_own_name}
+use Rattle.view_calls.specs.meaning.Lines.{refused_line}
 
 -- a run without a flag for a trace to be written
 abbrev pub without_trace : Asked → Option Asked
@@ -30,16 +29,10 @@ asking = record { reading = explained_by; program = λ asked. asked.program; fil
 
 -- the status of a case: a run is made on one thread, so that faults strike nothing
 abbrev pub case_status : Case ToDo → ℕ
-case_status Usage = 2
-case_status (Missing names name) = 7
-case_status (BadProgram name line) = 3
-case_status (BadInput names line) = 4
+case_status (Refused status names line) = status
 case_status (Go names work) = end_status (plain_ran work).end
 
 -- its line on the error stream
 abbrev pub case_line : Case ToDo → List ℕ
-case_line Usage = usage_line
-case_line (Missing names name) = read_fault_line name
-case_line (BadProgram name line) = under_own_name line
-case_line (BadInput names line) = under_own_name line
+case_line (Refused status names line) = refused_line status line
 case_line (Go names work) = []

@@ -19,7 +19,7 @@ use Rattle.one_thread.specs.declared.work.Told.{Told}
 use Rattle.one_thread.specs.declared.work.Done.{Done}
 use Rattle.one_thread.specs.declared.threads.Run.{Run}
 use Rattle.one_thread.specs.inner.Holding.{AreHeld}
-use Rattle.one_thread.specs.inner.View.{table_of, MarkStands}
+use Rattle.one_thread.specs.inner.View.{table_of, WalksStand}
 use Rattle.one_thread.specs.inner.Walking.{point_of}
 use Rattle.one_thread.specs.inner.Subthreads.{settled, RanWith}
 
@@ -75,7 +75,7 @@ pub record Performed (old : Run) (t : ℕ) (begins : Next) (child : Option ℕ) 
   pub threads : Forks old.program.now begins.sync done.child (slice_set old.threads.items t is) new.threads.items
   pub table : table_of new.table ≡ learning (table_of old.table) t done.next
   pub owners : new.table.owners ≡ old.table.owners
-  pub mark : MarkStands new.table
+  pub walks : WalksStand new.table
   pub told_is : told ≡ done.told
   pub program : new.program ≡ old.program
   pub slots : new.slots ≡ old.slots
@@ -88,7 +88,7 @@ pub record Holds (code : Code) (inputs : Inputs) (limits : Limits) (run : Run) (
   pub turns : run.turns ≡ limits.turns
   pub feeds : run.shared.feeds ≡ zip (feeds_of code.heads) inputs.feeds
   pub held : AreHeld run.table.owners.owners.items run.table.owners.held.items
-  pub mark : MarkStands run.table
+  pub walks : WalksStand run.table
   pub table : table_of run.table ≡ plain.table
   pub sound : AreSound code run.threads.items
   pub points : map point_of run.threads.items ≡ plain.points

@@ -4,7 +4,7 @@ use Rattle.task_ast.specs.meaning.Repeat.{Again, More, Done}
 use Rattle.task_ast.specs.meaning.Table as meaning
 use Rattle.task_ast.specs.Table as plain
 use Rattle.task_ast.specs.Turn as there
-use Rattle.ended_seats.specs.Idle.{IdleFrom}
+use Rattle.ended_seats.specs.Idle.{Walks}
 use Rattle.one_thread.specs.declared.seats.Stand.{Stand}
 use Rattle.one_thread.specs.declared.seats.Stand.TheVariants as stands
 use Rattle.one_thread.specs.declared.seats.Seat.{Seat}
@@ -36,10 +36,13 @@ table_of table =
       issued = table.issued;
     }
 
--- each thread from the mark on is idle, and the token looks first at none beyond all threads
-pub record MarkStands (table : Table) : Type 0 where
-  pub within : table.live ≤ length table.seats.items
-  pub idle : IdleFrom table.live (map seat_of table.seats.items)
+-- at which thread a walk goes on that comes to this one
+abbrev pub onward_of : Seat → ℕ
+onward_of seat = seat.onward
+
+-- walks may go by the fields, and the token looks first at none beyond all threads
+pub record WalksStand (table : Table) : Type 0 where
+  pub walks : Walks (map onward_of table.seats.items) table.passed.first table.passed.last table.waits (map seat_of table.seats.items)
   pub start : table.start ≤ length table.seats.items
 
 -- what a turn gave, where the table stands so afterwards

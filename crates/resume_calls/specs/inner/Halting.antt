@@ -3,8 +3,7 @@ use Rattle.std.specs.Prelude.{List, ◌≤◌, length}
 use Rattle.gp_base.specs.declared.limits.TheConstants.{MOST_FILE_BYTES}
 use Rattle.task_ast.specs.meaning.Tree.{Name}
 use Rattle.command_line.specs.declared.resume_words.Resumed.{Resumed}
-use Rattle.call_cases.specs.meaning.Work.{Supplied, Supplies, Lacks, Spoils}
-use Rattle.call_cases.specs.meaning.Case.{Case, Missing, BadInput, Go}
+use Rattle.call_cases.specs.meaning.Work.{Case, Refused, Go}
 use Rattle.call_cases.specs.Decided.{IsSound, program_in, files_read, work_of}
 use Rattle.resume_calls.specs.declared.halted.Halted.{Halted}
 use Rattle.resume_calls.specs.meaning.Resumption.{Reader, Resumption, answer_for, by_answer}
@@ -12,12 +11,6 @@ use Rattle.resume_calls.specs.meaning.Resumption.{Reader, Resumption, answer_for
 -- the words that ask for it
 abbrev pub resumed_in : Halted → Resumed
 resumed_in halted = record { run = halted.request.asked; log = halted.log }
-
--- the case of what the file of a log comes to
-abbrev pub logged_case : Supplied Resumption → Case Resumption
-logged_case (Supplies names resumption) = Go names resumption
-logged_case (Lacks names name) = Missing names name
-logged_case (Spoils names line) = BadInput names line
 
 -- the files that were read before the log
 abbrev pub files_before : Halted → List Name
@@ -27,7 +20,7 @@ files_before halted = files_read halted.request.asked (program_in halted.request
 abbrev pub case_of : Reader → Halted → Case Resumption
 case_of reader halted =
     let work = work_of halted.request in
-    logged_case (by_answer (files_before halted) halted.log work (answer_for reader work halted.text))
+    (by_answer (files_before halted) halted.log work (answer_for reader work halted.text))
 
 -- it may go on
 pub record MayGoOn (halted : Halted) : Type 0 where

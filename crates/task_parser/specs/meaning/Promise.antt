@@ -40,10 +40,18 @@ pub record Begins (text : Text) (front : List Placed) : Type 0 where
   pub p : Program
   pub spelled : Spelled text p (front ++ more)
 
--- no program of the grammar has the next token after the front, or ends with the front where there is no next
+-- the tokens are some program of the grammar, of whatever nesting
+abbrev pub AreProgram : Text → List Token → Type 0
+AreProgram text tokens = (p : Program) × (placed : List Placed) × (tokens_of placed ≡ tokens) × Spelled text p placed
+
+-- the tokens begin one
+abbrev pub BeginProgram : Text → List Token → Type 0
+BeginProgram text tokens = (placed : List Placed) × (tokens_of placed ≡ tokens) × Begins text placed
+
+-- no program goes on with the next token, or ends where there is none
 abbrev pub CannotGoOn : Text → List Placed → List Token → Type 0
-CannotGoOn text front [] = (p : Program) (other : List Placed) → tokens_of other ≡ tokens_of front → Spelled text p other → ⊥
-CannotGoOn text front (next ∷ rest) = (other : List Placed) → tokens_of other ≡ tokens_of front ++ next ∷ [] → Begins text other → ⊥
+CannotGoOn text front [] = AreProgram text (tokens_of front) → ⊥
+CannotGoOn text front (next ∷ rest) = BeginProgram text (tokens_of front ++ next ∷ []) → ⊥
 
 -- The next token can stand there, one deeper than may be.
 abbrev pub NestsBeyond : Text → List Placed → List Token → Type 0

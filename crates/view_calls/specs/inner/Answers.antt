@@ -4,7 +4,7 @@ use Rattle.task_ast.specs.meaning.Tree.{Name}
 use Rattle.gp_audit.specs.declared.line.TraceLine.{TraceLine}
 use Rattle.call_cases.specs.declared.reading.Refusal.{Refusal}
 use Rattle.call_cases.specs.declared.reading.Refusal.TheVariants.{BadInput, ReadFault, OutOfMemory}
-use Rattle.call_cases.specs.meaning.Work.{ToDo, Supplies, Spoils}
+use Rattle.call_cases.specs.meaning.Work.{ToDo, Refused, Go}
 use Rattle.audit_calls.specs.meaning.Tried.{Judge}
 use Rattle.view_calls.specs.meaning.Sights.{by_bytes}
 
@@ -13,9 +13,9 @@ abbrev pub AnswersLines : Judge → (names : List Name) → (file : Name) → (p
     → Result (List TraceLine) Refusal → Type 0
 AnswersLines judge names file position work bytes (Ok lines) =
     by_bytes judge names file position work bytes
-    ≡ Supplies (names ++ file ∷ []) (record { work = work; position = position; trace = Some lines })
+    ≡ Go (names ++ file ∷ []) (record { work = work; position = position; trace = Some lines })
 AnswersLines judge names file position work bytes (Err (BadInput line)) =
-    by_bytes judge names file position work bytes ≡ Spoils (names ++ file ∷ []) line
+    by_bytes judge names file position work bytes ≡ Refused 4 (names ++ file ∷ []) line
 AnswersLines judge names file position work bytes (Err (ReadFault name)) = file ≡ name
 AnswersLines judge names file position work bytes (Err OutOfMemory) = ⊤
 AnswersLines judge names file position work bytes (Err refusal) = ⊥

@@ -1,7 +1,7 @@
 -- The lines on the error stream.
-use Rattle.std.specs.Prelude.{ℕ, List, [], ◌++◌, Option, Some, None, codes, decimal, drop}
+use Rattle.std.specs.Prelude.{ℕ, ◌==◌, List, [], ◌++◌, Option, Some, None, codes, decimal, drop, if◌then◌else◌}
 use Rattle.call_cases.specs.meaning.Lines as gprs
-use Rattle.call_cases.specs.meaning.Case.{Case, Usage, Missing, BadProgram, BadInput, Go}
+use Rattle.call_cases.specs.meaning.Work.{Case, Refused, Go}
 use Rattle.view_calls.specs.meaning.Sights.{Sight, absent_of}
 
 -- a line of `gprs`, under the name of this program
@@ -33,10 +33,11 @@ abbrev pub absent_line : (absent : Option ℕ) → List ℕ
 absent_line None = []
 absent_line (Some position) = no_position_line position
 
+-- the line of a refusal that has this line in `gprs`; that of a file that is not there is due once a read of it failed
+abbrev pub refused_line : (status : ℕ) → List ℕ → List ℕ
+refused_line status line = if status == 2 then usage_line else if status == 7 then [] else under_own_name line
+
 -- the line of a case
 abbrev pub own_line : Case Sight → List ℕ
-own_line Usage = usage_line
-own_line (Missing names name) = read_fault_line name
-own_line (BadProgram name line) = under_own_name line
-own_line (BadInput names line) = under_own_name line
+own_line (Refused status names line) = refused_line status line
 own_line (Go names sight) = absent_line (absent_of sight)

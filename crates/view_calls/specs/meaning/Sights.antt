@@ -1,13 +1,12 @@
 -- What there is to be shown for a call, and the text that shows it.
-use Rattle.std.specs.Prelude.{ℕ, List, [], ◌∷◌, ◌++◌, length, Option, Some, None, unwrap_or, Result, Ok, Err, nat_lt, if◌then◌else◌}
+use Rattle.std.specs.Prelude.{ℕ, List, [], ◌∷◌, ◌++◌, Option, Some, None, unwrap_or, Result, Ok, Err, if◌then◌else◌}
 use Rattle.gp_base.specs.meaning.Files.{bytes_of}
-use Rattle.gp_base.specs.declared.limits.TheConstants.{MOST_FILE_BYTES}
 use Rattle.task_ast.specs.meaning.Tree.{Name, Program}
 use Rattle.gp_audit.specs.declared.line.TraceLine.{TraceLine}
 use Rattle.command_line.specs.declared.asked.Command.{Command}
 use Rattle.command_line.specs.declared.asked.Command.TheVariants as command
-use Rattle.call_cases.specs.meaning.Work.{Files, ToDo, Supplied, Supplies, Lacks, Spoils}
-use Rattle.call_cases.specs.meaning.InputFiles.{supplied_by, then_load}
+use Rattle.call_cases.specs.meaning.Work.{Files, ToDo, Case, Refused, Go}
+use Rattle.call_cases.specs.meaning.InputFiles.{supplied_by, then_load, by_content}
 use Rattle.call_cases.specs.meaning.Journals.{dependence_for}
 use Rattle.call_cases.specs.meaning.Lines.{input_line}
 use Rattle.audit_calls.specs.meaning.Tried.{Judge}
@@ -25,32 +24,30 @@ pub record Sight : Type 0 where
 
 -- what comes of the lines of a trace, after these files, where this line, if any, is the first that is not lawful
 abbrev pub by_lines : (names : List Name) → (file : Name) → (position : Option ℕ) → ToDo → List TraceLine → (unlawful : Option ℕ)
-    → Supplied Sight
+    → Case Sight
 by_lines names file position work lines None =
-    Supplies (names ++ file ∷ []) (record { work = work; position = position; trace = Some lines })
-by_lines names file position work lines (Some row) = Spoils (names ++ file ∷ []) (input_line file 1 row)
+    Go (names ++ file ∷ []) (record { work = work; position = position; trace = Some lines })
+by_lines names file position work lines (Some row) = Refused 4 (names ++ file ∷ []) (input_line file 1 row)
 
 module _ (judge : Judge) where
   -- what comes of the rows of a trace
-  abbrev pub by_trace_rows : (names : List Name) → (file : Name) → (position : Option ℕ) → ToDo → Result (List TraceLine) ℕ → Supplied Sight
+  abbrev pub by_trace_rows : (names : List Name) → (file : Name) → (position : Option ℕ) → ToDo → Result (List TraceLine) ℕ → Case Sight
   by_trace_rows names file position work (Ok lines) =
       by_lines names file position work lines (unlawful_in (judge.verdict_of (dependence_for work) work.faults lines))
-  by_trace_rows names file position work (Err row) = Spoils (names ++ file ∷ []) (input_line file 1 row)
+  by_trace_rows names file position work (Err row) = Refused 4 (names ++ file ∷ []) (input_line file 1 row)
 
   -- what comes of the file of a trace with these bytes, or of none
-  abbrev pub by_bytes : (names : List Name) → (file : Name) → (position : Option ℕ) → ToDo → Option (List ℕ) → Supplied Sight
-  by_bytes names file position work None = Lacks names file
-  by_bytes names file position work (Some bytes) =
-      if nat_lt MOST_FILE_BYTES (length bytes) then Spoils (names ++ file ∷ [])
-      (input_line file 6 0) else by_trace_rows names file position work (judge.lines_of bytes)
+  abbrev pub by_bytes : (names : List Name) → (file : Name) → (position : Option ℕ) → ToDo → Option (List ℕ) → Case Sight
+  by_bytes names file position work bytes =
+      by_content names file bytes (λ bytes. by_trace_rows names file position work (judge.lines_of bytes))
 
   -- what comes of the trace that the words name, where they name one
-  abbrev pub by_trace : (trace : Option Name) → Files → (names : List Name) → (position : Option ℕ) → ToDo → Supplied Sight
-  by_trace None files names position work = Supplies names (record { work = work; position = position; trace = None })
+  abbrev pub by_trace : (trace : Option Name) → Files → (names : List Name) → (position : Option ℕ) → ToDo → Case Sight
+  by_trace None files names position work = Go names (record { work = work; position = position; trace = None })
   by_trace (Some file) files names position work = by_bytes names file position work (bytes_of files file)
 
   -- what an accepted program and the files beside it give: those are read that `gprs` reads, and then that of the trace
-  abbrev pub supplied : Viewed → Program → Files → Supplied Sight
+  abbrev pub supplied : Viewed → Program → Files → Case Sight
   supplied viewed program files =
       then_load (supplied_by viewed.run program files) (λ names work. by_trace viewed.trace files names viewed.position work)
 

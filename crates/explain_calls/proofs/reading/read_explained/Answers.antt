@@ -1,11 +1,11 @@
-use Rattle.std.proofs.Common.{◌≡◌, None, Some, IfSome, sym, subst}
+use Rattle.std.proofs.Common.{◌≡◌, None, Some, sym}
+use Rattle.call_cases.specs.declared.reading.Refusal.TheVariants.{Usage as RefusedUsage}
 use Rattle.command_line.specs.meaning.Words.{texts}
 use Rattle.call_cases.specs.meaning.Case.{IsCase}
-use Rattle.call_cases.specs.Refusals.{RefusesCase}
 use Rattle.call_cases.proofs.Answering.{usage_case}
 use Rattle.explain_calls.specs.meaning.Commands.{asking, explained_by}
 use Rattle.explain_calls.specs.Endings.{plainly}
-use Rattle.explain_calls.proofs.OwnCases.{words_answer}
+use Rattle.explain_calls.proofs.OwnCases.{refused_or_short, words_answer}
 use Rattle.explain_calls.proofs.reading.read_explained.Goals as goal
 
 pub returns-in-Ok-Some-clause-case : goal.returns-in-Ok-Some-clause-case
@@ -18,5 +18,5 @@ returns-in-Ok-Some-clause-case g c =
 pub returns-in-Ok-None-clause-case : goal.returns-in-Ok-None-clause-case
 returns-in-Ok-None-clause-case g c =
     let none : explained_by (texts c.args.words.now) ≡ None = sym (rw c.in-Ok-None.field-0-is at c.in-Ok-None.ensures.asked) in
-    subst (λ refusal. IfSome (g.H.Shelf.files c.args.shelf.now) (λ files. RefusesCase (IsCase asking (texts c.args.words.now) files) refusal))
-    (sym c.bare.ensures.refusal) (usage_case asking (texts c.args.words.now) (g.H.Shelf.files c.args.shelf.now) none)
+    refused_or_short (g.H.Shelf.files c.args.shelf.now) (IsCase asking (texts c.args.words.now)) RefusedUsage c.untaken.result.refusal
+    c.untaken.ensures.same (usage_case asking (texts c.args.words.now) (g.H.Shelf.files c.args.shelf.now) none)

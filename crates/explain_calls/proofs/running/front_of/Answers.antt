@@ -1,7 +1,8 @@
 use Rattle.std.proofs.Common.{◌≡◌, ◌∙◌, ◌++◌, ap, rules}
 use Rattle.call_cases.specs.Decided.{program_in, work_of}
-use Rattle.explain_calls.specs.meaning.Fronts.{ending_line, stuck_waits, last_table}
-use Rattle.explain_calls.proofs.Fronts.{front-finished, front-spent, front-stuck}
+use Rattle.run_views.specs.meaning.Deadlocks.{deadlock_text}
+use Rattle.explain_calls.specs.meaning.Fronts.{ending_line, last_table}
+use Rattle.explain_calls.proofs.Fronts.{front-finished, front-is, front-spent}
 use Rattle.explain_calls.proofs.running.front_of.Goals as goal
 
 pub returns-in-Finished : goal.returns-in-Finished
@@ -23,7 +24,6 @@ returns-in_ok-push_stuck_details-in-Stuck c =
     let heads : c.as_slice-heads.result.now ≡ (program_in c.args.request.now).heads = search rules in
     let ending = c.in_ok-push_ending.ensures ∙ ap (λ xs. xs ++ ending_line c.args.run.now.end) c.new-text.ensures.items in
     c.in_ok-push_stuck-in-Stuck.ensures table _ c.in_ok-standing-in-Stuck.ensures
-    ∙ ap (λ hs. c.push_ending.new.text.items ++ stuck_waits hs c.in-Stuck.why table) heads
-    ∙ ap (λ xs. xs ++ stuck_waits work.program.heads c.in-Stuck.why table) ending
-    ∙ front-stuck work.program work.inputs work.limits c.args.run.now.end c.requires.end c.in-Stuck.why c.in-Stuck.thread c.in-Stuck.line
-    c.in-Stuck.is
+    ∙ ap (λ hs. c.push_ending.new.text.items ++ deadlock_text hs table c.args.run.now.end) heads
+    ∙ ap (λ xs. xs ++ deadlock_text work.program.heads table c.args.run.now.end) ending
+    ∙ front-is work.program work.inputs work.limits c.args.run.now.end c.requires.end

@@ -1,18 +1,32 @@
-use Rattle.std.proofs.Common.{◌≡◌, ◌∙◌, ap, map, refl, arith, rules}
+use Rattle.std.proofs.Common.{◌∙◌, inl, inr, sym, subst, map, length, refl, arith, rules}
+use Rattle.std.proofs.lemmas.List.{length-map}
+use Rattle.std.proofs.lemmas.Option.{slice_get-get_or}
+use Rattle.one_thread.specs.inner.View.{seat_of, onward_of}
+use Rattle.ended_seats.specs.Idle.{IdleOver}
+use Rattle.ended_seats.proofs.Walks.{Clearing, map-kept, over, clearing_start, clearing_step, clearing_done}
 use Rattle.task_ast.specs.Table.{unpassed}
-use Rattle.one_thread.specs.inner.View.{seat_of}
-use Rattle.task_ast.proofs.ChangedSeats.{first_mapped}
-use Rattle.task_ast.proofs.SeenSeats.{first_mapped-next}
-use Rattle.ended_seats.proofs.Idle.{first_mapped-idle}
 use Rattle.one_thread.proofs.seats.clear.Goals as goal
-
-pub returns : goal.returns
-returns c =
-    let all : c.loop-t.t ≡ c.args.live = omega arith in
-    c.loop-t.invariant ∙ ap (λ n. first_mapped unpassed n (map seat_of c.args.seats.now)) all
-    ∙ first_mapped-idle c.args.live (map seat_of c.args.seats.now) c.requires.idle
 
 pub loop-t-preserved : goal.loop-t-preserved
 loop-t-preserved c =
-    first_mapped-next seat_of unpassed c.args.seats.now c.loop-t.seats c.loop-t.t c.index-seats-t.result _ (search rules)
-    c.loop-t.invariant refl
+    let items = c.loop-t.seats in
+    let read = slice_get-get_or items c.loop-t.t c.index-seats-t.result c.if-t-seats.true in
+    let at = slice_get-get_or items c.loop-t.t c.index-seats-t-in-loop-t.result c.if-t-seats.true in
+    let old = map seat_of c.args.seats.now in (
+      subst (Clearing old _) (sym c.max-t.ensures)
+          (clearing_step seat_of items old c.loop-t.t _ _ _ at refl
+          (over onward_of items old c.loop-t.t _ read (subst (λ ns. IdleOver ns old) (sym c.loop-t.invariant.1) c.requires.idle))
+          c.loop-t.invariant.0),
+      map-kept onward_of items c.loop-t.t _ _ at refl ∙ c.loop-t.invariant.1,
+    )
+
+pub returns-else-t-seats-clause-seats : goal.returns-else-t-seats-clause-seats
+returns-else-t-seats-clause-seats c =
+    let all = length-map c.loop-t.seats seat_of in
+    clearing_done c.args.passed.first c.args.passed.last (map seat_of c.args.seats.now) (map seat_of c.loop-t.seats) c.loop-t.t c.requires.passed
+    c.loop-t.invariant.0 (inr (omega arith))
+
+pub returns-after-loop-t-clause-seats : goal.returns-after-loop-t-clause-seats
+returns-after-loop-t-clause-seats c =
+    clearing_done c.args.passed.first c.args.passed.last (map seat_of c.args.seats.now) (map seat_of c.loop-t.seats) c.loop-t.t c.requires.passed
+    c.loop-t.invariant.0 (inl (omega arith))

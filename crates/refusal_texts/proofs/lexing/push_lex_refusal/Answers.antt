@@ -1,7 +1,7 @@
 use Rattle.std.proofs.Common.{sym, subst}
 use Rattle.std.specs.Prelude.{OnOk}
 use Rattle.task_parser.specs.declared.fault.LexFault.{LexFault}
-use Rattle.refusal_texts.specs.meaning.Refusals.{IsLexRefusal}
+use Rattle.refusal_texts.specs.Refusals.{IsLexRefusal}
 use Rattle.refusal_texts.proofs.lexing.push_lex_refusal.Goals as goal
 
 pub returns-in-BadByte : goal.returns-in-BadByte

@@ -1,7 +1,7 @@
 use Rattle.std.proofs.Common.{sym, subst}
 use Rattle.std.specs.Prelude.{OnOk}
 use Rattle.task_parser.specs.declared.fault.ParseFault.{ParseFault}
-use Rattle.refusal_texts.specs.meaning.Refusals.{IsParseRefusal}
+use Rattle.refusal_texts.specs.Refusals.{IsParseRefusal}
 use Rattle.refusal_texts.proofs.parsing.push_parse_refusal.Goals as goal
 
 pub returns-in-Unexpected : goal.returns-in-Unexpected

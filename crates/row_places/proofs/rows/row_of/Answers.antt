@@ -2,7 +2,7 @@ use Rattle.std.proofs.Common.{Bor, List, ℕ, ◌≡◌, ◌∙◌, ◌+◌, inl
 use Rattle.csv.specs.Reading.{strip_bom}
 use Rattle.csv.specs.Records.{fields_of}
 use Rattle.batch_files.specs.meaning.Rows.{csv_rows}
-use Rattle.row_places.specs.meaning.Fields.{row_at}
+use Rattle.row_places.specs.Fields.{row_at}
 use Rattle.row_places.proofs.Reading.{read_start, read_more, read_here}
 use Rattle.row_places.proofs.rows.row_of.Goals as goal
 

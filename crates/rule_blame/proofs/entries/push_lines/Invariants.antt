@@ -1,5 +1,5 @@
 use Rattle.std.proofs.Common.{◌≡◌, ◌++◌, drop}
-use Rattle.rule_blame.specs.meaning.Declared.{line_entries}
+use Rattle.rule_blame.specs.DeclaredNames.{line_entries}
 use Rattle.rule_blame.specs.Views.{entries_in}
 use Rattle.rule_blame.proofs.entries.push_lines.Given as goal
 

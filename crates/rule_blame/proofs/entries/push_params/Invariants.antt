@@ -1,5 +1,5 @@
 use Rattle.std.proofs.Common.{◌≡◌, ◌++◌, drop}
-use Rattle.rule_blame.specs.meaning.Declared.{entries_of}
+use Rattle.rule_blame.specs.DeclaredNames.{entries_of}
 use Rattle.rule_blame.specs.Views.{entries_in}
 use Rattle.rule_blame.proofs.entries.push_params.Given as goal
 

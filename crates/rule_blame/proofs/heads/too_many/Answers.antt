@@ -1,6 +1,6 @@
 use Rattle.std.proofs.Common.{◌≡◌, ◌∙◌, ◌<◌, take, drop, ◌+◌, arith, sym}
 use Rattle.task_ast.specs.View.{plain_program}
-use Rattle.rule_blame.specs.meaning.Blames.{count_with, limit_of}
+use Rattle.rule_blame.specs.Blames.{count_with, limit_of}
 use Rattle.rule_blame.proofs.Blaming.{split_at, head_passes}
 use Rattle.rule_blame.proofs.heads.too_many.Goals as goal
 

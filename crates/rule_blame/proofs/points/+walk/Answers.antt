@@ -5,7 +5,7 @@ use Rattle.task_ast.specs.meaning.Tree as plain
 use Rattle.task_ast.specs.meaning.Held.{held_after}
 use Rattle.task_ast.specs.View.{plain_what, plain_stmt}
 use Rattle.task_ast.proofs.Views.{stmt_At, what_Lock}
-use Rattle.rule_blame.specs.meaning.Points.{points_of}
+use Rattle.rule_blame.specs.Points.{points_of}
 use Rattle.rule_blame.specs.Told.{IsTrueAmong}
 use Rattle.rule_blame.specs.Views.{scope_of, pair_of, pairs_of}
 use Rattle.rule_blame.proofs.PointLemmas.{here_among, later_among, later_ends, among_more, at_itself}

@@ -2,7 +2,7 @@ use Rattle.std.proofs.Common.{◌≡◌, drop}
 use Rattle.std.specs.List.{Contains}
 use Rattle.task_ast.specs.meaning.Held.{held_at_end}
 use Rattle.task_ast.specs.View.{plain_block}
-use Rattle.rule_blame.specs.meaning.Points.{Point, points_in}
+use Rattle.rule_blame.specs.Points.{Point, points_in}
 use Rattle.rule_blame.specs.Views.{pairs_of}
 use Rattle.rule_blame.proofs.points.+walk.Given as goal
 

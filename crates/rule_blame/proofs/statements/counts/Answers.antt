@@ -3,7 +3,7 @@ use Rattle.std.proofs.lemmas.List.{length-map}
 use Rattle.task_ast.specs.meaning.Tree as plain
 use Rattle.task_ast.specs.View.{plain_expr, plain_what, plain_task}
 use Rattle.task_ast.proofs.Views.{what_Fork}
-use Rattle.rule_blame.specs.meaning.Blames.{MisCounts}
+use Rattle.rule_blame.specs.Blames.{MisCounts}
 use Rattle.rule_blame.specs.Views.{scope_of}
 use Rattle.rule_blame.proofs.statements.counts.Goals as goal
 

@@ -1,6 +1,6 @@
 use Rattle.std.proofs.Common.{◌≡◌, ◌++◌, drop}
 use Rattle.task_ast.specs.View.{plain_links}
-use Rattle.rule_blame.specs.meaning.Uses.{names_among}
+use Rattle.rule_blame.specs.Uses.{names_among}
 use Rattle.rule_blame.specs.Views.{used_in}
 use Rattle.rule_blame.proofs.uses.+names.Given as goal
 

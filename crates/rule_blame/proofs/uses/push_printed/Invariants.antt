@@ -1,6 +1,6 @@
 use Rattle.std.proofs.Common.{◌≡◌, ◌++◌, drop}
 use Rattle.task_ast.specs.View.{plain_exprs}
-use Rattle.rule_blame.specs.meaning.Uses.{printed_names}
+use Rattle.rule_blame.specs.Uses.{printed_names}
 use Rattle.rule_blame.specs.Views.{used_in}
 use Rattle.rule_blame.proofs.uses.push_printed.Given as goal
 

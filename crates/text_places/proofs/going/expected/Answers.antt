@@ -1,6 +1,6 @@
 use Rattle.std.proofs.Common.{take}
 use Rattle.std.specs.Prelude.{IfOk, Result, Ok, Err}
-use Rattle.text_places.specs.meaning.Expected.{IsFront}
+use Rattle.text_places.specs.Expected.{IsFront}
 use Rattle.text_places.proofs.NextTokens.{front_is}
 use Rattle.text_places.proofs.going.expected.Goals as goal
 

@@ -1,5 +1,5 @@
 use Rattle.std.proofs.Common.{◌≡◌, sym, subst, arith}
-use Rattle.text_places.specs.meaning.Expected.{AreExpected, GoesOn, kind_of}
+use Rattle.text_places.specs.Expected.{AreExpected, GoesOn, kind_of}
 use Rattle.text_places.proofs.NextTokens.{none_yet, one_more, no_more}
 use Rattle.text_places.proofs.going.expected_after.Goals as goal
 use Rattle.text_places.proofs.going.expected_after.Goals.{then-branch+in_ok-push, else-branch}

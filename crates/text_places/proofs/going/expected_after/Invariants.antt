@@ -1,4 +1,4 @@
-use Rattle.text_places.specs.meaning.Expected.{AreExpected}
+use Rattle.text_places.specs.Expected.{AreExpected}
 use Rattle.text_places.proofs.going.expected_after.Given as goal
 
 abbrev pub invariant-loop-number : goal.invariant-loop-number

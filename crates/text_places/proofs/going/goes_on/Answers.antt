@@ -6,7 +6,7 @@ use Rattle.task_parser.specs.meaning.Promise.{StandFor}
 use Rattle.task_parser.specs.declared.fault.ParseFault.TheVariants.{Unexpected, TooDeep}
 use Rattle.task_parser.specs.meaning.Answer.{IsFirstFault}
 use Rattle.task_ast.specs.View.{plain_program}
-use Rattle.text_places.specs.meaning.Expected.{token_past, GoesOn}
+use Rattle.text_places.specs.Expected.{token_past, GoesOn}
 use Rattle.text_places.proofs.NextTokens.{stood, at_past, elsewhere, beyond}
 use Rattle.text_places.proofs.going.goes_on.Goals as goal
 

@@ -1,5 +1,5 @@
 use Rattle.std.proofs.Common.{◌≡◌, ◌++◌, take, map}
-use Rattle.text_places.specs.meaning.Shown.{shown_byte}
+use Rattle.text_places.specs.Shown.{shown_byte}
 use Rattle.text_places.proofs.lines.push_bytes.Given as goal
 
 abbrev pub invariant-loop-byte : goal.invariant-loop-byte

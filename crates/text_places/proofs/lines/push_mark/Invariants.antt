@@ -1,5 +1,5 @@
 use Rattle.std.proofs.Common.{◌≡◌, ◌++◌, take, map}
-use Rattle.text_places.specs.meaning.Shown.{blank_byte}
+use Rattle.text_places.specs.Shown.{blank_byte}
 use Rattle.text_places.proofs.lines.push_mark.Given as goal
 
 abbrev pub invariant-loop-byte : goal.invariant-loop-byte

@@ -1,6 +1,6 @@
 use Rattle.std.proofs.Common.{◌≡◌, ◌+◌, ◌≤◌, length, take}
 use Rattle.std.specs.List.{suffix_len}
-use Rattle.text_places.specs.meaning.Places.{is_line_byte}
+use Rattle.text_places.specs.Places.{is_line_byte}
 use Rattle.text_places.proofs.place.line_start.Given as goal
 
 abbrev pub invariant-loop-start : goal.invariant-loop-start

@@ -1,8 +1,10 @@
-use Rattle.std.proofs.Common.{◌≡◌, map}
-use Rattle.task_ast.specs.Table.{unpassed}
-use Rattle.token_order.specs.View.{seat_of}
-use Rattle.task_ast.proofs.ChangedSeats.{first_mapped}
+use Rattle.std.proofs.Common.{◌≡◌, ◌-◌, map, length}
+use Rattle.ended_seats.proofs.Walks.{Clearing}
+use Rattle.token_order.specs.View.{seat_of, onward_of}
 use Rattle.token_order.proofs.threads.unpass_all.Given as goal
 
 abbrev pub invariant-loop-t : goal.invariant-loop-t
-invariant-loop-t l = map seat_of l.seats ≡ first_mapped unpassed l.t (map seat_of l.fn.seats)
+invariant-loop-t l = Clearing (map seat_of l.fn.seats) (map seat_of l.seats) l.t × (map onward_of l.seats ≡ map onward_of l.fn.seats)
+
+abbrev pub decreases-loop-t : goal.decreases-loop-t
+decreases-loop-t l = length l.seats - l.t

@@ -1,16 +1,16 @@
-use Rattle.std.proofs.Common.{◌≡◌, ◌∙◌, ◌+◌, refl, sym, subst, map, set, arith, rules}
+use Rattle.std.proofs.Common.{◌≡◌, ◌∙◌, ◌+◌, ap, refl, sym, subst, map, set, arith, rules}
 use Rattle.std.specs.Vec.{with_item}
 use Rattle.std.proofs.lemmas.List.{with_items_is}
 use Rattle.std.proofs.lemmas.Bool.{lt-ltb}
 use Rattle.task_ast.proofs.Looks.{get-at}
 use Rattle.task_ast.proofs.SeenSeats.{issued-as}
-use Rattle.ended_seats.specs.Idle.{IdleFrom}
-use Rattle.one_thread.specs.inner.View.{table_of, seat_of}
+use Rattle.ended_seats.specs.Idle.{IdleOver, PassedWithin, Walks}
+use Rattle.one_thread.specs.inner.View.{table_of, seat_of, onward_of}
 use Rattle.one_thread.proofs.Looking.{token-is}
-use Rattle.task_ast.specs.Looking.{begun}
 use Rattle.task_ast.specs.Table.{unpassed}
-use Rattle.ended_seats.proofs.Idle.{idle_put, idle_unpassed, idle_issued, mark_within, grown_within}
+use Rattle.ended_seats.proofs.Walks.{begun_as, cleared_as, issued_as, grown_within}
 use Rattle.one_thread.proofs.seats.Table.issue.Goals as goal
+use Rattle.one_thread.proofs.seats.Table.issue.Goals.{After-begin}
 
 pub returns-clause-turn : goal.returns-clause-turn
 returns-clause-turn c next e =
@@ -29,46 +29,43 @@ returns-clause-turn c next e =
     (lt-ltb c.args.self.now.issued c.args.self.now.limit (omega arith))
     e)
 
-pub returns-in_default-clause-mark : goal.returns-in_default-clause-mark
-returns-in_default-clause-mark c =
+-- the thread's subthread has begun
+begun : (c : After-begin) → Walks (map onward_of (set c.args.self.now.seats.items c.args.t c.begin.new.seat)) c.args.self.now.passed.first
+    c.args.self.now.passed.last c.args.self.now.waits (map seat_of (set c.args.self.now.seats.items c.args.t c.begin.new.seat))
+begun c =
     let self = c.args.self.now in
-    record {
-      within = search rules;
-      idle =
-          idle_put seat_of self.live c.args.t self.seats.items c.index_mut.result.now c.begin.new.seat (begun self.issued)
-          (get-at self.seats.items c.args.t c.index_mut.result.now c.requires.exists c.index_mut.ensures.value) c.begin.ensures.seat
-          c.requires.live c.requires.mark.idle;
-      start = search rules;
-    }
+    begun_as seat_of onward_of self.seats.items c.args.t c.index_mut.result.now c.begin.new.seat self.issued self.passed.first self.passed.last
+    self.waits (get-at self.seats.items c.args.t c.index_mut.result.now c.requires.exists c.index_mut.ensures.value) c.requires.live
+    c.begin.ensures.onward c.begin.ensures.seat c.requires.walks.walks
+
+pub returns-in_default-clause-walks : goal.returns-in_default-clause-walks
+returns-in_default-clause-walks c = record {
+  walks = begun (goal.at.returns-in_default-clause-walks c).After-begin;
+  start = search rules;
+}
 
 pub clear-requires-clause-idle : goal.clear-requires-clause-idle
 clear-requires-clause-idle c =
-    let self = c.args.self.now in
-    let is : c.deref_mut.result.now ≡ set self.seats.items c.args.t c.begin.new.seat = search rules in
-    subst (λ xs. IdleFrom self.live (map seat_of xs)) (sym is)
-    (idle_put seat_of self.live c.args.t self.seats.items c.index_mut.result.now c.begin.new.seat (begun self.issued)
-    (get-at self.seats.items c.args.t c.index_mut.result.now c.requires.exists c.index_mut.ensures.value) c.begin.ensures.seat
-    c.requires.live c.requires.mark.idle)
+    subst (λ xs. IdleOver (map onward_of xs) (map seat_of xs)) (sym c.deref_mut.ensures.value)
+    (begun (goal.at.clear-requires-clause-idle c).After-begin).idle
 
-pub returns-clause-mark : goal.returns-clause-mark
-returns-clause-mark c =
+pub clear-requires-clause-passed : goal.clear-requires-clause-passed
+clear-requires-clause-passed c =
+    subst (λ xs. PassedWithin c.args.self.now.passed.first c.args.self.now.passed.last (map seat_of xs)) (sym c.deref_mut.ensures.value)
+    (begun (goal.at.clear-requires-clause-passed c).After-begin).passed
+
+pub returns-clause-walks : goal.returns-clause-walks
+returns-clause-walks c =
     let self = c.args.self.now in
+    let old = set self.seats.items c.args.t c.begin.new.seat in
     let same = with_items_is (with_item self.seats c.args.t c.begin.new.seat) c.clear.new.seats (search rules) in
-    let cleared : map seat_of c.clear.new.seats ≡ map unpassed (map seat_of (set self.seats.items c.args.t c.begin.new.seat)) =
-    search rules in
+    let seats : map seat_of c.clear.new.seats ≡ map unpassed (map seat_of old) = search rules in
+    let ways : map onward_of c.clear.new.seats ≡ map onward_of old = search rules in
     record {
-      within =
-          mark_within seat_of c.in-Some.next.sync self.live c.live_after-self.result c.len.result c.in_ok-child.child _ _
-          c.in_ok-child.ensures.seats c.live_after-self.ensures (search rules) (search rules);
-      idle =
-          idle_issued seat_of c.in-Some.next.sync self.live c.live_after-self.result c.len.result c.in_ok-child.child _ _
-          c.in_ok-child.ensures.seats c.in_ok-child.ensures.child c.live_after-self.ensures (search rules)
-          (subst (λ xs. IdleFrom self.live (map seat_of xs)) (sym same)
-          (subst (IdleFrom self.live) (sym cleared)
-          (idle_unpassed self.live (map seat_of (set self.seats.items c.args.t c.begin.new.seat))
-          (idle_put seat_of self.live c.args.t self.seats.items c.index_mut.result.now c.begin.new.seat (begun self.issued)
-          (get-at self.seats.items c.args.t c.index_mut.result.now c.requires.exists c.index_mut.ensures.value) c.begin.ensures.seat
-          c.requires.live c.requires.mark.idle))));
+      walks =
+          issued_as seat_of onward_of c.in-Some.next.sync _ _ _ _ self.waits c.in_ok-child.ensures.seats c.in_ok-child.ensures.onward
+          (cleared_as seat_of onward_of old _ self.passed.first self.passed.last self.waits _ _ (ap (map seat_of) same ∙ seats)
+          (ap (map onward_of) same ∙ ways) (begun (goal.at.returns-clause-walks c).After-begin));
       start =
           grown_within seat_of c.in-Some.next.sync (c.args.t + 1) _ _ c.in_ok-child.ensures.seats (search rules);
     }

@@ -19,7 +19,7 @@ loop-turn-preserved c = record {
       ∙ ap (go_on turn turns_left (Ended Finished) next_issue)
       (c.in_ok-turn.ensures.turn ∙ ap (λ r. gives r (table_of c.turn.new.self)) c.in-Pass.is);
   held = c.in_ok-turn.ensures.held;
-  mark = c.in_ok-turn.ensures.mark;
+  walks = c.in_ok-turn.ensures.walks;
 }
 
 pub returns-in_default : goal.returns-in_default
@@ -29,5 +29,5 @@ returns-in_default c = record {
       ∙ ap (go_on turn turns_left (Ended Finished) next_issue) c.in_ok-turn.ensures.turn
       ∙ last-turn c.in_ok-turn.turn (table_of c.turn.new.self) c.in_default.not-Pass;
   held = c.in_ok-turn.ensures.held;
-  mark = c.in_ok-turn.ensures.mark;
+  walks = c.in_ok-turn.ensures.walks;
 }

@@ -1,14 +1,14 @@
 use Rattle.std.proofs.Common.{◌≡◌}
 use Rattle.task_ast.specs.Turn.{next_issue, turns_left}
 use Rattle.one_thread.specs.inner.Holding.{AreHeld}
-use Rattle.one_thread.specs.inner.View.{table_of, MarkStands}
+use Rattle.one_thread.specs.inner.View.{table_of, WalksStand}
 use Rattle.one_thread.proofs.seats.Table.next_issue.Given as goal
 
 abbrev pub invariant-loop-turn : goal.invariant-loop-turn
 invariant-loop-turn l = record {
   same : next_issue (table_of l.fn.self) ≡ next_issue (table_of l.self);
   held : AreHeld l.self.owners.owners.items l.self.owners.held.items;
-  mark : MarkStands l.self;
+  walks : WalksStand l.self;
 }
 
 abbrev pub decreases-loop-turn : goal.decreases-loop-turn

@@ -43,7 +43,7 @@ returns c =
       token = None;
       issued = 0;
     }) locks)
-    c.in_ok-new.ensures.held c.in_ok-new.ensures.mark
+    c.in_ok-new.ensures.held c.in_ok-new.ensures.walks
     (c.in_ok-first_cells.ensures ∙ ap (λ n. map (number_at c.as_slice-2.result.now) (numbers 0 n)) records
     ∙ ap (λ l. map (number_at l) (numbers 0 (cells_in (records_of c.args.program.now.heads)))) c.as_slice-2.ensures)
     (c.in_ok-named_feeds.ensures ∙ ap (λ h. zip (feeds_of h) c.as_slice-3.result.now) c.as_slice-heads.ensures

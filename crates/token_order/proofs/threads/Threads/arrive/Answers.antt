@@ -1,14 +1,18 @@
-use Rattle.std.proofs.Common.{ap, sym, refl, subst, map, rules}
+use Rattle.std.proofs.Common.{◌≡◌, ◌≤◌, ◌∙◌, ap, sym, refl, subst, map, length, arith, rules}
 use Rattle.std.specs.Vec.{with_items}
 use Rattle.std.proofs.lemmas.List.{with_items_is}
-use Rattle.ended_seats.specs.Idle.{IdleFrom}
-use Rattle.token_order.specs.View.{table, seat_of}
+use Rattle.ended_seats.specs.Idle.{IdleOver}
+use Rattle.token_order.specs.View.{table, seat_of, onward_of}
 use Rattle.task_ast.proofs.Looks.{get-at}
-use Rattle.task_ast.proofs.SeenSeats.{arrived-is}
+use Rattle.task_ast.proofs.SeenSeats.{arrived-is, arrived_next}
 use Rattle.token_order.specs.declared.threads.Stand.TheVariants.{Waits}
-use Rattle.task_ast.specs.Table.{Table, unpassed}
-use Rattle.ended_seats.proofs.Idle.{mark_arrived, idle_nth, idle_unpassed}
+use Rattle.task_ast.specs.Table.{is_known_end, unpassed, next_of}
+use Rattle.ended_seats.proofs.Walks.{arrived_as}
 use Rattle.token_order.proofs.threads.Threads.arrive.Goals as goal
+
+pub unpass_all-requires-clause-idle : goal.unpass_all-requires-clause-idle
+unpass_all-requires-clause-idle c =
+    subst (λ xs. IdleOver (map onward_of xs) (map seat_of xs)) (sym c.deref_mut.ensures.value) c.requires.walks.idle
 
 pub returns-clause-table : goal.returns-clause-table
 returns-clause-table c =
@@ -20,14 +24,20 @@ returns-clause-table c =
     (get-at (with_items c.args.self.now.seats c.unpass_all.new.seats).items c.args.t c.index_mut.result.now
     (search rules) c.index_mut.ensures.value) refl)
 
-pub returns-clause-mark : goal.returns-clause-mark
-returns-clause-mark c =
-    record {
-      within =
-          mark_arrived seat_of c.args.self.now.live c.args.t c.args.self.now.seats.items _ _
-          (ap (λ (there : Table). there.seats) (returns-clause-table c)) c.requires.mark.within;
-      idle =
-          subst (IdleFrom c.args.self.now.live) (sym (ap (λ (there : Table). there.seats) (returns-clause-table c)))
-          (idle_nth c.args.self.now.live (map unpassed (map seat_of c.args.self.now.seats.items)) c.args.t _ c.requires.live
-          (idle_unpassed c.args.self.now.live (map seat_of c.args.self.now.seats.items) c.requires.mark.idle));
-    }
+pub returns-clause-live : goal.returns-clause-live
+returns-clause-live c =
+    ap (λ there. is_known_end (next_of there c.args.t)) (returns-clause-table c)
+    ∙ ap is_known_end (arrived_next (table c.args.self.now) c.args.t c.args.t) ∙ c.requires.live
+
+pub returns-clause-walks : goal.returns-clause-walks
+returns-clause-walks c =
+    let self = c.args.self.now in
+    let items = (with_items self.seats c.unpass_all.new.seats).items in
+    let same = with_items_is self.seats c.unpass_all.new.seats (search rules) in
+    let seats : map seat_of c.unpass_all.new.seats ≡ map unpassed (map seat_of self.seats.items) = search rules in
+    let ways : map onward_of c.unpass_all.new.seats ≡ map onward_of self.seats.items = search rules in
+    let most : length items ≤ 18446744073709551615 = search rules in
+    arrived_as seat_of onward_of self.seats.items items c.args.t c.index_mut.result.now (record c.index_mut.result.now { stand = Waits })
+    self.passed.first self.passed.last self.waits _ _ _ (ap (map seat_of) same ∙ seats) (ap (map onward_of) same ∙ ways)
+    (get-at items c.args.t c.index_mut.result.now (search rules) c.index_mut.ensures.value) c.requires.live refl refl
+    (λ n a b. omega (arith, a, b, most, c.saturating_add-self.ensures)) c.requires.walks

@@ -6,3 +6,6 @@ use Rattle.token_order.proofs.threads.Threads.first_live.Given as goal
 
 abbrev pub invariant-loop-t : goal.invariant-loop-t
 invariant-loop-t l = look (table l.self) (numbers l.from (l.to - l.from)) ≡ look (table l.self) (numbers l.t (l.to - l.t))
+
+abbrev pub decreases-loop-t : goal.decreases-loop-t
+decreases-loop-t l = l.to - l.t

@@ -2,7 +2,7 @@
 use Rattle.std.specs.Prelude.{ℕ, ◌-◌, ◌%◌, ◌==◌, ◌||◌, ◌&&◌, Bool, not, List, length, count_by, slice_get, slice_index, if◌then◌else◌}
 use Rattle.std.specs.Option.{option_map_or}
 use Rattle.task_parser.specs.declared.token.Token.{Token}
-use Rattle.text_places.specs.meaning.Places.{line_before}
+use Rattle.text_places.specs.Places.{line_before}
 
 -- a text in quotes is begun before the byte, in its line
 abbrev pub is_quoted_at : List ℕ → ℕ → Bool

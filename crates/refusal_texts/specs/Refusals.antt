@@ -7,11 +7,11 @@ use Rattle.task_parser.specs.declared.fault.LexFault.{LexFault}
 use Rattle.task_parser.specs.declared.fault.LexFault.TheVariants as lex
 use Rattle.task_parser.specs.declared.fault.ParseFault.{ParseFault}
 use Rattle.task_parser.specs.declared.fault.ParseFault.TheVariants as parse
-use Rattle.text_places.specs.meaning.Faults.{lex_place, parse_place}
-use Rattle.text_places.specs.meaning.Tokens.{BeginsAt}
+use Rattle.text_places.specs.Faults.{lex_place, parse_place}
+use Rattle.text_places.specs.Tokens.{BeginsAt}
 use Rattle.refusal_texts.specs.declared.lexing.TheConstants.{BYTES, NUMBERS}
 use Rattle.refusal_texts.specs.declared.parsing.TheConstants.{NO_PROGRAM, DEEP}
-use Rattle.refusal_texts.specs.meaning.Fronts.{rule_text, IsRefusal}
+use Rattle.refusal_texts.specs.Fronts.{rule_text, IsRefusal}
 
 -- why a text is no list of tokens
 abbrev pub IsLexRefusal : (name program : List ℕ) → LexFault → (old new : List ℕ) → Type 0

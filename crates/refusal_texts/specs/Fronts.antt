@@ -1,7 +1,7 @@
 -- The front of the text that tells why a program is refused.
 use Rattle.std.specs.Prelude.{◌≡◌, ℕ, List, ◌++◌, codes, decimal}
-use Rattle.text_places.specs.meaning.Places.{place_of}
-use Rattle.text_places.specs.meaning.Shown.{marked}
+use Rattle.text_places.specs.Places.{place_of}
+use Rattle.text_places.specs.Shown.{marked}
 
 abbrev pub place_text : (name program : List ℕ) → (at : ℕ) → List ℕ
 place_text name program at =

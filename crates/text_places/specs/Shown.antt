@@ -2,7 +2,7 @@
 use Rattle.std.specs.Prelude.{ℕ, ◌==◌, ◌||◌, List, [], ◌++◌, length, take, map, codes, nat_lt, if◌then◌else◌}
 use Rattle.std.specs.Str.Lines.{strip_carriage_return}
 use Rattle.text_places.specs.declared.lines.TheConstants.{LONGEST_SHOWN}
-use Rattle.text_places.specs.meaning.Places.{line_before, line_at}
+use Rattle.text_places.specs.Places.{line_before, line_at}
 
 -- a byte below 32 but a tab, and 127, are shown as `?`
 abbrev pub shown_byte : ℕ → ℕ

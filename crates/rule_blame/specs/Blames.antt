@@ -16,9 +16,9 @@ use Rattle.rule_blame.specs.declared.blames.Many.TheVariants as many
 use Rattle.rule_blame.specs.declared.blames.Blame.{Blame}
 use Rattle.rule_blame.specs.declared.blames.Blame.TheVariants as blame
 use Rattle.rule_blame.specs.declared.held.Taken.{Taken}
-use Rattle.rule_blame.specs.meaning.Uses.{names_in, is_declared}
-use Rattle.rule_blame.specs.meaning.Points.{Point, points_in}
-use Rattle.rule_blame.specs.meaning.Declared.{globals, variables, IsTwice}
+use Rattle.rule_blame.specs.Uses.{names_in, is_declared}
+use Rattle.rule_blame.specs.Points.{Point, points_in}
+use Rattle.rule_blame.specs.DeclaredNames.{globals, variables, IsTwice}
 
 abbrev pub lock_of : Taken → Pair
 lock_of taken = (taken.array.now, taken.index.now)

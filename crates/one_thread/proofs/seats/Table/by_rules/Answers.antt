@@ -8,7 +8,7 @@ use Rattle.one_thread.specs.inner.View.{table_of, seat_of}
 use Rattle.task_ast.proofs.SeenSeats.{turn-tries, next-at, last-at}
 use Rattle.one_thread.proofs.Looking.{seen-get}
 use Rattle.one_thread.proofs.Turning.{by-rule, by-line, by-fork, by-end}
-use Rattle.one_thread.proofs.seats.Table.turn.Goals as goal
+use Rattle.one_thread.proofs.seats.Table.by_rules.Goals as goal
 
 pub returns-in-Start-clause-turn : goal.returns-in-Start-clause-turn
 returns-in-Start-clause-turn c =

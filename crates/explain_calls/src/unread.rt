@@ -1,0 +1,130 @@
+// What is told of a file that could not be read.
+ghost use Rattle.std.specs.Prelude.{◌≤◌, length, IfOk};
+ghost use Rattle.gp_base.specs.declared.limits.TheConstants.{MOST_PROGRAM_BYTES};
+ghost use Rattle.explain_calls.specs.meaning.Fronts.{IsHint};
+
+use crate::refused::program_of;
+use gp_base::{Name, Text};
+use run_views::push_between;
+use std::alloc::{AllocError, Global};
+use task_ast::Head;
+
+// A head that names a file: its word, its name, and its line.
+#[derive(Clone, Copy)]
+struct Naming<'a> {
+    word: &'static [u8],
+    name: &'a Name,
+    line: u32,
+}
+
+// The head that names the file of this name first.
+fn head_naming<'a>(heads: &'a [Head], file: &Name) -> Option<Naming<'a>> {
+    for head in heads {
+        let naming = match head {
+            Head::RecHead {
+                name,
+                from: Some(from),
+                line,
+                ..
+            } if from.as_slice() == file.as_slice() => Some(Naming {
+                word: b"record ",
+                name,
+                line: *line,
+            }),
+            Head::FeedHead {
+                name,
+                from,
+                line,
+                ..
+            } if from.as_slice() == file.as_slice() => Some(Naming {
+                word: b"feed ",
+                name,
+                line: *line,
+            }),
+            _ => None,
+        };
+        if naming.is_some() {
+            return naming;
+        }
+    }
+    None
+}
+
+// Appends what names the file in a call of this program with this text.
+fn push_naming(
+    alloc: Global,
+    told: &mut Vec<u8>,
+    program: &Name,
+    text: &Text,
+    file: &Name,
+) -> Result<(), AllocError>
+    requires { length text.now ≤ MOST_PROGRAM_BYTES }
+{
+    let Some(tree) = program_of(alloc, text.as_slice()) else {
+        return Err(AllocError);
+    };
+    match head_naming(tree.heads.as_slice(), file) {
+        Some(naming) => {
+            push_between(told, b"hint: line ", naming.line, b" of ")?;
+            told.extend_from_slice(program.as_slice())?;
+            told.extend_from_slice(b" names it, for ")?;
+            told.extend_from_slice(naming.word)?;
+            told.extend_from_slice(naming.name.as_slice())?;
+            told.extend_from_slice(b"\n")
+        }
+        None => told.extend_from_slice(b"hint: `--faults` names it\n"),
+    }
+}
+
+// A text on a file that could not be read, with these hints behind it.
+fn with_hints(alloc: Global, file: &Name, hints: &[u8]) -> Result<Vec<u8>, AllocError>
+    ensures { IfOk result (λ told. IsHint told.items) }
+{
+    let mut more = Vec::new(alloc);
+    more.extend_from_slice(file.as_slice())?;
+    more.extend_from_slice(
+        b" cannot be read: there is no such file, or it is a folder, or it may not be read\n",
+    )?;
+    more.extend_from_slice(hints)?;
+    let mut told = Vec::new(alloc);
+    told.extend_from_slice(b"hint: ")?;
+    told.extend_from_slice(&more)?;
+    Ok(told)
+}
+
+// Appends where a name is looked for, where it does not say so itself.
+fn push_folder(hints: &mut Vec<u8>, file: &Name) -> Result<(), AllocError> {
+    match file.as_slice() {
+        [b'/', ..] => Ok(()),
+        _ => hints.extend_from_slice(
+            b"hint: names are looked for from the folder in which the call is made\n",
+        ),
+    }
+}
+
+/// What is told of the program's file, which could not be read. The error is that memory is out.
+pub fn unread_program(alloc: Global, file: &Name) -> Result<Vec<u8>, AllocError>
+    ensures { IfOk result (λ told. IsHint told.items) }
+{
+    let mut hints = Vec::new(alloc);
+    hints.extend_from_slice(b"hint: it is the program of this call\n")?;
+    push_folder(&mut hints, file)?;
+    with_hints(alloc, file, &hints)
+}
+
+/// What is told of a file beside a program of this name and text, which could not be read. The error is that memory is
+/// out.
+pub fn unread_file(
+    alloc: Global,
+    program: &Name,
+    text: &Text,
+    file: &Name,
+) -> Result<Vec<u8>, AllocError>
+    requires { length text.now ≤ MOST_PROGRAM_BYTES }
+    ensures { IfOk result (λ told. IsHint told.items) }
+{
+    let mut hints = Vec::new(alloc);
+    push_naming(alloc, &mut hints, program, text, file)?;
+    push_folder(&mut hints, file)?;
+    with_hints(alloc, file, &hints)
+}

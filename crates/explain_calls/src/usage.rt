@@ -1,0 +1,290 @@
+// What is told of words that are not those of `explain`.
+ghost use Rattle.std.specs.Prelude.{IfOk};
+ghost use Rattle.explain_calls.specs.meaning.Fronts.{IsHint};
+
+use gp_base::limits::{MOST_SUBTHREADS, MOST_TURNS, MOST_WORKERS};
+use run_views::push_between;
+use std::alloc::{AllocError, Global};
+use text_places::push_shown;
+
+// What stands behind an option: a name, a number up to this one, or a crew.
+#[derive(Clone, Copy)]
+enum Value {
+    Name,
+    Number(u64),
+    Crew,
+}
+
+// An option with its two dashes.
+#[derive(Clone, Copy)]
+struct Known {
+    name: &'static [u8],
+    value: Value,
+}
+
+const OPTIONS: [Known; 5] = [
+    Known {
+        name: b"--faults",
+        value: Value::Name,
+    },
+    Known {
+        name: b"--turns",
+        value: Value::Number(MOST_TURNS),
+    },
+    Known {
+        name: b"--subthreads",
+        value: Value::Number(MOST_SUBTHREADS as u64),
+    },
+    Known {
+        name: b"--workers",
+        value: Value::Number(MOST_WORKERS as u64),
+    },
+    Known {
+        name: b"--crew",
+        value: Value::Crew,
+    },
+];
+
+const CREWS: [&[u8]; 5] = [b"one", b"wave", b"board", b"steal", b"pipe"];
+
+// Why words are not taken: the first of them that is not, or what they lack.
+#[derive(Clone, Copy)]
+enum Untaken<'a> {
+    NoOption(&'a [u8]),
+    Trace,
+    NoValue(&'a [u8]),
+    Twice(&'a [u8]),
+    NoNumber {
+        option: &'a [u8],
+        value: &'a [u8],
+        most: u64,
+    },
+    NoCrew(&'a [u8]),
+    SecondProgram(&'a [u8]),
+    NoProgram,
+}
+
+// The option of this name.
+fn option_named(name: &[u8]) -> Option<Known> {
+    let options: [Known; 5] = OPTIONS;
+    for option in &options {
+        if option.name == name {
+            return Some(*option);
+        }
+    }
+    None
+}
+
+// Whether a text is a number from 1 to this one.
+fn is_number(text: &[u8], most: u64) -> bool {
+    let mut number: u64 = 0;
+    for byte in text {
+        if !byte.is_ascii_digit() {
+            return false;
+        }
+        number = number
+            .saturating_mul(10)
+            .saturating_add(u64::from(byte.saturating_sub(b'0')));
+    }
+    1 <= number && number <= most
+}
+
+fn is_crew(text: &[u8]) -> bool {
+    let crews: [&[u8]; 5] = CREWS;
+    for crew in &crews {
+        if *crew == text {
+            return true;
+        }
+    }
+    false
+}
+
+// Why a value is not one of its option.
+fn untaken_value<'a>(option: Known, value: &'a [u8]) -> Option<Untaken<'a>> {
+    match option.value {
+        Value::Name => None,
+        Value::Number(most) => if is_number(value, most) {
+            None
+        } else {
+            Some(Untaken::NoNumber {
+                option: option.name,
+                value,
+                most,
+            })
+        },
+        Value::Crew => if is_crew(value) {
+            None
+        } else {
+            Some(Untaken::NoCrew(value))
+        },
+    }
+}
+
+// The words so far: whether a program was named, which options were given, and that whose value comes next.
+#[derive(Drop)]
+struct Read {
+    program: bool,
+    given: Vec<&'static [u8]>,
+    waiting: Option<Known>,
+}
+
+// A word that begins with a dash, as all options do; a lone dash is a name.
+fn is_option(word: &[u8]) -> bool {
+    word.len() > 1 && word[0] == b'-'
+}
+
+// The name of an option, and the value that stands behind it in one word.
+fn split_value(word: &[u8]) -> (&[u8], Option<&[u8]>) {
+    match word.iter().position(|byte| *byte == b'=') {
+        Some(at) => (&word[..at], word.get(at.saturating_add(1)..)),
+        None => (word, None),
+    }
+}
+
+impl Read {
+    fn is_given(&self, name: &[u8]) -> bool {
+        for other in self.given.as_slice() {
+            if *other == name {
+                return true;
+            }
+        }
+        false
+    }
+
+    // One option more.
+    fn option<'a>(&mut self, word: &'a [u8]) -> Result<Option<Untaken<'a>>, AllocError> {
+        let (name, value) = split_value(word);
+        if name == b"--trace".as_slice() {
+            return Ok(Some(Untaken::Trace));
+        }
+        let Some(option) = option_named(name) else {
+            return Ok(Some(Untaken::NoOption(word)));
+        };
+        if self.is_given(name) {
+            return Ok(Some(Untaken::Twice(name)));
+        }
+        self.given.push(option.name)?;
+        match value {
+            Some(value) => Ok(untaken_value(option, value)),
+            None => {
+                self.waiting = Some(option);
+                Ok(None)
+            }
+        }
+    }
+
+    // One word more.
+    fn word<'a>(&mut self, word: &'a [u8]) -> Result<Option<Untaken<'a>>, AllocError> {
+        if let Some(option) = self.waiting {
+            if is_option(word) {
+                return Ok(Some(Untaken::NoValue(option.name)));
+            }
+            self.waiting = None;
+            return Ok(untaken_value(option, word));
+        }
+        if is_option(word) {
+            return self.option(word);
+        }
+        if self.program {
+            return Ok(Some(Untaken::SecondProgram(word)));
+        }
+        self.program = true;
+        Ok(None)
+    }
+
+    // What is missing behind the last word.
+    fn missing<'a>(&self) -> Option<Untaken<'a>> {
+        match self.waiting {
+            Some(option) => Some(Untaken::NoValue(option.name)),
+            None => if self.program {
+                None
+            } else {
+                Some(Untaken::NoProgram)
+            },
+        }
+    }
+}
+
+// The first of the words behind `explain` that is not taken, or what they lack.
+fn first_untaken<'a>(
+    alloc: Global,
+    words: &'a [String],
+) -> Result<Option<Untaken<'a>>, AllocError> {
+    let mut read = Read {
+        program: false,
+        given: Vec::new(alloc),
+        waiting: None,
+    };
+    for word in words.iter().skip(1) {
+        let found = read.word(word.as_str().as_bytes())?;
+        if found.is_some() {
+            return Ok(found);
+        }
+    }
+    Ok(read.missing())
+}
+
+// Appends a word of the call between two texts.
+fn push_word(
+    text: &mut Vec<u8>,
+    before: &[u8],
+    word: &[u8],
+    after: &[u8],
+) -> Result<(), AllocError> {
+    text.extend_from_slice(before)?;
+    push_shown(text, word)?;
+    text.extend_from_slice(after)
+}
+
+// Appends why words are not taken.
+fn push_untaken(text: &mut Vec<u8>, untaken: &Option<Untaken<'_>>) -> Result<(), AllocError> {
+    match untaken {
+        None => text.extend_from_slice(b"these words are not taken"),
+        Some(Untaken::NoOption(word)) => push_word(text, b"`", word, b"` is no option of explain"),
+        Some(Untaken::Trace) => text.extend_from_slice(
+            b"`--trace` is no option of explain, which writes no trace",
+        ),
+        Some(Untaken::NoValue(option)) => push_word(text, b"`", option, b"` has no value"),
+        Some(Untaken::Twice(option)) => push_word(text, b"`", option, b"` stands twice"),
+        Some(
+            Untaken::NoNumber {
+                option,
+                value,
+                most,
+            },
+        ) => {
+            push_word(text, b"`", option, b"` takes a whole number ")?;
+            push_between(text, b"from 1 to ", *most, b", ")?;
+            push_word(text, b"and not `", value, b"`")
+        }
+        Some(Untaken::NoCrew(word)) => push_word(
+            text,
+            b"`--crew` takes one, wave, board, steal or pipe, and not `",
+            word,
+            b"`",
+        ),
+        Some(Untaken::SecondProgram(word)) => push_word(
+            text,
+            b"`",
+            word,
+            b"` is one word too many: one program is explained",
+        ),
+        Some(Untaken::NoProgram) => text.extend_from_slice(b"the name of a program is missing"),
+    }
+}
+
+/// What is told of words that are not those of `explain`: the first that is not taken, and which words are. The error is
+/// that memory is out.
+pub fn usage_text(alloc: Global, words: &[String]) -> Result<Vec<u8>, AllocError>
+    ensures { IfOk result (λ text. IsHint text.items) }
+{
+    let mut more = Vec::new(alloc);
+    push_untaken(&mut more, &first_untaken(alloc, words)?)?;
+    more.extend_from_slice(
+        b"\nhint: gprs_view explain PROGRAM [--faults FILE] [--turns N] [--subthreads N]\n",
+    )?;
+    let mut text = Vec::new(alloc);
+    text.extend_from_slice(b"hint: ")?;
+    text.extend_from_slice(&more)?;
+    Ok(text)
+}

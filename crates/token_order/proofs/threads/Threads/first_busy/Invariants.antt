@@ -1,0 +1,10 @@
+use Rattle.std.proofs.Common.{◌-◌, map, length}
+use Rattle.ended_seats.specs.Idle.{IdleBetween}
+use Rattle.token_order.specs.View.{seat_of}
+use Rattle.token_order.proofs.threads.Threads.first_busy.Given as goal
+
+abbrev pub invariant-loop-t : goal.invariant-loop-t
+invariant-loop-t l = IdleBetween l.from l.t (map seat_of l.self.seats.items)
+
+abbrev pub decreases-loop-t : goal.decreases-loop-t
+decreases-loop-t l = length l.self.seats.items - l.t
