@@ -1,8 +1,10 @@
 -- What there is to be done for a call has numbers of 32 bits.
-use Rattle.std.proofs.Common.{ℕ, Bool, List, arith}
+use Rattle.std.proofs.Common.{◌≤◌, ℕ, Bool, List, length, sym, subst, arith}
 use Rattle.task_ast.specs.meaning.Tree.{Name}
+use Rattle.task_ast.specs.meaning.Run.{plain_order}
 use Rattle.task_ast.specs.Plain.{tree_machine}
 use Rattle.task_ast.proofs.PlainRuns.{count_law}
+use Rattle.task_ast.proofs.Runs.{order-is}
 use Rattle.gp_traces.specs.Laws.{IsNarrowRun}
 use Rattle.call_cases.specs.meaning.Work.{Files, ToDo, Go}
 use Rattle.call_cases.specs.meaning.Case.{IsCase}
@@ -14,7 +16,9 @@ pub narrow_run : (waits : Bool) (words : List (List ℕ)) (files : Files) (names
     → IsCase (asking_among waits) words files (Go names work) → IsNarrowRun (run_of work) work.faults
 unfolding run_of
 narrow_run waits words files names work is =
-    let count = count_law (tree_machine work.program work.inputs work.limits) work.program work.inputs work.limits in
+    let count : length (plain_order work.program work.inputs work.limits) ≤ work.limits.subthreads =
+    subst (λ run. length run ≤ work.limits.subthreads) (sym (order-is work.program work.inputs work.limits))
+    (count_law (tree_machine work.program work.inputs work.limits) work.program work.inputs work.limits) in
     let few = few_subthreads waits words files names work is in
     let faults = narrow_faults waits words files names work is in
     record {

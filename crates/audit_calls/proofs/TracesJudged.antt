@@ -6,7 +6,7 @@ use Rattle.std.specs.declared.result.Result.TheVariants.{Ok}
 use Rattle.gp_base.specs.meaning.Files.{bytes_of}
 use Rattle.task_ast.specs.meaning.Tree.{Name}
 use Rattle.task_ast.specs.meaning.Plain.{Subthread}
-use Rattle.task_ast.specs.Plain.{order}
+use Rattle.task_ast.specs.meaning.Run.{plain_order}
 use Rattle.dependence.specs.meaning.Restarts.{Dependence}
 use Rattle.dependence.specs.meaning.Restarts.{restarts}
 use Rattle.dependence.specs.meaning.Journal.{Complete}
@@ -108,7 +108,7 @@ same_dependence work other same =
     let programs = same.program in
     let inputs = same.inputs in
     let limits = same.limits in
-    λ i. dependence_of (order (programs i) (inputs i) (limits i))
+    λ i. dependence_of (plain_order (programs i) (inputs i) (limits i))
 
 same_verdict : (judge : Judge) (work other : ToDo) (lines : List TraceLine) → IsSameRun work other
     → ((verdict : Verdict) → IsVerdict (dependence_for work) work.faults lines verdict → verdict ≡ Lawful)

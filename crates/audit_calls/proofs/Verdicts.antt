@@ -13,6 +13,7 @@ use Rattle.gp_base.proofs.Written.{prefix_none}
 use Rattle.task_ast.specs.meaning.Tree.{Program}
 use Rattle.task_ast.specs.Plain.{order, tree_machine}
 use Rattle.task_ast.proofs.PlainRuns.{count_law}
+use Rattle.task_ast.proofs.Runs.{order-is as plain-is}
 use Rattle.one_thread.specs.PlainRuns.{shown}
 use Rattle.one_thread.specs.declared.run.Step.{Step}
 use Rattle.dependence.specs.meaning.Restarts.{Dependence}
@@ -46,7 +47,8 @@ pub verdict_judged : (judge : Judge) (work : ToDo) (lines : List TraceLine) (ste
 unfolding run_of dependence_for
 verdict_judged judge work lines steps verdict are is =
     verdict_once (dependence_for work) work.faults lines verdict (judge.verdict_of (dependence_for work) work.faults lines)
-    (subst (λ (dependence : Dependence). IsVerdict dependence work.faults lines verdict) (ap dependence_by are ∙ order-is (run_of work)) is)
+    (subst (λ (dependence : Dependence). IsVerdict dependence work.faults lines verdict) (ap dependence_by are
+    ∙ (ap (λ run. dependence_by (map shown run)) (sym (plain-is work.program work.inputs work.limits)) ∙ order-is (run_of work))) is)
     (judge.judges (dependence_for work) work.faults lines)
 
 -- memory was out before anything was written

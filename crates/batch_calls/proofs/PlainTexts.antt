@@ -1,12 +1,13 @@
 -- The run of the code is the plain run, as its text tells it.
-use Rattle.std.proofs.Common.{◌≡◌, ℕ, ℤ, List, [], ◌∷◌, ◌++◌, map, length, refl, ap, ◌∙◌, flat_map}
+use Rattle.std.proofs.Common.{◌≡◌, ℕ, ℤ, List, [], ◌∷◌, ◌++◌, map, length, refl, sym, ap, ◌∙◌, flat_map}
 use Rattle.std.proofs.lemmas.List.{length-map}
 use Rattle.gp_base.specs.declared.ending.End.{End}
 use Rattle.task_ast.specs.declared.tree.Head.{Head}
 use Rattle.task_ast.specs.meaning.Names.{records_of}
 use Rattle.task_ast.specs.meaning.Layout.{cut}
 use Rattle.task_ast.specs.meaning.Plain.{Subthread}
-use Rattle.task_ast.specs.Plain.{order, end, final_records}
+use Rattle.task_ast.specs.meaning.Run.{plain_order, plain_end, plain_records}
+use Rattle.task_ast.proofs.Runs.{order-is, run-end}
 use Rattle.one_thread.specs.declared.run.PlainRun.{PlainRun}
 use Rattle.one_thread.specs.PlainRuns.{IsPlainRun, shown}
 use Rattle.restart_log.specs.meaning.Tail as tail
@@ -27,16 +28,18 @@ pub plain_ran-run : (work : ToDo) (run : PlainRun) → IsPlainRun work.program w
     → ran_in work.program.heads run ≡ plain_ran work
 unfolding plain_ran
 plain_ran-run work run is =
-    let plain = order work.program work.inputs work.limits in
-    let lines = ap lines_in is.order ∙ lines_in-shown plain in
-    let count = ap length is.order ∙ length-map plain shown in
+    let plain = plain_order work.program work.inputs work.limits in
+    let same_order = is.order ∙ ap (map shown) (sym (order-is work.program work.inputs work.limits)) in
+    let same_end = run-end work.program work.inputs work.limits in
+    let lines = ap lines_in same_order ∙ lines_in-shown plain in
+    let count = ap length same_order ∙ length-map plain shown in
     let heads = work.program.heads in
-    let ending = end work.program work.inputs work.limits in
+    let ending = plain_end work.program work.inputs work.limits in
     let told = flat_map (λ (s : Subthread). s.lines) plain in
     ap (λ l. made heads l run.end run.records (length run.order)) lines
-    ∙ ap (λ e. made heads told e run.records (length run.order)) is.end
-    ∙ ap (λ cells. made heads told ending cells (length run.order)) is.records
-    ∙ ap (λ n. made heads told ending (final_records work.program work.inputs work.limits) n) count
+    ∙ ap (λ e. made heads told e run.records (length run.order)) (is.end ∙ sym same_end.0)
+    ∙ ap (λ cells. made heads told ending cells (length run.order)) (is.records ∙ sym same_end.1)
+    ∙ ap (λ n. made heads told ending (plain_records work.program work.inputs work.limits) n) count
 
 -- what follows the lines of a plain run
 pub tail_by : (heads : List Head) (run : PlainRun) (count : ℕ) (bytes text : List ℕ) (cells : List ℤ) → cells ≡ run.records

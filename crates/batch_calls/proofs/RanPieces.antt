@@ -14,6 +14,7 @@ use Rattle.gp_base.specs.declared.journal.Journal.{Journal}
 use Rattle.gp_base.proofs.Written.{Appends-append, prefix_first, prefix_second, prefix_none, prefix_of_split, Keeps-same}
 use Rattle.task_ast.specs.meaning.Plain.{Subthread}
 use Rattle.task_ast.specs.Plain.{order, end, final_records}
+use Rattle.task_ast.proofs.Runs.{order-is, run-end}
 use Rattle.gp_base.specs.declared.journal.Event.{Event}
 use Rattle.dependence.specs.meaning.Restarts.{restarts}
 use Rattle.dependence.specs.meaning.Journal.{Lawful, Complete, stage}
@@ -66,7 +67,7 @@ module _ (batch : Batch) (work : ToDo) (program : program_in batch ≡ work.prog
   unfolding run_of
   same_run =
       ap (λ p. order p batch.inputs batch.limits) program ∙ ap (λ i. order work.program i batch.limits) inputs
-      ∙ ap (λ l. order work.program work.inputs l) limits
+      ∙ ap (λ l. order work.program work.inputs l) limits ∙ sym (order-is work.program work.inputs work.limits)
 
   -- what holds of the batch's recovery, run and faults holds of the work's
   pub crossed : (P : Recovery → List Subthread → List Fault → Type 0) → P batch.recovery (run_in batch) batch.faults
@@ -101,10 +102,11 @@ module _ (batch : Batch) (work : ToDo) (program : program_in batch ≡ work.prog
         restarts = restarts;
         end =
             reports.end ∙ ap (λ p. end p batch.inputs batch.limits) program ∙ ap (λ i. end work.program i batch.limits) inputs
-            ∙ ap (λ l. end work.program work.inputs l) limits;
+            ∙ ap (λ l. end work.program work.inputs l) limits ∙ sym (run-end work.program work.inputs work.limits).0;
         cells =
             reports.records ∙ ap (λ p. final_records p batch.inputs batch.limits) program
-            ∙ ap (λ i. final_records work.program i batch.limits) inputs ∙ ap (λ l. final_records work.program work.inputs l) limits;
+            ∙ ap (λ i. final_records work.program i batch.limits) inputs ∙ ap (λ l. final_records work.program work.inputs l) limits
+            ∙ sym (run-end work.program work.inputs work.limits).1;
         subthreads = reports.subthreads ∙ ap length same_run;
         unused =
             reports.unused ∙ ap (λ f. length f - length report.journal.restarts) faults ∙ ap (λ l. length work.faults - length l) restarts;

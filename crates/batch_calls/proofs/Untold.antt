@@ -20,7 +20,7 @@ use Rattle.call_cases.specs.meaning.Answers.{Change}
 use Rattle.call_cases.specs.Answers.{PutFor}
 use Rattle.batch_calls.specs.inner.Planned.{without_faults}
 use Rattle.batch_calls.specs.inner.Ran.{RanFor, fault_of}
-use Rattle.task_ast.specs.Plain.{order}
+use Rattle.task_ast.specs.meaning.Run.{plain_order}
 
 -- no fault makes a restart
 none_struck : (dependence : Dependence) (at : Progress) → struck_next dependence [] at ≡ None
@@ -39,7 +39,7 @@ none_made dependence (suc steps) =
 pub none_restarted : (work : ToDo) → restarts_in (without_faults work) ≡ []
 unfolding restarts_in
 none_restarted work =
-    let dependence = recovering_by work.command (order work.program work.inputs work.limits) in
+    let dependence = recovering_by work.command (plain_order work.program work.inputs work.limits) in
     none_made dependence (dependence.count + 0)
 
 pub same_ran : (work : ToDo) → plain_ran (without_faults work) ≡ plain_ran work

@@ -12,7 +12,7 @@ use Rattle.gp_base.specs.declared.journal.Journal.{Journal}
 use Rattle.task_ast.specs.declared.check_kind.CheckKind.{CheckKind}
 use Rattle.task_ast.specs.meaning.Tree.{Name, Program}
 use Rattle.task_ast.specs.meaning.Check.{check_fault}
-use Rattle.task_ast.specs.Plain.{order}
+use Rattle.task_ast.specs.meaning.Run.{plain_order}
 use Rattle.task_ast.specs.Shaped.{IsAccepted, is_shaped}
 use Rattle.task_parser.specs.meaning.Spelling.{Meaning, Means, Stands, LexFails, ParseFails}
 use Rattle.task_parser.proofs.ShapedSpelling.{spelled_is_shaped}
@@ -136,22 +136,22 @@ module _ (work other : ToDo) (same : IsSameBatch work other) where
       let limits = same.limits in
       λ i. left_in_order (program i) (inputs i) (limits i)
 
-  lines_same : (k : ℕ) → lines_before work k ≡ codes "output\n" ++ printed (lines_of (take k (order other.program other.inputs other.limits)))
+  lines_same : (k : ℕ) → lines_before work k ≡ codes "output\n" ++ printed (lines_of (take k (plain_order other.program other.inputs other.limits)))
   unfolding run_of
   lines_same k =
       let program = same.program in
       let inputs = same.inputs in
       let limits = same.limits in
-      λ i. codes "output\n" ++ printed (lines_of (take k (order (program i) (inputs i) (limits i))))
+      λ i. codes "output\n" ++ printed (lines_of (take k (plain_order (program i) (inputs i) (limits i))))
 
   -- the output has the text of the first positions, where so many have retired
   begins_text : (journal : Journal) (out : Change) (written : List ℕ) (p : ℕ) → p ≤ retired_in work journal
-      → p ≤ length (order other.program other.inputs other.limits) → HoldsRetired work journal out → Wrote out written
+      → p ≤ length (plain_order other.program other.inputs other.limits) → HoldsRetired work journal out → Wrote out written
       → BeginsText (length (text_before other.program other.inputs other.limits p)) (run.work_text One other) written
   begins_text journal out written zero within few holds wrote = record { within = omega arith; same = refl }
   begins_text journal out written (suc q) within few (inl none) wrote = absurd (omega (arith, within, none))
   begins_text journal out written (suc q) within few (inr held) wrote =
-      let run_lines = order other.program other.inputs other.limits in
+      let run_lines = plain_order other.program other.inputs other.limits in
       let k = retired_in work journal in
       let split = lines_split (suc q) k run_lines within in
       let first = printed (lines_of (take (suc q) run_lines)) in
@@ -190,7 +190,7 @@ logged_law reader call files names work logged headline known is command begun w
     accepted : IsAccepted other.program
     accepted = accepted_case resumed.run files' (Go names' other) is'
 
-    found : (p : ℕ) × (p ≤ length (order other.program other.inputs other.limits)) × (p ≤ k)
+    found : (p : ℕ) × (p ≤ length (plain_order other.program other.inputs other.limits)) × (p ≤ k)
         × IsLogOf other.program other.inputs other.limits
         (take part.part (log_told (take k (left_in_order other.program other.inputs other.limits))))
         (own_rows other.program other.inputs other.limits p)

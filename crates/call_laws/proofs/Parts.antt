@@ -10,7 +10,7 @@ use Rattle.gp_base.specs.declared.feed.Inputs.{Inputs}
 use Rattle.task_ast.specs.declared.effect.Effect.{Effect}
 use Rattle.task_ast.specs.meaning.Tree.{Program}
 use Rattle.task_ast.specs.meaning.Plain.{Subthread}
-use Rattle.task_ast.specs.Plain.{order}
+use Rattle.task_ast.specs.meaning.Run.{plain_order}
 use Rattle.task_ast.specs.Shaped.{IsAccepted}
 use Rattle.restart_log.specs.meaning.Lines.{printed, printed_line}
 use Rattle.crew.specs.meaning.Noted.{left_in_order}
@@ -77,8 +77,8 @@ module _ (program : Program) (inputs : Inputs) (limits : Limits) (accepted : IsA
   abbrev told : List Effect
   told = left_in_order program inputs limits
 
-  rows_count : length (log_rows told) ≡ length (order program inputs limits)
-  rows_count = length-rows 0 (length (codes "output\n")) told ∙ length-left program inputs limits 0 (order program inputs limits)
+  rows_count : length (log_rows told) ≡ length (plain_order program inputs limits)
+  rows_count = length-rows 0 (length (codes "output\n")) told ∙ length-left program inputs limits 0 (plain_order program inputs limits)
 
   -- what so many positions left has the first of the run's own rows
   first_rows : (k : ℕ) → log_rows (take k told) ≡ own_rows program inputs limits k
@@ -86,7 +86,7 @@ module _ (program : Program) (inputs : Inputs) (limits : Limits) (accepted : IsA
 
   -- a part of the log of the first positions comes to rows, which are of these
   pub told_answer : (k : ℕ) (start written : Option (List ℕ)) (part : TellsPart start written (take k told))
-      → (p : ℕ) × (p ≤ length (order program inputs limits)) × (p ≤ k)
+      → (p : ℕ) × (p ≤ length (plain_order program inputs limits)) × (p ≤ k)
       × IsLogOf program inputs limits (take part.part (log_told (take k told))) (own_rows program inputs limits p)
   told_answer k start written part = (
     found.0,
@@ -112,13 +112,13 @@ module _ (program : Program) (inputs : Inputs) (limits : Limits) (accepted : IsA
       shorter : length bytes ≤ part.part
       shorter = let parts = length-take part.part all in omega (arith, parts)
 
-      within : (p : ℕ) → p ≤ length (order program inputs limits) → length (log_text (own_rows program inputs limits p)) ≤ length bytes → p ≤ k
+      within : (p : ℕ) → p ≤ length (plain_order program inputs limits) → length (log_text (own_rows program inputs limits p)) ≤ length bytes → p ≤ k
       within p few whole =
           let first : length all ≡ length (log_text (own_rows program inputs limits k)) = ap (λ rows. length (log_text rows)) (first_rows k) in
           few_whole (log_rows told) p k (let count = rows_count in omega (arith, few, count))
           (let within = size in omega (arith, whole, within, first))
 
-      wide : (p : ℕ) → p ≤ length (order program inputs limits) → length (log_text (own_rows program inputs limits p)) ≤ length bytes
+      wide : (p : ℕ) → p ≤ length (plain_order program inputs limits) → length (log_text (own_rows program inputs limits p)) ≤ length bytes
           → All IsWideRow (own_rows program inputs limits p)
       wide p few whole =
           let here = within p few whole in
@@ -128,7 +128,7 @@ module _ (program : Program) (inputs : Inputs) (limits : Limits) (accepted : IsA
           ap (λ rows. length (log_text rows)) rows in
           subst (All IsWideRow) rows (part.wide p (let short = shorter in omega (arith, whole, short, bytes_of)))
 
-      found : (p : ℕ) × (p ≤ length (order program inputs limits)) × (length (log_text (own_rows program inputs limits p)) ≤ length bytes)
+      found : (p : ℕ) × (p ≤ length (plain_order program inputs limits)) × (length (log_text (own_rows program inputs limits p)) ≤ length bytes)
           × IsLogOf program inputs limits (take (length bytes) (log program inputs limits)) (own_rows program inputs limits p)
       found = own-answer program inputs limits (length bytes) accepted wide
 

@@ -1,16 +1,16 @@
 // What is told of a run.
 ghost use Rattle.std.specs.Prelude.{◌≡◌, ◌++◌, List, [], length, IfOk, OnOk};
 ghost use Rattle.task_ast.specs.declared.tree.Program.{Program as ProgramThere};
-ghost use Rattle.task_ast.specs.Table.{Table};
-ghost use Rattle.task_ast.specs.meaning.Control.{Point};
+ghost use Rattle.task_ast.specs.meaning.Run.{Run};
 ghost use Rattle.task_ast.specs.Plain.{order, end};
 ghost use Rattle.task_ast.specs.Position.{before};
+ghost use Rattle.run_views.specs.meaning.Waits.{nexts_in};
 ghost use Rattle.run_views.specs.meaning.Deadlocks.{deadlock_text};
 ghost use Rattle.one_thread.specs.PlainRuns.{IsPlainRun, Stands};
 ghost use Rattle.command_line.specs.Words.{IsWithinLimits};
 ghost use Rattle.call_cases.specs.Decided.{work_of, program_in};
 ghost use Rattle.call_cases.specs.meaning.Work.{Go};
-ghost use Rattle.explain_calls.specs.meaning.Fronts.{ending_line, front, last_table, IsText};
+ghost use Rattle.explain_calls.specs.meaning.Fronts.{ending_line, front, IsText};
 
 use crate::counts::push_counts;
 use crate::details::{push_spent_details, push_stuck_details};
@@ -54,8 +54,8 @@ fn push_stuck(
     end: End,
     standing: &Standing,
 ) -> Result<(), AllocError>
-    ensures { (table : Table) (points : List Point) → Stands table points standing.now
-        → OnOk result (text.new.items ≡ text.old.items ++ deadlock_text heads.now table end) }
+    ensures { (x : Run) → standing.now.owners.items ≡ x.owners → standing.now.nexts.items ≡ nexts_in x
+        → OnOk result (text.new.items ≡ text.old.items ++ deadlock_text heads.now x end) }
 {
     match end {
         End::Stuck {
@@ -69,8 +69,7 @@ fn push_stuck(
 // Where the threads stand after the last of so many subthreads.
 fn last_standing(alloc: Global, request: &Request, position: usize) -> Result<Standing, AllocError>
     requires { let work = work_of request.now in position ≡ length (order work.program work.inputs work.limits) }
-    ensures { let work = work_of request.now in IfOk result (λ standing. Stands (last_table work.program work.inputs work.limits)
-        (before work.program work.inputs work.limits position).points standing) }
+    ensures { let work = work_of request.now in let here = before work.program work.inputs work.limits position in IfOk result (Stands here.table here.points) }
 {
     let limits = request.asked.limits;
     let Ok(position) = u32::try_from(position) else {

@@ -22,6 +22,7 @@ pub mod Openings
 pub mod OwnAnswers
 pub mod OwnLogs
 pub mod OwnRows
+pub mod Plainly
 pub mod Printed
 pub mod Replaying
 pub mod Replays

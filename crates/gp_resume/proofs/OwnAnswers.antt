@@ -10,7 +10,7 @@ use Rattle.std.proofs.lemmas.Bool.{and_parts, cases_lt}
 use Rattle.std.proofs.lemmas.List.{take_all, take-append-le}
 use Rattle.std.proofs.lemmas.List.Elements.{All-nil, All-cons, All-append, All-take, All-contains}
 use Rattle.std.proofs.Math.Seq.{take-append-add}
-use Rattle.task_ast.specs.Plain.{order}
+use Rattle.task_ast.specs.meaning.Run.{plain_order}
 use Rattle.restart_log.specs.meaning.Lines.{spaced}
 use Rattle.crew.specs.meaning.Noted.{left_in_order}
 use Rattle.retirement_log.specs.meaning.Rows.{Retirement, group, cell_numbers, row_text, log_text}
@@ -161,8 +161,8 @@ own-answer program inputs limits logged accepted wide =
     let told = left_in_order program inputs limits in
     let found = whole-rows (log_rows told) logged in
     let whole = found.1 in
-    let count = length-rows 0 (length (codes "output\n")) told ∙ length-left program inputs limits 0 (order program inputs limits) in
-    let within : found.0 ≤ length (order program inputs limits) = (let few = whole.within in omega (arith, few, count)) in (
+    let count = length-rows 0 (length (codes "output\n")) told ∙ length-left program inputs limits 0 (plain_order program inputs limits) in
+    let within : found.0 ≤ length (plain_order program inputs limits) = (let few = whole.within in omega (arith, few, count)) in (
       found.0,
       within,
       whole.fewer,

@@ -3,7 +3,7 @@
 -- A row of the run's own log says all that its subthread left, but for the lines, which change no data: so a replayed row leads where the
 -- move leads (`replay-step`), and one row after another (`replay`). The steps from there are the rest of the plain run's (`steps-drop`),
 -- and they end where it ends (`state-rest`).
-use Rattle.std.proofs.Common.{◌≡◌, ℕ, zero, suc, ℤ, pos, ◌+◌, ◌-◌, ◌≤◌, List, [], ◌∷◌, ◌++◌, length, map, take, drop, Option, Some, None, refl, sym, ap, ◌∙◌, arith, get_or}
+use Rattle.std.proofs.Common.{◌≡◌, ℕ, zero, suc, ℤ, pos, ◌+◌, ◌-◌, ◌≤◌, List, [], ◌∷◌, ◌++◌, length, map, take, drop, Option, Some, None, refl, sym, ap, subst, ◌∙◌, arith, get_or}
 use Rattle.std.specs.Prelude.{codes, slice_get}
 use Rattle.std.proofs.lemmas.List.{take_more, length-take-le, length-drop}
 use Rattle.std.proofs.lemmas.Option.{slice_get-get_or, get_or_from_slice_get, slice_get_within}
@@ -19,13 +19,13 @@ use Rattle.task_ast.specs.meaning.Action.{Action}
 use Rattle.task_ast.specs.meaning.Effect.{effect, after}
 use Rattle.task_ast.specs.meaning.Repeat.{Move, Goes, Ends, steps_from, steps, state_from, state_after}
 use Rattle.task_ast.specs.meaning.Table.{numbers}
-use Rattle.task_ast.specs.Plain as plain
 use Rattle.task_ast.specs.meaning.Plain.{Subthread, ending_of}
-use Rattle.task_ast.specs.Plain.{Plain, tree_machine, opening, move, order, last_state}
-use Rattle.task_ast.specs.Position.{before}
+use Rattle.task_ast.specs.meaning.Run.{Run, plain_opening, plain_move, plain_order, plain_before, plain_records}
+use Rattle.task_ast.specs.Plain.{Plain, tree_machine}
 use Rattle.task_ast.proofs.Repeats.{state_after_none, step_there, step_reached}
 use Rattle.task_ast.proofs.PlainRuns.{count_law}
 use Rattle.task_ast.proofs.Positions.{step_is}
+use Rattle.task_ast.proofs.Runs.{order-is, before-is}
 use Rattle.crew.specs.meaning.Noted.{left_at, left_from, left_in_order}
 use Rattle.retirement_log.specs.meaning.Rows.{Retirement}
 use Rattle.retirement_log.specs.meaning.Log.{log_row, size_of, rows_from, log_rows}
@@ -105,25 +105,28 @@ length-rows k bytes (e ∷ told) = ap suc (length-rows (suc k) (bytes + size_of 
 
 module _ (program : Program) (inputs : Inputs) (limits : Limits) where
   -- the row of a position leads to the next one
-  pub replay-step : (p bytes : ℕ) (s : Subthread) → slice_get (order program inputs limits) p ≡ Some s
-      → replayed program inputs limits (before program inputs limits p) (log_row p bytes (left_at program inputs limits p s))
-      ≡ before program inputs limits (suc p)
+  pub replay-step : (p bytes : ℕ) (s : Subthread) → slice_get (plain_order program inputs limits) p ≡ Some s
+      → replayed program inputs limits (plain_before program inputs limits p) (log_row p bytes (left_at program inputs limits p s))
+      ≡ plain_before program inputs limits (suc p)
   replay-step p bytes s e =
-      let there = step_there (move program inputs limits) (suc limits.subthreads) p (opening program inputs limits) s e in
-      let next : Plain = there.next in
-      let reached : before program inputs limits (suc p) ≡ next =
-      step_reached (move program inputs limits) (suc limits.subthreads) p (opening program inputs limits) s e in
-      let state : (before program inputs limits (suc p)).state
-      ≡ after (left_at program inputs limits p s) (before program inputs limits p).state =
-      (step_is (tree_machine program inputs limits) program inputs limits p s e).state in
+      let there = step_there (plain_move program inputs limits) (suc limits.subthreads) p (plain_opening program inputs limits) s e in
+      let next : Run = there.next in
+      let reached : plain_before program inputs limits (suc p) ≡ next =
+      step_reached (plain_move program inputs limits) (suc limits.subthreads) p (plain_opening program inputs limits) s e in
+      let state : (plain_before program inputs limits (suc p)).state
+      ≡ after (left_at program inputs limits p s) (plain_before program inputs limits p).state =
+      ap (λ (x : Plain). x.state) (before-is program inputs limits (suc p))
+      ∙ ((step_is (tree_machine program inputs limits) program inputs limits p s
+      (ap (λ run. slice_get run p) (sym (order-is program inputs limits)) ∙ e)).state
+      ∙ ap (λ (x : Plain). after (effect s.thread s.begins.sync s.child s.actions x.state) x.state) (sym (before-is program inputs limits p))) in
       let same_data : after (left_by (log_row p bytes (left_at program inputs limits p s)) s.thread s.child)
-      (before program inputs limits p).state ≡ next.state =
-      left-back p bytes s.thread s.begins.sync s.child s.actions (before program inputs limits p).state
-      ∙ (sym state ∙ ap (λ (x : Plain). x.state) reached) in
-      ap (led_by (before program inputs limits p) (log_row p bytes (left_at program inputs limits p s))) there.moves
-      ∙ (ap (λ (st : State). let y : Plain = record next { state = st } in y) same_data ∙ sym reached)
+      (plain_before program inputs limits p).state ≡ next.state =
+      left-back p bytes s.thread s.begins.sync s.child s.actions (plain_before program inputs limits p).state
+      ∙ (sym state ∙ ap (λ (x : Run). x.state) reached) in
+      ap (led_by (plain_before program inputs limits p) (log_row p bytes (left_at program inputs limits p s))) there.moves
+      ∙ (ap (λ (st : State). let y : Run = record next { state = st } in y) same_data ∙ sym reached)
 
-  pub run-push : (x : Plain) (rows : List Retirement) (row : Retirement)
+  pub run-push : (x : Run) (rows : List Retirement) (row : Retirement)
       → run_after program inputs limits x (rows ++ row ∷ []) ≡ replayed program inputs limits (run_after program inputs limits x rows) row
   run-push x [] row = refl
   run-push x (r ∷ rows) row = run-push (replayed program inputs limits x r) rows row
@@ -150,30 +153,30 @@ module _ (program : Program) (inputs : Inputs) (limits : Limits) where
   abbrev all : List Retirement
   all = log_rows (left_in_order program inputs limits)
 
-  length-all : length all ≡ length (order program inputs limits)
+  length-all : length all ≡ length (plain_order program inputs limits)
   length-all =
       length-rows 0 (length (codes "output\n")) (left_in_order program inputs limits)
-      ∙ length-left program inputs limits 0 (order program inputs limits)
+      ∙ length-left program inputs limits 0 (plain_order program inputs limits)
 
-  pub length-own : (p : ℕ) → p ≤ length (order program inputs limits) → length (own_rows program inputs limits p) ≡ p
+  pub length-own : (p : ℕ) → p ≤ length (plain_order program inputs limits) → length (own_rows program inputs limits p) ≡ p
   length-own p l = length-take-le p all (omega (arith, length-all))
 
-  pub replay : (p : ℕ) → p ≤ length (order program inputs limits)
-      → resumed_at program inputs limits (own_rows program inputs limits p) ≡ before program inputs limits p
-  replay zero l = state_after_none (move program inputs limits) (opening program inputs limits)
+  pub replay : (p : ℕ) → p ≤ length (plain_order program inputs limits)
+      → resumed_at program inputs limits (own_rows program inputs limits p) ≡ plain_before program inputs limits p
+  replay zero l = state_after_none (plain_move program inputs limits) (plain_opening program inputs limits)
   replay (suc p) l = go (replay p (omega arith))
     where
       dummy : Subthread
       dummy = record { thread = 0; begins = record { sync = sync.End; line = 0 }; child = None; held = []; actions = []; lines = [] }
 
       s : Subthread
-      s = get_or (order program inputs limits) p dummy
+      s = get_or (plain_order program inputs limits) p dummy
 
-      there : slice_get (order program inputs limits) p ≡ Some s
-      there = slice_get-get_or (order program inputs limits) p dummy (omega arith)
+      there : slice_get (plain_order program inputs limits) p ≡ Some s
+      there = slice_get-get_or (plain_order program inputs limits) p dummy (omega arith)
 
       found : (bytes : ℕ) × (slice_get all p ≡ Some (log_row (0 + p) bytes (left_at program inputs limits (0 + p) s)))
-      found = rows-at 0 (length (codes "output\n")) (order program inputs limits) p s there
+      found = rows-at 0 (length (codes "output\n")) (plain_order program inputs limits) p s there
 
       row : Retirement
       row = log_row p found.0 (left_at program inputs limits p s)
@@ -187,31 +190,33 @@ module _ (program : Program) (inputs : Inputs) (limits : Limits) where
           ap (λ n. take n all) next
           ∙ (take_more all p row (slice_get_within all p row is) ∙ ap (λ r. take p all ++ r ∷ []) (get_or_from_slice_get all p row row is))
 
-      leads : replayed program inputs limits (before program inputs limits p) row ≡ before program inputs limits (suc p)
+      leads : replayed program inputs limits (plain_before program inputs limits p) row ≡ plain_before program inputs limits (suc p)
       leads = replay-step p found.0 s there
 
-      go : resumed_at program inputs limits (own_rows program inputs limits p) ≡ before program inputs limits p
-          → resumed_at program inputs limits (own_rows program inputs limits (suc p)) ≡ before program inputs limits (suc p)
+      go : resumed_at program inputs limits (own_rows program inputs limits p) ≡ plain_before program inputs limits p
+          → resumed_at program inputs limits (own_rows program inputs limits (suc p)) ≡ plain_before program inputs limits (suc p)
       go earlier =
           ap (resumed_at program inputs limits) more
-          ∙ (run-push (opening program inputs limits) (take p all) row
+          ∙ (run-push (plain_opening program inputs limits) (take p all) row
           ∙ (ap (λ x. replayed program inputs limits x row) earlier ∙ leads))
 
   -- ---- what comes after them
 
   -- the run goes on as the plain run does
-  pub is-rest : (p : ℕ) → p ≤ length (order program inputs limits) → IsRest program inputs limits p
+  pub is-rest : (p : ℕ) → p ≤ length (plain_order program inputs limits) → IsRest program inputs limits p
   is-rest p l =
       record {
         rest = after_them;
         last = at_end;
-        end = ap (λ x. ending_of (move program inputs limits x)) at_end;
+        end = ap (λ x. ending_of (plain_move program inputs limits x)) at_end;
         final_records = cells;
         count = counted;
       }
     where
-      most : length (order program inputs limits) ≤ limits.subthreads
-      most = count_law (tree_machine program inputs limits) program inputs limits
+      most : length (plain_order program inputs limits) ≤ limits.subthreads
+      most =
+          subst (λ run. length run ≤ limits.subthreads) (sym (order-is program inputs limits))
+          (count_law (tree_machine program inputs limits) program inputs limits)
 
       all_steps : p + (suc limits.subthreads - p) ≡ suc limits.subthreads
       all_steps = omega (arith, most)
@@ -219,27 +224,27 @@ module _ (program : Program) (inputs : Inputs) (limits : Limits) where
       left : steps_left program inputs limits (own_rows program inputs limits p) ≡ suc limits.subthreads - p
       left = ap (λ (k : ℕ). suc limits.subthreads - k) (length-own p l)
 
-      after_them : rest program inputs limits (own_rows program inputs limits p) ≡ drop p (order program inputs limits)
+      after_them : rest program inputs limits (own_rows program inputs limits p) ≡ drop p (plain_order program inputs limits)
       after_them =
-          ap (λ (k : ℕ). steps (move program inputs limits) k (resumed_at program inputs limits (own_rows program inputs limits p))) left
-          ∙ (ap (steps (move program inputs limits) (suc limits.subthreads - p)) (replay p l)
-          ∙ (steps-drop (move program inputs limits) p (suc limits.subthreads - p) (opening program inputs limits)
-          ∙ ap (λ (k : ℕ). drop p (steps (move program inputs limits) k (opening program inputs limits))) all_steps))
+          ap (λ (k : ℕ). steps (plain_move program inputs limits) k (resumed_at program inputs limits (own_rows program inputs limits p))) left
+          ∙ (ap (steps (plain_move program inputs limits) (suc limits.subthreads - p)) (replay p l)
+          ∙ (steps-drop (plain_move program inputs limits) p (suc limits.subthreads - p) (plain_opening program inputs limits)
+          ∙ ap (λ (k : ℕ). drop p (steps (plain_move program inputs limits) k (plain_opening program inputs limits))) all_steps))
 
-      at_end : last program inputs limits (own_rows program inputs limits p) ≡ last_state program inputs limits
+      at_end : last program inputs limits (own_rows program inputs limits p) ≡ plain_before program inputs limits (suc limits.subthreads)
       at_end =
-          ap (λ (k : ℕ). state_after (move program inputs limits) k (resumed_at program inputs limits (own_rows program inputs limits p)))
+          ap (λ (k : ℕ). state_after (plain_move program inputs limits) k (resumed_at program inputs limits (own_rows program inputs limits p)))
           left
-          ∙ (ap (state_after (move program inputs limits) (suc limits.subthreads - p)) (replay p l)
-          ∙ (state-rest (move program inputs limits) p (suc limits.subthreads - p) (opening program inputs limits)
-          ∙ ap (λ (k : ℕ). state_after (move program inputs limits) k (opening program inputs limits)) all_steps))
+          ∙ (ap (state_after (plain_move program inputs limits) (suc limits.subthreads - p)) (replay p l)
+          ∙ (state-rest (plain_move program inputs limits) p (suc limits.subthreads - p) (plain_opening program inputs limits)
+          ∙ ap (λ (k : ℕ). state_after (plain_move program inputs limits) k (plain_opening program inputs limits)) all_steps))
 
-      cells : final_records program inputs limits (own_rows program inputs limits p) ≡ plain.final_records program inputs limits
-      cells = ap (λ (x : Plain). map (cell_value x.state) (numbers 0 (cells_in (records_of program.heads)))) at_end
+      cells : final_records program inputs limits (own_rows program inputs limits p) ≡ plain_records program inputs limits
+      cells = ap (λ (x : Run). map (cell_value x.state) (numbers 0 (cells_in (records_of program.heads)))) at_end
 
-      counted : count program inputs limits (own_rows program inputs limits p) ≡ length (order program inputs limits)
+      counted : count program inputs limits (own_rows program inputs limits p) ≡ length (plain_order program inputs limits)
       counted =
           let known : length (own_rows program inputs limits p) ≡ p = length-own p l in
-          let later : length (rest program inputs limits (own_rows program inputs limits p)) ≡ length (order program inputs limits) - p =
-          ap length after_them ∙ length-drop p (order program inputs limits) in
+          let later : length (rest program inputs limits (own_rows program inputs limits p)) ≡ length (plain_order program inputs limits) - p =
+          ap length after_them ∙ length-drop p (plain_order program inputs limits) in
           omega arith

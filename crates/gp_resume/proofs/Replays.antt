@@ -23,7 +23,7 @@ use Rattle.retirement_log.specs.meaning.Rows.{Retirement}
 use Rattle.gp_resume.specs.declared.course.Plan.{Plan}
 use Rattle.gp_resume.specs.declared.course.Begun.{Begun}
 use Rattle.gp_resume.specs.declared.course.Course.{Course}
-use Rattle.gp_resume.specs.meaning.Fitting.{StandsUnder, child_in, left_by, led_by, replayed}
+use Rattle.gp_resume.specs.meaning.Fitting.{StandsUnder, child_in, left_by}
 use Rattle.gp_resume.specs.inner.Course.{IsSuited, IsHome, IsSound, AreNumbered, Begins, IsSameRun, Stands, spot_place, run_in}
 use Rattle.gp_resume.specs.inner.RowsRead.{write_in, with_cells}
 use Rattle.gp_resume.proofs.Tasks.{numbered-set, begun-next, begun-rests}
@@ -80,10 +80,6 @@ module _ (plan : Plan) (suits : IsSuited plan) (x : Plain) (s : Subthread) (y : 
   abbrev after_row : Plain
   after_row = record y { state = after (left_by row s.thread s.child) x.state }
 
-  replayed-is : replayed (program_in plan.work.now) plan.inputs.value plan.limits x row
-      ≡ record y { state = after (left_by row s.thread s.child) x.state }
-  replayed-is = ap (led_by x row) begins.moves
-
   module _ (place : Place) (next : Next)
       (next_is : next
       ≡ (body_from plan.work.now begun.begins.sync begun.child
@@ -137,8 +133,8 @@ module _ (plan : Plan) (suits : IsSuited plan) (x : Plain) (s : Subthread) (y : 
     spot-there : begun.thread < length course.spots.items
     spot-there = rw (begins.thread, begins.spots) begins.seats
 
-    stands : Stands plan after_row left
-    stands =
+    pub stands-replayed : Stands plan after_row left
+    stands-replayed =
         record {
           same = same-then;
           sound = sound-for plan y (after (left_by row s.thread s.child) x.state) begins.after;
@@ -148,6 +144,3 @@ module _ (plan : Plan) (suits : IsSuited plan) (x : Plain) (s : Subthread) (y : 
               spot-there begins.numbered);
           issued = issued ∙ begins.issued;
         }
-
-    pub stands-replayed : Stands plan (replayed (program_in plan.work.now) plan.inputs.value plan.limits x row) left
-    stands-replayed = subst (λ z. Stands plan z left) (sym replayed-is) stands

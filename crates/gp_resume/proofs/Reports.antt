@@ -14,8 +14,11 @@ use Rattle.task_ast.specs.meaning.State.{cell_value}
 use Rattle.task_ast.specs.meaning.Repeat.{Move, Goes, Ends, steps, state_after}
 use Rattle.task_ast.specs.meaning.Table.{numbers}
 use Rattle.task_ast.specs.meaning.Plain.{Subthread, ending_of}
-use Rattle.task_ast.specs.Plain.{Plain, tree_machine, move, opening}
+use Rattle.task_ast.specs.meaning.Run.{Run, plain_move, plain_opening}
+use Rattle.task_ast.specs.Plain.{Plain, tree_machine, move}
+use Rattle.task_ast.specs.laws.Runs.{plain_for, IsInside}
 use Rattle.task_ast.proofs.PlainSteps.{begins_of}
+use Rattle.task_ast.proofs.Runs.{opening-inside, run-inside, steps-are, after-is, ending-is}
 use Rattle.dependence.specs.JournalTests.{same_attempt}
 use Rattle.dependence.proofs.Struck.{Contains-head, Contains-later}
 use Rattle.record_store.proofs.States.{records_law}
@@ -33,9 +36,10 @@ use Rattle.gp_resume.specs.declared.stop.ResumeStop.{ResumeStop}
 use Rattle.gp_resume.specs.declared.stop.ResumeStop.TheVariants as stop
 use Rattle.gp_resume.specs.meaning.Reading.{Rows, IsLogOf}
 use Rattle.gp_resume.specs.declared.log.Logged.{Logged}
-use Rattle.gp_resume.specs.inner.Course.{Stands}
+use Rattle.gp_resume.specs.inner.Course.{Stands, StandsAt}
 use Rattle.gp_resume.specs.inner.Going.{left, rest, last, firsts_from, WentOn, Replays}
 use Rattle.gp_resume.proofs.LogAnswers.{one-answer}
+use Rattle.gp_resume.proofs.Plainly.{goes, replayed-inside, resumed-inside}
 
 -- ---- the first attempts of positions in a row
 
@@ -115,64 +119,88 @@ natural (negsuc n) low = absurd low
 
 module _ (program : Program) (inputs : Inputs) (limits : Limits) where
   -- each row is of one position
-  issued-after : (x : Plain) (before : Option Retirement) (rows : List Retirement) → FitFrom program inputs limits x before rows
-      → (run_after program inputs limits x rows).table.issued ≡ x.table.issued + length rows
-  issued-after x before [] fit = omega arith
-  issued-after x before (row ∷ rows) fit =
-      go (move program inputs limits x) refl fit (λ y. issued-after y (Some row) rows)
+  issued-after : (x : Run) (before : Option Retirement) (rows : List Retirement) → IsInside x → FitFrom program inputs limits x before rows
+      → (run_after program inputs limits x rows).issued ≡ x.issued + length rows
+  issued-after x before [] inside fit = omega arith
+  issued-after x before (row ∷ rows) inside fit =
+      go (plain_move program inputs limits x) refl fit (issued-after (replayed program inputs limits x row) (Some row) rows
+      (replayed-inside program inputs limits x row inside))
     where
-      go : (m : Move Plain Subthread End) → move program inputs limits x ≡ m
-          → FitsMove program x m before row × FitFrom program inputs limits (led_by x row m) (Some row) rows
-          → ((y : Plain) → FitFrom program inputs limits y (Some row) rows
-          → (run_after program inputs limits y rows).table.issued ≡ y.table.issued + length rows)
-          → (run_after program inputs limits (led_by x row m) rows).table.issued ≡ x.table.issued + suc (length rows)
+      go : (m : Move Run Subthread End) → plain_move program inputs limits x ≡ m
+          → FitsMove program x m before row × FitFrom program inputs limits (replayed program inputs limits x row) (Some row) rows
+          → (FitFrom program inputs limits (replayed program inputs limits x row) (Some row) rows
+          → (run_after program inputs limits (replayed program inputs limits x row) rows).issued
+          ≡ (replayed program inputs limits x row).issued + length rows)
+          → (run_after program inputs limits (replayed program inputs limits x row) rows).issued ≡ x.issued + suc (length rows)
       go (Goes s y) is (fits, later) again =
-          let all = again (led_by x row (Goes s y)) later in
-          let b = begins_of (tree_machine program inputs limits) x s y is in
-          let one : y.table.issued ≡ suc x.table.issued = ap (λ (y : Plain). y.table.issued) b.left ∙ ap suc b.same.issued in
-          omega arith
+          let all = again later in
+          let led : (replayed program inputs limits x row).issued ≡ y.issued = ap (λ m. (led_by x row m).issued) is in
+          let b =
+          begins_of (tree_machine program inputs limits) (plain_for program limits x) s (plain_for program limits y)
+          (goes program inputs limits x y s inside is) in
+          let one : y.issued ≡ suc x.issued = ap (λ (z : Plain). z.table.issued) b.left ∙ ap suc b.same.issued in
+          omega (arith, all, led, one)
       go (Ends end) is (fits, later) again = absurd fits
 
-  pub issued-are : (rows : List Retirement) → Fit program inputs limits rows → (resumed_at program inputs limits rows).table.issued ≡ length rows
+  pub issued-are : (rows : List Retirement) → Fit program inputs limits rows → (resumed_at program inputs limits rows).issued ≡ length rows
   issued-are rows fit =
-      issued-after (opening program inputs limits) None rows fit ∙ (let same : 0 + length rows ≡ length rows = omega arith in same)
+      issued-after (plain_opening program inputs limits) None rows (opening-inside program inputs limits) fit
+      ∙ (let same : 0 + length rows ≡ length rows = omega arith in same)
 
   -- the bytes of rows are a number of bytes
-  bytes-rise : (x : Plain) (before : Option Retirement) (rows : List Retirement) → FitFrom program inputs limits x before rows → (b : ℤ)
+  bytes-rise : (x : Run) (before : Option Retirement) (rows : List Retirement) → FitFrom program inputs limits x before rows → (b : ℤ)
       → IsNatural b → IsNatural (least_bytes before) → IsNatural (bytes_from b rows)
   bytes-rise x before [] fit b low least = low
   bytes-rise x before (row ∷ rows) fit b low least =
-      let more = go (move program inputs limits x) fit.0 in
+      let more = go (plain_move program inputs limits x) fit.0 in
       bytes-rise (replayed program inputs limits x row) (Some row) rows fit.1 row.bytes more more
     where
-      go : (m : Move Plain Subthread End) → FitsMove program x m before row → IsNatural row.bytes
+      go : (m : Move Run Subthread End) → FitsMove program x m before row → IsNatural row.bytes
       go (Goes s y) fits = rises (least_bytes before) row.bytes least fits.bytes
       go (Ends end) fits = absurd fits
 
   pub bytes-natural : (rows : List Retirement) → Fit program inputs limits rows → (n : ℕ) × (bytes_before rows ≡ pos n)
   bytes-natural rows fit =
-      natural (bytes_before rows) (bytes-rise (opening program inputs limits) None rows fit (pos 0) tt tt)
+      natural (bytes_before rows) (bytes-rise (plain_opening program inputs limits) None rows fit (pos 0) tt tt)
 
 -- ---- how the run goes on from them
 
 module _ (plan : Plan) (rows : List Retirement) (fit : Fit (program_in plan.work.now) plan.inputs.value plan.limits rows) where
   abbrev pub begun_at : Plain
-  begun_at = resumed_at (program_in plan.work.now) plan.inputs.value plan.limits rows
+  begun_at = plain_for (program_in plan.work.now) plan.limits (resumed_at (program_in plan.work.now) plan.inputs.value plan.limits rows)
 
-  pub issued-is : (resumed_at (program_in plan.work.now) plan.inputs.value plan.limits rows).table.issued ≡ length rows
+  inside : IsInside (resumed_at (program_in plan.work.now) plan.inputs.value plan.limits rows)
+  inside = resumed-inside (program_in plan.work.now) plan.inputs.value plan.limits rows
+
+  pub issued-is : (resumed_at (program_in plan.work.now) plan.inputs.value plan.limits rows).issued ≡ length rows
   issued-is = issued-are (program_in plan.work.now) plan.inputs.value plan.limits rows fit
 
   left-is : left plan begun_at ≡ resumed.steps_left (program_in plan.work.now) plan.inputs.value plan.limits rows
   left-is = ap (λ n. suc plan.limits.subthreads - n) issued-is
 
-  pub rest-is : rest plan (resumed_at (program_in plan.work.now) plan.inputs.value plan.limits rows)
-      ≡ resumed.rest (program_in plan.work.now) plan.inputs.value plan.limits rows
-  rest-is = ap (λ n. steps (move (program_in plan.work.now) plan.inputs.value plan.limits) n begun_at) left-is
+  pub rest-is : rest plan begun_at ≡ resumed.rest (program_in plan.work.now) plan.inputs.value plan.limits rows
+  rest-is =
+      ap (λ n. steps (move (program_in plan.work.now) plan.inputs.value plan.limits) n begun_at) left-is
+      ∙ sym (steps-are (program_in plan.work.now) plan.inputs.value plan.limits
+      (resumed.steps_left (program_in plan.work.now) plan.inputs.value plan.limits rows)
+      (resumed_at (program_in plan.work.now) plan.inputs.value plan.limits rows) inside)
 
-  last-is : last plan begun_at ≡ resumed.last (program_in plan.work.now) plan.inputs.value plan.limits rows
-  last-is = ap (λ n. state_after (move (program_in plan.work.now) plan.inputs.value plan.limits) n begun_at) left-is
+  -- where the plain run has ended, and that its token is at a thread there
+  ended-there : (plain_for (program_in plan.work.now) plan.limits (resumed.last (program_in plan.work.now) plan.inputs.value plan.limits rows)
+      ≡ state_after (move (program_in plan.work.now) plan.inputs.value plan.limits)
+      (resumed.steps_left (program_in plan.work.now) plan.inputs.value plan.limits rows) begun_at)
+      × IsInside (resumed.last (program_in plan.work.now) plan.inputs.value plan.limits rows)
+  ended-there =
+      after-is (program_in plan.work.now) plan.inputs.value plan.limits
+      (resumed.steps_left (program_in plan.work.now) plan.inputs.value plan.limits rows)
+      (resumed_at (program_in plan.work.now) plan.inputs.value plan.limits rows) inside
 
-  pub count-is : length rows + length (rest plan (resumed_at (program_in plan.work.now) plan.inputs.value plan.limits rows))
+  last-is : last plan begun_at
+      ≡ plain_for (program_in plan.work.now) plan.limits (resumed.last (program_in plan.work.now) plan.inputs.value plan.limits rows)
+  last-is =
+      ap (λ n. state_after (move (program_in plan.work.now) plan.inputs.value plan.limits) n begun_at) left-is ∙ sym ended-there.0
+
+  pub count-is : length rows + length (rest plan begun_at)
       ≡ resumed.count (program_in plan.work.now) plan.inputs.value plan.limits rows
   count-is = ap (λ run. length rows + length run) rest-is
 
@@ -192,7 +220,9 @@ module _ (plan : Plan) (rows : List Retirement) (fit : Fit (program_in plan.work
         record {
           bytes_are = bytes_are;
           end = end_is ∙ went.end_is
-              ∙ ap (λ (p : Plain). ending_of (move (program_in plan.work.now) plan.inputs.value plan.limits p)) last-is;
+              ∙ ap (λ (p : Plain). ending_of (move (program_in plan.work.now) plan.inputs.value plan.limits p)) last-is
+              ∙ sym (ending-is (program_in plan.work.now) plan.inputs.value plan.limits
+              (resumed.last (program_in plan.work.now) plan.inputs.value plan.limits rows) ended-there.1);
           records = records_are ∙ records-are;
           subthreads = count_is ∙ went.issued ∙ ap (λ n. n + length (rest plan begun_at)) issued-is ∙ count-is;
           unused = unused;
@@ -231,9 +261,10 @@ module _ (plan : Plan) (log : List ℕ) (logged : Logged) (course : Course) (rep
     same : replays.rows ≡ rows
     same = same-rows (program_in plan.work.now) plan.inputs.value plan.limits log replays.rows rows replays.is_log is_log
 
-    stands-there : Stands plan (resumed_at (program_in plan.work.now) plan.inputs.value plan.limits rows) course
+    stands-there : Stands plan (begun_at plan rows is_log.begins.fit) course
     stands-there =
-        subst (λ rows. Stands plan (resumed_at (program_in plan.work.now) plan.inputs.value plan.limits rows) course) same replays.stands
+        (subst (λ rows. StandsAt plan (resumed_at (program_in plan.work.now) plan.inputs.value plan.limits rows) course) same
+        replays.stands).stands
 
     pub all-reports : (end : End) (later : Course) → ((x : Plain) → Stands plan x course → WentOn plan x end later)
         → (bytes : ℕ) (report : Report) → pos bytes ≡ logged.bytes → report.end ≡ end → report.records ≡ later.store.cells

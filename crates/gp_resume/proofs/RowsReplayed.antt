@@ -9,7 +9,7 @@ use Rattle.gp_base.specs.declared.ending.End.{End}
 use Rattle.task_ast.specs.meaning.Tree.{Program}
 use Rattle.task_ast.specs.meaning.Repeat.{Move, Goes, Ends}
 use Rattle.task_ast.specs.meaning.Plain.{Subthread}
-use Rattle.task_ast.specs.Plain.{Plain, opening, move}
+use Rattle.task_ast.specs.meaning.Run.{Run, plain_opening, plain_move}
 use Rattle.retirement_log.specs.meaning.Rows.{Retirement, row_text, IsWideRow}
 use Rattle.subthread.specs.Tasks.{program_in}
 use Rattle.gp_resume.specs.declared.course.Plan.{Plan}
@@ -18,7 +18,7 @@ use Rattle.gp_resume.specs.declared.log.Logged.{Logged}
 use Rattle.gp_resume.specs.meaning.Fitting.{least_bytes, FitsMove, replayed, run_after, FitFrom, Fit, resumed_at}
 use Rattle.gp_resume.specs.meaning.Reading.{BeginsWith, IsUnfitAt}
 use Rattle.gp_resume.specs.meaning.Resumed.{bytes_from, bytes_before}
-use Rattle.gp_resume.specs.inner.Course.{Stands}
+use Rattle.gp_resume.specs.inner.Course.{StandsAt}
 use Rattle.gp_resume.specs.inner.Going.{HasReplayed}
 use Rattle.gp_resume.proofs.LogRows.{few-rows, next-row}
 use Rattle.gp_resume.proofs.Replaying.{run-push}
@@ -38,7 +38,7 @@ bytes-push : (b : ℤ) (rows : List Retirement) (row : Retirement) → bytes_fro
 bytes-push b [] row = refl
 bytes-push b (r ∷ rows) row = bytes-push r.bytes rows row
 
-move-rises : (program : Program) (x : Plain) (m : Move Plain Subthread End) (before : Option Retirement) (row : Retirement)
+move-rises : (program : Program) (x : Run) (m : Move Run Subthread End) (before : Option Retirement) (row : Retirement)
     → FitsMove program x m before row
     → least_bytes before ≤ℤ row.bytes
 move-rises program x (Goes s y) before row fits = fits.bytes
@@ -53,32 +53,32 @@ greatest b h = omega (arith, ints, clamps)
 module _ (program : Program) (inputs : Inputs) (limits : Limits) where
   -- ---- which rows fit
 
-  fits-push : (x : Plain) (before : Option Retirement) (rows : List Retirement) (row : Retirement) → FitFrom program inputs limits x before rows
-      → FitsMove program (run_after program inputs limits x rows) (move program inputs limits (run_after program inputs limits x rows))
+  fits-push : (x : Run) (before : Option Retirement) (rows : List Retirement) (row : Retirement) → FitFrom program inputs limits x before rows
+      → FitsMove program (run_after program inputs limits x rows) (plain_move program inputs limits (run_after program inputs limits x rows))
       (last_row before rows) row
       → FitFrom program inputs limits x before (rows ++ row ∷ [])
   fits-push x before [] row fit here = (here, tt)
   fits-push x before (r ∷ rows) row fit here = (fit.0, fits-push (replayed program inputs limits x r) (Some r) rows row fit.1 here)
 
-  fits-last : (x : Plain) (before : Option Retirement) (rows : List Retirement) (row : Retirement) → FitFrom program inputs limits x before (rows ++ row ∷ [])
-      → FitsMove program (run_after program inputs limits x rows) (move program inputs limits (run_after program inputs limits x rows))
+  fits-last : (x : Run) (before : Option Retirement) (rows : List Retirement) (row : Retirement) → FitFrom program inputs limits x before (rows ++ row ∷ [])
+      → FitsMove program (run_after program inputs limits x rows) (plain_move program inputs limits (run_after program inputs limits x rows))
       (last_row before rows) row
   fits-last x before [] row fit = fit.0
   fits-last x before (r ∷ rows) row fit = fits-last (replayed program inputs limits x r) (Some r) rows row fit.1
 
-  rises-from : (x : Plain) (before : Option Retirement) (rows : List Retirement) (b : ℤ) → FitFrom program inputs limits x before rows
+  rises-from : (x : Run) (before : Option Retirement) (rows : List Retirement) (b : ℤ) → FitFrom program inputs limits x before rows
       → b ≤ℤ least_bytes before → b ≤ℤ least_bytes (last_row before rows)
   rises-from x before [] b fit low = low
   rises-from x before (r ∷ rows) b fit low =
       rises-from (replayed program inputs limits x r) (Some r) rows b fit.1
-      (no-less b (least_bytes before) r.bytes low (move-rises program x (move program inputs limits x) before r fit.0))
+      (no-less b (least_bytes before) r.bytes low (move-rises program x (plain_move program inputs limits x) before r fit.0))
 
   -- the least bytes of the next row
   pub least-is : (rows : List Retirement) → Fit program inputs limits rows → int_max (bytes_before rows) (pos 7) ≡ least_bytes (last_row None rows)
   least-is [] fit = refl
   least-is (r ∷ rows) fit =
       let rises : pos 7 ≤ℤ least_bytes (last_row None (r ∷ rows)) =
-      rises-from (opening program inputs limits) None (r ∷ rows) (pos 7) fit (omega (arith, ints)) in
+      rises-from (plain_opening program inputs limits) None (r ∷ rows) (pos 7) fit (omega (arith, ints)) in
       let last = bytes-last r rows in
       greatest (bytes_from r.bytes rows) (subst (λ b. pos 7 ≤ℤ b) last rises) ∙ sym last
 
@@ -101,7 +101,7 @@ module _ (plan : Plan) (log : List ℕ) where
       abbrev Here : Type 0
       Here =
           FitsMove (program_in plan.work.now) (resumed_at (program_in plan.work.now) plan.inputs.value plan.limits replays.rows)
-          (move (program_in plan.work.now) plan.inputs.value plan.limits
+          (plain_move (program_in plan.work.now) plan.inputs.value plan.limits
           (resumed_at (program_in plan.work.now) plan.inputs.value plan.limits replays.rows))
           (last_row None replays.rows) row
 
@@ -119,12 +119,12 @@ module _ (plan : Plan) (log : List ℕ) where
             rest = later;
             begins = subst (BeginsWith (program_in plan.work.now) plan.inputs.value plan.limits log replays.rows) is replays.begins;
             unfit = λ fit. not (fits-last (program_in plan.work.now) plan.inputs.value plan.limits
-                (opening (program_in plan.work.now) plan.inputs.value plan.limits) None replays.rows row fit);
+                (plain_opening (program_in plan.work.now) plan.inputs.value plan.limits) None replays.rows row fit);
             counted = counted;
           }
 
       pub one-replayed : Here → (bytes : ℤ) → bytes ≡ row.bytes → (next : Course)
-          → Stands plan (replayed (program_in plan.work.now) plan.inputs.value plan.limits
+          → StandsAt plan (replayed (program_in plan.work.now) plan.inputs.value plan.limits
           (resumed_at (program_in plan.work.now) plan.inputs.value plan.limits replays.rows) row) next
           → HasReplayed plan log later (record { rows = logged.rows + 1; bytes = bytes }) next
       one-replayed here bytes bytes_are next stands =
@@ -133,10 +133,10 @@ module _ (plan : Plan) (log : List ℕ) where
             begins =
                 next-row (program_in plan.work.now) plan.inputs.value plan.limits log rest later replays.rows row replays.begins wide is
                 (fits-push (program_in plan.work.now) plan.inputs.value plan.limits
-                (opening (program_in plan.work.now) plan.inputs.value plan.limits) None replays.rows row replays.begins.fit here);
+                (plain_opening (program_in plan.work.now) plan.inputs.value plan.limits) None replays.rows row replays.begins.fit here);
             count = counted ∙ sym (length-append replays.rows (row ∷ []));
             bytes = bytes_are ∙ sym (bytes-push (pos 0) replays.rows row);
-            stands = subst (λ (x : Plain). Stands plan x next)
+            stands = subst (λ (x : Run). StandsAt plan x next)
                 (sym (run-push (program_in plan.work.now) plan.inputs.value plan.limits
-                (opening (program_in plan.work.now) plan.inputs.value plan.limits) replays.rows row)) stands;
+                (plain_opening (program_in plan.work.now) plan.inputs.value plan.limits) replays.rows row)) stands;
           }

@@ -11,10 +11,8 @@ use Rattle.task_ast.specs.declared.effect.Effect.{Effect}
 use Rattle.task_ast.specs.meaning.Tree.{Program}
 use Rattle.task_ast.specs.meaning.Names.{records_of}
 use Rattle.task_ast.specs.meaning.Layout.{cut}
-use Rattle.task_ast.specs.Plain as plain
 use Rattle.task_ast.specs.meaning.Plain.{Subthread}
-use Rattle.task_ast.specs.Plain.{tree_machine, order}
-use Rattle.task_ast.proofs.Positions.{step_is}
+use Rattle.task_ast.specs.meaning.Run.{plain_order, plain_end, plain_records}
 use Rattle.restart_log.specs.meaning.Lines.{printed_line, printed}
 use Rattle.restart_log.specs.meaning.Tail.{tail_text}
 use Rattle.crew.specs.meaning.Noted.{left_at, left_from, left_in_order}
@@ -22,6 +20,7 @@ use Rattle.retirement_log.specs.meaning.Rows.{Retirement}
 use Rattle.retirement_log.specs.meaning.Log.{size_of, rows_from}
 use Rattle.gp_resume.specs.meaning.Resumed.{lines_of, first_line, end, final_records, count, text, bytes_from, bytes_before}
 use Rattle.gp_resume.specs.Laws.{own_rows, text_before, text_of_one, IsRest}
+use Rattle.retirement_log.proofs.Placed.{plain_lines}
 use Rattle.gp_resume.proofs.Replaying.{length-left, length-own, is-rest}
 
 -- the last row has the bytes of all
@@ -71,18 +70,16 @@ module _ (program : Program) (inputs : Inputs) (limits : Limits) where
       same_later i s e = let at : k + suc i ≡ suc k + i = omega arith in e ∙ ap (λ (n : ℕ). (left_at program inputs limits n s).prints) at
 
   own-lines : (p : ℕ)
-      → length (printed (lines_of (take p (order program inputs limits)))) ≡ sum_by size_of (take p (left_in_order program inputs limits))
+      → length (printed (lines_of (take p (plain_order program inputs limits)))) ≡ sum_by size_of (take p (left_in_order program inputs limits))
   own-lines =
-      lines-size 0 (order program inputs limits) (λ i s e. let at : i ≡ 0 + i = omega arith in
-      (step_is (tree_machine program inputs limits) program inputs limits i s e).lines
-      ∙ ap (λ (n : ℕ). (left_at program inputs limits n s).prints) at)
+      lines-size 0 (plain_order program inputs limits) (plain_lines program inputs limits)
 
-  pub bytes-known : (p : ℕ) → p ≤ length (order program inputs limits)
+  pub bytes-known : (p : ℕ) → p ≤ length (plain_order program inputs limits)
       → bytes_before (own_rows program inputs limits p) ≡ pos (length (text_before program inputs limits p))
   bytes-known zero l = refl
   bytes-known (suc p) l =
-      let told = length-left program inputs limits 0 (order program inputs limits) in
-      let lines : List ℕ = printed (lines_of (take (suc p) (order program inputs limits))) in
+      let told = length-left program inputs limits 0 (plain_order program inputs limits) in
+      let lines : List ℕ = printed (lines_of (take (suc p) (plain_order program inputs limits))) in
       bytes-upto 0 (length (codes "output\n")) (left_in_order program inputs limits) p (pos 0) (omega arith)
       ∙ ap pos (ap (λ (n : ℕ). length (codes "output\n") + n) (sym (own-lines (suc p))) ∙ sym (length-append (codes "output\n") lines))
 
@@ -97,25 +94,25 @@ module _ (program : Program) (inputs : Inputs) (limits : Limits) where
       (count program inputs limits (own_rows program inputs limits p))
 
   abbrev tail_of_one : List ℕ
-  tail_of_one = tail_of (plain.end program inputs limits) (plain.final_records program inputs limits) (length (order program inputs limits))
+  tail_of_one = tail_of (plain_end program inputs limits) (plain_records program inputs limits) (length (plain_order program inputs limits))
 
   same-tail : (p : ℕ) → IsRest program inputs limits p → own_tail p ≡ tail_of_one
   same-tail p r =
       let rows : List Retirement = own_rows program inputs limits p in
       ap (λ (e : End). tail_of e (final_records program inputs limits rows) (count program inputs limits rows)) r.end
-      ∙ (ap (λ (cells : List ℤ). tail_of (plain.end program inputs limits) cells (count program inputs limits rows)) r.final_records
-      ∙ ap (λ (n : ℕ). tail_of (plain.end program inputs limits) (plain.final_records program inputs limits) n) r.count)
+      ∙ (ap (λ (cells : List ℤ). tail_of (plain_end program inputs limits) cells (count program inputs limits rows)) r.final_records
+      ∙ ap (λ (n : ℕ). tail_of (plain_end program inputs limits) (plain_records program inputs limits) n) r.count)
 
   -- the text that is still to come, by the plain run
   text-rest : (p : ℕ) → IsRest program inputs limits p
       → text program inputs limits (own_rows program inputs limits p)
-      ≡ first_line (own_rows program inputs limits p) ++ (printed (lines_of (drop p (order program inputs limits))) ++ tail_of_one)
+      ≡ first_line (own_rows program inputs limits p) ++ (printed (lines_of (drop p (plain_order program inputs limits))) ++ tail_of_one)
   text-rest p r =
       ap (λ (run : List Subthread). first_line (own_rows program inputs limits p) ++ (printed (lines_of run) ++ own_tail p)) r.rest
       ∙ ap (λ (t : List ℕ). first_line (own_rows program inputs limits p)
-      ++ (printed (lines_of (drop p (order program inputs limits))) ++ t)) (same-tail p r)
+      ++ (printed (lines_of (drop p (plain_order program inputs limits))) ++ t)) (same-tail p r)
 
-  pub joined : (p : ℕ) → p ≤ length (order program inputs limits)
+  pub joined : (p : ℕ) → p ≤ length (plain_order program inputs limits)
       → text_before program inputs limits p ++ text program inputs limits (own_rows program inputs limits p)
       ≡ text_of_one program inputs limits
   joined zero l = text-rest 0 (is-rest program inputs limits 0 l)
@@ -130,7 +127,7 @@ module _ (program : Program) (inputs : Inputs) (limits : Limits) where
       ∙ ap (λ (s : List Subthread). printed (lines_of s)) (take-append-drop (suc p) run))))
     where
       run : List Subthread
-      run = order program inputs limits
+      run = plain_order program inputs limits
 
       before_them : List ℕ
       before_them = printed (lines_of (take (suc p) run))

@@ -127,7 +127,7 @@ pub fn fits(
     requires suits { IsSuited plan.now }
     requires begun { IsBegun plan.now begun.now course.now }
     ensures { IfOk result (λ fits. (x : Plain) (s : Subthread) (y : Plain) (before : Option Retirement) → Begins plan.now x s y begun.now course.now → least ≡ least_bytes before
-        → Decides fits (FitsIssue (program_in plan.now.work.now) x s before (row_in row.now))) }
+        → Decides fits (FitsIssue (program_in plan.now.work.now) x.table.issued x.state s before (row_in row.now))) }
 {
     let code = &plan.work.code;
     if !fits_turn(begun.pos, least, row) {

@@ -3,10 +3,11 @@
 ghost use Rattle.std.specs.Prelude.{◌≡◌, ◌≤◌, length, IsTrue, Option, IfOk, IfErr};
 ghost use Rattle.std.specs.Bool.{Decides};
 ghost use Rattle.gp_base.specs.declared.limits.TheConstants.{MOST_FILE_BYTES};
-ghost use Rattle.task_ast.specs.Plain.{Plain, opening, move};
+ghost use Rattle.task_ast.specs.meaning.Run.{Run, plain_move};
+ghost use Rattle.task_ast.specs.Plain.{Plain, opening};
 ghost use Rattle.subthread.specs.Tasks.{program_in};
 ghost use Rattle.retirement_log.specs.meaning.Rows.{Retirement};
-ghost use Rattle.gp_resume.specs.inner.Course.{IsSuited, Stands};
+ghost use Rattle.gp_resume.specs.inner.Course.{IsSuited, Stands, StandsAt};
 ghost use Rattle.gp_resume.specs.meaning.Fitting.{least_bytes, FitsMove, replayed};
 ghost use Rattle.gp_resume.specs.inner.Going.{Replays};
 ghost use Rattle.gp_resume.specs.inner.RowsRead.{row_in};
@@ -43,10 +44,10 @@ fn replay_row(
 ) -> Result<bool, AllocError>
     requires suits { IsSuited plan.now }
     requires stands { (x : Plain) × Stands plan.now x course.old }
-    ensures fits { IfOk result (λ fits. (x : Plain) (before : Option Retirement) → Stands plan.now x course.old → least ≡ least_bytes before
-        → Decides fits (FitsMove (program_in plan.now.work.now) x (move (program_in plan.now.work.now) plan.now.inputs.value plan.now.limits x) before (row_in row))) }
-    ensures stands { IfOk result (λ fits. IsTrue fits → (x : Plain) → Stands plan.now x course.old
-        → Stands plan.now (replayed (program_in plan.now.work.now) plan.now.inputs.value plan.now.limits x (row_in row)) course.new) }
+    ensures fits { IfOk result (λ fits. (x : Run) (before : Option Retirement) → StandsAt plan.now x course.old → least ≡ least_bytes before
+        → Decides fits (FitsMove (program_in plan.now.work.now) x (plain_move (program_in plan.now.work.now) plan.now.inputs.value plan.now.limits x) before (row_in row))) }
+    ensures stands { IfOk result (λ fits. IsTrue fits → (x : Run) → StandsAt plan.now x course.old
+        → StandsAt plan.now (replayed (program_in plan.now.work.now) plan.now.inputs.value plan.now.limits x (row_in row)) course.new) }
 {
     let Step::Goes(begun) = course.next(alloc, plan)? else {
         return Ok(false);

@@ -10,7 +10,7 @@ ghost use Rattle.task_ast.specs.Plain.{Plain};
 ghost use Rattle.record_store.specs.Stored.{state_of, SameShape, FitsChild, IsAtHome};
 ghost use Rattle.subthread.specs.Tasks.{program_in, under_of, body_from};
 ghost use Rattle.retirement_log.specs.meaning.Rows.{Retirement};
-ghost use Rattle.gp_resume.specs.meaning.Fitting.{StandsUnder, left_by, FitsIssue, replayed};
+ghost use Rattle.gp_resume.specs.meaning.Fitting.{StandsUnder, left_by, FitsIssue};
 ghost use Rattle.gp_resume.specs.inner.Course.{IsSuited, Stands, Begins};
 ghost use Rattle.gp_resume.specs.inner.Replayed.{FitsBegun};
 ghost use Rattle.gp_resume.specs.inner.RowsRead.{row_in, write_in, with_cells};
@@ -146,8 +146,8 @@ pub fn replay(
 ) -> Result<(), AllocError>
     requires suits { IsSuited plan.now }
     requires fits { FitsBegun plan.now begun course.old (row_in row) }
-    ensures { OnOk result ((x : Plain) (s : Subthread) (y : Plain) (before : Option Retirement) → Begins plan.now x s y begun course.old → FitsIssue (program_in plan.now.work.now) x s before (row_in row)
-        → Stands plan.now (replayed (program_in plan.now.work.now) plan.now.inputs.value plan.now.limits x (row_in row)) course.new) }
+    ensures { OnOk result ((x : Plain) (s : Subthread) (y : Plain) (before : Option Retirement) → Begins plan.now x s y begun course.old → FitsIssue (program_in plan.now.work.now) x.table.issued x.state s before (row_in row)
+        → Stands plan.now (record y { state = after (left_by (row_in row) s.thread s.child) x.state }) course.new) }
 {
     let (next, at, ctl) = control(alloc, plan.work, &begun)?;
     leave_row(alloc, plan.work, &mut course.store, &begun, row)?;

@@ -4,7 +4,7 @@ use Rattle.std.proofs.Math.Seq.{take-append_seam}
 use Rattle.gp_base.specs.declared.feed.Inputs.{Inputs}
 use Rattle.gp_base.specs.declared.limits.Limits.{Limits}
 use Rattle.task_ast.specs.meaning.Tree.{Program}
-use Rattle.task_ast.specs.Plain.{order}
+use Rattle.task_ast.specs.meaning.Run.{plain_order}
 use Rattle.retirement_log.specs.meaning.Rows.{Retirement}
 use Rattle.gp_resume.specs.Laws.{own_rows, text_before, text_of_one}
 use Rattle.gp_resume.specs.meaning.Resumed.{bytes_before}
@@ -29,7 +29,7 @@ same_text work = refl
 
 -- the first rows of a run's own log, and the text of one thread
 module _ (program : Program) (inputs : Inputs) (limits : Limits) (all : List ℕ) (text : text_of_one program inputs limits ≡ all) where
-  joined_rows : (p : ℕ) → p ≤ length (order program inputs limits) → (rows : List Retirement) → rows ≡ own_rows program inputs limits p
+  joined_rows : (p : ℕ) → p ≤ length (plain_order program inputs limits) → (rows : List Retirement) → rows ≡ own_rows program inputs limits p
       → (count : ℕ) × (bytes_before rows ≡ pos count) × (take count all ++ rest.text program inputs limits rows ≡ all)
   joined_rows p within rows are =
       let before = text_before program inputs limits p in

@@ -12,7 +12,8 @@ use Rattle.task_ast.specs.declared.tree.Head.{Head}
 use Rattle.task_ast.specs.meaning.Tree.{Program}
 use Rattle.task_ast.specs.meaning.Names.{records_of, cells_in}
 use Rattle.task_ast.specs.meaning.Plain.{Subthread, foot_of}
-use Rattle.task_ast.specs.Plain.{order, last_state}
+use Rattle.task_ast.specs.meaning.Run.{plain_order}
+use Rattle.task_ast.specs.Plain.{last_state}
 use Rattle.task_ast.specs.meaning.State.{cell_value}
 use Rattle.task_ast.specs.meaning.Table.{numbers}
 use Rattle.one_thread.specs.declared.run.PlainRun.{PlainRun}
@@ -29,6 +30,7 @@ use Rattle.run_views.specs.declared.links.Link.{Link}
 use Rattle.run_views.specs.meaning.Links.{Party, party_of, linked, link_of}
 use Rattle.run_views.specs.meaning.Why.{link_line, struck_line, link_text, chain, restart_texts, redone_line, why_lines, why_text}
 use Rattle.run_views.specs.inner.Seen.{seen, party_in}
+use Rattle.run_views.proofs.Endings.{same_order}
 use Rattle.run_views.proofs.SeenSteps.{child_written, line_seen}
 
 -- ---- conflicts
@@ -129,10 +131,10 @@ none-at (s ∷ run) (suc p) l = none-at run p (omega (arith, l))
 module _ (program : Program) (inputs : Inputs) (limits : Limits) (run : PlainRun) (is : IsPlainRun program inputs limits run)
     (faults : List Fault) (p : ℕ) where
   abbrev plain : List Subthread
-  plain = order program inputs limits
+  plain = plain_order program inputs limits
 
   same-length : length run.order ≡ length plain
-  same-length = ap length is.order ∙ length-map plain shown
+  same-length = ap length (same_order program inputs limits run is) ∙ length-map plain shown
 
   pub cells-counted : length run.records ≡ cells_in (records_of program.heads)
   cells-counted =
@@ -147,11 +149,12 @@ module _ (program : Program) (inputs : Inputs) (limits : Limits) (run : PlainRun
       → Some text ≡ why_text program inputs limits faults p
   unfolding why_text
   why-shown heads made d text same_heads made_is low told =
-      let all : made ≡ restarts_of plain faults = made_is ∙ ap (λ r. restarts r faults) (ap dependence_by is.order ∙ order-is plain) in
+      let all : made ≡ restarts_of plain faults = made_is ∙ ap (λ r. restarts r faults) (ap dependence_by (same_order program inputs limits run is) ∙ order-is plain) in
       let here = subthread-at plain p d (omega (arith, low, same-length)) in
       let lines : text ≡ why_lines program.heads (map party_of plain) (restarts_of plain faults) p here.0 =
       told ∙ ap (λ h. why_lines h (map party_in run.order) made p (seen (get_or run.order p d))) same_heads
-      ∙ ap (λ steps. why_lines program.heads (map party_in steps) made p (seen (get_or steps p d))) is.order
+      ∙ ap (λ steps. why_lines program.heads (map party_in steps) made p (seen (get_or steps p d)))
+      (same_order program inputs limits run is)
       ∙ ap (λ s. why_lines program.heads (map party_in (map shown plain)) made p (seen s)) here.2
       ∙ ap (λ m. why_lines program.heads (map party_in (map shown plain)) m p (seen (shown here.0))) all
       ∙ lines-are program.heads plain (restarts_of plain faults) p here.0 in

@@ -11,7 +11,7 @@ use Rattle.gp_base.specs.declared.limits.TheConstants.{MOST_SUBTHREADS, MOST_FAU
 use Rattle.task_ast.specs.declared.tree.Head.{Head}
 use Rattle.task_ast.specs.meaning.Tree.{Program}
 use Rattle.task_ast.specs.meaning.Plain.{Subthread}
-use Rattle.task_ast.specs.Plain.{order, end}
+use Rattle.task_ast.specs.meaning.Run.{plain_order, plain_end}
 use Rattle.one_thread.specs.declared.run.PlainRun.{PlainRun}
 use Rattle.one_thread.specs.declared.run.Step.{Step}
 use Rattle.one_thread.specs.PlainRuns.{IsPlainRun, shown}
@@ -25,7 +25,7 @@ use Rattle.gp_audit.proofs.StepOrder.{steps-struck}
 use Rattle.run_views.specs.declared.bands.Band.{Band}
 use Rattle.run_views.specs.meaning.Timeline.{foot, left, opening_band, next_band, last_band, words_at, is_folded, band_head, Tells, told_of, picture_start, title, attempt_box, ended_by, boxes, front_marks, shown_column, column_of, threads_of, columns, notes, picture, timeline_text}
 use Rattle.run_views.specs.inner.Seen.{seen, threads_in}
-use Rattle.run_views.proofs.Endings.{most_steps}
+use Rattle.run_views.proofs.Endings.{same_order, same_end, most_steps}
 use Rattle.run_views.proofs.SeenSteps.{child_written}
 
 -- a subthread without its actions
@@ -151,12 +151,14 @@ module _ (program : Program) (inputs : Inputs) (limits : Limits) (run : PlainRun
         → picture traced heads tells (map seen run.order) run.end made ≡ timeline_text program inputs limits faults trace
     unfolding timeline_text
     picture-shown heads same trace traced is_traced tells tell =
-        let run_is = order program inputs limits in
+        let run_is = plain_order program inputs limits in
         let told : tells ≡ told_of trace = λ i p attempt. tell p attempt i in
-        let all : made ≡ restarts_of run_is faults = made_is ∙ ap (λ d. restarts d faults) (ap dependence_by is.order ∙ order-is run_is) in
+        let all : made ≡ restarts_of run_is faults = made_is ∙ ap (λ d. restarts d faults) (ap dependence_by (same_order program inputs limits run is) ∙ order-is run_is) in
         ap₂ (λ b t. picture b heads t (map seen run.order) run.end made) is_traced told
         ∙ ap (λ h. picture (is_some trace) h (told_of trace) (map seen run.order) run.end made) same
-        ∙ ap (λ steps. picture (is_some trace) program.heads (told_of trace) (map seen steps) run.end made) is.order
-        ∙ ap (λ e. picture (is_some trace) program.heads (told_of trace) (map seen (map shown run_is)) e made) is.end
-        ∙ ap (picture (is_some trace) program.heads (told_of trace) (map seen (map shown run_is)) (end program inputs limits)) all
-        ∙ picture-seen program.heads (told_of trace) (restarts_of run_is faults) (is_some trace) run_is (end program inputs limits)
+        ∙ ap (λ steps. picture (is_some trace) program.heads (told_of trace) (map seen steps) run.end made)
+        (same_order program inputs limits run is)
+        ∙ ap (λ e. picture (is_some trace) program.heads (told_of trace) (map seen (map shown run_is)) e made)
+        (same_end program inputs limits run is)
+        ∙ ap (picture (is_some trace) program.heads (told_of trace) (map seen (map shown run_is)) (plain_end program inputs limits)) all
+        ∙ picture-seen program.heads (told_of trace) (restarts_of run_is faults) (is_some trace) run_is (plain_end program inputs limits)

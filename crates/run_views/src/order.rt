@@ -1,11 +1,13 @@
 // The text that shows the order of a run.
-ghost use Rattle.std.specs.Prelude.{◌≡◌, ◌≤◌, ◌++◌, codes, length, map, IfOk, OnOk};
+ghost use Rattle.std.specs.Prelude.{◌≡◌, ◌≤◌, ◌++◌, suc, codes, length, map, IfOk, OnOk};
 ghost use Rattle.task_ast.specs.View.{plain_program};
-ghost use Rattle.task_ast.specs.Plain.{order, last_state};
+ghost use Rattle.task_ast.specs.meaning.Run.{plain_before};
+ghost use Rattle.task_ast.specs.Plain.{order};
 ghost use Rattle.lock_checker.specs.Accepted.{program_of};
 ghost use Rattle.one_thread.specs.PlainRuns.{IsPlainRun};
 ghost use Rattle.restart_log.specs.meaning.Tail.{why_word};
 ghost use Rattle.run_views.specs.meaning.Order.{thread_text, sync_text, held_text, order_line, order_lines, end_line};
+ghost use Rattle.run_views.specs.meaning.Waits.{nexts_in};
 ghost use Rattle.run_views.specs.meaning.Deadlocks.{standing_text, deadlock_text};
 ghost use Rattle.run_views.specs.meaning.OrderText.{order_text};
 ghost use Rattle.run_views.specs.inner.Seen.{child_in, seen};
@@ -139,8 +141,8 @@ fn push_stand(
     subthreads: u32,
 ) -> Result<(), AllocError>
     requires { subthreads ≡ length (order (plain_program (program_of c.now)) inputs.now limits) }
-    ensures { let program = plain_program (program_of c.now) in let table = (last_state program inputs.now limits).table in OnOk result (text.new.items
-        ≡ text.old.items ++ standing_text program.heads table.owners (map (λ seat. seat.next) table.seats)) }
+    ensures { let program = plain_program (program_of c.now) in let last = plain_before program inputs.now limits (suc limits.subthreads) in OnOk result (text.new.items
+        ≡ text.old.items ++ standing_text program.heads last.owners (nexts_in last)) }
 {
     match stand_before(alloc, c, inputs, limits, subthreads)? {
         Some(standing) => push_standing(alloc, text, c.program().heads.as_slice(), &standing),
@@ -167,7 +169,7 @@ fn push_deadlock(
 ) -> Result<(), AllocError>
     requires { IsPlainRun (plain_program (program_of c.now)) inputs.now limits run.now }
     ensures { let program = plain_program (program_of c.now) in OnOk result (text.new.items
-        ≡ text.old.items ++ deadlock_text program.heads (last_state program inputs.now limits).table run.now.end) }
+        ≡ text.old.items ++ deadlock_text program.heads (plain_before program inputs.now limits (suc limits.subthreads)) run.now.end) }
 {
     match run.end {
         End::Stuck {

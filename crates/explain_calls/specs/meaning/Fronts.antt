@@ -5,9 +5,7 @@ use Rattle.gp_base.specs.declared.ending.End.TheVariants.{Finished, Stuck, Spent
 use Rattle.gp_base.specs.declared.feed.Inputs.{Inputs}
 use Rattle.gp_base.specs.declared.limits.Limits.{Limits}
 use Rattle.task_ast.specs.meaning.Tree.{Program}
-use Rattle.task_ast.specs.Table.{Table}
-use Rattle.task_ast.specs.Plain.{order, end}
-use Rattle.task_ast.specs.Position.{before}
+use Rattle.task_ast.specs.meaning.Run.{Run, plain_order, plain_before, plain_end}
 use Rattle.restart_log.specs.meaning.Tail.{why_word}
 use Rattle.call_cases.specs.meaning.Work.{ToDo, Case, Refused, Go}
 use Rattle.run_views.specs.meaning.Deadlocks.{deadlock_text}
@@ -21,12 +19,12 @@ ending_line (Spent position) = codes "spent " ++ decimal position ++ codes "\n"
 
 module _ (program : Program) (inputs : Inputs) (limits : Limits) where
   -- where the threads stand after the last subthread
-  abbrev pub last_table : Table
-  last_table = (before program inputs limits (length (order program inputs limits))).table
+  abbrev pub last_run : Run
+  last_run = plain_before program inputs limits (length (plain_order program inputs limits))
 
   -- the front of what is told of a run: how it ends and, where no thread can go on, what each waits for and who stands at barriers
   unfoldable pub front : List ℕ
-  front = ending_line (end program inputs limits) ++ deadlock_text program.heads last_table (end program inputs limits)
+  front = ending_line (plain_end program inputs limits) ++ deadlock_text program.heads last_run (plain_end program inputs limits)
 
 -- what is told of words of no command, and of a file that could not be read
 abbrev pub IsHint : List ℕ → Type 0

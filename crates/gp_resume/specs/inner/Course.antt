@@ -10,7 +10,9 @@ use Rattle.task_ast.specs.Reached.{Reached}
 use Rattle.task_ast.specs.meaning.Repeat.{Goes, Ends}
 use Rattle.task_ast.specs.laws.Ends.{IsWhole}
 use Rattle.task_ast.specs.laws.Following.{InStep}
+use Rattle.task_ast.specs.laws.Runs.{plain_for, IsInside}
 use Rattle.task_ast.specs.meaning.Plain.{Subthread}
+use Rattle.task_ast.specs.meaning.Run.{Run}
 use Rattle.task_ast.specs.Plain.{Plain, PlainOf, tree_machine, move}
 use Rattle.task_ast.specs.Position.{from_in, body_by}
 use Rattle.lock_checker.specs.Soundness.{LocksStand}
@@ -71,6 +73,11 @@ module _ (plan : Plan) where
     pub home : IsHome course.ring.table course.store
     pub numbered : AreNumbered course.spots.items
     pub issued : course.issued ≡ x.table.issued
+
+  -- the course stands where this run on the tree does
+  pub record StandsAt (x : Run) (course : Course) : Type 0 where
+    pub inside : IsInside x
+    pub stands : Stands (plain_for (program_of plan.work.now) plan.limits x) course
 
   -- It stood where the run x does, and this subthread begins: with it the run comes to y. The data are still those before it. Once its
   -- thread is left where the body of the subthread leads, the course stands where y does, but for the data.

@@ -13,7 +13,7 @@ use Rattle.subthread.specs.Tasks.{program_in}
 use Rattle.gp_resume.specs.declared.course.Plan.{Plan}
 use Rattle.gp_resume.specs.declared.course.Course.{Course}
 use Rattle.gp_resume.specs.declared.log.Logged.{Logged}
-use Rattle.gp_resume.specs.inner.Course.{IsHome, Stands}
+use Rattle.gp_resume.specs.inner.Course.{IsHome, StandsAt}
 use Rattle.gp_resume.specs.inner.Flights.{StandsPast}
 use Rattle.gp_resume.specs.meaning.Fitting.{resumed_at}
 use Rattle.gp_resume.specs.meaning.Reading.{BeginsWith, IsLogOf}
@@ -60,7 +60,7 @@ pub record HasReplayed (plan : Plan) (log rest : List ℕ) (logged : Logged) (co
   pub begins : BeginsWith (program_in plan.work.now) plan.inputs.value plan.limits log rows rest
   pub count : logged.rows ≡ length rows
   pub bytes : logged.bytes ≡ bytes_before rows
-  pub stands : Stands plan (resumed_at (program_in plan.work.now) plan.inputs.value plan.limits rows) course
+  pub stands : StandsAt plan (resumed_at (program_in plan.work.now) plan.inputs.value plan.limits rows) course
 
 -- The log has rows, which fit: these are so many, with so many bytes of the text, and the course stands where they leave the run.
 pub record Replays (plan : Plan) (log : List ℕ) (logged : Logged) (course : Course) : Type 0 where
@@ -68,4 +68,4 @@ pub record Replays (plan : Plan) (log : List ℕ) (logged : Logged) (course : Co
   pub is_log : IsLogOf (program_in plan.work.now) plan.inputs.value plan.limits log rows
   pub count : logged.rows ≡ length rows
   pub bytes : logged.bytes ≡ bytes_before rows
-  pub stands : Stands plan (resumed_at (program_in plan.work.now) plan.inputs.value plan.limits rows) course
+  pub stands : StandsAt plan (resumed_at (program_in plan.work.now) plan.inputs.value plan.limits rows) course

@@ -17,4 +17,4 @@ pub record FitsBegun (plan : Plan) (begun : Begun) (course : Course) (row : Reti
   pub after : Plain
   pub earlier : Option Retirement
   pub begins : Begins plan before subthread after begun course
-  pub fits : FitsIssue (program_in plan.work.now) before subthread earlier row
+  pub fits : FitsIssue (program_in plan.work.now) before.table.issued before.state subthread earlier row

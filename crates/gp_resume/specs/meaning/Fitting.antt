@@ -10,13 +10,13 @@ use Rattle.task_ast.specs.declared.sync.SyncOp.TheVariants as sync
 use Rattle.task_ast.specs.declared.effect.Effect.{Effect}
 use Rattle.task_ast.specs.meaning.Tree.{Program}
 use Rattle.task_ast.specs.meaning.Names.{natural, registers_of}
-use Rattle.task_ast.specs.meaning.State.{RegistersOf}
+use Rattle.task_ast.specs.meaning.State.{State, RegistersOf}
 use Rattle.task_ast.specs.meaning.Effect.{after}
 use Rattle.task_ast.specs.meaning.Layout.{layout}
 use Rattle.task_ast.specs.meaning.Under.{is_under}
 use Rattle.task_ast.specs.meaning.Repeat.{Move, Goes, Ends}
 use Rattle.task_ast.specs.meaning.Plain.{Subthread, task_at}
-use Rattle.task_ast.specs.Plain.{Plain, opening, move}
+use Rattle.task_ast.specs.meaning.Run.{Run, plain_opening, plain_move}
 use Rattle.retirement_log.specs.meaning.Rows.{Retirement}
 
 -- the cells that a row names, each with its value
@@ -46,44 +46,45 @@ abbrev pub least_bytes : (before : Option Retirement) → ℤ
 least_bytes None = pos (length (codes "output\n"))
 least_bytes (Some row) = row.bytes
 
--- a row may be that of this subthread, which is the next one of a run that stands so
-pub record FitsIssue (program : Program) (x : Plain) (s : Subthread) (before : Option Retirement) (row : Retirement) : Type 0 where
-  pub position : row.position ≡ pos x.table.issued
-  pub registers : length row.regs ≡ length (x.state (RegistersOf s.thread))
+-- a row may be that of this subthread, which comes after so many and finds these data
+pub record FitsIssue (program : Program) (issued : ℕ) (state : State) (s : Subthread) (before : Option Retirement)
+    (row : Retirement) : Type 0 where
+  pub position : row.position ≡ pos issued
+  pub registers : length row.regs ≡ length (state (RegistersOf s.thread))
   pub child : length row.child ≡ child_size program s.begins.sync
   pub cells_held : All (λ (cell : ℤ × ℤ). StandsUnder (layout program.heads).under s.held cell.0) row.cells
   pub cells_rise : IsTrue (is_sorted nat_cmp (writes_in row))
   pub bytes : least_bytes before ≤ℤ row.bytes
 
 -- a row may be that of the subthread with which the run goes on; none is where it has ended
-abbrev pub FitsMove : Program → Plain → Move Plain Subthread End → (before : Option Retirement) → Retirement → Type 0
-FitsMove program x (Goes s y) before row = FitsIssue program x s before row
+abbrev pub FitsMove : Program → Run → Move Run Subthread End → (before : Option Retirement) → Retirement → Type 0
+FitsMove program x (Goes s y) before row = FitsIssue program x.issued x.state s before row
 FitsMove program x (Ends end) before row = ⊥
 
 -- the run after a row: it stands where the move leads, but for the data, which are what the row says
-abbrev pub led_by : Plain → Retirement → Move Plain Subthread End → Plain
+abbrev pub led_by : Run → Retirement → Move Run Subthread End → Run
 led_by x row (Goes s y) = record y { state = after (left_by row s.thread s.child) x.state }
 led_by x row (Ends end) = x
 
 module _ (program : Program) (inputs : Inputs) (limits : Limits) where
   -- the run after one row
-  abbrev pub replayed : Plain → Retirement → Plain
-  replayed x row = led_by x row (move program inputs limits x)
+  abbrev pub replayed : Run → Retirement → Run
+  replayed x row = led_by x row (plain_move program inputs limits x)
 
   -- the run after these rows
-  abbrev pub run_after : Plain → List Retirement → Plain
+  abbrev pub run_after : Run → List Retirement → Run
   run_after x [] = x
   run_after x (row ∷ rows) = run_after (replayed x row) rows
 
   -- each row fits after those before it
-  abbrev pub FitFrom : Plain → (before : Option Retirement) → List Retirement → Type 0
+  abbrev pub FitFrom : Run → (before : Option Retirement) → List Retirement → Type 0
   FitFrom x before [] = ⊤
-  FitFrom x before (row ∷ rows) = FitsMove program x (move program inputs limits x) before row × FitFrom (replayed x row) (Some row) rows
+  FitFrom x before (row ∷ rows) = FitsMove program x (plain_move program inputs limits x) before row × FitFrom (replayed x row) (Some row) rows
 
   -- the rows fit from the start of the run on
   abbrev pub Fit : List Retirement → Type 0
-  Fit rows = FitFrom (opening program inputs limits) None rows
+  Fit rows = FitFrom (plain_opening program inputs limits) None rows
 
   -- the run that the rows leave
-  abbrev pub resumed_at : List Retirement → Plain
-  resumed_at rows = run_after (opening program inputs limits) rows
+  abbrev pub resumed_at : List Retirement → Run
+  resumed_at rows = run_after (plain_opening program inputs limits) rows

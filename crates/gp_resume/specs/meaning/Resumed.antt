@@ -10,7 +10,7 @@ use Rattle.task_ast.specs.meaning.Repeat.{steps, state_after}
 use Rattle.task_ast.specs.meaning.Table.{numbers}
 use Rattle.task_ast.specs.meaning.Layout.{cut}
 use Rattle.task_ast.specs.meaning.Plain.{Subthread, ending_of}
-use Rattle.task_ast.specs.Plain.{Plain, move}
+use Rattle.task_ast.specs.meaning.Run.{Run, plain_move}
 use Rattle.restart_log.specs.meaning.Lines.{printed}
 use Rattle.restart_log.specs.meaning.Tail.{tail_text}
 use Rattle.retirement_log.specs.meaning.Rows.{Retirement}
@@ -36,7 +36,7 @@ bytes_before rows = bytes_from (pos 0) rows
 
 module _ (program : Program) (inputs : Inputs) (limits : Limits) (rows : List Retirement) where
   -- where the run goes on
-  abbrev pub start : Plain
+  abbrev pub start : Run
   start = resumed_at program inputs limits rows
 
   -- how many steps there are at most; one more than the limit leaves finds the end
@@ -45,15 +45,15 @@ module _ (program : Program) (inputs : Inputs) (limits : Limits) (rows : List Re
 
   -- the subthreads that are still to come
   abbrev pub rest : List Subthread
-  rest = steps (move program inputs limits) steps_left start
+  rest = steps (plain_move program inputs limits) steps_left start
 
   -- where the run has ended
-  abbrev pub last : Plain
-  last = state_after (move program inputs limits) steps_left start
+  abbrev pub last : Run
+  last = state_after (plain_move program inputs limits) steps_left start
 
   -- how it ends
   abbrev pub end : End
-  end = ending_of (move program inputs limits last)
+  end = ending_of (plain_move program inputs limits last)
 
   -- the cells of all records at the end
   abbrev pub final_records : List ℤ

@@ -1,5 +1,5 @@
 -- What the order ends with where no thread can go on: who waits for what, and the barriers at which threads stand.
-use Rattle.std.specs.Prelude.{ℕ, suc, cond, nat_eq, List, [], ◌∷◌, ◌++◌, Option, length, map, flat_map, codes, decimal}
+use Rattle.std.specs.Prelude.{ℕ, suc, cond, nat_eq, List, [], ◌∷◌, ◌++◌, Option, length, flat_map, codes, decimal}
 use Rattle.gp_base.specs.declared.ending.End.{End}
 use Rattle.gp_base.specs.declared.ending.End.TheVariants.{Stuck}
 use Rattle.gp_base.specs.declared.ending.Why.TheVariants as why
@@ -8,8 +8,8 @@ use Rattle.task_ast.specs.declared.tree.Head.{Head}
 use Rattle.task_ast.specs.meaning.Tree.{Name}
 use Rattle.task_ast.specs.meaning.Names.{barriers_of}
 use Rattle.task_ast.specs.meaning.Table.{meets}
-use Rattle.task_ast.specs.Table.{Table}
-use Rattle.run_views.specs.meaning.Waits.{waits_text}
+use Rattle.task_ast.specs.meaning.Run.{Run}
+use Rattle.run_views.specs.meaning.Waits.{nexts_in, waits_text}
 
 -- those of threads that stand at a barrier, where the first of them has this number
 abbrev pub threads_at : (barrier thread : ℕ) → List (Option Next) → List ℕ
@@ -42,6 +42,6 @@ abbrev pub standing_text : List Head → (owners : List (Option ℕ)) → (nexts
 standing_text heads owners nexts = waits_text heads owners 0 nexts ++ barrier_lines (barriers_of heads) 0 nexts
 
 -- what is told behind the line of the end, of the threads as they stand then
-abbrev pub deadlock_text : List Head → Table → End → List ℕ
-deadlock_text heads table (Stuck why.Deadlock thread line) = standing_text heads table.owners (map (λ seat. seat.next) table.seats)
-deadlock_text heads table ending = []
+abbrev pub deadlock_text : List Head → Run → End → List ℕ
+deadlock_text heads x (Stuck why.Deadlock thread line) = standing_text heads x.owners (nexts_in x)
+deadlock_text heads x ending = []

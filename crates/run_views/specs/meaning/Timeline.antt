@@ -15,7 +15,7 @@ use Rattle.task_ast.specs.declared.tree.Head.{Head}
 use Rattle.task_ast.specs.meaning.Names.{locks_of, barriers_of}
 use Rattle.task_ast.specs.meaning.Tree.{Program}
 use Rattle.task_ast.specs.meaning.Plain.{Subthread}
-use Rattle.task_ast.specs.Plain.{order, end}
+use Rattle.task_ast.specs.meaning.Run.{plain_order, plain_end}
 use Rattle.dependence.specs.meaning.Dependents.{is_member}
 use Rattle.dependence.specs.meaning.Restarts.{redoes, attempt_of}
 use Rattle.dependence.specs.meaning.Runs.{restarts_of}
@@ -355,5 +355,5 @@ picture traced heads tells run ending restarts =
 -- the picture of a program's run with these faults, and with what a trace tells of it, where there is one
 unfoldable pub timeline_text : Program → Inputs → Limits → List Fault → Option (List TraceLine) → List ℕ
 timeline_text program inputs limits faults trace =
-    let run = order program inputs limits in
-    picture (is_some trace) program.heads (told_of trace) run (end program inputs limits) (restarts_of run faults)
+    let run = plain_order program inputs limits in
+    picture (is_some trace) program.heads (told_of trace) run (plain_end program inputs limits) (restarts_of run faults)

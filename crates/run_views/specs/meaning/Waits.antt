@@ -1,5 +1,5 @@
 -- Who waits for what where no thread can go on: a line for each thread that has not ended.
-use Rattle.std.specs.Prelude.{ℕ, suc, ◌==◌, List, [], ◌∷◌, ◌++◌, Option, Some, None, codes, decimal, if◌then◌else◌, unwrap_or, slice_get}
+use Rattle.std.specs.Prelude.{ℕ, suc, ◌==◌, List, [], ◌∷◌, ◌++◌, Option, Some, None, map, codes, decimal, if◌then◌else◌, unwrap_or, slice_get}
 use Rattle.std.specs.Fmt.{signed_decimal}
 use Rattle.task_ast.specs.declared.sync.SyncOp.{SyncOp}
 use Rattle.task_ast.specs.declared.sync.SyncOp.TheVariants as sync
@@ -7,7 +7,12 @@ use Rattle.task_ast.specs.declared.sync.Next.{Next}
 use Rattle.task_ast.specs.declared.tree.Head.{Head}
 use Rattle.task_ast.specs.meaning.Names.{locks_of, barriers_of}
 use Rattle.task_ast.specs.meaning.Table.{is_end}
+use Rattle.task_ast.specs.meaning.Run.{Thread, Run}
 use Rattle.run_views.specs.meaning.Order.{cell_name, barrier_name}
+
+-- what comes next in each thread of a run
+abbrev pub nexts_in : Run → List (Option Next)
+nexts_in x = map (λ (th : Thread). Some th.next) x.threads
 
 abbrev pub other_text : (thread : ℕ) → List ℕ
 other_text u = codes " of thread " ++ decimal u

@@ -10,7 +10,7 @@ use Rattle.task_ast.specs.declared.tree.Head.{Head}
 use Rattle.task_ast.specs.meaning.Tree.{Program}
 use Rattle.task_ast.specs.meaning.Names.{records_of, cells_in}
 use Rattle.task_ast.specs.meaning.Plain.{Subthread}
-use Rattle.task_ast.specs.Plain.{order}
+use Rattle.task_ast.specs.meaning.Run.{plain_order}
 use Rattle.dependence.specs.meaning.Restarts.{redoes, attempt_of}
 use Rattle.dependence.specs.meaning.Runs.{restarts_of}
 use Rattle.run_views.specs.declared.links.Link.{Link}
@@ -77,5 +77,5 @@ why_lines heads parties restarts p s = order_line heads p s ++ restart_texts hea
 -- why position p of a program's run was redone with these faults, where there is such a position
 unfoldable pub why_text : Program → Inputs → Limits → List Fault → (p : ℕ) → Option (List ℕ)
 why_text program inputs limits faults p =
-    let run = order program inputs limits in
+    let run = plain_order program inputs limits in
     option_map (why_lines program.heads (map party_of run) (restarts_of run faults) p) (slice_get run p)

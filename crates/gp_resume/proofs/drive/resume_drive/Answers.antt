@@ -70,6 +70,11 @@ text_bytes-requires g c =
           c.in_ok-course.logged c.in_ok-course.course (replays g at);
     }
 
+pub report_of-requires : goal.report_of-requires
+report_of-requires g c =
+    let at = (goal.at.report_of-requires g c).In_ok-course in
+    record { home = (c.in_ok-end.ensures.end _ (replays g at).stands.stands).home.home }
+
 pub returns-clause-unread : goal.returns-clause-unread
 returns-clause-unread g c none =
     let at = (goal.at.returns-clause-unread g c).In_ok-course in
