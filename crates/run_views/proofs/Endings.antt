@@ -1,8 +1,9 @@
 -- What stands where a run has ended.
-use Rattle.std.proofs.Common.{◌≡◌, ◌≤◌, ℕ, zero, suc, List, [], ◌∷◌, Some, length, map, refl, sym, ap, ap₂, ◌∙◌, arith}
+use Rattle.std.proofs.Common.{◌≡◌, ◌≤◌, ℕ, zero, suc, List, [], ◌∷◌, ◌++◌, Some, Result, Ok, Err, OnOk, length, map, refl, sym, ap, ap₂, ◌∙◌, arith}
 use Rattle.std.proofs.lemmas.List.{length-map}
 use Rattle.gp_base.specs.declared.feed.Inputs.{Inputs}
 use Rattle.gp_base.specs.declared.limits.Limits.{Limits}
+use Rattle.task_ast.specs.declared.tree.Head.{Head}
 use Rattle.task_ast.specs.meaning.Tree.{Program}
 use Rattle.task_ast.specs.meaning.Run.{Thread, Run, plain_order, plain_before, plain_end}
 use Rattle.task_ast.specs.Plain.{Plain, tree_machine, move, opening, order, last_state}
@@ -73,3 +74,22 @@ standing_at_end program inputs limits position standing is stands =
     ap₂ (standing_text program.heads) stands.owners stands.nexts
     ∙ (ap (λ (here : Plain). standing_text program.heads here.table.owners (map (λ seat. seat.next) here.table.seats)) there
     ∙ ap (standing_text program.heads last.owners) (nexts-are last.threads))
+
+-- so where it was told of the threads there, it was told of them at the end
+module _ (program : Program) (inputs : Inputs) (limits : Limits) (position : ℕ) (standing : Standing)
+    (is : position ≡ length (order program inputs limits))
+    (stands : Stands (before program inputs limits position).table (before program inputs limits position).points standing) where
+  told_then : (heads : List Head) → heads ≡ program.heads → (old now : List ℕ)
+      → now ≡ old ++ standing_text heads standing.owners.items standing.nexts.items
+      → now ≡ old ++ standing_text program.heads (plain_before program inputs limits (suc limits.subthreads)).owners
+      (nexts_in (plain_before program inputs limits (suc limits.subthreads)))
+  told_then heads same old now told =
+      told ∙ (ap (λ h. old ++ standing_text h standing.owners.items standing.nexts.items) same
+      ∙ ap (λ l. old ++ l) (standing_at_end program inputs limits position standing is stands))
+
+  pub told_at_end : {A E : Type 0} (result : Result A E) (heads : List Head) → heads ≡ program.heads → (old now : List ℕ)
+      → OnOk result (now ≡ old ++ standing_text heads standing.owners.items standing.nexts.items)
+      → OnOk result (now ≡ old ++ standing_text program.heads (plain_before program inputs limits (suc limits.subthreads)).owners
+      (nexts_in (plain_before program inputs limits (suc limits.subthreads))))
+  told_at_end (Ok value) heads same old now told = told_then heads same old now told
+  told_at_end (Err fault) heads same old now told = told

@@ -1,14 +1,12 @@
-use Rattle.std.proofs.Common.{◌<◌, ◌++◌, length, ap, subst, ◌∙◌, arith}
+use Rattle.std.proofs.Common.{◌<◌, length, ap, subst, ◌∙◌, arith}
 use Rattle.std.specs.Prelude.{MatchOption}
-use Rattle.std.proofs.lemmas.Result.{on_ok_weaker}
 use Rattle.task_ast.specs.declared.tree.Program.{Program}
 use Rattle.task_ast.specs.View.{plain_program}
 use Rattle.task_ast.specs.Plain.{order}
 use Rattle.task_ast.specs.Position.{before}
 use Rattle.lock_checker.specs.Accepted.{program_of}
 use Rattle.one_thread.specs.PlainRuns.{Stands}
-use Rattle.run_views.specs.meaning.Deadlocks.{standing_text}
-use Rattle.run_views.proofs.Endings.{standing_at_end}
+use Rattle.run_views.proofs.Endings.{told_at_end}
 use Rattle.run_views.proofs.order.push_stand.Goals as goal
 
 pub returns-in-Some : goal.returns-in-Some
@@ -20,11 +18,8 @@ returns-in-Some c =
     subst (λ o. MatchOption o (length (order program c.args.inputs.now c.args.limits) < c.args.subthreads) (Stands here.table here.points))
     c.in-Some.is c.in_ok-standing.ensures in
     let heads = c.as_slice.ensures ∙ ap (λ (p : Program). p.heads) c.program.ensures in
-    on_ok_weaker c.push_standing.result
-    (λ told. told ∙ ap (λ h. c.args.text.now.items ++ standing_text h there.owners.items there.nexts.items) heads
-    ∙ ap (λ l. c.args.text.now.items ++ l)
-    (standing_at_end program c.args.inputs.now c.args.limits c.args.subthreads there c.requires stands))
-    c.push_standing.ensures
+    told_at_end program c.args.inputs.now c.args.limits c.args.subthreads there c.requires stands c.push_standing.result
+    c.as_slice.result.now heads c.args.text.now.items c.push_standing.new.text.items c.push_standing.ensures
 
 pub returns-in-None : goal.returns-in-None
 returns-in-None c =
