@@ -15,7 +15,7 @@ use Rattle.call_cases.specs.meaning.RunCommands as run
 use Rattle.call_cases.specs.meaning.RunCommands.{MayRead}
 use Rattle.call_cases.specs.meaning.Case.{IsCaseOf, no_program, of_text, IsCase}
 use Rattle.call_cases.specs.Decided.{case_of}
-use Rattle.call_cases.specs.Refusals.{AnswersCase, RefusesCase, RefusesShelf}
+use Rattle.call_cases.specs.Refusals.{AnswersCase, RefusesCase, RefusesShelf, RefusesWords}
 use Rattle.call_cases.proofs.Answering.{answers_map, asked_case}
 use Rattle.explain_calls.specs.Endings.{IsOrShort, KeepsFor, LeavesShelf}
 use Rattle.explain_calls.specs.meaning.Commands.{asking, explained_by}
@@ -75,3 +75,8 @@ pub refused_or_short : (told : Option Files) (Is : Files → Case ToDo → Type 
 refused_or_short None Is refusal other either is = tt
 refused_or_short (Some files) Is refusal other (inl same) is = subst (RefusesCase (Is files)) (sym same) is
 refused_or_short (Some files) Is refusal other (inr short) is = subst (RefusesCase (Is files)) (sym short) tt
+
+-- that of words of no command is one of the refusals of these
+pub refused_words : (refusal : Refusal) → IsOrShort RefusedUsage refusal → RefusesWords refusal
+refused_words refusal (inl same) = subst RefusesWords (sym same) tt
+refused_words refusal (inr short) = subst RefusesWords (sym short) tt
