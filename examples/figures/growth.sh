@@ -1,6 +1,6 @@
 #!/usr/bin/env bash
 # growth.sh [ROW ..]: how the time of a run grows with its batch, where more and more threads have ended or wait. Each row (these
-# names, or all: ended, after, meeting, waiting) is run at half of its size and at its size, as `run --crew one` and as `one`. A row has the
+# names, or all: ended, after, between, meeting, waiting) is run at half of its size and at its size, as `run --crew one` and as `one`. A row has the
 # size, the milliseconds of both by user and system time less those of an empty batch, the best of five runs, and the second over the first: 2 is linear.
 # The program has to be built; GPRS names another one.
 set -eu
@@ -29,6 +29,15 @@ ended() {
 after() {
     echo 'lock gate[1]; barrier last(2); task end() { } task stay() { barrier last; } task main() { var w;'
     echo "  while w < $1 { w = w + 1; fork end(); }"
+    echo '  fork stay();'
+    work $(($1 * 20))
+    echo '  barrier last; }'
+}
+
+# The same with such a thread before the ended ones too, so that they stand between two that live.
+between() {
+    echo 'lock gate[1]; barrier last(3); task end() { } task stay() { barrier last; } task main() { var w;'
+    echo "  fork stay(); while w < $1 { w = w + 1; fork end(); }"
     echo '  fork stay();'
     work $(($1 * 20))
     echo '  barrier last; }'
@@ -83,13 +92,14 @@ row() {
 }
 
 echo 'task main() { }' >empty.gp
-[ $# -gt 0 ] || set -- ended after meeting waiting
+[ $# -gt 0 ] || set -- ended after between meeting waiting
 echo '| batch, size | run --crew one | growth | one | growth |'
 echo '|---|---|---|---|---|'
 for name in "$@"; do
     case "$name" in
         ended) row ended 4000 ;;
         after) row after 4000 ;;
+        between) row between 4000 ;;
         meeting) row meeting 4095 ;;
         waiting) row waiting 1000 ;;
         *) echo "$0: no row $name" >&2; exit 1 ;;
