@@ -27,8 +27,8 @@ returns-in_ok-push_stuck_details-in-Stuck c =
     let heads : c.as_slice-heads.result.now ≡ (program_in c.args.request.now).heads = search rules in
     let ending = c.in_ok-push_ending.ensures ∙ ap (λ xs. xs ++ ending_line c.args.run.now.end) c.new-text.ensures.items in
     let stands =
-    stands-last work.program work.inputs work.limits c.len-in-Stuck.result c.in_ok-standing-in-Stuck.standing
-    (c.len-in-Stuck.ensures ∙ ap length c.requires.order ∙ length-map (order work.program work.inputs work.limits) shown)
+    stands-last work.program work.inputs work.limits c.len.result c.in_ok-standing-in-Stuck.standing
+    (c.len.ensures ∙ ap length c.requires.order ∙ length-map (order work.program work.inputs work.limits) shown)
     c.in_ok-standing-in-Stuck.ensures in
     c.in_ok-push_stuck-in-Stuck.ensures last stands.0 stands.1
     ∙ ap (λ hs. c.push_ending.new.text.items ++ deadlock_text hs last c.args.run.now.end) heads
