@@ -12,6 +12,7 @@ mod threads;
 mod top;
 mod unread;
 mod usage;
+mod uses;
 mod words;
 
 pub use top::explain_run;

@@ -4,16 +4,16 @@ ghost use Rattle.gp_base.specs.declared.limits.TheConstants.{MOST_FILE_BYTES, MO
 ghost use Rattle.task_parser.specs.meaning.Lexing.{lexed};
 ghost use Rattle.task_parser.specs.Lexing.{AreTokensOf};
 
+use crate::uses::use_of;
 use batch_files::FileKind;
 use gp_base::limits::MOST_FILE_BYTES;
 use gp_base::{Name, Seq, Shelf, Text};
 use lock_checker::{CheckFault, check};
 use refusal_texts::{
-    FileUse, push_check_refusal, push_file_refusal, push_lex_refusal, push_long_file,
-    push_parse_refusal,
+    push_check_refusal, push_file_refusal, push_lex_refusal, push_long_file, push_parse_refusal,
 };
 use std::alloc::{AllocError, Global};
-use task_ast::{CheckKind, Head, Program, natural};
+use task_ast::{CheckKind, Program};
 use task_parser::{LexFault, Token, lex, parse};
 
 /// What is told of a program that is longer than one may be.
@@ -125,32 +125,6 @@ fn kind_of(kind: u32) -> Option<FileKind> {
     }
 }
 
-// What a program has the file of this name for: a record, a feed, or, where it does not name it, faults.
-fn use_of<'a>(heads: &'a [Head], file: &[u8]) -> FileUse<'a> {
-    for head in heads {
-        match head {
-            Head::RecHead {
-                name,
-                size,
-                from: Some(from),
-                ..
-            } if from.as_slice() == file => {
-                return FileUse::Record {
-                    name,
-                    size: natural(*size),
-                };
-            }
-            Head::FeedHead { fields, from, .. } if from.as_slice() == file => {
-                return FileUse::Feed {
-                    fields: natural(*fields),
-                };
-            }
-            _ => {}
-        }
-    }
-    FileUse::Faults
-}
-
 /// The program of a text, where there is one.
 pub fn program_of(alloc: Global, text: &[u8]) -> Option<Program>
     requires { length text.now ≤ MOST_PROGRAM_BYTES }
@@ -179,8 +153,11 @@ fn push_input(
     let (kind, row) = parts;
     match program_of(alloc, text.as_slice()) {
         Some(program) => {
-            let used = use_of(program.heads.as_slice(), name.as_slice());
-            push_file_refusal(alloc, told, name, bytes, used, kind, row)
+            let heads = program.heads.as_slice();
+            match use_of(alloc, heads, name.as_slice(), bytes.as_slice(), parts) {
+                Some(used) => push_file_refusal(alloc, told, name, bytes, used, kind, row),
+                None => Err(AllocError),
+            }
         }
         None => Err(AllocError),
     }

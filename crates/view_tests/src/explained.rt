@@ -713,7 +713,34 @@ const DELAY_TOLD: &str = "moves.csv:1: field 3: 65 is no delay, 0 to 64 (kind 3 
 1,0,65,1
 ";
 
-const REFUSED: [Row; 8] = [
+// One file at two places: the first takes its row, and the second refuses it.
+const TWO_RECORDS: &str = "lock l[4];
+lock m[2];
+record x[4] by l from \"moves.csv\";
+record y[2] by m from \"moves.csv\";
+task main() { }
+";
+
+const SECOND_RECORD_TOLD: &str =
+    "moves.csv:1: field 1: 2 is no index of y, which has 2 cells, 0 to 1 (kind 3 row 1)
+2,7
+";
+
+const RECORD_AND_FEED: &str = "lock l[2];
+record acct[2] by l from \"moves.csv\";
+feed moves[3] from \"moves.csv\";
+task main() { }
+";
+
+const FEED_AFTER_TOLD: &str = "moves.csv:1: 2 fields, and not 3 (kind 1 row 1)
+1,7
+";
+
+const FAULTS_AFTER_TOLD: &str = "moves.csv:1: 2 fields, and not 4 (kind 1 row 1)
+1,7
+";
+
+const REFUSED: [Row; 11] = [
     (
         "explain p.gp",
         DECIMAL,
@@ -777,6 +804,30 @@ const REFUSED: [Row; 8] = [
         4,
         DELAY_TOLD,
         "gprs_view: input moves.csv kind 3 row 1\n",
+    ),
+    (
+        "explain p.gp",
+        TWO_RECORDS,
+        "2,7\n",
+        4,
+        SECOND_RECORD_TOLD,
+        "gprs_view: input moves.csv kind 3 row 1\n",
+    ),
+    (
+        "explain p.gp",
+        RECORD_AND_FEED,
+        "1,7\n",
+        4,
+        FEED_AFTER_TOLD,
+        "gprs_view: input moves.csv kind 1 row 1\n",
+    ),
+    (
+        "explain p.gp --faults moves.csv",
+        FEED,
+        "1,7\n",
+        4,
+        FAULTS_AFTER_TOLD,
+        "gprs_view: input moves.csv kind 1 row 1\n",
     ),
 ];
 
