@@ -102,18 +102,21 @@ pub fn push_stuck_details(
     }
 }
 
-// Appends how many of a thing are allowed, where that is more than was given, or else what to do.
+// Appends how many of a thing are allowed, and for what, where that is more than was given, or else what to do.
 fn push_limit(
     text: &mut Vec<u8>,
     option: &[u8],
     given: u64,
     most: u64,
+    of: &[u8],
     instead: &[u8],
 ) -> Result<(), AllocError> {
     text.extend_from_slice(b"hint: ")?;
     text.extend_from_slice(option)?;
     if given < most {
-        push_between(text, b" allows up to ", most, b"\n")
+        push_between(text, b" allows up to ", most, b", for ")?;
+        text.extend_from_slice(of)?;
+        text.extend_from_slice(b" that ends\n")
     } else {
         push_between(text, b" allows no more than ", most, b": ")?;
         text.extend_from_slice(instead)
@@ -147,6 +150,7 @@ fn push_turns(
         b"--turns",
         given,
         MOST_TURNS,
+        b"a loop",
         b"a long loop that ends is cut by a barrier of one\n",
     )
 }
@@ -203,6 +207,7 @@ fn push_subthreads(
         b"--subthreads",
         u64::from(given),
         u64::from(MOST_SUBTHREADS),
+        b"a batch",
         b"cut the batch into parts\n",
     )
 }

@@ -50,7 +50,10 @@ const CREWS: [&[u8]; 5] = [b"one", b"wave", b"board", b"steal", b"pipe"];
 // Why words are not taken: the first of them that is not, or what they lack.
 #[derive(Clone, Copy)]
 enum Untaken<'a> {
-    NoOption(&'a [u8]),
+    NoOption {
+        word: &'a [u8],
+        near: Option<&'static [u8]>,
+    },
     Trace,
     NoValue(&'a [u8]),
     Twice(&'a [u8]),
@@ -70,6 +73,23 @@ fn option_named(name: &[u8]) -> Option<Known> {
     for option in &options {
         if option.name == name {
             return Some(*option);
+        }
+    }
+    None
+}
+
+// How long a word has to be at least for an option to be told that is near to it.
+const SHORTEST_NEAR: usize = 4;
+
+// An option whose name begins with this one, or that begins this one.
+fn option_near(name: &[u8]) -> Option<&'static [u8]> {
+    if name.len() < SHORTEST_NEAR {
+        return None;
+    }
+    let options: [Known; 5] = OPTIONS;
+    for option in &options {
+        if option.name.starts_with(name) || name.starts_with(option.name) {
+            return Some(option.name);
         }
     }
     None
@@ -120,6 +140,19 @@ fn untaken_value<'a>(option: Known, value: &'a [u8]) -> Option<Untaken<'a>> {
     }
 }
 
+// Why a word that begins with a dash is no value of an option: it is a number below 0, or another option.
+fn untaken_dashed<'a>(option: Known, word: &'a [u8]) -> Untaken<'a> {
+    let is_negative = matches!(word.get(1), Some(byte) if byte.is_ascii_digit());
+    match option.value {
+        Value::Number(most) if is_negative => Untaken::NoNumber {
+            option: option.name,
+            value: word,
+            most,
+        },
+        _ => Untaken::NoValue(option.name),
+    }
+}
+
 // The words so far: whether a program was named, which options were given, and that whose value comes next.
 #[derive(Drop)]
 struct Read {
@@ -158,7 +191,10 @@ impl Read {
             return Ok(Some(Untaken::Trace));
         }
         let Some(option) = option_named(name) else {
-            return Ok(Some(Untaken::NoOption(word)));
+            return Ok(Some(Untaken::NoOption {
+                word,
+                near: option_near(name),
+            }));
         };
         if self.is_given(name) {
             return Ok(Some(Untaken::Twice(name)));
@@ -177,7 +213,7 @@ impl Read {
     fn word<'a>(&mut self, word: &'a [u8]) -> Result<Option<Untaken<'a>>, AllocError> {
         if let Some(option) = self.waiting {
             if is_option(word) {
-                return Ok(Some(Untaken::NoValue(option.name)));
+                return Ok(Some(untaken_dashed(option, word)));
             }
             self.waiting = None;
             return Ok(untaken_value(option, word));
@@ -240,7 +276,13 @@ fn push_word(
 fn push_untaken(text: &mut Vec<u8>, untaken: &Option<Untaken<'_>>) -> Result<(), AllocError> {
     match untaken {
         None => text.extend_from_slice(b"these words are not taken"),
-        Some(Untaken::NoOption(word)) => push_word(text, b"`", word, b"` is no option of explain"),
+        Some(Untaken::NoOption { word, near }) => {
+            push_word(text, b"`", word, b"` is no option of explain")?;
+            match near {
+                Some(near) => push_word(text, b", but `", near, b"` is"),
+                None => Ok(()),
+            }
+        }
         Some(Untaken::Trace) => text.extend_from_slice(
             b"`--trace` is no option of explain, which writes no trace",
         ),
@@ -281,7 +323,7 @@ pub fn usage_text(alloc: Global, words: &[String]) -> Result<Vec<u8>, AllocError
     let mut more = Vec::new(alloc);
     push_untaken(&mut more, &first_untaken(alloc, words)?)?;
     more.extend_from_slice(
-        b"\nhint: gprs_view explain PROGRAM [--faults FILE] [--turns N] [--subthreads N]\n",
+        b"\nhint: gprs_view explain PROGRAM [--faults FILE] [--turns N] [--subthreads N] [--crew CREW] [--workers N]\n",
     )?;
     let mut text = Vec::new(alloc);
     text.extend_from_slice(b"hint: ")?;

@@ -41,13 +41,13 @@ feed f[1] from \"/data/f.csv\";
 task main() { }
 ";
 
-const WORDS: [Row; 18] = [
+const WORDS: [Row; 19] = [
     (
         "explain p.gp --trace",
         EMPTY,
         "",
         2,
-        "hint: `--trace` is no option of explain, which writes no trace\nhint: gprs_view explain PROGRAM [--faults FILE] [--turns N] [--subthreads N]\n",
+        "hint: `--trace` is no option of explain, which writes no trace\nhint: gprs_view explain PROGRAM [--faults FILE] [--turns N] [--subthreads N] [--crew CREW] [--workers N]\n",
         USAGE,
     ),
     (
@@ -55,7 +55,7 @@ const WORDS: [Row; 18] = [
         EMPTY,
         "",
         2,
-        "hint: the name of a program is missing\nhint: gprs_view explain PROGRAM [--faults FILE] [--turns N] [--subthreads N]\n",
+        "hint: the name of a program is missing\nhint: gprs_view explain PROGRAM [--faults FILE] [--turns N] [--subthreads N] [--crew CREW] [--workers N]\n",
         USAGE,
     ),
     (
@@ -63,7 +63,7 @@ const WORDS: [Row; 18] = [
         EMPTY,
         "",
         2,
-        "hint: `--turns` takes a whole number from 1 to 10000000, and not `0`\nhint: gprs_view explain PROGRAM [--faults FILE] [--turns N] [--subthreads N]\n",
+        "hint: `--turns` takes a whole number from 1 to 10000000, and not `0`\nhint: gprs_view explain PROGRAM [--faults FILE] [--turns N] [--subthreads N] [--crew CREW] [--workers N]\n",
         USAGE,
     ),
     (
@@ -71,7 +71,7 @@ const WORDS: [Row; 18] = [
         EMPTY,
         "",
         2,
-        "hint: `q.gp` is one word too many: one program is explained\nhint: gprs_view explain PROGRAM [--faults FILE] [--turns N] [--subthreads N]\n",
+        "hint: `q.gp` is one word too many: one program is explained\nhint: gprs_view explain PROGRAM [--faults FILE] [--turns N] [--subthreads N] [--crew CREW] [--workers N]\n",
         USAGE,
     ),
     (
@@ -79,7 +79,7 @@ const WORDS: [Row; 18] = [
         EMPTY,
         "",
         2,
-        "hint: `--crew` takes one, wave, board, steal or pipe, and not `two`\nhint: gprs_view explain PROGRAM [--faults FILE] [--turns N] [--subthreads N]\n",
+        "hint: `--crew` takes one, wave, board, steal or pipe, and not `two`\nhint: gprs_view explain PROGRAM [--faults FILE] [--turns N] [--subthreads N] [--crew CREW] [--workers N]\n",
         USAGE,
     ),
     (
@@ -87,7 +87,7 @@ const WORDS: [Row; 18] = [
         EMPTY,
         "",
         2,
-        "hint: `--subthreads` takes a whole number from 1 to 200000, and not `500000`\nhint: gprs_view explain PROGRAM [--faults FILE] [--turns N] [--subthreads N]\n",
+        "hint: `--subthreads` takes a whole number from 1 to 200000, and not `500000`\nhint: gprs_view explain PROGRAM [--faults FILE] [--turns N] [--subthreads N] [--crew CREW] [--workers N]\n",
         USAGE,
     ),
     (
@@ -95,7 +95,7 @@ const WORDS: [Row; 18] = [
         EMPTY,
         "",
         2,
-        "hint: `--workers` takes a whole number from 1 to 64, and not `many`\nhint: gprs_view explain PROGRAM [--faults FILE] [--turns N] [--subthreads N]\n",
+        "hint: `--workers` takes a whole number from 1 to 64, and not `many`\nhint: gprs_view explain PROGRAM [--faults FILE] [--turns N] [--subthreads N] [--crew CREW] [--workers N]\n",
         USAGE,
     ),
     (
@@ -103,7 +103,7 @@ const WORDS: [Row; 18] = [
         EMPTY,
         "",
         2,
-        "hint: `--turns` has no value\nhint: gprs_view explain PROGRAM [--faults FILE] [--turns N] [--subthreads N]\n",
+        "hint: `--turns` has no value\nhint: gprs_view explain PROGRAM [--faults FILE] [--turns N] [--subthreads N] [--crew CREW] [--workers N]\n",
         USAGE,
     ),
     (
@@ -111,7 +111,7 @@ const WORDS: [Row; 18] = [
         EMPTY,
         "",
         2,
-        "hint: `--turns` has no value\nhint: gprs_view explain PROGRAM [--faults FILE] [--turns N] [--subthreads N]\n",
+        "hint: `--turns` takes a whole number from 1 to 10000000, and not `-5`\nhint: gprs_view explain PROGRAM [--faults FILE] [--turns N] [--subthreads N] [--crew CREW] [--workers N]\n",
         USAGE,
     ),
     (
@@ -119,7 +119,15 @@ const WORDS: [Row; 18] = [
         EMPTY,
         "",
         2,
-        "hint: `--trun` is no option of explain\nhint: gprs_view explain PROGRAM [--faults FILE] [--turns N] [--subthreads N]\n",
+        "hint: `--trun` is no option of explain\nhint: gprs_view explain PROGRAM [--faults FILE] [--turns N] [--subthreads N] [--crew CREW] [--workers N]\n",
+        USAGE,
+    ),
+    (
+        "explain p.gp --worker 5",
+        EMPTY,
+        "",
+        2,
+        "hint: `--worker` is no option of explain, but `--workers` is\nhint: gprs_view explain PROGRAM [--faults FILE] [--turns N] [--subthreads N] [--crew CREW] [--workers N]\n",
         USAGE,
     ),
     (
@@ -127,7 +135,7 @@ const WORDS: [Row; 18] = [
         EMPTY,
         "",
         2,
-        "hint: `-t` is no option of explain\nhint: gprs_view explain PROGRAM [--faults FILE] [--turns N] [--subthreads N]\n",
+        "hint: `-t` is no option of explain\nhint: gprs_view explain PROGRAM [--faults FILE] [--turns N] [--subthreads N] [--crew CREW] [--workers N]\n",
         USAGE,
     ),
     (
@@ -135,7 +143,7 @@ const WORDS: [Row; 18] = [
         EMPTY,
         "",
         2,
-        "hint: `--faults` stands twice\nhint: gprs_view explain PROGRAM [--faults FILE] [--turns N] [--subthreads N]\n",
+        "hint: `--faults` stands twice\nhint: gprs_view explain PROGRAM [--faults FILE] [--turns N] [--subthreads N] [--crew CREW] [--workers N]\n",
         USAGE,
     ),
     (
@@ -143,7 +151,7 @@ const WORDS: [Row; 18] = [
         EMPTY,
         "",
         2,
-        "hint: the name of a program is missing\nhint: gprs_view explain PROGRAM [--faults FILE] [--turns N] [--subthreads N]\n",
+        "hint: the name of a program is missing\nhint: gprs_view explain PROGRAM [--faults FILE] [--turns N] [--subthreads N] [--crew CREW] [--workers N]\n",
         USAGE,
     ),
     (
@@ -458,7 +466,7 @@ const LOOP: &str = "task main() { while 1 { } }";
 
 const LOOP_TOLD: &str = "spent 0
 thread 0 took 10 loop turns in one subthread, last at the loop in line 1
-hint: --turns allows up to 10000000
+hint: --turns allows up to 10000000, for a loop that ends
 1 subthread, 1 thread, 0 locks taken; at most 1 subthread side by side
 arithmetic: exact in every line that ran
 ";
@@ -475,7 +483,7 @@ const NESTED: &str = "task main() {
 const NESTED_TOLD: &str = "spent 0
 thread 0 took 10 loop turns in one subthread, last at the loop in line 5
 thread 0: i = 2
-hint: --turns allows up to 10000000
+hint: --turns allows up to 10000000, for a loop that ends
 1 subthread, 1 thread, 0 locks taken; at most 1 subthread side by side
 arithmetic: exact in every line that ran
 ";
@@ -489,7 +497,7 @@ task main() {
 
 const OTHER_TOLD: &str = "spent 2
 thread 1 took 3 loop turns in one subthread, last at the loop in line 1
-hint: --turns allows up to 10000000
+hint: --turns allows up to 10000000, for a loop that ends
 3 subthreads, 2 threads, 0 locks taken; at most 1 subthread side by side
 arithmetic: exact in every line that ran
 ";
@@ -505,7 +513,7 @@ task main() {
 
 const MANY_TOLD: &str = "spent 5
 5 subthreads were begun; thread 0 line 4 would begin one more
-hint: --subthreads allows up to 200000
+hint: --subthreads allows up to 200000, for a batch that ends
 5 subthreads, 1 thread, 2 locks taken; at most 1 subthread side by side
 arithmetic: exact in every line that ran
 ";
@@ -520,14 +528,14 @@ task main() {
 const BEGINS_TOLD: &str = "spent 2
 2 subthreads were begun; thread 1 would begin one more, at the beginning of task t
 thread 1: n = 7
-hint: --subthreads allows up to 200000
+hint: --subthreads allows up to 200000, for a batch that ends
 2 subthreads, 1 thread, 0 locks taken; at most 1 subthread side by side
 arithmetic: exact in every line that ran
 ";
 
 const FORKS_TOLD: &str = "spent 1
 1 subthread was begun; thread 0 line 3 would begin one more
-hint: --subthreads allows up to 200000
+hint: --subthreads allows up to 200000, for a batch that ends
 1 subthread, 1 thread, 0 locks taken; at most 1 subthread side by side
 arithmetic: exact in every line that ran
 ";
