@@ -2,6 +2,10 @@
 #![tactic(auto)]
 
 #[cfg(test)]
+mod calls;
+#[cfg(test)]
 mod explained;
+#[cfg(test)]
+mod refused;
 #[cfg(test)]
 mod views;

@@ -1,7 +1,8 @@
 // What no clause says: calls that succeed, with the texts as they are written.
-ghost use Rattle.std.specs.Prelude.{◌≡◌, ◌≤◌, ◌++◌, ◌∷◌, [], OnOk};
+ghost use Rattle.std.specs.Prelude.{◌≤◌};
 
-use gp_base::{MemShelf, MemSink, Name, Seq, Text};
+use crate::calls::{DEADLOCK, put, words_of};
+use gp_base::{MemShelf, MemSink, Seq};
 use std::alloc::{AllocError, Global};
 use std::test::Fail;
 use view_calls::view_run;
@@ -36,32 +37,6 @@ const ADDED: &str = "order
 9 thread 2 line 8 unlock tally[0] prints 0 holds
 10 thread 0 line 14 join 2 prints 0 holds
 end finished
-";
-
-// Each of two threads waits for a lock of the other.
-const DEADLOCK: &str = "lock x[2];
-lock y[2];
-task p() {
-  print 1;
-  lock x[1];
-  lock y[0];
-  lock y[1];
-  unlock y[1];
-  unlock y[0];
-  unlock x[1];
-}
-task q() {
-  print 2;
-  lock y[1];
-  lock x[1];
-  unlock x[1];
-  unlock y[1];
-}
-task main() {
-  fork p();
-  fork q();
-  join 1;
-}
 ";
 
 const STUCK: &str = "order
@@ -268,29 +243,6 @@ const USAGE: &str = "gprs_view: usage: order | why | timeline | explain\n";
 const UNNAMED: &str = "gprs_view: check 1 at line 1\n";
 
 const ABSENT: &str = "gprs_view: read fault q.gp\n";
-
-// The words between spaces.
-fn words_of(alloc: Global, text: &str) -> Result<Vec<String>, AllocError> {
-    let mut words = Vec::new(alloc);
-    for word in text.split(' ') {
-        words.push(String::from_str(alloc, word)?)?;
-    }
-    Ok(words)
-}
-
-// Puts a file of this name behind others.
-fn put(
-    alloc: Global,
-    files: &mut Seq<(Name, Text)>,
-    name: &[u8],
-    text: &[u8],
-) -> Result<(), AllocError>
-    ensures { OnOk result (files.new ≡ files.old ++ (name.now, text.now) ∷ []) }
-{
-    let name = Name::from_slice(alloc, name)?;
-    let text = Text::from_slice(alloc, text)?;
-    files.push((name, text))
-}
 
 // A shelf with this program, four lists of one fault each, and two traces.
 fn shelf_with(alloc: Global, program: &str) -> Result<MemShelf, AllocError> {
