@@ -3,7 +3,7 @@ use Rattle.std.proofs.Common.{◌≡◌, ℕ, ◌+◌, ◌<◌, true, false, Lis
 use Rattle.std.specs.Prelude.{is_some}
 use Rattle.std.proofs.lemmas.Bool.{false≢true}
 use Rattle.std.proofs.lemmas.List.{at_drop_more}
-use Rattle.task_ast.specs.meaning.Action.{Term, Action, Say, Choose, Arm, NoAction, OneAction}
+use Rattle.task_ast.specs.meaning.Action.{OfRegisters, Action, Say, Choose, Arm, NoAction, OneAction}
 use Rattle.task_ast.specs.meaning.Footprint.{naming, arm_naming}
 
 pub map_some : {A B : Type 0} (f : A → B) (o : Option A) → is_some (option_map f o) ≡ is_some o
@@ -28,20 +28,20 @@ not_arm_some None r is = refl
 not_arm_some (Some x) r is = absurd (false≢true (sym is))
 
 -- a choice between two arms
-abbrev pub chosen : Option Term → Option Arm → Option Arm → Option Action
+abbrev pub chosen : Option OfRegisters → Option Arm → Option Arm → Option Action
 chosen t a b = option_and_then (λ t. option_and_then (λ x. option_map (Choose t x) b) a) t
 
-pub chosen_some : (t : Option Term) (a b : Option Arm) → is_some t ≡ true → is_some a ≡ true → is_some b ≡ is_some (chosen t a b)
+pub chosen_some : (t : Option OfRegisters) (a b : Option Arm) → is_some t ≡ true → is_some a ≡ true → is_some b ≡ is_some (chosen t a b)
 chosen_some None a b is too = absurd (false≢true is)
 chosen_some (Some t) None b is too = absurd (false≢true too)
 chosen_some (Some t) (Some x) b is too = sym (map_some (Choose t x) b)
 
-pub not_chosen_some : (t : Option Term) (a b : Option Arm) → is_some t ≡ true → is_some a ≡ false → false ≡ is_some (chosen t a b)
+pub not_chosen_some : (t : Option OfRegisters) (a b : Option Arm) → is_some t ≡ true → is_some a ≡ false → false ≡ is_some (chosen t a b)
 not_chosen_some None a b is too = absurd (false≢true is)
 not_chosen_some (Some t) None b is too = refl
 not_chosen_some (Some t) (Some x) b is too = absurd (false≢true (sym too))
 
-pub say_some : (o : Option (List Term)) → is_some o ≡ is_some (option_map Say o)
+pub say_some : (o : Option (List OfRegisters)) → is_some o ≡ is_some (option_map Say o)
 say_some o = sym (map_some Say o)
 
 pub some_is : {A : Type 0} {x y : A} → Some x ≡ Some y → x ≡ y

@@ -11,7 +11,7 @@ use Rattle.task_ast.specs.declared.sync.SyncOp.{SyncOp}
 use Rattle.task_ast.specs.declared.effect.Effect.{Effect}
 use Rattle.task_ast.specs.meaning.Action.{Action, Set, Load, Store, Say, Choose, Child, Give, Bring, Arm, NoAction, OneAction}
 use Rattle.task_ast.specs.meaning.State.{State, RegistersOf, cell_value, number_at}
-use Rattle.task_ast.specs.meaning.Effect.{Doing, done, arm_done, all_done, term_value, joined_ret, effect}
+use Rattle.task_ast.specs.meaning.Effect.{Doing, done, arm_done, all_done, joined_ret, effect}
 use Rattle.task_ast.specs.laws.Keeps.{NamesOnly, ArmNamesOnly, AllName, WritesOnly, ArmWritesOnly, AllWrite, AgreeAt}
 
 picked_same : (v : ℤ) {a b c d : Doing} → a ≡ c → b ≡ d → branch v a b ≡ branch v c d
@@ -26,7 +26,7 @@ module _ (test : ℕ → Bool) (left right : ℕ → ℤ) (joined : ℤ) (agree 
     done_same (Load c k) d names = ap (λ v. done (λ x. v) joined (Load c k) d) (agree c names)
     done_same (Store c t) d names = refl
     done_same (Say ts) d names = refl
-    done_same (Choose t a b) d names = picked_same (term_value t d.registers) (arm_same a d names.0) (arm_same b d names.1)
+    done_same (Choose t a b) d names = picked_same (t d.registers) (arm_same a d names.0) (arm_same b d names.1)
     done_same (Child count) d names = refl
     done_same (Give k t) d names = refl
     done_same (Bring k) d names = refl
@@ -85,10 +85,10 @@ module _ (test : ℕ → Bool) (cells : ℕ → ℤ) (joined : ℤ) where
     done_within : (a : Action) (d : Doing) → WritesOnly test a → Within test d → Within test (done cells joined a d)
     done_within (Set k t) d names within = within
     done_within (Load c k) d names within = within
-    done_within (Store c t) d names within = stored_within test c (term_value t d.registers) d names within
+    done_within (Store c t) d names within = stored_within test c (t d.registers) d names within
     done_within (Say ts) d names within = within
     done_within (Choose t a b) d names within =
-        picked_within test (term_value t d.registers) (arm_done cells joined a d) (arm_done cells joined b d)
+        picked_within test (t d.registers) (arm_done cells joined a d) (arm_done cells joined b d)
         (arm_within a d names.0 within) (arm_within b d names.1 within)
     done_within (Child count) d names within = within
     done_within (Give k t) d names within = within

@@ -4,8 +4,7 @@ use Rattle.std.specs.Prelude.{ℤ}
 use Rattle.std.proofs.lemmas.Bool.{false≢true}
 use Rattle.task_ast.specs.declared.env.Env.{Env}
 use Rattle.task_ast.specs.meaning.Tree.{Name, Expr, Num, Ctl, Reg, Me, Rows, Cell, Neg, Not, Chain, Links, NoLinks, Link}
-use Rattle.task_ast.specs.meaning.Names.{named}
-use Rattle.task_ast.specs.meaning.Value.{operate_on, value, value_on, cell_in}
+use Rattle.task_ast.specs.meaning.Value.{operate_on, value, value_on}
 use Rattle.task_ast.specs.meaning.Declarations.{has_data, has_data_index, is_at_data, some_member, is_data_variable}
 
 pub or_false : (a b : Bool) → (a || b) ≡ false → (a ≡ false) × (b ≡ false)
@@ -62,10 +61,7 @@ mutual
   value-registers (Reg x) env registers h = absurd (false≢true (sym h))
   value-registers Me env registers h = refl
   value-registers (Rows f) env registers h = refl
-  value-registers (Cell f row field) env registers h =
-      let parts = or_false (has_data row) (has_data field) h in
-      ap (λ r. cell_in (named f env.feeds) r (value field (with_registers env registers))) (value-registers row env registers parts.0)
-      ∙ ap (cell_in (named f env.feeds) (value row env)) (value-registers field env registers parts.1)
+  value-registers (Cell f row field) env registers h = refl
   value-registers (Neg e) env registers h = ap (option_map _) (value-registers e env registers h)
   value-registers (Not e) env registers h = ap (option_map _) (value-registers e env registers h)
   value-registers (Chain e links) env registers h =

@@ -8,7 +8,7 @@ use Rattle.std.specs.FinMap.Entries.{is_sorted-put}
 use Rattle.task_ast.specs.meaning.Value.{branch}
 use Rattle.task_ast.specs.declared.sync.SyncOp.{SyncOp}
 use Rattle.task_ast.specs.meaning.Action.{Action, Set, Load, Store, Say, Choose, Child, Give, Bring, Arm, NoAction, OneAction}
-use Rattle.task_ast.specs.meaning.Effect.{Doing, done, arm_done, all_done, term_value, joined_ret, effect}
+use Rattle.task_ast.specs.meaning.Effect.{Doing, done, arm_done, all_done, joined_ret, effect}
 use Rattle.task_ast.specs.meaning.State.{State, RegistersOf, cell_value}
 
 abbrev Rising : Doing → Type 0
@@ -24,10 +24,10 @@ module _ (cells : ℕ → ℤ) (joined : ℤ) where
     done_rises : (a : Action) (d : Doing) → Rising d → Rising (done cells joined a d)
     done_rises (Set k t) d r = r
     done_rises (Load c k) d r = r
-    done_rises (Store c t) d r = is_sorted-put nat_cmp nat_cmp_total c (term_value t d.registers) d.written r
+    done_rises (Store c t) d r = is_sorted-put nat_cmp nat_cmp_total c (t d.registers) d.written r
     done_rises (Say ts) d r = r
     done_rises (Choose t a b) d r =
-        picked_rises (term_value t d.registers) (arm_done cells joined a d) (arm_done cells joined b d) (arm_rises a d r) (arm_rises b d r)
+        picked_rises (t d.registers) (arm_done cells joined a d) (arm_done cells joined b d) (arm_rises a d r) (arm_rises b d r)
     done_rises (Child count) d r = r
     done_rises (Give k t) d r = r
     done_rises (Bring k) d r = r

@@ -8,7 +8,7 @@ ghost use Rattle.task_ast.specs.laws.Keeps.{ReadsLaw, WithinLaw};
 ghost use Rattle.task_ast.specs.laws.Runs.{RunMoveLaw, RunInsideLaw, RunOrderLaw, RunBeforeLaw, RunEndLaw};
 ghost use Rattle.task_ast.specs.Layout.{LayoutLaw, SizesLaw, OverLaw, BaseLaw};
 
-/// An expression without data in an index has the value of its term.
+/// The value of an expression is that of its function of the registers.
 pub fn value_law()
     ensures { ValueLaw }
 {}

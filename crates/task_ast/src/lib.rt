@@ -17,7 +17,7 @@ pub mod value_laws;
 pub use check_kind::CheckKind;
 pub use effect::Effect;
 pub use env::Env;
-pub use eval::{eval_c, eval_d};
+pub use eval::{eval_c, eval_d, eval_in};
 pub use layout::{Layout, natural};
 pub use operate::{apply, negate};
 pub use sync::{Next, SyncOp};

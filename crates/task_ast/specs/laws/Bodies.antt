@@ -1,5 +1,5 @@
 -- Laws of the definitions.
-use Rattle.std.specs.Prelude.{◌≡◌, ℕ, ◌<◌, ◌≤◌, ℤ, false, List, zip, option_map, take, slice_get}
+use Rattle.std.specs.Prelude.{◌≡◌, ℕ, ◌<◌, ◌≤◌, ℤ, List, zip, option_map, take, slice_get}
 use Rattle.task_ast.specs.meaning.Body.{follow}
 use Rattle.task_ast.specs.Body.{after_turn}
 use Rattle.task_ast.specs.meaning.Control.{Setting, Point, step, size, tree_body}
@@ -13,16 +13,14 @@ use Rattle.gp_base.specs.declared.feed.Inputs.{Inputs}
 use Rattle.gp_base.specs.declared.ending.End.TheVariants.{Finished}
 use Rattle.task_ast.specs.declared.env.Env.{Env}
 use Rattle.task_ast.specs.meaning.Value.{value}
-use Rattle.task_ast.specs.meaning.Action.{term}
-use Rattle.task_ast.specs.meaning.Effect.{term_value}
-use Rattle.task_ast.specs.meaning.Declarations.{has_data_index}
+use Rattle.task_ast.specs.meaning.Action.{of_registers}
 use Rattle.task_ast.specs.Plain.{Plain, move}
 
--- an expression without data in an index has the value of its term
+-- an expression has a value for all registers or for none, and it is that of its function
 abbrev pub ValueLaw : Type 0
 ValueLaw =
-    (names : List Name) (values : List ℤ) (e : Expr) (env : Env) → has_data_index e ≡ false
-    → value e (record env { regs = zip names values }) ≡ option_map (λ t. term_value t values) (term names e env)
+    (names : List Name) (values : List ℤ) (e : Expr) (env : Env)
+    → value e (record env { regs = zip names values }) ≡ option_map (λ f. f values) (of_registers names e env)
 
 -- a body is one step, and then the body from there
 abbrev pub BodyLaw : Type 0

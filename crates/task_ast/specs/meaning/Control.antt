@@ -17,7 +17,7 @@ use Rattle.task_ast.specs.declared.tree.Param.TheVariants as param
 use Rattle.task_ast.specs.meaning.Tree.{Name, Expr, Stmt, At, What, SetCtl, While, If, Lock, Unlock, Fork, Join, Barrier, Settle, SetReg, Read, Write, Print, When, Block, Nothing, Then, statements, TaskText, Program}
 use Rattle.task_ast.specs.meaning.Names.{is_name, slot, locks_of, records_of, barriers_of, cell_number, registers_of, task_named, task_number}
 use Rattle.task_ast.specs.meaning.Value.{value_at, value, branch}
-use Rattle.task_ast.specs.meaning.Action.{term, Action, Set, Load, Store, Say, Choose, Child, Give, Bring, Arm, NoAction, OneAction}
+use Rattle.task_ast.specs.meaning.Action.{of_registers, Action, Set, Load, Store, Say, Choose, Child, Give, Bring, Arm, NoAction, OneAction}
 use Rattle.task_ast.specs.meaning.Table.{with_nth}
 use Rattle.task_ast.specs.meaning.Body.{Step, Silent, Iteration, Act, Stop, Body, body}
 
@@ -89,13 +89,13 @@ module _ (s : Setting) where
   abbrev mutual
     -- a data statement's action, where the registers of its task have these names
     pub action : List Name → What → Env → Option Action
-    action registers (SetReg x e) env = option_map (Set (slot registers x)) (term registers e env)
+    action registers (SetReg x e) env = option_map (Set (slot registers x)) (of_registers registers e env)
     action registers (Read r i x) env = option_map (λ c. Load c (slot registers x)) (record_number r i env)
-    action registers (Write r i e) env = option_and_then (λ c. option_map (Store c) (term registers e env)) (record_number r i env)
-    action registers (Print es) env = option_map Say (all_of (map (λ e. term registers e env) es))
+    action registers (Write r i e) env = option_and_then (λ c. option_map (Store c) (of_registers registers e env)) (record_number r i env)
+    action registers (Print es) env = option_map Say (all_of (map (λ e. of_registers registers e env) es))
     action registers (When e a b) env =
         option_and_then (λ t. option_and_then (λ x. option_map (Choose t x) (arm registers b env)) (arm registers a env))
-        (term registers e env)
+        (of_registers registers e env)
     action registers _ env = None
 
     -- the actions of a block of data statements
@@ -112,7 +112,7 @@ module _ (s : Setting) where
   data_arguments given registers (param.Ctl x ∷ params) (e ∷ es) env = data_arguments given registers params es env
   data_arguments given registers (param.Reg x ∷ params) (e ∷ es) env =
       option_and_then (λ t. option_map (λ actions. Give (slot given x) t ∷ actions)
-      (data_arguments given registers params es env)) (term registers e env)
+      (data_arguments given registers params es env)) (of_registers registers e env)
   data_arguments given registers _ _ env = Some []
 
   -- the arguments of a fork of this task: the control values, and the actions that make the child's registers

@@ -1,29 +1,13 @@
 -- What a subthread's actions do to the data. It reads and writes within its footprint, in the sense of A. J. Bernstein's conditions (1966).
 use Rattle.std.specs.Prelude.{ℕ, ℤ, pos, List, [], ◌∷◌, ◌++◌, Option, Some, None, unwrap_or, option_map, slice_set, map, replicate, cond, nat_eq}
-use Rattle.std.specs.Int.{int_wrap, w64}
-use Rattle.std.specs.Prelude.{neg_ℤ}
 use Rattle.std.specs.Ordering.{nat_cmp}
 use Rattle.std.specs.FinMap.{put, find}
 use Rattle.task_ast.specs.declared.effect.Effect.{Effect}
 use Rattle.task_ast.specs.declared.sync.SyncOp.{SyncOp}
 use Rattle.task_ast.specs.declared.sync.SyncOp.TheVariants as sync
-use Rattle.task_ast.specs.meaning.Value.{operate, truth, is_zero, branch}
-use Rattle.task_ast.specs.meaning.Action.{Term, Constant, Register, Negated, Inverted, Joined, MoreTerms, NoTerms, OneTerm, Action, Set, Load, Store, Say, Choose, Child, Give, Bring, Arm, NoAction, OneAction}
+use Rattle.task_ast.specs.meaning.Value.{branch}
+use Rattle.task_ast.specs.meaning.Action.{Action, Set, Load, Store, Say, Choose, Child, Give, Bring, Arm, NoAction, OneAction}
 use Rattle.task_ast.specs.meaning.State.{State, RegistersOf, CellOf, number_at, cell_value}
-
-abbrev mutual
-  -- the value of a term, from the registers
-  pub term_value : Term → List ℤ → ℤ
-  term_value (Constant v) registers = v
-  term_value (Register k) registers = number_at registers k
-  term_value (Negated t) registers = int_wrap w64 (neg_ℤ (term_value t registers))
-  term_value (Inverted t) registers = truth (is_zero (term_value t registers))
-  term_value (Joined t more) registers = terms_value more registers (term_value t registers)
-
-  -- the value of a chain from here on, from the value so far
-  pub terms_value : MoreTerms → List ℤ → ℤ → ℤ
-  terms_value NoTerms registers v = v
-  terms_value (OneTerm op t more) registers v = terms_value more registers (operate op v (term_value t registers))
 
 -- what a subthread did so far; the cells written stand in rising order, each with its last value
 pub record Doing : Type 0 where
@@ -41,13 +25,13 @@ module _ (cells : ℕ → ℤ) (joined : ℤ) where
   abbrev mutual
     -- after one action
     pub done : Action → Doing → Doing
-    done (Set k t) d = record d { registers = slice_set d.registers k (term_value t d.registers) }
+    done (Set k t) d = record d { registers = slice_set d.registers k (t d.registers) }
     done (Load c k) d = record d { registers = slice_set d.registers k (cell_now d c) }
-    done (Store c t) d = record d { written = put nat_cmp c (term_value t d.registers) d.written }
-    done (Say ts) d = record d { lines = d.lines ++ map (λ t. term_value t d.registers) ts ∷ [] }
-    done (Choose t a b) d = branch (term_value t d.registers) (arm_done a d) (arm_done b d)
+    done (Store c t) d = record d { written = put nat_cmp c (t d.registers) d.written }
+    done (Say ts) d = record d { lines = d.lines ++ map (λ t. t d.registers) ts ∷ [] }
+    done (Choose t a b) d = branch (t d.registers) (arm_done a d) (arm_done b d)
     done (Child count) d = record d { child = replicate count (pos 0) }
-    done (Give k t) d = record d { child = slice_set d.child k (term_value t d.registers) }
+    done (Give k t) d = record d { child = slice_set d.child k (t d.registers) }
     done (Bring k) d = record d { registers = slice_set d.registers k joined }
 
     -- after the actions of an arm, in order

@@ -1,5 +1,5 @@
 -- The values of expressions, which are 64-bit numbers.
-use Rattle.std.specs.Prelude.{zero, suc, ℤ, pos, negsuc, Bool, cond, not, ◌&&◌, ◌||◌, List, Option, Some, None, unwrap_or, option_map, option_and_then, ◌+ℤ◌, ◌-ℤ◌, ◌*ℤ◌, neg_ℤ, int_lt, int_le, int_div, int_rem}
+use Rattle.std.specs.Prelude.{zero, suc, ℤ, pos, negsuc, Bool, cond, not, ◌&&◌, ◌||◌, List, [], Option, Some, None, unwrap_or, option_map, option_and_then, ◌+ℤ◌, ◌-ℤ◌, ◌*ℤ◌, neg_ℤ, int_lt, int_le, int_div, int_rem}
 use Rattle.std.specs.Int.{int_wrap, w64}
 use Rattle.std.specs.Ordering.{int_eq}
 use Rattle.gp_base.specs.meaning.Feeds.{rows_in, cell_at}
@@ -52,14 +52,14 @@ abbrev pub cell_in : Option Feed → Option ℤ → Option ℤ → Option ℤ
 cell_in feed row field = option_and_then (λ r. option_and_then (λ g. option_and_then (λ f. cell_at f r g) feed) field) row
 
 abbrev mutual
-  -- the value of an expression, or none where it names a cell outside its feed
+  -- the value of an expression, or none where it names a cell outside its feed; the place of a cell is read without registers
   pub value : Expr → Env → Option ℤ
   value (Num v) env = Some v
   value (Ctl x) env = Some (value_at env.names x)
   value (Reg x) env = Some (value_at env.regs x)
   value Me env = Some (pos env.me)
   value (Rows f) env = Some (pos (unwrap_or (option_map rows_in (named f env.feeds)) 0))
-  value (Cell f row field) env = cell_in (named f env.feeds) (value row env) (value field env)
+  value (Cell f row field) env = let control = record env { regs = [] } in cell_in (named f env.feeds) (value row control) (value field control)
   value (Neg e) env = option_map (λ v. int_wrap w64 (neg_ℤ v)) (value e env)
   value (Not e) env = option_map (λ v. truth (is_zero v)) (value e env)
   value (Chain e links) env = value_on links env (value e env)

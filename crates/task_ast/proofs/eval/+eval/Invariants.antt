@@ -5,4 +5,5 @@ use Rattle.task_ast.proofs.eval.+eval.Given as goal
 
 abbrev pub invariant-eval_links-loop-link : goal.invariant-eval_links-loop-link
 invariant-eval_links-loop-link l =
-    value_on (plain_links (drop l.link-index l.links)) l.env (Some l.so_far) ≡ value_on (plain_links l.links) l.env (Some l.fn.first)
+    let env = record l.env { regs = l.regs } in
+    value_on (plain_links (drop l.link-index l.links)) env (Some l.so_far) ≡ value_on (plain_links l.links) env (Some l.fn.first)
