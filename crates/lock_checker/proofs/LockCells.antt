@@ -13,7 +13,7 @@ use Rattle.task_ast.specs.declared.tree.Atom.{Atom}
 use Rattle.task_ast.specs.declared.tree.Head.{Head}
 use Rattle.task_ast.specs.meaning.Tree.{Name, At, What, SetCtl, While, If, Lock, Unlock, Fork, Join, Barrier, Settle, SetReg, Read, Write, Print, When, Block, Nothing, Then}
 use Rattle.task_ast.specs.meaning.Names.{is_name, place, locks_of, records_of, cell_number, cells_in, slot}
-use Rattle.task_ast.specs.meaning.Action.{Action, Load, Store, Choose, Arm, OneAction, term, Say, Set}
+use Rattle.task_ast.specs.meaning.Action.{Action, Load, Store, Choose, Arm, OneAction, of_registers, Say, Set}
 use Rattle.task_ast.specs.meaning.Control.{Setting, action, arm, record_number, index_of, all_of}
 use Rattle.task_ast.specs.meaning.Held.{same_pair, has}
 use Rattle.task_ast.specs.laws.Keeps.{NamesOnly, ArmNamesOnly}
@@ -155,20 +155,20 @@ module _ (heads : List Head) (laid : IsLaidOut heads) (locks : List ℕ) where
       pub action_names : (w : What) (a : Action) → action s registers w env ≡ Some a → TouchesHeld heads w (pairs_held held)
           → NamesOnly test a
       action_names (SetReg x e) a is touches =
-          let m = mapped (term registers e env) (λ t. Set (slot registers x) t) a is in
+          let m = mapped (of_registers registers e env) (λ t. Set (slot registers x) t) a is in
           subst (NamesOnly test) m.2 tt
       action_names (Read r i x) a is touches =
           let m = mapped (record_number s r i env) (λ c. Load c (slot registers x)) a is in
           subst (NamesOnly test) m.2 (touched r i m.0 (numbered r i m.0 m.1) touches)
       action_names (Write r i e) a is touches =
-          let c = chained (record_number s r i env) (λ c. option_map (Store c) (term registers e env)) a is in
-          let m = mapped (term registers e env) (Store c.0) a c.2 in
+          let c = chained (record_number s r i env) (λ c. option_map (Store c) (of_registers registers e env)) a is in
+          let m = mapped (of_registers registers e env) (Store c.0) a c.2 in
           subst (NamesOnly test) m.2 (touched r i c.0 (numbered r i c.0 c.1) touches)
       action_names (Print es) a is touches =
-          let m = mapped (all_of (map (λ e. term registers e env) es)) Say a is in
+          let m = mapped (all_of (map (λ e. of_registers registers e env) es)) Say a is in
           subst (NamesOnly test) m.2 tt
       action_names (When e x y) a is touches =
-          let t = chained (term registers e env) _ a is in
+          let t = chained (of_registers registers e env) _ a is in
           let first = chained (arm s registers x env) _ a t.2 in
           let second = mapped (arm s registers y env) (Choose t.0 first.0) a first.2 in
           subst (NamesOnly test) second.2 (arm_names x first.0 first.1 touches.0, arm_names y second.0 second.1 touches.1)

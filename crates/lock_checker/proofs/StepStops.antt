@@ -19,7 +19,7 @@ use Rattle.task_ast.specs.declared.tree.Param.TheVariants as param
 use Rattle.task_ast.specs.meaning.Tree.{Name, Expr, Stmt, At, What, SetCtl, While, If, Lock, Unlock, Fork, Join, Barrier, Settle, SetReg, Read, Write, Print, When, TaskText, Program}
 use Rattle.task_ast.specs.meaning.Names.{is_name, slot, locks_of, barriers_of, cells_in, cell_number, registers_of, is_task, task_named, task_number}
 use Rattle.task_ast.specs.meaning.Value.{value, branch}
-use Rattle.task_ast.specs.meaning.Action.{Action, Child, Give, term, Term}
+use Rattle.task_ast.specs.meaning.Action.{Action, Child, Give, of_registers, OfRegisters}
 use Rattle.task_ast.specs.meaning.Body.{Step, Act, Stop, spent}
 use Rattle.task_ast.specs.meaning.Control.{Setting, Point, step_at, step_from, known, action, env_at, index_of, lock_number, fork_named, control_arguments, data_arguments, first_actions, begin_actions, going, fork_arguments}
 use Rattle.task_ast.specs.meaning.Held.{same_pair}
@@ -214,10 +214,10 @@ module _ (s : Setting) where
   given_names test given registers (param.Ctl x ∷ params) (e ∷ es) env actions is =
       given_names test given registers params es env actions is
   given_names test given registers (param.Reg x ∷ params) (e ∷ es) env actions is =
-      go (term registers e env) (data_arguments s given registers params es env)
+      go (of_registers registers e env) (data_arguments s given registers params es env)
       (λ rest is. given_names test given registers params es env rest is) is
     where
-      go : (t : Option Term) (o : Option (List Action)) → ((rest : List Action) → o ≡ Some rest → AllName test rest)
+      go : (t : Option OfRegisters) (o : Option (List Action)) → ((rest : List Action) → o ≡ Some rest → AllName test rest)
           → option_and_then (λ t. option_map (λ rest. Give (slot given x) t ∷ rest) o) t ≡ Some actions → AllName test actions
       go None o rest is = absurd (cc is)
       go (Some t) None rest is = absurd (cc is)

@@ -1,12 +1,14 @@
 -- An expression has a value whatever the registers hold, or none.
-use Rattle.std.proofs.Common.{◌≡◌, inl, inr, ℕ, suc, ◌+◌, Bool, true, false, not, cond, List, ◌∷◌, length, Option, Some, None, refl, ap, sym, ◌∙◌, arith, option_map, unwrap_or, nat_lt, position, zip, ◌&&◌}
+use Rattle.std.proofs.Common.{◌≡◌, inl, inr, ℕ, suc, ◌+◌, Bool, true, false, not, cond, List, [], ◌∷◌, length, Option, Some, None, refl, ap, sym, ◌∙◌, arith, option_map, unwrap_or, nat_lt, position, zip, ◌&&◌}
 use Rattle.std.specs.List.{prefix_len}
 use Rattle.std.specs.Prelude.{ℤ, pos, is_some}
 use Rattle.std.proofs.lemmas.Bool.{false≢true, lt-ltb, le-ltb, cases_lt}
 use Rattle.task_ast.specs.declared.env.Env.{Env}
 use Rattle.task_ast.specs.declared.tree.Op.{Op}
 use Rattle.task_ast.specs.meaning.Tree.{Name, Expr, Num, Ctl, Reg, Me, Rows, Cell, Neg, Not, Chain, Links, NoLinks, Link}
-use Rattle.task_ast.specs.meaning.Value.{operate_on, value, value_on}
+use Rattle.task_ast.specs.meaning.Names.{is_name, named}
+use Rattle.task_ast.specs.meaning.State.{number_at}
+use Rattle.task_ast.specs.meaning.Value.{operate_on, value, value_on, value_at}
 use Rattle.task_ast.specs.meaning.Action.{OfRegisters, of_registers}
 use Rattle.task_ast.proofs.Arms.{map_some}
 
@@ -26,7 +28,32 @@ position-cons p x xs = go (p x) refl
     go true e = rw (e, lt-ltb 0 (suc (length xs)) (omega arith)) refl
     go false e = rw e (shifted (prefix_len (λ y. not (p y)) xs) (length xs))
 
-both_some : (op : Op) (a b : Option ℤ) → is_some (operate_on op a b) ≡ is_some a && is_some b
+-- the value in the register of this number, or 0
+abbrev at_place : Option ℕ → List ℤ → ℤ
+at_place o values = unwrap_or (option_map (number_at values) o) (pos 0)
+
+-- a register by its name has the value of its number
+pub register_value : (names : List Name) (values : List ℤ) (x : Name)
+    → value_at (zip names values) x ≡ unwrap_or (option_map (number_at values) (position (is_name x) names)) (pos 0)
+register_value [] values x = refl
+register_value (n ∷ names) [] x = none (position (is_name x) (n ∷ names))
+  where
+    none : (o : Option ℕ) → pos 0 ≡ at_place o []
+    none None = refl
+    none (Some k) = refl
+register_value (n ∷ names) (v ∷ values) x = go (is_name x n) refl (register_value names values x)
+  where
+    later : (o : Option ℕ) → at_place o values ≡ at_place (option_map suc o) (v ∷ values)
+    later None = refl
+    later (Some k) = refl
+
+    go : (b : Bool) → is_name x n ≡ b → value_at (zip names values) x ≡ at_place (position (is_name x) names) values
+        → unwrap_or (cond (is_name x n) (Some v) (named x (zip names values))) (pos 0)
+        ≡ at_place (position (is_name x) (n ∷ names)) (v ∷ values)
+    go true e ih = rw (position-cons (is_name x) n names, e) refl
+    go false e ih = rw (position-cons (is_name x) n names, e) (ih ∙ later (position (is_name x) names))
+
+pub both_some : (op : Op) (a b : Option ℤ) → is_some (operate_on op a b) ≡ is_some a && is_some b
 both_some op None b = refl
 both_some op (Some a) None = refl
 both_some op (Some a) (Some b) = refl
